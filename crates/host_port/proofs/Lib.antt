@@ -1,0 +1,4 @@
+pub mod RanLemmas
+pub mod OwnLemmas
+pub mod NamedLemmas
+pub mod TapeLemmas

@@ -1,0 +1,84 @@
+-- What one call of a host adds to its trace.
+use Rattle.std.specs.Prelude.{◌≡◌, ◌+◌, ◌-◌, ◌^◌, ◌<◌, ◌≤◌, min, ℕ, Bool, true, false, List, [], ◌∷◌, ◌++◌, map, take, is_some, OnErr, length}
+use Rattle.std.specs.declared.option.Option.{Option}
+use Rattle.std.specs.declared.option.Option.TheVariants.{Some, None}
+use Rattle.std.specs.declared.result.Result.{Result}
+use Rattle.std.specs.declared.result.Result.TheVariants.{Ok, Err}
+use Rattle.host_port.specs.declared.event.Event.{Event}
+use Rattle.host_port.specs.declared.event.Event.TheVariants.{In, Out, Load, Foreign}
+use Rattle.host_port.specs.declared.event.Seen.{Seen}
+use Rattle.host_port.specs.declared.event.Seen.TheVariants as seen
+use Rattle.host_port.specs.declared.event.ForeignStep.{ForeignStep}
+use Rattle.host_port.specs.declared.event.LoadAnswer.{LoadAnswer}
+use Rattle.host_port.specs.declared.host.InFault.{InFault}
+use Rattle.host_port.specs.declared.host.OutFault.{OutFault}
+use Rattle.host_port.specs.declared.host.LoadError.{LoadError}
+use Rattle.host_port.specs.declared.host.LoadError.TheVariants as error
+use Rattle.host_port.specs.Disk.{Disk, disk}
+
+-- how often each kind of call has failed
+pub record Counts : Type 0 where
+  pub ins : ℕ
+  pub outs : ℕ
+  pub disks : ℕ
+  pub children : ℕ
+
+-- no count falls
+pub record NeverFall (old new : Counts) : Type 0 where
+  pub ins : old.ins ≤ new.ins
+  pub outs : old.outs ≤ new.outs
+  pub disks : old.disks ≤ new.disks
+  pub children : old.children ≤ new.children
+
+-- a count is greater, or stands at the last value of a 64-bit counter
+abbrev pub Rose : ℕ → ℕ → Type 0
+Rose before now = min (before + 1) (2 ^ 64 - 1) ≤ now
+
+-- the piece of a trace that one call makes: steps of others, and its own event on the disk that then stands
+pub record Call (start : Disk) (before now : List Event) (Happened : Disk → Event → Type 0) : Type 0 where
+  pub steps : List ForeignStep
+  pub own : Event
+  pub is : now ≡ before ++ (map Foreign steps ++ own ∷ [])
+  pub happened : Happened (disk start (before ++ map Foreign steps)) own
+
+-- while the trace is told after the call, it was told before, and the call added such a piece
+pub record Calls (start : Disk) (old new : Option (List Event)) (Happened : Disk → Event → Type 0) : Type 0 where
+  pub added : (now : List Event) → new ≡ Some now → (before : List Event) × (old ≡ Some before) × Call start before now Happened
+
+-- the event of a fill: the bytes at the front of the buffer, none after a fault
+abbrev pub Filled : Result ℕ InFault → List ℕ → Disk → Event → Type 0
+Filled (Ok n) buf d e = e ≡ In (take n buf) false
+Filled (Err fault) buf d e = e ≡ In [] true
+
+-- the event of a say: all bytes, or after a fault a front of them
+abbrev pub Said : Result Unit OutFault → List ℕ → Disk → Event → Type 0
+Said (Ok u) bytes d e = e ≡ Out bytes false
+Said (Err fault) bytes d e = (n : ℕ) × (e ≡ Out (take n bytes) true)
+
+-- the most bytes that a load takes
+abbrev pub load_limit : ℕ
+load_limit = 268435456
+
+-- a file of a name within the limit, or none
+abbrev pub FitsLoad : Option (List ℕ) → Type 0
+FitsLoad None = Unit {0}
+FitsLoad (Some bytes) = length bytes ≤ load_limit
+
+-- a file of a name stands, and its length is past the limit
+abbrev pub IsTooLarge : Option (List ℕ) → ℕ → Type 0
+IsTooLarge None n = ⊥
+IsTooLarge (Some bytes) n = (length bytes ≡ n) × (load_limit < n)
+
+-- the event of a load of a name: what stands there, a failure, or want of memory
+abbrev pub Loaded : List ℕ → Result LoadAnswer LoadError → Disk → Event → Type 0
+Loaded name (Ok a) d e = (e ≡ Load name (seen.Bytes a.bytes a.held)) × (a.bytes ≡ d.files name) × (a.held ≡ is_some (d.locks name))
+Loaded name (Err (error.TooLarge n)) d e = (e ≡ Load name (seen.TooLarge n)) × IsTooLarge (d.files name) n
+Loaded name (Err error.Failed) d e = e ≡ Load name seen.Failed
+Loaded name (Err error.Memory) d e = e ≡ Load name seen.Memory
+
+-- a load answers Failed only where the disk's count rose, TooLarge only past the limit, and a file only within it
+abbrev pub LoadCause : ℕ → ℕ → Result LoadAnswer LoadError → Type 0
+LoadCause before now (Ok a) = FitsLoad a.bytes
+LoadCause before now (Err error.Failed) = Rose before now
+LoadCause before now (Err (error.TooLarge n)) = load_limit < n
+LoadCause before now (Err error.Memory) = Unit {0}

@@ -1,0 +1,9 @@
+pub mod Names
+pub mod Disk
+pub mod Calls
+pub mod Own
+pub mod Ran
+pub mod Views
+pub mod Pairs
+pub mod Tapes
+pub mod MemHosts

@@ -1,0 +1,28 @@
+-- What a host in memory means.
+use Rattle.std.specs.Prelude.{ℕ, Bool, true, false, List, is_some}
+use Rattle.std.specs.declared.option.Option.{Option}
+use Rattle.std.specs.declared.option.Option.TheVariants.{Some, None}
+use Rattle.host_port.specs.declared.event.Event.{Event}
+use Rattle.host_port.specs.declared.memory.MemHost.{MemHost}
+use Rattle.host_port.specs.Disk.{Disk}
+use Rattle.host_port.specs.Calls.{Counts}
+use Rattle.host_port.specs.Views.{disk_of, part_at, next_call}
+
+-- the disk that it began with
+abbrev pub host_start : MemHost → Disk
+host_start m = disk_of m.tape.start.files m.tape.start.locks
+
+-- its trace, until it is lost
+abbrev pub told_of : Bool → List Event → Option (List Event)
+told_of true trace = None
+told_of false trace = Some trace
+
+abbrev pub host_told : MemHost → Option (List Event)
+host_told m = told_of m.lost m.tape.trace.items
+
+abbrev pub host_counts : MemHost → Counts
+host_counts m = record { ins = m.ins; outs = m.outs; disks = m.disks; children = 0 }
+
+-- whether the plan names the next call among those that fail
+abbrev pub fails_next : MemHost → Bool
+fails_next m = is_some (part_at m.plan.fails (next_call m.calls))

@@ -1,0 +1,60 @@
+-- A disk as a list of files and a list of locks; of several pairs of one name the first counts.
+use Rattle.std.specs.Prelude.{◌≡◌, ◌==◌, ℕ, List, [], ◌∷◌, ◌++◌, map, Bool, true, false, if◌then◌else◌, ◌+◌, ◌-◌, ◌^◌, min}
+use Rattle.std.specs.declared.option.Option.{Option}
+use Rattle.std.specs.declared.option.Option.TheVariants.{Some, None}
+use Rattle.std.specs.Str.{bytes_eq}
+use Rattle.host_port.specs.declared.event.ForeignStep.{ForeignStep}
+use Rattle.host_port.specs.declared.event.Event.{Event}
+use Rattle.host_port.specs.declared.event.Event.TheVariants.{Foreign}
+use Rattle.host_port.specs.declared.event.Part.{Part}
+use Rattle.std.specs.declared.result.Result.{Result}
+use Rattle.host_port.specs.declared.event.LoadAnswer.{LoadAnswer}
+use Rattle.host_port.specs.declared.host.LoadError.{LoadError}
+use Rattle.host_port.specs.Calls.{Loaded}
+use Rattle.host_port.specs.Disk.{Disk, disk}
+
+-- what a list of pairs has for a name
+abbrev pub lookup : {A : Type 0} → List (List ℕ × A) → List ℕ → Option A
+lookup [] q = None
+lookup (p ∷ ps) q = if bytes_eq q p.0 then Some p.1 else lookup ps q
+
+-- the disk that the lists show
+abbrev pub disk_of : List (List ℕ × List ℕ) → List (List ℕ × ℕ) → Disk
+disk_of files locks = record { files = lookup files; locks = lookup locks }
+
+-- what a list of pairs has for a name, where a pair may say that it has nothing
+abbrev pub flat : {A : Type 0} → Option (Option A) → Option A
+flat None = None
+flat (Some found) = found
+
+abbrev pub named : {A : Type 0} → List (List ℕ × Option A) → List ℕ → Option A
+named ps q = flat (lookup ps q)
+
+-- a trace with the steps of others and one event more
+abbrev pub AddsOne : List Event → List Event → List ForeignStep → Event → Type 0
+AddsOne old new steps e = new ≡ old ++ (map Foreign steps ++ e ∷ [])
+
+-- the steps that a plan has before the call of this number
+abbrev pub steps_before : List (ℕ × ForeignStep) → ℕ → List ForeignStep
+steps_before [] call = []
+steps_before (p ∷ ps) call = if p.0 == call then p.1 ∷ steps_before ps call else steps_before ps call
+
+-- what a plan says that the call of this number leaves when it fails, or None where it doesn't fail
+abbrev pub part_at : List (ℕ × Part) → ℕ → Option Part
+part_at [] call = None
+part_at (p ∷ ps) call = if p.0 == call then Some p.1 else part_at ps call
+
+-- the number of the next call
+abbrev pub next_call : ℕ → ℕ
+next_call calls = min (calls + 1) (2 ^ 64 - 1)
+
+-- a trace with the steps of others and one load more, which agrees with the disk at its place
+pub record AddsLoad (start : Disk) (old new : List Event) (steps : List ForeignStep) (name : List ℕ) (r : Result LoadAnswer LoadError) : Type 0 where
+  pub own : Event
+  pub is : new ≡ old ++ (map Foreign steps ++ own ∷ [])
+  pub agrees : Loaded name r (disk start (old ++ map Foreign steps)) own
+
+-- the first of two that is there
+abbrev pub or_else : {A : Type 0} → Option A → Option A → Option A
+or_else None second = second
+or_else (Some a) second = Some a

@@ -1,0 +1,80 @@
+use mail_text::{Items, Text};
+
+/// What happened at the edge of the program: one call of the host with what it gave, or one step of another.
+#[derive(Drop, Debug)]
+pub enum Event {
+    /// Input was taken; no bytes are its end, or a fault.
+    In { bytes: Text, failed: bool },
+    /// Output went out: all of what the call was given, or after a fault a front of it.
+    Out { bytes: Text, failed: bool },
+    /// A file was loaded.
+    Load { name: Text, seen: Seen },
+    /// Another program did a step.
+    Foreign { step: ForeignStep },
+}
+
+/// What a load saw at its step.
+#[derive(Drop, Debug)]
+pub enum Seen {
+    /// The file, or its absence, and whether a lock on its name stood.
+    Bytes { bytes: Option<Text>, held: bool },
+    /// A file of this many bytes, more than a load takes.
+    TooLarge { length: u64 },
+    /// A fault of the disk.
+    Failed,
+    /// Want of memory.
+    Memory,
+}
+
+/// A step of another program.
+#[derive(Drop, Debug)]
+pub enum ForeignStep {
+    /// The file has these bytes.
+    Write { name: Text, bytes: Text },
+    /// The file is absent.
+    Remove { name: Text },
+    /// A lock is put where none stands.
+    Lock { name: Text, token: u64 },
+    /// A lock of this owner is taken away.
+    Unlock { name: Text, token: u64 },
+}
+
+/// What a load answers.
+#[derive(Drop, Debug)]
+pub struct LoadAnswer {
+    /// The whole file, or None where it is absent.
+    pub bytes: Option<Text>,
+    /// Whether a lock on the name stood, whoever owns it.
+    pub held: bool,
+}
+
+/// A disk as a list of files and a list of the owners of locks. Of several pairs of one name the first counts.
+#[derive(Drop)]
+pub struct DiskView {
+    pub files: Items<(Text, Text)>,
+    pub locks: Items<(Text, u64)>,
+}
+
+/// What a failing call leaves.
+#[derive(Drop, Debug)]
+pub enum Part {
+    /// Nothing of the call was done.
+    Before,
+    /// All of it was done.
+    After,
+    /// These bytes stand. For a call that writes no file it counts as `Before`.
+    Bytes(Text),
+    /// No file stands. For a call that writes no file it counts as `Before`.
+    Nothing,
+}
+
+/// What happens in a host in memory. Its calls are numbered from 1.
+#[derive(Drop)]
+pub struct Plan {
+    /// The most bytes that one fill gives, at least 1.
+    pub chunk: usize,
+    /// The steps of others, each before the call of its number.
+    pub foreign: Items<(u64, ForeignStep)>,
+    /// The calls that fail, with what they leave.
+    pub fails: Items<(u64, Part)>,
+}

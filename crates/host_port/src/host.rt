@@ -1,0 +1,69 @@
+ghost use Rattle.std.specs.Prelude.{◌≡◌, ◌≤◌, ◌<◌, List, ℕ, Option, length, IfOk, OnErr};
+ghost use Rattle.host_port.specs.Disk.{Disk};
+ghost use Rattle.host_port.specs.Names.{IsFileName};
+ghost use Rattle.host_port.specs.Calls.{Calls, Counts, NeverFall, Rose, Filled, Said, Loaded, LoadCause};
+ghost use Rattle.host_port.specs.declared.event.Event.{Event};
+
+use crate::LoadAnswer;
+use std::alloc::Global;
+use thiserror::Error;
+
+/// Input could not be read.
+#[derive(Clone, Copy, Debug, PartialEq, Eq, Error)]
+#[error("input fault")]
+pub struct InFault;
+
+/// Output could not be written.
+#[derive(Clone, Copy, Debug, PartialEq, Eq, Error)]
+#[error("output fault")]
+pub struct OutFault;
+
+/// Why a load gave no file.
+#[derive(Clone, Copy, Debug, PartialEq, Eq, Error)]
+pub enum LoadError {
+    #[error("cannot be read")]
+    Failed,
+    #[error("too large: {length} bytes")]
+    TooLarge { length: u64 },
+    #[error("out of memory")]
+    Memory,
+}
+
+/// The outside. One call is one atomic step; the steps of other programs stand between the calls.
+///
+/// While a host tells its trace, each call adds steps of others and then its own one event, and answers what the
+/// disk at that step gives. A fault is answered only where the count of its kind has risen in that call.
+pub trait Host {
+    /// The disk before the first event.
+    ghost start: { Self → Disk };
+
+    /// Each event so far, while the host tells them.
+    ghost told: { Self → Option (List Event) };
+
+    /// How often each kind of call has failed.
+    ghost counts: { Self → Counts };
+
+    /// Takes input: puts bytes at the front of `buf` and says how many. None are the end of the input.
+    fn fill(&mut self, buf: &mut [u8]) -> Result<usize, InFault>
+        requires { 0 < length buf.old }
+        ensures bound { IfOk result (λ n. n ≤ length buf.old) }
+        ensures start { start self.new ≡ start self.old }
+        ensures call { Calls (start self.old) (told self.old) (told self.new) (Filled result buf.new) }
+        ensures counts { NeverFall (counts self.old) (counts self.new) }
+        ensures cause { OnErr result (Rose (counts self.old).ins (counts self.new).ins) };
+
+    /// Writes output. After Ok all of it went out.
+    fn say(&mut self, bytes: &[u8]) -> Result<(), OutFault>
+        ensures start { start self.new ≡ start self.old }
+        ensures call { Calls (start self.old) (told self.old) (told self.new) (Said result bytes.now) }
+        ensures counts { NeverFall (counts self.old) (counts self.new) }
+        ensures cause { OnErr result (Rose (counts self.old).outs (counts self.new).outs) };
+
+    /// Reads a whole file of at most 268,435,456 bytes, and says whether a lock on its name stands.
+    fn load(&mut self, alloc: Global, name: &[u8]) -> Result<LoadAnswer, LoadError>
+        requires { IsFileName name.now }
+        ensures start { start self.new ≡ start self.old }
+        ensures call { Calls (start self.old) (told self.old) (told self.new) (Loaded name.now result) }
+        ensures counts { NeverFall (counts self.old) (counts self.new) }
+        ensures cause { LoadCause (counts self.old).disks (counts self.new).disks result };
+}

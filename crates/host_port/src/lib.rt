@@ -1,0 +1,23 @@
+//! The outside as the program sees it: a trait whose calls tell a trace of events, the disk that such a trace
+//! makes, and a host in memory that tells its trace.
+#![tactic(auto)]
+
+mod event;
+mod host;
+mod memory;
+mod named;
+mod tape;
+
+ghost use Rattle.std.specs.Prelude.{◌≡◌, List};
+ghost use Rattle.host_port.specs.Disk.{Disk, disk};
+ghost use Rattle.host_port.specs.Own.{of_others};
+ghost use Rattle.host_port.specs.declared.event.Event.{Event};
+
+pub use event::{DiskView, Event, ForeignStep, LoadAnswer, Part, Plan, Seen};
+pub use host::{Host, InFault, LoadError, OutFault};
+pub use memory::MemHost;
+
+/// A law: own events that change no disk leave the disk that the steps of others make of the start.
+pub fn others_alone()
+    ensures { (start : Disk) (p : List Event) → disk start p ≡ disk start (of_others p) }
+{}

@@ -1,0 +1,61 @@
+// Values by name.
+ghost use Rattle.std.specs.Prelude.{◌≡◌, [], List, ℕ, Option, OnOk, OnErr, is_some};
+ghost use Rattle.std.specs.Option.{option_copied};
+ghost use Rattle.std.specs.Str.{bytes_eq};
+ghost use Rattle.host_port.specs.Disk.{with_at};
+ghost use Rattle.host_port.specs.Views.{named};
+
+use indexmap::IndexMap;
+use mail_text::Memory;
+use std::alloc::Global;
+use std::marker::Model;
+
+/// Values by name. Contracts see a list of pairs, in which a pair may say that a name has no value.
+#[derive(Drop)]
+pub struct Named<V> {
+    map: IndexMap<Vec<u8>, Option<V>>,
+}
+
+impl<V> Model for Named<V> {
+    ghost use Rattle.std.specs.Prelude.{List, ℕ, Option};
+    ghost use Rattle.host_port.specs.Pairs.{pairs_of};
+
+    ghost Value = { List (List ℕ × Option V) };
+
+    ghost view = { λ m. pairs_of m.map.entries };
+}
+
+impl<V: Drop> Named<V> {
+    pub fn new(alloc: Global) -> Named<V>
+        ensures { result ≡ [] }
+    {
+        Named {
+            map: IndexMap::new(alloc),
+        }
+    }
+
+    pub fn get(&self, name: &[u8]) -> Option<&V>
+        ensures { option_copied result ≡ named self.now name.now }
+    {
+        match self.map.get(name) {
+            Some(Some(value)) => Some(value),
+            Some(None) => None,
+            None => None,
+        }
+    }
+
+    pub fn has(&self, name: &[u8]) -> bool
+        ensures { result ≡ is_some (named self.now name.now) }
+    {
+        self.get(name).is_some()
+    }
+
+    pub fn put(&mut self, alloc: Global, name: &[u8], value: Option<V>) -> Result<(), Memory>
+        ensures ok { OnOk result ((q : List ℕ) → named self.new q ≡ with_at (named self.old) name.now value q) }
+        ensures err { OnErr result (self.new ≡ self.old) }
+    {
+        let key = name.to_vec(alloc)?;
+        self.map.insert(key, value)?;
+        Ok(())
+    }
+}

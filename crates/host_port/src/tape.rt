@@ -1,0 +1,160 @@
+// The trace of a host in memory, and the disk that it makes.
+ghost use Rattle.std.specs.Prelude.{◌≡◌, ◌++◌, [], ◌∷◌, List, ℕ, OnOk, OnErr, IfOk, map, Some, true, is_some};
+ghost use Rattle.std.specs.Option.{option_copied};
+ghost use Rattle.host_port.specs.Disk.{after, after_step, disk};
+ghost use Rattle.host_port.specs.Tapes.{shown, ShowsSame, ShowsTrace};
+ghost use Rattle.host_port.specs.Views.{disk_of, lookup, named, steps_before};
+ghost use Rattle.host_port.specs.declared.event.Event.TheVariants as event;
+
+use crate::named::Named;
+use crate::{DiskView, Event, ForeignStep};
+use mail_text::{Items, Memory, Text};
+use std::alloc::Global;
+
+/// The events so far, with the disk that they make of the disk that stood at the start.
+#[derive(Drop)]
+pub struct Tape {
+    pub start: DiskView,
+    pub files: Named<Text>,
+    pub locks: Named<u64>,
+    pub trace: Vec<Event>,
+    ghost shows: { ShowsTrace start.files start.locks files locks trace.items },
+}
+
+fn effect_of_step(
+    alloc: Global,
+    files: &mut Named<Text>,
+    locks: &mut Named<u64>,
+    step: &ForeignStep,
+) -> Result<(), Memory>
+    ensures ok { OnOk result (ShowsSame (shown files.new locks.new) (after_step (shown files.old locks.old) step.now)) }
+    ensures same_files { OnErr result (files.new ≡ files.old) }
+    ensures same_locks { OnErr result (locks.new ≡ locks.old) }
+{
+    match step {
+        ForeignStep::Write { name, bytes } => {
+            let copy = Text::copy(alloc, bytes.bytes())?;
+            files.put(alloc, name.bytes(), Some(copy))
+        }
+        ForeignStep::Remove { name } => files.put(alloc, name.bytes(), None),
+        ForeignStep::Lock { name, token } => {
+            if locks.has(name.bytes()) {
+                return Ok(());
+            }
+            locks.put(alloc, name.bytes(), Some(*token))
+        }
+        ForeignStep::Unlock { name, token } => {
+            if locks.get(name.bytes()) != Some(token) {
+                return Ok(());
+            }
+            locks.put(alloc, name.bytes(), None)
+        }
+    }
+}
+
+fn effect(
+    alloc: Global,
+    files: &mut Named<Text>,
+    locks: &mut Named<u64>,
+    event: &Event,
+) -> Result<(), Memory>
+    ensures ok { OnOk result (ShowsSame (shown files.new locks.new) (after (shown files.old locks.old) event.now)) }
+    ensures same_files { OnErr result (files.new ≡ files.old) }
+    ensures same_locks { OnErr result (locks.new ≡ locks.old) }
+{
+    match event {
+        Event::Foreign { step } => effect_of_step(alloc, files, locks, step),
+        _ => Ok(()),
+    }
+}
+
+impl Tape {
+    /// Adds an event with its effect. After want of memory all is as before.
+    pub fn add(&mut self, alloc: Global, event: Event) -> Result<(), Memory>
+        ensures ok { OnOk result (self.new.trace.items ≡ self.old.trace.items ++ event ∷ []) }
+        ensures err { OnErr result (self.new.trace.items ≡ self.old.trace.items) }
+        ensures start { self.new.start ≡ self.old.start }
+    {
+        self.trace.reserve(1)?;
+        effect(alloc, &mut self.files, &mut self.locks, &event)?;
+        match self.trace.push(event) {
+            Ok(()) => Ok(()),
+            Err(_) => unreachable!(),
+        }
+    }
+}
+
+fn copy_step(alloc: Global, step: &ForeignStep) -> Result<ForeignStep, Memory>
+    ensures { IfOk result (λ s. s ≡ step.now) }
+{
+    match step {
+        ForeignStep::Write { name, bytes } => Ok(ForeignStep::Write {
+            name: Text::copy(alloc, name.bytes())?,
+            bytes: Text::copy(alloc, bytes.bytes())?,
+        }),
+        ForeignStep::Remove { name } => Ok(ForeignStep::Remove {
+            name: Text::copy(alloc, name.bytes())?,
+        }),
+        ForeignStep::Lock { name, token } => Ok(ForeignStep::Lock {
+            name: Text::copy(alloc, name.bytes())?,
+            token: *token,
+        }),
+        ForeignStep::Unlock { name, token } => Ok(ForeignStep::Unlock {
+            name: Text::copy(alloc, name.bytes())?,
+            token: *token,
+        }),
+    }
+}
+
+fn add_step(alloc: Global, step: &ForeignStep, tape: &mut Tape) -> Result<(), Memory>
+    ensures ok { OnOk result (tape.new.trace.items ≡ tape.old.trace.items ++ event.Foreign step.now ∷ []) }
+    ensures start { tape.new.start ≡ tape.old.start }
+{
+    let step = copy_step(alloc, step)?;
+    tape.add(alloc, Event::Foreign { step })
+}
+
+/// Adds the steps of others that a plan has before the call of this number.
+pub fn add_others(
+    alloc: Global,
+    plan: &[(u64, ForeignStep)],
+    call: u64,
+    tape: &mut Tape,
+) -> Result<(), Memory>
+    ensures ok { OnOk result (tape.new.trace.items ≡ tape.old.trace.items ++ map event.Foreign (steps_before plan.now call)) }
+    ensures start { tape.new.start ≡ tape.old.start }
+{
+    for (at, step) in plan {
+        if *at == call {
+            add_step(alloc, step, tape)?;
+        }
+    }
+    Ok(())
+}
+
+/// The files of a list, of which the first of each name counts.
+pub fn copy_files(alloc: Global, files: &[(Text, Text)]) -> Result<Named<Text>, Memory>
+    ensures { IfOk result (λ m. (q : List ℕ) → named m q ≡ lookup files.now q) }
+{
+    let mut named = Named::new(alloc);
+    for (name, bytes) in files {
+        if !named.has(name.bytes()) {
+            let copy = Text::copy(alloc, bytes.bytes())?;
+            named.put(alloc, name.bytes(), Some(copy))?;
+        }
+    }
+    Ok(named)
+}
+
+/// The locks of a list, of which the first of each name counts.
+pub fn copy_locks(alloc: Global, locks: &[(Text, u64)]) -> Result<Named<u64>, Memory>
+    ensures { IfOk result (λ m. (q : List ℕ) → named m q ≡ lookup locks.now q) }
+{
+    let mut named = Named::new(alloc);
+    for (name, token) in locks {
+        if !named.has(name.bytes()) {
+            named.put(alloc, name.bytes(), Some(*token))?;
+        }
+    }
+    Ok(named)
+}
