@@ -1,0 +1,59 @@
+-- One call carries out one act.
+use Rattle.std.proofs.Common.{◌≡◌, ◌⊎◌, ℕ, Bool, true, false, List, [], ◌∷◌, ◌++◌, refl, sym, ◌∙◌, ap, subst, inl, inr, take, drop, take-append-drop}
+use Rattle.std.specs.Prelude.{is_some}
+use Rattle.std.specs.declared.option.Option.{Option}
+use Rattle.std.specs.declared.option.Option.TheVariants.{Some, None}
+use Rattle.std.specs.declared.result.Result.{Result}
+use Rattle.std.specs.declared.result.Result.TheVariants.{Ok, Err}
+use Rattle.host_port.specs.declared.event.Event.{Event}
+use Rattle.host_port.specs.declared.event.Event.TheVariants as event
+use Rattle.host_port.specs.declared.event.Seen.{Seen}
+use Rattle.host_port.specs.declared.event.Seen.TheVariants as seen
+use Rattle.host_port.specs.declared.event.LoadAnswer.{LoadAnswer}
+use Rattle.host_port.specs.declared.host.LoadError.{LoadError}
+use Rattle.host_port.specs.declared.host.LoadError.TheVariants as error
+use Rattle.host_port.specs.declared.host.InFault.{InFault}
+use Rattle.host_port.specs.declared.host.OutFault.{OutFault}
+use Rattle.host_port.specs.Disk.{Disk}
+use Rattle.host_port.specs.Calls.{Said, Loaded}
+use Rattle.host_port.specs.Ran.{Agrees}
+use Rattle.host_port.specs.Own.{own}
+use Rattle.session_play.specs.declared.act.Found.{Found}
+use Rattle.session_play.specs.declared.act.Found.TheVariants as found
+use Rattle.session_play.specs.declared.stop.Stop.{Stop}
+use Rattle.session_play.specs.declared.stop.Stop.TheVariants as stop
+use Rattle.session_play.specs.Play.{Play, Ask, Ret, Say, Read, Goes}
+
+append_nil : (xs : List ℕ) → xs ≡ xs ++ []
+append_nil [] = refl
+append_nil (x ∷ xs) = ap (λ r. x ∷ r) (append_nil xs)
+
+pub said-ok : (bytes : List ℕ) (d : Disk) (e : Event) → e ≡ event.Out bytes false → Agrees d e × Goes {R = Unit {0}} (Ask (Say bytes) Ret) (own (e ∷ [])) (Ok tt)
+said-ok bytes d e is =
+    let P : Event → Type 0 = λ e. Agrees d e × Goes {R = Unit {0}} (Ask (Say bytes) Ret) (own (e ∷ [])) (Ok tt) in
+    subst P (sym is) (tt, inl (tt, event.Out bytes false ∷ [], [], refl, ([], append_nil bytes, refl), (refl, inl refl)))
+
+pub said-err : (bytes : List ℕ) (d : Disk) (e : Event) → (n : ℕ) × (e ≡ event.Out (take n bytes) true) → Agrees d e × Goes {R = Unit {0}} (Ask (Say bytes) Ret) (own (e ∷ [])) (Err stop.Output)
+said-err bytes d e is =
+    let P : Event → Type 0 = λ e. Agrees d e × Goes {R = Unit {0}} (Ask (Say bytes) Ret) (own (e ∷ [])) (Err stop.Output) in
+    subst P (sym is.1) (tt, inr (stop.Output, refl, inr (drop is.0 bytes, sym (take-append-drop is.0 bytes), refl)))
+
+pub loaded-ok : (name : List ℕ) (a : LoadAnswer) (d : Disk) (e : Event) → Loaded name (Ok a) d e → Agrees d e × Goes {R = Found} (Ask (Read name) Ret) (own (e ∷ [])) (Ok (found.Bytes a.bytes a.held))
+loaded-ok name a d e is =
+    let P : Event → Type 0 = λ e. Agrees d e × Goes {R = Found} (Ask (Read name) Ret) (own (e ∷ [])) (Ok (found.Bytes a.bytes a.held)) in
+    subst P (sym is.0) ((is.1, is.2), inl (found.Bytes a.bytes a.held, event.Load name (seen.Bytes a.bytes a.held) ∷ [], [], refl, refl, (refl, inl refl)))
+
+pub loaded-large : (name : List ℕ) (n : ℕ) (d : Disk) (e : Event) → Loaded name (Err (error.TooLarge n)) d e → Agrees d e × Goes {R = Found} (Ask (Read name) Ret) (own (e ∷ [])) (Ok (found.TooLarge n))
+loaded-large name n d e is =
+    let P : Event → Type 0 = λ e. Agrees d e × Goes {R = Found} (Ask (Read name) Ret) (own (e ∷ [])) (Ok (found.TooLarge n)) in
+    subst P (sym is.0) (is.1, inl (found.TooLarge n, event.Load name (seen.TooLarge n) ∷ [], [], refl, refl, (refl, inl refl)))
+
+pub load-failed : (name : List ℕ) (d : Disk) (e : Event) → e ≡ event.Load name seen.Failed → Agrees d e × Goes {R = Found} (Ask (Read name) Ret) (own (e ∷ [])) (Err stop.Disk)
+load-failed name d e is =
+    let P : Event → Type 0 = λ e. Agrees d e × Goes {R = Found} (Ask (Read name) Ret) (own (e ∷ [])) (Err stop.Disk) in
+    subst P (sym is) (tt, inr (stop.Disk, refl, inr (refl)))
+
+pub load-memory : (name : List ℕ) (d : Disk) (e : Event) → e ≡ event.Load name seen.Memory → Agrees d e × Goes {R = Found} (Ask (Read name) Ret) (own (e ∷ [])) (Err stop.Memory)
+load-memory name d e is =
+    let P : Event → Type 0 = λ e. Agrees d e × Goes {R = Found} (Ask (Read name) Ret) (own (e ∷ [])) (Err stop.Memory) in
+    subst P (sym is) (tt, inr (stop.Memory, refl, inr refl))

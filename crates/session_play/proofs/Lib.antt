@@ -1,0 +1,5 @@
+pub mod PlayLemmas
+pub mod ActLemmas
+pub mod InputLemmas
+pub mod LoopLemmas
+pub mod LineLemmas

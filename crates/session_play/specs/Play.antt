@@ -1,0 +1,118 @@
+-- What a run does, act by act, and which events carry out which act.
+use Rattle.std.specs.Prelude.{◌≡◌, ◌⊎◌, ◌+◌, ◌<◌, ◌≤◌, ℕ, Bool, true, false, List, [], ◌∷◌, ◌++◌}
+use Rattle.std.specs.declared.option.Option.{Option}
+use Rattle.std.specs.declared.option.Option.TheVariants.{Some, None}
+use Rattle.std.specs.declared.result.Result.{Result}
+use Rattle.std.specs.declared.result.Result.TheVariants.{Ok, Err}
+use Rattle.host_port.specs.declared.event.Event.{Event}
+use Rattle.host_port.specs.declared.event.Event.TheVariants as event
+use Rattle.host_port.specs.declared.event.Seen.{Seen}
+use Rattle.host_port.specs.declared.event.Seen.TheVariants as seen
+use Rattle.host_port.specs.Calls.{Counts, Rose}
+use Rattle.session_play.specs.declared.act.Found.{Found}
+use Rattle.session_play.specs.declared.act.Found.TheVariants as found
+use Rattle.session_play.specs.declared.stop.Stop.{Stop}
+use Rattle.session_play.specs.declared.stop.Stop.TheVariants as stop
+use Rattle.session_play.specs.Input.{Input, input_limit, next_line, Reads}
+
+-- what a run asks of the outside: the next line of its input, to say bytes, to load a file
+pub data Act : Type 0 where
+  Line : Input → Act
+  Say : List ℕ → Act
+  Read : List ℕ → Act
+
+-- what it is answered: the line, or none at the end, with the input that is left; nothing; what the load found
+abbrev pub Answer : Act → Type 0
+Answer (Line i) = Option (List ℕ) × Input
+Answer (Say bytes) = Unit {0}
+Answer (Read name) = Found
+
+-- acts, each followed by what its answer calls for, to a result
+pub data Play (R : Type 0) : Type 0 where
+  Ret : R → Play R
+  Ask : (act : Act) → (Answer act → Play R) → Play R
+
+-- one play after the other
+abbrev pub bind : {A B : Type 0} → Play A → (A → Play B) → Play B
+bind (Ret a) k = k a
+bind (Ask act go) k = Ask act (λ answer. bind (go answer) k)
+
+-- Outs whose joined bytes are these
+abbrev pub Says : List ℕ → List Event → Type 0
+Says bytes [] = bytes ≡ []
+Says bytes (event.Out front false ∷ es) = (rest : List ℕ) × (bytes ≡ front ++ rest) × Says rest es
+Says bytes (e ∷ es) = ⊥
+
+-- Outs of which the last failed; their joined bytes are a front of these
+abbrev pub SaysInPart : List ℕ → List Event → Type 0
+SaysInPart bytes [] = ⊥
+SaysInPart bytes (event.Out front false ∷ es) = (rest : List ℕ) × (bytes ≡ front ++ rest) × SaysInPart rest es
+SaysInPart bytes (event.Out front true ∷ es) = (rest : List ℕ) × (bytes ≡ front ++ rest) × (es ≡ [])
+SaysInPart bytes (e ∷ es) = ⊥
+
+-- what the event of a load says where it found something
+abbrev pub seen_of : Found → Seen
+seen_of (found.Bytes bytes held) = seen.Bytes bytes held
+seen_of (found.TooLarge n) = seen.TooLarge n
+
+-- the own events that carry out an act, with its answer
+abbrev pub Did : (act : Act) → Answer act → List Event → Type 0
+Did (Line i) a es = (j : Input) × Reads i es j × (next_line j ≡ Some a)
+Did (Say bytes) u es = Says bytes es
+Did (Read name) f es = es ≡ event.Load name (seen_of f) ∷ []
+
+-- the own events of an act that is cut off, and why it was
+abbrev pub Partly : Stop → Act → List Event → Type 0
+Partly stop.Input (Line i) es = (front : List Event) × (j : Input) × Reads i front j × (next_line j ≡ None) × (es ≡ front ++ event.In [] true ∷ [])
+Partly stop.TooMuch (Line i) es = (j : Input) × Reads i es j × (input_limit < j.taken)
+Partly stop.Memory (Line i) es = (j : Input) × Reads i es j
+Partly stop.Output (Say bytes) es = SaysInPart bytes es
+Partly stop.Disk (Read name) es = es ≡ event.Load name seen.Failed ∷ []
+Partly stop.Memory (Read name) es = es ≡ event.Load name seen.Memory ∷ []
+Partly cause act es = ⊥
+
+-- The events are those of the play, to its end or to where it was cut off. Want of memory may come at any place.
+abbrev pub Goes : {R : Type 0} → Play R → List Event → Result R Stop → Type 0
+Goes (Ret r) es out = (es ≡ []) × ((out ≡ Ok r) ⊎ (out ≡ Err stop.Memory))
+Goes (Ask act k) es out =
+    ((answer : Answer act) × (front : List Event) × (rest : List Event) × (es ≡ front ++ rest) × Did act answer front × Goes (k answer) rest out)
+    ⊎ ((cause : Stop) × (out ≡ Err cause) × (((cause ≡ stop.Memory) × (es ≡ [])) ⊎ Partly cause act es))
+
+-- a round of a loop ends with the next state, or with the loop's result
+pub data Next (X R : Type 0) : Type 0 where
+  Go : X → Next X R
+  Last : R → Next X R
+
+-- rounds from a state on, to the end or to a cut
+pub data Loop {X R : Type 0} (round : X → Play (Next X R)) : X → List Event → Result R Stop → Type 0 where
+  again : {x y : X} {es : List Event} {out : Result R Stop} (front rest : List Event) → es ≡ front ++ rest → Goes (round x) front (Ok (Go y)) → Loop round y rest out → Loop round x es out
+  last : {x : X} {es : List Event} {r : R} → Goes (round x) es (Ok (Last r)) → Loop round x es (Ok r)
+  cut : {x : X} {es : List Event} {cause : Stop} → Goes (round x) es (Err cause) → Loop round x es (Err cause)
+
+-- the own events of a whole run: rounds from its opening to an end or a cut, and then what the ending adds
+pub record Whole {X R : Type 0} (round : X → Play (Next X R)) (opening : X) (Ending : Result R Stop → List Event → Type 0) (es : List Event) : Type 0 where
+  pub out : Result R Stop
+  pub front : List Event
+  pub behind : List Event
+  pub is : es ≡ front ++ behind
+  pub plays : Loop round opening front out
+  pub ending : Ending out behind
+
+-- each cause of a cut but the limit and want of memory comes only where the count of its kind rose
+abbrev pub Caused : {T : Type 0} → Counts → Counts → Result T Stop → Type 0
+Caused old new (Err stop.Input) = Rose old.ins new.ins
+Caused old new (Err stop.Output) = Rose old.outs new.outs
+Caused old new (Err stop.Disk) = Rose old.disks new.disks
+Caused old new (Err stop.TooMuch) = Unit {0}
+Caused old new (Err stop.Memory) = Unit {0}
+Caused old new (Ok t) = Unit {0}
+
+-- a line's answer: the line with the input that is left
+abbrev pub with_input : Result (Option (List ℕ)) Stop → Input → Result (Option (List ℕ) × Input) Stop
+with_input (Ok line) j = Ok (line, j)
+with_input (Err cause) j = Err cause
+
+-- input was taken from i to j, or the taking was cut off
+abbrev pub TookSome : Result Unit Stop → Input → Input → List Event → Type 0
+TookSome (Ok u) i j es = Reads i es j
+TookSome (Err cause) i j es = Partly cause (Line i) es

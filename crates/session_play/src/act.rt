@@ -1,0 +1,46 @@
+// The acts of a play, each by the host's calls.
+ghost use Rattle.host_port.specs.Names.{IsFileName};
+ghost use Rattle.host_port.specs.Ran.{Ran};
+ghost use Rattle.session_play.specs.Play.{Play, Ask, Ret, Say, Read, Goes, Caused};
+
+use crate::Stop;
+use host_port::{Host, LoadError};
+use mail_text::Text;
+use std::alloc::Global;
+
+/// What a load found.
+#[derive(Drop, Debug)]
+pub enum Found {
+    /// The whole file, or None where it is absent, and whether a lock on its name stood.
+    Bytes { bytes: Option<Text>, held: bool },
+    /// A file of this many bytes, more than a load takes.
+    TooLarge { length: u64 },
+}
+
+/// Says these bytes.
+pub fn say<H: Host>(host: &mut H, bytes: &[u8]) -> Result<(), Stop>
+    ensures ran { Ran H.start H.told H.counts host.old host.new (λ es. Goes (Ask (Say bytes.now) Ret) es result) }
+    ensures cause { Caused (H.counts host.old) (H.counts host.new) result }
+{
+    match host.say(bytes) {
+        Ok(()) => Ok(()),
+        Err(_) => Err(Stop::Output),
+    }
+}
+
+/// Loads a file.
+pub fn load<H: Host>(alloc: Global, host: &mut H, name: &[u8]) -> Result<Found, Stop>
+    requires { IsFileName name.now }
+    ensures ran { Ran H.start H.told H.counts host.old host.new (λ es. Goes (Ask (Read name.now) Ret) es result) }
+    ensures cause { Caused (H.counts host.old) (H.counts host.new) result }
+{
+    match host.load(alloc, name) {
+        Ok(a) => Ok(Found::Bytes {
+            bytes: a.bytes,
+            held: a.held,
+        }),
+        Err(LoadError::TooLarge { length }) => Ok(Found::TooLarge { length }),
+        Err(LoadError::Failed) => Err(Stop::Disk),
+        Err(LoadError::Memory) => Err(Stop::Memory),
+    }
+}

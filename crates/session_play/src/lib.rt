@@ -1,0 +1,10 @@
+//! What a run does: acts of the outside, the plays that they make, and input by lines.
+#![tactic(auto)]
+
+mod act;
+mod reader;
+mod stop;
+
+pub use act::{Found, load, say};
+pub use reader::Reader;
+pub use stop::Stop;
