@@ -13,7 +13,7 @@ use Rattle.host_port.specs.Ran.{Agrees}
 use Rattle.host_port.specs.Own.{own}
 use Rattle.session_play.specs.declared.stop.Stop.{Stop}
 use Rattle.session_play.specs.declared.stop.Stop.TheVariants as stop
-use Rattle.session_play.specs.Input.{Input, first_line, next_line, next_of, took, is_empty, Reads, Handed}
+use Rattle.session_play.specs.Input.{Input, input_limit, first_line, next_line, next_of, took, is_empty, Reads, Handed}
 use Rattle.session_play.specs.Play.{Play, Ask, Ret, Line, Goes, Partly, TookSome, with_input}
 
 -- where nothing can be handed out, the end was not seen
@@ -26,8 +26,8 @@ still_open i none = go (first_line i.rest) i.ended none
     go None false e = refl
 
 -- an event that takes bytes
-reads-one : (i j : Input) (bytes : List ℕ) → next_line i ≡ None → took i bytes ≡ j → Reads i (event.In bytes false ∷ []) j
-reads-one i j bytes none is = (none, is)
+reads-one : (i j : Input) (bytes : List ℕ) → next_line i ≡ None → i.taken + length bytes ≤ input_limit → took i bytes ≡ j → Reads i (event.In bytes false ∷ []) j
+reads-one i j bytes none within is = (none, within, is)
 
 abbrev made : List ℕ → Bool → ℕ → Input
 made r b m = record { rest = r; ended = b; taken = m }
@@ -45,11 +45,11 @@ at-event bytes failed result i j d e took is =
 pub filled-err : (i : Input) → next_line i ≡ None → (d : Disk) (e : Event) → e ≡ event.In [] true → Agrees d e × TookSome (Err stop.Input) i i (own (e ∷ []))
 filled-err i none d e is = at-event [] true (Err stop.Input) i i d e ([], i, refl, none, refl) is
 
-pub filled-end : (i : Input) (n taken : ℕ) (buf rest : List ℕ) → next_line i ≡ None → n ≡ 0 → rest ≡ i.rest → taken ≡ i.taken → (d : Disk) (e : Event) → e ≡ event.In (take n buf) false → Agrees d e × TookSome (Ok tt) i (record { rest = rest; ended = true; taken = taken }) (own (e ∷ []))
-filled-end i n taken buf rest none zero_is rest_is taken_is d e is =
+pub filled-end : (i : Input) (n taken : ℕ) (buf rest : List ℕ) → next_line i ≡ None → taken ≤ input_limit → n ≡ 0 → rest ≡ i.rest → taken ≡ i.taken → (d : Disk) (e : Event) → e ≡ event.In (take n buf) false → Agrees d e × TookSome (Ok tt) i (record { rest = rest; ended = true; taken = taken }) (own (e ∷ []))
+filled-end i n taken buf rest none within zero_is rest_is taken_is d e is =
     let J : Input = record { rest = rest; ended = true; taken = taken } in
     at-event [] false (Ok tt) i J d e
-    (reads-one i J [] none (same-input (append-nil i.rest ∙ sym rest_is) refl (add-zero i.taken ∙ sym taken_is)))
+    (reads-one i J [] none (omega arith) (same-input (append-nil i.rest ∙ sym rest_is) refl (add-zero i.taken ∙ sym taken_is)))
     (is ∙ ap (λ (n : ℕ). event.In (take n buf) false) zero_is ∙ nothing buf)
   where
     nothing : (b : List ℕ) → event.In (take 0 b) false ≡ event.In [] false
@@ -61,29 +61,29 @@ not-empty zero buf ne le = absurd (ne refl)
 not-empty (suc n) [] ne le = absurd (omega arith)
 not-empty (suc n) (b ∷ buf) ne le = refl
 
-pub filled-some : (i : Input) (n taken : ℕ) (buf rest : List ℕ) (ended : Bool) → next_line i ≡ None → (n ≡ 0 → ⊥) → n ≤ length buf → rest ≡ i.rest ++ take n buf → ended ≡ i.ended → taken ≡ i.taken + n → (d : Disk) (e : Event) → e ≡ event.In (take n buf) false
+pub filled-some : (i : Input) (n taken : ℕ) (buf rest : List ℕ) (ended : Bool) → next_line i ≡ None → i.taken + n ≤ input_limit → (n ≡ 0 → ⊥) → n ≤ length buf → rest ≡ i.rest ++ take n buf → ended ≡ i.ended → taken ≡ i.taken + n → (d : Disk) (e : Event) → e ≡ event.In (take n buf) false
     → Agrees d e × TookSome (Ok tt) i (record { rest = rest; ended = ended; taken = taken }) (own (e ∷ []))
-filled-some i n taken buf rest ended none ne le rest_is ended_is taken_is d e is =
+filled-some i n taken buf rest ended none within ne le rest_is ended_is taken_is d e is =
     let J : Input = record { rest = rest; ended = ended; taken = taken } in
     at-event (take n buf) false (Ok tt) i J d e
-    (reads-one i J (take n buf) none
+    (reads-one i J (take n buf) none (let l = length-take-le n buf le in omega arith)
     (same-input (sym rest_is) (not-empty n buf ne le ∙ sym (ended_is ∙ still_open i none)) (ap (λ (m : ℕ). i.taken + m) (length-take-le n buf le) ∙ sym taken_is)))
     is
 
-pub filled-large : (i : Input) (n taken : ℕ) (buf : List ℕ) (j : Input) → next_line i ≡ None → n ≤ length buf → taken ≡ i.taken → 67108864 - taken < n → (d : Disk) (e : Event) → e ≡ event.In (take n buf) false
+pub filled-large : (i : Input) (n taken : ℕ) (buf : List ℕ) (j : Input) → next_line i ≡ None → n ≤ length buf → taken ≡ i.taken → input_limit - taken < n → (d : Disk) (e : Event) → e ≡ event.In (take n buf) false
     → Agrees d e × TookSome (Err stop.TooMuch) i j (own (e ∷ []))
 filled-large i n taken buf j none le taken_is more d e is =
     at-event (take n buf) false (Err stop.TooMuch) i j d e
-    (took i (take n buf), reads-one i _ (take n buf) none refl, (let l = length-take-le n buf le in omega arith)) is
+    ([], i, take n buf, refl, none, (let l = length-take-le n buf le in omega arith), refl) is
 
-pub filled-memory : (i : Input) (n : ℕ) (buf : List ℕ) (j : Input) → next_line i ≡ None → (d : Disk) (e : Event) → e ≡ event.In (take n buf) false → Agrees d e × TookSome (Err stop.Memory) i j (own (e ∷ []))
-filled-memory i n buf j none d e is =
-    at-event (take n buf) false (Err stop.Memory) i j d e (took i (take n buf), reads-one i _ (take n buf) none refl) is
+pub filled-memory : (i : Input) (n : ℕ) (buf : List ℕ) (j : Input) → next_line i ≡ None → i.taken + n ≤ input_limit → n ≤ length buf → (d : Disk) (e : Event) → e ≡ event.In (take n buf) false → Agrees d e × TookSome (Err stop.Memory) i j (own (e ∷ []))
+filled-memory i n buf j none within le d e is =
+    at-event (take n buf) false (Err stop.Memory) i j d e (took i (take n buf), reads-one i _ (take n buf) none (let l = length-take-le n buf le in omega arith) refl) is
 
 -- takings go on from one another
 pub reads-more : (es fs : List Event) (i j k : Input) → Reads i es j → Reads j fs k → Reads i (es ++ fs) k
 reads-more [] fs i j k x y = let R : Input → Type 0 = λ i. Reads i fs k in subst R (sym x) y
-reads-more (event.In bytes false ∷ es) fs i j k x y = (x.0, reads-more es fs (took i bytes) j k x.1 y)
+reads-more (event.In bytes false ∷ es) fs i j k x y = (x.0, x.1, reads-more es fs (took i bytes) j k x.2 y)
 reads-more (e ∷ es) fs i j k x y = absurd x
 
 -- a line after takings
@@ -94,7 +94,8 @@ line-taken i j k line es is reads = inl ((line, k), es, [], sym (append-nil es),
 pub line-cut : (i j k : Input) (cause : Stop) (es fs : List Event) → Reads i es j → Partly cause (Line j) fs → Goes (Ask (Line i) Ret) (es ++ fs) (with_input (Err cause) k)
 line-cut i j k stop.Input es fs reads (front, m, more, none, is) =
     inr (stop.Input, refl, inr ((es ++ front, m, reads-more es front i j m reads more, none, ap (λ r. es ++ r) is ∙ sym (append_assoc es front (event.In [] true ∷ [])))))
-line-cut i j k stop.TooMuch es fs reads (m, more, large) = inr (stop.TooMuch, refl, inr ((m, reads-more es fs i j m reads more, large)))
+line-cut i j k stop.TooMuch es fs reads (front, m, bytes, more, none, large, is) =
+    inr (stop.TooMuch, refl, inr ((es ++ front, m, bytes, reads-more es front i j m reads more, none, large, ap (λ r. es ++ r) is ∙ sym (append_assoc es front (event.In bytes false ∷ [])))))
 line-cut i j k stop.Memory es fs reads (m, more) = inr (stop.Memory, refl, inr ((m, reads-more es fs i j m reads more)))
 line-cut i j k stop.Output es fs reads never = absurd never
 line-cut i j k stop.Disk es fs reads never = absurd never

@@ -3,3 +3,4 @@ pub mod ActLemmas
 pub mod InputLemmas
 pub mod LoopLemmas
 pub mod LineLemmas
+pub mod CauseLemmas

@@ -47,10 +47,10 @@ is_empty (b ∷ bs) = false
 abbrev pub took : Input → List ℕ → Input
 took i bytes = record { rest = i.rest ++ bytes; ended = is_empty bytes; taken = i.taken + length bytes }
 
--- these events take input from i to j; each stands only where no line and no end can be handed out without it
+-- These events take input from i to j, within the limit. Each stands only where no line and no end can be handed out without it.
 abbrev pub Reads : Input → List Event → Input → Type 0
 Reads i [] j = i ≡ j
-Reads i (event.In bytes false ∷ es) j = (next_line i ≡ None) × Reads (took i bytes) es j
+Reads i (event.In bytes false ∷ es) j = (next_line i ≡ None) × (i.taken + length bytes ≤ input_limit) × Reads (took i bytes) es j
 Reads i (e ∷ es) j = ⊥
 
 -- what can be handed out is, and else nothing changes

@@ -1,5 +1,5 @@
 -- What a run does, act by act, and which events carry out which act.
-use Rattle.std.specs.Prelude.{◌≡◌, ◌⊎◌, ◌+◌, ◌<◌, ◌≤◌, ℕ, Bool, true, false, List, [], ◌∷◌, ◌++◌}
+use Rattle.std.specs.Prelude.{◌≡◌, ◌⊎◌, ◌+◌, ◌<◌, ◌≤◌, ℕ, Bool, true, false, List, [], ◌∷◌, ◌++◌, length}
 use Rattle.std.specs.declared.option.Option.{Option}
 use Rattle.std.specs.declared.option.Option.TheVariants.{Some, None}
 use Rattle.std.specs.declared.result.Result.{Result}
@@ -64,7 +64,7 @@ Did (Read name) f es = es ≡ event.Load name (seen_of f) ∷ []
 -- the own events of an act that is cut off, and why it was
 abbrev pub Partly : Stop → Act → List Event → Type 0
 Partly stop.Input (Line i) es = (front : List Event) × (j : Input) × Reads i front j × (next_line j ≡ None) × (es ≡ front ++ event.In [] true ∷ [])
-Partly stop.TooMuch (Line i) es = (j : Input) × Reads i es j × (input_limit < j.taken)
+Partly stop.TooMuch (Line i) es = (front : List Event) × (j : Input) × (bytes : List ℕ) × Reads i front j × (next_line j ≡ None) × (input_limit < j.taken + length bytes) × (es ≡ front ++ event.In bytes false ∷ [])
 Partly stop.Memory (Line i) es = (j : Input) × Reads i es j
 Partly stop.Output (Say bytes) es = SaysInPart bytes es
 Partly stop.Disk (Read name) es = es ≡ event.Load name seen.Failed ∷ []
