@@ -1,4 +1,5 @@
 // The acts of a play, each by the host's calls.
+ghost use Rattle.std.specs.Prelude.{◌≡◌, IfErr};
 ghost use Rattle.host_port.specs.Names.{IsFileName};
 ghost use Rattle.host_port.specs.Ran.{Ran};
 ghost use Rattle.session_play.specs.Play.{Play, Ask, Ret, Say, Read, Goes, Caused};
@@ -21,6 +22,7 @@ pub enum Found {
 pub fn say<H: Host>(host: &mut H, bytes: &[u8]) -> Result<(), Stop>
     ensures ran { Ran H.start H.told H.counts host.old host.new (λ es. Goes (Ask (Say bytes.now) Ret) es result) }
     ensures cause { Caused (H.counts host.old) (H.counts host.new) result }
+    ensures only_output { IfErr result (λ cause. cause ≡ Stop.Output) }
 {
     match host.say(bytes) {
         Ok(()) => Ok(()),

@@ -1,0 +1,36 @@
+//! The program `mailx`: it makes the real host and the environment, calls `run`, and ends with the status' number.
+#![tactic(auto)]
+
+mod outside;
+mod real;
+
+use mail_text::{Items, Memory};
+use mailx_top::{Environment, run};
+use real::RealHost;
+use std::process::ExitCode;
+use std::random::RandomSource;
+
+fn start(rt: HostRuntime) -> Result<u8, Memory> {
+    let alloc = rt.alloc();
+    let words = outside::words(&rt, alloc)?;
+    let pairs = outside::variables(&rt, alloc)?;
+    let mut token = [0u8; 8];
+    if rt.fill_bytes(&mut token).is_err() {
+        let _ = rt.write_all(b"mailx: input fault\n");
+        return Ok(3);
+    }
+    let env = Environment {
+        pairs: Items::of(pairs),
+        terminal: false,
+        token: u64::from_le_bytes(token),
+    };
+    let mut host = RealHost::new(rt);
+    Ok(run(alloc, &words, &env, &mut host).number())
+}
+
+fn main(rt: HostRuntime) -> ExitCode {
+    match start(rt) {
+        Ok(status) => ExitCode::from(status),
+        Err(_) => ExitCode::from(8),
+    }
+}

@@ -1,0 +1,60 @@
+// What the program is handed: the words of its command line, and the variables of its environment.
+use mail_text::{Memory, Text};
+use std::alloc::Global;
+use std::env::FillError;
+use std::rt::Env;
+
+/// The variables that a run looks at.
+const NAMES: [&str; 10] = [
+    "HOME", "LOGNAME", "MAIL", "MAILRC", "MBOX", "DEAD", "LISTER", "SHELL", "TZ", "COLUMNS",
+];
+
+/// The room that a text is given, and the longest that a system hands over.
+const ROOMS: [usize; 2] = [4096, 131_072];
+
+/// Which text is asked for.
+#[derive(Clone, Copy)]
+enum Ask<'a> {
+    Word(usize),
+    Variable(&'a str),
+}
+
+// A text of the environment, or None where there is none.
+fn read<E: Env>(env: &E, alloc: Global, ask: Ask<'_>) -> Result<Option<Text>, Memory> {
+    for room in ROOMS {
+        let mut buf = vec![in alloc; 0u8; room]?;
+        let filled = match ask {
+            Ask::Word(k) => env.arg(k, &mut buf),
+            Ask::Variable(name) => env.var(name, &mut buf),
+        };
+        match filled {
+            Ok(n) => return Ok(Some(Text::copy(alloc, &buf[..n])?)),
+            Err(FillError::NotPresent) => return Ok(None),
+            Err(FillError::TooLong) => {}
+        }
+    }
+    Ok(None)
+}
+
+/// The words of the command line, the program's own name left out.
+pub fn words<E: Env>(env: &E, alloc: Global) -> Result<Vec<Text>, Memory> {
+    let mut words = Vec::new(alloc);
+    for k in 1..usize::MAX {
+        match read(env, alloc, Ask::Word(k))? {
+            Some(word) => words.push(word)?,
+            None => break,
+        }
+    }
+    Ok(words)
+}
+
+/// The variables that are set.
+pub fn variables<E: Env>(env: &E, alloc: Global) -> Result<Vec<(Text, Text)>, Memory> {
+    let mut pairs = Vec::new(alloc);
+    for name in NAMES {
+        if let Some(value) = read(env, alloc, Ask::Variable(name))? {
+            pairs.push((Text::copy(alloc, name.as_bytes())?, value))?;
+        }
+    }
+    Ok(pairs)
+}

@@ -1,0 +1,11 @@
+use Rattle.std.proofs.Common.{◌≡◌, true, false, refl, sym, ◌∙◌, ⊎_elim}
+use Rattle.std.proofs.lemmas.Bool.{cases_Bool}
+use Rattle.std.proofs.lemmas.Str.{IsUtf8-from_is_utf8, is_utf8-from_IsUtf8}
+use Rattle.std.specs.Str.{is_utf8}
+use Rattle.mailx_top.proofs.words.is_utf8.Goals as goal
+
+pub returns-in-Ok : goal.returns-in-Ok
+returns-in-Ok c = sym (is_utf8-from_IsUtf8 c.args.word.now c.in-Ok.ensures.cases.1)
+
+pub returns-in-Err : goal.returns-in-Err
+returns-in-Err c = ⊎_elim (λ t. absurd (c.in-Err.ensures.cases.0 (IsUtf8-from_is_utf8 c.args.word.now t))) (λ f. sym f) (cases_Bool (is_utf8 c.args.word.now))

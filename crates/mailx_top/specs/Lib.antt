@@ -1,0 +1,7 @@
+pub mod Variables
+pub mod Words
+pub mod Meaning
+pub mod Statuses
+pub mod Runs
+pub mod Opened
+pub mod Usage

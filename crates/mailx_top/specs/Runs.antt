@@ -1,0 +1,29 @@
+-- A whole run, by its own events.
+use Rattle.std.specs.Prelude.{◌≡◌, ◌⊎◌, ◌↔◌, ◌+◌, ℕ, Bool, true, false, List, [], ◌∷◌, ◌++◌, take}
+use Rattle.std.specs.declared.option.Option.{Option}
+use Rattle.std.specs.declared.option.Option.TheVariants.{Some, None}
+use Rattle.std.specs.declared.result.Result.{Result}
+use Rattle.std.specs.declared.result.Result.TheVariants.{Ok, Err}
+use Rattle.host_port.specs.declared.event.Event.{Event}
+use Rattle.host_port.specs.declared.event.Event.TheVariants as event
+use Rattle.session_play.specs.declared.stop.Stop.{Stop}
+use Rattle.session_play.specs.Play.{Loop, Whole}
+use Rattle.session_play.specs.Causes.{IsExplained}
+use Rattle.mailx_top.specs.declared.status.End.{End}
+use Rattle.mailx_top.specs.declared.status.Status.{Status}
+use Rattle.mailx_top.specs.Meaning.{State, Opening, round}
+use Rattle.mailx_top.specs.Statuses.{status_at_end, status_at_stop, line_at_stop}
+
+-- bytes are said by one Out, as far as they went
+abbrev pub AsFar : List ℕ → List Event → Type 0
+AsFar bytes es = (es ≡ event.Out bytes false ∷ []) ⊎ ((n : ℕ) × (es ≡ event.Out (take n bytes) true ∷ []))
+
+-- an end adds nothing; at a cut its line is said, as far as it went
+abbrev pub Ending : Status → Result End Stop → List Event → Type 0
+Ending s (Ok e) es = (es ≡ []) × (s ≡ status_at_end e)
+Ending s (Err cause) es = (s ≡ status_at_stop cause) × AsFar (line_at_stop cause) es
+
+-- the own events of a run that opens this folder and ends with this status: those of its meaning, with each cut explained
+pub record IsRun (folder : Option (List ℕ)) (s : Status) (es : List Event) : Type 0 where
+  pub whole : Whole round (Opening folder) (Ending s) es
+  pub explained : IsExplained whole.out whole.front

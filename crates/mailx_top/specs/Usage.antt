@@ -1,0 +1,49 @@
+-- When the words of the command line and the environment are refused, whatever the host tells.
+use Rattle.std.specs.Prelude.{◌≡◌, ◌⊎◌, ℕ, List}
+use Rattle.std.specs.declared.option.Option.{Option}
+use Rattle.std.specs.declared.option.Option.TheVariants.{Some, None}
+use Rattle.std.specs.declared.result.Result.{Result}
+use Rattle.std.specs.declared.result.Result.TheVariants.{Ok, Err}
+use Rattle.session_play.specs.declared.stop.Stop.{Stop}
+use Rattle.session_play.specs.declared.stop.Stop.TheVariants as stop
+use Rattle.mailx_top.specs.declared.status.End.{End}
+use Rattle.mailx_top.specs.declared.status.End.TheVariants as ending
+use Rattle.mailx_top.specs.declared.status.Status.{Status}
+use Rattle.mailx_top.specs.declared.status.Status.TheVariants as status
+use Rattle.mailx_top.specs.declared.open.Opened.{Opened}
+use Rattle.mailx_top.specs.declared.open.Opened.TheVariants as opened_as
+
+-- an end that isn't the one of refused words
+abbrev pub IsNoUsage : End → Type 0
+IsNoUsage ending.Usage = ⊥
+IsNoUsage e = Unit {0}
+
+abbrev pub OpensWithoutUsage : Result Opened Stop → Type 0
+OpensWithoutUsage (Ok (opened_as.Ended e)) = IsNoUsage e
+OpensWithoutUsage r = Unit {0}
+
+-- refused words end so, or are cut off where the output fails or memory is wanted
+abbrev pub IsUsageCut : Stop → Type 0
+IsUsageCut stop.Output = Unit {0}
+IsUsageCut stop.Memory = Unit {0}
+IsUsageCut cause = ⊥
+
+-- the opening ends as refused words do exactly where no folder is named
+abbrev pub OpensAsNamed : Option (List ℕ) → Result Opened Stop → Type 0
+OpensAsNamed (Some name) r = OpensWithoutUsage r
+OpensAsNamed None (Ok (opened_as.Ended e)) = e ≡ ending.Usage
+OpensAsNamed None (Ok (opened_as.Folder folder)) = ⊥
+OpensAsNamed None (Err cause) = IsUsageCut cause
+
+abbrev pub EndsAsNamed : Option (List ℕ) → Result End Stop → Type 0
+EndsAsNamed (Some name) (Ok e) = IsNoUsage e
+EndsAsNamed (Some name) (Err cause) = Unit {0}
+EndsAsNamed None (Ok e) = e ≡ ending.Usage
+EndsAsNamed None (Err cause) = IsUsageCut cause
+
+-- the status of refused words, or of a cut in place of it
+abbrev pub IsUsageStatus : Status → Type 0
+IsUsageStatus status.Usage = Unit {0}
+IsUsageStatus status.OutputFault = Unit {0}
+IsUsageStatus status.Memory = Unit {0}
+IsUsageStatus s = ⊥

@@ -1,0 +1,13 @@
+//! The top call: everything that the program does.
+#![tactic(auto)]
+
+mod environment;
+mod open;
+mod session;
+mod status;
+mod top;
+mod words;
+
+pub use environment::Environment;
+pub use status::Status;
+pub use top::run;
