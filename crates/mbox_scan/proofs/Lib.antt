@@ -1,0 +1,4 @@
+pub mod StartLemmas
+pub mod TextLemmas
+pub mod MailboxLemmas
+pub mod SpanLemmas

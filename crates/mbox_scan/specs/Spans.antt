@@ -1,0 +1,18 @@
+-- The places of a mailbox's texts.
+use Rattle.std.specs.Prelude.{◌≡◌, ℕ, ◌+◌, ◌≤◌, IsTrue, List, length, map, slice_range, All}
+use Rattle.mbox_scan.specs.declared.span.Span.{Span}
+use Rattle.mbox_scan.specs.Mailbox.{is_mailbox, texts_of}
+
+abbrev pub text_at : List ℕ → Span → List ℕ
+text_at b s = slice_range b s.start (s.start + s.len)
+
+-- the span ends within the bytes
+abbrev pub IsWithin : List ℕ → Span → Type 0
+IsWithin b s = s.start + s.len ≤ length b
+
+-- the spans of all texts of a mailbox, which are few enough
+pub record IsScanned (b : List ℕ) (spans : List Span) : Type 0 where
+  pub mailbox : IsTrue (is_mailbox b)
+  pub texts : map (text_at b) spans ≡ texts_of b
+  pub within : All (IsWithin b) spans
+  pub few : length spans ≤ 1000000
