@@ -1,17 +1,20 @@
 -- Values by name, in the entries of a map.
-use Rattle.std.proofs.Common.{◌≡◌, ◌<◌, ◌+◌, ℕ, suc, List, [], ◌∷◌, Bool, true, false, not, refl, sym, ap, ◌∙◌, subst, ⊎_elim, Vec, cond, drop, get_or, length, drop-cons, add-one}
+use Rattle.std.proofs.Common.{◌≡◌, ◌<◌, ◌≤◌, ◌+◌, ◌||◌, arith, ◌++◌, take, ℕ, zero, suc, List, [], ◌∷◌, Bool, true, false, not, refl, sym, ap, ◌∙◌, subst, ⊎_elim, Vec, cond, drop, get_or, length, drop-cons, add-one}
 use Rattle.std.specs.declared.option.Option.{Option}
 use Rattle.std.specs.declared.option.Option.TheVariants.{Some, None}
 use Rattle.std.specs.declared.alloc.Global.{Global}
+use Rattle.std.specs.List.{list_any}
+use Rattle.std.specs.declared.result.Result.{Result}
+use Rattle.std.specs.declared.result.Result.TheVariants.{Ok, Err}
 use Rattle.std.specs.Map as map
 use Rattle.std.specs.Str.{bytes_eq}
-use Rattle.std.specs.Prelude.{if◌then◌else◌, is_none, is_some}
+use Rattle.std.specs.Prelude.{if◌then◌else◌, is_none, is_some, slice_get, option_map, OnOk}
 use Rattle.std.proofs.lemmas.Bool.{cases_Bool, cond-true, cond-false, false≢true}
 use Rattle.std.proofs.lemmas.Slice.Eq.{bytes_eq-Decides}
 use Rattle.indexmap.specs.IndexMap.{insert_entry}
 use Rattle.host_port.specs.Disk.{with_at}
 use Rattle.host_port.specs.Pairs.{pairs_of}
-use Rattle.host_port.specs.Views.{lookup, named, flat, or_else}
+use Rattle.host_port.specs.Views.{lookup, named, names_of, flat, or_else, at_name, among}
 
 abbrev Key : Type 0
 Key = Vec ℕ Global
@@ -103,3 +106,118 @@ is-none (Some x) b s t = absurd (cc)
 pub not-none : {A : Type 0} (o : Option A) (b : Bool) → b ≡ is_some o → b ≡ true → is_none o ≡ false
 not-none None b s f = absurd (cc)
 not-none (Some x) b s f = refl
+
+-- the name at a place of the entries
+pub names-at : {A : Type 0} (es : List (Key × A)) (k : ℕ) → slice_get (names_of (pairs_of es)) k ≡ option_map (λ (e : Key × A). e.0.items) (slice_get es k)
+names-at [] k = refl
+names-at (e ∷ es) zero = refl
+names-at (e ∷ es) (suc k) = names-at es k
+
+or-none : {A : Type 0} (o : Option A) → o ≡ or_else o None
+or-none None = refl
+or-none (Some x) = refl
+
+-- no name stands at the place
+pub show-none : {A : Type 0} (old found : Option A) (name : Option (List ℕ)) (q : List ℕ) → name ≡ None → old ≡ or_else old (at_name name q found)
+show-none old found name q none = or-none old ∙ ap (λ n. or_else old (at_name n q found)) (sym none)
+
+-- the name at the place has no value
+pub show-absent : {A : Type 0} (old : Option A) (es : List (List ℕ × Option A)) (name : Option (List ℕ)) (n q : List ℕ) → name ≡ Some n → named es n ≡ None → old ≡ or_else old (at_name name q (named es q))
+show-absent old es name n q is none =
+    or-none old ∙ ap (or_else old) (sym (absent (bytes_eq q n) (λ t. ap (named es) ((bytes_eq-Decides q n).0 t) ∙ none))) ∙ ap (λ m. or_else old (at_name m q (named es q))) (sym is)
+  where
+    absent : (b : Bool) → (b ≡ true → named es q ≡ None) → (if b then named es q else None) ≡ None
+    absent true h = h refl
+    absent false h = refl
+
+lookup-append : {A : Type 0} (xs : List (List ℕ × A)) (n : List ℕ) (v : A) (q : List ℕ) → lookup (xs ++ (n, v) ∷ []) q ≡ or_else (lookup xs q) (if bytes_eq q n then Some v else None)
+lookup-append [] n v q = refl
+lookup-append (x ∷ xs) n v q = go (bytes_eq q x.0) (lookup-append xs n v q)
+  where
+    go : (b : Bool) → lookup (xs ++ (n, v) ∷ []) q ≡ or_else (lookup xs q) (if bytes_eq q n then Some v else None)
+        → (if b then Some x.1 else lookup (xs ++ (n, v) ∷ []) q) ≡ or_else (if b then Some x.1 else lookup xs q) (if bytes_eq q n then Some v else None)
+    go true rest = refl
+    go false rest = rest
+
+-- the name at the place has a value, which is put
+pub show-value : {A : Type 0} (old new : List (List ℕ × A)) (es : List (List ℕ × Option A)) (name : Option (List ℕ)) (n m q : List ℕ) (v w : A) → name ≡ Some n → named es n ≡ Some v → m ≡ n → w ≡ v → new ≡ old ++ (m, w) ∷ []
+    → lookup new q ≡ or_else (lookup old q) (at_name name q (named es q))
+show-value old new es name n m q v w is found same_name same_value put =
+    ap (λ l. lookup l q) (put ∙ ap (λ k. old ++ (k, w) ∷ []) same_name ∙ ap (λ u. old ++ (n, u) ∷ []) same_value)
+    ∙ lookup-append old n v q ∙ ap (or_else (lookup old q)) (value (bytes_eq q n) (λ t. sym (ap (named es) ((bytes_eq-Decides q n).0 t) ∙ found))) ∙ ap (λ k. or_else (lookup old q) (at_name k q (named es q))) (sym is)
+  where
+    value : (b : Bool) → (b ≡ true → Some v ≡ named es q) → (if b then Some v else None) ≡ (if b then named es q else None)
+    value true h = h refl
+    value false h = refl
+
+any-append : (names : List (List ℕ)) (n q : List ℕ) → list_any (bytes_eq q) (names ++ n ∷ []) ≡ (list_any (bytes_eq q) names || bytes_eq q n)
+any-append [] n q = go (bytes_eq q n)
+  where
+    go : (b : Bool) → (b || false) ≡ b
+    go true = refl
+    go false = refl
+any-append (x ∷ names) n q = go (bytes_eq q x) (any-append names n q)
+  where
+    go : (b : Bool) → list_any (bytes_eq q) (names ++ n ∷ []) ≡ (list_any (bytes_eq q) names || bytes_eq q n)
+        → (b || list_any (bytes_eq q) (names ++ n ∷ [])) ≡ ((b || list_any (bytes_eq q) names) || bytes_eq q n)
+    go true rest = refl
+    go false rest = rest
+
+take-more : (names : List (List ℕ)) (k : ℕ) (n : List ℕ) → slice_get names k ≡ Some n → take (suc k) names ≡ take k names ++ n ∷ []
+take-more [] k n is = absurd (cc is)
+take-more (x ∷ names) zero n is = ap (λ y. y ∷ []) (some-same is)
+  where
+    some-same : {a b : List ℕ} → Some a ≡ Some b → a ≡ b
+    some-same e = cc
+take-more (x ∷ names) (suc k) n is = ap (λ r. x ∷ r) (take-more names k n is)
+
+take-nil : (n : ℕ) → take {A = List ℕ} n [] ≡ []
+take-nil zero = refl
+take-nil (suc n) = refl
+
+take-past : (names : List (List ℕ)) (k : ℕ) → slice_get names k ≡ None → take (suc k) names ≡ take k names
+take-past [] k is = sym (take-nil k)
+take-past (x ∷ names) zero is = absurd (cc is)
+take-past (x ∷ names) (suc k) is = ap (λ r. x ∷ r) (take-past names k is)
+
+or-same : {A : Type 0} (o : Option A) → or_else o o ≡ o
+or-same None = refl
+or-same (Some x) = refl
+
+-- one more name was looked at
+pub among-more : {A : Type 0} (names : List (List ℕ)) (k : ℕ) (q : List ℕ) (found new old : Option A) → new ≡ or_else old (at_name (slice_get names k) q found) → old ≡ among (take k names) q found → new ≡ among (take (k + 1) names) q found
+among-more names k q found new old step before = step ∙ ap (λ o. or_else o (at_name (slice_get names k) q found)) before ∙ go (slice_get names k) refl ∙ ap (λ j. among (take j names) q found) (sym (add-one k))
+  where
+    joined : (a b : Bool) → or_else (if a then found else None) (if b then found else None) ≡ (if (a || b) then found else None)
+    joined true true = or-same found
+    joined true false = sym (or-none found)
+    joined false b = refl
+
+    go : (n : Option (List ℕ)) → slice_get names k ≡ n → or_else (among (take k names) q found) (at_name n q found) ≡ among (take (suc k) names) q found
+    go None e = sym (or-none _) ∙ ap (λ l. among l q found) (sym (take-past names k e))
+    go (Some n) e = joined (list_any (bytes_eq q) (take k names)) (bytes_eq q n) ∙ ap (λ (b : Bool). if b then found else None) (sym (any-append (take k names) n q)) ∙ ap (λ l. among l q found) (sym (take-more names k n e))
+
+absent-named : {A : Type 0} (es : List (List ℕ × Option A)) (q : List ℕ) → list_any (bytes_eq q) (names_of es) ≡ false → named es q ≡ None
+absent-named [] q none = refl
+absent-named (e ∷ es) q none = go (bytes_eq q e.0) (absent-named es q) none
+  where
+    go : (b : Bool) → (list_any (bytes_eq q) (names_of es) ≡ false → named es q ≡ None) → (b || list_any (bytes_eq q) (names_of es)) ≡ false → flat (if b then Some e.1 else lookup es q) ≡ None
+    go true rest h = absurd (cc h)
+    go false rest h = rest h
+
+take-all : (n : ℕ) (names : List (List ℕ)) → length names ≤ n → take n names ≡ names
+take-all n [] h = take-nil n
+take-all zero (x ∷ names) h = absurd (omega arith)
+take-all (suc n) (x ∷ names) h = ap (λ r. x ∷ r) (take-all n names (omega arith))
+
+length-names : {A : Type 0} (es : List (List ℕ × A)) → length (names_of es) ≡ length es
+length-names [] = refl
+length-names (e ∷ es) = ap suc (length-names es)
+
+-- all names were looked at
+pub among-all : {A : Type 0} (es : List (List ℕ × Option A)) (n : ℕ) (q : List ℕ) (shown : Option A) → length es ≤ n → shown ≡ among (take n (names_of es)) q (named es q) → shown ≡ named es q
+among-all es n q shown past is = is ∙ ap (λ l. among l q (named es q)) (take-all n (names_of es) (let e = length-names es in omega arith)) ∙ ⊎_elim (λ t. cond-true _ _ _ t) (λ f. cond-false _ _ _ f ∙ sym (absent-named es q f)) (cases_Bool (list_any (bytes_eq q) (names_of es)))
+
+pub on-ok : {X E : Type 0} {P Q : Type 0} (r : Result X E) → (P → Q) → OnOk r P → OnOk r Q
+on-ok (Ok x) to p = to p
+on-ok (Err e) to p = p

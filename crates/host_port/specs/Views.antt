@@ -2,6 +2,7 @@
 use Rattle.std.specs.Prelude.{◌≡◌, ◌==◌, ℕ, List, [], ◌∷◌, ◌++◌, map, Bool, true, false, if◌then◌else◌, ◌+◌, ◌-◌, ◌^◌, min}
 use Rattle.std.specs.declared.option.Option.{Option}
 use Rattle.std.specs.declared.option.Option.TheVariants.{Some, None}
+use Rattle.std.specs.List.{list_any}
 use Rattle.std.specs.Str.{bytes_eq}
 use Rattle.host_port.specs.declared.event.ForeignStep.{ForeignStep}
 use Rattle.host_port.specs.declared.event.Event.{Event}
@@ -29,6 +30,10 @@ flat (Some found) = found
 
 abbrev pub named : {A : Type 0} → List (List ℕ × Option A) → List ℕ → Option A
 named ps q = flat (lookup ps q)
+
+-- the names of a list of pairs
+abbrev pub names_of : {A : Type 0} → List (List ℕ × A) → List (List ℕ)
+names_of ps = map (λ p. p.0) ps
 
 -- a trace with the steps of others and one event more
 abbrev pub AddsOne : List Event → List Event → List ForeignStep → Event → Type 0
@@ -58,3 +63,12 @@ pub record AddsLoad (start : Disk) (old new : List Event) (steps : List ForeignS
 abbrev pub or_else : {A : Type 0} → Option A → Option A → Option A
 or_else None second = second
 or_else (Some a) second = Some a
+
+-- what is found for a name, where it is the one that is looked at
+abbrev pub at_name : {A : Type 0} → Option (List ℕ) → List ℕ → Option A → Option A
+at_name None q found = None
+at_name (Some name) q found = if bytes_eq q name then found else None
+
+-- what is found for a name, where it is among these
+abbrev pub among : {A : Type 0} → List (List ℕ) → List ℕ → Option A → Option A
+among names q found = if list_any (bytes_eq q) names then found else None

@@ -4,12 +4,13 @@ ghost use Rattle.std.specs.Option.{option_copied};
 ghost use Rattle.host_port.specs.Disk.{Disk, disk};
 ghost use Rattle.host_port.specs.Names.{IsFileName};
 ghost use Rattle.host_port.specs.Calls.{Calls, NeverFall, Rose, Filled, Said, Loaded, LoadCause};
+ghost use Rattle.host_port.specs.Tapes.{ShowsSame};
 ghost use Rattle.host_port.specs.Views.{disk_of, lookup, AddsOne, AddsLoad, steps_before, part_at};
 ghost use Rattle.host_port.specs.declared.event.Event.{Event};
 ghost use Rattle.host_port.specs.declared.event.Event.TheVariants as event;
 
 use crate::named::Named;
-use crate::tape::{Tape, add_others, copy_files, copy_locks};
+use crate::tape::{Tape, add_others, copy_files, copy_locks, show_files, show_locks};
 use crate::{
     DiskView, Event, ForeignStep, Host, InFault, LoadAnswer, LoadError, OutFault, Part, Plan, Seen,
 };
@@ -201,6 +202,15 @@ impl MemHost {
         ensures { (trace : List Event) → host_told self.now ≡ Some trace → result.now ≡ trace }
     {
         &self.tape.trace
+    }
+
+    /// The disk as it stands, with each name once in a list. What it gives on a lost host is open.
+    pub fn view(&self) -> Result<DiskView, Memory>
+        ensures { IfOk result (λ v. (trace : List Event) → host_told self.now ≡ Some trace → ShowsSame (disk_of v.files v.locks) (disk (host_start self.now) trace)) }
+    {
+        let files = show_files(self.alloc, &self.tape.files)?;
+        let locks = show_locks(self.alloc, &self.tape.locks)?;
+        Ok(DiskView { files, locks })
     }
 
     /// Whether a call was refused memory. It takes no memory.

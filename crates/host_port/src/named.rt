@@ -1,9 +1,9 @@
 // Values by name.
-ghost use Rattle.std.specs.Prelude.{◌≡◌, [], List, ℕ, Option, OnOk, OnErr, is_some};
+ghost use Rattle.std.specs.Prelude.{◌≡◌, [], List, ℕ, Option, OnOk, OnErr, is_some, length, slice_get, option_map};
 ghost use Rattle.std.specs.Option.{option_copied};
 ghost use Rattle.std.specs.Str.{bytes_eq};
 ghost use Rattle.host_port.specs.Disk.{with_at};
-ghost use Rattle.host_port.specs.Views.{named};
+ghost use Rattle.host_port.specs.Views.{named, names_of};
 
 use indexmap::IndexMap;
 use mail_text::Memory;
@@ -26,6 +26,23 @@ impl<V> Model for Named<V> {
 }
 
 impl<V: Drop> Named<V> {
+    /// How many names were put.
+    pub fn len(&self) -> usize
+        ensures { result ≡ length self.now }
+    {
+        self.map.len()
+    }
+
+    /// The name at this place, from 0, in order of first putting.
+    pub fn name(&self, k: usize) -> Option<&[u8]>
+        ensures { option_map (λ n. n.now) result ≡ slice_get (names_of self.now) k }
+    {
+        match self.map.get_index(k) {
+            Some((key, _)) => Some(key.as_slice()),
+            None => None,
+        }
+    }
+
     pub fn new(alloc: Global) -> Named<V>
         ensures { result ≡ [] }
     {

@@ -1,9 +1,9 @@
 // The trace of a host in memory, and the disk that it makes.
-ghost use Rattle.std.specs.Prelude.{◌≡◌, ◌++◌, [], ◌∷◌, List, ℕ, OnOk, OnErr, IfOk, map, Some, true, is_some};
+ghost use Rattle.std.specs.Prelude.{◌≡◌, ◌++◌, [], ◌∷◌, List, ℕ, OnOk, OnErr, IfOk, map, Some, None, true, is_some, slice_get};
 ghost use Rattle.std.specs.Option.{option_copied};
 ghost use Rattle.host_port.specs.Disk.{after, after_step, disk};
 ghost use Rattle.host_port.specs.Tapes.{shown, ShowsSame, ShowsTrace};
-ghost use Rattle.host_port.specs.Views.{disk_of, lookup, named, steps_before};
+ghost use Rattle.host_port.specs.Views.{disk_of, lookup, named, names_of, or_else, at_name, steps_before};
 ghost use Rattle.host_port.specs.declared.event.Event.TheVariants as event;
 
 use crate::named::Named;
@@ -157,4 +157,63 @@ pub fn copy_locks(alloc: Global, locks: &[(Text, u64)]) -> Result<Named<u64>, Me
         }
     }
     Ok(named)
+}
+
+fn show_file(
+    alloc: Global,
+    files: &Named<Text>,
+    k: usize,
+    shown: &mut Items<(Text, Text)>,
+) -> Result<(), Memory>
+    ensures { OnOk result ((q : List ℕ) → lookup shown.new q ≡ or_else (lookup shown.old q) (at_name (slice_get (names_of files.now) k) q (named files.now q))) }
+{
+    let Some(name) = files.name(k) else {
+        return Ok(());
+    };
+    let Some(bytes) = files.get(name) else {
+        return Ok(());
+    };
+    let copy = Text::copy(alloc, name)?;
+    let bytes = Text::copy(alloc, bytes.bytes())?;
+    shown.push((copy, bytes))
+}
+
+/// The files as a list of pairs.
+pub fn show_files(alloc: Global, files: &Named<Text>) -> Result<Items<(Text, Text)>, Memory>
+    ensures { IfOk result (λ l. (q : List ℕ) → lookup l q ≡ named files.now q) }
+{
+    let mut shown = Items::new(alloc);
+    for k in 0..files.len() {
+        show_file(alloc, files, k, &mut shown)?;
+    }
+    Ok(shown)
+}
+
+fn show_lock(
+    alloc: Global,
+    locks: &Named<u64>,
+    k: usize,
+    shown: &mut Items<(Text, u64)>,
+) -> Result<(), Memory>
+    ensures { OnOk result ((q : List ℕ) → lookup shown.new q ≡ or_else (lookup shown.old q) (at_name (slice_get (names_of locks.now) k) q (named locks.now q))) }
+{
+    let Some(name) = locks.name(k) else {
+        return Ok(());
+    };
+    let Some(token) = locks.get(name) else {
+        return Ok(());
+    };
+    let copy = Text::copy(alloc, name)?;
+    shown.push((copy, *token))
+}
+
+/// The locks as a list of pairs.
+pub fn show_locks(alloc: Global, locks: &Named<u64>) -> Result<Items<(Text, u64)>, Memory>
+    ensures { IfOk result (λ l. (q : List ℕ) → lookup l q ≡ named locks.now q) }
+{
+    let mut shown = Items::new(alloc);
+    for k in 0..locks.len() {
+        show_lock(alloc, locks, k, &mut shown)?;
+    }
+    Ok(shown)
 }
