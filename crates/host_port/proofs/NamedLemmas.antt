@@ -1,5 +1,5 @@
 -- Values by name, in the entries of a map.
-use Rattle.std.proofs.Common.{◌≡◌, ◌<◌, ◌≤◌, ◌+◌, ◌||◌, arith, ◌++◌, take, ℕ, zero, suc, List, [], ◌∷◌, Bool, true, false, not, refl, sym, ap, ◌∙◌, subst, ⊎_elim, Vec, cond, drop, get_or, length, drop-cons, add-one}
+use Rattle.std.proofs.Common.{◌≡◌, ◌<◌, ◌≤◌, ◌+◌, ◌||◌, arith, ◌++◌, take, ℕ, zero, suc, List, [], ◌∷◌, Bool, true, false, refl, sym, ap, ◌∙◌, ⊎_elim, Vec, drop, get_or, length, drop-cons, add-one}
 use Rattle.std.specs.declared.option.Option.{Option}
 use Rattle.std.specs.declared.option.Option.TheVariants.{Some, None}
 use Rattle.std.specs.declared.alloc.Global.{Global}

@@ -1,12 +1,12 @@
 -- A tape goes on by one event.
-use Rattle.std.proofs.Common.{◌≡◌, ◌≤◌, ◌+◌, ℕ, Bool, true, false, List, [], ◌∷◌, ◌++◌, map, drop, get_or, length, arith, refl, sym, ◌∙◌, ap, subst, append_assoc, cond}
+use Rattle.std.proofs.Common.{◌≡◌, ◌≤◌, ◌+◌, ℕ, List, [], ◌∷◌, ◌++◌, arith, sym, ◌∙◌, ap, subst}
 use Rattle.std.specs.Prelude.{is_ok, OnErr, if◌then◌else◌}
 use Rattle.std.specs.declared.option.Option.{Option}
 use Rattle.std.specs.declared.result.Result.{Result}
 use Rattle.std.specs.declared.result.Result.TheVariants.{Ok, Err}
 use Rattle.host_port.specs.declared.event.Event.{Event}
 use Rattle.host_port.specs.Disk.{Disk, disk, after}
-use Rattle.host_port.specs.Views.{named, disk_of}
+use Rattle.host_port.specs.Views.{disk_of}
 use Rattle.host_port.specs.Tapes.{shown, ShowsSame, ShowsTrace}
 use Rattle.host_port.proofs.RanLemmas.{disk-append}
 

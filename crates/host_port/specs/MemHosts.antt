@@ -1,12 +1,17 @@
 -- What a host in memory means.
-use Rattle.std.specs.Prelude.{ℕ, Bool, true, false, List, is_some}
+use Rattle.std.specs.Prelude.{◌≡◌, Bool, true, false, List, is_some}
 use Rattle.std.specs.declared.option.Option.{Option}
 use Rattle.std.specs.declared.option.Option.TheVariants.{Some, None}
 use Rattle.host_port.specs.declared.event.Event.{Event}
 use Rattle.host_port.specs.declared.memory.MemHost.{MemHost}
 use Rattle.host_port.specs.Disk.{Disk}
 use Rattle.host_port.specs.Calls.{Counts}
-use Rattle.host_port.specs.Views.{disk_of, part_at, next_call}
+use Rattle.host_port.specs.Views.{disk_of, part_at, next_call, steps_before, AddsOne}
+use Rattle.std.specs.declared.result.Result.{Result}
+use Rattle.std.specs.declared.result.Result.TheVariants.{Err}
+use Rattle.host_port.specs.declared.event.LoadAnswer.{LoadAnswer}
+use Rattle.host_port.specs.declared.host.LoadError.{LoadError}
+use Rattle.host_port.specs.declared.host.LoadError.TheVariants as error
 
 -- the disk that it began with
 abbrev pub host_start : MemHost → Disk
@@ -26,3 +31,15 @@ host_counts m = record { ins = m.ins; outs = m.outs; disks = m.disks; children =
 -- whether the plan names the next call among those that fail
 abbrev pub fails_next : MemHost → Bool
 fails_next m = is_some (part_at m.plan.fails (next_call m.calls))
+
+-- whether a load answered a fault of the disk
+abbrev pub is_failed_load : Result LoadAnswer LoadError → Bool
+is_failed_load (Err error.Failed) = true
+is_failed_load r = false
+
+-- A call takes the next number. While the host tells its trace afterwards, it added the steps that the plan has before
+-- this call and its own event, and it failed exactly where the plan names it.
+pub record IsAsPlanned (old new : MemHost) (failed : Bool) : Type 0 where
+  pub plan : new.plan ≡ old.plan
+  pub calls : new.calls ≡ next_call old.calls
+  pub told : (trace : List Event) → host_told new ≡ Some trace → (failed ≡ fails_next old) × (own : Event) × AddsOne old.tape.trace.items trace (steps_before old.plan.foreign (next_call old.calls)) own

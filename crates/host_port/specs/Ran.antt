@@ -1,10 +1,9 @@
 -- What a stretch of calls of a host did, by its own events.
-use Rattle.std.specs.Prelude.{◌≡◌, ◌<◌, ◌≤◌, ℕ, Bool, List, [], ◌∷◌, ◌++◌, map, is_some}
+use Rattle.std.specs.Prelude.{◌≡◌, List, [], ◌∷◌, ◌++◌, is_some}
 use Rattle.std.specs.declared.option.Option.{Option}
-use Rattle.std.specs.declared.option.Option.TheVariants.{Some, None}
+use Rattle.std.specs.declared.option.Option.TheVariants.{Some}
 use Rattle.host_port.specs.declared.event.Event.{Event}
-use Rattle.host_port.specs.declared.event.Event.TheVariants.{In, Out, Load, Foreign}
-use Rattle.host_port.specs.declared.event.Seen.{Seen}
+use Rattle.host_port.specs.declared.event.Event.TheVariants.{Load}
 use Rattle.host_port.specs.declared.event.Seen.TheVariants as seen
 use Rattle.host_port.specs.Disk.{Disk, disk, after}
 use Rattle.host_port.specs.Calls.{Counts, NeverFall, IsTooLarge}

@@ -7,6 +7,8 @@ mod host;
 mod memory;
 mod named;
 mod tape;
+#[cfg(test)]
+mod tests;
 
 ghost use Rattle.std.specs.Prelude.{◌≡◌, List};
 ghost use Rattle.host_port.specs.Disk.{Disk, disk};

@@ -1,5 +1,5 @@
 // A host in memory, which tells its trace.
-ghost use Rattle.std.specs.Prelude.{◌≡◌, ◌≤◌, ◌++◌, [], ◌∷◌, List, ℕ, Option, Some, None, true, false, length, take, OnOk, IfOk, OnErr, is_err, is_some, IsTrue, ◌↔◌};
+ghost use Rattle.std.specs.Prelude.{◌≡◌, ◌<◌, ◌≤◌, ◌++◌, [], ◌∷◌, List, ℕ, Option, Some, None, true, false, length, take, OnOk, IfOk, OnErr, is_err, is_some, IsTrue, ◌↔◌};
 ghost use Rattle.std.specs.Option.{option_copied};
 ghost use Rattle.host_port.specs.Disk.{Disk, disk};
 ghost use Rattle.host_port.specs.Names.{IsFileName};
@@ -222,7 +222,7 @@ impl MemHost {
 }
 
 impl Host for MemHost {
-    ghost use Rattle.host_port.specs.MemHosts.{host_told, host_start, host_counts, fails_next};
+    ghost use Rattle.host_port.specs.MemHosts.{host_told, host_start, host_counts, is_failed_load, IsAsPlanned};
 
     ghost start = { host_start };
 
@@ -230,7 +230,15 @@ impl Host for MemHost {
 
     ghost counts = { host_counts };
 
-    fn fill(&mut self, buf: &mut [u8]) -> Result<usize, InFault> {
+    fn fill(&mut self, buf: &mut [u8]) -> Result<usize, InFault>
+        requires { 0 < length buf.old }
+        ensures bound { IfOk result (λ n. n ≤ length buf.old) }
+        ensures start { host_start self.new ≡ host_start self.old }
+        ensures call { Calls (host_start self.old) (host_told self.old) (host_told self.new) (Filled result buf.new) }
+        ensures counts { NeverFall (host_counts self.old) (host_counts self.new) }
+        ensures cause { OnErr result (Rose (host_counts self.old).ins (host_counts self.new).ins) }
+        ensures planned { IsAsPlanned self.old self.new (is_err result) }
+    {
         self.calls = self.calls.saturating_add(1);
         let fails = failing(self.plan.fails.items(), self.calls).is_some();
         let whole = self.input.bytes();
@@ -260,7 +268,13 @@ impl Host for MemHost {
         Err(InFault)
     }
 
-    fn say(&mut self, bytes: &[u8]) -> Result<(), OutFault> {
+    fn say(&mut self, bytes: &[u8]) -> Result<(), OutFault>
+        ensures start { host_start self.new ≡ host_start self.old }
+        ensures call { Calls (host_start self.old) (host_told self.old) (host_told self.new) (Said result bytes.now) }
+        ensures counts { NeverFall (host_counts self.old) (host_counts self.new) }
+        ensures cause { OnErr result (Rose (host_counts self.old).outs (host_counts self.new).outs) }
+        ensures planned { IsAsPlanned self.old self.new (is_err result) }
+    {
         self.calls = self.calls.saturating_add(1);
         let part = failing(self.plan.fails.items(), self.calls);
         let (sent, fails) = match part {
@@ -289,7 +303,14 @@ impl Host for MemHost {
         Err(OutFault)
     }
 
-    fn load(&mut self, alloc: Global, name: &[u8]) -> Result<LoadAnswer, LoadError> {
+    fn load(&mut self, alloc: Global, name: &[u8]) -> Result<LoadAnswer, LoadError>
+        requires { IsFileName name.now }
+        ensures start { host_start self.new ≡ host_start self.old }
+        ensures call { Calls (host_start self.old) (host_told self.old) (host_told self.new) (Loaded name.now result) }
+        ensures counts { NeverFall (host_counts self.old) (host_counts self.new) }
+        ensures cause { LoadCause (host_counts self.old).disks (host_counts self.new).disks result }
+        ensures planned { IsAsPlanned self.old self.new (is_failed_load result) }
+    {
         self.calls = self.calls.saturating_add(1);
         if self.lost {
             return Err(LoadError::Memory);

@@ -1,20 +1,17 @@
 -- A mailbox with too many messages.
-use Rattle.std.proofs.Common.{◌≡◌, ◌<◌, ◌+◌, ℕ, suc, Bool, true, false, List, [], ◌∷◌, length, refl, sym, ap, ◌∙◌, ⊎_elim, arith, subst}
+use Rattle.std.proofs.Common.{◌≡◌, ◌<◌, ℕ, suc, true, List, [], ◌∷◌, length, refl, sym, ap, ◌∙◌, ⊎_elim, arith}
 use Rattle.std.specs.Prelude.{nat_lt}
-use Rattle.std.specs.declared.option.Option.{Option}
 use Rattle.std.specs.declared.option.Option.TheVariants.{Some, None}
 use Rattle.std.proofs.lemmas.Bool.{cases_Bool, cond-true, cond-false}
 use Rattle.std.specs.declared.result.Result.{Result}
-use Rattle.std.specs.declared.result.Result.TheVariants.{Ok, Err}
+use Rattle.std.specs.declared.result.Result.TheVariants.{Err}
 use Rattle.mbox_scan.specs.declared.folder.Folder.{Folder}
 use Rattle.mbox_scan.specs.declared.error.ScanError.{ScanError}
 use Rattle.mbox_scan.specs.declared.error.ScanError.TheVariants as scan
 use Rattle.mbox_scan.specs.Mailbox.{list_of, is_mailbox, texts_of, starts, pieces}
-use Rattle.session_play.specs.Play.{Play, Next}
-use Rattle.mailx_top.specs.declared.status.End.{End}
 use Rattle.mailx_top.specs.declared.status.End.TheVariants as ending
 use Rattle.mailx_top.specs.Statuses.{row}
-use Rattle.mailx_top.specs.Meaning.{State, with_list, says_and_ends, message_limit}
+use Rattle.mailx_top.specs.Meaning.{with_list, says_and_ends, message_limit}
 use Rattle.std.specs.Prelude.{◌++◌, codes}
 use borrow.Author.Tests.{lt-ltb}
 

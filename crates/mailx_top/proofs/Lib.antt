@@ -4,3 +4,4 @@ pub mod SizeLemmas
 pub mod FolderLemmas
 pub mod RoundLemmas
 pub mod UsageLemmas
+pub mod OpeningLemmas

@@ -1,5 +1,5 @@
 -- The rounds of a run hand on their input.
-use Rattle.std.proofs.Common.{◌≡◌, ℕ, Bool, true, false, List, refl}
+use Rattle.std.proofs.Common.{ℕ, Bool, true, false, List, refl}
 use Rattle.std.specs.Prelude.{if◌then◌else◌, nat_lt, length}
 use Rattle.std.specs.declared.option.Option.{Option}
 use Rattle.std.specs.declared.option.Option.TheVariants.{Some, None}

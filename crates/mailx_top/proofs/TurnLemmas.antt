@@ -1,14 +1,13 @@
 -- A line and what is said to it.
-use Rattle.std.proofs.Common.{◌≡◌, ◌⊎◌, ℕ, List, [], ◌∷◌, ◌++◌, refl, sym, ◌∙◌, ap, subst, inl, inr}
+use Rattle.std.proofs.Common.{◌≡◌, ℕ, List, ◌++◌, refl, sym, subst}
 use Rattle.std.specs.declared.option.Option.{Option}
-use Rattle.std.specs.declared.option.Option.TheVariants.{Some, None}
-use Rattle.std.specs.declared.result.Result.{Result}
+use Rattle.std.specs.declared.option.Option.TheVariants.{Some}
 use Rattle.std.specs.declared.result.Result.TheVariants.{Ok, Err}
 use Rattle.host_port.specs.declared.event.Event.{Event}
 use Rattle.session_play.specs.declared.stop.Stop.{Stop}
 use Rattle.session_play.specs.Input.{Input}
-use Rattle.session_play.specs.Play.{Play, Ret, Ask, Line, Say, Next, Go, Last, Goes}
-use Rattle.mailx_top.specs.Meaning.{State, Reading, reply, replied, turn, round}
+use Rattle.session_play.specs.Play.{Ret, Ask, Line, Say, Go, Goes}
+use Rattle.mailx_top.specs.Meaning.{Reading, reply, replied, turn, round}
 use Rattle.session_play.proofs.PlayLemmas.{goes-then, goes-cut, goes-as}
 
 pub line-said : (texts : List (List ℕ)) (i j : Input) (line out : List ℕ) → reply texts line ≡ Some out → (es fs : List Event)

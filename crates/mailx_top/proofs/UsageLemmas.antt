@@ -1,5 +1,5 @@
 -- Refused words end a run as they end its opening.
-use Rattle.std.proofs.Common.{◌≡◌, ℕ, List, refl, sym, subst}
+use Rattle.std.proofs.Common.{◌≡◌, ℕ, List, sym, subst}
 use Rattle.std.specs.Prelude.{IfOk}
 use Rattle.std.specs.declared.option.Option.{Option}
 use Rattle.std.specs.declared.option.Option.TheVariants.{Some, None}
@@ -9,7 +9,6 @@ use Rattle.mbox_scan.specs.declared.folder.Folder.{Folder}
 use Rattle.session_play.specs.declared.stop.Stop.{Stop}
 use Rattle.mailx_top.specs.declared.status.End.{End}
 use Rattle.mailx_top.specs.declared.status.End.TheVariants as ending
-use Rattle.mailx_top.specs.declared.open.Opened.{Opened}
 use Rattle.mailx_top.specs.declared.open.Opened.TheVariants as opened_as
 use Rattle.mailx_top.specs.Usage.{IsNoUsage, OpensAsNamed, EndsAsNamed}
 

@@ -5,3 +5,4 @@ pub mod Statuses
 pub mod Runs
 pub mod Opened
 pub mod Usage
+pub mod Openings

@@ -1,5 +1,5 @@
 -- The meaning of a run: what it does at the opening, and for each line.
-use Rattle.std.specs.Prelude.{◌≡◌, ◌==◌, ◌+◌, ◌||◌, not, nat_lt, ℕ, Bool, true, false, List, [], ◌∷◌, ◌++◌, if◌then◌else◌, length, codes}
+use Rattle.std.specs.Prelude.{◌+◌, nat_lt, ℕ, true, false, List, [], ◌∷◌, ◌++◌, if◌then◌else◌, length, codes}
 use Rattle.std.specs.Str.{bytes_eq}
 use Rattle.std.specs.Fmt.{decimal}
 use Rattle.std.specs.declared.option.Option.{Option}

@@ -1,17 +1,17 @@
 -- A whole run, by its own events.
-use Rattle.std.specs.Prelude.{◌≡◌, ◌⊎◌, ◌↔◌, ◌+◌, ℕ, Bool, true, false, List, [], ◌∷◌, ◌++◌, take}
+use Rattle.std.specs.Prelude.{◌≡◌, ◌⊎◌, ℕ, true, false, List, [], ◌∷◌, take}
 use Rattle.std.specs.declared.option.Option.{Option}
-use Rattle.std.specs.declared.option.Option.TheVariants.{Some, None}
 use Rattle.std.specs.declared.result.Result.{Result}
 use Rattle.std.specs.declared.result.Result.TheVariants.{Ok, Err}
 use Rattle.host_port.specs.declared.event.Event.{Event}
 use Rattle.host_port.specs.declared.event.Event.TheVariants as event
 use Rattle.session_play.specs.declared.stop.Stop.{Stop}
-use Rattle.session_play.specs.Play.{Loop, Whole}
+use Rattle.session_play.specs.Play.{Whole}
 use Rattle.session_play.specs.Causes.{IsExplained}
 use Rattle.mailx_top.specs.declared.status.End.{End}
 use Rattle.mailx_top.specs.declared.status.Status.{Status}
-use Rattle.mailx_top.specs.Meaning.{State, Opening, round}
+use Rattle.mailx_top.specs.Meaning.{Opening, round}
+use Rattle.mailx_top.specs.Openings.{IsOpeningExplained}
 use Rattle.mailx_top.specs.Statuses.{status_at_end, status_at_stop, line_at_stop}
 
 -- bytes are said by one Out, as far as they went
@@ -27,3 +27,4 @@ Ending s (Err cause) es = (s ≡ status_at_stop cause) × AsFar (line_at_stop ca
 pub record IsRun (folder : Option (List ℕ)) (s : Status) (es : List Event) : Type 0 where
   pub whole : Whole round (Opening folder) (Ending s) es
   pub explained : IsExplained whole.out whole.front
+  pub opening : IsOpeningExplained folder whole.out whole.front

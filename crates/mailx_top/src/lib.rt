@@ -5,6 +5,8 @@ mod environment;
 mod open;
 mod session;
 mod status;
+#[cfg(test)]
+mod tests;
 mod top;
 mod words;
 

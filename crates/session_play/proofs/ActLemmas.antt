@@ -1,28 +1,19 @@
 -- One call carries out one act.
-use Rattle.std.proofs.Common.{◌≡◌, ◌⊎◌, ℕ, Bool, true, false, List, [], ◌∷◌, ◌++◌, refl, sym, ◌∙◌, ap, subst, inl, inr, take, drop, take-append-drop}
-use Rattle.std.specs.Prelude.{is_some}
-use Rattle.std.specs.declared.option.Option.{Option}
-use Rattle.std.specs.declared.option.Option.TheVariants.{Some, None}
-use Rattle.std.specs.declared.result.Result.{Result}
+use Rattle.std.proofs.Common.{◌≡◌, ℕ, true, false, List, [], ◌∷◌, ◌++◌, refl, sym, ap, subst, inl, inr, take, drop, take-append-drop}
 use Rattle.std.specs.declared.result.Result.TheVariants.{Ok, Err}
 use Rattle.host_port.specs.declared.event.Event.{Event}
 use Rattle.host_port.specs.declared.event.Event.TheVariants as event
-use Rattle.host_port.specs.declared.event.Seen.{Seen}
 use Rattle.host_port.specs.declared.event.Seen.TheVariants as seen
 use Rattle.host_port.specs.declared.event.LoadAnswer.{LoadAnswer}
-use Rattle.host_port.specs.declared.host.LoadError.{LoadError}
 use Rattle.host_port.specs.declared.host.LoadError.TheVariants as error
-use Rattle.host_port.specs.declared.host.InFault.{InFault}
-use Rattle.host_port.specs.declared.host.OutFault.{OutFault}
 use Rattle.host_port.specs.Disk.{Disk}
-use Rattle.host_port.specs.Calls.{Said, Loaded}
+use Rattle.host_port.specs.Calls.{Loaded}
 use Rattle.host_port.specs.Ran.{Agrees}
 use Rattle.host_port.specs.Own.{own}
 use Rattle.session_play.specs.declared.act.Found.{Found}
 use Rattle.session_play.specs.declared.act.Found.TheVariants as found
-use Rattle.session_play.specs.declared.stop.Stop.{Stop}
 use Rattle.session_play.specs.declared.stop.Stop.TheVariants as stop
-use Rattle.session_play.specs.Play.{Play, Ask, Ret, Say, Read, Goes}
+use Rattle.session_play.specs.Play.{Ask, Ret, Say, Read, Goes}
 
 append_nil : (xs : List ℕ) → xs ≡ xs ++ []
 append_nil [] = refl

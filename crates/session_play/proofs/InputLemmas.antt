@@ -1,5 +1,5 @@
 -- One fill takes input, and a line is taken by fills.
-use Rattle.std.proofs.Common.{◌≡◌, ◌⊎◌, ℕ, zero, suc, ◌+◌, ◌-◌, ◌<◌, ◌≤◌, Bool, true, false, List, [], ◌∷◌, ◌++◌, refl, sym, ◌∙◌, ap, subst, inl, inr, take, length, arith, add-zero, append_assoc}
+use Rattle.std.proofs.Common.{◌≡◌, ℕ, zero, suc, ◌+◌, ◌-◌, ◌<◌, ◌≤◌, Bool, true, false, List, [], ◌∷◌, ◌++◌, refl, sym, ◌∙◌, ap, subst, inl, inr, take, length, arith, add-zero, append_assoc}
 use Rattle.std.proofs.lemmas.List.{length-take-le, append-nil}
 use Rattle.std.specs.declared.option.Option.{Option}
 use Rattle.std.specs.declared.option.Option.TheVariants.{Some, None}
@@ -7,14 +7,13 @@ use Rattle.std.specs.declared.result.Result.{Result}
 use Rattle.std.specs.declared.result.Result.TheVariants.{Ok, Err}
 use Rattle.host_port.specs.declared.event.Event.{Event}
 use Rattle.host_port.specs.declared.event.Event.TheVariants as event
-use Rattle.host_port.specs.declared.host.InFault.{InFault}
 use Rattle.host_port.specs.Disk.{Disk}
 use Rattle.host_port.specs.Ran.{Agrees}
 use Rattle.host_port.specs.Own.{own}
 use Rattle.session_play.specs.declared.stop.Stop.{Stop}
 use Rattle.session_play.specs.declared.stop.Stop.TheVariants as stop
-use Rattle.session_play.specs.Input.{Input, input_limit, first_line, next_line, next_of, took, is_empty, Reads, Handed}
-use Rattle.session_play.specs.Play.{Play, Ask, Ret, Line, Goes, Partly, TookSome, with_input}
+use Rattle.session_play.specs.Input.{Input, input_limit, first_line, next_line, next_of, took, is_empty, Reads}
+use Rattle.session_play.specs.Play.{Ask, Ret, Line, Goes, Partly, TookSome, with_input}
 
 -- where nothing can be handed out, the end was not seen
 pub still_open : (i : Input) → next_line i ≡ None → i.ended ≡ false

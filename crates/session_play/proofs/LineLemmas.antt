@@ -1,9 +1,9 @@
 -- The first line of bytes, by the place of its line feed.
-use Rattle.std.proofs.Common.{◌≡◌, ◌≢◌, ℕ, suc, zero, ◌+◌, ◌<◌, ◌≤◌, Bool, true, false, List, [], ◌∷◌, ◌++◌, ◌-◌, length-drop, refl, sym, ◌∙◌, ap, subst, take, drop, get_or, length, arith, rules, add-one, cond, eqb}
+use Rattle.std.proofs.Common.{◌≡◌, ℕ, suc, zero, ◌+◌, ◌<◌, ◌≤◌, Bool, true, false, List, [], ◌∷◌, ◌-◌, length-drop, refl, sym, ◌∙◌, ap, subst, take, drop, get_or, length, arith, add-one, eqb}
 use Rattle.std.proofs.lemmas.Bool.{eq-eqb, eqb-true}
 use Rattle.std.proofs.lemmas.Grind.{common_steps}
 use Rattle.std.proofs.lemmas.List.{drop-drop}
-use Rattle.std.specs.Prelude.{OnSome, nat_eq, ◌==◌, if◌then◌else◌}
+use Rattle.std.specs.Prelude.{OnSome, if◌then◌else◌}
 use Rattle.std.specs.declared.option.Option.{Option}
 use Rattle.std.specs.declared.option.Option.TheVariants.{Some, None}
 use Rattle.session_play.specs.Input.{Input, first_line, onto_first, next_line, next_of, last_line, left}

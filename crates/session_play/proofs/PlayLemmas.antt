@@ -1,12 +1,12 @@
 -- Plays go on from one another.
-use Rattle.std.proofs.Common.{◌≡◌, ◌⊎◌, ℕ, List, [], ◌∷◌, ◌++◌, refl, sym, ◌∙◌, ap, subst, inl, inr, append_assoc}
+use Rattle.std.proofs.Common.{◌≡◌, List, [], ◌++◌, refl, sym, ◌∙◌, ap, subst, inl, inr, append_assoc}
 use Rattle.std.proofs.lemmas.List.{append-nil}
 use Rattle.std.specs.declared.result.Result.{Result}
 use Rattle.std.specs.declared.result.Result.TheVariants.{Ok, Err}
 use Rattle.host_port.specs.declared.event.Event.{Event}
 use Rattle.session_play.specs.declared.stop.Stop.{Stop}
 use Rattle.session_play.specs.declared.stop.Stop.TheVariants as stop
-use Rattle.session_play.specs.Play.{Act, Answer, Play, Ret, Ask, Line, Say, Read, bind, Goes, Next, Go, Last, Loop, Did, Partly}
+use Rattle.session_play.specs.Play.{Play, Ret, Ask, bind, Goes}
 
 -- want of memory may come before any act
 pub at-memory : {R : Type 0} (p : Play R) → Goes p [] (Err stop.Memory)

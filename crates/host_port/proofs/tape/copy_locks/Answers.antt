@@ -1,5 +1,4 @@
-use Rattle.std.proofs.Common.{◌≡◌, ◌∙◌, ◌+◌, ap, sym, refl, drop}
-use Rattle.std.specs.declared.option.Option.{Option}
+use Rattle.std.proofs.Common.{◌∙◌, ◌+◌, ap, sym, refl, drop}
 use Rattle.host_port.specs.Views.{lookup, named, or_else}
 use Rattle.host_port.proofs.NamedLemmas.{copies-put, copies-skip, is-none, not-none}
 use Rattle.host_port.proofs.tape.copy_locks.Goals as goal

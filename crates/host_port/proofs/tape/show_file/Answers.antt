@@ -1,5 +1,4 @@
-use Rattle.std.proofs.Common.{sym, ◌∙◌, refl}
-use Rattle.host_port.specs.Views.{names_of}
+use Rattle.std.proofs.Common.{sym, ◌∙◌}
 use Rattle.host_port.proofs.NamedLemmas.{show-value, on-ok}
 use Rattle.host_port.proofs.tape.show_file.Goals as goal
 

@@ -1,5 +1,5 @@
-use Rattle.std.proofs.Common.{◌≡◌, ℕ, List, arith}
-use Rattle.host_port.specs.Views.{lookup, named, names_of}
+use Rattle.std.proofs.Common.{arith}
+use Rattle.host_port.specs.Views.{named, names_of}
 use Rattle.host_port.proofs.NamedLemmas.{among-more, among-all}
 use Rattle.host_port.proofs.tape.show_locks.Goals as goal
 

@@ -1,5 +1,4 @@
 use Rattle.std.proofs.Common.{ap, Err}
-use Rattle.std.proofs.lemmas.Result.{err_from_is_err_and}
 use Rattle.host_port.proofs.RanLemmas.{Ran-none}
 use Rattle.session_play.proofs.PlayLemmas.{at-memory}
 use Rattle.mbox_scan.specs.Mailbox.{list_of}

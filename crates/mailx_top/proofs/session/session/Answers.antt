@@ -1,8 +1,5 @@
-use Rattle.std.proofs.Common.{sym, ◌∙◌, ap, rules}
 use Rattle.std.proofs.lemmas.Result.{err_from_is_err_and}
 use Rattle.host_port.proofs.RanLemmas.{Ran-then}
-use Rattle.mailx_top.specs.Meaning.{round, Reading}
-use Rattle.session_play.specs.Input.{no_input}
 use Rattle.session_play.proofs.LoopLemmas.{so-far-more, so-far-last, so-far-cut}
 use Rattle.mailx_top.proofs.session.session.Goals as goal
 

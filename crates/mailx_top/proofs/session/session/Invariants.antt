@@ -1,10 +1,5 @@
-use Rattle.std.specs.Prelude.{◌≡◌, ◌++◌, List}
-use Rattle.std.specs.declared.option.Option.TheVariants.{Some, None}
-use Rattle.std.specs.declared.result.Result.{Result}
-use Rattle.host_port.specs.declared.event.Event.{Event}
 use Rattle.host_port.specs.Ran.{Ran}
 use Rattle.session_play.specs.Input.{left, no_input}
-use Rattle.session_play.specs.Play.{Loop}
 use Rattle.mailx_top.specs.Meaning.{round, Reading}
 use Rattle.session_play.proofs.LoopLemmas.{SoFar}
 use Rattle.mbox_scan.specs.Mailbox.{texts_of}

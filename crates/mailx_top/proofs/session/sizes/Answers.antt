@@ -1,4 +1,3 @@
-use Rattle.std.proofs.Common.{◌≡◌, ap, sym, ◌∙◌}
 use Rattle.mbox_scan.specs.Mailbox.{texts_of}
 use Rattle.mailx_top.proofs.SizeLemmas.{sizes-more}
 use Rattle.mailx_top.proofs.session.sizes.Goals as goal

@@ -3,7 +3,8 @@ use Rattle.std.proofs.lemmas.List.{append-nil}
 use Rattle.host_port.proofs.RanLemmas.{Ran-then, Ran-map, called}
 use Rattle.host_port.proofs.OwnLemmas.{disk-of_others}
 use Rattle.session_play.proofs.CauseLemmas.{loop-explained}
-use Rattle.mailx_top.specs.Meaning.{round, Opening, input_of}
+use Rattle.mailx_top.specs.Meaning.{round, input_of}
+use Rattle.mailx_top.proofs.OpeningLemmas.{opening-explained}
 use Rattle.mailx_top.proofs.EndLemmas.{said-far}
 use Rattle.mailx_top.proofs.RoundLemmas.{threads-round}
 use Rattle.mailx_top.proofs.top.run.Goals as goal
@@ -13,6 +14,7 @@ returns-in-Ok-clause-run g c =
     Ran-map (λ es loop. record {
       whole = record { out = Ok c.in-Ok.end; front = es; behind = []; is = sym (append-nil es); plays = loop; ending = (refl, c.end_status.ensures) };
       explained = loop-explained round input_of _ es _ threads-round refl loop;
+      opening = opening-explained _ es _ loop;
     }) c.in-Ok.ensures.ran
 
 pub returns-in-Ok-clause-prefixes : goal.returns-in-Ok-clause-prefixes
@@ -23,6 +25,7 @@ returns-in-Err-clause-run g c =
     Ran-then (λ front rest loop said. record {
       whole = record { out = Err c.in-Err.cause; front = front; behind = rest; is = refl; plays = loop; ending = (c.stop_status.ensures, said) };
       explained = loop-explained round input_of _ front _ threads-round refl loop;
+      opening = opening-explained _ front _ loop;
     }) c.in-Err.ensures.ran (called (said-far c.say.result _ _ c.stop_line.ensures) c.say.ensures.start c.say.ensures.counts c.say.ensures.call)
 
 pub returns-in-Err-clause-prefixes : goal.returns-in-Err-clause-prefixes

@@ -1,6 +1,5 @@
-use Rattle.std.proofs.Common.{◌≡◌, ℕ, List, sym, ap, ◌∙◌}
-use Rattle.std.specs.declared.option.Option.{Option}
-use Rattle.host_port.specs.Views.{named, flat, lookup}
+use Rattle.std.proofs.Common.{sym, ap, ◌∙◌}
+use Rattle.host_port.specs.Views.{flat, lookup}
 use Rattle.host_port.proofs.NamedLemmas.{lookup-pairs}
 use Rattle.host_port.proofs.named.Named.get.Goals as goal
 

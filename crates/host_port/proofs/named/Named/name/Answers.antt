@@ -1,6 +1,5 @@
-use Rattle.std.proofs.Common.{◌≡◌, ℕ, List, sym, ap, ◌∙◌, Vec}
-use Rattle.std.specs.Prelude.{slice_get, option_map, Option, Some}
-use Rattle.std.specs.declared.alloc.Global.{Global}
+use Rattle.std.proofs.Common.{ℕ, List, sym, ap, ◌∙◌}
+use Rattle.std.specs.Prelude.{slice_get, option_map, Some}
 use Rattle.host_port.specs.Views.{names_of}
 use Rattle.host_port.proofs.NamedLemmas.{names-at}
 use Rattle.host_port.proofs.named.Named.name.Goals as goal

@@ -1,5 +1,4 @@
-use Rattle.std.proofs.Common.{◌≡◌, ℕ, List, sym, ap, ◌∙◌}
-use Rattle.std.specs.declared.option.Option.{Option}
+use Rattle.std.proofs.Common.{◌≡◌, ap, ◌∙◌}
 use Rattle.host_port.specs.Disk.{with_at}
 use Rattle.host_port.specs.Pairs.{pairs_of}
 use Rattle.host_port.specs.Views.{named}

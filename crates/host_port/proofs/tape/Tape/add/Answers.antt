@@ -1,4 +1,4 @@
-use Rattle.std.proofs.Common.{◌≡◌, ap, sym, ◌∙◌, ◌++◌, ◌∷◌, [], List}
+use Rattle.std.proofs.Common.{ap, ◌∙◌, ◌++◌, ◌∷◌, [], List}
 use Rattle.host_port.specs.declared.event.Event.{Event}
 use Rattle.host_port.proofs.TapeLemmas.{shows-more, pushed}
 use Rattle.host_port.proofs.tape.Tape.add.Goals as goal

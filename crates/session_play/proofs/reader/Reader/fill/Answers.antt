@@ -1,4 +1,4 @@
-use Rattle.std.proofs.Common.{ap, sym, ◌∙◌, drop, take, arith, rules, ◌≤◌, length, List, ℕ, ◌+◌, ◌++◌}
+use Rattle.std.proofs.Common.{ap, ◌∙◌, drop, take, arith, rules, ◌+◌, ◌++◌}
 use Rattle.std.proofs.lemmas.List.{drop-append-le}
 use Rattle.host_port.proofs.RanLemmas.{called}
 use Rattle.session_play.specs.Input.{Input}

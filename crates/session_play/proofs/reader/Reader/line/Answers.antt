@@ -1,7 +1,7 @@
-use Rattle.std.proofs.Common.{ap, sym, ◌∙◌, refl, rules, List, ◌++◌}
+use Rattle.std.proofs.Common.{ap, ◌∙◌}
 use Rattle.std.proofs.lemmas.Result.{err_from_is_err_and}
 use Rattle.host_port.proofs.RanLemmas.{Ran-then, Ran-map}
-use Rattle.session_play.specs.Input.{Input, Reads, left}
+use Rattle.session_play.specs.Input.{left}
 use Rattle.session_play.proofs.InputLemmas.{reads-on, line-taken, line-cut-on}
 use Rattle.std.specs.Prelude.{OnSome, ℕ, ◌<◌}
 use Rattle.std.proofs.Common.{subst}

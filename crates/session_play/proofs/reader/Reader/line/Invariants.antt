@@ -1,4 +1,4 @@
-use Rattle.std.specs.Prelude.{◌≡◌, ◌+◌, ◌*◌, ◌-◌, ◌≤◌, if◌then◌else◌, List}
+use Rattle.std.specs.Prelude.{◌≡◌, ◌+◌, ◌*◌, ◌-◌, if◌then◌else◌}
 use Rattle.host_port.specs.Ran.{Ran}
 use Rattle.session_play.specs.Input.{Reads, left, input_limit}
 use Rattle.session_play.proofs.reader.Reader.line.Given as goal

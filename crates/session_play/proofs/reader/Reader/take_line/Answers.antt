@@ -1,7 +1,6 @@
 use Rattle.std.proofs.lemmas.Grind.{common_steps}
-use Rattle.std.proofs.Common.{rules, refl, ap, sym, ◌∙◌, arith, length, ◌<◌, ◌≤◌, drop}
+use Rattle.std.proofs.Common.{rules, refl, ap, ◌∙◌, arith, drop}
 use Rattle.session_play.proofs.LineLemmas.{next-some, next-none, next-last}
-use Rattle.session_play.specs.Input.{Input}
 use Rattle.session_play.proofs.reader.Reader.take_line.Goals as goal
 
 pub returns-then-not-self-clause-ok : goal.returns-then-not-self-clause-ok

@@ -1,0 +1,61 @@
+-- Why a run opened no folder, read off its own events.
+use Rattle.std.specs.Prelude.{◌≡◌, ◌⊎◌, ◌||◌, nat_lt, ℕ, Bool, true, false, List, [], ◌∷◌, length}
+use Rattle.std.specs.declared.option.Option.{Option}
+use Rattle.std.specs.declared.option.Option.TheVariants.{Some, None}
+use Rattle.std.specs.declared.result.Result.{Result}
+use Rattle.std.specs.declared.result.Result.TheVariants.{Ok, Err}
+use Rattle.host_port.specs.declared.event.Event.{Event}
+use Rattle.host_port.specs.declared.event.Event.TheVariants as event
+use Rattle.host_port.specs.declared.event.Seen.{Seen}
+use Rattle.host_port.specs.declared.event.Seen.TheVariants as seen
+use Rattle.mbox_scan.specs.Mailbox.{list_of}
+use Rattle.session_play.specs.declared.stop.Stop.{Stop}
+use Rattle.mailx_top.specs.declared.status.End.{End}
+use Rattle.mailx_top.specs.declared.status.End.TheVariants as ending
+use Rattle.mailx_top.specs.Variables.{is_short_name}
+use Rattle.mailx_top.specs.Meaning.{message_limit}
+
+-- a load saw that the folder is held
+abbrev pub saw_held : Seen → Bool
+saw_held (seen.Bytes bytes true) = true
+saw_held s = false
+
+-- no list of texts, or one that is too long
+abbrev pub is_no_list : Option (List (List ℕ)) → Bool
+is_no_list None = true
+is_no_list (Some texts) = nat_lt message_limit (length texts)
+
+-- a load saw that there is no folder to open, and it isn't held
+abbrev pub saw_no_folder : Seen → Bool
+saw_no_folder (seen.Bytes bytes true) = false
+saw_no_folder (seen.Bytes None false) = true
+saw_no_folder (seen.Bytes (Some bytes) false) = is_no_list (list_of bytes)
+saw_no_folder (seen.TooLarge n) = true
+saw_no_folder s = false
+
+-- some load saw such a thing
+abbrev pub some_load_saw : (Seen → Bool) → List Event → Bool
+some_load_saw test [] = false
+some_load_saw test (event.Load name s ∷ es) = test s || some_load_saw test es
+some_load_saw test (e ∷ es) = some_load_saw test es
+
+-- the file is named so that it can't be one
+abbrev pub IsBadName : Option (List ℕ) → Type 0
+IsBadName None = ⊥
+IsBadName (Some name) = is_short_name name ≡ false
+
+-- there is no folder to open
+abbrev pub OpensNone : Option (List ℕ) → List Event → Type 0
+OpensNone folder es = IsBadName folder ⊎ (some_load_saw saw_no_folder es ≡ true)
+
+-- the run came to this end, or was cut off
+abbrev pub EndsOrIsCut : End → Result End Stop → Type 0
+EndsOrIsCut e (Ok r) = r ≡ e
+EndsOrIsCut e (Err cause) = Unit {0}
+
+-- A run is refused exactly where a load saw the folder held, and has no folder exactly where there is none to open, unless it is cut off.
+pub record IsOpeningExplained (folder : Option (List ℕ)) (out : Result End Stop) (es : List Event) : Type 0 where
+  pub refused_only : out ≡ Ok ending.Refused → some_load_saw saw_held es ≡ true
+  pub refused_always : some_load_saw saw_held es ≡ true → EndsOrIsCut ending.Refused out
+  pub no_folder_only : out ≡ Ok ending.NoFolder → OpensNone folder es
+  pub no_folder_always : OpensNone folder es → EndsOrIsCut ending.NoFolder out
