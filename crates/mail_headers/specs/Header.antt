@@ -48,8 +48,9 @@ abbrev pub field_in : Entry → Option Field
 field_in (field f) = Some f
 field_in (other l) = None
 
--- the entries of some lines: a line that begins a field gives the field, with the folded lines after it; these give
--- nothing of their own, as `within` says, that a field's lines stand before; any other line is an entry by itself
+-- the entries of some lines. A line that begins a field is the field, with the folded lines right after it. `within` says
+-- that the line before is of a field: a folded line is then part of that field, and no entry of its own. Any other line
+-- is an entry by itself.
 unfoldable pub entries_from : Bool → List (List ℕ) → List Entry
 entries_from within [] = []
 entries_from within (l ∷ ls) =
