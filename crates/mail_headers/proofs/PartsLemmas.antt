@@ -1,0 +1,167 @@
+-- A text cut at the first two line feeds in a row: the lines before them are the From line and the header's lines.
+use Rattle.std.proofs.Common.{◌≡◌, ℕ, zero, suc, ◌+◌, ◌<◌, true, false, ◌==◌, List, [], ◌∷◌, length, take, drop, get_or, Some, None, refl, sym, ap, ◌∙◌, arith, ⊎_elim, subst, add-zero}
+use Rattle.std.specs.List.{take_while}
+use Rattle.std.proofs.lemmas.Bool.{cond-true, cond-false, eqb-true, eq-eqb, false≢true, cases_Bool, and_parts, and_from, and_left, false_from_ne_true}
+use Rattle.std.proofs.lemmas.List.Sums.{take_while-cons}
+use Rattle.memchr.specs.Find.{OccursAt}
+use Rattle.mail_text.specs.Lines.{lines_of, in_front}
+use Rattle.mail_text.proofs.LineLemmas.{lines_of-nil, lines_of-feed, lines_of-byte}
+use Rattle.mail_headers.specs.Header.{first_line, has_bytes, has_two_feeds, body_of}
+use Rattle.mail_headers.specs.Parts.{head_of}
+
+-- ---- lines
+
+-- a byte in front of lines is one in front of the first of them
+in_front-is : (b : ℕ) (ls : List (List ℕ)) → in_front b ls ≡ (b ∷ first_line ls) ∷ drop 1 ls
+in_front-is b [] = refl
+in_front-is b (l ∷ ls) = refl
+
+lines_of-front : (b : ℕ) (bs : List ℕ) → (b == 10) ≡ false → lines_of (b ∷ bs) ≡ (b ∷ first_line (lines_of bs)) ∷ drop 1 (lines_of bs)
+lines_of-front b bs other = lines_of-byte b bs other ∙ in_front-is b (lines_of bs)
+
+-- the head of a text without two line feeds at its front
+head_of-cons : (b : ℕ) (bs : List ℕ) → has_two_feeds (b ∷ bs) ≡ false → head_of (b ∷ bs) ≡ b ∷ head_of bs
+unfolding head_of
+head_of-cons b bs none = cond-false _ _ _ none
+
+head_of-two : (bs : List ℕ) → head_of (10 ∷ 10 ∷ bs) ≡ []
+unfolding head_of
+head_of-two bs = refl
+
+head_of-nil : head_of [] ≡ []
+unfolding head_of
+head_of-nil = refl
+
+-- what a text and its head have in common
+pub record HasHead (t h : List ℕ) : Type 0 where
+  pub first : first_line (lines_of t) ≡ first_line (lines_of h)
+  pub later : take_while has_bytes (drop 1 (lines_of t)) ≡ drop 1 (lines_of h)
+
+-- a section that begins with a byte other than a line feed
+section : (c : ℕ) (cs : List ℕ) → (c == 10) ≡ false → HasHead cs (head_of cs) → take_while has_bytes (lines_of (c ∷ cs)) ≡ lines_of (c ∷ head_of cs)
+section c cs other h =
+    ap (take_while has_bytes) (lines_of-front c cs other)
+    ∙ take_while-cons has_bytes (c ∷ first_line (lines_of cs)) (drop 1 (lines_of cs))
+    ∙ ap (λ (ls : List (List ℕ)). (c ∷ first_line (lines_of cs)) ∷ ls) h.later
+    ∙ ap (λ (l : List ℕ). (c ∷ l) ∷ drop 1 (lines_of (head_of cs))) h.first
+    ∙ sym (lines_of-front c (head_of cs) other)
+
+HasHead-byte : (b : ℕ) (bs : List ℕ) → (b == 10) ≡ false → HasHead bs (head_of bs) → HasHead (b ∷ bs) (head_of (b ∷ bs))
+HasHead-byte b bs other h =
+    let cut : head_of (b ∷ bs) ≡ b ∷ head_of bs = head_of-cons b bs (and_left (b == 10) (get_or bs 0 0 == 10) other) in
+    let lines = lines_of-front b bs other in
+    let heads = ap lines_of cut ∙ lines_of-front b (head_of bs) other in
+    record {
+      first = ap first_line lines ∙ ap (λ (l : List ℕ). b ∷ l) h.first ∙ sym (ap first_line heads);
+      later = ap (λ (ls : List (List ℕ)). take_while has_bytes (drop 1 ls)) lines ∙ h.later ∙ sym (ap (drop 1) heads);
+    }
+
+HasHead-feeds : (bs : List ℕ) → HasHead (10 ∷ 10 ∷ bs) (head_of (10 ∷ 10 ∷ bs))
+HasHead-feeds bs =
+    let lines : lines_of (10 ∷ 10 ∷ bs) ≡ [] ∷ [] ∷ lines_of bs = lines_of-feed 10 (10 ∷ bs) refl ∙ ap (λ (ls : List (List ℕ)). [] ∷ ls) (lines_of-feed 10 bs refl) in
+    let heads : lines_of (head_of (10 ∷ 10 ∷ bs)) ≡ [] = ap lines_of (head_of-two bs) ∙ lines_of-nil in
+    record {
+      first = ap first_line lines ∙ sym (ap first_line heads);
+      later = ap (λ (ls : List (List ℕ)). take_while has_bytes (drop 1 ls)) lines ∙ take_while-cons has_bytes [] (lines_of bs) ∙ sym (ap (drop 1) heads);
+    }
+
+HasHead-feed : (c : ℕ) (cs : List ℕ) → (c == 10) ≡ false → HasHead cs (head_of cs) → HasHead (10 ∷ c ∷ cs) (head_of (10 ∷ c ∷ cs))
+HasHead-feed c cs other h =
+    let cut : head_of (10 ∷ c ∷ cs) ≡ 10 ∷ c ∷ head_of cs =
+    head_of-cons 10 (c ∷ cs) other ∙ ap (λ (l : List ℕ). 10 ∷ l) (head_of-cons c cs (and_left (c == 10) (get_or cs 0 0 == 10) other)) in
+    let lines = lines_of-feed 10 (c ∷ cs) refl in
+    let heads = ap lines_of cut ∙ lines_of-feed 10 (c ∷ head_of cs) refl in
+    record {
+      first = ap first_line lines ∙ sym (ap first_line heads);
+      later = ap (λ (ls : List (List ℕ)). take_while has_bytes (drop 1 ls)) lines ∙ section c cs other h ∙ sym (ap (drop 1) heads);
+    }
+
+HasHead-last : HasHead (10 ∷ []) (head_of (10 ∷ []))
+HasHead-last =
+    let cut : head_of (10 ∷ []) ≡ 10 ∷ [] = head_of-cons 10 [] refl ∙ ap (λ (l : List ℕ). 10 ∷ l) head_of-nil in
+    let lines = lines_of-feed 10 [] refl ∙ ap (λ (ls : List (List ℕ)). [] ∷ ls) lines_of-nil in
+    let heads = ap lines_of cut ∙ lines in
+    record {
+      first = ap first_line lines ∙ sym (ap first_line heads);
+      later = ap (λ (ls : List (List ℕ)). take_while has_bytes (drop 1 ls)) lines ∙ sym (ap (drop 1) heads);
+    }
+
+HasHead-nil : HasHead [] (head_of [])
+HasHead-nil =
+    let heads = ap lines_of head_of-nil ∙ lines_of-nil in
+    record {
+      first = ap first_line lines_of-nil ∙ sym (ap first_line heads);
+      later = ap (λ (ls : List (List ℕ)). take_while has_bytes (drop 1 ls)) lines_of-nil ∙ sym (ap (drop 1) heads);
+    }
+
+-- the lines of a text's head are its From line and its header's lines
+pub HasHead-head_of : (t : List ℕ) → HasHead t (head_of t)
+HasHead-head_of [] = HasHead-nil
+HasHead-head_of (b ∷ []) =
+    ⊎_elim
+    (λ feed. subst (λ (x : ℕ). HasHead (x ∷ []) (head_of (x ∷ []))) (sym (eqb-true b 10 feed)) HasHead-last)
+    (λ other. HasHead-byte b [] other HasHead-nil)
+    (cases_Bool (b == 10))
+HasHead-head_of (b ∷ c ∷ cs) =
+    ⊎_elim
+    (λ feed.
+    subst (λ (x : ℕ). HasHead (x ∷ c ∷ cs) (head_of (x ∷ c ∷ cs))) (sym (eqb-true b 10 feed))
+    (⊎_elim
+    (λ second. subst (λ (x : ℕ). HasHead (10 ∷ x ∷ cs) (head_of (10 ∷ x ∷ cs))) (sym (eqb-true c 10 second)) (HasHead-feeds cs))
+    (λ other. HasHead-feed c cs other (HasHead-head_of cs))
+    (cases_Bool (c == 10))))
+    (λ other. HasHead-byte b (c ∷ cs) other (HasHead-head_of (c ∷ cs)))
+    (cases_Bool (b == 10))
+
+-- ---- the place of the first two line feeds in a row
+
+two_feeds-OccursAt : (t : List ℕ) → OccursAt t (10 ∷ 10 ∷ []) 0 → has_two_feeds t ≡ true
+two_feeds-OccursAt t occurs = and_from _ _ (eq-eqb _ _ (occurs.reads 0 (omega arith))) (eq-eqb _ _ (occurs.reads 1 (omega arith)))
+
+two_reads : (t : List ℕ) (k : ℕ) → get_or t k 0 ≡ 10 → get_or t (k + 1) 0 ≡ 10 → (j : ℕ) → j < 2 → get_or t (k + j) 0 ≡ get_or (10 ∷ 10 ∷ []) j 0
+two_reads t k first second zero lt = ap (λ (n : ℕ). get_or t n 0) (add-zero k) ∙ first
+two_reads t k first second (suc zero) lt = second
+two_reads t k first second (suc (suc j)) lt = absurd (omega arith)
+
+OccursAt-two_feeds : (b : ℕ) (bs : List ℕ) → has_two_feeds (b ∷ bs) ≡ true → OccursAt (b ∷ bs) (10 ∷ 10 ∷ []) 0
+OccursAt-two_feeds b [] two = absurd (false≢true (and_parts (b == 10) false two).1)
+OccursAt-two_feeds b (c ∷ cs) two =
+    let parts = and_parts (b == 10) (c == 10) two in
+    record { fits = omega arith; reads = two_reads (b ∷ c ∷ cs) 0 (eqb-true b 10 parts.0) (eqb-true c 10 parts.1) }
+
+OccursAt-later : (b : ℕ) (bs : List ℕ) (k : ℕ) → OccursAt bs (10 ∷ 10 ∷ []) k → OccursAt (b ∷ bs) (10 ∷ 10 ∷ []) (suc k)
+OccursAt-later b bs k occurs =
+    let place : suc k + 1 ≡ suc (k + 1) = omega arith in
+    let first = ap (λ (n : ℕ). get_or bs n 0) (sym (add-zero k)) ∙ occurs.reads 0 (omega arith) in
+    record {
+      fits = omega (arith, occurs.fits);
+      reads = two_reads (b ∷ bs) (suc k) first (ap (λ (n : ℕ). get_or (b ∷ bs) n 0) place ∙ occurs.reads 1 (omega arith));
+    }
+
+OccursAt-earlier : (b : ℕ) (bs : List ℕ) (k : ℕ) → OccursAt (b ∷ bs) (10 ∷ 10 ∷ []) (suc k) → OccursAt bs (10 ∷ 10 ∷ []) k
+OccursAt-earlier b bs k occurs =
+    let place : suc (k + 1) ≡ suc k + 1 = omega arith in
+    let first = ap (λ (n : ℕ). get_or (b ∷ bs) n 0) (sym (add-zero (suc k))) ∙ occurs.reads 0 (omega arith) in
+    record {
+      fits = omega (arith, occurs.fits);
+      reads = two_reads bs k first (ap (λ (n : ℕ). get_or (b ∷ bs) n 0) place ∙ occurs.reads 1 (omega arith));
+    }
+
+pub head_of-found : (t : List ℕ) (k : ℕ) → OccursAt t (10 ∷ 10 ∷ []) k → ((j : ℕ) → j < k → ¬ (OccursAt t (10 ∷ 10 ∷ []) j)) → (head_of t ≡ take k t) × (body_of t ≡ Some (drop (k + 2) t))
+unfolding head_of body_of
+head_of-found [] k occurs before = absurd (omega (arith, occurs.fits))
+head_of-found (b ∷ bs) zero occurs before =
+    let two = two_feeds-OccursAt (b ∷ bs) occurs in (cond-true _ _ _ two, cond-true _ _ _ two)
+head_of-found (b ∷ bs) (suc k) occurs before =
+    let none : has_two_feeds (b ∷ bs) ≡ false = false_from_ne_true _ (λ two. before 0 (omega arith) (OccursAt-two_feeds b bs two)) in
+    let later = head_of-found bs k (OccursAt-earlier b bs k occurs) (λ j lt here. before (suc j) (omega arith) (OccursAt-later b bs j here)) in
+    let place : suc (k + 2) ≡ suc k + 2 = omega arith in
+    (cond-false _ _ _ none ∙ ap (λ (l : List ℕ). b ∷ l) later.0, cond-false _ _ _ none ∙ later.1 ∙ ap (λ (n : ℕ). Some (drop n (b ∷ bs))) place)
+
+pub head_of-missed : (t : List ℕ) → ((j : ℕ) → j < length t + 1 → ¬ (OccursAt t (10 ∷ 10 ∷ []) j)) → (head_of t ≡ t) × (body_of t ≡ None)
+unfolding head_of body_of
+head_of-missed [] nowhere = (refl, refl)
+head_of-missed (b ∷ bs) nowhere =
+    let none : has_two_feeds (b ∷ bs) ≡ false = false_from_ne_true _ (λ two. nowhere 0 (omega arith) (OccursAt-two_feeds b bs two)) in
+    let later = head_of-missed bs (λ j lt here. nowhere (suc j) (omega arith) (OccursAt-later b bs j here)) in
+    (cond-false _ _ _ none ∙ ap (λ (l : List ℕ). b ∷ l) later.0, cond-false _ _ _ none ∙ later.1)

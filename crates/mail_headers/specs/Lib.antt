@@ -1,0 +1,4 @@
+pub mod Cutting
+pub mod Field
+pub mod Header
+pub mod Parts
