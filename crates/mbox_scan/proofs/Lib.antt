@@ -2,3 +2,4 @@ pub mod StartLemmas
 pub mod TextLemmas
 pub mod MailboxLemmas
 pub mod SpanLemmas
+pub mod JoinLemmas

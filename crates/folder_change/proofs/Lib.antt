@@ -1,0 +1,4 @@
+pub mod DifferenceLemmas
+pub mod OutcomeLemmas
+pub mod LawLemmas
+pub mod ApplyLemmas
