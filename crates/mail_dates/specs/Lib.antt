@@ -1,0 +1,4 @@
+pub mod Clock
+pub mod Names
+pub mod Printed
+pub mod Zones
