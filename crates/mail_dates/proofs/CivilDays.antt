@@ -6,7 +6,7 @@ use Rattle.jiff_core.specs.declared.civil.date.Date.{Date}
 use Rattle.jiff_core.specs.Calendar.{days_from_civil, day_count, days_of_years, days_of_months, weekday_number}
 use Rattle.jiff_core.specs.Date.{epoch_day, weekday_of}
 use Rattle.jiff_core.proofs.SignedLemmas.{signed_arith}
-use Rattle.jiff_core.proofs.CalendarLemmas.{days_from_civil-day_count, day_count-lt_month, day_count-lt_year}
+use Rattle.jiff_core.proofs.CalendarLemmas.{days_from_civil-day_count, day_count-lt_month, day_count-lt_year, day_count-day_of_year, day_count-later_year}
 use Rattle.jiff_core.proofs.DateLemmas.{civil, days_from_civil-day}
 use Rattle.jiff_tz.specs.Year.{year_of_day}
 use Rattle.jiff_tz.proofs.YearLemmas.{year_of_day-date}
@@ -70,6 +70,16 @@ year_from_0 d h =
     by_lt_z d.year (pos 0)
     (λ lt. absurd (omega (arith, signed_arith, days_from_civil-day_count, day_count-lt_year d.year d.month d.day (pos 0) 1 1 (civil d) (omega arith) lt, first_day_of_year_0)))
     (λ ge. ge)
+
+-- and a date of such a year isn't before that day
+pub day_from_0 : (d : Date) → pos 0 ≤ℤ d.year → neg_ℤ (pos 719_528) ≤ℤ epoch_day d
+day_from_0 d h =
+    let in_year = day_count-day_of_year d.year d.month d.day d.day_in.0 in
+    by_lt_z (pos 0) d.year
+    (λ later. omega (arith, signed_arith, days_from_civil-day_count, day_count-later_year (pos 0) d.year (omega (arith, signed_arith)) later, first_day_of_year_0))
+    (λ le. let same : d.year ≡ pos 0 = omega (arith, signed_arith) in
+    let first : day_count d.year 1 1 ≡ day_count (pos 0) 1 1 = ap (λ y. day_count y 1 1) same in
+    omega (arith, signed_arith, days_from_civil-day_count, first_day_of_year_0))
 
 -- a clock at a whole second shows a date and a time of day that make up that second
 second_parts : (dt : DateTime) (s : ℤ) → civil_nanos dt ≡ s *ℤ pos 1_000_000_000 → s ≡ epoch_day dt.date *ℤ pos 86_400 +ℤ pos (time_seconds dt.time)

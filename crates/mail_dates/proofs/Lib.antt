@@ -1,1 +1,3 @@
 pub mod CivilDays
+pub mod DateSteps
+pub mod PartLemmas

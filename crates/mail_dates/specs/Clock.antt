@@ -1,5 +1,5 @@
 -- Moments, and what a clock at a moment's offset shows, by the proleptic Gregorian calendar.
-use Rattle.std.specs.Prelude.{ℕ, zero, suc, ◌+◌, ℤ, pos, ◌+ℤ◌, ◌-ℤ◌, ◌*ℤ◌, if◌then◌else◌, unsigned_abs, int_div, int_le}
+use Rattle.std.specs.Prelude.{ℕ, zero, suc, ◌+◌, ℤ, pos, neg_ℤ, ◌+ℤ◌, ◌-ℤ◌, ◌*ℤ◌, if◌then◌else◌, unsigned_abs, int_div, int_le}
 use Rattle.std.specs.Int.{int_div_euclid, int_rem_euclid}
 use Rattle.jiff_core.specs.Calendar.{days_from_civil, IsBetween, IsWithin}
 use Rattle.jiff_tz.specs.Year.{year_of_day}
@@ -9,6 +9,16 @@ use Rattle.mail_dates.specs.declared.moment.Moment.{Moment}
 -- any offset, and its offset is below 26 hours
 abbrev pub IsPrintable : Moment → Type 0
 IsPrintable m = IsBetween (pos 86_400) (pos 253_402_128_000) m.seconds × IsWithin 93_599 m.offset
+
+-- a day from 1 January of the year 0 to 31 December 9999
+abbrev pub IsDayInYears : ℤ → Type 0
+IsDayInYears day = IsBetween (neg_ℤ (pos 719_528)) (pos 2_932_896) day
+
+-- what a clock at the moment's offset shows lies in the years 0 to 9999, and the offset is below 24 hours
+abbrev pub IsInYears : Moment → Type 0
+IsInYears m =
+    IsBetween (neg_ℤ (pos 62_167_219_200)) (pos 253_402_300_799) (m.seconds +ℤ m.offset)
+    × IsWithin 86_399 m.offset
 
 -- an offset in whole minutes, its seconds cut toward zero; given in seconds
 abbrev pub in_whole_minutes : ℤ → ℤ

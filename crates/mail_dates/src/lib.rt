@@ -2,11 +2,15 @@
 //! rules.
 #![tactic(auto)]
 
+mod date_field;
 mod moment;
 mod names;
+mod parts;
 mod print;
+mod values;
 mod zone;
 
+pub use date_field::read_date;
 pub use moment::Moment;
 pub use print::{print_date, print_from_date};
 pub use zone::{Zone, ZoneError, moment_at, utc, zone_of};
