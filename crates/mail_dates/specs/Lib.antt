@@ -1,5 +1,6 @@
 pub mod Clock
 pub mod DateFields
+pub mod FromLines
 pub mod Names
 pub mod Parts
 pub mod Printed

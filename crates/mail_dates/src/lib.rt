@@ -3,6 +3,7 @@
 #![tactic(auto)]
 
 mod date_field;
+mod from_line;
 mod moment;
 mod names;
 mod parts;
@@ -11,6 +12,7 @@ mod values;
 mod zone;
 
 pub use date_field::read_date;
+pub use from_line::{FromLine, read_from_line};
 pub use moment::Moment;
 pub use print::{print_date, print_from_date};
 pub use zone::{Zone, ZoneError, moment_at, utc, zone_of};

@@ -6,8 +6,8 @@ ghost use Rattle.std.specs.List.{prefix_len};
 ghost use Rattle.mail_dates.specs.Parts.{Outside, Inside, Other, without_comments, date_parts};
 ghost use Rattle.mail_dates.specs.Reading.{IsAtPart, number_first, word_first, signed_first, comma_first, colon_first, part_view, signed_view, rest_view};
 
-// The first byte of a text, and the text after it.
-fn first_byte(text: &[u8]) -> Option<(u8, &[u8])>
+/// The first byte of a text, and the text after it.
+pub fn first_byte(text: &[u8]) -> Option<(u8, &[u8])>
     ensures { MatchOption result (text.now ≡ []) (λ p. text.now ≡ p.0 ∷ p.1.now) }
 {
     match text {
@@ -85,7 +85,8 @@ fn letters_len(text: &[u8]) -> usize
     text.len()
 }
 
-fn is_sign(b: u8) -> bool
+/// Whether the byte is `+` or `-`.
+pub fn is_sign(b: u8) -> bool
     ensures { result ≡ ((b == 43) || (b == 45)) }
 {
     b == b'+' || b == b'-'
