@@ -58,7 +58,7 @@ unfoldable pub arrival : List (List ℕ) → Option Moment
 arrival (name ∷ month ∷ day ∷ time ∷ words) =
     if is_day_name name
     then moment_value (day_number_of (year_in words) (month_value month) (day_value day)) (clock_value time)
-        (Some (pos 0))
+    (Some (pos 0))
     else None
 arrival words = None
 

@@ -7,7 +7,10 @@ ghost use Rattle.mail_dates.specs.DateFields.{written_date, date_of};
 
 use crate::Moment;
 use crate::parts::{is_at_end, read_colon, read_comma, read_number, read_signed, read_word};
-use crate::values::{date_value, day_value, is_day_name, moment, month_value, time_value, year_value, zone_number_value, zone_word_value};
+use crate::values::{
+    date_value, day_value, is_day_name, moment, month_value, time_value, year_value,
+    zone_number_value, zone_word_value,
+};
 
 // The text after a day's name and its comma, or the whole text where it has no such beginning.
 fn skip_day_name(text: &[u8]) -> Option<&[u8]>

@@ -8,5 +8,5 @@ abbrev pub invariant-loop-b : goal.invariant-loop-b
 invariant-loop-b l = record {
   all : list_all is_ascii_digit (drop l.b-index l.text) ≡ list_all is_ascii_digit l.text;
   value : fold (λ n b. n * 10 + (b - 48)) l.number (drop l.b-index l.text) ≡ decimal l.text;
-  bound : l.number < 10 ^ l.b-index
+  bound : l.number < 10 ^ l.b-index;
 }
