@@ -60,7 +60,7 @@ day_of_month-date d =
     rw (unsigned_abs-after (epoch_day d) (days_from_civil d.year d.month 1) (d.day - 1) (omega (arith, signed_arith))) (omega arith))
 
 -- 1 January of the year 0
-pub first_day_of_year_0 : days_from_civil (pos 0) 1 1 ≡ neg_ℤ (pos 719_528)
+first_day_of_year_0 : days_from_civil (pos 0) 1 1 ≡ neg_ℤ (pos 719_528)
 unfolding days_from_civil day_count days_of_years days_of_months
 first_day_of_year_0 = refl
 
@@ -69,6 +69,17 @@ pub year_from_0 : (d : Date) → neg_ℤ (pos 719_528) ≤ℤ epoch_day d → po
 year_from_0 d h =
     by_lt_z d.year (pos 0)
     (λ lt. absurd (omega (arith, signed_arith, days_from_civil-day_count, day_count-lt_year d.year d.month d.day (pos 0) 1 1 (civil d) (omega arith) lt, first_day_of_year_0)))
+    (λ ge. ge)
+
+-- 1 January of the year 1
+first_day_of_year_1 : days_from_civil (pos 1) 1 1 ≡ neg_ℤ (pos 719_162)
+unfolding days_from_civil day_count days_of_years days_of_months
+first_day_of_year_1 = refl
+
+pub year_from_1 : (d : Date) → neg_ℤ (pos 719_162) ≤ℤ epoch_day d → pos 1 ≤ℤ d.year
+year_from_1 d h =
+    by_lt_z d.year (pos 1)
+    (λ lt. absurd (omega (arith, signed_arith, days_from_civil-day_count, day_count-lt_year d.year d.month d.day (pos 1) 1 1 (civil d) (omega arith) lt, first_day_of_year_1)))
     (λ ge. ge)
 
 -- and a date of such a year isn't before that day

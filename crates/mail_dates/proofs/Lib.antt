@@ -1,4 +1,5 @@
 pub mod CivilDays
 pub mod DateSteps
 pub mod PartLemmas
+pub mod RoundTrip
 pub mod WordLemmas

@@ -1,9 +1,11 @@
 -- The parts at the front of a text.
-use Rattle.std.proofs.Common.{◌≡◌, ◌≢◌, ℕ, suc, ◌+◌, ◌<◌, ◌||◌, Bool, true, false, eqb, List, [], ◌∷◌, length, take, drop, ◌==◌, ◌⊎◌, inl, inr, refl, sym, ◌∙◌, arith, Option, None, Some}
-use Rattle.std.proofs.lemmas.Bool.{cases_Bool, ne_eqb, cases_eq}
+use Rattle.std.proofs.Common.{◌≡◌, ◌≢◌, ℕ, suc, ◌+◌, ◌<◌, ◌||◌, Bool, true, false, eqb, List, [], ◌∷◌, ◌++◌, length, take, drop, ◌==◌, ◌⊎◌, inl, inr, refl, sym, ◌∙◌, arith, Option, None, Some}
+use Rattle.std.proofs.lemmas.Bool.{cases_Bool, ne_eqb, cases_eq, and_parts}
 use Rattle.std.proofs.lemmas.Bool.Decides.{nat_tests}
 use Rattle.std.specs.Char.{is_ascii_digit, is_ascii_alphabetic}
-use Rattle.std.specs.List.{prefix_len}
+use Rattle.std.proofs.Math.Seq.{take-append_seam, drop-append_seam, take-length, drop-length}
+use Rattle.std.proofs.lemmas.List.{append-nil}
+use Rattle.std.specs.List.{prefix_len, list_all}
 use Rattle.mail_dates.specs.Parts.{Outside, Inside, Part, Number, Word, Signed, Comma, Colon, Blank, Other, without_comments, parts_of, without_blanks, digit_before, letter_before, sign_before, single, byte_before, date_parts}
 use Rattle.mail_dates.specs.Reading.{IsAtPart, number_first, word_first, signed_first, comma_first, colon_first}
 
@@ -370,3 +372,32 @@ at_end text [] r at e = (λ t. rw (at.0, date_parts-nil) refl, λ n. e)
 at_end text (b ∷ bs) r at e =
     let not_empty : r ≡ false = e ∙ ne_eqb (length (b ∷ bs)) 0 (λ z. omega arith) in
     (λ t. cc, λ n. elim (is_end (b ∷ bs) at.1) [ inl none ↦ cc | inr some ↦ absurd (some (sym at.0 ∙ n)) ])
+
+-- a list of bytes that all pass a test, at least one of them
+pub record IsRun (test : ℕ → Bool) (bytes : List ℕ) : Type 0 where
+  pub all : list_all test bytes ≡ true
+  pub some : 0 < length bytes
+
+prefix_len-run : (test : ℕ → Bool) (run rest : List ℕ) → list_all test run ≡ true → prefix_len test rest ≡ 0 → prefix_len test (run ++ rest) ≡ length run
+prefix_len-run test [] rest all stops = stops
+prefix_len-run test (b ∷ bs) rest all stops =
+    let both = and_parts (test b) (list_all test bs) all in
+    rw (both.0, prefix_len-run test bs rest both.1 stops) (omega arith)
+
+-- digits are a number where no digit follows them
+pub number_then : (run rest : List ℕ) → IsRun is_ascii_digit run → prefix_len is_ascii_digit rest ≡ 0 → date_parts (run ++ rest) ≡ Number run ∷ date_parts rest
+number_then run rest h stops =
+    let long = prefix_len-run is_ascii_digit run rest h.all stops in
+    date_parts-number (run ++ rest) (let some = h.some in omega arith) ∙ rw (long, take-append_seam run rest, drop-append_seam run rest) refl
+
+-- letters are a word where no letter follows them
+pub word_then : (run rest : List ℕ) → IsRun is_ascii_alphabetic run → prefix_len is_ascii_alphabetic rest ≡ 0 → date_parts (run ++ rest) ≡ Word run ∷ date_parts rest
+word_then run rest h stops =
+    let long = prefix_len-run is_ascii_alphabetic run rest h.all stops in
+    date_parts-word (run ++ rest) (let some = h.some in omega arith) ∙ rw (long, take-append_seam run rest, drop-append_seam run rest) refl
+
+-- digits at the end belong to the sign before them
+pub signed_at_end : (sign : ℕ) (run : List ℕ) → is_sign sign ≡ true → IsRun is_ascii_digit run → date_parts (sign ∷ run) ≡ Signed sign run ∷ []
+signed_at_end sign run is h =
+    let long : prefix_len is_ascii_digit run ≡ length run = rw (append-nil run) at (prefix_len-run is_ascii_digit run [] h.all refl) in
+    date_parts-signed sign run is (let some = h.some in omega arith) ∙ rw (long, take-length run, drop-length run, date_parts-nil) refl

@@ -1,6 +1,7 @@
 pub mod Clock
 pub mod DateFields
 pub mod FromLines
+pub mod Laws
 pub mod Names
 pub mod Parts
 pub mod Printed

@@ -4,6 +4,7 @@
 
 mod date_field;
 mod from_line;
+mod law;
 mod moment;
 mod names;
 mod parts;
@@ -13,6 +14,7 @@ mod zone;
 
 pub use date_field::read_date;
 pub use from_line::{FromLine, read_from_line};
+pub use law::printed_date_reads;
 pub use moment::Moment;
 pub use print::{print_date, print_from_date};
 pub use zone::{Zone, ZoneError, moment_at, utc, zone_of};
