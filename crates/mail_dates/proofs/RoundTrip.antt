@@ -19,7 +19,7 @@ use Rattle.jiff_core.proofs.CalendarLemmas.{weekday_number_bound, days_in_month_
 use Rattle.mail_dates.specs.declared.moment.Moment.{Moment}
 use Rattle.mail_dates.specs.Clock.{IsPrintable, in_whole_minutes, clock_seconds, day_number, second_of_day}
 use Rattle.mail_dates.specs.Laws.{with_whole_minutes, ReadsBack}
-use Rattle.mail_dates.proofs.CivilDays.{day_form, year_from_1}
+use Rattle.mail_dates.proofs.CivilDays.{day_form, year_from_1, date_of_day}
 use Rattle.mail_dates.proofs.PartLemmas.{IsRun, is_sign, number_then, word_then, signed_at_end, date_parts-comma, date_parts-colon, date_parts-space}
 
 name_comma : (run rest : List ℕ) (ps : List Part) → IsRun is_ascii_alphabetic run → date_parts rest ≡ ps → date_parts (run ++ 44 ∷ 32 ∷ rest) ≡ Word run ∷ Comma ∷ ps
@@ -182,7 +182,7 @@ same_moment m day s d t =
 minutes_bound : (offset : ℤ) → IsWithin 86_399 offset → unsigned_abs (int_div offset (pos 60)) < 1440
 minutes_bound offset h = omega (arith, signed_arith, one_part offset)
 
-pub printed_reads : (m : Moment) (d : Date) → IsPrintable m → IsWithin 86_399 m.offset → epoch_day d ≡ day_number (clock_seconds m) → ReadsBack m
+printed_reads : (m : Moment) (d : Date) → IsPrintable m → IsWithin 86_399 m.offset → epoch_day d ≡ day_number (clock_seconds m) → ReadsBack m
 printed_reads m d range within e =
     let s : ℕ = second_of_day (clock_seconds m) in
     let minutes : ℤ = int_div m.offset (pos 60) in
@@ -195,3 +195,8 @@ printed_reads m d range within e =
     ap date_of (sym (day_form (λ weekday day month y. date_form weekday day month y s minutes) d (day_number (clock_seconds m)) e))
     ∙ rw place at form
     ∙ ap Some (same_moment m (epoch_day d) s e refl)
+
+pub printed_reads_back : (m : Moment) → IsPrintable m → IsWithin 86_399 m.offset → ReadsBack m
+printed_reads_back m range within =
+    let date = date_of_day (day_number (clock_seconds m)) (omega (arith, signed_arith), omega (arith, signed_arith)) in
+    printed_reads m date.0 range within date.1

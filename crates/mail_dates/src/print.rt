@@ -85,8 +85,8 @@ fn year_of(date: Date) -> u16
     date.year.unsigned_abs()
 }
 
-/// What a clock at the moment's offset shows, in whole minutes of the offset.
-pub fn shown(m: Moment) -> DateTime
+// What a clock at the moment's offset shows, in whole minutes of the offset.
+fn shown(m: Moment) -> DateTime
     requires { IsPrintable m }
     ensures day { epoch_day result.date ≡ day_number (clock_seconds m) }
     ensures time { time_seconds result.time ≡ second_of_day (clock_seconds m) }

@@ -1,5 +1,5 @@
-use Rattle.mail_dates.proofs.RoundTrip.{printed_reads}
+use Rattle.mail_dates.proofs.RoundTrip.{printed_reads_back}
 use Rattle.mail_dates.proofs.law.printed_date_reads.Goals as goal
 
 pub returns : goal.returns
-returns c = printed_reads c.args.m c.shown-shown.result.date c.requires.range c.requires.day c.shown-shown.ensures.day
+returns c = printed_reads_back c.args.m c.requires.range c.requires.day
