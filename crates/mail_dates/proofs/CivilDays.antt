@@ -120,25 +120,28 @@ first_date = record { year = pos 0; month = 1; day = 1; year_in = search rules; 
 in_month : (d : Date) → d.day < days_in_month d.year d.month → (next : Date) × (epoch_day next ≡ epoch_day d +ℤ pos 1)
 in_month d h =
     let low = d.day_in.0 in
-    let moved = days_from_civil-day d.year d.month d.day (d.day + 1) low (omega arith) in
-    (record { year = d.year; month = d.month; day = d.day + 1; year_in = d.year_in; month_in = d.month_in; day_in = (omega arith, omega arith) },
-    omega (arith, signed_arith))
+    let moved = days_from_civil-day d.year d.month d.day (d.day + 1) low (omega arith) in (
+      record { year = d.year; month = d.month; day = d.day + 1; year_in = d.year_in; month_in = d.month_in; day_in = (omega arith, omega arith) },
+      omega (arith, signed_arith),
+    )
 
 month_end : (d : Date) → d.day ≡ days_in_month d.year d.month → d.month < 12 → (next : Date) × (epoch_day next ≡ epoch_day d +ℤ pos 1)
 month_end d last h =
     let low = d.month_in.0 in
-    let long = days_in_month_bounds d.year (d.month + 1) in
-    (record { year = d.year; month = d.month + 1; day = 1; year_in = d.year_in; month_in = (omega arith, omega arith); day_in = (omega arith, omega arith) },
-    days_from_civil-next_month d.year d.month d.day low last)
+    let long = days_in_month_bounds d.year (d.month + 1) in (
+      record { year = d.year; month = d.month + 1; day = 1; year_in = d.year_in; month_in = (omega arith, omega arith); day_in = (omega arith, omega arith) },
+      days_from_civil-next_month d.year d.month d.day low last,
+    )
 
 year_end : (d : Date) → d.day ≡ days_in_month d.year d.month → d.month ≡ 12 → epoch_day d <ℤ pos 2_932_896 → (next : Date) × (epoch_day next ≡ epoch_day d +ℤ pos 1)
 year_end d last december h =
     let thirty_one : d.day ≡ 31 = rw december at last in
     let here : epoch_day d ≡ days_from_civil d.year 12 31 = rw (december, thirty_one) refl in
     by_lt_z d.year (pos 9999)
-    (λ earlier. let low = d.year_in.0 in
-    (record { year = d.year +ℤ pos 1; month = 1; day = 1; year_in = (omega (arith, signed_arith), omega (arith, signed_arith)); month_in = search rules; day_in = search rules },
-    days_from_civil-next_year d.year (d.year +ℤ pos 1) (omega (arith, signed_arith)) refl ∙ ap (λ day. day +ℤ pos 1) (sym here)))
+    (λ earlier. let low = d.year_in.0 in (
+      record { year = d.year +ℤ pos 1; month = 1; day = 1; year_in = (omega (arith, signed_arith), omega (arith, signed_arith)); month_in = search rules; day_in = search rules },
+      days_from_civil-next_year d.year (d.year +ℤ pos 1) (omega (arith, signed_arith)) refl ∙ ap (λ day. day +ℤ pos 1) (sym here),
+    ))
     (λ late. absurd (let high = d.year_in.1 in
     let year : d.year ≡ pos 9999 = omega (arith, signed_arith) in
     let end : epoch_day d ≡ pos 2_932_896 = here ∙ ap (λ y. days_from_civil y 12 31) year ∙ days_from_civil-max in

@@ -1,8 +1,8 @@
 -- A date read part by part is the date of the grammar.
-use Rattle.std.proofs.Common.{◌≡◌, ℕ, Bool, true, false, cond, List, [], ◌∷◌, Option, None, Some, ℤ, refl, sym}
+use Rattle.std.proofs.Common.{◌≡◌, ℕ, Bool, true, false, cond, List, [], ◌∷◌, Option, None, Some, ℤ, refl}
 use Rattle.std.specs.Prelude.{codes}
 use Rattle.mail_dates.specs.declared.moment.Moment.{Moment}
-use Rattle.mail_dates.specs.Parts.{Part, Number, Word, Signed, Comma, Colon, Blank, Other}
+use Rattle.mail_dates.specs.Parts.{Part, Number, Word, Comma, Colon}
 use Rattle.mail_dates.specs.Values.{◌>>=◌, is_day_name, time_value, moment_of, moment_value}
 use Rattle.mail_dates.specs.DateFields.{written_date, zone_value, time, date, date_time}
 use Rattle.mail_dates.specs.Reading.{after_day_name, calendar_first, clock_end, clock_first, zone_last, colon_first}

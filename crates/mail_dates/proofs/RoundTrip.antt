@@ -2,10 +2,9 @@
 use Rattle.std.proofs.lemmas.Bool.{agree_below_at, and_parts, eqb-true, ltb-true, ne_eqb, lt-ltb, le-ltb, le-leb}
 use Rattle.std.proofs.lemmas.Bool.Decides.{nat_tests}
 use Rattle.std.specs.List.{list_all}
-use Rattle.std.proofs.Common.{◌≡◌, ◌==◌, ◌&&◌, nat_lt, nat_le, false, ℤ, pos, negsuc, neg_ℤ, ◌*ℤ◌, ◌≤ℤ◌, int_div, int_lt, unsigned_abs, Option, None, ℕ, zero, suc, ◌+◌, ◌-◌, ◌*◌, ◌/◌, ◌%◌, ◌<◌, ◌≤◌, ◌++◌, Bool, true, List, [], ◌∷◌, length, refl, sym, ap, subst, ◌∙◌, arith, append_assoc, Some}
+use Rattle.std.proofs.Common.{◌≡◌, ◌==◌, ◌&&◌, nat_lt, nat_le, false, ℤ, pos, negsuc, neg_ℤ, ◌*ℤ◌, ◌≤ℤ◌, int_div, int_lt, unsigned_abs, Option, None, ℕ, suc, ◌+◌, ◌-◌, ◌*◌, ◌/◌, ◌%◌, ◌<◌, ◌≤◌, ◌++◌, Bool, true, List, [], ◌∷◌, length, refl, sym, ap, subst, ◌∙◌, arith, append_assoc, Some}
 use Rattle.std.specs.Prelude.{codes, if◌then◌else◌}
 use Rattle.std.specs.Char.{is_ascii_digit, is_ascii_alphabetic}
-use Rattle.std.specs.List.{prefix_len}
 use Rattle.mail_dates.specs.Parts.{Part, Number, Word, Signed, Comma, Colon, date_parts}
 use Rattle.mail_dates.specs.DateFields.{time, date, date_time, date_of}
 use Rattle.mail_dates.specs.Printed.{two, four, zone_text, calendar_form, date_form}
@@ -191,7 +190,7 @@ printed_reads m d range within e =
     let place : d.month - 1 + 1 ≡ d.month = (let low = d.month_in.0 in omega arith) in
     let exists : date_value (unsigned_abs d.year) (d.month - 1 + 1) d.day ≡ Some (epoch_day d) = rw place (date_exists d (unsigned_abs d.year) year.0) in
     let form = form_reads (weekday_of d) d.day (d.month - 1) (unsigned_abs d.year) s minutes (epoch_day d) (weekday_number_bound (epoch_day d))
-        (let last = d.day_in.1 in let bound = days_in_month_bounds d.year d.month in omega arith) (let high = d.month_in.1 in omega arith) year.1 year.2 (omega (arith, signed_arith)) (minutes_bound m.offset within) exists in
+    (let last = d.day_in.1 in let bound = days_in_month_bounds d.year d.month in omega arith) (let high = d.month_in.1 in omega arith) year.1 year.2 (omega (arith, signed_arith)) (minutes_bound m.offset within) exists in
     ap date_of (sym (day_form (λ weekday day month y. date_form weekday day month y s minutes) d (day_number (clock_seconds m)) e))
     ∙ rw place at form
     ∙ ap Some (same_moment m (epoch_day d) s e refl)

@@ -1,11 +1,11 @@
 -- Words between blanks, and what stands between colons.
-use Rattle.std.proofs.Common.{◌≡◌, ◌==◌, ℕ, suc, ◌+◌, ◌<◌, Bool, true, false, not, cond, ltb, List, [], ◌∷◌, length, take, drop, inl, inr, refl, sym, ap, ◌∙◌, arith, Option, None, Some}
+use Rattle.std.proofs.Common.{◌≡◌, ◌==◌, ℕ, suc, ◌+◌, ◌<◌, not, List, [], ◌∷◌, length, take, drop, inl, inr, refl, sym, ap, ◌∙◌, arith, None, Some}
 use Rattle.std.proofs.lemmas.Bool.{cases_Bool, cases_lt, lt-ltb, le-ltb}
 use Rattle.std.proofs.lemmas.List.Sums.{prefix_len-le-length}
 use Rattle.std.proofs.lemmas.List.Splits.{slice_split_first, slice_split-cons_yes, slice_split-cons_no, length-slice_split}
 use Rattle.std.proofs.lemmas.Iterator.Adapters.{position_from-zero}
-use Rattle.std.specs.List.{prefix_len, position_from, position_or_len, before_first, after_first, slice_split, onto_first, filter}
-use Rattle.mail_dates.specs.FromLines.{is_blank, is_no_gap, words_of, clock_of}
+use Rattle.std.specs.List.{prefix_len, position_from, position_or_len, slice_split, onto_first}
+use Rattle.mail_dates.specs.FromLines.{is_blank, words_of, clock_of}
 
 one_more : (n : ℕ) → 1 + n ≡ suc n
 one_more n = omega arith

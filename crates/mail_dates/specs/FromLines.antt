@@ -9,13 +9,13 @@ use Rattle.mail_dates.specs.Values.{◌>>=◌, digits, day_value, month_value, i
 abbrev pub is_blank : ℕ → Bool
 is_blank b = (b == 32) || (b == 9)
 
-abbrev pub is_no_gap : List ℕ → Bool
-is_no_gap [] = false
-is_no_gap (b ∷ bs) = true
+abbrev pub is_not_empty : List ℕ → Bool
+is_not_empty [] = false
+is_not_empty (b ∷ bs) = true
 
 -- the words of a line, with blanks between them
 unfoldable pub words_of : List ℕ → List (List ℕ)
-words_of line = filter is_no_gap (slice_split is_blank line)
+words_of line = filter is_not_empty (slice_split is_blank line)
 
 -- `hh:mm` or `hh:mm:ss`, by the parts between the colons
 abbrev pub clock_of : List (List ℕ) → Option ℕ
@@ -33,7 +33,7 @@ is_zone_number (b ∷ bs) = ((b == 43) || (b == 45)) && is_some (digits 4 bs)
 
 -- a zone: a word of letters, or a sign and four digits
 abbrev pub is_zone : List ℕ → Bool
-is_zone word = (is_no_gap word && list_all is_ascii_alphabetic word) || is_zone_number word
+is_zone word = (is_not_empty word && list_all is_ascii_alphabetic word) || is_zone_number word
 
 -- a year of four digits
 abbrev pub year_first : List (List ℕ) → Option ℕ

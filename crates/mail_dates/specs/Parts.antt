@@ -1,6 +1,6 @@
 -- The parts of a date's text. Blanks and comments may stand around each part: RFC 5322, sections 3.2.2
 -- and 4.3.
-use Rattle.std.specs.Prelude.{ℕ, zero, suc, Bool, ◌||◌, ◌==◌, if◌then◌else◌, List, [], ◌∷◌}
+use Rattle.std.specs.Prelude.{ℕ, zero, suc, ◌||◌, ◌==◌, if◌then◌else◌, List, [], ◌∷◌}
 use Rattle.std.specs.Char.{is_ascii_digit, is_ascii_alphabetic}
 
 -- where a byte of the text stands: outside comments, or in a comment that stands in so many others, there

@@ -10,5 +10,4 @@ pub fn printed_date_reads(m: Moment)
     requires range { IsPrintable m }
     requires day { IsWithin 86_399 m.offset }
     ensures { ReadsBack m }
-{
-}
+{}

@@ -1,5 +1,4 @@
-use Rattle.std.proofs.Common.{sym, ◌∙◌, ap, arith}
-use Rattle.mail_dates.specs.Reading.{number_first}
+use Rattle.std.proofs.Common.{sym, arith}
 use Rattle.mail_dates.proofs.PartLemmas.{number_read, no_number}
 use Rattle.mail_dates.proofs.parts.read_number.Goals as goal
 

@@ -1,5 +1,4 @@
-use Rattle.std.proofs.Common.{sym, ◌∙◌, ap, arith}
-use Rattle.mail_dates.specs.Reading.{word_first}
+use Rattle.std.proofs.Common.{sym, arith}
 use Rattle.mail_dates.proofs.PartLemmas.{word_read, no_word}
 use Rattle.mail_dates.proofs.parts.read_word.Goals as goal
 
