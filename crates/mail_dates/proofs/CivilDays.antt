@@ -14,6 +14,7 @@ use Rattle.jiff_core.specs.declared.civil.datetime.DateTime.{DateTime}
 use Rattle.jiff_core.specs.DateTime.{civil_nanos}
 use Rattle.jiff_core.specs.Time.{time_seconds}
 use Rattle.jiff_core.proofs.DateTimeLemmas.{civil_nanos-parts}
+use Rattle.mail_dates.specs.Laws.{HasDate}
 use Rattle.mail_dates.specs.Clock.{month_within, month_of_day, day_of_month, day_number, second_of_day, IsDayInYears}
 
 le_test : (a b : ℤ) → a ≤ℤ b → int_le a b ≡ true
@@ -177,3 +178,9 @@ date_of_day day h =
     let is : pos n ≡ day +ℤ pos 719_528 = nonnegative (day +ℤ pos 719_528) (omega (arith, signed_arith)) in
     let found = days_on n (omega (arith, signed_arith)) in
     (found.0, (let e = found.1 in omega (arith, signed_arith)))
+
+pub day_has_date : (day : ℤ) → IsDayInYears day → HasDate day
+day_has_date day h =
+    let found = date_of_day day h in
+    let P : ℤ → Type 0 = HasDate in
+    subst P found.1 (rw (day_of_month-date found.0, month_of_day-date found.0, year_of_day-date found.0) (civil found.0, refl))

@@ -1,3 +1,4 @@
+pub mod ArrivalRoundTrip
 pub mod CivilDays
 pub mod DateSteps
 pub mod PartLemmas

@@ -378,7 +378,7 @@ pub record IsRun (test : ℕ → Bool) (bytes : List ℕ) : Type 0 where
   pub all : list_all test bytes ≡ true
   pub some : 0 < length bytes
 
-prefix_len-run : (test : ℕ → Bool) (run rest : List ℕ) → list_all test run ≡ true → prefix_len test rest ≡ 0 → prefix_len test (run ++ rest) ≡ length run
+pub prefix_len-run : (test : ℕ → Bool) (run rest : List ℕ) → list_all test run ≡ true → prefix_len test rest ≡ 0 → prefix_len test (run ++ rest) ≡ length run
 prefix_len-run test [] rest all stops = stops
 prefix_len-run test (b ∷ bs) rest all stops =
     let both = and_parts (test b) (list_all test bs) all in

@@ -46,16 +46,16 @@ parts_of_form name day month year hour minute second zone sign n d m y h mi s is
     (name_comma name _ _ n (number_space day _ _ d (word_space month _ _ m (number_space year _ _ y (number_colon hour _ _ h (number_colon minute _ _ mi (number_space second _ _ s (signed_at_end sign zone is z))))))))
 
 -- each name of a day is a word, and reads as one
-day_is_word : (weekday : ℕ) → weekday < 7 → list_all is_ascii_alphabetic (day_name weekday) && nat_lt 0 (length (day_name weekday)) ≡ true
+pub day_is_word : (weekday : ℕ) → weekday < 7 → list_all is_ascii_alphabetic (day_name weekday) && nat_lt 0 (length (day_name weekday)) ≡ true
 unfolding day_name
 day_is_word weekday h = agree_below_at (λ w. list_all is_ascii_alphabetic (day_name w) && nat_lt 0 (length (day_name w))) (λ _. true) 7 weekday refl h
 
-day_reads : (weekday : ℕ) → weekday < 7 → is_day_name (day_name weekday) ≡ true
+pub day_reads : (weekday : ℕ) → weekday < 7 → is_day_name (day_name weekday) ≡ true
 unfolding day_name is_day_name
 day_reads weekday h = agree_below_at (λ w. is_day_name (day_name w)) (λ _. true) 7 weekday refl h
 
 -- each name of a month is a word, and reads as its number
-month_is_word : (place : ℕ) → place < 12 → list_all is_ascii_alphabetic (month_name (place + 1)) && nat_lt 0 (length (month_name (place + 1))) ≡ true
+pub month_is_word : (place : ℕ) → place < 12 → list_all is_ascii_alphabetic (month_name (place + 1)) && nat_lt 0 (length (month_name (place + 1))) ≡ true
 unfolding month_name
 month_is_word place h = agree_below_at (λ k. list_all is_ascii_alphabetic (month_name (k + 1)) && nat_lt 0 (length (month_name (k + 1)))) (λ _. true) 12 place refl h
 
@@ -67,12 +67,12 @@ number_is : (n : ℕ) (o : Option ℕ) → is_number_of n o ≡ true → o ≡ S
 number_is n None h = cc
 number_is n (Some m) h = ap Some (eqb-true m n h)
 
-month_reads : (place : ℕ) → place < 12 → month_value (month_name (place + 1)) ≡ Some (place + 1)
+pub month_reads : (place : ℕ) → place < 12 → month_value (month_name (place + 1)) ≡ Some (place + 1)
 unfolding month_name month_value
 month_reads place h =
     number_is (place + 1) (month_value (month_name (place + 1))) (agree_below_at (λ k. is_number_of (k + 1) (month_value (month_name (k + 1)))) (λ _. true) 12 place refl h)
 
-run_from_test : (test : ℕ → Bool) (bytes : List ℕ) → list_all test bytes && nat_lt 0 (length bytes) ≡ true → IsRun test bytes
+pub run_from_test : (test : ℕ → Bool) (bytes : List ℕ) → list_all test bytes && nat_lt 0 (length bytes) ≡ true → IsRun test bytes
 run_from_test test bytes h =
     let both = and_parts (list_all test bytes) (nat_lt 0 (length bytes)) h in
     record { all = both.0; some = ltb-true 0 (length bytes) both.1 }
@@ -85,29 +85,29 @@ two_reads : (n : ℕ) → n < 100 → digits 2 (two n) ≡ Some n
 unfolding digits
 two_reads n h = rw (digits_of_two n h) (ap Some (omega arith))
 
-run_of_two : (n : ℕ) → n < 100 → IsRun is_ascii_digit (two n)
+pub run_of_two : (n : ℕ) → n < 100 → IsRun is_ascii_digit (two n)
 run_of_two n h = record { all = digits_of_two n h; some = omega arith }
 
 -- and four digits one below 10,000
 digits_of_four : (n : ℕ) → n < 10000 → list_all is_ascii_digit (four n) ≡ true
 digits_of_four n h = grind (arith, nat_tests)
 
-four_reads : (n : ℕ) → n < 10000 → digits 4 (four n) ≡ Some n
+pub four_reads : (n : ℕ) → n < 10000 → digits 4 (four n) ≡ Some n
 unfolding digits
 four_reads n h = rw (digits_of_four n h) (ap Some (omega arith))
 
-run_of_four : (n : ℕ) → n < 10000 → IsRun is_ascii_digit (four n)
+pub run_of_four : (n : ℕ) → n < 10000 → IsRun is_ascii_digit (four n)
 run_of_four n h = record { all = digits_of_four n h; some = omega arith }
 
 year_reads : (n : ℕ) → 0 < n → n < 10000 → year_value (four n) ≡ Some n
 unfolding year_value
 year_reads n some h = rw (four_reads n h, ne_eqb n 0 (λ e. omega arith)) refl
 
-day_of_month_reads : (n : ℕ) → n < 100 → day_value (two n) ≡ Some n
+pub day_of_month_reads : (n : ℕ) → n < 100 → day_value (two n) ≡ Some n
 unfolding day_value
 day_of_month_reads n h = two_reads n h
 
-time_reads : (s : ℕ) → s < 86400 → time_value (two (s / 3600)) (two (s / 60 % 60)) (two (s % 60)) ≡ Some s
+pub time_reads : (s : ℕ) → s < 86400 → time_value (two (s / 3600)) (two (s / 60 % 60)) (two (s % 60)) ≡ Some s
 unfolding time_value
 time_reads s h =
     let is_time : nat_lt (s / 3600) 24 && nat_lt (s / 60 % 60) 60 && nat_le (s % 60) 60 ≡ true = grind (arith, nat_tests) in
@@ -161,12 +161,12 @@ form_reads weekday day place year s minutes number w d p some y t z exists =
     (run_of_pair (unsigned_abs minutes / 60) (unsigned_abs minutes % 60) (omega arith) (omega arith)))
     (rw (day_reads weekday w, year_reads year some y, month_reads place p, day_of_month_reads day d, exists, time_reads s t, zone_reads minutes z) refl)
 
-year_number : (y : ℤ) → pos 1 ≤ℤ y → y ≤ℤ pos 9999 → (pos (unsigned_abs y) ≡ y) × (0 < unsigned_abs y) × (unsigned_abs y < 10000)
+pub year_number : (y : ℤ) → pos 1 ≤ℤ y → y ≤ℤ pos 9999 → (pos (unsigned_abs y) ≡ y) × (0 < unsigned_abs y) × (unsigned_abs y < 10000)
 year_number (pos n) low high = (refl, omega (arith, signed_arith), omega (arith, signed_arith))
 year_number (negsuc n) low high = absurd (omega (arith, signed_arith))
 
 -- the calendar has the dates that the library has
-date_exists : (d : Date) (year : ℕ) → pos year ≡ d.year → date_value year d.month d.day ≡ Some (epoch_day d)
+pub date_exists : (d : Date) (year : ℕ) → pos year ≡ d.year → date_value year d.month d.day ≡ Some (epoch_day d)
 unfolding date_value
 date_exists d year e =
     let in_month : ℤ → Type 0 = λ y. d.day ≤ days_in_month y d.month in

@@ -57,7 +57,7 @@ cut (b ∷ bs) =
     ]
 
 -- a word at the front is the first word
-words_of-word : (text : List ℕ) → 0 < in_word text → words_of text ≡ take (in_word text) text ∷ words_of (drop (in_word text) text)
+pub words_of-word : (text : List ℕ) → 0 < in_word text → words_of text ≡ take (in_word text) text ∷ words_of (drop (in_word text) text)
 unfolding words_of
 words_of-word [] h = absurd (omega arith)
 words_of-word (b ∷ bs) h =
