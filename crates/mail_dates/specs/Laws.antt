@@ -1,0 +1,38 @@
+-- Laws about the definitions of this crate.
+use Rattle.std.specs.Prelude.{◌≡◌, ◌<◌, ℕ, not, true, List, length, ◌++◌, codes, Some, ℤ, pos}
+use Rattle.std.specs.List.{list_all}
+use Rattle.jiff_core.specs.Calendar.{days_from_civil, IsCivilDate}
+use Rattle.jiff_tz.specs.Year.{year_of_day}
+use Rattle.mail_dates.specs.declared.moment.Moment.{Moment}
+use Rattle.mail_dates.specs.Clock.{in_whole_minutes, clock_seconds, month_of_day, day_of_month}
+use Rattle.mail_dates.specs.Printed.{date_text, from_date_text}
+use Rattle.mail_dates.specs.DateFields.{date_of}
+use Rattle.mail_dates.specs.FromLines.{is_blank, sender_of, arrival_of}
+
+-- the moment with its offset in whole minutes
+abbrev pub with_whole_minutes : Moment → Moment
+with_whole_minutes m = record { seconds = m.seconds; offset = in_whole_minutes m.offset }
+
+-- the printed date of the moment reads as the moment, in whole minutes of its offset
+abbrev pub ReadsBack : Moment → Type 0
+ReadsBack m = date_of (date_text m) ≡ Some (with_whole_minutes m)
+
+-- the calendar has the year, month and day of a day number, and they have that day number
+abbrev pub HasDate : ℤ → Type 0
+HasDate day =
+    IsCivilDate (year_of_day day) (month_of_day day) (day_of_month day)
+    × (days_from_civil (year_of_day day) (month_of_day day) (day_of_month day) ≡ day)
+
+-- bytes without a blank, at least one
+abbrev pub IsWord : List ℕ → Type 0
+IsWord word = (0 < length word) × (list_all (λ b. not (is_blank b)) word ≡ true)
+
+-- what a clock at the moment's offset shows, taken as UTC
+abbrev pub as_shown : Moment → Moment
+as_shown m = record { seconds = clock_seconds m; offset = pos 0 }
+
+-- a From line with the sender and the printed date of the moment reads as the sender and what the clock shows
+abbrev pub ArrivalReadsBack : List ℕ → Moment → Type 0
+ArrivalReadsBack sender m =
+    let line : List ℕ = sender ++ codes " " ++ from_date_text m in
+    (sender_of line ≡ sender) × (arrival_of line ≡ Some (as_shown m))

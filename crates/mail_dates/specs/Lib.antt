@@ -1,0 +1,10 @@
+pub mod Clock
+pub mod DateFields
+pub mod FromLines
+pub mod Laws
+pub mod Names
+pub mod Parts
+pub mod Printed
+pub mod Reading
+pub mod Values
+pub mod Zones

@@ -1,0 +1,23 @@
+//! Moments of messages: dates of header fields and of From lines, read and printed, and zones by POSIX
+//! rules.
+#![tactic(auto)]
+
+mod date_field;
+mod from_line;
+mod law;
+mod moment;
+mod names;
+mod parts;
+mod print;
+mod values;
+mod zone;
+
+pub use date_field::read_date;
+pub use from_line::{FromLine, read_from_line};
+pub use law::{day_has_date, printed_date_reads, printed_from_date_reads};
+pub use moment::Moment;
+pub use print::{print_date, print_from_date};
+pub use zone::{Zone, ZoneError, moment_at, utc, zone_of};
+
+#[cfg(test)]
+mod tests;
