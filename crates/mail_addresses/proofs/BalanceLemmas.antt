@@ -6,9 +6,10 @@ use Rattle.std.proofs.lemmas.List.{append-nil}
 use Rattle.std.proofs.lemmas.List.Sums.{sum_by-append, sum_by-cons}
 use Rattle.mail_addresses.specs.declared.pieces.Place.{Place}
 use Rattle.mail_addresses.specs.declared.pieces.Place.TheVariants.{Outside, Brackets, Group, GroupBrackets}
-use Rattle.mail_addresses.specs.Lexical.{CommentContent, QuotedContent, Lexeme, blanks, comment, atom, quoted, literal, mark, unclosed, texts, IsToken, StandBefore, AreTokens}
+use Rattle.mail_addresses.specs.Lexical.{IsCommentContent, IsQuotedContent, Lexeme, blanks, comment, atom, quoted, literal, mark, unclosed, texts, IsToken, StandBefore, AreTokens}
 use Rattle.mail_addresses.specs.Forms.{is_mark}
 use Rattle.mail_addresses.specs.Listing.{place_after, is_cut, in_first, pieces_from, joined}
+use Rattle.mail_addresses.proofs.PieceLemmas.{IsFull, full, cut_is_comma}
 use Rattle.mail_addresses.specs.Balance.{bare, count_of, IsBalanced, HasNoQuote}
 
 bare-byte : (b : ℕ) (bs : List ℕ) → b ≢ 92 → bare false (b ∷ bs) ≡ b ∷ bare false bs
@@ -16,13 +17,13 @@ unfolding bare
 bare-byte b bs h = cond-false _ _ _ (ne_eqb b 92 h)
 
 -- a comment's content ends after no backslash
-comment-bare : {inside : List ℕ} → CommentContent inside → (rest : List ℕ) → bare false (inside ++ rest) ≡ bare false inside ++ bare false rest
+comment-bare : {inside : List ℕ} → IsCommentContent inside → (rest : List ℕ) → bare false (inside ++ rest) ≡ bare false inside ++ bare false rest
 unfolding bare
-comment-bare CommentContent.none rest = refl
-comment-bare (CommentContent.byte {b} {bs} o p n more) rest =
+comment-bare IsCommentContent.none rest = refl
+comment-bare (IsCommentContent.byte {b} {bs} o p n more) rest =
     bare-byte b (bs ++ rest) n ∙ ap (λ (xs : List ℕ). b ∷ xs) (comment-bare more rest) ∙ ap (λ (xs : List ℕ). xs ++ bare false rest) (sym (bare-byte b bs n))
-comment-bare (CommentContent.pair {b} {bs} more) rest = comment-bare more rest
-comment-bare (CommentContent.inner {inside} {bs} first more) rest =
+comment-bare (IsCommentContent.pair {b} {bs} more) rest = comment-bare more rest
+comment-bare (IsCommentContent.inner {inside} {bs} first more) rest =
     ap (λ (xs : List ℕ). 40 ∷ bare false xs) (append_assoc inside (41 ∷ bs) rest)
     ∙ ap (λ (xs : List ℕ). 40 ∷ xs) (comment-bare first (41 ∷ (bs ++ rest)) ∙ ap (λ (xs : List ℕ). bare false inside ++ 41 ∷ xs) (comment-bare more rest)
     ∙ sym (append_assoc (bare false inside) (41 ∷ bare false bs) (bare false rest)))
@@ -44,7 +45,7 @@ record Counts (inside bs : List ℕ) : Type 0 where
   opens : count_of 40 (40 ∷ (inside ++ 41 ∷ bs)) ≡ 1 + count_of 40 inside + count_of 40 bs
   closes : count_of 41 (40 ∷ (inside ++ 41 ∷ bs)) ≡ count_of 41 inside + 1 + count_of 41 bs
 
-counts : (inside bs : List ℕ) → CommentContent inside → Counts inside bs
+counts : (inside bs : List ℕ) → IsCommentContent inside → Counts inside bs
 unfolding bare
 counts inside bs first =
     let bare_is : bare false (inside ++ 41 ∷ bs) ≡ bare false inside ++ 41 ∷ bare false bs = comment-bare first (41 ∷ bs) in
@@ -52,12 +53,12 @@ counts inside bs first =
     count-cons k 40 (bare false (inside ++ 41 ∷ bs)) ∙ ap (λ n. cond (40 == k) 1 0 + n) (ap (count_by (λ b. b == k)) bare_is ∙ count-append k (bare false inside) (41 ∷ bare false bs) ∙ ap (λ n. count_of k inside + n) (count-cons k 41 (bare false bs))) in
     record { opens = count 40 ∙ omega arith; closes = count 41 ∙ omega arith }
 
-even : {text : List ℕ} → CommentContent text → count_of 40 text ≡ count_of 41 text
+even : {text : List ℕ} → IsCommentContent text → count_of 40 text ≡ count_of 41 text
 unfolding bare
-even CommentContent.none = refl
-even (CommentContent.byte {b} {bs} o p n more) = count-other 40 b bs n o ∙ even more ∙ sym (count-other 41 b bs n p)
-even (CommentContent.pair {b} {bs} more) = even more
-even (CommentContent.inner {inside} {bs} first more) = let k = counts inside bs first in omega (arith, k.opens, k.closes, even first, even more)
+even IsCommentContent.none = refl
+even (IsCommentContent.byte {b} {bs} o p n more) = count-other 40 b bs n o ∙ even more ∙ sym (count-other 41 b bs n p)
+even (IsCommentContent.pair {b} {bs} more) = even more
+even (IsCommentContent.inner {inside} {bs} first more) = let k = counts inside bs first in omega (arith, k.opens, k.closes, even first, even more)
 
 abbrev Opened : List ℕ → Type 0
 Opened text = (front back : List ℕ) → text ≡ front ++ back → count_of 41 front ≤ count_of 40 front
@@ -83,7 +84,7 @@ cuts (x ∷ front) back (y ∷ inside) rest e =
       | inr a ↦ inr record { left = a.left; is = ap (λ (z : ℕ). z ∷ front) (sym head) ∙ ap (λ (xs : List ℕ). y ∷ xs) a.is; others = a.others }
     ]
 
-opened_inner : (inside bs : List ℕ) → CommentContent inside → Opened inside → Opened bs → Opened (40 ∷ (inside ++ 41 ∷ bs))
+opened_inner : (inside bs : List ℕ) → IsCommentContent inside → Opened inside → Opened bs → Opened (40 ∷ (inside ++ 41 ∷ bs))
 unfolding bare
 opened_inner inside bs first in_inside in_bs [] back e = omega arith
 opened_inner inside bs first in_inside in_bs (x ∷ front) back e =
@@ -106,41 +107,41 @@ opened_inner inside bs first in_inside in_bs (x ∷ front) back e =
         let h = in_bs left back tail in
         subst (λ (xs : List ℕ). count_of 41 (40 ∷ xs) ≤ count_of 40 (40 ∷ xs)) (sym (e ∙ ap (λ (z : ℕ). inside ++ z ∷ left) head)) (omega (arith, k.opens, k.closes, even first, h))
 
-opened : {text : List ℕ} → CommentContent text → Opened text
+opened : {text : List ℕ} → IsCommentContent text → Opened text
 unfolding bare
-opened CommentContent.none [] back e = omega arith
-opened CommentContent.none (x ∷ front) back e = absurd (cc)
-opened (CommentContent.byte {b} {bs} o p n more) [] back e = omega arith
-opened (CommentContent.byte {b} {bs} o p n more) (x ∷ front) back e =
+opened IsCommentContent.none [] back e = omega arith
+opened IsCommentContent.none (x ∷ front) back e = absurd (cc)
+opened (IsCommentContent.byte {b} {bs} o p n more) [] back e = omega arith
+opened (IsCommentContent.byte {b} {bs} o p n more) (x ∷ front) back e =
     let head : b ≡ x = cc in
     let tail : bs ≡ front ++ back = cc in
     subst (λ (z : ℕ). count_of 41 (z ∷ front) ≤ count_of 40 (z ∷ front)) head (omega (arith, opened more front back tail, count-other 41 b front n p, count-other 40 b front n o))
-opened (CommentContent.pair {b} {bs} more) [] back e = omega arith
-opened (CommentContent.pair {b} {bs} more) (x ∷ []) back e = let head : 92 ≡ x = cc in subst (λ (z : ℕ). count_of 41 (z ∷ []) ≤ count_of 40 (z ∷ [])) head (omega arith)
-opened (CommentContent.pair {b} {bs} more) (x ∷ y ∷ front) back e =
+opened (IsCommentContent.pair {b} {bs} more) [] back e = omega arith
+opened (IsCommentContent.pair {b} {bs} more) (x ∷ []) back e = let head : 92 ≡ x = cc in subst (λ (z : ℕ). count_of 41 (z ∷ []) ≤ count_of 40 (z ∷ [])) head (omega arith)
+opened (IsCommentContent.pair {b} {bs} more) (x ∷ y ∷ front) back e =
     let head : 92 ≡ x = cc in
     let tail : bs ≡ front ++ back = cc in
     subst (λ (z : ℕ). count_of 41 (z ∷ y ∷ front) ≤ count_of 40 (z ∷ y ∷ front)) head (opened more front back tail)
-opened (CommentContent.inner {inside} {bs} first more) front back e = opened_inner inside bs first (opened first) (opened more) front back e
+opened (IsCommentContent.inner {inside} {bs} first more) front back e = opened_inner inside bs first (opened first) (opened more) front back e
 
-pub comment_balanced : (inside : List ℕ) → CommentContent inside → IsBalanced inside
+pub comment_balanced : (inside : List ℕ) → IsCommentContent inside → IsBalanced inside
 unfolding bare
 comment_balanced inside is = record { even = even is; opened = opened is; ends = comment-bare is (41 ∷ []) }
 
-quoted-bare : {inside : List ℕ} → QuotedContent inside → (rest : List ℕ) → bare false (inside ++ rest) ≡ bare false inside ++ bare false rest
+quoted-bare : {inside : List ℕ} → IsQuotedContent inside → (rest : List ℕ) → bare false (inside ++ rest) ≡ bare false inside ++ bare false rest
 unfolding bare
-quoted-bare QuotedContent.none rest = refl
-quoted-bare (QuotedContent.byte {b} {bs} p n more) rest =
+quoted-bare IsQuotedContent.none rest = refl
+quoted-bare (IsQuotedContent.byte {b} {bs} p n more) rest =
     bare-byte b (bs ++ rest) n ∙ ap (λ (xs : List ℕ). b ∷ xs) (quoted-bare more rest) ∙ ap (λ (xs : List ℕ). xs ++ bare false rest) (sym (bare-byte b bs n))
-quoted-bare (QuotedContent.pair {b} {bs} more) rest = quoted-bare more rest
+quoted-bare (IsQuotedContent.pair {b} {bs} more) rest = quoted-bare more rest
 
-no_quote : {inside : List ℕ} → QuotedContent inside → list_any (λ b. b == 34) (bare false inside) ≡ false
+no_quote : {inside : List ℕ} → IsQuotedContent inside → list_any (λ b. b == 34) (bare false inside) ≡ false
 unfolding bare
-no_quote QuotedContent.none = refl
-no_quote (QuotedContent.byte {b} {bs} p n more) = ap (list_any (λ b. b == 34)) (bare-byte b bs n) ∙ or_from _ _ (ne_eqb b 34 p) (no_quote more)
-no_quote (QuotedContent.pair {b} {bs} more) = no_quote more
+no_quote IsQuotedContent.none = refl
+no_quote (IsQuotedContent.byte {b} {bs} p n more) = ap (list_any (λ b. b == 34)) (bare-byte b bs n) ∙ or_from _ _ (ne_eqb b 34 p) (no_quote more)
+no_quote (IsQuotedContent.pair {b} {bs} more) = no_quote more
 
-pub quoted_has_no_quote : (inside : List ℕ) → QuotedContent inside → HasNoQuote inside
+pub quoted_has_no_quote : (inside : List ℕ) → IsQuotedContent inside → HasNoQuote inside
 unfolding bare
 quoted_has_no_quote inside is = record { none = no_quote is; ends = quoted-bare is (34 ∷ []) }
 
@@ -152,21 +153,6 @@ stands_at (u ∷ front) t back rest h = stands_at front t back rest h.1
 pub stands : (value : List ℕ) (ts front back : List Lexeme) (t : Lexeme) → AreTokens value ts → ts ≡ front ++ t ∷ back → IsToken t (texts back ++ [])
 stands value ts front back t are e = stands_at front t back [] (subst (λ (us : List Lexeme). StandBefore us []) e are.stand)
 
--- some piece is there
-record IsFull (list : List (List Lexeme)) : Type 0 where
-  first : List Lexeme
-  others : List (List Lexeme)
-  whole : list ≡ first ∷ others
-
-full : (place : Place) (ts : List Lexeme) → IsFull (pieces_from place ts)
-unfolding pieces_from
-full place [] = record { first = []; others = []; whole = refl }
-full place (t ∷ ts) =
-    elim (cases_Bool (is_cut place t)) [
-      | inl e ↦ record { first = []; others = pieces_from Outside ts; whole = cond-true _ _ _ e }
-      | inr e ↦ let later = full (place_after place t) ts in record { first = t ∷ later.first; others = later.others; whole = cond-false _ _ _ e ∙ ap (in_first t) later.whole }
-    ]
-
 mark_is : (k : ℕ) (t : Lexeme) → is_mark k t ≡ true → t ≡ mark k
 mark_is k (mark b) h = ap (λ n. mark n) (eqb-true b k h)
 mark_is k (blanks run) h = absurd (false≢true h)
@@ -175,12 +161,6 @@ mark_is k (atom run) h = absurd (false≢true h)
 mark_is k (quoted inside) h = absurd (false≢true h)
 mark_is k (literal inside) h = absurd (false≢true h)
 mark_is k (unclosed text) h = absurd (false≢true h)
-
-cut_is_comma : (place : Place) (t : Lexeme) → is_cut place t ≡ true → t ≡ mark 44
-cut_is_comma Outside t h = mark_is 44 t h
-cut_is_comma Brackets t h = absurd (false≢true h)
-cut_is_comma Group t h = absurd (false≢true h)
-cut_is_comma GroupBrackets t h = absurd (false≢true h)
 
 joined-in_first : (t : Lexeme) (list : List (List Lexeme)) → joined (in_first t list) ≡ t ∷ joined list
 joined-in_first t [] = refl
@@ -195,6 +175,6 @@ unfolding pieces_from
 pieces_joined place [] = refl
 pieces_joined place (t ∷ ts) =
     elim (cases_Bool (is_cut place t)) [
-      | inl e ↦ ap joined (cond-true _ _ _ e) ∙ joined-cut (pieces_from Outside ts) (full Outside ts) ∙ ap (λ (u : Lexeme). u ∷ joined (pieces_from Outside ts)) (sym (cut_is_comma place t e)) ∙ ap (λ (us : List Lexeme). t ∷ us) (pieces_joined Outside ts)
+      | inl e ↦ ap joined (cond-true _ _ _ e) ∙ joined-cut (pieces_from Outside ts) (full Outside ts) ∙ ap (λ (u : Lexeme). u ∷ joined (pieces_from Outside ts)) (sym (mark_is 44 t (cut_is_comma place t e))) ∙ ap (λ (us : List Lexeme). t ∷ us) (pieces_joined Outside ts)
       | inr e ↦ ap joined (cond-false _ _ _ e) ∙ joined-in_first t (pieces_from (place_after place t) ts) ∙ ap (λ (us : List Lexeme). t ∷ us) (pieces_joined (place_after place t) ts)
     ]

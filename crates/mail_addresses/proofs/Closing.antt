@@ -2,8 +2,8 @@
 use Rattle.std.proofs.Common.{◌≡◌, ◌≢◌, ℕ, zero, suc, ◌+◌, ◌-◌, ◌<◌, ◌≤◌, Bool, true, false, ◌==◌, if◌then◌else◌, List, [], ◌∷◌, ◌++◌, Option, Some, None, refl, sym, ap, ◌∙◌, length, length-append, drop, get_or, take, arith, subst, append_assoc, add-one, inl, inr}
 use Rattle.std.proofs.lemmas.Bool.{cases_eq, cond-true, cond-false, eq-eqb, ne_eqb}
 use Rattle.std.proofs.lemmas.List.{at_drop_more, at_drop_all}
-use Rattle.mail_addresses.specs.Lexical.{CommentContent}
-use Rattle.mail_addresses.specs.Lexical.CommentContent.{none, byte, pair, inner}
+use Rattle.mail_addresses.specs.Lexical.{IsCommentContent}
+use Rattle.mail_addresses.specs.Lexical.IsCommentContent.{none, byte, pair, inner}
 use Rattle.mail_addresses.proofs.ListLemmas.{cut_here}
 
 -- the place of the parenthesis that closes a comment, after i bytes, after a backslash or not, and with so many further comments open
@@ -48,7 +48,7 @@ pub same_state : (e f : Bool) (d n i : ℕ) (xs : List ℕ) → e ≡ f → d �
 same_state e f d n i xs p q = cc
 
 -- a comment's content is passed over
-close-content : {inside : List ℕ} → CommentContent inside → (d i : ℕ) (after : List ℕ) → close false d i (inside ++ after) ≡ close false d (i + length inside) after
+close-content : {inside : List ℕ} → IsCommentContent inside → (d i : ℕ) (after : List ℕ) → close false d i (inside ++ after) ≡ close false d (i + length inside) after
 unfolding close
 close-content none d i after = ap (λ k. close false d k after) (omega arith)
 close-content (byte {b} {bs} p q h rest) d i after =
@@ -64,8 +64,8 @@ close-content (inner {inside} {bs} first rest) d i after =
 
 -- bytes that close so many comments
 Closes : ℕ → List ℕ → Type 0
-Closes zero bs = CommentContent bs
-Closes (suc d) bs = (front : List ℕ) × ((back : List ℕ) × (bs ≡ front ++ 41 ∷ back) × CommentContent front × Closes d back)
+Closes zero bs = IsCommentContent bs
+Closes (suc d) bs = (front : List ℕ) × ((back : List ℕ) × (bs ≡ front ++ 41 ∷ back) × IsCommentContent front × Closes d back)
 
 Closes-byte : (d b : ℕ) (bs : List ℕ) → b ≢ 92 → b ≢ 40 → b ≢ 41 → Closes d bs → Closes d (b ∷ bs)
 unfolding Closes
@@ -74,12 +74,12 @@ Closes-byte (suc d) b bs h p q (front, (back, e, c, r)) = (b ∷ front, (back, a
 
 Closes-pair : (d c b : ℕ) (bs : List ℕ) → c ≡ 92 → Closes d bs → Closes d (c ∷ b ∷ bs)
 unfolding Closes
-Closes-pair zero c b bs h r = subst (λ x. CommentContent (x ∷ b ∷ bs)) (sym h) (pair r)
-Closes-pair (suc d) c b bs h (front, (back, e, f, r)) = (c ∷ b ∷ front, (back, ap (λ (xs : List ℕ). c ∷ b ∷ xs) e, subst (λ x. CommentContent (x ∷ b ∷ front)) (sym h) (pair f), r))
+Closes-pair zero c b bs h r = subst (λ x. IsCommentContent (x ∷ b ∷ bs)) (sym h) (pair r)
+Closes-pair (suc d) c b bs h (front, (back, e, f, r)) = (c ∷ b ∷ front, (back, ap (λ (xs : List ℕ). c ∷ b ∷ xs) e, subst (λ x. IsCommentContent (x ∷ b ∷ front)) (sym h) (pair f), r))
 
 Closes-open : (d b : ℕ) (bs : List ℕ) → b ≡ 40 → Closes (suc d) bs → Closes d (b ∷ bs)
 unfolding Closes
-Closes-open zero b bs h (front, (back, e, f, r)) = subst (λ (xs : List ℕ). CommentContent xs) (sym (ap (λ (xs : List ℕ). b ∷ xs) e ∙ ap (λ x. x ∷ (front ++ 41 ∷ back)) h)) (inner f r)
+Closes-open zero b bs h (front, (back, e, f, r)) = subst (λ (xs : List ℕ). IsCommentContent xs) (sym (ap (λ (xs : List ℕ). b ∷ xs) e ∙ ap (λ x. x ∷ (front ++ 41 ∷ back)) h)) (inner f r)
 Closes-open (suc d) b bs h (front, (back, e, f, (first, (last, g, k, r)))) = (
   40 ∷ (front ++ 41 ∷ first),
   (
@@ -168,16 +168,16 @@ found (b ∷ c ∷ bs) d i k h =
       | inr n ↦ found_byte b (c ∷ bs) n (found (c ∷ bs)) d i k h
     ]
 
-pub comment_found : (bs : List ℕ) (k : ℕ) → close false 0 0 bs ≡ Some k → (k < length bs) × CommentContent (take k bs) × (bs ≡ take k bs ++ 41 ∷ drop (k + 1) bs)
+pub comment_found : (bs : List ℕ) (k : ℕ) → close false 0 0 bs ≡ Some k → (k < length bs) × IsCommentContent (take k bs) × (bs ≡ take k bs ++ 41 ∷ drop (k + 1) bs)
 unfolding Closes
 comment_found bs k h =
     let f = found bs 0 0 k h in
     let cut = cut_here bs f.inside f.after 41 k f.whole (f.place ∙ omega arith) in
-    (cut.0, subst (λ (xs : List ℕ). CommentContent xs) (sym cut.1) f.closes, f.whole ∙ ap (λ (xs : List ℕ). xs ++ 41 ∷ f.after) (sym cut.1) ∙ ap (λ (xs : List ℕ). take k bs ++ 41 ∷ xs) (sym cut.2))
+    (cut.0, subst (λ (xs : List ℕ). IsCommentContent xs) (sym cut.1) f.closes, f.whole ∙ ap (λ (xs : List ℕ). xs ++ 41 ∷ f.after) (sym cut.1) ∙ ap (λ (xs : List ℕ). take k bs ++ 41 ∷ xs) (sym cut.2))
 
 -- the place that is found is that after the content
-pub comment_place : {inside : List ℕ} → CommentContent inside → (after : List ℕ) → close false 0 0 (inside ++ 41 ∷ after) ≡ Some (length inside)
+pub comment_place : {inside : List ℕ} → IsCommentContent inside → (after : List ℕ) → close false 0 0 (inside ++ 41 ∷ after) ≡ Some (length inside)
 comment_place {inside} content after = close-content content 0 0 (41 ∷ after) ∙ close-last 0 (0 + length inside) 41 after refl refl ∙ ap (λ k. Some k) (omega arith)
 
-pub comment_none : (bs : List ℕ) → close false 0 0 bs ≡ None → (inside after : List ℕ) → CommentContent inside → bs ≡ inside ++ 41 ∷ after → ⊥
+pub comment_none : (bs : List ℕ) → close false 0 0 bs ≡ None → (inside after : List ℕ) → IsCommentContent inside → bs ≡ inside ++ 41 ∷ after → ⊥
 comment_none bs h inside after content e = let g : None ≡ Some (length inside) = sym h ∙ ap (close false 0 0) e ∙ comment_place content after in cc

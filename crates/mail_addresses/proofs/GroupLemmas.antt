@@ -6,22 +6,17 @@ use Rattle.mail_addresses.specs.declared.address.Address.{Address}
 use Rattle.mail_addresses.specs.declared.pieces.Place.{Place}
 use Rattle.mail_addresses.specs.declared.pieces.Place.TheVariants.{Outside, Brackets, Group, GroupBrackets}
 use Rattle.mail_addresses.specs.Lexical.{Lexeme, mark}
-use Rattle.mail_addresses.specs.Forms.{is_gap, is_mark, DisplayName, Mailbox}
-use Rattle.mail_addresses.specs.Listing.{place_after, is_cut, in_first, pieces_from, pieces, Gives, Lists, SpellsOne, IsGrouped, SpellsGroup, Spells, IsBad}
+use Rattle.mail_addresses.specs.Forms.{is_gap, is_mark, Lacks, IsDisplayName, IsMailbox}
+use Rattle.mail_addresses.specs.Listing.{place_after, is_cut, in_first, pieces_from, pieces, Gives, Lists, SpellsMailbox, IsGrouped, SpellsGroup, Spells, IsBad}
 use Rattle.mail_addresses.proofs.ListLemmas.{split_unique}
 use Rattle.mail_addresses.proofs.FormLemmas.{one_mark}
-use Rattle.mail_addresses.proofs.MailboxLemmas.{Lacks, has_mark, gaps_lack, display_lacks, mailbox_lacks}
+use Rattle.mail_addresses.proofs.PieceLemmas.{cut_is_comma}
+use Rattle.mail_addresses.proofs.MailboxLemmas.{has_mark, gaps_lack, display_lacks, mailbox_lacks}
 
 -- no piece has this mark
 AllLack : ℕ → List (List Lexeme) → Type 0
 AllLack c [] = Unit {0}
 AllLack c (piece ∷ pieces) = Lacks c piece × AllLack c pieces
-
-cut_is_comma : (place : Place) (t : Lexeme) → is_cut place t ≡ true → is_mark 44 t ≡ true
-cut_is_comma Outside t h = h
-cut_is_comma Brackets t h = absurd (false≢true h)
-cut_is_comma Group t h = absurd (false≢true h)
-cut_is_comma GroupBrackets t h = absurd (false≢true h)
 
 record FirstLacks (c : ℕ) (t : Lexeme) (list : List (List Lexeme)) : Type 0 where
   here : is_mark c t ≡ false
@@ -43,22 +38,22 @@ pieces_lack c n place (t ∷ ts) h =
     ]
 
 -- addresses and blanks have no `;`
-members_lack : (list : List (List Lexeme)) (all : List Address) → Lists SpellsOne list all → AllLack 59 list
+members_lack : (list : List (List Lexeme)) (all : List Address) → Lists SpellsMailbox list all → AllLack 59 list
 unfolding AllLack
 members_lack [] all h = tt
 members_lack (piece ∷ pieces) all (here, (later, e, inl (gaps, f), rest)) = (gaps_lack 59 piece gaps, members_lack pieces later rest)
 members_lack (piece ∷ pieces) all (here, (later, e, inr (a, f, is), rest)) =
     (mailbox_lacks 59 piece a (λ z. absurd (omega (arith, z))) (λ z. absurd (omega (arith, z))) (λ z. absurd (omega (arith, z))) (λ z. absurd (omega (arith, z))) is, members_lack pieces later rest)
 
-pub inside_lacks : (inside : List Lexeme) (list : List Address) → Lists SpellsOne (pieces inside) list → Lacks 59 inside
+pub inside_lacks : (inside : List Lexeme) (list : List Address) → Lists SpellsMailbox (pieces inside) list → Lacks 59 inside
 inside_lacks inside list lists = pieces_lack 59 (λ z. absurd (omega (arith, z))) Outside inside (members_lack (pieces inside) list lists)
 
 -- what stands in a group and after it
 pub record InGroup (front inside after : List Lexeme) (list : List Address) : Type 0 where
   pub name : List ℕ
-  pub named : DisplayName front name
+  pub named : IsDisplayName front name
   pub not_empty : name ≢ []
-  pub lists : Lists SpellsOne (pieces inside) list
+  pub lists : Lists SpellsMailbox (pieces inside) list
   pub gaps_after : list_all is_gap after ≡ true
 
 pub grouped_parts : (front back inside after : List Lexeme) (list : List Address) → back ≡ inside ++ mark 59 ∷ after → Lacks 59 inside → IsGrouped front back list → InGroup front inside after list
@@ -68,7 +63,7 @@ grouped_parts front back inside after list e lacks is =
       name = is.name;
       named = is.named;
       not_empty = is.not_empty;
-      lists = subst (λ (ts : List Lexeme). Lists SpellsOne (pieces ts) list) (sym parts.0) is.lists;
+      lists = subst (λ (ts : List Lexeme). Lists SpellsMailbox (pieces ts) list) (sym parts.0) is.lists;
       gaps_after = ap (list_all is_gap) parts.1 ∙ is.gaps_after;
     }
 
@@ -101,7 +96,7 @@ added (Ok true) old new Said Form f g (list, put, said) = (list, put, f list sai
 added (Ok false) old new Said Form f g h = λ list form. h list (g list form)
 
 -- what a piece that is neither blanks nor a mailbox gives, by what it spells as a group
-pub piece_answers : {E : Type 0} (r : Result Bool E) (old new : List Address) (piece : List Lexeme) → list_all is_gap piece ≡ false → ((a : Address) → Mailbox piece a → ⊥)
+pub piece_answers : {E : Type 0} (r : Result Bool E) (old new : List Address) (piece : List Lexeme) → list_all is_gap piece ≡ false → ((a : Address) → IsMailbox piece a → ⊥)
     → IfOk r (λ good. MatchBool good ((list : List Address) × (new ≡ old ++ list) × SpellsGroup piece list) ((list : List Address) → SpellsGroup piece list → ⊥))
     → IfOk r (λ good. MatchBool good ((list : List Address) × (new ≡ old ++ list) × Gives Spells piece list) (IsBad piece))
 piece_answers (Err e) old new piece gaps none h = tt

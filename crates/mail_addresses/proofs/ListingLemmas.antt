@@ -5,8 +5,8 @@ use Rattle.std.proofs.lemmas.Bool.{both_ways, cases_eq}
 use Rattle.std.proofs.lemmas.List.{append-nil, take_rest}
 use Rattle.mail_addresses.specs.declared.address.Address.{Address}
 use Rattle.mail_addresses.specs.Lexical.{Lexeme}
-use Rattle.mail_addresses.specs.Forms.{is_gap, Mailbox}
-use Rattle.mail_addresses.specs.Listing.{pieces, Gives, Lists, SpellsOne, Spells, IsBad, FirstBad}
+use Rattle.mail_addresses.specs.Forms.{is_gap, IsMailbox}
+use Rattle.mail_addresses.specs.Listing.{pieces, Gives, Lists, SpellsMailbox, Spells, IsBad, IsFirstBad}
 
 -- what pieces may spell
 abbrev pub Form : Type 1
@@ -34,14 +34,14 @@ put_more first added here old new e f = f ∙ ap (λ (xs : List Address). xs ++ 
 
 -- the first bad piece of the whole, once a piece more is read
 pub bad_step : (whole list rest : List (List Lexeme)) (piece : List Lexeme) (here : List Address) (number : ℕ) → list ≡ piece ∷ rest → Gives Spells piece here
-    → ((at : ℕ) → FirstBad list at → FirstBad whole (number + at)) → (at : ℕ) → FirstBad rest at → FirstBad whole (number + 1 + at)
+    → ((at : ℕ) → IsFirstBad list at → IsFirstBad whole (number + at)) → (at : ℕ) → IsFirstBad rest at → IsFirstBad whole (number + 1 + at)
 bad_step whole list rest piece here number e gives so_far at bad =
-    subst (FirstBad whole) (omega arith) (so_far (at + 1) (subst (λ (ps : List (List Lexeme)). FirstBad ps (at + 1)) (sym e) (inr (here, gives, (at, refl, bad)))))
+    subst (IsFirstBad whole) (omega arith) (so_far (at + 1) (subst (λ (ps : List (List Lexeme)). IsFirstBad ps (at + 1)) (sym e) (inr (here, gives, (at, refl, bad)))))
 
 pub bad_here : (whole list rest : List (List Lexeme)) (piece : List Lexeme) (number : ℕ) → list ≡ piece ∷ rest → IsBad piece
-    → ((at : ℕ) → FirstBad list at → FirstBad whole (number + at)) → FirstBad whole number
+    → ((at : ℕ) → IsFirstBad list at → IsFirstBad whole (number + at)) → IsFirstBad whole number
 bad_here whole list rest piece number e bad so_far =
-    subst (FirstBad whole) (omega arith) (so_far 0 (subst (λ (ps : List (List Lexeme)). FirstBad ps 0) (sym e) (inl (bad, refl))))
+    subst (IsFirstBad whole) (omega arith) (so_far 0 (subst (λ (ps : List (List Lexeme)). IsFirstBad ps 0) (sym e) (inl (bad, refl))))
 
 -- a list has lists of its first piece and of the others
 pub lists_first : (S : Form) (list rest : List (List Lexeme)) (piece : List Lexeme) → list ≡ piece ∷ rest → (all : List Address) → Lists S list all → (here : List Address) × Gives S piece here
@@ -51,7 +51,7 @@ pub lists_others : (S : Form) (list rest : List (List Lexeme)) (piece : List Lex
 lists_others S list rest piece e all lists = let l = subst (λ (ps : List (List Lexeme)). Lists S ps all) e lists in (l.1.0, l.1.3)
 
 -- tokens that are neither blanks nor a mailbox give nothing in a group
-pub no_member : (piece : List Lexeme) → list_all is_gap piece ≡ false → ((a : Address) → Mailbox piece a → ⊥) → (added : List Address) → Gives SpellsOne piece added → ⊥
+pub no_member : (piece : List Lexeme) → list_all is_gap piece ≡ false → ((a : Address) → IsMailbox piece a → ⊥) → (added : List Address) → Gives SpellsMailbox piece added → ⊥
 no_member piece gaps none added (inl (g, e)) = both_ways _ gaps g
 no_member piece gaps none added (inr (a, e, is)) = none a is
 

@@ -5,14 +5,10 @@ use Rattle.std.proofs.lemmas.Bool.{and_parts, or_from, or_left, or_right, both_w
 use Rattle.std.proofs.lemmas.List.Folds.{list_any-append}
 use Rattle.mail_addresses.specs.declared.address.Address.{Address}
 use Rattle.mail_addresses.specs.Lexical.{Lexeme, blanks, comment, atom, quoted, literal, mark, unclosed}
-use Rattle.mail_addresses.specs.Forms.{is_gap, is_mark, is_part, IsSpec, GivesSpec, Name, DisplayName, IsAngled, Mailbox}
-use Rattle.mail_addresses.specs.Forms.Name.{one, beside}
+use Rattle.mail_addresses.specs.Forms.{is_gap, is_mark, Lacks, is_part, IsSpec, GivesSpec, IsName, IsDisplayName, IsAngled, IsMailbox}
+use Rattle.mail_addresses.specs.Forms.IsName.{one, beside}
 use Rattle.mail_addresses.proofs.ListLemmas.{split_unique}
 use Rattle.mail_addresses.proofs.FormLemmas.{local_lacks, domain_lacks}
-
--- no mark of this byte is among them
-abbrev pub Lacks : ℕ → List Lexeme → Type 0
-Lacks c ts = list_any (is_mark c) ts ≡ false
 
 lacks_both : (c : ℕ) (ts us : List Lexeme) → Lacks c ts → Lacks c us → Lacks c (ts ++ us)
 lacks_both c ts us h k = list_any-append (is_mark c) ts us ∙ or_from _ _ h k
@@ -59,12 +55,12 @@ part_no_mark c (comment inside) n h = absurd (false≢true h)
 part_no_mark c (literal inside) n h = absurd (false≢true h)
 part_no_mark c (unclosed text) n h = absurd (false≢true h)
 
-name_lacks : {ts : List Lexeme} {text : List ℕ} → (c : ℕ) → c ≢ 46 → Name ts text → Lacks c ts
+name_lacks : {ts : List Lexeme} {text : List ℕ} → (c : ℕ) → c ≢ 46 → IsName ts text → Lacks c ts
 name_lacks c n (one {t} p) = or_from _ _ (part_no_mark c t n p) refl
 name_lacks c n (beside {t} {ts} {text} p rest) = or_from _ _ (part_no_mark c t n p) (name_lacks c n rest)
-name_lacks c n (Name.apart {t} {ts} {text} gaps p some g rest) = or_from _ _ (part_no_mark c t n p) (lacks_both c gaps ts (gaps_lack c gaps g) (name_lacks c n rest))
+name_lacks c n (IsName.apart {t} {ts} {text} gaps p some g rest) = or_from _ _ (part_no_mark c t n p) (lacks_both c gaps ts (gaps_lack c gaps g) (name_lacks c n rest))
 
-pub display_lacks : (c : ℕ) (ts : List Lexeme) (text : List ℕ) → c ≢ 46 → DisplayName ts text → Lacks c ts
+pub display_lacks : (c : ℕ) (ts : List Lexeme) (text : List ℕ) → c ≢ 46 → IsDisplayName ts text → Lacks c ts
 display_lacks c ts text n (inl (gaps, e)) = gaps_lack c ts gaps
 display_lacks c ts text n (inr padded) =
     subst (Lacks c) (sym padded.whole) (lacks_both c padded.before (padded.name ++ padded.after) (gaps_lack c padded.before padded.gaps_before)
@@ -72,7 +68,7 @@ display_lacks c ts text n (inr padded) =
 
 -- what stands in the brackets and after them
 pub record InBrackets (front inside after : List Lexeme) (a : Address) : Type 0 where
-  pub named : DisplayName front a.name
+  pub named : IsDisplayName front a.name
   pub gives_spec : GivesSpec inside a
   pub gaps_after : list_all is_gap after ≡ true
 
@@ -100,7 +96,7 @@ pub no_angled : (front back : List Lexeme) (a : Address) → Lacks 62 back → I
 no_angled front back a lacks is = both_ways _ lacks (ap (list_any (is_mark 62)) is.whole ∙ has_mark 62 is.inside is.after)
 
 -- a mailbox with a bracket is a name and what follows the first one
-pub mailbox_angled : (ts front back : List Lexeme) (a : Address) → ts ≡ front ++ mark 60 ∷ back → Lacks 60 front → Mailbox ts a → IsAngled front back a
+pub mailbox_angled : (ts front back : List Lexeme) (a : Address) → ts ≡ front ++ mark 60 ∷ back → Lacks 60 front → IsMailbox ts a → IsAngled front back a
 mailbox_angled ts front back a e lacks (inl (gives, unnamed)) =
     absurd (both_ways _ (gives_lacks 60 ts a (λ z. absurd (omega (arith, z))) (λ z. absurd (omega (arith, z))) gives) (ap (list_any (is_mark 60)) e ∙ has_mark 60 front back))
 mailbox_angled ts front back a e lacks (inr (first, (rest, whole, is))) =
@@ -108,12 +104,12 @@ mailbox_angled ts front back a e lacks (inr (first, (rest, whole, is))) =
     subst (λ (ts : List Lexeme). IsAngled ts back a) (sym parts.0) (subst (λ (ts : List Lexeme). IsAngled first ts a) (sym parts.1) is)
 
 -- a mailbox without a bracket is a spec
-pub mailbox_bare : (ts : List Lexeme) (a : Address) → Lacks 60 ts → Mailbox ts a → GivesSpec ts a
+pub mailbox_bare : (ts : List Lexeme) (a : Address) → Lacks 60 ts → IsMailbox ts a → GivesSpec ts a
 mailbox_bare ts a lacks (inl (gives, unnamed)) = gives
 mailbox_bare ts a lacks (inr (first, (rest, whole, is))) = absurd (both_ways _ lacks (ap (list_any (is_mark 60)) whole ∙ has_mark 60 first rest))
 
 -- a mailbox has no marks but dots, `@` and brackets
-pub mailbox_lacks : (c : ℕ) (ts : List Lexeme) (a : Address) → c ≢ 46 → c ≢ 64 → c ≢ 60 → c ≢ 62 → Mailbox ts a → Lacks c ts
+pub mailbox_lacks : (c : ℕ) (ts : List Lexeme) (a : Address) → c ≢ 46 → c ≢ 64 → c ≢ 60 → c ≢ 62 → IsMailbox ts a → Lacks c ts
 mailbox_lacks c ts a dot at first last (inl (gives, unnamed)) = gives_lacks c ts a dot at gives
 mailbox_lacks c ts a dot at first last (inr (front, (back, whole, is))) =
     subst (Lacks c) (sym whole) (lacks_mark c 60 front back first (display_lacks c front a.name dot is.named)

@@ -4,8 +4,8 @@ use Rattle.std.specs.List.{list_all}
 use Rattle.std.proofs.lemmas.Bool.{cond-true, cond-false, eq-eqb, ne_eqb, eqb-true, false≢true, and_parts, and_from, or_right, cases_Bool}
 use Rattle.std.proofs.lemmas.List.{append-nil, at_drop_more, at_drop_all}
 use Rattle.mail_addresses.specs.Lexical.{Lexeme, blanks, comment, atom, quoted, literal, mark, unclosed}
-use Rattle.mail_addresses.specs.Forms.{unescaped, is_gap, is_part, part_text, Name, DisplayName}
-use Rattle.mail_addresses.specs.Forms.Name.{one, beside}
+use Rattle.mail_addresses.specs.Forms.{unescaped, is_gap, is_part, part_text, IsName, IsDisplayName, spaced}
+use Rattle.mail_addresses.specs.Forms.IsName.{one, beside}
 
 abbrev is_nil : List Lexeme → Bool
 is_nil [] = true
@@ -67,10 +67,6 @@ pub after-append : (xs ys : List ℕ) (o : Option (List ℕ)) → after (xs ++ y
 after-append xs ys None = refl
 after-append xs ys (Some rest) = ap (λ (r : List ℕ). Some r) (append_assoc xs ys rest)
 
--- a space before a text that stands apart
-abbrev pub spaced : Bool → List ℕ → List ℕ
-spaced apart text = if apart then 32 ∷ text else text
-
 -- what tokens add to a name, when a part stands before or not, and blanks after it or not
 unfoldable pub name_from : Bool → Bool → List Lexeme → Option (List ℕ)
 name_from begun apart [] = Some []
@@ -115,19 +111,19 @@ spaced-append true xs ys = refl
 spaced-append false xs ys = refl
 
 -- a name and blanks after it are read as the name
-name_read : {ts : List Lexeme} {text : List ℕ} → Name ts text → (begun apart : Bool) (gs : List Lexeme) → list_all is_gap gs ≡ true → name_from begun apart (ts ++ gs) ≡ Some (spaced apart text)
+name_read : {ts : List Lexeme} {text : List ℕ} → IsName ts text → (begun apart : Bool) (gs : List Lexeme) → list_all is_gap gs ≡ true → name_from begun apart (ts ++ gs) ≡ Some (spaced apart text)
 name_read (one {t} p) begun apart gs h =
     name_from-part begun apart t gs (part_no_gap t p) p ∙ ap (after (spaced apart (part_text t))) (only_gaps true false gs h) ∙ ap (λ (x : List ℕ). Some x) (append-nil (spaced apart (part_text t)))
 name_read (beside {t} {ts} {text} p rest) begun apart gs h =
     name_from-part begun apart t (ts ++ gs) (part_no_gap t p) p ∙ ap (after (spaced apart (part_text t))) (name_read rest true false gs h) ∙ ap (λ (x : List ℕ). Some x) (spaced-append apart (part_text t) text)
-name_read (Name.apart {t} {ts} {text} gaps p n g rest) begun apart gs h =
+name_read (IsName.apart {t} {ts} {text} gaps p n g rest) begun apart gs h =
     name_from-part begun apart t ((gaps ++ ts) ++ gs) (part_no_gap t p) p
     ∙ ap (λ (us : List Lexeme). after (spaced apart (part_text t)) (name_from true false us)) (append_assoc gaps ts gs)
     ∙ ap (after (spaced apart (part_text t))) (gaps_between false gaps (ts ++ gs) n g ∙ name_read rest true true gs h)
     ∙ ap (λ (x : List ℕ). Some x) (spaced-append apart (part_text t) (32 ∷ text))
 
 -- a display name is what is read
-pub name_is_read : (ts : List Lexeme) (text : List ℕ) → DisplayName ts text → name_from false false ts ≡ Some text
+pub name_is_read : (ts : List Lexeme) (text : List ℕ) → IsDisplayName ts text → name_from false false ts ≡ Some text
 name_is_read ts text (inl (gaps, e)) = only_gaps false false ts gaps ∙ ap (λ (x : List ℕ). Some x) (sym e)
 name_is_read ts text (inr padded) =
     ap (name_from false false) padded.whole ∙ gaps_first false padded.before (padded.name ++ padded.after) padded.gaps_before ∙ name_read padded.is_name false false padded.after padded.gaps_after
@@ -141,7 +137,7 @@ record More (apart : Bool) (ts : List Lexeme) (text : List ℕ) : Type 0 where
   whole : ts ≡ gaps ++ (name ++ last)
   are_gaps : list_all is_gap gaps ≡ true
   gaps_after : list_all is_gap last ≡ true
-  is_name : Name name added
+  is_name : IsName name added
   is_text : text ≡ spaced (apart || not (is_nil gaps)) added
 
 abbrev Rest : Bool → List Lexeme → List ℕ → Type 0
@@ -153,7 +149,7 @@ record FromPart (t : Lexeme) (ts : List Lexeme) (text : List ℕ) : Type 0 where
   last : List Lexeme
   whole : t ∷ ts ≡ name ++ last
   gaps_after : list_all is_gap last ≡ true
-  is_name : Name name (part_text t ++ text)
+  is_name : IsName name (part_text t ++ text)
 
 from_part : (t : Lexeme) (ts : List Lexeme) (text : List ℕ) → is_part t ≡ true → Rest false ts text → FromPart t ts text
 from_part t ts text p (inl (gaps, e)) = record {
@@ -161,7 +157,7 @@ from_part t ts text p (inl (gaps, e)) = record {
   last = ts;
   whole = refl;
   gaps_after = gaps;
-  is_name = subst (Name (t ∷ [])) (sym (ap (λ (x : List ℕ). part_text t ++ x) e ∙ append-nil (part_text t))) (one p);
+  is_name = subst (IsName (t ∷ [])) (sym (ap (λ (x : List ℕ). part_text t ++ x) e ∙ append-nil (part_text t))) (one p);
 }
 from_part t ts text p (inr more) = go more.gaps refl
   where
@@ -171,15 +167,15 @@ from_part t ts text p (inr more) = go more.gaps refl
       last = more.last;
       whole = ap (λ (us : List Lexeme). t ∷ us) (more.whole ∙ ap (λ (us : List Lexeme). us ++ (more.name ++ more.last)) e);
       gaps_after = more.gaps_after;
-      is_name = subst (λ (x : List ℕ). Name (t ∷ more.name) (part_text t ++ x)) (sym (more.is_text ∙ ap (λ (us : List Lexeme). spaced (false || not (is_nil us)) more.added) e)) (beside p more.is_name);
+      is_name = subst (λ (x : List ℕ). IsName (t ∷ more.name) (part_text t ++ x)) (sym (more.is_text ∙ ap (λ (us : List Lexeme). spaced (false || not (is_nil us)) more.added) e)) (beside p more.is_name);
     }
     go (g ∷ gs) e = record {
       name = t ∷ ((g ∷ gs) ++ more.name);
       last = more.last;
       whole = ap (λ (us : List Lexeme). t ∷ us) (more.whole ∙ ap (λ (us : List Lexeme). us ++ (more.name ++ more.last)) e ∙ sym (append_assoc (g ∷ gs) more.name more.last));
       gaps_after = more.gaps_after;
-      is_name = subst (λ (x : List ℕ). Name (t ∷ ((g ∷ gs) ++ more.name)) (part_text t ++ x)) (sym (more.is_text ∙ ap (λ (us : List Lexeme). spaced (false || not (is_nil us)) more.added) e))
-          (Name.apart (g ∷ gs) p (λ h. cc) (subst (λ (us : List Lexeme). list_all is_gap us ≡ true) e more.are_gaps) more.is_name);
+      is_name = subst (λ (x : List ℕ). IsName (t ∷ ((g ∷ gs) ++ more.name)) (part_text t ++ x)) (sym (more.is_text ∙ ap (λ (us : List Lexeme). spaced (false || not (is_nil us)) more.added) e))
+          (IsName.apart (g ∷ gs) p (λ h. cc) (subst (λ (us : List Lexeme). list_all is_gap us ≡ true) e more.are_gaps) more.is_name);
     }
 
 -- what is read stands there
@@ -229,7 +225,7 @@ read_rest apart (t ∷ ts) text h =
     ]
 
 -- what is read is a display name
-pub read_is_name : (ts : List Lexeme) (text : List ℕ) → name_from false false ts ≡ Some text → DisplayName ts text
+pub read_is_name : (ts : List Lexeme) (text : List ℕ) → name_from false false ts ≡ Some text → IsDisplayName ts text
 unfolding name_from
 read_is_name [] text h = inl (refl, let e : [] ≡ text = cc in sym e)
 read_is_name (t ∷ ts) text h =
@@ -255,18 +251,18 @@ read_is_name (t ∷ ts) text h =
               whole = f.whole;
               gaps_before = refl;
               gaps_after = f.gaps_after;
-              is_name = subst (Name f.name) (sym a.joined) f.is_name;
+              is_name = subst (IsName f.name) (sym a.joined) f.is_name;
             }
         | inr p ↦ let none_is : None ≡ Some text = sym (name_from-none false false t ts g p) ∙ h in absurd (cc)
       ]
     ]
 
 -- where nothing is read there is no name
-pub no_name : (ts : List Lexeme) → name_from false false ts ≡ None → (text : List ℕ) → DisplayName ts text → ⊥
+pub no_name : (ts : List Lexeme) → name_from false false ts ≡ None → (text : List ℕ) → IsDisplayName ts text → ⊥
 no_name ts h text d = let e : None ≡ Some text = sym h ∙ name_is_read ts text d in cc
 
 -- one name is read
-pub name_unique : (ts : List Lexeme) (a b : List ℕ) → DisplayName ts a → DisplayName ts b → a ≡ b
+pub name_unique : (ts : List Lexeme) (a b : List ℕ) → IsDisplayName ts a → IsDisplayName ts b → a ≡ b
 name_unique ts a b p q = let e : Some a ≡ Some b = sym (name_is_read ts a p) ∙ name_is_read ts b q in cc
 
 -- the next token
@@ -277,8 +273,8 @@ pub same_state : (name more : List ℕ) (a b c d : Bool) (ts : List Lexeme) → 
 same_state name more a b c d ts p q r = ap (λ (x : List ℕ). after x (name_from a c ts)) p ∙ ap (λ (x : Bool). after more (name_from x c ts)) q ∙ ap (λ (x : Bool). after more (name_from b x ts)) r
 
 -- whether the name that is read has text
-pub has_text : (ts : List Lexeme) (name bytes : List ℕ) (empty : Bool) → DisplayName ts name → bytes ≡ name → empty ≡ (length bytes == 0)
-    → MatchBool (not empty) ((text : List ℕ) × DisplayName ts text × (text ≢ [])) ((text : List ℕ) → DisplayName ts text → text ≡ [])
+pub has_text : (ts : List Lexeme) (name bytes : List ℕ) (empty : Bool) → IsDisplayName ts name → bytes ≡ name → empty ≡ (length bytes == 0)
+    → MatchBool (not empty) ((text : List ℕ) × IsDisplayName ts text × (text ≢ [])) ((text : List ℕ) → IsDisplayName ts text → text ≡ [])
 has_text ts [] bytes true named e h = λ text d. name_unique ts text [] d named
 has_text ts [] bytes false named e h = absurd (false≢true (h ∙ ap (λ (xs : List ℕ). length xs == 0) e))
 has_text ts (b ∷ bs) bytes true named e h = let long : (length (b ∷ bs) == 0) ≡ true = sym (h ∙ ap (λ (xs : List ℕ). length xs == 0) e) in absurd (omega (arith, eqb-true _ _ long))

@@ -1,10 +1,11 @@
 -- Pieces: the first one, while its tokens are walked over.
 use Rattle.std.proofs.Common.{◌≡◌, ℕ, ◌+◌, ◌<◌, ◌≤◌, true, false, List, [], ◌∷◌, ◌++◌, refl, sym, ap, ◌∙◌, length, drop, get_or, take, append_assoc, inl, inr}
-use Rattle.std.proofs.lemmas.Bool.{cases_Bool, cond-true, cond-false}
+use Rattle.std.proofs.lemmas.Bool.{cases_Bool, cond-true, cond-false, false≢true}
 use Rattle.std.proofs.lemmas.List.{append-nil, at_drop_more, at_drop_all, take_more}
 use Rattle.mail_addresses.specs.Lexical.{Lexeme}
 use Rattle.mail_addresses.specs.declared.pieces.Place.{Place}
-use Rattle.mail_addresses.specs.declared.pieces.Place.TheVariants.{Outside}
+use Rattle.mail_addresses.specs.declared.pieces.Place.TheVariants.{Outside, Brackets, Group, GroupBrackets}
+use Rattle.mail_addresses.specs.Forms.{is_mark}
 use Rattle.mail_addresses.specs.Listing.{place_after, is_cut, in_first, pieces_from, pieces}
 
 -- tokens in front of the first piece
@@ -12,13 +13,14 @@ abbrev pub with_front : List Lexeme → List (List Lexeme) → List (List Lexeme
 with_front front [] = front ∷ []
 with_front front (piece ∷ pieces) = (front ++ piece) ∷ pieces
 
-record IsFull (list : List (List Lexeme)) : Type 0 where
-  first : List Lexeme
-  others : List (List Lexeme)
-  whole : list ≡ first ∷ others
+-- some pieces
+pub record IsFull (list : List (List Lexeme)) : Type 0 where
+  pub first : List Lexeme
+  pub others : List (List Lexeme)
+  pub whole : list ≡ first ∷ others
 
 -- there is a first piece
-full : (place : Place) (ts : List Lexeme) → IsFull (pieces_from place ts)
+pub full : (place : Place) (ts : List Lexeme) → IsFull (pieces_from place ts)
 unfolding pieces_from
 full place [] = record { first = []; others = []; whole = refl }
 full place (t ∷ ts) =
@@ -61,3 +63,9 @@ pub pieces-end : (place : Place) (i : ℕ) (ts : List Lexeme) → length ts ≤ 
 unfolding pieces_from
 pieces-end place i ts h =
     ap (with_front (take i ts)) (at_drop_all (pieces_from place) ts i h) ∙ ap (λ (f : List Lexeme). f ∷ []) (append-nil (take i ts))
+
+pub cut_is_comma : (place : Place) (t : Lexeme) → is_cut place t ≡ true → is_mark 44 t ≡ true
+cut_is_comma Outside t h = h
+cut_is_comma Brackets t h = absurd (false≢true h)
+cut_is_comma Group t h = absurd (false≢true h)
+cut_is_comma GroupBrackets t h = absurd (false≢true h)

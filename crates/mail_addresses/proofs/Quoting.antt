@@ -2,8 +2,8 @@
 use Rattle.std.proofs.Common.{◌≡◌, ◌≢◌, ℕ, ◌+◌, ◌<◌, ◌≤◌, Bool, true, false, ◌==◌, if◌then◌else◌, List, [], ◌∷◌, ◌++◌, Option, Some, None, refl, sym, ap, ◌∙◌, length, drop, get_or, take, arith, subst, inl, inr}
 use Rattle.std.proofs.lemmas.Bool.{cases_eq, cond-true, cond-false, eq-eqb, ne_eqb}
 use Rattle.std.proofs.lemmas.List.{at_drop_more, at_drop_all}
-use Rattle.mail_addresses.specs.Lexical.{QuotedContent}
-use Rattle.mail_addresses.specs.Lexical.QuotedContent.{none, byte, pair}
+use Rattle.mail_addresses.specs.Lexical.{IsQuotedContent}
+use Rattle.mail_addresses.specs.Lexical.IsQuotedContent.{none, byte, pair}
 use Rattle.mail_addresses.proofs.ListLemmas.{cut_here}
 
 -- the place of the quote that closes a quoted string, after i bytes, after a backslash or not
@@ -37,7 +37,7 @@ pub unquote-here : (e f : Bool) (i : ℕ) (xs : List ℕ) → i < length xs → 
 unquote-here e f i xs lt same = at_drop_more (unquote e i) xs i 0 lt ∙ ap (λ (g : Bool). unquote g i (get_or xs i 0 ∷ drop (i + 1) xs)) same
 
 -- a quoted string's content is passed over
-unquote-content : {inside : List ℕ} → QuotedContent inside → (i : ℕ) (after : List ℕ) → unquote false i (inside ++ after) ≡ unquote false (i + length inside) after
+unquote-content : {inside : List ℕ} → IsQuotedContent inside → (i : ℕ) (after : List ℕ) → unquote false i (inside ++ after) ≡ unquote false (i + length inside) after
 unfolding unquote
 unquote-content none i after = ap (λ k. unquote false k after) (omega arith)
 unquote-content (byte {b} {bs} p h rest) i after =
@@ -49,7 +49,7 @@ record Found (bs : List ℕ) (i k : ℕ) : Type 0 where
   inside : List ℕ
   after : List ℕ
   whole : bs ≡ inside ++ 34 ∷ after
-  content : QuotedContent inside
+  content : IsQuotedContent inside
   place : k ≡ i + length inside
 
 abbrev Finds : List ℕ → Type 0
@@ -88,21 +88,21 @@ found (b ∷ c ∷ bs) i k h =
         inside = b ∷ c ∷ f.inside;
         after = f.after;
         whole = ap (λ (xs : List ℕ). b ∷ c ∷ xs) f.whole;
-        content = subst (λ x. QuotedContent (x ∷ c ∷ f.inside)) (sym e) (pair f.content);
+        content = subst (λ x. IsQuotedContent (x ∷ c ∷ f.inside)) (sym e) (pair f.content);
         place = f.place ∙ omega arith;
       }
       | inr n ↦ found_byte b (c ∷ bs) n (found (c ∷ bs)) i k h
     ]
 
-pub quoted_found : (bs : List ℕ) (k : ℕ) → unquote false 0 bs ≡ Some k → (k < length bs) × QuotedContent (take k bs) × (bs ≡ take k bs ++ 34 ∷ drop (k + 1) bs)
+pub quoted_found : (bs : List ℕ) (k : ℕ) → unquote false 0 bs ≡ Some k → (k < length bs) × IsQuotedContent (take k bs) × (bs ≡ take k bs ++ 34 ∷ drop (k + 1) bs)
 quoted_found bs k h =
     let f = found bs 0 k h in
     let cut = cut_here bs f.inside f.after 34 k f.whole (f.place ∙ omega arith) in
-    (cut.0, subst (λ (xs : List ℕ). QuotedContent xs) (sym cut.1) f.content, f.whole ∙ ap (λ (xs : List ℕ). xs ++ 34 ∷ f.after) (sym cut.1) ∙ ap (λ (xs : List ℕ). take k bs ++ 34 ∷ xs) (sym cut.2))
+    (cut.0, subst (λ (xs : List ℕ). IsQuotedContent xs) (sym cut.1) f.content, f.whole ∙ ap (λ (xs : List ℕ). xs ++ 34 ∷ f.after) (sym cut.1) ∙ ap (λ (xs : List ℕ). take k bs ++ 34 ∷ xs) (sym cut.2))
 
 -- the place that is found is that after the content
-pub quoted_place : {inside : List ℕ} → QuotedContent inside → (after : List ℕ) → unquote false 0 (inside ++ 34 ∷ after) ≡ Some (length inside)
+pub quoted_place : {inside : List ℕ} → IsQuotedContent inside → (after : List ℕ) → unquote false 0 (inside ++ 34 ∷ after) ≡ Some (length inside)
 quoted_place {inside} content after = unquote-content content 0 (34 ∷ after) ∙ unquote-last (0 + length inside) 34 after refl ∙ ap (λ k. Some k) (omega arith)
 
-pub quoted_none : (bs : List ℕ) → unquote false 0 bs ≡ None → (inside after : List ℕ) → QuotedContent inside → bs ≡ inside ++ 34 ∷ after → ⊥
+pub quoted_none : (bs : List ℕ) → unquote false 0 bs ≡ None → (inside after : List ℕ) → IsQuotedContent inside → bs ≡ inside ++ 34 ∷ after → ⊥
 quoted_none bs h inside after content e = let g : None ≡ Some (length inside) = sym h ∙ ap (unquote false 0) e ∙ quoted_place content after in cc

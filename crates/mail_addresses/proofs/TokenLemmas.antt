@@ -1,18 +1,23 @@
 -- The tokens of a value: how the first one is found, and that they are put one after another.
-use Rattle.std.proofs.Common.{◌≡◌, ◌≢◌, ℕ, ◌+◌, ◌<◌, false, ◌==◌, List, [], ◌∷◌, ◌++◌, Option, Some, None, MatchOption, refl, sym, ap, ◌∙◌, length, drop, take, arith, subst, append_assoc, length-append, inl, inr}
+use Rattle.std.proofs.Common.{◌≡◌, ◌≢◌, ℕ, ◌+◌, ◌<◌, true, false, ◌==◌, List, [], ◌∷◌, ◌++◌, Option, Some, None, MatchOption, refl, sym, ap, ◌∙◌, length, drop, take, arith, subst, append_assoc, length-append, inl, inr}
 use Rattle.std.specs.List.{list_any}
-use Rattle.std.proofs.lemmas.Bool.{cases_eq, eqb-true}
+use Rattle.std.proofs.lemmas.Bool.{cases_eq, eqb-true, or_right, both_ways}
 use Rattle.std.proofs.lemmas.List.{append-nil, take_all, nil_from_length}
 use Rattle.memchr.specs.Find.{IsFirstByte, is_byte}
-use Rattle.mail_addresses.specs.Lexical.{Lexeme, blanks, comment, atom, quoted, literal, mark, unclosed, text_of, texts, IsToken, StandBefore, CommentContent, QuotedContent, NeverCloses}
+use Rattle.mail_addresses.specs.Lexical.{Lexeme, blanks, comment, atom, quoted, literal, mark, unclosed, text_of, texts, IsToken, StandBefore, IsLiteralContent, NeverEnds, IsEnd, NeverCloses}
 use Rattle.mail_addresses.specs.Lexical.NeverCloses.{comment_open, quote_open, literal_open}
 use Rattle.mail_addresses.proofs.ListLemmas.{none_before, cut_at}
 
+-- a closing bracket stands in the bytes
+has_bracket : (inside after : List ℕ) → list_any (λ b. b == 93) (inside ++ 93 ∷ after) ≡ true
+has_bracket [] after = refl
+has_bracket (b ∷ inside) after = or_right _ _ (has_bracket inside after)
+
 -- what `memchr` says of the closing bracket
-pub literal_end_is : (xs : List ℕ) (end : Option ℕ) → IsFirstByte (is_byte 93) xs end → MatchOption end
-    (list_any (λ b. b == 93) xs ≡ false)
-    (λ n. (n < length xs) × (list_any (λ b. b == 93) (take n xs) ≡ false) × (xs ≡ take n xs ++ 93 ∷ drop (n + 1) xs))
-literal_end_is xs None h = ap (list_any (λ b. b == 93)) (sym (take_all (length xs) xs (omega arith))) ∙ none_before (λ b. b == 93) xs (length xs) (omega arith) (λ j lt t. h j (omega arith) lt t)
+pub literal_end_is : (xs : List ℕ) (end : Option ℕ) → IsFirstByte (is_byte 93) xs end → IsEnd IsLiteralContent 93 xs end
+literal_end_is xs None h = λ inside after content e. both_ways _
+    (ap (list_any (λ b. b == 93)) (sym (take_all (length xs) xs (omega arith))) ∙ none_before (λ b. b == 93) xs (length xs) (omega arith) (λ j lt t. h j (omega arith) lt t))
+    (ap (list_any (λ b. b == 93)) e ∙ has_bracket inside after)
 literal_end_is xs (Some n) h = (
   h.0.high,
   none_before (λ b. b == 93) xs n (omega (arith, h.0.high)) (λ j lt t. h.0.before j (omega arith) lt t),
@@ -37,32 +42,18 @@ closed_begins whole after rest t u e is f g =
     let here : Begins whole u after = (e, is) in
     subst (λ r. Begins whole t r) (sym g) (subst (λ v. Begins whole v after) (sym f) here)
 
-never : (whole inside : List ℕ) (first : ℕ) → whole ≡ first ∷ inside → NeverCloses (first ∷ inside) → NeverCloses whole
-never whole inside first e n = subst NeverCloses (sym e) n
-
-pub comment_begins : (whole inside rest : List ℕ) (first : ℕ) (end : Option ℕ) (t : Lexeme) → whole ≡ first ∷ inside → first ≡ 40
-    → MatchOption end ((content after : List ℕ) → CommentContent content → inside ≡ content ++ 41 ∷ after → ⊥) (λ n. (n < length inside) × CommentContent (take n inside) × (inside ≡ take n inside ++ 41 ∷ drop (n + 1) inside))
-    → MatchOption end ((t ≡ unclosed whole) × (rest ≡ [])) (λ n. (t ≡ comment (take n inside)) × (rest ≡ drop (n + 1) inside))
+-- a token that encloses such content begins the bytes after its opening byte, up to the end of the content or as unclosed
+pub enclosed_begins : (IsContent : List ℕ → Type 0) (make : List ℕ → Lexeme) (first last : ℕ)
+    → ((content : List ℕ) → text_of (make content) ≡ first ∷ (content ++ last ∷ [])) → ((content rest : List ℕ) → IsContent content → IsToken (make content) rest)
+    → (whole inside rest : List ℕ) (end : Option ℕ) (t : Lexeme) → whole ≡ first ∷ inside → (NeverEnds IsContent last inside → NeverCloses (first ∷ inside))
+    → IsEnd IsContent last inside end → MatchOption end ((t ≡ unclosed whole) × (rest ≡ [])) (λ n. (t ≡ make (take n inside)) × (rest ≡ drop (n + 1) inside))
     → (whole ≡ text_of t ++ rest) × IsToken t rest
-comment_begins whole inside rest first None t e f h r = unclosed_begins whole rest t (never whole inside 40 (e ∙ ap (λ b. b ∷ inside) f) (comment_open h)) r.0 r.1
-comment_begins whole inside rest first (Some n) t e f h r =
-    closed_begins whole (drop (n + 1) inside) rest t (comment (take n inside)) (enclosed_text whole inside (take n inside) (drop (n + 1) inside) 40 41 (e ∙ ap (λ b. b ∷ inside) f) h.2) h.1 r.0 r.1
-
-pub quoted_begins : (whole inside rest : List ℕ) (first : ℕ) (end : Option ℕ) (t : Lexeme) → whole ≡ first ∷ inside → first ≡ 34
-    → MatchOption end ((content after : List ℕ) → QuotedContent content → inside ≡ content ++ 34 ∷ after → ⊥) (λ n. (n < length inside) × QuotedContent (take n inside) × (inside ≡ take n inside ++ 34 ∷ drop (n + 1) inside))
-    → MatchOption end ((t ≡ unclosed whole) × (rest ≡ [])) (λ n. (t ≡ quoted (take n inside)) × (rest ≡ drop (n + 1) inside))
-    → (whole ≡ text_of t ++ rest) × IsToken t rest
-quoted_begins whole inside rest first None t e f h r = unclosed_begins whole rest t (never whole inside 34 (e ∙ ap (λ b. b ∷ inside) f) (quote_open h)) r.0 r.1
-quoted_begins whole inside rest first (Some n) t e f h r =
-    closed_begins whole (drop (n + 1) inside) rest t (quoted (take n inside)) (enclosed_text whole inside (take n inside) (drop (n + 1) inside) 34 34 (e ∙ ap (λ b. b ∷ inside) f) h.2) h.1 r.0 r.1
-
-pub literal_begins : (whole inside rest : List ℕ) (first : ℕ) (end : Option ℕ) (t : Lexeme) → whole ≡ first ∷ inside → first ≡ 91
-    → MatchOption end (list_any (λ b. b == 93) inside ≡ false) (λ n. (n < length inside) × (list_any (λ b. b == 93) (take n inside) ≡ false) × (inside ≡ take n inside ++ 93 ∷ drop (n + 1) inside))
-    → MatchOption end ((t ≡ unclosed whole) × (rest ≡ [])) (λ n. (t ≡ literal (take n inside)) × (rest ≡ drop (n + 1) inside))
-    → (whole ≡ text_of t ++ rest) × IsToken t rest
-literal_begins whole inside rest first None t e f h r = unclosed_begins whole rest t (never whole inside 91 (e ∙ ap (λ b. b ∷ inside) f) (literal_open h)) r.0 r.1
-literal_begins whole inside rest first (Some n) t e f h r =
-    closed_begins whole (drop (n + 1) inside) rest t (literal (take n inside)) (enclosed_text whole inside (take n inside) (drop (n + 1) inside) 91 93 (e ∙ ap (λ b. b ∷ inside) f) h.2) h.1 r.0 r.1
+enclosed_begins IsContent make first last text token whole inside rest None t e never h r =
+    unclosed_begins whole rest t (subst NeverCloses (sym e) (never h)) r.0 r.1
+enclosed_begins IsContent make first last text token whole inside rest (Some n) t e never h r =
+    closed_begins whole (drop (n + 1) inside) rest t (make (take n inside))
+    (enclosed_text whole inside (take n inside) (drop (n + 1) inside) first last e h.2 ∙ ap (λ (xs : List ℕ). xs ++ drop (n + 1) inside) (sym (text (take n inside))))
+    (token (take n inside) (drop (n + 1) inside) h.1) r.0 r.1
 
 pub texts-append : (ts us : List Lexeme) → texts (ts ++ us) ≡ texts ts ++ texts us
 unfolding texts

@@ -1,9 +1,9 @@
 -- A value has one list of tokens.
 use Rattle.std.proofs.Common.{◌≡◌, ◌≢◌, ℕ, ◌+◌, Bool, true, false, ◌==◌, if◌then◌else◌, List, [], ◌∷◌, ◌++◌, Option, Some, None, inl, inr, refl, sym, ap, ◌∙◌, length, take, drop, append_assoc, add-one}
 use Rattle.std.specs.List.{list_all, list_any}
-use Rattle.std.proofs.lemmas.Bool.{and_parts, or_parts, cond-true, cond-false, eqb-true, ne_eqb, false≢true, false_from_ne_true, or_cases}
+use Rattle.std.proofs.lemmas.Bool.{and_parts, or_parts, cond-true, cond-false, eqb-true, ne_eqb, false≢true, false_from_ne_true, or_cases, or_from, cases_Bool}
 use Rattle.std.proofs.lemmas.List.{append-nil, take_at, drop_at}
-use Rattle.mail_addresses.specs.Lexical.{is_blank_byte, is_special, is_atom_byte, CommentContent, QuotedContent, Lexeme, blanks, comment, atom, quoted, literal, mark, unclosed, text_of, texts, begins, IsRun, NeverCloses, IsToken, StandBefore, AreTokens}
+use Rattle.mail_addresses.specs.Lexical.{is_blank_byte, is_special, is_atom_byte, IsCommentContent, IsQuotedContent, IsLiteralContent, NeverEnds, Lexeme, blanks, comment, atom, quoted, literal, mark, unclosed, text_of, texts, begins, IsRun, NeverCloses, IsToken, StandBefore, AreTokens}
 use Rattle.mail_addresses.specs.Lexical.NeverCloses.{comment_open, quote_open, literal_open}
 use Rattle.mail_addresses.proofs.ListLemmas.{cut_here, empty_front}
 use Rattle.mail_addresses.proofs.Closing.{close, comment_found, comment_place}
@@ -68,10 +68,27 @@ find_byte_at p (b ∷ front) back m h e =
     let parts = or_parts _ _ h in
     cond-false _ _ _ parts.0 ∙ ap one_more (find_byte_at p front back m parts.1 e) ∙ ap (λ n. Some n) (add-one (length front))
 
-find_byte_none : (p : ℕ → Bool) (bs : List ℕ) → list_any p bs ≡ false → find_byte p bs ≡ None
-unfolding find_byte one_more
-find_byte_none p [] h = refl
-find_byte_none p (b ∷ bs) h = let parts = or_parts _ _ h in cond-false _ _ _ parts.0 ∙ ap one_more (find_byte_none p bs parts.1)
+record FoundByte (bs : List ℕ) (n : ℕ) : Type 0 where
+  front : List ℕ
+  back : List ℕ
+  whole : bs ≡ front ++ 93 ∷ back
+  none : IsLiteralContent front
+
+find_later : (b n : ℕ) (bs : List ℕ) (o : Option ℕ) → ((k : ℕ) → o ≡ Some k → FoundByte bs k) → one_more o ≡ Some n → (b == 93) ≡ false → FoundByte (b ∷ bs) n
+unfolding one_more
+find_later b n bs None found more e = absurd (cc)
+find_later b n bs (Some k) found more e =
+    let f = found k refl in
+    record { front = b ∷ f.front; back = f.back; whole = ap (λ (xs : List ℕ). b ∷ xs) f.whole; none = or_from _ _ e f.none }
+
+find_byte_found : (bs : List ℕ) (n : ℕ) → find_byte (λ c. c == 93) bs ≡ Some n → FoundByte bs n
+unfolding find_byte
+find_byte_found [] n h = absurd (cc)
+find_byte_found (b ∷ bs) n h =
+    elim (cases_Bool (b == 93)) [
+      | inl e ↦ record { front = []; back = bs; whole = ap (λ c. c ∷ bs) (eqb-true b 93 e); none = refl }
+      | inr e ↦ find_later b n bs (find_byte (λ c. c == 93) bs) (λ k is. find_byte_found bs k is) (sym (cond-false _ _ _ e) ∙ h) e
+    ]
 
 enclosed_is : (make : List ℕ → Lexeme) (whole bs content rest : List ℕ) (last : ℕ) (end : Option ℕ) → bs ≡ content ++ last ∷ rest → end ≡ Some (length content) → enclosed make whole bs end ≡ step (make content) rest
 unfolding enclosed
@@ -83,21 +100,21 @@ enclosed_is make whole bs content rest last end e h =
 closed_text : (content rest : List ℕ) (last : ℕ) → (content ++ last ∷ []) ++ rest ≡ content ++ last ∷ rest
 closed_text content rest last = append_assoc content (last ∷ []) rest
 
-comment_step : (inside rest : List ℕ) → CommentContent inside → first_step (40 ∷ ((inside ++ 41 ∷ []) ++ rest)) ≡ step (comment inside) rest
+comment_step : (inside rest : List ℕ) → IsCommentContent inside → first_step (40 ∷ ((inside ++ 41 ∷ []) ++ rest)) ≡ step (comment inside) rest
 unfolding first_step
 comment_step inside rest is =
     let bs = (inside ++ 41 ∷ []) ++ rest in
     let e = closed_text inside rest 41 in
     enclosed_is comment (40 ∷ bs) bs inside rest 41 (close false 0 0 bs) e (ap (close false 0 0) e ∙ comment_place is rest)
 
-quoted_step : (inside rest : List ℕ) → QuotedContent inside → first_step (34 ∷ ((inside ++ 34 ∷ []) ++ rest)) ≡ step (quoted inside) rest
+quoted_step : (inside rest : List ℕ) → IsQuotedContent inside → first_step (34 ∷ ((inside ++ 34 ∷ []) ++ rest)) ≡ step (quoted inside) rest
 unfolding first_step
 quoted_step inside rest is =
     let bs = (inside ++ 34 ∷ []) ++ rest in
     let e = closed_text inside rest 34 in
     enclosed_is quoted (34 ∷ bs) bs inside rest 34 (unquote false 0 bs) e (ap (unquote false 0) e ∙ quoted_place is rest)
 
-literal_step : (inside rest : List ℕ) → list_any (λ b. b == 93) inside ≡ false → first_step (91 ∷ ((inside ++ 93 ∷ []) ++ rest)) ≡ step (literal inside) rest
+literal_step : (inside rest : List ℕ) → IsLiteralContent inside → first_step (91 ∷ ((inside ++ 93 ∷ []) ++ rest)) ≡ step (literal inside) rest
 unfolding first_step
 literal_step inside rest is =
     let bs = (inside ++ 93 ∷ []) ++ rest in
@@ -138,22 +155,27 @@ atom_step (b ∷ run) rest is =
     let plain = atom_opens_nothing b atom_byte in
     plain_step b (run ++ rest) plain.0 plain.1 plain.2 ∙ cond-false _ _ _ (atom_no_blank b atom_byte) ∙ cond-true _ _ _ atom_byte ∙ run_is atom is_atom_byte (b ∷ run) rest is
 
-never_comment : (bs : List ℕ) (end : Option ℕ) → close false 0 0 bs ≡ end → ((inside after : List ℕ) → CommentContent inside → bs ≡ inside ++ 41 ∷ after → ⊥) → enclosed comment (40 ∷ bs) bs end ≡ step (unclosed (40 ∷ bs)) []
+never_comment : (bs : List ℕ) (end : Option ℕ) → close false 0 0 bs ≡ end → NeverEnds IsCommentContent 41 bs → enclosed comment (40 ∷ bs) bs end ≡ step (unclosed (40 ∷ bs)) []
 unfolding enclosed
 never_comment bs None e never = refl
 never_comment bs (Some k) e never = let found = comment_found bs k e in absurd (never _ _ found.1 found.2)
 
-never_quote : (bs : List ℕ) (end : Option ℕ) → unquote false 0 bs ≡ end → ((inside after : List ℕ) → QuotedContent inside → bs ≡ inside ++ 34 ∷ after → ⊥) → enclosed quoted (34 ∷ bs) bs end ≡ step (unclosed (34 ∷ bs)) []
+never_quote : (bs : List ℕ) (end : Option ℕ) → unquote false 0 bs ≡ end → NeverEnds IsQuotedContent 34 bs → enclosed quoted (34 ∷ bs) bs end ≡ step (unclosed (34 ∷ bs)) []
 unfolding enclosed
 never_quote bs None e never = refl
 never_quote bs (Some k) e never = let found = quoted_found bs k e in absurd (never _ _ found.1 found.2)
+
+never_bracket : (bs : List ℕ) (end : Option ℕ) → find_byte (λ c. c == 93) bs ≡ end → NeverEnds IsLiteralContent 93 bs → enclosed literal (91 ∷ bs) bs end ≡ step (unclosed (91 ∷ bs)) []
+unfolding enclosed
+never_bracket bs None e never = refl
+never_bracket bs (Some k) e never = let found = find_byte_found bs k e in absurd (never found.front found.back found.none found.whole)
 
 unclosed_step : (text : List ℕ) → NeverCloses text → first_step text ≡ step (unclosed text) []
 unfolding first_step enclosed
 unclosed_step [] never = elim never [ ]
 unclosed_step (b ∷ bs) (comment_open never) = never_comment bs (close false 0 0 bs) refl never
 unclosed_step (b ∷ bs) (quote_open never) = never_quote bs (unquote false 0 bs) refl never
-unclosed_step (b ∷ bs) (literal_open never) = ap (enclosed literal (91 ∷ bs) bs) (find_byte_none (λ c. c == 93) bs never)
+unclosed_step (b ∷ bs) (literal_open never) = never_bracket bs (find_byte (λ c. c == 93) bs) refl never
 
 -- a token that stands rightly is the first one
 first_is : (t : Lexeme) (rest : List ℕ) → IsToken t rest → first_step (text_of t ++ rest) ≡ step t rest

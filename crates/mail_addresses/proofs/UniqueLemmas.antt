@@ -6,8 +6,8 @@ use Rattle.std.proofs.lemmas.List.Folds.{list_all-append}
 use Rattle.std.proofs.lemmas.List.Elements.{All-nil, All-cons, All-append, All-same}
 use Rattle.mail_addresses.specs.declared.address.Address.{Address}
 use Rattle.mail_addresses.specs.Lexical.{Lexeme, mark, texts, AreTokens}
-use Rattle.mail_addresses.specs.Forms.{is_gap, is_solid, is_mark, IsSpec, GivesSpec, IsAngled, Mailbox}
-use Rattle.mail_addresses.specs.Listing.{pieces, Gives, Lists, SpellsOne, SpellsGroup, Spells, IsBad, FirstBad, Reads, IsFault}
+use Rattle.mail_addresses.specs.Forms.{is_gap, is_solid, is_mark, Lacks, IsSpec, GivesSpec, IsAngled, IsMailbox}
+use Rattle.mail_addresses.specs.Listing.{pieces, Gives, Lists, SpellsMailbox, SpellsGroup, Spells, IsBad, IsFirstBad, Reads, IsFault}
 use Rattle.mail_addresses.proofs.FormLemmas.{local_lacks, spec_at, spec_solid, begins_solid, ends_solid, IsSolid, IsCut, spec_is_run}
 use Rattle.mail_addresses.proofs.TokenLemmas.{texts-append}
 use Rattle.mail_addresses.proofs.NameLemmas.{name_unique}
@@ -62,7 +62,7 @@ bare_or_angled : (ts : List Lexeme) (a b : Address) → GivesSpec ts a → (fron
 bare_or_angled ts a b gives front back whole =
     both_ways _ (gives_lacks 60 ts a (λ z. absurd (omega (arith, z))) (λ z. absurd (omega (arith, z))) gives) (ap (list_any (is_mark 60)) whole ∙ has_mark 60 front back)
 
-mailbox_unique : (ts : List Lexeme) (a b : Address) → Mailbox ts a → Mailbox ts b → a ≡ b
+mailbox_unique : (ts : List Lexeme) (a b : Address) → IsMailbox ts a → IsMailbox ts b → a ≡ b
 mailbox_unique ts a b (inl (p, none)) (inl (q, nothing)) = same_address a b (none ∙ sym nothing) (gives_unique ts a b p q)
 mailbox_unique ts a b (inl (p, none)) (inr (front, (back, whole, is))) = absurd (bare_or_angled ts a b p front back whole)
 mailbox_unique ts a b (inr (front, (back, whole, is))) q =
@@ -75,7 +75,7 @@ solid_no_gaps before (s ∷ spec) after solid gaps =
     let later = (and_parts (list_all is_gap before) (list_all is_gap ((s ∷ spec) ++ after)) (sym (list_all-append is_gap before ((s ∷ spec) ++ after)) ∙ gaps)).1 in
     both_ways (is_gap s) (not-true (is_gap s) (and_parts (is_solid s) (list_all is_solid spec) solid.all).0) (and_parts (is_gap s) (list_all is_gap (spec ++ after)) later).0
 
-one_no_gaps : (piece : List Lexeme) (list : List Address) → SpellsOne piece list → list_all is_gap piece ≡ true → ⊥
+one_no_gaps : (piece : List Lexeme) (list : List Address) → SpellsMailbox piece list → list_all is_gap piece ≡ true → ⊥
 one_no_gaps piece list (a, e, inl (p, none)) gaps =
     solid_no_gaps p.before p.spec p.after (spec_solid p.spec a.local p.is_spec) (ap (list_all is_gap) (sym p.whole) ∙ gaps)
 one_no_gaps piece list (a, e, inr (front, (back, whole, is))) gaps =
@@ -103,16 +103,16 @@ lists_one S none unique [] p q e f = e ∙ sym f
 lists_one S none unique (piece ∷ pieces) p q (here, (later, e, gives, rest)) (first, (others, f, given, left)) =
     e ∙ ap (λ (xs : List Address). xs ++ later) (gives_one S none unique piece here first gives given) ∙ ap (λ (xs : List Address). first ++ xs) (lists_one S none unique pieces later others rest left) ∙ sym f
 
-one_unique : Unique SpellsOne
+one_unique : Unique SpellsMailbox
 one_unique piece p q (a, e, is) (b, f, other) = e ∙ ap (λ (x : Address). x ∷ []) (mailbox_unique piece a b is other) ∙ sym f
 
 group_unique : Unique SpellsGroup
 group_unique piece p q (front, (back, whole, is)) other =
     let grouped = group_parts piece front back q whole (display_lacks 58 front is.name (λ z. absurd (omega (arith, z))) is.named) other in
     let inside = grouped_parts front back is.inside is.after q is.whole (inside_lacks is.inside p is.lists) grouped in
-    lists_one SpellsOne one_no_gaps one_unique (pieces is.inside) p q is.lists inside.lists
+    lists_one SpellsMailbox one_no_gaps one_unique (pieces is.inside) p q is.lists inside.lists
 
-one_or_group : (piece : List Lexeme) (p q : List Address) → SpellsOne piece p → SpellsGroup piece q → ⊥
+one_or_group : (piece : List Lexeme) (p q : List Address) → SpellsMailbox piece p → SpellsGroup piece q → ⊥
 one_or_group piece p q (a, e, is) (front, (back, whole, grouped)) =
     both_ways _ (mailbox_lacks 58 piece a (λ z. absurd (omega (arith, z))) (λ z. absurd (omega (arith, z))) (λ z. absurd (omega (arith, z))) (λ z. absurd (omega (arith, z))) is) (ap (list_any (is_mark 58)) whole ∙ has_mark 58 front back)
 
@@ -131,13 +131,13 @@ bad_gives piece p (some, none) (inl (gaps, e)) = both_ways _ some gaps
 bad_gives piece p (some, none) (inr s) = none p s
 
 -- no list where a piece is bad
-pub lists_no_bad : (list : List (List Lexeme)) (p : List Address) (at : ℕ) → Lists Spells list p → FirstBad list at → ⊥
+pub lists_no_bad : (list : List (List Lexeme)) (p : List Address) (at : ℕ) → Lists Spells list p → IsFirstBad list at → ⊥
 lists_no_bad [] p at lists bad = bad
 lists_no_bad (piece ∷ pieces) p at (here, (later, e, gives, rest)) (inl (bad, z)) = bad_gives piece here bad gives
 lists_no_bad (piece ∷ pieces) p at (here, (later, e, gives, rest)) (inr (list, given, (next, f, bad))) = lists_no_bad pieces later next rest bad
 
 -- one first bad piece
-pub bad_unique : (list : List (List Lexeme)) (m n : ℕ) → FirstBad list m → FirstBad list n → m ≡ n
+pub bad_unique : (list : List (List Lexeme)) (m n : ℕ) → IsFirstBad list m → IsFirstBad list n → m ≡ n
 bad_unique [] m n p q = absurd p
 bad_unique (piece ∷ pieces) m n (inl (bad, z)) (inl (worse, y)) = z ∙ sym y
 bad_unique (piece ∷ pieces) m n (inl (bad, z)) (inr (list, gives, more)) = absurd (bad_gives piece list bad gives)
@@ -158,11 +158,11 @@ spec_holds ts n (inr at) =
 gives_holds : (ts : List Lexeme) (a : Address) → GivesSpec ts a → IsInSpec a
 gives_holds ts a gives = let h = spec_holds gives.spec a.local gives.is_spec in omega (arith, ap (λ (xs : List ℕ). length xs) gives.text)
 
-mailbox_holds : (ts : List Lexeme) (a : Address) → Mailbox ts a → IsInSpec a
+mailbox_holds : (ts : List Lexeme) (a : Address) → IsMailbox ts a → IsInSpec a
 mailbox_holds ts a (inl (gives, none)) = gives_holds ts a gives
 mailbox_holds ts a (inr (front, (back, whole, is))) = gives_holds is.inside a is.gives_spec
 
-one_holds : (piece : List Lexeme) (list : List Address) → SpellsOne piece list → All IsInSpec list
+one_holds : (piece : List Lexeme) (list : List Address) → SpellsMailbox piece list → All IsInSpec list
 one_holds piece list (a, e, is) = All-same IsInSpec list (a ∷ []) e (All-cons IsInSpec a [] (mailbox_holds piece a is) (All-nil IsInSpec))
 
 lists_hold : (S : Form) → ((piece : List Lexeme) (list : List Address) → S piece list → All IsInSpec list) → (list : List (List Lexeme)) (p : List Address) → Lists S list p → All IsInSpec p
@@ -174,7 +174,7 @@ lists_hold S holds (piece ∷ pieces) p (here, (later, e, inr s, rest)) =
 
 spells_hold : (piece : List Lexeme) (list : List Address) → Spells piece list → All IsInSpec list
 spells_hold piece list (inl one) = one_holds piece list one
-spells_hold piece list (inr (front, (back, whole, is))) = lists_hold SpellsOne one_holds (pieces is.inside) list is.lists
+spells_hold piece list (inr (front, (back, whole, is))) = lists_hold SpellsMailbox one_holds (pieces is.inside) list is.lists
 
 pub all_in_spec : (list : List (List Lexeme)) (p : List Address) → Lists Spells list p → All IsInSpec p
 all_in_spec list p lists = lists_hold Spells spells_hold list p lists
@@ -187,16 +187,16 @@ reads_unique value p q r s =
 -- or a fault
 pub reads_no_fault : (value : List ℕ) (p : List Address) (at : ℕ) → Reads value p → IsFault value at → ⊥
 reads_no_fault value p at r f =
-    lists_no_bad (pieces r.tokens) p at r.lists (subst (λ (ts : List Lexeme). FirstBad (pieces ts) at) (tokens_unique value f.tokens r.tokens f.are_tokens r.are_tokens) f.first_bad)
+    lists_no_bad (pieces r.tokens) p at r.lists (subst (λ (ts : List Lexeme). IsFirstBad (pieces ts) at) (tokens_unique value f.tokens r.tokens f.are_tokens r.are_tokens) f.first_bad)
 
 -- and one fault
 pub fault_unique : (value : List ℕ) (m n : ℕ) → IsFault value m → IsFault value n → m ≡ n
 fault_unique value m n f g =
-    bad_unique (pieces f.tokens) m n f.first_bad (subst (λ (ts : List Lexeme). FirstBad (pieces ts) n) (tokens_unique value g.tokens f.tokens g.are_tokens f.are_tokens) g.first_bad)
+    bad_unique (pieces f.tokens) m n f.first_bad (subst (λ (ts : List Lexeme). IsFirstBad (pieces ts) n) (tokens_unique value g.tokens f.tokens g.are_tokens f.are_tokens) g.first_bad)
 
 -- what reading all pieces answers
 pub read_all : (value : List ℕ) (found slice : List Lexeme) (old items : List Address) (bad : Option ℕ) → AreTokens value found → slice ≡ found → old ≡ [] → bad ≡ None
-    → MatchOption bad ((added : List Address) × (items ≡ old ++ added) × Lists Spells (pieces slice) added) (λ at. FirstBad (pieces slice) at) → Reads value items
+    → MatchOption bad ((added : List Address) × (items ≡ old ++ added) × Lists Spells (pieces slice) added) (λ at. IsFirstBad (pieces slice) at) → Reads value items
 read_all value found slice old items bad are e empty none h =
     let all = at_none bad _ _ none h in
     let same : items ≡ all.0 = all.1 ∙ ap (λ (xs : List Address). xs ++ all.0) empty in
@@ -207,11 +207,11 @@ read_all value found slice old items bad are e empty none h =
     }
 
 pub read_fault : (value : List ℕ) (found slice : List Lexeme) (old items : List Address) (bad : Option ℕ) (at : ℕ) → AreTokens value found → slice ≡ found → bad ≡ Some at
-    → MatchOption bad ((added : List Address) × (items ≡ old ++ added) × Lists Spells (pieces slice) added) (λ at. FirstBad (pieces slice) at) → IsFault value at
+    → MatchOption bad ((added : List Address) × (items ≡ old ++ added) × Lists Spells (pieces slice) added) (λ at. IsFirstBad (pieces slice) at) → IsFault value at
 read_fault value found slice old items bad at are e some h = record {
   tokens = slice;
   are_tokens = subst (AreTokens value) (sym e) are;
-  first_bad = at_some bad at _ (λ at. FirstBad (pieces slice) at) some h;
+  first_bad = at_some bad at _ (λ at. IsFirstBad (pieces slice) at) some h;
 }
 
 pub reads_in_spec : (value : List ℕ) (p : List Address) → Reads value p → All IsInSpec p

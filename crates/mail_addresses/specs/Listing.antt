@@ -1,11 +1,11 @@
--- The pieces of an address list and what they spell.
-use Rattle.std.specs.Prelude.{◌≡◌, ◌≢◌, ◌⊎◌, ℕ, Bool, true, false, ◌+◌, if◌then◌else◌, List, [], ◌∷◌, ◌++◌}
+-- The pieces of an address list and what they spell (RFC 5322, section 3.4, address-list and group, with the empty pieces of section 4.4).
+use Rattle.std.specs.Prelude.{◌≡◌, ◌≢◌, ◌⊎◌, ℕ, Bool, true, false, ◌+◌, if◌then◌else◌, List, [], ◌∷◌, ◌++◌, MatchBool}
 use Rattle.std.specs.List.{list_all}
 use Rattle.mail_addresses.specs.declared.address.Address.{Address}
 use Rattle.mail_addresses.specs.declared.pieces.Place.{Place}
 use Rattle.mail_addresses.specs.declared.pieces.Place.TheVariants.{Outside, Brackets, Group, GroupBrackets}
 use Rattle.mail_addresses.specs.Lexical.{Lexeme, mark, AreTokens}
-use Rattle.mail_addresses.specs.Forms.{is_gap, is_mark, DisplayName, Mailbox}
+use Rattle.mail_addresses.specs.Forms.{is_gap, is_mark, AreGaps, IsDisplayName, IsMailbox}
 
 -- where the tokens after this one stand: `<` and `>` are angle brackets, `:` begins a group and `;` ends it
 abbrev pub place_after : Place → Lexeme → Place
@@ -40,16 +40,16 @@ joined (piece ∷ other ∷ pieces) = piece ++ mark 44 ∷ joined (other ∷ pie
 
 -- a piece that is empty, blanks and comments alone, gives nothing; another one gives what it spells
 abbrev pub Gives : (List Lexeme → List Address → Type 0) → List Lexeme → List Address → Type 0
-Gives Spells piece list = ((list_all is_gap piece ≡ true) × (list ≡ [])) ⊎ Spells piece list
+Gives Form piece list = (AreGaps piece × (list ≡ [])) ⊎ Form piece list
 
 -- the joined lists of the pieces
 abbrev pub Lists : (List Lexeme → List Address → Type 0) → List (List Lexeme) → List Address → Type 0
-Lists Spells [] list = list ≡ []
-Lists Spells (piece ∷ pieces) list = (here : List Address) × ((later : List Address) × (list ≡ here ++ later) × Gives Spells piece here × Lists Spells pieces later)
+Lists Form [] list = list ≡ []
+Lists Form (piece ∷ pieces) list = (here : List Address) × ((later : List Address) × (list ≡ here ++ later) × Gives Form piece here × Lists Form pieces later)
 
--- one address
-abbrev pub SpellsOne : List Lexeme → List Address → Type 0
-SpellsOne piece list = (a : Address) × (list ≡ a ∷ []) × Mailbox piece a
+-- one address, and no other
+abbrev pub SpellsMailbox : List Lexeme → List Address → Type 0
+SpellsMailbox piece list = (a : Address) × (list ≡ a ∷ []) × IsMailbox piece a
 
 -- a name that isn't empty, and, after its `:`, a list of addresses, `;` and nothing but blanks
 pub record IsGrouped (front back : List Lexeme) (list : List Address) : Type 0 where
@@ -57,10 +57,10 @@ pub record IsGrouped (front back : List Lexeme) (list : List Address) : Type 0 w
   pub after : List Lexeme
   pub name : List ℕ
   pub whole : back ≡ inside ++ mark 59 ∷ after
-  pub named : DisplayName front name
+  pub named : IsDisplayName front name
   pub not_empty : name ≢ []
-  pub lists : Lists SpellsOne (pieces inside) list
-  pub gaps_after : list_all is_gap after ≡ true
+  pub lists : Lists SpellsMailbox (pieces inside) list
+  pub gaps_after : AreGaps after
 
 -- a group: a name that isn't empty, `:`, a list of addresses, `;`
 abbrev pub SpellsGroup : List Lexeme → List Address → Type 0
@@ -68,16 +68,24 @@ SpellsGroup piece list = (front : List Lexeme) × ((back : List Lexeme) × (piec
 
 -- what a piece that isn't empty may spell
 abbrev pub Spells : List Lexeme → List Address → Type 0
-Spells piece list = SpellsOne piece list ⊎ SpellsGroup piece list
+Spells piece list = SpellsMailbox piece list ⊎ SpellsGroup piece list
 
 -- a piece that isn't empty and spells nothing
 abbrev pub IsBad : List Lexeme → Type 0
 IsBad piece = (list_all is_gap piece ≡ false) × ((list : List Address) → Spells piece list → ⊥)
 
 -- number is that of the first bad piece: each one before it gives a list
-abbrev pub FirstBad : List (List Lexeme) → ℕ → Type 0
-FirstBad [] number = ⊥
-FirstBad (piece ∷ pieces) number = (IsBad piece × (number ≡ 0)) ⊎ ((list : List Address) × Gives Spells piece list × ((later : ℕ) × (number ≡ later + 1) × FirstBad pieces later))
+abbrev pub IsFirstBad : List (List Lexeme) → ℕ → Type 0
+IsFirstBad [] number = ⊥
+IsFirstBad (piece ∷ pieces) number = (IsBad piece × (number ≡ 0)) ⊎ ((list : List Address) × Gives Spells piece list × ((later : ℕ) × (number ≡ later + 1) × IsFirstBad pieces later))
+
+-- addresses of which this holds are put at the end
+abbrev pub Adds : (List Address → Type 0) → List Address → List Address → Type 0
+Adds P old new = (added : List Address) × (new ≡ old ++ added) × P added
+
+-- the same where it is so, and otherwise it holds of none
+abbrev pub AddsIf : (List Address → Type 0) → List Address → List Address → Bool → Type 0
+AddsIf P old new good = MatchBool good (Adds P old new) ((list : List Address) → P list → ⊥)
 
 -- the value's list of addresses
 pub record Reads (value : List ℕ) (list : List Address) : Type 0 where
@@ -89,4 +97,4 @@ pub record Reads (value : List ℕ) (list : List Address) : Type 0 where
 pub record IsFault (value : List ℕ) (number : ℕ) : Type 0 where
   pub tokens : List Lexeme
   pub are_tokens : AreTokens value tokens
-  pub first_bad : FirstBad (pieces tokens) number
+  pub first_bad : IsFirstBad (pieces tokens) number

@@ -18,7 +18,8 @@ pub struct Address {
 /// Why a value gives no list of addresses.
 #[derive(Debug, Drop, Error)]
 pub enum AddressError {
-    /// A piece that isn't empty spells neither an address nor a group; `at` is the number of the first such piece, from 0.
+    /// A piece that isn't empty spells neither an address nor a group. `at` is the number of the first such piece,
+    /// from 0; empty pieces count.
     #[error("piece {at} is neither an address nor a group")]
     Syntax { at: u64 },
     /// Want of memory.

@@ -1,6 +1,6 @@
 ghost use Rattle.std.specs.Prelude.{◌≡◌, IfOk, MatchOption};
 ghost use Rattle.mail_addresses.specs.declared.address.Address.{Address};
-ghost use Rattle.mail_addresses.specs.Forms.{GivesSpec, IsAngled, Mailbox};
+ghost use Rattle.mail_addresses.specs.Forms.{GivesSpec, IsAngled, IsMailbox, Finds};
 
 use crate::address::Address;
 use crate::name::display_name;
@@ -37,9 +37,7 @@ fn spec_address(alloc: Global, name: Text, tokens: &[Token]) -> Result<Option<Ad
 
 /// The address that the tokens spell, if they spell one.
 pub(crate) fn mailbox(alloc: Global, tokens: &[Token]) -> Result<Option<Address>, Memory>
-    ensures { IfOk result (λ address. MatchOption address
-        ((a : Address) → Mailbox tokens.now a → ⊥)
-        (λ a. Mailbox tokens.now a)) }
+    ensures { IfOk result (Finds (IsMailbox tokens.now)) }
 {
     let parts = split_at_mark(tokens, b'<');
     match parts {
@@ -50,9 +48,7 @@ pub(crate) fn mailbox(alloc: Global, tokens: &[Token]) -> Result<Option<Address>
 
 /// The address that a name and what follows its `<` spell, if they spell one.
 fn name_address(alloc: Global, front: &[Token], back: &[Token]) -> Result<Option<Address>, Memory>
-    ensures { IfOk result (λ address. MatchOption address
-        ((a : Address) → IsAngled front.now back.now a → ⊥)
-        (λ a. IsAngled front.now back.now a)) }
+    ensures { IfOk result (Finds (IsAngled front.now back.now)) }
 {
     let parts = split_at_mark(back, b'>');
     match parts {

@@ -1,5 +1,5 @@
 ghost use Rattle.std.specs.Prelude.{◌≡◌, ◌++◌, ◌∷◌, ℕ, List, IfOk, OnOk, MatchOption, if◌then◌else◌};
-ghost use Rattle.mail_addresses.specs.Forms.{part_text, DisplayName};
+ghost use Rattle.mail_addresses.specs.Forms.{part_text, spaced, IsDisplayName, Finds};
 
 use crate::token::Token;
 use mail_text::{Memory, Text};
@@ -7,9 +7,7 @@ use std::alloc::Global;
 
 /// The display name that the tokens give, if they give one.
 pub(crate) fn display_name(alloc: Global, tokens: &[Token]) -> Result<Option<Text>, Memory>
-    ensures { IfOk result (λ name. MatchOption name
-        ((text : List ℕ) → DisplayName tokens.now text → ⊥)
-        (λ text. DisplayName tokens.now text)) }
+    ensures { IfOk result (Finds (IsDisplayName tokens.now)) }
 {
     let mut name = Text::new(alloc);
     let mut begun = false;
@@ -30,7 +28,7 @@ pub(crate) fn display_name(alloc: Global, tokens: &[Token]) -> Result<Option<Tex
 
 /// Puts a part at the end, with a space before it where it stands apart.
 fn push_next(token: &Token, apart: bool, name: &mut Text) -> Result<(), Memory>
-    ensures { OnOk result (name.new ≡ name.old ++ (if apart then 32 ∷ part_text token.now else part_text token.now)) }
+    ensures { OnOk result (name.new ≡ name.old ++ spaced apart (part_text token.now)) }
 {
     if apart {
         name.push(b" ")?;

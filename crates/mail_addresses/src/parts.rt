@@ -1,7 +1,7 @@
 ghost use Rattle.std.specs.Prelude.{◌≡◌, ◌≤◌, ◌++◌, ◌∷◌, [], ℕ, List, length, take, OnOk, MatchOption, false, true};
 ghost use Rattle.std.specs.List.{list_all, list_any};
 ghost use Rattle.mail_addresses.specs.Lexical.{Lexeme, mark, texts, begins};
-ghost use Rattle.mail_addresses.specs.Forms.{is_gap, is_solid, is_mark, is_quoted, is_domain_literal, is_dot_atom, is_one, is_local_part, is_domain, IsSpec};
+ghost use Rattle.mail_addresses.specs.Forms.{is_gap, is_solid, Lacks, IsCutAtMark, is_quoted, is_domain_literal, is_dot_atom, is_one, is_local_part, is_domain, IsSpec};
 
 use crate::token::Token;
 use mail_text::{Memory, Text};
@@ -18,8 +18,9 @@ pub(crate) fn split_at_mark<'t, 'a>(
     tokens: &'t [Token<'a>],
     byte: u8,
 ) -> Option<(&'t [Token<'a>], &'t [Token<'a>])>
-    ensures { MatchOption result (list_any (is_mark byte) tokens.now ≡ false)
-        (λ parts. (tokens.now ≡ parts.0.now ++ mark byte ∷ parts.1.now) × (list_any (is_mark byte) parts.0.now ≡ false)) }
+    ensures { MatchOption result
+        (Lacks byte tokens.now)
+        (λ parts. IsCutAtMark byte tokens.now parts.0.now parts.1.now) }
 {
     for (i, token) in tokens.iter().enumerate() {
         if token.is_mark(byte) {

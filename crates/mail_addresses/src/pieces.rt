@@ -63,8 +63,10 @@ fn place_after(place: Place, token: &Token) -> Place
 /// How many tokens the first piece has.
 pub(crate) fn piece_length(tokens: &[Token]) -> usize
     ensures within { result ≤ length tokens.now }
-    ensures last { result ≡ length tokens.now → pieces tokens.now ≡ take result tokens.now ∷ [] }
-    ensures cut { result < length tokens.now → pieces tokens.now ≡ take result tokens.now ∷ pieces (drop (result + 1) tokens.now) }
+    ensures last { result ≡ length tokens.now
+        → pieces tokens.now ≡ take result tokens.now ∷ [] }
+    ensures cut { result < length tokens.now
+        → pieces tokens.now ≡ take result tokens.now ∷ pieces (drop (result + 1) tokens.now) }
 {
     let mut place = Place::Outside;
     for (i, token) in tokens.iter().enumerate() {

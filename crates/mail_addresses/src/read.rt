@@ -1,7 +1,7 @@
 ghost use Rattle.std.specs.Prelude.{◌≡◌, ◌≤◌, ◌⊎◌, ◌++◌, [], ◌∷◌, ℕ, List, length, IfOk, IfErr, IsErrAnd, All, Ok, Err, MatchOption, MatchBool, ◌≢◌};
 ghost use Rattle.mail_addresses.specs.declared.address.Address.{Address};
-ghost use Rattle.mail_addresses.specs.Forms.{DisplayName};
-ghost use Rattle.mail_addresses.specs.Listing.{pieces, Gives, Lists, SpellsOne, IsGrouped, SpellsGroup, Spells, IsBad, FirstBad, Reads, IsFault};
+ghost use Rattle.mail_addresses.specs.Forms.{IsDisplayName};
+ghost use Rattle.mail_addresses.specs.Listing.{pieces, Gives, Lists, SpellsMailbox, IsGrouped, SpellsGroup, Spells, IsBad, IsFirstBad, Adds, AddsIf, Reads, IsFault};
 
 use crate::address::{Address, AddressError};
 use crate::mailbox::mailbox;
@@ -13,10 +13,14 @@ use crate::token::Token;
 use mail_text::Memory;
 use std::alloc::Global;
 
-/// Reads a list of addresses (RFC 5322, section 3.4).
+/// Reads a list of addresses (RFC 5322, section 3.4). The answer is what the value's pieces spell, in order: a piece is
+/// a spec, an optional name and a spec in angle brackets, or a group, which gives the addresses in it; an empty piece
+/// gives nothing. `Syntax` comes exactly where a piece is neither empty nor one of these. It takes time in proportion to
+/// the value's length, however deep its comments are.
 pub fn read_list(alloc: Global, value: &[u8]) -> Result<Vec<Address>, AddressError>
     ensures ok { IfOk result (λ list. Reads value.now list.items) }
-    ensures syntax { (at : ℕ) → result ≡ Err (AddressError.Syntax at) → IsFault value.now at }
+    ensures syntax { (at : ℕ) → result ≡ Err (AddressError.Syntax at)
+        → IsFault value.now at }
     ensures accepted { (list : List Address) → Reads value.now list
         → IfErr result (λ e. e ≡ AddressError.Memory) }
     ensures refused { (at : ℕ) → IsFault value.now at
@@ -39,8 +43,8 @@ fn read_pieces(
     list: &mut Vec<Address>,
 ) -> Result<Option<u64>, Memory>
     ensures { IfOk result (λ bad. MatchOption bad
-        ((added : List Address) × (list.new.items ≡ list.old.items ++ added) × Lists Spells (pieces tokens.now) added)
-        (λ at. FirstBad (pieces tokens.now) at)) }
+        (Adds (Lists Spells (pieces tokens.now)) list.old.items list.new.items)
+        (λ at. IsFirstBad (pieces tokens.now) at)) }
 {
     let mut rest = tokens;
     let mut number = 0;
@@ -61,7 +65,7 @@ fn read_pieces(
 /// Puts the addresses of a piece at the end, or answers that the piece is bad.
 fn read_piece(alloc: Global, piece: &[Token], list: &mut Vec<Address>) -> Result<bool, Memory>
     ensures { IfOk result (λ good. MatchBool good
-        ((added : List Address) × (list.new.items ≡ list.old.items ++ added) × Gives Spells piece.now added)
+        (Adds (Gives Spells piece.now) list.old.items list.new.items)
         (IsBad piece.now)) }
 {
     if are_gaps(piece) {
@@ -79,9 +83,7 @@ fn read_piece(alloc: Global, piece: &[Token], list: &mut Vec<Address>) -> Result
 
 /// Puts the addresses of a group at the end, or answers that the tokens are none.
 fn read_group(alloc: Global, piece: &[Token], list: &mut Vec<Address>) -> Result<bool, Memory>
-    ensures { IfOk result (λ good. MatchBool good
-        ((added : List Address) × (list.new.items ≡ list.old.items ++ added) × SpellsGroup piece.now added)
-        ((added : List Address) → SpellsGroup piece.now added → ⊥)) }
+    ensures { IfOk result (AddsIf (SpellsGroup piece.now) list.old.items list.new.items) }
 {
     let parts = split_at_mark(piece, b':');
     match parts {
@@ -90,16 +92,14 @@ fn read_group(alloc: Global, piece: &[Token], list: &mut Vec<Address>) -> Result
     }
 }
 
-/// Puts the addresses of a group with this name at the end, or answers that what follows its `:` is no group.
+/// Puts the addresses of a group with this name at the end, or answers that what follows its `:` doesn't make one.
 fn read_grouped(
     alloc: Global,
     front: &[Token],
     back: &[Token],
     list: &mut Vec<Address>,
 ) -> Result<bool, Memory>
-    ensures { IfOk result (λ good. MatchBool good
-        ((added : List Address) × (list.new.items ≡ list.old.items ++ added) × IsGrouped front.now back.now added)
-        ((added : List Address) → IsGrouped front.now back.now added → ⊥)) }
+    ensures { IfOk result (AddsIf (IsGrouped front.now back.now) list.old.items list.new.items) }
 {
     let parts = split_at_mark(back, b';');
     match parts {
@@ -120,8 +120,8 @@ fn read_grouped(
 /// Whether the tokens give a name that isn't empty.
 fn has_name(alloc: Global, tokens: &[Token]) -> Result<bool, Memory>
     ensures { IfOk result (λ has. MatchBool has
-        ((name : List ℕ) × DisplayName tokens.now name × (name ≢ []))
-        ((name : List ℕ) → DisplayName tokens.now name → name ≡ [])) }
+        ((name : List ℕ) × IsDisplayName tokens.now name × (name ≢ []))
+        ((name : List ℕ) → IsDisplayName tokens.now name → name ≡ [])) }
 {
     let name = display_name(alloc, tokens)?;
     match name {
@@ -132,9 +132,8 @@ fn has_name(alloc: Global, tokens: &[Token]) -> Result<bool, Memory>
 
 /// Puts the addresses of the list in a group at the end, or answers that it isn't one.
 fn read_members(alloc: Global, tokens: &[Token], list: &mut Vec<Address>) -> Result<bool, Memory>
-    ensures { IfOk result (λ good. MatchBool good
-        ((added : List Address) × (list.new.items ≡ list.old.items ++ added) × Lists SpellsOne (pieces tokens.now) added)
-        ((added : List Address) → Lists SpellsOne (pieces tokens.now) added → ⊥)) }
+    ensures { IfOk result
+        (AddsIf (Lists SpellsMailbox (pieces tokens.now)) list.old.items list.new.items) }
 {
     let mut rest = tokens;
     loop {
@@ -152,9 +151,7 @@ fn read_members(alloc: Global, tokens: &[Token], list: &mut Vec<Address>) -> Res
 
 /// Puts the address of a piece in a group at the end, or answers that the piece is bad.
 fn read_member(alloc: Global, piece: &[Token], list: &mut Vec<Address>) -> Result<bool, Memory>
-    ensures { IfOk result (λ good. MatchBool good
-        ((added : List Address) × (list.new.items ≡ list.old.items ++ added) × Gives SpellsOne piece.now added)
-        ((added : List Address) → Gives SpellsOne piece.now added → ⊥)) }
+    ensures { IfOk result (AddsIf (Gives SpellsMailbox piece.now) list.old.items list.new.items) }
 {
     if are_gaps(piece) {
         return Ok(true);

@@ -1,6 +1,6 @@
 ghost use Rattle.std.specs.Prelude.{◌≡◌, ◌≢◌, ◌==◌, ◌≤◌, ◌<◌, ◌+◌, ◌++◌, ◌∷◌, [], ℕ, List, length, take, drop, true, false, IfOk, OnOk, IfSome, MatchOption};
 ghost use Rattle.std.specs.List.{list_all, list_any};
-ghost use Rattle.mail_addresses.specs.Lexical.{is_blank_byte, is_special, is_atom_byte, begins, CommentContent, QuotedContent, unclosed, text_of, IsToken, AreTokens};
+ghost use Rattle.mail_addresses.specs.Lexical.{is_blank_byte, is_special, is_atom_byte, begins, IsCommentContent, IsQuotedContent, IsLiteralContent, IsEnd, unclosed, text_of, IsToken, AreTokens};
 ghost use Rattle.mail_addresses.specs.Lexeme.{lexeme};
 ghost use Rattle.mail_addresses.specs.Forms.{unescaped};
 
@@ -50,9 +50,7 @@ fn is_atom_byte(b: u8) -> bool
 
 /// The place of the parenthesis that closes a comment; its opening one stands before these bytes.
 fn comment_end(bytes: &[u8]) -> Option<usize>
-    ensures { MatchOption result
-        ((inside after : List ℕ) → CommentContent inside → bytes.now ≡ inside ++ 41 ∷ after → ⊥)
-        (λ n. (n < length bytes.now) × CommentContent (take n bytes.now) × (bytes.now ≡ take n bytes.now ++ 41 ∷ drop (n + 1) bytes.now)) }
+    ensures { IsEnd IsCommentContent 41 bytes.now result }
 {
     let mut depth: usize = 0;
     let mut escaped = false;
@@ -75,9 +73,7 @@ fn comment_end(bytes: &[u8]) -> Option<usize>
 
 /// The place of the quote that closes a quoted string; its opening one stands before these bytes.
 fn quote_end(bytes: &[u8]) -> Option<usize>
-    ensures { MatchOption result
-        ((inside after : List ℕ) → QuotedContent inside → bytes.now ≡ inside ++ 34 ∷ after → ⊥)
-        (λ n. (n < length bytes.now) × QuotedContent (take n bytes.now) × (bytes.now ≡ take n bytes.now ++ 34 ∷ drop (n + 1) bytes.now)) }
+    ensures { IsEnd IsQuotedContent 34 bytes.now result }
 {
     let mut escaped = false;
     for (i, b) in bytes.iter().enumerate() {
@@ -94,9 +90,7 @@ fn quote_end(bytes: &[u8]) -> Option<usize>
 
 /// The place of the first closing bracket.
 fn literal_end(bytes: &[u8]) -> Option<usize>
-    ensures { MatchOption result
-        (list_any (λ b. b == 93) bytes.now ≡ false)
-        (λ n. (n < length bytes.now) × (list_any (λ b. b == 93) (take n bytes.now) ≡ false) × (bytes.now ≡ take n bytes.now ++ 93 ∷ drop (n + 1) bytes.now)) }
+    ensures { IsEnd IsLiteralContent 93 bytes.now result }
 {
     memchr(b']', bytes)
 }

@@ -1,6 +1,6 @@
 use Rattle.std.proofs.Common.{◌≡◌, sym, ◌∙◌, subst}
 use Rattle.std.proofs.lemmas.Bool.{both_ways}
-use Rattle.mail_addresses.specs.Forms.{GivesSpec, DisplayName, IsAngled}
+use Rattle.mail_addresses.specs.Forms.{GivesSpec, IsDisplayName, IsAngled}
 use Rattle.mail_addresses.proofs.MailboxLemmas.{angled_parts, angled_from, answers, at_none, at_some}
 use Rattle.mail_addresses.proofs.mailbox.name_address.Goals as goal
 
@@ -20,10 +20,10 @@ returns-in-Some-name c =
     let inside = c.in-Some.inside.now in
     let after = c.in-Some.after.now in
     let name = c.in-Some-name.name in
-    let named : DisplayName front name = at_some _ name _ _ c.in-Some-name.is c.in_ok-name-in-Some.ensures in
+    let named : IsDisplayName front name = at_some _ name _ _ c.in-Some-name.is c.in_ok-name-in-Some.ensures in
     answers c.spec_address.result (λ a. GivesSpec inside a × (a.name ≡ name)) (GivesSpec inside) (IsAngled front back)
     (λ a said. angled_from front back inside after a c.in-Some.ensures.0 record {
-      named = subst (DisplayName front) (sym said.1) named;
+      named = subst (IsDisplayName front) (sym said.1) named;
       gives_spec = said.0;
       gaps_after = sym c.are_gaps.ensures ∙ c.if-not-are_gaps.false;
     })

@@ -1,7 +1,7 @@
 use Rattle.std.proofs.Common.{◌≡◌, ◌+◌, ◌++◌, ◌∷◌, ℕ, true, false, List, Some, drop, sym, ap, ◌∙◌, arith}
 use Rattle.std.proofs.lemmas.List.{append-nil}
-use Rattle.mail_addresses.specs.Forms.{part_text}
-use Rattle.mail_addresses.proofs.NameLemmas.{after, after-append, spaced, name_from, name_from-here, name_from-gap, name_from-part, name_from-none, name_from-end, read_is_name, no_name, same_state}
+use Rattle.mail_addresses.specs.Forms.{part_text, spaced}
+use Rattle.mail_addresses.proofs.NameLemmas.{after, after-append, name_from, name_from-here, name_from-gap, name_from-part, name_from-none, name_from-end, read_is_name, no_name, same_state}
 use Rattle.mail_addresses.proofs.name.display_name.Goals as goal
 use Rattle.mail_addresses.proofs.name.display_name.Goals.{then-is_gap, else-is_gap+then-is_part+in_ok-push_next}
 

@@ -1,6 +1,6 @@
 use Rattle.std.proofs.Common.{sym, ◌∙◌}
 use Rattle.std.proofs.lemmas.Bool.{both_ways, MatchBool-at_true, MatchBool-at_false}
-use Rattle.mail_addresses.specs.Listing.{pieces, Lists, SpellsOne, IsGrouped}
+use Rattle.mail_addresses.specs.Listing.{pieces, Lists, SpellsMailbox, IsGrouped}
 use Rattle.mail_addresses.proofs.GroupLemmas.{grouped_parts, grouped_from, added}
 use Rattle.mail_addresses.proofs.read.read_grouped.Goals as goal
 
@@ -20,7 +20,7 @@ returns-else-not-named c =
     let inside = c.in-Some.inside.now in
     let after = c.in-Some.after.now in
     let name = MatchBool-at_true _ _ c.if-not-named.false c.in_ok-named-in-Some.ensures in
-    added c.read_members.result _ _ (Lists SpellsOne (pieces inside)) (IsGrouped front back)
+    added c.read_members.result _ _ (Lists SpellsMailbox (pieces inside)) (IsGrouped front back)
     (λ list said. grouped_from front back inside after list c.in-Some.ensures.0 record {
       name = name.0;
       named = name.1;

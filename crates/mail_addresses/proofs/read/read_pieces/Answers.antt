@@ -1,7 +1,7 @@
 use Rattle.std.proofs.Common.{◌≤◌, ◌<◌, ◌+◌, ◌++◌, List, length, take, drop, length-drop, arith, ap, subst}
 use Rattle.std.proofs.lemmas.Bool.{MatchBool-at_true, MatchBool-at_false}
 use Rattle.mail_addresses.specs.Lexical.{Lexeme}
-use Rattle.mail_addresses.specs.Listing.{pieces, Lists, Spells, FirstBad}
+use Rattle.mail_addresses.specs.Listing.{pieces, Lists, Spells, IsFirstBad}
 use Rattle.mail_addresses.proofs.ListingLemmas.{first_is, rest_is, lists_step, bad_step, bad_here, put_more}
 use Rattle.mail_addresses.proofs.read.read_pieces.Goals as goal
 
@@ -27,6 +27,6 @@ loop-good-preserved c =
       lists = λ later l. lists_step Spells (pieces c.args.tokens.now) (pieces rest) (pieces (drop (n + 1) rest)) (take n rest) inv.added good.0 cut good.2 inv.lists later
           (subst (λ (ts : List Lexeme). Lists Spells (pieces ts) later) same l);
       bad = λ at h. bad_step (pieces c.args.tokens.now) (pieces rest) (pieces (drop (n + 1) rest)) (take n rest) good.0 c.loop-good.number cut good.2 inv.bad at
-          (subst (λ (ts : List Lexeme). FirstBad (pieces ts) at) same h);
+          (subst (λ (ts : List Lexeme). IsFirstBad (pieces ts) at) same h);
       counted = omega (arith, ap (λ (ts : List Lexeme). length ts) same, length-drop (n + 1) rest, inv.counted);
     }
