@@ -1,0 +1,13 @@
+pub mod ListLemmas
+pub mod FormLemmas
+pub mod Closing
+pub mod Quoting
+pub mod TokenLemmas
+pub mod NameLemmas
+pub mod PieceLemmas
+pub mod MailboxLemmas
+pub mod ListingLemmas
+pub mod GroupLemmas
+pub mod UniqueLemmas
+pub mod TokenUnique
+pub mod BalanceLemmas

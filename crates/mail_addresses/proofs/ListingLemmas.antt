@@ -1,0 +1,69 @@
+-- Lists of addresses: pieces read one after another.
+use Rattle.std.proofs.Common.{◌≡◌, ℕ, ◌+◌, false, List, [], ◌∷◌, ◌++◌, inl, inr, refl, sym, ap, ◌∙◌, subst, arith, append_assoc, ◌<◌, ◌≤◌, ◌-◌, length, take, drop}
+use Rattle.std.specs.List.{list_all}
+use Rattle.std.proofs.lemmas.Bool.{both_ways, cases_eq}
+use Rattle.std.proofs.lemmas.List.{append-nil, take_rest}
+use Rattle.mail_addresses.specs.declared.address.Address.{Address}
+use Rattle.mail_addresses.specs.Lexical.{Lexeme}
+use Rattle.mail_addresses.specs.Forms.{is_gap, IsMailbox}
+use Rattle.mail_addresses.specs.Listing.{pieces, Gives, Lists, SpellsMailbox, Spells, IsBad, IsFirstBad}
+
+-- what pieces may spell
+abbrev pub Form : Type 1
+Form = List Lexeme → List Address → Type 0
+
+pub lists_last : (S : Form) (list : List (List Lexeme)) (piece : List Lexeme) (here : List Address) → list ≡ piece ∷ [] → Gives S piece here → Lists S list here
+lists_last S list piece here e gives = subst (λ (ps : List (List Lexeme)). Lists S ps here) (sym e) (here, ([], sym (append-nil here), gives, refl))
+
+pub lists_more : (S : Form) (list rest : List (List Lexeme)) (piece : List Lexeme) (here later : List Address) → list ≡ piece ∷ rest → Gives S piece here → Lists S rest later → Lists S list (here ++ later)
+lists_more S list rest piece here later e gives lists = subst (λ (ps : List (List Lexeme)). Lists S ps (here ++ later)) (sym e) (here, (later, refl, gives, lists))
+
+-- the lists of the whole, once a piece more is read
+pub lists_step : (S : Form) (whole list rest : List (List Lexeme)) (piece : List Lexeme) (added here : List Address) → list ≡ piece ∷ rest → Gives S piece here
+    → ((later : List Address) → Lists S list later → Lists S whole (added ++ later)) → (later : List Address) → Lists S rest later → Lists S whole ((added ++ here) ++ later)
+lists_step S whole list rest piece added here e gives so_far later lists =
+    subst (Lists S whole) (sym (append_assoc added here later)) (so_far (here ++ later) (lists_more S list rest piece here later e gives lists))
+
+-- the list of all, once the last piece is read
+pub lists_end : (S : Form) (whole list : List (List Lexeme)) (piece : List Lexeme) (added here : List Address) → list ≡ piece ∷ [] → Gives S piece here
+    → ((later : List Address) → Lists S list later → Lists S whole (added ++ later)) → Lists S whole (added ++ here)
+lists_end S whole list piece added here e gives so_far = so_far here (lists_last S list piece here e gives)
+
+pub put_more : (first added here old new : List Address) → old ≡ first ++ added → new ≡ old ++ here → new ≡ first ++ (added ++ here)
+put_more first added here old new e f = f ∙ ap (λ (xs : List Address). xs ++ here) e ∙ append_assoc first added here
+
+-- the first bad piece of the whole, once a piece more is read
+pub bad_step : (whole list rest : List (List Lexeme)) (piece : List Lexeme) (here : List Address) (number : ℕ) → list ≡ piece ∷ rest → Gives Spells piece here
+    → ((at : ℕ) → IsFirstBad list at → IsFirstBad whole (number + at)) → (at : ℕ) → IsFirstBad rest at → IsFirstBad whole (number + 1 + at)
+bad_step whole list rest piece here number e gives so_far at bad =
+    subst (IsFirstBad whole) (omega arith) (so_far (at + 1) (subst (λ (ps : List (List Lexeme)). IsFirstBad ps (at + 1)) (sym e) (inr (here, gives, (at, refl, bad)))))
+
+pub bad_here : (whole list rest : List (List Lexeme)) (piece : List Lexeme) (number : ℕ) → list ≡ piece ∷ rest → IsBad piece
+    → ((at : ℕ) → IsFirstBad list at → IsFirstBad whole (number + at)) → IsFirstBad whole number
+bad_here whole list rest piece number e bad so_far =
+    subst (IsFirstBad whole) (omega arith) (so_far 0 (subst (λ (ps : List (List Lexeme)). IsFirstBad ps 0) (sym e) (inl (bad, refl))))
+
+-- a list has lists of its first piece and of the others
+pub lists_first : (S : Form) (list rest : List (List Lexeme)) (piece : List Lexeme) → list ≡ piece ∷ rest → (all : List Address) → Lists S list all → (here : List Address) × Gives S piece here
+lists_first S list rest piece e all lists = let l = subst (λ (ps : List (List Lexeme)). Lists S ps all) e lists in (l.0, l.1.2)
+
+pub lists_others : (S : Form) (list rest : List (List Lexeme)) (piece : List Lexeme) → list ≡ piece ∷ rest → (all : List Address) → Lists S list all → (later : List Address) × Lists S rest later
+lists_others S list rest piece e all lists = let l = subst (λ (ps : List (List Lexeme)). Lists S ps all) e lists in (l.1.0, l.1.3)
+
+-- tokens that are neither blanks nor a mailbox give nothing in a group
+pub no_member : (piece : List Lexeme) → list_all is_gap piece ≡ false → ((a : Address) → IsMailbox piece a → ⊥) → (added : List Address) → Gives SpellsMailbox piece added → ⊥
+no_member piece gaps none added (inl (g, e)) = both_ways _ gaps g
+no_member piece gaps none added (inr (a, e, is)) = none a is
+
+-- the first piece, whether a comma cuts it off or not
+pub first_is : (ts : List Lexeme) (n : ℕ) → n ≤ length ts → (n ≡ length ts → pieces ts ≡ take n ts ∷ []) → (n < length ts → pieces ts ≡ take n ts ∷ pieces (drop (n + 1) ts))
+    → (others : List (List Lexeme)) × (pieces ts ≡ take n ts ∷ others)
+first_is ts n within last cut =
+    elim (cases_eq n (length ts)) [
+      | inl e ↦ ([], last e)
+      | inr less ↦ (pieces (drop (n + 1) ts), cut (omega arith))
+    ]
+
+-- the rest as code writes it
+pub rest_is : (ts : List Lexeme) (n : ℕ) → take (length ts - n) (drop n ts) ≡ drop n ts
+rest_is ts n = take_rest ts n

@@ -1,0 +1,5 @@
+pub mod Lexical
+pub mod Lexeme
+pub mod Forms
+pub mod Listing
+pub mod Balance

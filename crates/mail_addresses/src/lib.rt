@@ -1,0 +1,23 @@
+//! Lists of mail addresses, read exactly (RFC 5322, section 3.4): a value gives the addresses that its pieces spell, or the
+//! number of the first piece that spells nothing.
+#![tactic(auto)]
+
+mod address;
+mod laws;
+mod mailbox;
+mod name;
+mod parts;
+mod pieces;
+mod read;
+mod scan;
+mod token;
+
+pub use address::{Address, AddressError, bare, local_part, same_address};
+pub use laws::{
+    comments_are_balanced, one_reading, pieces_are_the_tokens, quoted_strings_end_at_a_quote,
+    tokens_are_the_value,
+};
+pub use read::read_list;
+
+#[cfg(test)]
+mod tests;

@@ -1,0 +1,37 @@
+ghost use Rattle.std.specs.Prelude.{◌≡◌, ◌++◌, ◌∷◌, ℕ, List, IfOk, OnOk, MatchOption, if◌then◌else◌};
+ghost use Rattle.mail_addresses.specs.Forms.{part_text, spaced, IsDisplayName, Finds};
+
+use crate::token::Token;
+use mail_text::{Memory, Text};
+use std::alloc::Global;
+
+/// The display name that the tokens give, if they give one.
+pub(crate) fn display_name(alloc: Global, tokens: &[Token]) -> Result<Option<Text>, Memory>
+    ensures { IfOk result (Finds (IsDisplayName tokens.now)) }
+{
+    let mut name = Text::new(alloc);
+    let mut begun = false;
+    let mut apart = false;
+    for token in tokens {
+        if token.is_gap() {
+            apart = begun;
+        } else if token.is_part() {
+            push_next(token, apart, &mut name)?;
+            begun = true;
+            apart = false;
+        } else {
+            return Ok(None);
+        }
+    }
+    Ok(Some(name))
+}
+
+/// Puts a part at the end, with a space before it where it stands apart.
+fn push_next(token: &Token, apart: bool, name: &mut Text) -> Result<(), Memory>
+    ensures { OnOk result (name.new ≡ name.old ++ spaced apart (part_text token.now)) }
+{
+    if apart {
+        name.push(b" ")?;
+    }
+    token.push_part(name)
+}

@@ -1,0 +1,79 @@
+ghost use Rattle.std.specs.Prelude.{◌≡◌, ◌<◌, ◌+◌, ◌∷◌, [], length, take, drop, ◌≤◌};
+ghost use Rattle.mail_addresses.specs.Listing.{place_after, is_cut, pieces};
+
+use crate::token::Token;
+
+/// Where a token stands.
+#[derive(Clone, Copy)]
+pub(crate) enum Place {
+    Outside,
+    Brackets,
+    Group,
+    GroupBrackets,
+}
+
+fn is_cut(place: Place, token: &Token) -> bool
+    ensures { result ≡ is_cut place token.now }
+{
+    match place {
+        Place::Outside => token.is_mark(b','),
+        Place::Brackets | Place::Group | Place::GroupBrackets => false,
+    }
+}
+
+fn place_after(place: Place, token: &Token) -> Place
+    ensures { result ≡ place_after place token.now }
+{
+    match place {
+        Place::Outside => {
+            if token.is_mark(b'<') {
+                Place::Brackets
+            } else if token.is_mark(b':') {
+                Place::Group
+            } else {
+                Place::Outside
+            }
+        }
+        Place::Brackets => {
+            if token.is_mark(b'>') {
+                Place::Outside
+            } else {
+                Place::Brackets
+            }
+        }
+        Place::Group => {
+            if token.is_mark(b'<') {
+                Place::GroupBrackets
+            } else if token.is_mark(b';') {
+                Place::Outside
+            } else {
+                Place::Group
+            }
+        }
+        Place::GroupBrackets => {
+            if token.is_mark(b'>') {
+                Place::Group
+            } else {
+                Place::GroupBrackets
+            }
+        }
+    }
+}
+
+/// How many tokens the first piece has.
+pub(crate) fn piece_length(tokens: &[Token]) -> usize
+    ensures within { result ≤ length tokens.now }
+    ensures last { result ≡ length tokens.now
+        → pieces tokens.now ≡ take result tokens.now ∷ [] }
+    ensures cut { result < length tokens.now
+        → pieces tokens.now ≡ take result tokens.now ∷ pieces (drop (result + 1) tokens.now) }
+{
+    let mut place = Place::Outside;
+    for (i, token) in tokens.iter().enumerate() {
+        if is_cut(place, token) {
+            return i;
+        }
+        place = place_after(place, token);
+    }
+    tokens.len()
+}

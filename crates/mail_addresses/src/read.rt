@@ -1,0 +1,167 @@
+ghost use Rattle.std.specs.Prelude.{◌≡◌, ◌≤◌, ◌⊎◌, ◌++◌, [], ◌∷◌, ℕ, List, length, IfOk, IfErr, IsErrAnd, All, Ok, Err, MatchOption, MatchBool, ◌≢◌};
+ghost use Rattle.mail_addresses.specs.declared.address.Address.{Address};
+ghost use Rattle.mail_addresses.specs.Forms.{IsDisplayName};
+ghost use Rattle.mail_addresses.specs.Listing.{pieces, Gives, Lists, SpellsMailbox, IsGrouped, SpellsGroup, Spells, IsBad, IsFirstBad, Adds, AddsIf, Reads, IsFault};
+
+use crate::address::{Address, AddressError};
+use crate::mailbox::mailbox;
+use crate::name::display_name;
+use crate::parts::{are_gaps, split_at_mark};
+use crate::pieces::piece_length;
+use crate::scan::tokens;
+use crate::token::Token;
+use mail_text::Memory;
+use std::alloc::Global;
+
+/// Reads a list of addresses (RFC 5322, section 3.4). The answer is what the value's pieces spell, in order: a piece is
+/// a spec, an optional name and a spec in angle brackets, or a group, which gives the addresses in it; an empty piece
+/// gives nothing. `Syntax` comes exactly where a piece is neither empty nor one of these. It takes time in proportion to
+/// the value's length, however deep its comments are.
+pub fn read_list(alloc: Global, value: &[u8]) -> Result<Vec<Address>, AddressError>
+    ensures ok { IfOk result (λ list. Reads value.now list.items) }
+    ensures syntax { (at : ℕ) → result ≡ Err (AddressError.Syntax at)
+        → IsFault value.now at }
+    ensures accepted { (list : List Address) → Reads value.now list
+        → IfErr result (λ e. e ≡ AddressError.Memory) }
+    ensures refused { (at : ℕ) → IsFault value.now at
+        → IsErrAnd result (λ e. (e ≡ AddressError.Syntax at) ⊎ (e ≡ AddressError.Memory)) }
+    ensures local { IfOk result (λ list. All (λ a. a.local ≤ length a.spec) list.items) }
+{
+    let found = tokens(alloc, value)?;
+    let mut list = Vec::new(alloc);
+    let bad = read_pieces(alloc, &found, &mut list)?;
+    match bad {
+        None => Ok(list),
+        Some(at) => Err(AddressError::Syntax { at }),
+    }
+}
+
+/// Puts the addresses of all pieces at the end, or answers the number of the first bad piece.
+fn read_pieces(
+    alloc: Global,
+    tokens: &[Token],
+    list: &mut Vec<Address>,
+) -> Result<Option<u64>, Memory>
+    ensures { IfOk result (λ bad. MatchOption bad
+        (Adds (Lists Spells (pieces tokens.now)) list.old.items list.new.items)
+        (λ at. IsFirstBad (pieces tokens.now) at)) }
+{
+    let mut rest = tokens;
+    let mut number = 0;
+    loop {
+        let count = piece_length(rest);
+        let good = read_piece(alloc, &rest[..count], list)?;
+        if !good {
+            return Ok(Some(number));
+        }
+        if count == rest.len() {
+            return Ok(None);
+        }
+        rest = &rest[count + 1..];
+        number += 1;
+    }
+}
+
+/// Puts the addresses of a piece at the end, or answers that the piece is bad.
+fn read_piece(alloc: Global, piece: &[Token], list: &mut Vec<Address>) -> Result<bool, Memory>
+    ensures { IfOk result (λ good. MatchBool good
+        (Adds (Gives Spells piece.now) list.old.items list.new.items)
+        (IsBad piece.now)) }
+{
+    if are_gaps(piece) {
+        return Ok(true);
+    }
+    let address = mailbox(alloc, piece)?;
+    match address {
+        Some(address) => {
+            list.push(address)?;
+            Ok(true)
+        }
+        None => read_group(alloc, piece, list),
+    }
+}
+
+/// Puts the addresses of a group at the end, or answers that the tokens are none.
+fn read_group(alloc: Global, piece: &[Token], list: &mut Vec<Address>) -> Result<bool, Memory>
+    ensures { IfOk result (AddsIf (SpellsGroup piece.now) list.old.items list.new.items) }
+{
+    let parts = split_at_mark(piece, b':');
+    match parts {
+        None => Ok(false),
+        Some((front, back)) => read_grouped(alloc, front, back, list),
+    }
+}
+
+/// Puts the addresses of a group with this name at the end, or answers that what follows its `:` doesn't make one.
+fn read_grouped(
+    alloc: Global,
+    front: &[Token],
+    back: &[Token],
+    list: &mut Vec<Address>,
+) -> Result<bool, Memory>
+    ensures { IfOk result (AddsIf (IsGrouped front.now back.now) list.old.items list.new.items) }
+{
+    let parts = split_at_mark(back, b';');
+    match parts {
+        None => Ok(false),
+        Some((inside, after)) => {
+            if !are_gaps(after) {
+                return Ok(false);
+            }
+            let named = has_name(alloc, front)?;
+            if !named {
+                return Ok(false);
+            }
+            read_members(alloc, inside, list)
+        }
+    }
+}
+
+/// Whether the tokens give a name that isn't empty.
+fn has_name(alloc: Global, tokens: &[Token]) -> Result<bool, Memory>
+    ensures { IfOk result (λ has. MatchBool has
+        ((name : List ℕ) × IsDisplayName tokens.now name × (name ≢ []))
+        ((name : List ℕ) → IsDisplayName tokens.now name → name ≡ [])) }
+{
+    let name = display_name(alloc, tokens)?;
+    match name {
+        None => Ok(false),
+        Some(name) => Ok(!name.bytes().is_empty()),
+    }
+}
+
+/// Puts the addresses of the list in a group at the end, or answers that it isn't one.
+fn read_members(alloc: Global, tokens: &[Token], list: &mut Vec<Address>) -> Result<bool, Memory>
+    ensures { IfOk result
+        (AddsIf (Lists SpellsMailbox (pieces tokens.now)) list.old.items list.new.items) }
+{
+    let mut rest = tokens;
+    loop {
+        let count = piece_length(rest);
+        let good = read_member(alloc, &rest[..count], list)?;
+        if !good {
+            return Ok(false);
+        }
+        if count == rest.len() {
+            return Ok(true);
+        }
+        rest = &rest[count + 1..];
+    }
+}
+
+/// Puts the address of a piece in a group at the end, or answers that the piece is bad.
+fn read_member(alloc: Global, piece: &[Token], list: &mut Vec<Address>) -> Result<bool, Memory>
+    ensures { IfOk result (AddsIf (Gives SpellsMailbox piece.now) list.old.items list.new.items) }
+{
+    if are_gaps(piece) {
+        return Ok(true);
+    }
+    let address = mailbox(alloc, piece)?;
+    match address {
+        None => Ok(false),
+        Some(address) => {
+            list.push(address)?;
+            Ok(true)
+        }
+    }
+}
