@@ -1,0 +1,4 @@
+pub mod States
+pub mod StateLaws
+pub mod Status
+pub mod Stamp

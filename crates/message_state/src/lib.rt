@@ -1,0 +1,15 @@
+//! What a session knows of a message: its mark, its row in a summary, and the text with its mark stamped on it.
+#![tactic(auto)]
+
+mod laws;
+mod mark;
+mod stamp;
+mod status;
+
+pub use laws::acts_by_the_table;
+pub use mark::{Act, Mark, State, after};
+pub use stamp::stamped;
+pub use status::mark_of;
+
+#[cfg(test)]
+mod tests;
