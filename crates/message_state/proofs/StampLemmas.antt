@@ -1,8 +1,7 @@
 -- Texts by their From line, the lines of a header and a body.
-use Rattle.std.proofs.Common.{◌≡◌, ℕ, Bool, true, false, List, [], ◌∷◌, ◌++◌, map, filter, Option, Some, None, not, codes, refl, sym, ap, ◌∙◌, append_assoc, append-nil, ⊎_elim}
+use Rattle.std.proofs.Common.{◌≡◌, ℕ, Bool, true, false, List, [], ◌∷◌, ◌++◌, map, Option, Some, None, not, codes, refl, sym, ap, ◌∙◌, append_assoc, append-nil}
 use Rattle.std.specs.Bool.{if◌then◌else◌}
 use Rattle.std.specs.List.{flat_map, join_with_byte}
-use Rattle.std.proofs.lemmas.Bool.{cond-true, cond-false, cases_Bool}
 use Rattle.mail_headers.specs.Header.{Entry, entry_bytes, from_line, entries_of, body_of, text_of}
 use Rattle.mail_headers.proofs.FieldLemmas.{join-lines}
 use Rattle.message_state.specs.Stamp.{is_status, without_status, status_line, stamped_header, with_letters, body_part}

@@ -1,5 +1,5 @@
 -- The states of a message and what each act makes of a mark.
-use Rattle.std.specs.Prelude.{ℕ, Bool, true, false, ◌||◌, not, ◌==◌}
+use Rattle.std.specs.Prelude.{ℕ, Bool, false, ◌||◌, not, ◌==◌}
 use Rattle.message_state.specs.declared.mark.State.{State}
 use Rattle.message_state.specs.declared.mark.State.TheVariants.{New, Unread, Read, Deleted, Preserved, Saved, Mboxed}
 use Rattle.message_state.specs.declared.mark.Act.{Act}

@@ -1,5 +1,8 @@
 use super::*;
+use mail_dates::Moment;
 use mail_headers::Header;
+use mail_text::{Items, Memory, Text};
+use std::alloc::Global;
 use std::test::Fail;
 
 const ACTS: [Act; 7] = [
@@ -173,6 +176,106 @@ fn marks_and_stamps(rt: HostRuntime) -> Result<(), Fail> {
         assert_eq!(rt;
             stamped(rt.alloc(), text, new)?.bytes(),
             unseen,
+            "of {text:?}"
+        );
+    }
+    Ok(())
+}
+
+// The texts of a row, each on a line, and the ids of each field on one.
+fn texts(alloc: Global, row: &Row) -> Result<Text, Memory> {
+    let mut shown = Text::new(alloc);
+    for text in [
+        &row.subject,
+        &row.author,
+        &row.shown_author,
+        &row.to,
+        &row.ids.own,
+    ] {
+        shown.push(text.bytes())?;
+        shown.push(b"\n")?;
+    }
+    for ids in [&row.ids.references, &row.ids.reply] {
+        for id in ids.items() {
+            shown.push(id.bytes())?;
+        }
+        shown.push(b"\n")?;
+    }
+    Ok(shown)
+}
+
+#[test]
+fn rows_of_messages(rt: HostRuntime) -> Result<(), Fail> {
+    let delivered: &[u8] =
+        b"From ann@example.org Tue Mar  5 09:15:02 2024\nReturn-Path: <ann@example.org>\nReceived: from mx.example.org by mail.example.net; Tue, 5 Mar 2024 09:15:01 +0100\nDate: Tue, 5 Mar 2024 09:15:00 +0100\nFrom: \"Ann B.\" <ann@example.org>\nTo: Bob <bob@example.net>,\n Cy <cy@example.net>\nSubject: Plan\nMessage-ID: <p1@example.org>\nContent-Type: text/plain; charset=utf-8\n\nSee you at ten.";
+    let cases: [(&[u8], &[u8], Option<Moment>, u64); 8] = [
+        (
+            b"From ann@x Mon Jan  1 10:00:00 2024\nFrom: Ann <ann@x>\nSubject: one\n\nhello",
+            b"one\nann@x\nAnn\n\n\n\n\n",
+            Some(Moment {
+                seconds: 1_704_103_200,
+                offset: 0,
+            }),
+            74,
+        ),
+        (
+            b"From bob@y Tue Jan  2 11:00:00 2024\nFrom: bob@y\nSubject: two\n\nbye",
+            b"two\nbob@y\nbob@y\n\n\n\n\n",
+            Some(Moment {
+                seconds: 1_704_193_200,
+                offset: 0,
+            }),
+            66,
+        ),
+        (
+            delivered,
+            b"Plan\nann@example.org\nAnn B.\nbob@example.net\n<p1@example.org>\n\n\n",
+            Some(Moment {
+                seconds: 1_709_626_500,
+                offset: 3_600,
+            }),
+            377,
+        ),
+        (b"From ", b"\n\n\n\n\n\n\n", None, 6),
+        (
+            b"From a@x\nFrom: a b@x\nTo: , (x)\nDate: soon\nsubject: a\n b\nSubject: c",
+            b"a b\na@x\na@x\n\n\n\n\n",
+            None,
+            67,
+        ),
+        (
+            b"From a@x\nTo: Team: b@y, c@z;\nfrom: \"\" <d@w>, e@v\nFrom: f@u\n\nTo: g",
+            b"\nd@w\nd@w\nb@y\n\n\n\n",
+            None,
+            66,
+        ),
+        (
+            b"From a@x Mon Jan  1 10:00:00 2024\nFrom:\nDate: 32 Jan 2024 10:00 +0000\nMessage-Id: x <1@x> <2@x>\nReferences: <3@x>\n\t<4 x><5@x><<6@x>> <7\nIn-Reply-To: <>, <8@x",
+            b"\na@x\na@x\n\n<1@x>\n<3@x><5@x><6@x>\n<>\n",
+            Some(Moment {
+                seconds: 1_704_103_200,
+                offset: 0,
+            }),
+            158,
+        ),
+        (
+            b"From a@x Mon Jan  1 10:00:00 2024\nDate: Mon, 1 Jan 2024 10:00:00 EST\nStatus: O",
+            b"\na@x\na@x\n\n\n\n\n",
+            Some(Moment {
+                seconds: 1_704_121_200,
+                offset: -18_000,
+            }),
+            79,
+        ),
+    ];
+    for (text, want, moment, size) in cases {
+        let row = row_of(rt.alloc(), text)?;
+        assert_eq!(rt; texts(rt.alloc(), &row)?.bytes(), want, "of {text:?}");
+        assert_eq!(rt; row.moment, moment, "of {text:?}");
+        assert_eq!(rt; row.size, size, "of {text:?}");
+        assert_eq!(rt;
+            row.mark,
+            mark_of(&Header::read(rt.alloc(), text)?),
             "of {text:?}"
         );
     }

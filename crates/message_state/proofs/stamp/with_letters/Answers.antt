@@ -1,4 +1,4 @@
-use Rattle.std.proofs.Common.{◌≡◌, List, ℕ, ◌++◌, arith, sym, ap, ◌∙◌, append-nil}
+use Rattle.std.proofs.Common.{arith, append-nil}
 use Rattle.std.proofs.lemmas.Grind.{common_steps}
 use Rattle.message_state.proofs.StampLemmas.{with_letters-parts}
 use Rattle.message_state.proofs.stamp.with_letters.Goals as goal
