@@ -1,6 +1,6 @@
 -- A From line with a printed date reads as the sender and what the clock shows.
 use Rattle.std.proofs.Common.{◌≡◌, ◌==◌, ◌&&◌, ◌||◌, ℕ, suc, ◌+◌, ◌-◌, ◌*◌, ◌/◌, ◌%◌, ◌<◌, ◌≤◌, ◌++◌, Bool, true, false, not, cond, nat_lt, List, [], ◌∷◌, length, inl, inr, refl, sym, ap, subst, ◌∙◌, arith, append_assoc, Option, None, Some, ℤ, pos, neg_ℤ, ◌≤ℤ◌, unsigned_abs}
-use Rattle.std.proofs.lemmas.Bool.{cases_lt, and_parts, and_from, ne_eqb, lt-ltb, le-ltb}
+use Rattle.std.proofs.lemmas.Bool.{cases_lt, ne_eqb, lt-ltb, le-ltb}
 use Rattle.std.proofs.lemmas.Bool.Decides.{nat_tests}
 use Rattle.std.proofs.Math.Seq.{take-append_seam, drop-append_seam}
 use Rattle.std.specs.Prelude.{codes}
@@ -20,7 +20,7 @@ use Rattle.mail_dates.specs.Clock.{IsPrintable, clock_seconds, day_number, secon
 use Rattle.mail_dates.specs.Laws.{IsWord, as_shown, ArrivalReadsBack}
 use Rattle.mail_dates.proofs.CivilDays.{day_form, year_from_1, date_of_day}
 use Rattle.mail_dates.proofs.WordLemmas.{in_word, words_of-word}
-use Rattle.mail_dates.proofs.PartLemmas.{IsRun, prefix_len-run}
+use Rattle.mail_dates.proofs.PartLemmas.{IsRun, all_as, prefix_len-run}
 use Rattle.mail_dates.proofs.RoundTrip.{run_of_two, day_of_month_reads, time_reads, run_from_test, day_is_word, day_reads, month_is_word, month_reads, run_of_four, four_reads, year_number, date_exists}
 
 -- a word ends where a blank stands behind it
@@ -57,12 +57,6 @@ no_blank-digit b h = grind (arith, nat_tests)
 
 no_blank-letter : (b : ℕ) → is_ascii_alphabetic b ≡ true → not (is_blank b) ≡ true
 no_blank-letter b h = grind (arith, nat_tests)
-
-all_as : (p q : ℕ → Bool) → ((b : ℕ) → p b ≡ true → q b ≡ true) → (bytes : List ℕ) → list_all p bytes ≡ true → list_all q bytes ≡ true
-all_as p q weaker [] h = refl
-all_as p q weaker (b ∷ bs) h =
-    let both = and_parts (p b) (list_all p bs) h in
-    and_from (q b) (list_all q bs) (weaker b both.0) (all_as p q weaker bs both.1)
 
 word_of_digits : (bytes : List ℕ) → IsRun is_ascii_digit bytes → IsWord bytes
 word_of_digits bytes h = (h.some, all_as is_ascii_digit (λ b. not (is_blank b)) no_blank-digit bytes h.all)

@@ -121,7 +121,7 @@ pair_reads : (h m : ℕ) → h < 100 → m < 100 → digits 4 (two h ++ two m) �
 unfolding digits
 pair_reads h m l k = rw (digits_of_pair h m l k) (ap Some (omega arith))
 
-run_of_pair : (h m : ℕ) → h < 100 → m < 100 → IsRun is_ascii_digit (two h ++ two m)
+pub run_of_pair : (h m : ℕ) → h < 100 → m < 100 → IsRun is_ascii_digit (two h ++ two m)
 run_of_pair h m l k = record { all = digits_of_pair h m l k; some = omega arith }
 
 zone_digits_read : (h m : ℕ) → h < 24 → m < 60 → zone_digits_value (two h ++ two m) ≡ Some (h * 3600 + m * 60)
@@ -132,10 +132,10 @@ zone_digits_read h m l k =
     rw (pair_reads h m (omega arith) (omega arith), hours, minutes, lt-ltb h 24 l, lt-ltb m 60 k) refl
 
 -- the sign of a zone
-abbrev zone_sign : ℤ → ℕ
+abbrev pub zone_sign : ℤ → ℕ
 zone_sign minutes = if int_lt minutes (pos 0) then 45 else 43
 
-abbrev zone_pair : ℤ → List ℕ
+abbrev pub zone_pair : ℤ → List ℕ
 zone_pair minutes = two (unsigned_abs minutes / 60) ++ two (unsigned_abs minutes % 60)
 
 is_sign-zone : (minutes : ℤ) → is_sign (zone_sign minutes) ≡ true

@@ -1,7 +1,7 @@
 //! Laws of the definitions. Each function does nothing: its contract is the law.
 ghost use Rattle.jiff_core.specs.Calendar.{IsWithin};
 ghost use Rattle.mail_dates.specs.Clock.{IsDayInYears, IsPrintable};
-ghost use Rattle.mail_dates.specs.Laws.{HasDate, IsWord, ReadsBack, ArrivalReadsBack};
+ghost use Rattle.mail_dates.specs.Laws.{HasDate, IsPlainDate, IsPlainFromDate, IsWord, ReadsBack, ArrivalReadsBack};
 
 use crate::Moment;
 
@@ -27,5 +27,13 @@ pub fn printed_from_date_reads(sender: &[u8], m: Moment)
     requires sender { IsWord sender.now }
     requires range { IsPrintable m }
     ensures { ArrivalReadsBack sender.now m }
+{
+}
+
+/// The printed forms are 31 and 24 bytes of printable ASCII, so each stands in one line.
+pub fn printed_dates_are_plain(m: Moment)
+    requires { IsPrintable m }
+    ensures date { IsPlainDate m }
+    ensures from_date { IsPlainFromDate m }
 {
 }

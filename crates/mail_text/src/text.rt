@@ -1,6 +1,7 @@
 ghost use Rattle.std.specs.Prelude.{◌≡◌, ◌++◌, [], List, ℕ, IfOk, OnOk, OnErr};
 
 use crate::Memory;
+use bstr::BStr;
 use std::alloc::Global;
 use std::fmt;
 use std::marker::Model;
@@ -60,16 +61,23 @@ impl Text {
     }
 }
 
-impl fmt::Debug for Text {
+impl fmt::Display for Text {
+    ghost use Rattle.std.specs.Prelude.{Some, encode_utf8_all};
+    ghost use Rattle.bstr.specs.Utf8.{lossy_chars};
+
+    ghost output = { λ t. Some (encode_utf8_all (lossy_chars t)) };
+
     fn fmt<W: fmt::Write>(&self, f: &mut fmt::Formatter<W>) -> fmt::Result {
-        let bytes = self.bytes.as_slice();
-        write!(f, "{} bytes", bytes.len())
+        BStr::new(&self.bytes).fmt(f)
     }
 }
 
-impl fmt::Display for Text {
+impl fmt::Debug for Text {
+    ghost use Rattle.bstr.specs.Show.{debug_text};
+
+    ghost debug_output = { λ t. debug_text t };
+
     fn fmt<W: fmt::Write>(&self, f: &mut fmt::Formatter<W>) -> fmt::Result {
-        let bytes = self.bytes.as_slice();
-        write!(f, "{} bytes", bytes.len())
+        fmt::Debug::fmt(&BStr::new(&self.bytes), f)
     }
 }
