@@ -4,4 +4,5 @@ pub mod DateSteps
 pub mod PartLemmas
 pub mod PlainText
 pub mod RoundTrip
+pub mod ShownParts
 pub mod WordLemmas

@@ -1,24 +1,18 @@
 -- The printed forms are printable ASCII of a fixed length.
-use Rattle.std.proofs.Common.{◌≡◌, ◌==◌, ◌&&◌, ℕ, ◌+◌, ◌-◌, ◌*◌, ◌/◌, ◌%◌, ◌<◌, ◌≤◌, ◌++◌, Bool, true, nat_lt, nat_le, List, [], ◌∷◌, length, inl, inr, refl, sym, ap, subst, ◌∙◌, arith, ℤ, pos, neg_ℤ, ◌≤ℤ◌, int_div, unsigned_abs, length-append}
+use Rattle.std.proofs.Common.{◌≡◌, ◌==◌, ◌&&◌, ℕ, ◌+◌, ◌/◌, ◌%◌, ◌<◌, Bool, true, nat_le, length, inl, inr, refl, arith, ℤ, unsigned_abs, length-append}
 use Rattle.std.proofs.lemmas.Bool.{agree_below_at, eqb-true, cases_lt, lt-ltb, le-ltb}
 use Rattle.std.proofs.lemmas.Bool.Decides.{nat_tests}
 use Rattle.std.proofs.lemmas.List.Folds.{list_all-append}
-use Rattle.std.specs.Prelude.{codes}
 use Rattle.std.specs.Char.{is_ascii_digit, is_ascii_alphabetic}
 use Rattle.std.specs.List.{list_all}
-use Rattle.jiff_core.specs.declared.civil.date.Date.{Date}
-use Rattle.jiff_core.specs.Calendar.{IsWithin}
-use Rattle.jiff_core.specs.Date.{epoch_day, weekday_of}
-use Rattle.jiff_core.proofs.SignedLemmas.{signed_arith, one_part}
-use Rattle.jiff_core.proofs.CalendarLemmas.{weekday_number_bound, days_in_month_bounds}
 use Rattle.mail_dates.specs.declared.moment.Moment.{Moment}
-use Rattle.mail_dates.specs.Clock.{IsPrintable, clock_seconds, day_number, second_of_day}
+use Rattle.mail_dates.specs.Clock.{IsPrintable}
 use Rattle.mail_dates.specs.Laws.{IsPlainDate, IsPlainFromDate}
-use Rattle.mail_dates.proofs.CivilDays.{day_form, year_from_1, date_of_day}
+use Rattle.mail_dates.proofs.ShownParts.{shown}
 use Rattle.mail_dates.specs.Names.{day_name, month_name}
-use Rattle.mail_dates.specs.Printed.{two, two_places, four, clock_text, zone_text, calendar_form, date_form, from_date_form, date_text, from_date_text}
-use Rattle.mail_dates.proofs.PartLemmas.{IsRun, all_as}
-use Rattle.mail_dates.proofs.RoundTrip.{run_from_test, day_is_word, month_is_word, run_of_two, year_number}
+use Rattle.mail_dates.specs.Printed.{two, two_places, zone_text, calendar_form, date_form, from_date_form}
+use Rattle.mail_dates.proofs.PartLemmas.{all_as}
+use Rattle.mail_dates.proofs.RoundTrip.{run_from_test, day_is_word, month_is_word, run_of_two}
 
 abbrev is_plain : ℕ → Bool
 is_plain b = nat_le 32 b && nat_le b 126
@@ -70,65 +64,39 @@ zone_length minutes = refl
 plain_form : (weekday day place year s : ℕ) (minutes : ℤ) → weekday < 7 → day < 100 → place < 12 → year < 10000 → s < 86400 → unsigned_abs minutes < 6000
     → (list_all is_plain (date_form weekday day (place + 1) year s minutes) ≡ true) × (length (date_form weekday day (place + 1) year s minutes) ≡ 31)
 unfolding date_form calendar_form
-plain_form weekday day place year s minutes w d p y t z =
-    (simp list_all-append
-    (rw (plain_name weekday w, plain_two day d, plain_month place p, plain_two (year / 100) (omega arith), plain_two (year % 100) (omega arith),
-    plain_two (s / 3600) (omega arith), plain_two (s / 60 % 60) (omega arith), plain_two (s % 60) (omega arith), plain_zone minutes z) refl),
-    simp length-append (rw (name_length weekday w, month_length place p, zone_length minutes) refl))
+plain_form weekday day place year s minutes w d p y t z = (
+  simp list_all-append
+      (rw (
+        plain_name weekday w,
+        plain_two day d,
+        plain_month place p,
+        plain_two (year / 100) (omega arith),
+        plain_two (year % 100) (omega arith),
+        plain_two (s / 3600) (omega arith),
+        plain_two (s / 60 % 60) (omega arith),
+        plain_two (s % 60) (omega arith),
+        plain_zone minutes z,
+      ) refl),
+  simp length-append (rw (name_length weekday w, month_length place p, zone_length minutes) refl),
+)
 
 plain_from_form : (weekday day place year s : ℕ) → weekday < 7 → day < 100 → place < 12 → year < 10000 → s < 86400
     → (list_all is_plain (from_date_form weekday day (place + 1) year s) ≡ true) × (length (from_date_form weekday day (place + 1) year s) ≡ 24)
 unfolding from_date_form
-plain_from_form weekday day place year s w d p y t =
-    (simp list_all-append
-    (rw (plain_name weekday w, plain_places day d, plain_month place p, plain_two (year / 100) (omega arith), plain_two (year % 100) (omega arith),
-    plain_two (s / 3600) (omega arith), plain_two (s / 60 % 60) (omega arith), plain_two (s % 60) (omega arith)) refl),
-    simp length-append (rw (name_length weekday w, month_length place p, places_length day) refl))
-
--- the parts that a moment in the range shows
-record Shown (m : Moment) : Type 0 where
-  weekday : ℕ
-  day : ℕ
-  place : ℕ
-  year : ℕ
-  weekday_in : weekday < 7
-  day_in : day < 100
-  place_in : place < 12
-  year_in : year < 10000
-  time_in : second_of_day (clock_seconds m) < 86400
-  zone_in : unsigned_abs (int_div m.offset (pos 60)) < 6000
-  date : date_text m ≡ date_form weekday day (place + 1) year (second_of_day (clock_seconds m)) (int_div m.offset (pos 60))
-  from_date : from_date_text m ≡ from_date_form weekday day (place + 1) year (second_of_day (clock_seconds m))
-
-zone_bound : (offset : ℤ) → IsWithin 93_599 offset → unsigned_abs (int_div offset (pos 60)) < 6000
-zone_bound offset h = omega (arith, signed_arith, one_part offset)
-
-shown_by : (m : Moment) (d : Date) → IsPrintable m → epoch_day d ≡ day_number (clock_seconds m) → Shown m
-shown_by m d range e =
-    let s : ℕ = second_of_day (clock_seconds m) in
-    let minutes : ℤ = int_div m.offset (pos 60) in
-    let late : neg_ℤ (pos 719_162) ≤ℤ epoch_day d = omega (arith, signed_arith) in
-    let year = year_number d.year (year_from_1 d late) d.year_in.1 in
-    let place : d.month - 1 + 1 ≡ d.month = (let low = d.month_in.0 in omega arith) in
-    record {
-      weekday = weekday_of d;
-      day = d.day;
-      place = d.month - 1;
-      year = unsigned_abs d.year;
-      weekday_in = weekday_number_bound (epoch_day d);
-      day_in = (let last = d.day_in.1 in let bound = days_in_month_bounds d.year d.month in omega arith);
-      place_in = (let high = d.month_in.1 in omega arith);
-      year_in = year.2;
-      time_in = omega (arith, signed_arith);
-      zone_in = zone_bound m.offset range.1;
-      date = rw place (sym (day_form (λ weekday day month y. date_form weekday day month y s minutes) d (day_number (clock_seconds m)) e));
-      from_date = rw place (sym (day_form (λ weekday day month y. from_date_form weekday day month y s) d (day_number (clock_seconds m)) e))
-    }
-
-shown : (m : Moment) → IsPrintable m → Shown m
-shown m range =
-    let date = date_of_day (day_number (clock_seconds m)) (omega (arith, signed_arith), omega (arith, signed_arith)) in
-    shown_by m date.0 range date.1
+plain_from_form weekday day place year s w d p y t = (
+  simp list_all-append
+      (rw (
+        plain_name weekday w,
+        plain_places day d,
+        plain_month place p,
+        plain_two (year / 100) (omega arith),
+        plain_two (year % 100) (omega arith),
+        plain_two (s / 3600) (omega arith),
+        plain_two (s / 60 % 60) (omega arith),
+        plain_two (s % 60) (omega arith),
+      ) refl),
+  simp length-append (rw (name_length weekday w, month_length place p, places_length day) refl),
+)
 
 pub date_is_plain : (m : Moment) → IsPrintable m → IsPlainDate m
 date_is_plain m range =

@@ -1,4 +1,5 @@
 use crate::*;
+use mail_text::Memory;
 use std::str;
 use std::test::Fail;
 
@@ -98,6 +99,7 @@ fn reads_zones(rt: HostRuntime) -> Result<(), Fail> {
         assert!(rt; moment_at(&zone_of(rt.alloc(), tz)?, 1_709_626_500).offset == offset);
     }
     assert!(rt; moment_at(&utc(), 1_709_626_500).offset == 0);
+    assert!(rt; matches!(ZoneError::from(Memory), ZoneError::Memory));
     Ok(())
 }
 
@@ -245,4 +247,17 @@ fn reads_from_lines(rt: HostRuntime) -> Result<(), Fail> {
         assert!(rt; from.moment == wanted, "{}", str::from_utf8(line)?);
     }
     Ok(())
+}
+
+// The conditions of the laws can be met.
+#[test]
+fn laws_speak_of_moments() {
+    let m = Moment {
+        seconds: 1_709_626_500,
+        offset: 3600,
+    };
+    printed_date_reads(m);
+    printed_dates_are_plain(m);
+    printed_from_date_reads(b"a@x", m);
+    day_has_date(19_787);
 }
