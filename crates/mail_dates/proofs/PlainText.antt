@@ -8,6 +8,15 @@ use Rattle.std.specs.List.{list_all}
 use Rattle.mail_dates.specs.declared.moment.Moment.{Moment}
 use Rattle.mail_dates.specs.Clock.{IsPrintable}
 use Rattle.mail_dates.specs.Laws.{IsPlainDate, IsPlainFromDate}
+use Rattle.jiff_core.specs.declared.civil.date.Date.{Date}
+use Rattle.jiff_core.specs.Date.{epoch_day, weekday_of}
+use Rattle.jiff_core.proofs.SignedLemmas.{signed_arith}
+use Rattle.jiff_core.proofs.CalendarLemmas.{weekday_number_bound, days_in_month_bounds}
+use Rattle.mail_dates.specs.Clock.{IsInYears, day_number, second_of_day}
+use Rattle.mail_dates.specs.Laws.{IsPlainShortDate}
+use Rattle.mail_dates.specs.Printed.{clock_text, short_date_form}
+use Rattle.mail_dates.proofs.CivilDays.{day_form, date_of_day}
+use Rattle.std.proofs.Common.{take, ◌-◌, sym, ◌+ℤ◌}
 use Rattle.mail_dates.proofs.ShownParts.{shown}
 use Rattle.mail_dates.specs.Names.{day_name, month_name}
 use Rattle.mail_dates.specs.Printed.{two, two_places, zone_text, calendar_form, date_form, from_date_form}
@@ -107,3 +116,27 @@ pub from_date_is_plain : (m : Moment) → IsPrintable m → IsPlainFromDate m
 from_date_is_plain m range =
     let parts = shown m range in
     rw parts.from_date (plain_from_form parts.weekday parts.day parts.place parts.year _ parts.weekday_in parts.day_in parts.place_in parts.year_in parts.time_in)
+
+plain_hour_minute : (s : ℕ) → s < 86400 → list_all is_plain (take 5 (clock_text s)) ≡ true
+plain_hour_minute s h = grind (arith, nat_tests)
+
+plain_short_form : (weekday day place s : ℕ) → weekday < 7 → day < 100 → place < 12 → s < 86400
+    → (list_all is_plain (short_date_form weekday day (place + 1) s) ≡ true) × (length (short_date_form weekday day (place + 1) s) ≡ 16)
+unfolding short_date_form
+plain_short_form weekday day place s w d p t = (
+  simp list_all-append (rw (plain_name weekday w, plain_month place p, plain_places day d, plain_hour_minute s t) refl),
+  simp length-append (rw (name_length weekday w, month_length place p, places_length day) refl),
+)
+
+short_by : (m : Moment) (d : Date) → epoch_day d ≡ day_number (m.seconds +ℤ m.offset) → IsPlainShortDate m
+short_by m d e =
+    let s : ℕ = second_of_day (m.seconds +ℤ m.offset) in
+    let place : d.month - 1 + 1 ≡ d.month = (let low = d.month_in.0 in omega arith) in
+    let form = plain_short_form (weekday_of d) d.day (d.month - 1) s (weekday_number_bound (epoch_day d))
+    (let last = d.day_in.1 in let bound = days_in_month_bounds d.year d.month in omega arith) (let high = d.month_in.1 in omega arith) (omega (arith, signed_arith)) in
+    rw (sym (day_form (λ weekday day month _. short_date_form weekday day month s) d (day_number (m.seconds +ℤ m.offset)) e)) (rw place at form)
+
+pub short_date_is_plain : (m : Moment) → IsInYears m → IsPlainShortDate m
+short_date_is_plain m range =
+    let date = date_of_day (day_number (m.seconds +ℤ m.offset)) (omega (arith, signed_arith), omega (arith, signed_arith)) in
+    short_by m date.0 date.1

@@ -5,7 +5,7 @@ use Rattle.jiff_core.specs.Calendar.{days_from_civil, IsCivilDate}
 use Rattle.jiff_tz.specs.Year.{year_of_day}
 use Rattle.mail_dates.specs.declared.moment.Moment.{Moment}
 use Rattle.mail_dates.specs.Clock.{in_whole_minutes, clock_seconds, month_of_day, day_of_month}
-use Rattle.mail_dates.specs.Printed.{date_text, from_date_text}
+use Rattle.mail_dates.specs.Printed.{date_text, from_date_text, short_date_text}
 use Rattle.mail_dates.specs.DateFields.{date_of}
 use Rattle.mail_dates.specs.FromLines.{is_blank, sender_of, arrival_of}
 
@@ -48,3 +48,7 @@ IsPlainDate m = IsPlain (date_text m) × (length (date_text m) ≡ 31)
 -- the printed date of a From line has 24
 abbrev pub IsPlainFromDate : Moment → Type 0
 IsPlainFromDate m = IsPlain (from_date_text m) × (length (from_date_text m) ≡ 24)
+
+-- the short form of the moment has 16
+abbrev pub IsPlainShortDate : Moment → Type 0
+IsPlainShortDate m = IsPlain (short_date_text m) × (length (short_date_text m) ≡ 16)

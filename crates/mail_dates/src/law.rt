@@ -1,7 +1,7 @@
 //! Laws of the definitions. Each function does nothing: its contract is the law.
 ghost use Rattle.jiff_core.specs.Calendar.{IsWithin};
-ghost use Rattle.mail_dates.specs.Clock.{IsDayInYears, IsPrintable};
-ghost use Rattle.mail_dates.specs.Laws.{HasDate, IsPlainDate, IsPlainFromDate, IsWord, ReadsBack, ArrivalReadsBack};
+ghost use Rattle.mail_dates.specs.Clock.{IsDayInYears, IsInYears, IsPrintable};
+ghost use Rattle.mail_dates.specs.Laws.{HasDate, IsPlainDate, IsPlainFromDate, IsPlainShortDate, IsWord, ReadsBack, ArrivalReadsBack};
 
 use crate::Moment;
 
@@ -32,4 +32,10 @@ pub fn printed_dates_are_plain(m: Moment)
     requires { IsPrintable m }
     ensures date { IsPlainDate m }
     ensures from_date { IsPlainFromDate m }
+{}
+
+/// The short form is 16 bytes of printable ASCII.
+pub fn short_date_is_plain(m: Moment)
+    requires { IsInYears m }
+    ensures { IsPlainShortDate m }
 {}
