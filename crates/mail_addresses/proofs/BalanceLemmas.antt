@@ -5,7 +5,7 @@ use Rattle.std.proofs.lemmas.Bool.{cond-true, cond-false, ne_eqb, eqb-true, or_f
 use Rattle.std.proofs.lemmas.List.{append-nil}
 use Rattle.std.proofs.lemmas.List.Sums.{sum_by-append, sum_by-cons}
 use Rattle.mail_addresses.specs.declared.pieces.Place.{Place}
-use Rattle.mail_addresses.specs.declared.pieces.Place.TheVariants.{Outside, Brackets, Group, GroupBrackets}
+use Rattle.mail_addresses.specs.declared.pieces.Place.TheVariants.{Outside}
 use Rattle.mail_addresses.specs.Lexical.{IsCommentContent, IsQuotedContent, Lexeme, blanks, comment, atom, quoted, literal, mark, unclosed, texts, IsToken, StandBefore, AreTokens}
 use Rattle.mail_addresses.specs.Forms.{is_mark}
 use Rattle.mail_addresses.specs.Listing.{place_after, is_cut, in_first, pieces_from, joined}

@@ -1,10 +1,10 @@
 -- A group is cut in one way at its marks.
 use Rattle.std.proofs.Common.{◌≡◌, ◌≢◌, ℕ, Bool, true, false, List, [], ◌∷◌, ◌++◌, inl, inr, Result, Ok, Err, IfOk, MatchBool, refl, sym, ap, ◌∙◌, subst, arith}
 use Rattle.std.specs.List.{list_all, list_any}
-use Rattle.std.proofs.lemmas.Bool.{both_ways, cases_Bool, cond-true, cond-false, or_from, or_parts, false≢true}
+use Rattle.std.proofs.lemmas.Bool.{both_ways, cases_Bool, cond-true, cond-false, or_from, or_parts}
 use Rattle.mail_addresses.specs.declared.address.Address.{Address}
 use Rattle.mail_addresses.specs.declared.pieces.Place.{Place}
-use Rattle.mail_addresses.specs.declared.pieces.Place.TheVariants.{Outside, Brackets, Group, GroupBrackets}
+use Rattle.mail_addresses.specs.declared.pieces.Place.TheVariants.{Outside}
 use Rattle.mail_addresses.specs.Lexical.{Lexeme, mark}
 use Rattle.mail_addresses.specs.Forms.{is_gap, is_mark, Lacks, IsDisplayName, IsMailbox}
 use Rattle.mail_addresses.specs.Listing.{place_after, is_cut, in_first, pieces_from, pieces, Gives, Lists, SpellsMailbox, IsGrouped, SpellsGroup, Spells, IsBad}

@@ -6,7 +6,7 @@ use Rattle.std.proofs.lemmas.List.Folds.{list_all-append}
 use Rattle.std.proofs.lemmas.List.Elements.{All-nil, All-cons, All-append, All-same}
 use Rattle.mail_addresses.specs.declared.address.Address.{Address}
 use Rattle.mail_addresses.specs.Lexical.{Lexeme, mark, texts, AreTokens}
-use Rattle.mail_addresses.specs.Forms.{is_gap, is_solid, is_mark, Lacks, IsSpec, GivesSpec, IsAngled, IsMailbox}
+use Rattle.mail_addresses.specs.Forms.{is_gap, is_solid, is_mark, IsSpec, GivesSpec, IsAngled, IsMailbox}
 use Rattle.mail_addresses.specs.Listing.{pieces, Gives, Lists, SpellsMailbox, SpellsGroup, Spells, IsBad, IsFirstBad, Reads, IsFault}
 use Rattle.mail_addresses.proofs.FormLemmas.{local_lacks, spec_at, spec_solid, begins_solid, ends_solid, IsSolid, IsCut, spec_is_run}
 use Rattle.mail_addresses.proofs.TokenLemmas.{texts-append}

@@ -4,7 +4,7 @@ ghost use Rattle.mail_addresses.specs.Lexical.{Lexeme, comment, quoted, texts, A
 ghost use Rattle.mail_addresses.specs.Balance.{IsBalanced, HasNoQuote};
 ghost use Rattle.mail_addresses.specs.Listing.{pieces, joined, Reads, IsFault};
 
-/// A law: a value has one list of addresses, or one first bad piece, and never both.
+/// A law: a value has at most one list of addresses and at most one first bad piece, and never both.
 pub fn one_reading()
     ensures list { (value : List ℕ) (a b : List Address)
         → Reads value a → Reads value b → a ≡ b }

@@ -1,6 +1,6 @@
-ghost use Rattle.std.specs.Prelude.{◌≡◌, ◌≤◌, ◌++◌, ◌∷◌, [], ℕ, List, length, take, OnOk, MatchOption, false, true};
-ghost use Rattle.std.specs.List.{list_all, list_any};
-ghost use Rattle.mail_addresses.specs.Lexical.{Lexeme, mark, texts, begins};
+ghost use Rattle.std.specs.Prelude.{◌≡◌, ◌≤◌, ◌++◌, ℕ, length, take, OnOk, MatchOption, false, true};
+ghost use Rattle.std.specs.List.{list_all};
+ghost use Rattle.mail_addresses.specs.Lexical.{texts, begins};
 ghost use Rattle.mail_addresses.specs.Forms.{is_gap, is_solid, Lacks, IsCutAtMark, is_quoted, is_domain_literal, is_dot_atom, is_one, is_local_part, is_domain, IsSpec};
 
 use crate::token::Token;

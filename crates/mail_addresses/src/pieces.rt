@@ -6,9 +6,13 @@ use crate::token::Token;
 /// Where a token stands.
 #[derive(Clone, Copy)]
 pub(crate) enum Place {
+    /// Outside of brackets and groups.
     Outside,
+    /// In angle brackets.
     Brackets,
+    /// In a group.
     Group,
+    /// In angle brackets in a group.
     GroupBrackets,
 }
 

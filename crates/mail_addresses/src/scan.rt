@@ -1,4 +1,4 @@
-ghost use Rattle.std.specs.Prelude.{◌≡◌, ◌≢◌, ◌==◌, ◌≤◌, ◌<◌, ◌+◌, ◌++◌, ◌∷◌, [], ℕ, List, length, take, drop, true, false, IfOk, OnOk, IfSome, MatchOption};
+ghost use Rattle.std.specs.Prelude.{◌≡◌, ◌≢◌, ◌==◌, ◌≤◌, ◌<◌, ◌+◌, ◌++◌, ◌∷◌, [], length, take, drop, true, false, IfOk, OnOk, IfSome, MatchOption};
 ghost use Rattle.std.specs.List.{list_all, list_any};
 ghost use Rattle.mail_addresses.specs.Lexical.{is_blank_byte, is_special, is_atom_byte, begins, IsCommentContent, IsQuotedContent, IsLiteralContent, IsEnd, unclosed, text_of, IsToken, AreTokens};
 ghost use Rattle.mail_addresses.specs.Lexeme.{lexeme};

@@ -1,27 +1,24 @@
 -- A From line with a printed date reads as the sender and what the clock shows.
-use Rattle.std.proofs.Common.{◌≡◌, ◌==◌, ◌&&◌, ◌||◌, ℕ, suc, ◌+◌, ◌-◌, ◌*◌, ◌/◌, ◌%◌, ◌<◌, ◌≤◌, ◌++◌, Bool, true, false, not, cond, nat_lt, List, [], ◌∷◌, length, inl, inr, refl, sym, ap, subst, ◌∙◌, arith, append_assoc, Option, None, Some, ℤ, pos, neg_ℤ, ◌≤ℤ◌, unsigned_abs}
-use Rattle.std.proofs.lemmas.Bool.{cases_lt, and_parts, and_from, ne_eqb, lt-ltb, le-ltb}
+use Rattle.std.proofs.Common.{◌≡◌, ◌==◌, ℕ, ◌+◌, ◌/◌, ◌%◌, ◌<◌, ◌++◌, true, false, not, cond, nat_lt, List, [], ◌∷◌, inl, inr, refl, ap, ◌∙◌, arith, append_assoc, Some, ℤ, pos}
+use Rattle.std.proofs.lemmas.Bool.{cases_lt, ne_eqb, lt-ltb, le-ltb}
 use Rattle.std.proofs.lemmas.Bool.Decides.{nat_tests}
 use Rattle.std.proofs.Math.Seq.{take-append_seam, drop-append_seam}
 use Rattle.std.specs.Prelude.{codes}
-use Rattle.std.specs.List.{list_all, prefix_len, slice_split}
+use Rattle.std.specs.List.{slice_split}
 use Rattle.std.proofs.lemmas.List.{append-nil}
 use Rattle.std.specs.Char.{is_ascii_digit, is_ascii_alphabetic}
 use Rattle.mail_dates.specs.Names.{day_name, month_name}
 use Rattle.mail_dates.specs.Printed.{two, two_places, four, clock_text, from_date_form}
 use Rattle.mail_dates.specs.Values.{digits, day_value, date_value, moment_of, moment_value}
 use Rattle.mail_dates.specs.FromLines.{is_blank, words_of, clock_of, clock_value, is_zone, year_in, day_number_of, arrival, sender_of, arrival_of}
-use Rattle.jiff_core.specs.declared.civil.date.Date.{Date}
-use Rattle.jiff_core.specs.Date.{epoch_day, weekday_of}
 use Rattle.jiff_core.proofs.SignedLemmas.{signed_arith}
-use Rattle.jiff_core.proofs.CalendarLemmas.{weekday_number_bound, days_in_month_bounds}
 use Rattle.mail_dates.specs.declared.moment.Moment.{Moment}
 use Rattle.mail_dates.specs.Clock.{IsPrintable, clock_seconds, day_number, second_of_day}
 use Rattle.mail_dates.specs.Laws.{IsWord, as_shown, ArrivalReadsBack}
-use Rattle.mail_dates.proofs.CivilDays.{day_form, year_from_1, date_of_day}
+use Rattle.mail_dates.proofs.ShownParts.{shown}
 use Rattle.mail_dates.proofs.WordLemmas.{in_word, words_of-word}
-use Rattle.mail_dates.proofs.PartLemmas.{IsRun, prefix_len-run}
-use Rattle.mail_dates.proofs.RoundTrip.{run_of_two, day_of_month_reads, time_reads, run_from_test, day_is_word, day_reads, month_is_word, month_reads, run_of_four, four_reads, year_number, date_exists}
+use Rattle.mail_dates.proofs.PartLemmas.{IsRun, all_as, prefix_len-run}
+use Rattle.mail_dates.proofs.RoundTrip.{run_of_two, day_of_month_reads, time_reads, run_from_test, day_is_word, day_reads, month_is_word, month_reads, run_of_four, four_reads}
 
 -- a word ends where a blank stands behind it
 word_then : (word rest : List ℕ) → IsWord word → in_word rest ≡ 0 → words_of (word ++ rest) ≡ word ∷ words_of rest
@@ -57,12 +54,6 @@ no_blank-digit b h = grind (arith, nat_tests)
 
 no_blank-letter : (b : ℕ) → is_ascii_alphabetic b ≡ true → not (is_blank b) ≡ true
 no_blank-letter b h = grind (arith, nat_tests)
-
-all_as : (p q : ℕ → Bool) → ((b : ℕ) → p b ≡ true → q b ≡ true) → (bytes : List ℕ) → list_all p bytes ≡ true → list_all q bytes ≡ true
-all_as p q weaker [] h = refl
-all_as p q weaker (b ∷ bs) h =
-    let both = and_parts (p b) (list_all p bs) h in
-    and_from (q b) (list_all q bs) (weaker b both.0) (all_as p q weaker bs both.1)
 
 word_of_digits : (bytes : List ℕ) → IsRun is_ascii_digit bytes → IsWord bytes
 word_of_digits bytes h = (h.some, all_as is_ascii_digit (λ b. not (is_blank b)) no_blank-digit bytes h.all)
@@ -109,7 +100,7 @@ clock_reads : (s : ℕ) → s < 86400 → clock_value (clock_text s) ≡ Some s
 unfolding clock_value
 clock_reads s h =
     let parts : slice_split (λ b. b == 58) (clock_text s) ≡ two (s / 3600) ∷ two (s / 60 % 60) ∷ two (s % 60) ∷ [] =
-        before_colon (s / 3600) (two (s / 60 % 60) ++ 58 ∷ two (s % 60)) _ (omega arith) (before_colon (s / 60 % 60) (two (s % 60)) _ (omega arith) (no_colon (s % 60) (omega arith))) in
+    before_colon (s / 3600) (two (s / 60 % 60) ++ 58 ∷ two (s % 60)) _ (omega arith) (before_colon (s / 60 % 60) (two (s % 60)) _ (omega arith) (no_colon (s % 60) (omega arith))) in
     ap clock_of parts ∙ time_reads s h
 
 clock_is_word : (s : ℕ) → s < 86400 → IsWord (clock_text s)
@@ -130,10 +121,10 @@ form_reads : (sender : List ℕ) (weekday day place year s : ℕ) (number : ℤ)
 unfolding from_date_form arrival day_number_of moment_value
 form_reads sender weekday day place year s number w d n p y t exists =
     let words : words_of (sender ++ codes " " ++ from_date_form weekday day (place + 1) year s) ≡ sender ∷ day_name weekday ∷ month_name (place + 1) ∷ day_word day ∷ clock_text s ∷ four year ∷ [] =
-        words_of_form sender (day_name weekday) (month_name (place + 1)) (two_places day) (day_word day) (clock_text s) (four year) w
-        (word_of_letters (day_name weekday) (run_from_test is_ascii_alphabetic (day_name weekday) (day_is_word weekday d)))
-        (word_of_letters (month_name (place + 1)) (run_from_test is_ascii_alphabetic (month_name (place + 1)) (month_is_word place p)))
-        (day_word_read day n) (clock_is_word s t) (word_of_digits (four year) (run_of_four year y)) in
+    words_of_form sender (day_name weekday) (month_name (place + 1)) (two_places day) (day_word day) (clock_text s) (four year) w
+    (word_of_letters (day_name weekday) (run_from_test is_ascii_alphabetic (day_name weekday) (day_is_word weekday d)))
+    (word_of_letters (month_name (place + 1)) (run_from_test is_ascii_alphabetic (month_name (place + 1)) (month_is_word place p)))
+    (day_word_read day n) (clock_is_word s t) (word_of_digits (four year) (run_of_four year y)) in
     (rw words refl, rw (words, day_reads weekday d, year_reads year y, month_reads place p, day_word_reads day n, exists, clock_reads s t) refl)
 
 shown_moment : (m : Moment) (day : ℤ) (s : ℕ) → day ≡ day_number (clock_seconds m) → s ≡ second_of_day (clock_seconds m) → moment_of day s (pos 0) ≡ as_shown m
@@ -141,21 +132,10 @@ shown_moment m day s d t =
     let with_seconds : ℤ → Moment = λ seconds. record { seconds = seconds; offset = pos 0 } in
     ap with_seconds (omega (arith, signed_arith))
 
-arrival_reads : (sender : List ℕ) (m : Moment) (d : Date) → IsWord sender → IsPrintable m → epoch_day d ≡ day_number (clock_seconds m) → ArrivalReadsBack sender m
-arrival_reads sender m d w range e =
-    let s : ℕ = second_of_day (clock_seconds m) in
-    let late : neg_ℤ (pos 719_162) ≤ℤ epoch_day d = omega (arith, signed_arith) in
-    let year = year_number d.year (year_from_1 d late) d.year_in.1 in
-    let place : d.month - 1 + 1 ≡ d.month = (let low = d.month_in.0 in omega arith) in
-    let exists : date_value (unsigned_abs d.year) (d.month - 1 + 1) d.day ≡ Some (epoch_day d) = rw place (date_exists d (unsigned_abs d.year) year.0) in
-    let form = form_reads sender (weekday_of d) d.day (d.month - 1) (unsigned_abs d.year) s (epoch_day d) w (weekday_number_bound (epoch_day d))
-        (let last = d.day_in.1 in let bound = days_in_month_bounds d.year d.month in omega arith) (let high = d.month_in.1 in omega arith) year.2 (omega (arith, signed_arith)) exists in
-    let read = rw place at form in
-    let Reads : List ℕ → Type 0 = λ text. (sender_of (sender ++ codes " " ++ text) ≡ sender) × (arrival_of (sender ++ codes " " ++ text) ≡ Some (as_shown m)) in
-    let shown = day_form (λ weekday day month y. from_date_form weekday day month y s) d (day_number (clock_seconds m)) e in
-    subst Reads shown (read.0, read.1 ∙ ap Some (shown_moment m (epoch_day d) s e refl))
-
 pub arrival_reads_back : (sender : List ℕ) (m : Moment) → IsWord sender → IsPrintable m → ArrivalReadsBack sender m
 arrival_reads_back sender m w range =
-    let date = date_of_day (day_number (clock_seconds m)) (omega (arith, signed_arith), omega (arith, signed_arith)) in
-    arrival_reads sender m date.0 w range date.1
+    let parts = shown m range in
+    let s : ℕ = second_of_day (clock_seconds m) in
+    let number : ℤ = day_number (clock_seconds m) in
+    let read = form_reads sender parts.weekday parts.day parts.place parts.year s number w parts.weekday_in parts.day_in parts.place_in parts.year_in parts.time_in parts.exists in
+    rw parts.from_date (read.0, read.1 ∙ ap Some (shown_moment m number s refl refl))

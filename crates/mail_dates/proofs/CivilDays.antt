@@ -184,3 +184,10 @@ day_has_date day h =
     let found = date_of_day day h in
     let P : ℤ → Type 0 = HasDate in
     subst P found.1 (rw (day_of_month-date found.0, month_of_day-date found.0, year_of_day-date found.0) (civil found.0, refl))
+
+-- what is known of one second is known of an equal one
+pub same_day : (n a b : ℤ) → n ≡ day_number a → a ≡ b → n ≡ day_number b
+same_day n a b h e = rw (← e) h
+
+pub same_second : (n : ℕ) (a b : ℤ) → n ≡ second_of_day a → a ≡ b → n ≡ second_of_day b
+same_second n a b h e = rw (← e) h

@@ -1,6 +1,6 @@
 -- The parts at the front of a text.
 use Rattle.std.proofs.Common.{◌≡◌, ◌≢◌, ℕ, suc, ◌+◌, ◌<◌, ◌||◌, Bool, true, false, eqb, List, [], ◌∷◌, ◌++◌, length, take, drop, ◌==◌, ◌⊎◌, inl, inr, refl, sym, ◌∙◌, arith, None, Some}
-use Rattle.std.proofs.lemmas.Bool.{cases_Bool, ne_eqb, cases_eq, and_parts}
+use Rattle.std.proofs.lemmas.Bool.{cases_Bool, ne_eqb, cases_eq, and_parts, and_from}
 use Rattle.std.proofs.lemmas.Bool.Decides.{nat_tests}
 use Rattle.std.specs.Char.{is_ascii_digit, is_ascii_alphabetic}
 use Rattle.std.proofs.Math.Seq.{take-append_seam, drop-append_seam, take-length, drop-length}
@@ -377,6 +377,13 @@ at_end text (b ∷ bs) r at e =
 pub record IsRun (test : ℕ → Bool) (bytes : List ℕ) : Type 0 where
   pub all : list_all test bytes ≡ true
   pub some : 0 < length bytes
+
+-- bytes that pass a test pass a weaker one
+pub all_as : (p q : ℕ → Bool) → ((b : ℕ) → p b ≡ true → q b ≡ true) → (bytes : List ℕ) → list_all p bytes ≡ true → list_all q bytes ≡ true
+all_as p q weaker [] h = refl
+all_as p q weaker (b ∷ bs) h =
+    let both = and_parts (p b) (list_all p bs) h in
+    and_from (q b) (list_all q bs) (weaker b both.0) (all_as p q weaker bs both.1)
 
 pub prefix_len-run : (test : ℕ → Bool) (run rest : List ℕ) → list_all test run ≡ true → prefix_len test rest ≡ 0 → prefix_len test (run ++ rest) ≡ length run
 prefix_len-run test [] rest all stops = stops

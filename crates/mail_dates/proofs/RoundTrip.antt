@@ -1,8 +1,8 @@
 -- A printed date reads as the moment.
-use Rattle.std.proofs.lemmas.Bool.{agree_below_at, and_parts, eqb-true, ltb-true, ne_eqb, lt-ltb, le-ltb, le-leb}
+use Rattle.std.proofs.lemmas.Bool.{agree_below_at, and_parts, eqb-true, ltb-true, ne_eqb, lt-ltb, le-ltb}
 use Rattle.std.proofs.lemmas.Bool.Decides.{nat_tests}
 use Rattle.std.specs.List.{list_all}
-use Rattle.std.proofs.Common.{◌≡◌, ◌==◌, ◌&&◌, nat_lt, nat_le, false, ℤ, pos, negsuc, neg_ℤ, ◌*ℤ◌, ◌≤ℤ◌, int_div, int_lt, unsigned_abs, Option, None, ℕ, suc, ◌+◌, ◌-◌, ◌*◌, ◌/◌, ◌%◌, ◌<◌, ◌≤◌, ◌++◌, Bool, true, List, [], ◌∷◌, length, refl, sym, ap, subst, ◌∙◌, arith, append_assoc, Some}
+use Rattle.std.proofs.Common.{◌≡◌, ◌==◌, ◌&&◌, nat_lt, nat_le, false, ℤ, pos, negsuc, ◌*ℤ◌, int_div, int_lt, unsigned_abs, Option, None, ℕ, suc, ◌+◌, ◌*◌, ◌/◌, ◌%◌, ◌<◌, ◌++◌, Bool, true, List, [], ◌∷◌, length, refl, ap, ◌∙◌, arith, append_assoc, Some}
 use Rattle.std.specs.Prelude.{codes, if◌then◌else◌}
 use Rattle.std.specs.Char.{is_ascii_digit, is_ascii_alphabetic}
 use Rattle.mail_dates.specs.Parts.{Part, Number, Word, Signed, Comma, Colon, date_parts}
@@ -10,15 +10,12 @@ use Rattle.mail_dates.specs.DateFields.{time, date, date_time, date_of}
 use Rattle.mail_dates.specs.Printed.{two, four, zone_text, calendar_form, date_form}
 use Rattle.mail_dates.specs.Names.{day_name, month_name}
 use Rattle.mail_dates.specs.Values.{digits, is_day_name, month_value, year_value, day_value, date_value, time_value, moment_of, moment_value, zone_digits_value, zone_number_value}
-use Rattle.jiff_core.specs.declared.civil.date.Date.{Date}
-use Rattle.jiff_core.specs.Calendar.{IsWithin, days_in_month, days_from_civil}
-use Rattle.jiff_core.specs.Date.{epoch_day, weekday_of}
+use Rattle.jiff_core.specs.Calendar.{IsWithin}
 use Rattle.jiff_core.proofs.SignedLemmas.{signed_arith, one_part}
-use Rattle.jiff_core.proofs.CalendarLemmas.{weekday_number_bound, days_in_month_bounds}
 use Rattle.mail_dates.specs.declared.moment.Moment.{Moment}
 use Rattle.mail_dates.specs.Clock.{IsPrintable, in_whole_minutes, clock_seconds, day_number, second_of_day}
 use Rattle.mail_dates.specs.Laws.{with_whole_minutes, ReadsBack}
-use Rattle.mail_dates.proofs.CivilDays.{day_form, year_from_1, date_of_day}
+use Rattle.mail_dates.proofs.ShownParts.{shown}
 use Rattle.mail_dates.proofs.PartLemmas.{IsRun, is_sign, number_then, word_then, signed_at_end, date_parts-comma, date_parts-colon, date_parts-space}
 
 name_comma : (run rest : List ℕ) (ps : List Part) → IsRun is_ascii_alphabetic run → date_parts rest ≡ ps → date_parts (run ++ 44 ∷ 32 ∷ rest) ≡ Word run ∷ Comma ∷ ps
@@ -121,7 +118,7 @@ pair_reads : (h m : ℕ) → h < 100 → m < 100 → digits 4 (two h ++ two m) �
 unfolding digits
 pair_reads h m l k = rw (digits_of_pair h m l k) (ap Some (omega arith))
 
-run_of_pair : (h m : ℕ) → h < 100 → m < 100 → IsRun is_ascii_digit (two h ++ two m)
+pub run_of_pair : (h m : ℕ) → h < 100 → m < 100 → IsRun is_ascii_digit (two h ++ two m)
 run_of_pair h m l k = record { all = digits_of_pair h m l k; some = omega arith }
 
 zone_digits_read : (h m : ℕ) → h < 24 → m < 60 → zone_digits_value (two h ++ two m) ≡ Some (h * 3600 + m * 60)
@@ -132,10 +129,10 @@ zone_digits_read h m l k =
     rw (pair_reads h m (omega arith) (omega arith), hours, minutes, lt-ltb h 24 l, lt-ltb m 60 k) refl
 
 -- the sign of a zone
-abbrev zone_sign : ℤ → ℕ
+abbrev pub zone_sign : ℤ → ℕ
 zone_sign minutes = if int_lt minutes (pos 0) then 45 else 43
 
-abbrev zone_pair : ℤ → List ℕ
+abbrev pub zone_pair : ℤ → List ℕ
 zone_pair minutes = two (unsigned_abs minutes / 60) ++ two (unsigned_abs minutes % 60)
 
 is_sign-zone : (minutes : ℤ) → is_sign (zone_sign minutes) ≡ true
@@ -161,18 +158,6 @@ form_reads weekday day place year s minutes number w d p some y t z exists =
     (run_of_pair (unsigned_abs minutes / 60) (unsigned_abs minutes % 60) (omega arith) (omega arith)))
     (rw (day_reads weekday w, year_reads year some y, month_reads place p, day_of_month_reads day d, exists, time_reads s t, zone_reads minutes z) refl)
 
-pub year_number : (y : ℤ) → pos 1 ≤ℤ y → y ≤ℤ pos 9999 → (pos (unsigned_abs y) ≡ y) × (0 < unsigned_abs y) × (unsigned_abs y < 10000)
-year_number (pos n) low high = (refl, omega (arith, signed_arith), omega (arith, signed_arith))
-year_number (negsuc n) low high = absurd (omega (arith, signed_arith))
-
--- the calendar has the dates that the library has
-pub date_exists : (d : Date) (year : ℕ) → pos year ≡ d.year → date_value year d.month d.day ≡ Some (epoch_day d)
-unfolding date_value
-date_exists d year e =
-    let in_month : ℤ → Type 0 = λ y. d.day ≤ days_in_month y d.month in
-    let last : d.day ≤ days_in_month (pos year) d.month = subst in_month (sym e) d.day_in.1 in
-    rw (le-leb 1 d.day d.day_in.0, le-leb d.day (days_in_month (pos year) d.month) last) (ap (λ y. Some (days_from_civil y d.month d.day)) e)
-
 same_moment : (m : Moment) (day : ℤ) (s : ℕ) → day ≡ day_number (clock_seconds m) → s ≡ second_of_day (clock_seconds m) → moment_of day s (int_div m.offset (pos 60) *ℤ pos 60) ≡ with_whole_minutes m
 same_moment m day s d t =
     let with_seconds : ℤ → Moment = λ seconds. record { seconds = seconds; offset = in_whole_minutes m.offset } in
@@ -181,21 +166,10 @@ same_moment m day s d t =
 minutes_bound : (offset : ℤ) → IsWithin 86_399 offset → unsigned_abs (int_div offset (pos 60)) < 1440
 minutes_bound offset h = omega (arith, signed_arith, one_part offset)
 
-printed_reads : (m : Moment) (d : Date) → IsPrintable m → IsWithin 86_399 m.offset → epoch_day d ≡ day_number (clock_seconds m) → ReadsBack m
-printed_reads m d range within e =
-    let s : ℕ = second_of_day (clock_seconds m) in
-    let minutes : ℤ = int_div m.offset (pos 60) in
-    let late : neg_ℤ (pos 719_162) ≤ℤ epoch_day d = omega (arith, signed_arith) in
-    let year = year_number d.year (year_from_1 d late) d.year_in.1 in
-    let place : d.month - 1 + 1 ≡ d.month = (let low = d.month_in.0 in omega arith) in
-    let exists : date_value (unsigned_abs d.year) (d.month - 1 + 1) d.day ≡ Some (epoch_day d) = rw place (date_exists d (unsigned_abs d.year) year.0) in
-    let form = form_reads (weekday_of d) d.day (d.month - 1) (unsigned_abs d.year) s minutes (epoch_day d) (weekday_number_bound (epoch_day d))
-    (let last = d.day_in.1 in let bound = days_in_month_bounds d.year d.month in omega arith) (let high = d.month_in.1 in omega arith) year.1 year.2 (omega (arith, signed_arith)) (minutes_bound m.offset within) exists in
-    ap date_of (sym (day_form (λ weekday day month y. date_form weekday day month y s minutes) d (day_number (clock_seconds m)) e))
-    ∙ rw place at form
-    ∙ ap Some (same_moment m (epoch_day d) s e refl)
-
 pub printed_reads_back : (m : Moment) → IsPrintable m → IsWithin 86_399 m.offset → ReadsBack m
 printed_reads_back m range within =
-    let date = date_of_day (day_number (clock_seconds m)) (omega (arith, signed_arith), omega (arith, signed_arith)) in
-    printed_reads m date.0 range within date.1
+    let parts = shown m range in
+    rw parts.date
+    (form_reads parts.weekday parts.day parts.place parts.year (second_of_day (clock_seconds m)) (int_div m.offset (pos 60)) (day_number (clock_seconds m))
+    parts.weekday_in parts.day_in parts.place_in parts.some_year parts.year_in parts.time_in (minutes_bound m.offset within) parts.exists
+    ∙ ap Some (same_moment m (day_number (clock_seconds m)) (second_of_day (clock_seconds m)) refl refl))

@@ -1,11 +1,11 @@
 -- Laws about the definitions of this crate.
-use Rattle.std.specs.Prelude.{◌≡◌, ◌<◌, ℕ, not, true, List, length, ◌++◌, codes, Some, ℤ, pos}
+use Rattle.std.specs.Prelude.{◌≡◌, ◌<◌, ◌&&◌, nat_le, ℕ, not, true, List, length, ◌++◌, codes, Some, ℤ, pos}
 use Rattle.std.specs.List.{list_all}
 use Rattle.jiff_core.specs.Calendar.{days_from_civil, IsCivilDate}
 use Rattle.jiff_tz.specs.Year.{year_of_day}
 use Rattle.mail_dates.specs.declared.moment.Moment.{Moment}
 use Rattle.mail_dates.specs.Clock.{in_whole_minutes, clock_seconds, month_of_day, day_of_month}
-use Rattle.mail_dates.specs.Printed.{date_text, from_date_text}
+use Rattle.mail_dates.specs.Printed.{date_text, from_date_text, short_date_text}
 use Rattle.mail_dates.specs.DateFields.{date_of}
 use Rattle.mail_dates.specs.FromLines.{is_blank, sender_of, arrival_of}
 
@@ -36,3 +36,19 @@ abbrev pub ArrivalReadsBack : List ℕ → Moment → Type 0
 ArrivalReadsBack sender m =
     let line : List ℕ = sender ++ codes " " ++ from_date_text m in
     (sender_of line ≡ sender) × (arrival_of line ≡ Some (as_shown m))
+
+-- printable ASCII, and so a text of one line
+abbrev pub IsPlain : List ℕ → Type 0
+IsPlain text = list_all (λ b. nat_le 32 b && nat_le b 126) text ≡ true
+
+-- the printed date has 31 bytes of printable ASCII
+abbrev pub IsPlainDate : Moment → Type 0
+IsPlainDate m = IsPlain (date_text m) × (length (date_text m) ≡ 31)
+
+-- the printed date of a From line has 24
+abbrev pub IsPlainFromDate : Moment → Type 0
+IsPlainFromDate m = IsPlain (from_date_text m) × (length (from_date_text m) ≡ 24)
+
+-- the short form of the moment has 16
+abbrev pub IsPlainShortDate : Moment → Type 0
+IsPlainShortDate m = IsPlain (short_date_text m) × (length (short_date_text m) ≡ 16)

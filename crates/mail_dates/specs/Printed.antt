@@ -1,5 +1,5 @@
 -- The printed forms of a moment.
-use Rattle.std.specs.Prelude.{ℕ, ◌+◌, ◌/◌, ◌%◌, List, [], ◌∷◌, ◌++◌, codes, nat_lt, if◌then◌else◌, ℤ, pos, int_lt, unsigned_abs, int_div}
+use Rattle.std.specs.Prelude.{ℕ, ◌+◌, ◌/◌, ◌%◌, List, [], ◌∷◌, ◌++◌, take, codes, nat_lt, if◌then◌else◌, ℤ, pos, ◌+ℤ◌, int_lt, unsigned_abs, int_div}
 use Rattle.jiff_core.specs.Calendar.{weekday_number}
 use Rattle.jiff_tz.specs.Year.{year_of_day}
 use Rattle.mail_dates.specs.declared.moment.Moment.{Moment}
@@ -59,3 +59,16 @@ from_date_text m =
     let day : ℤ = day_number s in
     from_date_form (weekday_number day) (day_of_month day) (month_of_day day)
     (unsigned_abs (year_of_day day)) (second_of_day s)
+
+-- `Wed Jan  3 00:00`, without the seconds of the clock
+unfoldable pub short_date_form : ℕ → ℕ → ℕ → ℕ → List ℕ
+short_date_form weekday day month seconds =
+    day_name weekday ++ codes " " ++ month_name month ++ codes " " ++ two_places day ++ codes " "
+    ++ take 5 (clock_text seconds)
+
+-- the moment in this form: what a clock at its offset shows, the offset's seconds too
+abbrev pub short_date_text : Moment → List ℕ
+short_date_text m =
+    let s : ℤ = m.seconds +ℤ m.offset in
+    let day : ℤ = day_number s in
+    short_date_form (weekday_number day) (day_of_month day) (month_of_day day) (second_of_day s)

@@ -14,9 +14,12 @@ mod zone;
 
 pub use date_field::read_date;
 pub use from_line::{FromLine, read_from_line};
-pub use law::{day_has_date, printed_date_reads, printed_from_date_reads};
+pub use law::{
+    day_has_date, printed_date_reads, printed_dates_are_plain, printed_from_date_reads,
+    short_date_is_plain,
+};
 pub use moment::Moment;
-pub use print::{print_date, print_from_date};
+pub use print::{print_date, print_from_date, print_short_date};
 pub use zone::{Zone, ZoneError, moment_at, utc, zone_of};
 
 #[cfg(test)]

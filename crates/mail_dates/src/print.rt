@@ -1,14 +1,13 @@
-ghost use Rattle.std.specs.Prelude.{◌≡◌, ◌+◌, ◌<◌, pos, ◌≤ℤ◌, int_div, unsigned_abs, IfOk};
-ghost use Rattle.jiff_core.specs.Calendar.{IsWithin};
+ghost use Rattle.std.specs.Prelude.{◌≡◌, ◌+◌, ◌<◌, pos, neg_ℤ, ◌≤ℤ◌, int_div, unsigned_abs, IfOk};
+ghost use Rattle.jiff_core.specs.Calendar.{IsBetween, IsWithin};
 ghost use Rattle.jiff_core.specs.Date.{epoch_day, weekday_of};
 ghost use Rattle.jiff_core.specs.Time.{time_seconds};
-ghost use Rattle.mail_dates.specs.Clock.{IsPrintable, clock_seconds, day_number, second_of_day};
-ghost use Rattle.mail_dates.specs.Printed.{two, two_places, four, clock_text, zone_text, calendar_form, date_text, from_date_text};
+ghost use Rattle.mail_dates.specs.Clock.{IsInYears, IsPrintable, clock_seconds, day_number, second_of_day};
+ghost use Rattle.mail_dates.specs.Printed.{two, two_places, four, clock_text, zone_text, calendar_form, date_text, from_date_text, short_date_text};
 
 use crate::Moment;
 use crate::names::{day_name, month_name};
 use jiff_core::civil::{Date, DateTime, Time};
-use jiff_core::{Offset, Timestamp};
 use mail_text::{Memory, Text};
 use std::alloc::Global;
 
@@ -85,6 +84,16 @@ fn year_of(date: Date) -> u16
     date.year.unsigned_abs()
 }
 
+// What a clock shows that many seconds after it showed 1970-01-01 00:00:00.
+fn civil(seconds: i64) -> DateTime
+    requires { IsBetween (neg_ℤ (pos 62_167_219_200)) (pos 253_402_300_799) seconds }
+    ensures day { epoch_day result.date ≡ day_number seconds }
+    ensures time { time_seconds result.time ≡ second_of_day seconds }
+    ensures year { pos 0 ≤ℤ result.date.year }
+{
+    DateTime::from_nanosecond_in_range(i128::from(seconds) * 1_000_000_000)
+}
+
 // What a clock at the moment's offset shows, in whole minutes of the offset.
 fn shown(m: Moment) -> DateTime
     requires { IsPrintable m }
@@ -92,12 +101,8 @@ fn shown(m: Moment) -> DateTime
     ensures time { time_seconds result.time ≡ second_of_day (clock_seconds m) }
     ensures year { pos 0 ≤ℤ result.date.year }
 {
-    let offset = Offset {
-        seconds: whole_minutes(m.offset) * 60,
-    };
-    offset.to_datetime(Timestamp {
-        nanosecond: i128::from(m.seconds) * 1_000_000_000,
-    })
+    let offset = i64::from(whole_minutes(m.offset)) * 60;
+    civil(m.seconds + offset)
 }
 
 // `Wed, 03 Jan 2024`.
@@ -151,5 +156,24 @@ pub fn print_from_date(alloc: Global, m: Moment) -> Result<Text, Memory>
     text.push(&clock(shown.time))?;
     text.push(b" ")?;
     text.push(&four_digits(year_of(date)))?;
+    Ok(text)
+}
+
+/// The moment as a list of messages has it, `Wed Jan  3 00:00`: the time that a clock at the moment's offset
+/// shows.
+pub fn print_short_date(alloc: Global, m: Moment) -> Result<Text, Memory>
+    requires { IsInYears m }
+    ensures { IfOk result (λ t. t ≡ short_date_text m) }
+{
+    let shown = civil(m.seconds + i64::from(m.offset));
+    let date = shown.date;
+    let mut text = Text::new(alloc);
+    text.push(&day_name(date.weekday().index()))?;
+    text.push(b" ")?;
+    text.push(&month_name(date.month))?;
+    text.push(b" ")?;
+    text.push(&two_places(date.day))?;
+    text.push(b" ")?;
+    text.push(&clock(shown.time)[..5])?;
     Ok(text)
 }

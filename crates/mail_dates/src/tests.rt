@@ -1,4 +1,5 @@
 use crate::*;
+use mail_text::Memory;
 use std::str;
 use std::test::Fail;
 
@@ -98,6 +99,7 @@ fn reads_zones(rt: HostRuntime) -> Result<(), Fail> {
         assert!(rt; moment_at(&zone_of(rt.alloc(), tz)?, 1_709_626_500).offset == offset);
     }
     assert!(rt; moment_at(&utc(), 1_709_626_500).offset == 0);
+    assert!(rt; matches!(ZoneError::from(Memory), ZoneError::Memory));
     Ok(())
 }
 
@@ -245,4 +247,36 @@ fn reads_from_lines(rt: HostRuntime) -> Result<(), Fail> {
         assert!(rt; from.moment == wanted, "{}", str::from_utf8(line)?);
     }
     Ok(())
+}
+
+#[test]
+fn prints_short_dates(rt: HostRuntime) -> Result<(), Fail> {
+    let rows: [(&[u8], &[u8]); 4] = [
+        (b"Tue, 5 Mar 2024 09:15:00 +0100", b"Tue Mar  5 09:15"),
+        (b"29 Feb 2000 00:59:59 -2359", b"Tue Feb 29 00:59"),
+        (b"1 Jan 0001 00:00 +2300", b"Mon Jan  1 00:00"),
+        (b"31 Dec 9999 23:59:60 -2359", b"Fri Dec 31 23:59"),
+    ];
+    for (value, short) in rows {
+        let Some(m) = read_date(value) else {
+            return Err(Fail::from("no date"));
+        };
+        let printed = print_short_date(rt.alloc(), m)?;
+        assert!(rt; printed.bytes() == short, "{}", str::from_utf8(value)?);
+    }
+    Ok(())
+}
+
+// The conditions of the laws can be met.
+#[test]
+fn laws_speak_of_moments() {
+    let m = Moment {
+        seconds: 1_709_626_500,
+        offset: 3600,
+    };
+    printed_date_reads(m);
+    printed_dates_are_plain(m);
+    short_date_is_plain(m);
+    printed_from_date_reads(b"a@x", m);
+    day_has_date(19_787);
 }

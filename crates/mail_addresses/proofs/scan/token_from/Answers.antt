@@ -1,4 +1,4 @@
-use Rattle.std.proofs.Common.{ℕ, ◌∷◌, refl, ap, ◌∙◌}
+use Rattle.std.proofs.Common.{◌∷◌, refl, ap, ◌∙◌}
 use Rattle.mail_addresses.specs.Lexical.{IsCommentContent, IsQuotedContent, IsLiteralContent, comment, quoted, literal}
 use Rattle.mail_addresses.specs.Lexical.NeverCloses.{comment_open, quote_open, literal_open}
 use Rattle.mail_addresses.proofs.TokenLemmas.{enclosed_begins}
