@@ -8,13 +8,13 @@ use Rattle.message_state.specs.declared.mark.Mark.{Mark}
 
 -- a row of the table: the state after each act, in the order Look, Delete, Undelete, Hold, Mbox, Touch, Save
 abbrev pub row : State → State → State → State → State → State → State → Act → State
-row look delete undelete hold mbox touch save Look = look
-row look delete undelete hold mbox touch save Delete = delete
-row look delete undelete hold mbox touch save Undelete = undelete
-row look delete undelete hold mbox touch save Hold = hold
-row look delete undelete hold mbox touch save Mbox = mbox
-row look delete undelete hold mbox touch save Touch = touch
-row look delete undelete hold mbox touch save Save = save
+row a b c d e f g Look = a
+row a b c d e f g Delete = b
+row a b c d e f g Undelete = c
+row a b c d e f g Hold = d
+row a b c d e f g Mbox = e
+row a b c d e f g Touch = f
+row a b c d e f g Save = g
 
 -- the table: the state after an act, by the state before it
 abbrev pub state_after : State → Act → State
