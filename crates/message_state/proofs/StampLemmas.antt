@@ -20,7 +20,7 @@ kept_part-status e es is = ap (λ (b : Bool). after_feeds (map entry_bytes (if n
 pub kept_part-other : (e : Entry) (es : List Entry) → is_status e ≡ false → kept_part (e ∷ es) ≡ 10 ∷ entry_bytes e ++ kept_part es
 kept_part-other e es is = ap (λ (b : Bool). after_feeds (map entry_bytes (if not b then e ∷ without_status es else without_status es))) is
 
-after_feeds-append : (ls ms : List (List ℕ)) → after_feeds (ls ++ ms) ≡ after_feeds ls ++ after_feeds ms
+pub after_feeds-append : (ls ms : List (List ℕ)) → after_feeds (ls ++ ms) ≡ after_feeds ls ++ after_feeds ms
 after_feeds-append [] ms = refl
 after_feeds-append (l ∷ ls) ms = ap (λ (x : List ℕ). 10 ∷ l ++ x) (after_feeds-append ls ms) ∙ sym (append_assoc (10 ∷ l) (after_feeds ls) (after_feeds ms))
 
@@ -32,7 +32,7 @@ joined-header letters from t =
     ∙ ap (λ (x : List ℕ). from ++ (kept_part (entries_of t) ++ x)) (append-nil (10 ∷ status_line letters))
     ∙ sym (append_assoc from (kept_part (entries_of t)) (10 ∷ status_line letters))
 
-text_of-is : (from : List ℕ) (lines : List (List ℕ)) (body : Option (List ℕ)) → text_of from lines body ≡ join_with_byte 10 (from ∷ lines) ++ body_part body
+pub text_of-is : (from : List ℕ) (lines : List (List ℕ)) (body : Option (List ℕ)) → text_of from lines body ≡ join_with_byte 10 (from ∷ lines) ++ body_part body
 text_of-is from lines None = sym (append-nil (join_with_byte 10 (from ∷ lines)))
 text_of-is from lines (Some body) = refl
 

@@ -6,3 +6,4 @@ pub mod Ids
 pub mod Fields
 pub mod Rows
 pub mod ShownRows
+pub mod StampLaws

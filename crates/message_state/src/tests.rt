@@ -179,6 +179,7 @@ fn marks_and_stamps(rt: HostRuntime) -> Result<(), Fail> {
             "of {text:?}"
         );
     }
+    stamps_read_back();
     Ok(())
 }
 
