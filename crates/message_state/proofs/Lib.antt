@@ -1,6 +1,7 @@
 pub mod EntryLines
 pub mod FoundLemmas
 pub mod IdLemmas
+pub mod RowLemmas
 pub mod StampLemmas
 pub mod StampLawLemmas
 pub mod TextLines

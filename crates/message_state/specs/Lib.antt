@@ -7,3 +7,4 @@ pub mod Fields
 pub mod Rows
 pub mod ShownRows
 pub mod StampLaws
+pub mod RowLaws

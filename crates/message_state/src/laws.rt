@@ -1,5 +1,8 @@
+ghost use Rattle.message_state.specs.RowLaws.{OneRow};
 ghost use Rattle.message_state.specs.StampLaws.{StampReads, StampMarks, StampIsOnce, StampKeepsTheRest};
 ghost use Rattle.message_state.specs.StateLaws.{UndeleteReads, UndeleteKeeps, OnlyDeleteDeletes, DeletedStays, NothingUnreads, OnceIsEnough, SeenStays};
+
+use mail_addresses::one_reading;
 
 /// Laws of the table of states, over every mark and act.
 pub fn acts_by_the_table()
@@ -20,3 +23,10 @@ pub fn stamps_read_back()
     ensures once { StampIsOnce }
     ensures the_rest { StampKeepsTheRest }
 {}
+
+/// A law: a text has one row.
+pub fn a_text_has_one_row()
+    ensures { OneRow }
+{
+    one_reading();
+}

@@ -10,7 +10,7 @@ mod shown;
 mod stamp;
 mod status;
 
-pub use laws::{acts_by_the_table, stamps_read_back};
+pub use laws::{a_text_has_one_row, acts_by_the_table, stamps_read_back};
 pub use mark::{Act, Mark, State, after};
 pub use row::{Ids, Row, row_of};
 pub use shown::Shown;

@@ -280,5 +280,6 @@ fn rows_of_messages(rt: HostRuntime) -> Result<(), Fail> {
             "of {text:?}"
         );
     }
+    a_text_has_one_row();
     Ok(())
 }
