@@ -1,0 +1,22 @@
+use Rattle.std.proofs.Common.{List, ◌∙◌, subst}
+use Rattle.mail_headers.specs.Header.{Entry}
+use Rattle.message_state.proofs.FoundLemmas.{AreFound, are_found_first, are_found_step, are_found_last}
+use Rattle.message_state.proofs.fields.row_fields.Goals as goal
+
+pub returns : goal.returns
+returns c =
+    let left = λ (es : List Entry). AreFound c.args.header.now es c.loop-entry.fields in
+    are_found_last c.args.header.now c.loop-entry.fields (subst left c.in-None.ensures.steps.0 c.loop-entry.invariant.2)
+
+pub loop-entry-init : goal.loop-entry-init
+loop-entry-init c = (
+  tt,
+  tt,
+  are_found_first c.args.header.now _ (c.into_iter-entry-iterator.ensures.into_iter_gives ∙ c.entries-entry-items.ensures),
+)
+
+pub loop-entry-preserved : goal.loop-entry-preserved
+loop-entry-preserved c =
+    let left = λ (es : List Entry). AreFound c.args.header.now es c.loop-entry.fields in
+    let before = subst left c.in-Some.ensures.steps c.loop-entry.invariant.2 in
+    (tt, tt, are_found_step c.args.header.now c.loop-entry.fields c.with_entry-fields.result c.in-Some.entry c.next.new.self c.with_entry-fields.ensures before)

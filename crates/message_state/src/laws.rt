@@ -1,0 +1,22 @@
+ghost use Rattle.message_state.specs.StampLaws.{StampReads, StampMarks, StampIsOnce, StampKeepsTheRest};
+ghost use Rattle.message_state.specs.StateLaws.{UndeleteReads, UndeleteKeeps, OnlyDeleteDeletes, DeletedStays, NothingUnreads, OnceIsEnough, SeenStays};
+
+/// Laws of the table of states, over every mark and act.
+pub fn acts_by_the_table()
+    ensures undelete_reads { UndeleteReads }
+    ensures undelete_keeps { UndeleteKeeps }
+    ensures only_delete_deletes { OnlyDeleteDeletes }
+    ensures deleted_stays { DeletedStays }
+    ensures nothing_unreads { NothingUnreads }
+    ensures once_is_enough { OnceIsEnough }
+    ensures seen_stays { SeenStays }
+{}
+
+/// Laws of stamped texts: a stamped text has the letters of the mark, and so has its mark; a text that is stamped twice is as it was
+/// stamped once, and nothing but `Status` fields differs in it.
+pub fn stamps_read_back()
+    ensures reads { StampReads }
+    ensures marks { StampMarks }
+    ensures once { StampIsOnce }
+    ensures the_rest { StampKeepsTheRest }
+{}

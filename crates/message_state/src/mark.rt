@@ -1,0 +1,107 @@
+ghost use Rattle.std.specs.Prelude.{◌≡◌, ◌≢◌};
+ghost use Rattle.message_state.specs.States.{state_after, after};
+
+/// What has become of a message in a session.
+#[derive(Clone, Copy, Debug, PartialEq, Eq)]
+pub enum State {
+    /// It came since the folder was last left.
+    New,
+    /// It is older, and was never looked at.
+    Unread,
+    /// It was looked at.
+    Read,
+    /// It leaves the folder.
+    Deleted,
+    /// It stays in the system mailbox.
+    Preserved,
+    /// It was saved to a file.
+    Saved,
+    /// It goes to the user's own mailbox.
+    Mboxed,
+}
+
+/// A message's state, and whether it was ever seen.
+#[derive(Clone, Copy, Debug, PartialEq, Eq)]
+pub struct Mark {
+    /// What has become of it.
+    pub state: State,
+    /// Whether it was ever seen, in this session or an earlier one.
+    pub seen: bool,
+}
+
+/// What a command does to a message.
+#[derive(Clone, Copy, Debug, PartialEq, Eq)]
+pub enum Act {
+    /// It is shown.
+    Look,
+    /// It is to leave the folder.
+    Delete,
+    /// It is to stay after all.
+    Undelete,
+    /// It is to stay in the system mailbox.
+    Hold,
+    /// It is to go to the user's own mailbox.
+    Mbox,
+    /// It counts as dealt with.
+    Touch,
+    /// It was saved to a file.
+    Save,
+}
+
+/// The mark after an act.
+pub fn after(mark: Mark, act: Act) -> Mark
+    ensures { result ≡ after mark act }
+{
+    let state = state_after(mark.state, act);
+    let sees = match act {
+        Act::Look => mark.state != State::Deleted,
+        Act::Undelete | Act::Mbox | Act::Touch | Act::Save => state != mark.state,
+        Act::Delete | Act::Hold => false,
+    };
+    Mark {
+        state,
+        seen: mark.seen || sees,
+    }
+}
+
+// The state after an act.
+fn state_after(state: State, act: Act) -> State
+    ensures { result ≡ state_after state act }
+{
+    match state {
+        State::Deleted => match act {
+            Act::Undelete => State::Read,
+            _ => State::Deleted,
+        },
+        _ => match act {
+            Act::Look => looked_at(state),
+            Act::Delete => State::Deleted,
+            Act::Undelete => state,
+            Act::Hold => State::Preserved,
+            Act::Mbox => State::Mboxed,
+            Act::Touch => touched(state),
+            Act::Save => State::Saved,
+        },
+    }
+}
+
+// The state after a look.
+fn looked_at(state: State) -> State
+    ensures { result ≡ state_after state Act.Look }
+{
+    match state {
+        State::New | State::Unread => State::Read,
+        _ => state,
+    }
+}
+
+// The state of a message that isn't deleted, after a touch.
+fn touched(state: State) -> State
+    requires { state ≢ State.Deleted }
+    ensures { result ≡ state_after state Act.Touch }
+{
+    match state {
+        State::Saved => State::Saved,
+        _ => State::Mboxed,
+    }
+}
