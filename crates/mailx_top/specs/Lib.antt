@@ -1,5 +1,5 @@
-pub mod Variables
 pub mod Words
+pub mod Wants
 pub mod Meaning
 pub mod Statuses
 pub mod Runs

@@ -1,97 +1,95 @@
 -- The meaning of a run: what it does at the opening, and for each line.
-use Rattle.std.specs.Prelude.{◌+◌, nat_lt, ℕ, true, false, List, [], ◌∷◌, ◌++◌, if◌then◌else◌, length, codes}
-use Rattle.std.specs.Str.{bytes_eq}
-use Rattle.std.specs.Fmt.{decimal}
+use Rattle.std.specs.Prelude.{nat_lt, ℕ, Bool, true, false, List, [], ◌∷◌, ◌++◌, if◌then◌else◌, length, unwrap_or, codes}
 use Rattle.std.specs.declared.option.Option.{Option}
 use Rattle.std.specs.declared.option.Option.TheVariants.{Some, None}
 use Rattle.std.specs.declared.result.Result.{Result}
 use Rattle.std.specs.declared.result.Result.TheVariants.{Ok, Err}
+use Rattle.mail_text.specs.Lines.{with_feed}
 use Rattle.mbox_scan.specs.Mailbox.{list_of}
 use Rattle.session_play.specs.declared.act.Found.{Found}
 use Rattle.session_play.specs.declared.act.Found.TheVariants as found
 use Rattle.session_play.specs.declared.stop.Stop.{Stop}
 use Rattle.session_play.specs.Input.{Input, no_input}
-use Rattle.session_play.specs.Play.{Play, Ret, Ask, Line, Say, Read, Next, Go, Last}
-use Rattle.mailx_top.specs.declared.status.End.{End}
-use Rattle.mailx_top.specs.declared.status.End.TheVariants as ending
-use Rattle.mailx_top.specs.Variables.{is_short_name}
-use Rattle.mailx_top.specs.Statuses.{row}
-
--- the number and the size of each text, from this number on; the size is the length with a line feed
-abbrev pub sizes : ℕ → List (List ℕ) → List ℕ
-sizes k [] = []
-sizes k (t ∷ ts) = row (decimal k ++ codes ": " ++ decimal (length t + 1)) ++ sizes (k + 1) ts
-
--- what `size *` says
-abbrev pub sizes_of_all : List (List ℕ) → List ℕ
-sizes_of_all [] = row (codes "*: no such message")
-sizes_of_all (t ∷ ts) = sizes 1 (t ∷ ts)
-
--- what is said to a line; none where the line ends the run
-abbrev pub reply : List (List ℕ) → List ℕ → Option (List ℕ)
-reply texts line =
-    if bytes_eq line (codes "x") then None
-    else if bytes_eq line (codes "size *") then Some (sizes_of_all texts)
-    else Some (row (codes "not built"))
+use Rattle.session_play.specs.Play.{Play, Ret, Ask, Line, Say, Read, Know, Next, Go, Last, bind}
+use Rattle.mailx_vars.specs.Names.{is_short_name}
+use Rattle.mailx_vars.specs.Settings.{value_of}
+use Rattle.read_commands.specs.declared.desk.Desk.{Desk}
+use Rattle.mailx_session.specs.declared.flow.End.{End}
+use Rattle.mailx_session.specs.declared.flow.End.TheVariants as ending
+use Rattle.mailx_session.specs.Openings.{first_desk, opened, greeting}
+use Rattle.mailx_session.specs.Sessions.{line_play}
+use Rattle.mailx_top.specs.declared.environment.Environment.{Environment}
+use Rattle.mailx_top.specs.Words.{Start}
 
 -- where a run is between two rounds: at the opening of a folder, if one is named, or before a line
 pub data State : Type 0 where
-  Opening : Option (List ℕ) → State
-  Reading : List (List ℕ) → Input → State
+  Opening : Option Start → State
+  Reading : Desk → Input → State
 
-abbrev pub replied : List (List ℕ) → Input → Option (List ℕ) → Play (Next State End)
-replied texts j None = Ret (Last ending.Done)
-replied texts j (Some bytes) = Ask (Say bytes) (λ _. Ret (Go (Reading texts j)))
+-- the state after a line, whose input is left, or the end
+abbrev pub with_input : Input → Next Desk End → Play (Next State End)
+with_input j (Go desk) = Ret (Go (Reading desk j))
+with_input j (Last e) = Ret (Last e)
 
 -- what a line does; without one the run ends
-abbrev pub turn : List (List ℕ) → Input → Option (List ℕ) → Play (Next State End)
-turn texts j None = Ret (Last ending.Done)
-turn texts j (Some line) = replied texts j (reply texts line)
+abbrev pub turn : Desk → Input → Option (List ℕ) → Play (Next State End)
+turn desk j None = Ret (Last ending.Done)
+turn desk j (Some line) = bind (line_play desk line) (with_input j)
+
+-- what is said before a line is asked for: on a terminal the value of `prompt`
+abbrev pub prompted : Bool → Desk → Play (Next State End) → Play (Next State End)
+prompted true desk p = Ask (Say (unwrap_or (value_of desk.vars (codes "prompt")) [])) (λ _. p)
+prompted false desk p = p
 
 abbrev pub says_and_ends : List ℕ → End → Play (Next State End)
 says_and_ends text e = Ask (Say text) (λ _. Ret (Last e))
+
+-- the first line is read, after a greeting unless it is to be quiet
+abbrev pub greeted : Bool → Desk → Play (Next State End)
+greeted true desk = Ret (Go (Reading desk no_input))
+greeted false desk = Ask (Say (greeting desk)) (λ _. Ret (Go (Reading desk no_input)))
 
 -- the most messages of a folder
 abbrev pub message_limit : ℕ
 message_limit = 1000000
 
--- a folder with these texts is opened, where they are defined and not too many
-abbrev pub with_list : List ℕ → Option (List (List ℕ)) → Play (Next State End)
-with_list name None = says_and_ends (row (name ++ codes ": not a mailbox")) ending.NoFolder
-with_list name (Some texts) =
-    if nat_lt message_limit (length texts) then says_and_ends (row (name ++ codes ": too many messages")) ending.NoFolder
-    else Ret (Go (Reading texts no_input))
+-- a folder of these bytes is opened, where its texts are defined and not too many
+abbrev pub with_list : Environment → Start → List ℕ → Option (List (List ℕ)) → Play (Next State End)
+with_list env start bytes None = says_and_ends (with_feed (start.file ++ codes ": not a mailbox")) ending.NoFolder
+with_list env start bytes (Some texts) =
+    if nat_lt message_limit (length texts) then says_and_ends (with_feed (start.file ++ codes ": too many messages")) ending.NoFolder
+    else Ask (Know texts) (λ rows. greeted start.quiet (opened (first_desk env.pairs) start.file bytes rows))
 
 -- what follows the load of the folder
-abbrev pub opened : List ℕ → Found → Play (Next State End)
-opened name (found.Bytes bytes true) = says_and_ends (row (name ++ codes ": busy")) ending.Refused
-opened name (found.Bytes None false) = says_and_ends (row (name ++ codes ": no such file")) ending.NoFolder
-opened name (found.Bytes (Some bytes) false) = with_list name (list_of bytes)
-opened name (found.TooLarge n) = says_and_ends (row (name ++ codes ": too large")) ending.NoFolder
+abbrev pub loaded : Environment → Start → Found → Play (Next State End)
+loaded env start (found.Bytes bytes true) = says_and_ends (with_feed (start.file ++ codes ": busy")) ending.Refused
+loaded env start (found.Bytes None false) = says_and_ends (with_feed (start.file ++ codes ": no such file")) ending.NoFolder
+loaded env start (found.Bytes (Some bytes) false) = with_list env start bytes (list_of bytes)
+loaded env start (found.TooLarge n) = says_and_ends (with_feed (start.file ++ codes ": too large")) ending.NoFolder
 
 -- the usage
 abbrev pub usage : List ℕ
-usage = row (codes "usage: mailx [-eHiNnF] [-f [file]] [-u user] [-s subject] [-b names] [-c names] [address...]")
+usage = with_feed (codes "usage: mailx [-eHiNnF] [-f [file]] [-u user] [-s subject] [-b names] [-c names] [address...]")
 
 -- the folder is loaded, where its name can be a file's
-abbrev pub opening : Option (List ℕ) → Play (Next State End)
-opening None = says_and_ends usage ending.Usage
-opening (Some name) =
-    if is_short_name name then Ask (Read name) (opened name)
-    else says_and_ends (row (name ++ codes ": bad name")) ending.NoFolder
+abbrev pub opening : Environment → Option Start → Play (Next State End)
+opening env None = says_and_ends usage ending.Usage
+opening env (Some start) =
+    if is_short_name start.file then Ask (Read start.file) (loaded env start)
+    else says_and_ends (with_feed (start.file ++ codes ": bad name")) ending.NoFolder
 
--- what a run does from a state on, to its next state or its end
-abbrev pub round : State → Play (Next State End)
-round (Opening name) = opening name
-round (Reading texts i) = Ask (Line i) (λ a. turn texts a.1 a.0)
+-- what a run in this environment does from a state on, to its next state or its end
+abbrev pub round : Environment → State → Play (Next State End)
+round env (Opening start) = opening env start
+round env (Reading desk i) = prompted env.terminal desk (Ask (Line i) (λ a. turn desk a.1 a.0))
 
 -- the input that a state begins with
 abbrev pub input_of : State → Input
-input_of (Opening name) = no_input
-input_of (Reading texts i) = i
+input_of (Opening start) = no_input
+input_of (Reading desk i) = i
 
 -- the state after a line, or the end
-abbrev pub next_state : List (List ℕ) → Input → Result (Option End) Stop → Result (Next State End) Stop
-next_state texts j (Ok None) = Ok (Go (Reading texts j))
-next_state texts j (Ok (Some e)) = Ok (Last e)
-next_state texts j (Err cause) = Err cause
+abbrev pub next_state : Desk → Input → Result (Option End) Stop → Result (Next State End) Stop
+next_state desk j (Ok None) = Ok (Go (Reading desk j))
+next_state desk j (Ok (Some e)) = Ok (Last e)
+next_state desk j (Err cause) = Err cause

@@ -10,9 +10,10 @@ use Rattle.host_port.specs.declared.event.Seen.{Seen}
 use Rattle.host_port.specs.declared.event.Seen.TheVariants as seen
 use Rattle.mbox_scan.specs.Mailbox.{list_of}
 use Rattle.session_play.specs.declared.stop.Stop.{Stop}
-use Rattle.mailx_top.specs.declared.status.End.{End}
-use Rattle.mailx_top.specs.declared.status.End.TheVariants as ending
-use Rattle.mailx_top.specs.Variables.{is_short_name}
+use Rattle.mailx_vars.specs.Names.{is_short_name}
+use Rattle.mailx_session.specs.declared.flow.End.{End}
+use Rattle.mailx_session.specs.declared.flow.End.TheVariants as ending
+use Rattle.mailx_top.specs.Words.{Start}
 use Rattle.mailx_top.specs.Meaning.{message_limit}
 
 -- a load saw that the folder is held
@@ -40,13 +41,13 @@ some_load_saw test (event.Load name s ∷ es) = test s || some_load_saw test es
 some_load_saw test (e ∷ es) = some_load_saw test es
 
 -- the file is named so that it can't be one
-abbrev pub IsBadName : Option (List ℕ) → Type 0
+abbrev pub IsBadName : Option Start → Type 0
 IsBadName None = ⊥
-IsBadName (Some name) = is_short_name name ≡ false
+IsBadName (Some start) = is_short_name start.file ≡ false
 
 -- there is no folder to open
-abbrev pub OpensNone : Option (List ℕ) → List Event → Type 0
-OpensNone folder es = IsBadName folder ⊎ (some_load_saw saw_no_folder es ≡ true)
+abbrev pub OpensNone : Option Start → List Event → Type 0
+OpensNone start es = IsBadName start ⊎ (some_load_saw saw_no_folder es ≡ true)
 
 -- the run came to this end, or was cut off
 abbrev pub EndsOrIsCut : End → Result End Stop → Type 0
@@ -54,8 +55,8 @@ EndsOrIsCut e (Ok r) = r ≡ e
 EndsOrIsCut e (Err cause) = Unit {0}
 
 -- A run is refused exactly where a load saw the folder held, and has no folder exactly where there is none to open, unless it is cut off.
-pub record IsOpeningExplained (folder : Option (List ℕ)) (out : Result End Stop) (es : List Event) : Type 0 where
+pub record IsOpeningExplained (start : Option Start) (out : Result End Stop) (es : List Event) : Type 0 where
   pub refused_only : out ≡ Ok ending.Refused → some_load_saw saw_held es ≡ true
   pub refused_always : some_load_saw saw_held es ≡ true → EndsOrIsCut ending.Refused out
-  pub no_folder_only : out ≡ Ok ending.NoFolder → OpensNone folder es
-  pub no_folder_always : OpensNone folder es → EndsOrIsCut ending.NoFolder out
+  pub no_folder_only : out ≡ Ok ending.NoFolder → OpensNone start es
+  pub no_folder_always : OpensNone start es → EndsOrIsCut ending.NoFolder out

@@ -1,9 +1,10 @@
 -- The statuses, and the lines that are said before a run is cut off.
-use Rattle.std.specs.Prelude.{ℕ, List, [], ◌∷◌, ◌++◌, codes}
+use Rattle.std.specs.Prelude.{ℕ, List, codes}
 use Rattle.session_play.specs.declared.stop.Stop.{Stop}
 use Rattle.session_play.specs.declared.stop.Stop.TheVariants as stop
-use Rattle.mailx_top.specs.declared.status.End.{End}
-use Rattle.mailx_top.specs.declared.status.End.TheVariants as ending
+use Rattle.mail_text.specs.Lines.{with_feed}
+use Rattle.mailx_session.specs.declared.flow.End.{End}
+use Rattle.mailx_session.specs.declared.flow.End.TheVariants as ending
 use Rattle.mailx_top.specs.declared.status.Status.{Status}
 use Rattle.mailx_top.specs.declared.status.Status.TheVariants as status
 
@@ -22,17 +23,13 @@ status_at_stop stop.Disk = status.DiskFault
 status_at_stop stop.TooMuch = status.InputLimit
 status_at_stop stop.Memory = status.Memory
 
--- a line of output
-abbrev pub row : List ℕ → List ℕ
-row text = text ++ 10 ∷ []
-
 -- the line that is said at a cut
 abbrev pub line_at_stop : Stop → List ℕ
-line_at_stop stop.Input = row (codes "mailx: input fault")
-line_at_stop stop.Output = row (codes "mailx: output fault")
-line_at_stop stop.Disk = row (codes "mailx: disk fault")
-line_at_stop stop.TooMuch = row (codes "mailx: too much input")
-line_at_stop stop.Memory = row (codes "mailx: out of memory")
+line_at_stop stop.Input = with_feed (codes "mailx: input fault")
+line_at_stop stop.Output = with_feed (codes "mailx: output fault")
+line_at_stop stop.Disk = with_feed (codes "mailx: disk fault")
+line_at_stop stop.TooMuch = with_feed (codes "mailx: too much input")
+line_at_stop stop.Memory = with_feed (codes "mailx: out of memory")
 
 -- the exit status of the program
 abbrev pub status_number : Status → ℕ

@@ -6,8 +6,9 @@ use Rattle.std.specs.declared.result.Result.{Result}
 use Rattle.std.specs.declared.result.Result.TheVariants.{Ok, Err}
 use Rattle.session_play.specs.declared.stop.Stop.{Stop}
 use Rattle.session_play.specs.declared.stop.Stop.TheVariants as stop
-use Rattle.mailx_top.specs.declared.status.End.{End}
-use Rattle.mailx_top.specs.declared.status.End.TheVariants as ending
+use Rattle.mailx_session.specs.declared.flow.End.{End}
+use Rattle.mailx_session.specs.declared.flow.End.TheVariants as ending
+use Rattle.mailx_top.specs.Words.{Start}
 use Rattle.mailx_top.specs.declared.status.Status.{Status}
 use Rattle.mailx_top.specs.declared.status.Status.TheVariants as status
 use Rattle.mailx_top.specs.declared.open.Opened.{Opened}
@@ -28,16 +29,16 @@ IsUsageCut stop.Output = Unit {0}
 IsUsageCut stop.Memory = Unit {0}
 IsUsageCut cause = ⊥
 
--- the opening ends as refused words do exactly where no folder is named
-abbrev pub OpensAsNamed : Option (List ℕ) → Result Opened Stop → Type 0
-OpensAsNamed (Some name) r = OpensWithoutUsage r
+-- the opening ends as refused words do exactly where there is no way to start
+abbrev pub OpensAsNamed : Option Start → Result Opened Stop → Type 0
+OpensAsNamed (Some start) r = OpensWithoutUsage r
 OpensAsNamed None (Ok (opened_as.Ended e)) = e ≡ ending.Usage
-OpensAsNamed None (Ok (opened_as.Folder folder)) = ⊥
+OpensAsNamed None (Ok (opened_as.Folder desk)) = ⊥
 OpensAsNamed None (Err cause) = IsUsageCut cause
 
-abbrev pub EndsAsNamed : Option (List ℕ) → Result End Stop → Type 0
-EndsAsNamed (Some name) (Ok e) = IsNoUsage e
-EndsAsNamed (Some name) (Err cause) = Unit {0}
+abbrev pub EndsAsNamed : Option Start → Result End Stop → Type 0
+EndsAsNamed (Some start) (Ok e) = IsNoUsage e
+EndsAsNamed (Some start) (Err cause) = Unit {0}
 EndsAsNamed None (Ok e) = e ≡ ending.Usage
 EndsAsNamed None (Err cause) = IsUsageCut cause
 

@@ -1,23 +1,25 @@
 // The opening of the folder.
-ghost use Rattle.std.specs.Prelude.{◌≡◌, ◌++◌, ◌<◌, ◌≤◌, List, ℕ, length, true, Some, None, IfOk, IfErr};
+ghost use Rattle.std.specs.Prelude.{◌≡◌, ◌++◌, true, IfOk, IfErr};
 ghost use Rattle.host_port.specs.Ran.{Ran};
+ghost use Rattle.mail_text.specs.Lines.{with_feed};
 ghost use Rattle.mbox_scan.specs.Mailbox.{texts_of, list_of};
-ghost use Rattle.session_play.specs.Input.{no_input};
-ghost use Rattle.session_play.specs.Play.{Play, Ask, Read, Goes, Caused};
-ghost use Rattle.mailx_top.specs.Meaning.{opening, opened, with_list, says_and_ends};
-ghost use Rattle.mailx_top.specs.Variables.{is_short_name};
+ghost use Rattle.session_play.specs.Play.{Play, Ask, Read, Know, Goes, Caused};
+ghost use Rattle.mailx_vars.specs.Environment.{knows_user};
+ghost use Rattle.mailx_vars.specs.Names.{is_short_name};
+ghost use Rattle.mailx_session.specs.Openings.{first_desk, opened};
+ghost use Rattle.mailx_top.specs.Meaning.{opening, loaded, with_list, greeted, says_and_ends};
 ghost use Rattle.mailx_top.specs.Opened.{opened_state};
-ghost use Rattle.mailx_top.specs.Statuses.{row};
-ghost use Rattle.mailx_top.specs.Usage.{IsNoUsage, IsUsageCut, OpensWithoutUsage, OpensAsNamed};
+ghost use Rattle.mailx_top.specs.Usage.{IsUsageCut, OpensWithoutUsage, OpensAsNamed};
+ghost use Rattle.mailx_top.specs.Wants.{start_from};
+ghost use Rattle.mailx_top.specs.Words.{start_of};
 ghost use Rattle.mailx_top.specs.declared.open.Opened.TheVariants as opened_as;
-ghost use Rattle.mailx_top.specs.Words.{folder_named};
 
 use crate::Environment;
-use crate::environment::is_short_name;
-use crate::status::End;
-use crate::words::folder_named;
+use crate::words::{Wanted, start_of};
 use host_port::Host;
 use mail_text::{Memory, Text};
+use mailx_session::{End, Session};
+use mailx_vars::is_short_name;
 use mbox_scan::{Folder, ScanError};
 use session_play::{Found, Stop, load, say};
 use std::alloc::Global;
@@ -25,7 +27,7 @@ use std::alloc::Global;
 /// What the opening gives.
 #[derive(Drop)]
 pub(crate) enum Opened {
-    Folder(Folder),
+    Folder(Session),
     Ended(End),
 }
 
@@ -45,7 +47,7 @@ fn end_with<H: Host>(host: &mut H, line: &[u8], end: End) -> Result<Opened, Stop
 }
 
 fn fault_line(alloc: Global, name: &[u8], fault: &[u8]) -> Result<Text, Memory>
-    ensures { IfOk result (λ t. t ≡ row (name.now ++ fault.now)) }
+    ensures { IfOk result (λ t. t ≡ with_feed (name.now ++ fault.now)) }
 {
     let mut line = Text::copy(alloc, name)?;
     line.push(fault)?;
@@ -62,7 +64,7 @@ fn end_at_file<H: Host>(
     end: End,
 ) -> Result<Opened, Stop>
     ensures ran { Ran H.start H.told H.counts host.old host.new
-        (λ es. Goes (says_and_ends (row (name.now ++ fault.now)) end) es (opened_state result)) }
+        (λ es. Goes (says_and_ends (with_feed (name.now ++ fault.now)) end) es (opened_state result)) }
     ensures cause { Caused (H.counts host.old) (H.counts host.new) result }
     ensures same_end { IfOk result (λ o. o ≡ opened_as.Ended end) }
 {
@@ -70,24 +72,65 @@ fn end_at_file<H: Host>(
     end_with(host, line.bytes(), end)
 }
 
+// Says the greeting of a session, unless it is to be quiet.
+fn greet<H: Host>(
+    alloc: Global,
+    host: &mut H,
+    quiet: bool,
+    session: Session,
+) -> Result<Opened, Stop>
+    ensures ran { Ran H.start H.told H.counts host.old host.new
+        (λ es. Goes (greeted quiet session) es (opened_state result)) }
+    ensures cause { Caused (H.counts host.old) (H.counts host.new) result }
+    ensures plain { OpensWithoutUsage result }
+{
+    if !quiet {
+        let greeting = session.greeting()?;
+        say(host, greeting.bytes())?;
+    }
+    Ok(Opened::Folder(session))
+}
+
+// Begins a session with a folder.
+fn begin<H: Host>(
+    alloc: Global,
+    host: &mut H,
+    env: &Environment,
+    start: Wanted<'_>,
+    folder: Folder,
+) -> Result<Opened, Stop>
+    requires { knows_user env.now.pairs ≡ true }
+    ensures ran { Ran H.start H.told H.counts host.old host.new
+        (λ es. Goes (Ask (Know (texts_of folder)) (λ rows. greeted start.quiet (opened (first_desk env.now.pairs) start.file.now folder rows))) es (opened_state result)) }
+    ensures cause { Caused (H.counts host.old) (H.counts host.new) result }
+    ensures plain { OpensWithoutUsage result }
+{
+    let mut session = Session::new(alloc, env.pairs.items())?;
+    let name = Text::copy(alloc, start.file)?;
+    session.open(name, folder)?;
+    greet(alloc, host, start.quiet, session)
+}
+
 fn open_bytes<H: Host>(
     alloc: Global,
     host: &mut H,
-    name: &[u8],
+    env: &Environment,
+    start: Wanted<'_>,
     bytes: Text,
 ) -> Result<Opened, Stop>
+    requires { knows_user env.now.pairs ≡ true }
     ensures ran { Ran H.start H.told H.counts host.old host.new
-        (λ es. Goes (with_list name.now (list_of bytes)) es (opened_state result)) }
+        (λ es. Goes (with_list env.now (start_from start) bytes (list_of bytes)) es (opened_state result)) }
     ensures cause { Caused (H.counts host.old) (H.counts host.new) result }
     ensures plain { OpensWithoutUsage result }
 {
     match Folder::open(alloc, bytes) {
-        Ok(folder) => Ok(Opened::Folder(folder)),
+        Ok(folder) => begin(alloc, host, env, start, folder),
         Err(ScanError::NotAMailbox) => {
-            end_at_file(alloc, host, name, b": not a mailbox", End::NoFolder)
+            end_at_file(alloc, host, start.file, b": not a mailbox", End::NoFolder)
         }
         Err(ScanError::TooMany { .. }) => {
-            end_at_file(alloc, host, name, b": too many messages", End::NoFolder)
+            end_at_file(alloc, host, start.file, b": too many messages", End::NoFolder)
         }
         Err(ScanError::Memory) => Err(Stop::Memory),
     }
@@ -96,49 +139,67 @@ fn open_bytes<H: Host>(
 fn open_found<H: Host>(
     alloc: Global,
     host: &mut H,
-    name: &[u8],
+    env: &Environment,
+    start: Wanted<'_>,
     found: Found,
 ) -> Result<Opened, Stop>
+    requires { knows_user env.now.pairs ≡ true }
     ensures ran { Ran H.start H.told H.counts host.old host.new
-        (λ es. Goes (opened name.now found) es (opened_state result)) }
+        (λ es. Goes (loaded env.now (start_from start) found) es (opened_state result)) }
     ensures cause { Caused (H.counts host.old) (H.counts host.new) result }
     ensures plain { OpensWithoutUsage result }
 {
     match found {
-        Found::Bytes { held: true, .. } => end_at_file(alloc, host, name, b": busy", End::Refused),
+        Found::Bytes { held: true, .. } => {
+            end_at_file(alloc, host, start.file, b": busy", End::Refused)
+        }
         Found::Bytes {
             bytes: None,
             held: false,
-        } => end_at_file(alloc, host, name, b": no such file", End::NoFolder),
+        } => end_at_file(alloc, host, start.file, b": no such file", End::NoFolder),
         Found::Bytes {
             bytes: Some(bytes),
             held: false,
-        } => open_bytes(alloc, host, name, bytes),
-        Found::TooLarge { .. } => end_at_file(alloc, host, name, b": too large", End::NoFolder),
+        } => open_bytes(alloc, host, env, start, bytes),
+        Found::TooLarge { .. } => {
+            end_at_file(alloc, host, start.file, b": too large", End::NoFolder)
+        }
     }
 }
 
-fn load_and_open<H: Host>(alloc: Global, host: &mut H, name: &[u8]) -> Result<Opened, Stop>
-    requires { is_short_name name.now ≡ true }
+fn load_and_open<H: Host>(
+    alloc: Global,
+    host: &mut H,
+    env: &Environment,
+    start: Wanted<'_>,
+) -> Result<Opened, Stop>
+    requires name { is_short_name start.file.now ≡ true }
+    requires user { knows_user env.now.pairs ≡ true }
     ensures ran { Ran H.start H.told H.counts host.old host.new
-        (λ es. Goes (Ask (Read name.now) (opened name.now)) es (opened_state result)) }
+        (λ es. Goes (Ask (Read start.file.now) (loaded env.now (start_from start))) es (opened_state result)) }
     ensures cause { Caused (H.counts host.old) (H.counts host.new) result }
     ensures plain { OpensWithoutUsage result }
 {
-    let found = load(alloc, host, name)?;
-    open_found(alloc, host, name, found)
+    let found = load(alloc, host, start.file)?;
+    open_found(alloc, host, env, start, found)
 }
 
-fn open_named<H: Host>(alloc: Global, host: &mut H, name: &[u8]) -> Result<Opened, Stop>
+fn open_named<H: Host>(
+    alloc: Global,
+    host: &mut H,
+    env: &Environment,
+    start: Wanted<'_>,
+) -> Result<Opened, Stop>
+    requires { knows_user env.now.pairs ≡ true }
     ensures ran { Ran H.start H.told H.counts host.old host.new
-        (λ es. Goes (opening (Some name.now)) es (opened_state result)) }
+        (λ es. Goes (opening env.now (Some (start_from start))) es (opened_state result)) }
     ensures cause { Caused (H.counts host.old) (H.counts host.new) result }
     ensures plain { OpensWithoutUsage result }
 {
-    if is_short_name(name) {
-        load_and_open(alloc, host, name)
+    if is_short_name(start.file) {
+        load_and_open(alloc, host, env, start)
     } else {
-        end_at_file(alloc, host, name, b": bad name", End::NoFolder)
+        end_at_file(alloc, host, start.file, b": bad name", End::NoFolder)
     }
 }
 
@@ -150,12 +211,12 @@ pub(crate) fn open<H: Host>(
     env: &Environment,
 ) -> Result<Opened, Stop>
     ensures ran { Ran H.start H.told H.counts host.old host.new
-        (λ es. Goes (opening (folder_named words.now env.now.pairs)) es (opened_state result)) }
+        (λ es. Goes (opening env.now (start_of words.now env.now.pairs)) es (opened_state result)) }
     ensures cause { Caused (H.counts host.old) (H.counts host.new) result }
-    ensures named { OpensAsNamed (folder_named words.now env.now.pairs) result }
+    ensures named { OpensAsNamed (start_of words.now env.now.pairs) result }
 {
-    match folder_named(words, env) {
-        Some(name) => open_named(alloc, host, name),
+    match start_of(words, env) {
+        Some(start) => open_named(alloc, host, env, start),
         None => end_with(host, USAGE, End::Usage),
     }
 }

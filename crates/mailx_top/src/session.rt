@@ -1,93 +1,92 @@
 // A session by lines.
-ghost use Rattle.std.specs.Prelude.{◌≡◌, ◌+◌, ◌<◌, ◌≤◌, ◌++◌, List, ℕ, length, IfOk, IfNone, IfSome, OnOk, codes};
-ghost use Rattle.std.specs.Fmt.{decimal};
+ghost use Rattle.std.specs.Prelude.{◌≡◌, ◌<◌, IfOk, IfNone, IfSome, unwrap_or, [], codes};
 ghost use Rattle.host_port.specs.Ran.{Ran};
-ghost use Rattle.mbox_scan.specs.Mailbox.{texts_of};
 ghost use Rattle.session_play.specs.Input.{left, no_input};
-ghost use Rattle.session_play.specs.Play.{Play, Goes, Loop, Caused};
-ghost use Rattle.mailx_top.specs.Meaning.{round, reply, State, Reading, next_state, sizes_of_all};
-ghost use Rattle.mailx_top.specs.Statuses.{row};
+ghost use Rattle.session_play.specs.Play.{Play, Ret, Goes, Loop, Caused};
+ghost use Rattle.mailx_top.specs.Meaning.{round, State, Reading, next_state, turn, prompted};
 
-use crate::status::End;
+use crate::Environment;
 use host_port::Host;
-use itoa::Buffer;
-use mail_text::{Memory, Text};
-use mbox_scan::Folder;
+use mailx_session::{End, Flow, Session};
 use session_play::{Reader, Stop, say};
 use std::alloc::Global;
 
-// Puts the line of one message.
-fn put_size(out: &mut Text, number: u64, size: u64) -> Result<(), Memory>
-    ensures ok { OnOk result (out.new ≡ out.old ++ row (decimal number ++ codes ": " ++ decimal size)) }
+// The value of `prompt`; one that is unset counts as empty.
+fn prompt(session: &Session) -> &[u8]
+    ensures { result.now ≡ unwrap_or (value_of session.now.vars (codes "prompt")) [] }
 {
-    let mut buffer = Buffer::new();
-    out.push(buffer.format(number).as_bytes())?;
-    out.push(b": ")?;
-    out.push(buffer.format(size).as_bytes())?;
-    out.push(b"\n")
+    match session.desk().vars.get(b"prompt") {
+        Some(prompt) => prompt,
+        None => b"",
+    }
 }
 
-// The number and the size of each message.
-fn sizes(alloc: Global, folder: &Folder) -> Result<Text, Memory>
-    ensures { IfOk result (λ t. t ≡ sizes_of_all (texts_of folder.now)) }
+// Says the prompt on a terminal.
+fn say_prompt<H: Host>(host: &mut H, terminal: bool, session: &Session) -> Result<(), Stop>
+    ensures ran { Ran H.start H.told H.counts host.old host.new (λ es. Goes (prompted_only terminal session.now) es result) }
+    ensures cause { Caused (H.counts host.old) (H.counts host.new) result }
 {
-    let count = folder.count();
-    if count == 0 {
-        return Text::copy(alloc, b"*: no such message\n");
+    if terminal {
+        say(host, prompt(session))
+    } else {
+        Ok(())
     }
-    let mut out = Text::new(alloc);
-    for k in 0..count {
-        let size = folder.message(k).text().len() as u64 + 1;
-        put_size(&mut out, k as u64 + 1, size)?;
-    }
-    Ok(out)
 }
 
-// What is said to a line, or None where it ends the run.
-fn answer(alloc: Global, folder: &Folder, line: &[u8]) -> Result<Option<Text>, Memory>
-    ensures { IfOk result (λ r. r ≡ reply (texts_of folder.now) line.now) }
+// Takes a line, or the end of input.
+fn take_line<H: Host>(
+    host: &mut H,
+    session: &mut Session,
+    line: Option<Text>,
+) -> Result<Option<End>, Stop>
+    ensures ran { (j : Input) → Ran H.start H.told H.counts host.old host.new
+        (λ es. Goes (turn session.old j line) es (next_state session.new j result)) }
+    ensures cause { Caused (H.counts host.old) (H.counts host.new) result }
+    ensures more { IsNone line → IfOk result IsSome }
 {
-    if line == b"x".as_slice() {
-        return Ok(None);
+    match line {
+        None => Ok(Some(session.end())),
+        Some(line) => match session.step(line.bytes(), host)? {
+            Flow::Go => Ok(None),
+            Flow::End(end) => Ok(Some(end)),
+        },
     }
-    if line == b"size *".as_slice() {
-        return Ok(Some(sizes(alloc, folder)?));
-    }
-    Ok(Some(Text::copy(alloc, b"not built\n")?))
 }
 
 fn one_line<H: Host>(
     alloc: Global,
     host: &mut H,
+    env: &Environment,
     reader: &mut Reader,
-    folder: &Folder,
+    session: &mut Session,
 ) -> Result<Option<End>, Stop>
     ensures ran { Ran H.start H.told H.counts host.old host.new
-        (λ es. Goes (round (Reading (texts_of folder.now) reader.old)) es (next_state (texts_of folder.now) reader.new result)) }
+        (λ es. Goes (round env.now (Reading session.old reader.old)) es (next_state session.new reader.new result)) }
     ensures cause { Caused (H.counts host.old) (H.counts host.new) result }
     ensures progress { IfOk result (λ end. IfNone end (left reader.new < left reader.old)) }
     ensures done { IfOk result (λ end. IfSome end (λ e. e ≡ End.Done)) }
 {
-    let Some(line) = reader.line(alloc, host)? else {
-        return Ok(Some(End::Done));
-    };
-    let Some(out) = answer(alloc, folder, line.bytes())? else {
-        return Ok(Some(End::Done));
-    };
-    say(host, out.bytes())?;
-    Ok(None)
+    say_prompt(host, env.terminal, session)?;
+    let line = reader.line(alloc, host)?;
+    take_line(host, session, line)
 }
 
 /// Lines from the input, to its end or to the line that ends the run.
-pub(crate) fn session<H: Host>(alloc: Global, host: &mut H, folder: &Folder) -> Result<End, Stop>
+pub(crate) fn lines<H: Host>(
+    alloc: Global,
+    host: &mut H,
+    env: &Environment,
+    session: Session,
+) -> Result<End, Stop>
     ensures ran { Ran H.start H.told H.counts host.old host.new
-        (λ es. Loop round (Reading (texts_of folder.now) no_input) es result) }
+        (λ es. Loop (round env.now) (Reading session no_input) es result) }
     ensures cause { Caused (H.counts host.old) (H.counts host.new) result }
     ensures done { IfOk result (λ e. e ≡ End.Done) }
 {
+    let mut session = session;
     let mut reader = Reader::new(alloc);
-    'session: loop {
-        if let Some(end) = one_line(alloc, host, &mut reader, folder)? {
+    'lines: loop {
+        if let Some(end) = one_line(alloc, host, env, &mut reader, &mut session)? {
             return Ok(end);
         }
     }

@@ -1,6 +1,7 @@
 ghost use Rattle.std.specs.Prelude.{◌≡◌};
 ghost use Rattle.mailx_top.specs.Statuses.{status_at_end, status_at_stop, line_at_stop};
 
+use mailx_session::End;
 use session_play::Stop;
 
 /// How a run ended.
@@ -46,15 +47,6 @@ impl Status {
             Status::NoFolder => 10,
         }
     }
-}
-
-/// How a run ends that is not cut off.
-#[derive(Clone, Copy, Debug, PartialEq, Eq)]
-pub(crate) enum End {
-    Done,
-    Usage,
-    Refused,
-    NoFolder,
 }
 
 pub(crate) fn end_status(end: End) -> Status

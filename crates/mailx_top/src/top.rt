@@ -10,15 +10,16 @@ ghost use Rattle.mailx_top.specs.Meaning.{round, Opening};
 ghost use Rattle.mailx_top.specs.Runs.{IsRun, SaysLast};
 ghost use Rattle.mailx_top.specs.Statuses.{line_at_stop};
 ghost use Rattle.mailx_top.specs.Usage.{EndsAsNamed, IsUsageStatus};
-ghost use Rattle.mailx_top.specs.Words.{are_read, folder_named};
+ghost use Rattle.mailx_top.specs.Words.{are_read, start_of};
 
 use crate::open::{Opened, open};
-use crate::session::session;
-use crate::status::{End, end_status, stop_line, stop_status};
+use crate::session::lines;
+use crate::status::{end_status, stop_line, stop_status};
 use crate::words::are_read;
 use crate::{Environment, Status};
 use host_port::Host;
 use mail_text::Text;
+use mailx_session::End;
 use session_play::Stop;
 use std::alloc::Global;
 
@@ -29,13 +30,13 @@ fn play<H: Host>(
     env: &Environment,
 ) -> Result<End, Stop>
     ensures ran { Ran H.start H.told H.counts host.old host.new
-        (λ es. Loop round (Opening (folder_named words.now env.now.pairs)) es result) }
+        (λ es. Loop (round env.now) (Opening (start_of words.now env.now.pairs)) es result) }
     ensures cause { Caused (H.counts host.old) (H.counts host.new) result }
-    ensures named { EndsAsNamed (folder_named words.now env.now.pairs) result }
+    ensures named { EndsAsNamed (start_of words.now env.now.pairs) result }
 {
     let opened = open(alloc, host, words, env)?;
     match opened {
-        Opened::Folder(folder) => session(alloc, host, &folder),
+        Opened::Folder(session) => lines(alloc, host, env, session),
         Opened::Ended(end) => Ok(end),
     }
 }
@@ -54,14 +55,14 @@ fn say_cut<H: Host>(host: &mut H, words: &[Text], cause: Stop)
 /// its name.
 pub fn run<H: Host>(alloc: Global, words: &[Text], env: &Environment, host: &mut H) -> Status
     // The own events are those of the command meaning, and output and status are its.
-    ensures run { Ran H.start H.told H.counts host.old host.new (IsRun words.now (folder_named words.now env.now.pairs) result) }
+    ensures run { Ran H.start H.told H.counts host.old host.new (IsRun words.now env.now result) }
     // A fault is answered only where the host's count of it rose.
     ensures input_fault { result ≡ Status.InputFault → Rose (H.counts host.old).ins (H.counts host.new).ins }
     ensures output_fault { result ≡ Status.OutputFault → Rose (H.counts host.old).outs (H.counts host.new).outs }
     ensures disk_fault { result ≡ Status.DiskFault → Rose (H.counts host.old).disks (H.counts host.new).disks }
     // The usage is answered exactly where the words or the environment are refused.
-    ensures usage_only { result ≡ Status.Usage → folder_named words.now env.now.pairs ≡ None }
-    ensures usage_always { folder_named words.now env.now.pairs ≡ None → IsUsageStatus result }
+    ensures usage_only { result ≡ Status.Usage → start_of words.now env.now.pairs ≡ None }
+    ensures usage_always { start_of words.now env.now.pairs ≡ None → IsUsageStatus result }
     // At every prefix of the trace the disk is the start's with the steps of others.
     ensures prefixes { (trace front rest : List Event) → H.told host.new ≡ Some trace → trace ≡ front ++ rest
         → disk (H.start host.new) front ≡ disk (H.start host.new) (of_others front) }

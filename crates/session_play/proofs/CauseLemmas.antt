@@ -12,7 +12,7 @@ use Rattle.session_play.specs.declared.act.Found.TheVariants as found
 use Rattle.session_play.specs.declared.stop.Stop.{Stop}
 use Rattle.session_play.specs.declared.stop.Stop.TheVariants as stop
 use Rattle.session_play.specs.Input.{Input, input_limit, first_line, last_line, next_of, next_line, took, Reads}
-use Rattle.session_play.specs.Play.{Line, Say, Read, Play, Ret, Ask, Says, SaysInPart, seen_of, Partly, Goes, Next, Go, Last, Loop, again, last, cut}
+use Rattle.session_play.specs.Play.{Line, Say, Read, Know, Play, Ret, Ask, Says, SaysInPart, seen_of, Partly, Goes, Next, Go, Last, Loop, again, last, cut}
 use Rattle.session_play.specs.Causes.{some_in_failed, some_out_failed, some_load_failed, bytes_in, IsExplained, Threads, NextFrom}
 
 abbrev is_in : Stop → Bool
@@ -121,6 +121,9 @@ load-clean name f es i le is = subst (λ (es : List Event). IsClean es i i) (sym
     go (found.Bytes bytes held) = record { in_ok = refl; out_ok = refl; load_ok = refl; bytes = omega arith; within = le }
     go (found.TooLarge n) = record { in_ok = refl; out_ok = refl; load_ok = refl; bytes = omega arith; within = le }
 
+none-clean : (es : List Event) (i : Input) → i.taken ≤ input_limit → es ≡ [] → IsClean es i i
+none-clean es i le is = subst (λ (es : List Event). IsClean es i i) (sym is) (clean-none i le)
+
 memory-cut : (es : List Event) (i : Input) → i.taken ≤ input_limit → es ≡ [] → IsCutBy stop.Memory es i
 memory-cut es i le is = subst (λ (es : List Event). IsCutBy stop.Memory es i) (sym is) (record { in_is = refl; out_is = refl; load_is = refl; amount = omega arith })
 
@@ -162,6 +165,14 @@ read-cut-by stop.Memory name es i le is = subst (λ (es : List Event). IsCutBy s
 read-cut-by stop.Input name es i le never = absurd never
 read-cut-by stop.Output name es i le never = absurd never
 read-cut-by stop.TooMuch name es i le never = absurd never
+
+-- rows are found at once, or not at all
+no-part : (cause : Stop) (texts : List (List ℕ)) (es : List Event) → Partly cause (Know texts) es → ⊥
+no-part stop.Input texts es never = never
+no-part stop.Output texts es never = never
+no-part stop.Disk texts es never = never
+no-part stop.TooMuch texts es never = never
+no-part stop.Memory texts es never = never
 
 some-same : {A : Type 0} {a b : A} → Some a ≡ Some b → a ≡ b
 some-same e = cc
@@ -212,6 +223,9 @@ goes-clean Ends (Ask (Say bytes) go) i r es t le (inl (answer, front, rest, is, 
 goes-clean Ends (Ask (Read name) go) i r es t le (inl (answer, front, rest, is, did, goes)) =
     let more = goes-clean Ends (go answer) i r rest (t answer) le goes in
     (more.0, more.1, subst (λ (es : List Event). IsClean es i more.0) (sym is) (clean-then front rest i i more.0 (load-clean name answer front i le did) more.2))
+goes-clean Ends (Ask (Know texts) go) i r es t le (inl (answer, front, rest, is, did, goes)) =
+    let more = goes-clean Ends (go answer) i r rest (t answer) le goes in
+    (more.0, more.1, subst (λ (es : List Event). IsClean es i more.0) (sym is) (clean-then front rest i i more.0 (none-clean front i le did.0) more.2))
 goes-clean Ends (Ask act go) i r es t le (inr (cause, other, part)) = absurd (cc other)
 
 -- a play that was cut off ends with its cut
@@ -229,6 +243,8 @@ goes-cut-by Ends (Ask (Say bytes) go) i cause es t le (inl (answer, front, rest,
     subst (λ (es : List Event). IsCutBy cause es i) (sym is) (cut-then cause front rest i i (says-clean bytes front i le did) (goes-cut-by Ends (go answer) i cause rest (t answer) le goes))
 goes-cut-by Ends (Ask (Read name) go) i cause es t le (inl (answer, front, rest, is, did, goes)) =
     subst (λ (es : List Event). IsCutBy cause es i) (sym is) (cut-then cause front rest i i (load-clean name answer front i le did) (goes-cut-by Ends (go answer) i cause rest (t answer) le goes))
+goes-cut-by Ends (Ask (Know texts) go) i cause es t le (inl (answer, front, rest, is, did, goes)) =
+    subst (λ (es : List Event). IsCutBy cause es i) (sym is) (cut-then cause front rest i i (none-clean front i le did.0) (goes-cut-by Ends (go answer) i cause rest (t answer) le goes))
 goes-cut-by Ends (Ask act go) i cause es t le (inr (why, same, inl (memory, none))) =
     subst (λ (c : Stop). IsCutBy c es i) (sym (err-same cause why same ∙ memory)) (memory-cut es i le none)
 goes-cut-by Ends (Ask (Line k) go) i cause es t le (inr (why, same, inr part)) =
@@ -238,6 +254,7 @@ goes-cut-by Ends (Ask (Say bytes) go) i cause es t le (inr (why, same, inr part)
     subst (λ (c : Stop). IsCutBy c es i) (sym (err-same cause why same)) (say-cut-by why bytes es i le part)
 goes-cut-by Ends (Ask (Read name) go) i cause es t le (inr (why, same, inr part)) =
     subst (λ (c : Stop). IsCutBy c es i) (sym (err-same cause why same)) (read-cut-by why name es i le part)
+goes-cut-by Ends (Ask (Know texts) go) i cause es t le (inr (why, same, inr part)) = absurd (no-part why texts es part)
 
 abbrev Verdict : {R : Type 0} → Result R Stop → List Event → Input → Type 0
 Verdict (Ok r) es i = (j : Input) × IsClean es i j

@@ -8,7 +8,7 @@ use Rattle.host_port.specs.declared.event.Seen.TheVariants as seen
 use Rattle.session_play.specs.declared.stop.Stop.{Stop}
 use Rattle.session_play.specs.declared.stop.Stop.TheVariants as stop
 use Rattle.session_play.specs.Input.{Input, input_limit}
-use Rattle.session_play.specs.Play.{Line, Say, Read, Answer, Play, Ret, Ask, Next, Go, Last}
+use Rattle.session_play.specs.Play.{Line, Say, Read, Know, Answer, Play, Ret, Ask, Next, Go, Last}
 
 -- some taking of input failed
 abbrev pub some_in_failed : List Event → Bool
@@ -47,6 +47,7 @@ Threads Ends i (Ret r) = Ends r i
 Threads Ends i (Ask (Line k) go) = (k ≡ i) × ((a : Answer (Line k)) → Threads Ends a.1 (go a))
 Threads Ends i (Ask (Say bytes) go) = (u : Unit {0}) → Threads Ends i (go u)
 Threads Ends i (Ask (Read name) go) = (f : Answer (Read name)) → Threads Ends i (go f)
+Threads Ends i (Ask (Know texts) go) = (rows : Answer (Know texts)) → Threads Ends i (go rows)
 
 -- what a round leaves is where the next one begins
 abbrev pub NextFrom : {X R : Type 0} → (X → Input) → Next X R → Input → Type 0

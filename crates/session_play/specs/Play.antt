@@ -9,23 +9,27 @@ use Rattle.host_port.specs.declared.event.Event.TheVariants as event
 use Rattle.host_port.specs.declared.event.Seen.{Seen}
 use Rattle.host_port.specs.declared.event.Seen.TheVariants as seen
 use Rattle.host_port.specs.Calls.{Counts, Rose}
+use Rattle.message_state.specs.declared.row.Row.{Row}
+use Rattle.message_state.specs.RowLists.{AreRows}
 use Rattle.session_play.specs.declared.act.Found.{Found}
 use Rattle.session_play.specs.declared.act.Found.TheVariants as found
 use Rattle.session_play.specs.declared.stop.Stop.{Stop}
 use Rattle.session_play.specs.declared.stop.Stop.TheVariants as stop
 use Rattle.session_play.specs.Input.{Input, input_limit, next_line, Reads}
 
--- what a run asks of the outside: the next line of its input, to say bytes, to load a file
+-- what a run asks: the next line of its input, to say bytes, to load a file; and the rows of some texts, which it finds without the outside
 pub data Act : Type 0 where
   Line : Input → Act
   Say : List ℕ → Act
   Read : List ℕ → Act
+  Know : List (List ℕ) → Act
 
--- what it is answered: the line, or none at the end, with the input that is left; nothing; what the load found
+-- what it is answered: the line, or none at the end, with the input that is left; nothing; what the load found; the rows
 abbrev pub Answer : Act → Type 0
 Answer (Line i) = Option (List ℕ) × Input
 Answer (Say bytes) = Unit {0}
 Answer (Read name) = Found
+Answer (Know texts) = List Row
 
 -- acts, each followed by what its answer calls for, to a result
 pub data Play (R : Type 0) : Type 0 where
@@ -60,6 +64,7 @@ abbrev pub Did : (act : Act) → Answer act → List Event → Type 0
 Did (Line i) a es = (j : Input) × Reads i es j × (next_line j ≡ Some a)
 Did (Say bytes) u es = Says bytes es
 Did (Read name) f es = es ≡ event.Load name (seen_of f) ∷ []
+Did (Know texts) rows es = (es ≡ []) × AreRows texts rows
 
 -- the own events of an act that is cut off, and why it was
 abbrev pub Partly : Stop → Act → List Event → Type 0

@@ -1,0 +1,86 @@
+-- The desk that a session begins with.
+use Rattle.std.specs.Prelude.{◌≡◌, ℕ, ◌+◌, min, Bool, true, false, ◌==◌, List, [], ◌∷◌, ◌++◌, map, length, replicate, codes, Option, Some, None, position, if◌then◌else◌}
+use Rattle.std.specs.List.{range_with_len, count_by}
+use Rattle.std.specs.Fmt.{decimal}
+use Rattle.std.specs.declared.result.Result.TheVariants.{Ok, Err}
+use Rattle.mail_text.specs.Lines.{with_feed}
+use Rattle.mbox_scan.specs.Mailbox.{texts_of}
+use Rattle.mailx_vars.specs.declared.environment.Places.{Places}
+use Rattle.mailx_vars.specs.Environment.{Pairs, places_in}
+use Rattle.mailx_vars.specs.Settings.{defaults, is_set}
+use Rattle.message_state.specs.declared.mark.State.{State}
+use Rattle.message_state.specs.declared.mark.State.TheVariants.{New, Unread}
+use Rattle.message_state.specs.declared.row.Row.{Row}
+use Rattle.message_state.specs.States.{place}
+use Rattle.message_state.specs.RowLists.{AreRows}
+use Rattle.read_commands.specs.declared.desk.Desk.{Desk}
+use Rattle.read_commands.specs.Answers.{OrFault}
+use Rattle.read_commands.specs.Paging.{page_size, page_of, current_page}
+
+-- a desk without messages, with the variables that are set at the start
+abbrev pub desk_with : Places → Desk
+desk_with places = record {
+  folder = record { name = []; system = false; folder = []; marks = [] };
+  shown = record { rows = []; order = []; depth = []; current = 0 };
+  vars = defaults;
+  sets = record { ignored = []; retained = [] };
+  page = 0;
+  fresh = true;
+  places = places;
+}
+
+-- the desk before a folder is opened
+abbrev pub first_desk : Pairs → Desk
+first_desk pairs = desk_with (places_in pairs)
+
+-- the row's message is in this state
+abbrev pub is_in : State → Row → Bool
+is_in state row = place row.mark.state == place state
+
+-- the number of the message at a place from 0, or what stands in its stead
+abbrev pub number_or : ℕ → Option ℕ → ℕ
+number_or other None = other
+number_or other (Some k) = k + 1
+
+-- the message that is current first: the first new one, else the first unread one, else message 1, else none
+abbrev pub first_current : List Row → ℕ
+first_current rows = number_or (number_or (min 1 (length rows)) (position (is_in Unread) rows)) (position (is_in New) rows)
+
+-- the page that has the current message, where `screen` is a number
+abbrev pub page_at : Desk → OrFault ℕ → ℕ
+page_at desk (Ok size) = page_of desk desk.shown.current size
+page_at desk (Err line) = 0
+
+-- the size of a page, where it is known
+abbrev pub IsKnownSize : OrFault ℕ → Option ℕ → Type 0
+IsKnownSize (Ok size) known = known ≡ Some size
+IsKnownSize (Err line) known = known ≡ None
+
+abbrev pub with_page : Desk → Desk
+with_page desk = record desk { page = page_at desk (page_size desk) }
+
+-- a folder of these bytes is opened, with the rows of its texts, in order of number
+abbrev pub opened : Desk → List ℕ → List ℕ → List Row → Desk
+opened desk name bytes rows = with_page (record desk {
+  folder = record { name = name; system = false; folder = bytes; marks = map (λ row. row.mark) rows };
+  shown = record { rows = rows; order = range_with_len 1 (length rows); depth = replicate (length rows) 0; current = first_current rows };
+  fresh = true;
+})
+
+-- a folder was opened
+abbrev pub Opens : Desk → List ℕ → List ℕ → Desk → Type 0
+Opens old name bytes new = (rows : List Row) × AreRows (texts_of bytes) rows × (new ≡ opened old name bytes rows)
+
+-- the opening line: the folder's name, how many messages it has, and how many are new and unread
+abbrev pub opening_line : Desk → List ℕ
+opening_line desk = with_feed (codes "\"" ++ desk.folder.name ++ codes "\": " ++ decimal (length desk.shown.rows) ++ codes " messages, "
+    ++ decimal (count_by (is_in New) desk.shown.rows) ++ codes " new, " ++ decimal (count_by (is_in Unread) desk.shown.rows) ++ codes " unread")
+
+-- the page of the current message, where there is one
+abbrev pub page_or_none : OrFault (List ℕ) → List ℕ
+page_or_none (Ok page) = page
+page_or_none (Err line) = []
+
+-- what is said at the start: with `header` set the opening line and the page of the current message
+abbrev pub greeting : Desk → List ℕ
+greeting desk = if is_set desk.vars (codes "header") then opening_line desk ++ page_or_none (current_page desk) else []

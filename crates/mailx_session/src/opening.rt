@@ -1,0 +1,140 @@
+// The rows and the view of a folder that is opened.
+ghost use Rattle.std.specs.Prelude.{◌≡◌, ◌≤◌, length, All, IfOk, IfSome, replicate};
+ghost use Rattle.std.specs.List.{range_with_len};
+ghost use Rattle.mail_dates.specs.Clock.{IsInYears};
+ghost use Rattle.mbox_scan.specs.Mailbox.{texts_of};
+ghost use Rattle.message_state.specs.RowLists.{AreRows};
+ghost use Rattle.message_state.specs.declared.row.Row.{Row};
+ghost use Rattle.mailx_session.specs.Openings.{is_in, first_current};
+
+use mail_text::{Items, Memory, Text};
+use mbox_scan::Folder;
+use message_state::{Mark, Row, Shown, State, row_of};
+use read_commands::{Desk, Open, Refusal, page_size};
+use mailx_vars::{Places, Vars};
+use message_show::FieldSets;
+use std::alloc::Global;
+
+/// The desk before a folder is opened.
+pub(crate) fn first_desk(alloc: Global, places: Places) -> Result<Desk, Memory>
+    ensures { IfOk result (λ desk. desk ≡ desk_with places) }
+{
+    let none = Text::new(alloc);
+    let folder = match Folder::open(alloc, none) {
+        Ok(folder) => folder,
+        Err(_) => return Err(Memory),
+    };
+    Ok(Desk {
+        folder: Open {
+            name: Text::new(alloc),
+            system: false,
+            folder,
+            marks: Items::new(alloc),
+        },
+        shown: Shown {
+            rows: Items::new(alloc),
+            order: Items::new(alloc),
+            depth: Items::new(alloc),
+            current: 0,
+        },
+        vars: Vars::new(alloc)?,
+        sets: FieldSets::new(alloc),
+        page: 0,
+        fresh: true,
+        places,
+    })
+}
+
+/// How many messages a page has, where `screen` is a number.
+pub(crate) fn known_page_size(alloc: Global, desk: &Desk) -> Result<Option<usize>, Memory>
+    ensures { IfOk result (IsKnownSize (page_size desk.now)) }
+{
+    match page_size(alloc, desk) {
+        Ok(size) => Ok(Some(size)),
+        Err(Refusal::Fault { .. }) => Ok(None),
+        Err(Refusal::Memory) => Err(Memory),
+    }
+}
+
+/// The rows of a folder's messages.
+pub(crate) fn rows_of(alloc: Global, folder: &Folder) -> Result<Items<Row>, Memory>
+    ensures rows { IfOk result (λ rows. AreRows (texts_of folder.now) rows) }
+    ensures years { IfOk result (λ rows. All (λ (row : Row). IfSome row.moment IsInYears) rows) }
+    ensures few { IfOk result (λ rows. length rows ≤ 1_000_000) }
+{
+    let mut rows = Items::new(alloc);
+    for k in 0..folder.count() {
+        rows.push(row_of(alloc, folder.message(k).text())?)?;
+    }
+    Ok(rows)
+}
+
+/// The marks of the rows.
+pub(crate) fn marks_of(alloc: Global, rows: &[Row]) -> Result<Items<Mark>, Memory>
+    ensures { IfOk result (λ marks. marks ≡ map (λ (row : Row). row.mark) rows.now) }
+{
+    let mut marks = Items::new(alloc);
+    for row in rows {
+        marks.push(row.mark)?;
+    }
+    Ok(marks)
+}
+
+// The numbers from 1 on.
+fn numbers(alloc: Global, count: u32) -> Result<Items<u32>, Memory>
+    ensures { IfOk result (λ order. order ≡ range_with_len 1 count) }
+{
+    let mut order = Items::new(alloc);
+    for k in 0..count {
+        order.push(k + 1)?;
+    }
+    Ok(order)
+}
+
+// So many depths of messages that stand under no other.
+fn no_depths(alloc: Global, count: u32) -> Result<Items<u32>, Memory>
+    ensures { IfOk result (λ depth. depth ≡ replicate count 0) }
+{
+    let mut depth = Items::new(alloc);
+    for _ in 0..count {
+        depth.push(0)?;
+    }
+    Ok(depth)
+}
+
+// The number of the first message in a state.
+fn first_in(rows: &[Row], state: State) -> Option<usize>
+    ensures { result ≡ position (is_in state) rows.now }
+{
+    rows.iter().position(|row| row.mark.state == state)
+}
+
+/// The message that is current first.
+pub(crate) fn first_current(rows: &[Row]) -> u32
+    requires { length rows.now ≤ 1_000_000 }
+    ensures current { result ≡ first_current rows.now }
+    ensures within { result ≤ length rows.now }
+{
+    match first_in(rows, State::New) {
+        Some(k) => k as u32 + 1,
+        None => match first_in(rows, State::Unread) {
+            Some(k) => k as u32 + 1,
+            None => rows.len().min(1) as u32,
+        },
+    }
+}
+
+/// The messages in order of number.
+pub(crate) fn plain_view(alloc: Global, rows: Items<Row>) -> Result<Shown, Memory>
+    requires { length rows ≤ 1_000_000 }
+    ensures { IfOk result (λ shown. shown ≡ record { rows = rows; order = range_with_len 1 (length rows); depth = replicate (length rows) 0; current = first_current rows }) }
+{
+    let count = rows.items().len() as u32;
+    let current = first_current(rows.items());
+    Ok(Shown {
+        order: numbers(alloc, count)?,
+        depth: no_depths(alloc, count)?,
+        rows,
+        current,
+    })
+}

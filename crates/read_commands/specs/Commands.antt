@@ -1,0 +1,79 @@
+-- What each command comes to.
+use Rattle.std.specs.Prelude.{ℕ, List, [], ◌∷◌, codes, unwrap_or}
+use Rattle.std.specs.List.{flat_map}
+use Rattle.std.specs.Str.{bytes_eq}
+use Rattle.std.specs.declared.result.Result.{Result}
+use Rattle.std.specs.declared.result.Result.TheVariants.{Ok, Err}
+use Rattle.mail_text.specs.Lines.{with_feed}
+use Rattle.line_words.specs.declared.line.CommandLine.{CommandLine}
+use Rattle.line_words.specs.declared.line.LineError.{LineError}
+use Rattle.line_words.specs.declared.command.Command.{Command}
+use Rattle.line_words.specs.declared.command.Command.TheVariants as command
+use Rattle.line_words.specs.Spellings.{whole_name, names}
+use Rattle.line_words.specs.Line.{reading}
+use Rattle.message_show.specs.declared.text.How.TheVariants.{Kept, All}
+use Rattle.read_commands.specs.declared.desk.Desk.{Desk}
+use Rattle.read_commands.specs.declared.steps.Ask.TheVariants.{Exit}
+use Rattle.read_commands.specs.declared.steps.Steps.{Steps}
+use Rattle.read_commands.specs.Answers.{OrFault, next, says, quietly}
+use Rattle.read_commands.specs.Effects.{unchanged}
+use Rattle.read_commands.specs.Faults.{bad_arguments, not_built, fault_of}
+use Rattle.read_commands.specs.Printing.{print, top, from, size, print_following, number, echo}
+use Rattle.read_commands.specs.Paging.{headers, scroll}
+use Rattle.read_commands.specs.Deleting.{delete, delete_and_print, undelete}
+use Rattle.read_commands.specs.Setting.{set, unset}
+
+-- the whole name of the command that a word spells
+abbrev pub name_of : List ℕ → List ℕ
+name_of word = unwrap_or (whole_name word) []
+
+-- what a command without words comes to, which is spelled so
+abbrev pub without_words : List (List ℕ) → List ℕ → OrFault Steps → OrFault Steps
+without_words [] word meant = meant
+without_words (w ∷ ws) word meant = Err (bad_arguments (name_of word))
+
+-- a command that takes no words
+abbrev pub alone : CommandLine → OrFault Steps → OrFault Steps
+alone line meant = without_words line.words line.word meant
+
+-- `help`: the names of all commands, one a line
+abbrev pub help : Desk → OrFault Steps
+help desk = says (flat_map with_feed names) (unchanged desk)
+
+-- `exit`, `xit`
+abbrev pub exit : Desk → OrFault Steps
+exit desk = Ok (record { asks = Exit ∷ []; effects = unchanged desk })
+
+-- the command of a line, on a desk
+abbrev pub meaning_of : Command → CommandLine → Desk → OrFault Steps
+meaning_of command.Print line desk = print Kept desk line.words
+meaning_of command.PrintAll line desk = print All desk line.words
+meaning_of command.Top line desk = top desk line.words
+meaning_of command.From line desk = from desk line.words
+meaning_of command.Headers line desk = headers desk line.words
+meaning_of command.Scroll line desk = alone line (scroll desk (bytes_eq line.word (codes "z-")))
+meaning_of command.Next line desk = print_following desk line.words
+meaning_of command.Number line desk = alone line (number desk)
+meaning_of command.Echo line desk = echo desk line.words
+meaning_of command.Size line desk = size desk line.words
+meaning_of command.Delete line desk = delete desk line.words
+meaning_of command.DeleteAndPrint line desk = delete_and_print desk line.words
+meaning_of command.Undelete line desk = undelete desk line.words
+meaning_of command.Set line desk = set desk line.words
+meaning_of command.Unset line desk = unset desk line.words
+meaning_of command.Help line desk = alone line (help desk)
+meaning_of command.Comment line desk = quietly (unchanged desk)
+meaning_of command.Exit line desk = alone line (exit desk)
+meaning_of other line desk = Err (not_built (name_of line.word))
+
+abbrev pub meaning : CommandLine → Desk → OrFault Steps
+meaning line desk = meaning_of line.command line desk
+
+-- a line that was read, or the line of what is wrong with its form
+abbrev pub read_or_fault : Result CommandLine LineError → OrFault CommandLine
+read_or_fault (Ok line) = Ok line
+read_or_fault (Err e) = Err (fault_of e)
+
+-- what an input line comes to: its form is looked at first, then its command is carried out
+abbrev pub commanded : Desk → List ℕ → OrFault Steps
+commanded desk line = next (read_or_fault (reading line)) (λ command. meaning command desk)

@@ -1,0 +1,30 @@
+-- The state of a session between two commands.
+use Rattle.std.specs.Prelude.{◌≡◌, ◌≤◌, ℕ, ◌-◌, List, [], map, length, slice_get, unwrap_or, IfOk}
+use Rattle.std.specs.declared.result.Result.{Result}
+use Rattle.mbox_scan.specs.Mailbox.{texts_of}
+use Rattle.message_state.specs.declared.row.Row.{Row}
+use Rattle.message_state.specs.ShownRows.{IsShown}
+use Rattle.message_state.specs.RowLists.{AreRowsButMarks}
+use Rattle.message_state.specs.declared.shown.Shown.{Shown}
+use Rattle.read_commands.specs.declared.desk.Desk.{Desk}
+use Rattle.read_commands.specs.declared.steps.Steps.{Steps}
+
+-- The desk is valid: so is what it shows, whose rows are those of the folder's texts, marks aside; the marks of the folder are those of the rows;
+-- and a line has room for two bytes
+pub record IsDesk (desk : Desk) : Type 0 where
+  pub shown : IsShown desk.shown
+  pub rows : AreRowsButMarks (texts_of desk.folder.folder) desk.shown.rows
+  pub marks : desk.folder.marks ≡ map (λ row. row.mark) desk.shown.rows
+  pub width : 2 ≤ desk.places.width
+
+-- the text of message n, numbered from 1
+abbrev pub message_text : Desk → ℕ → List ℕ
+message_text desk n = unwrap_or (slice_get (texts_of desk.folder.folder) (n - 1)) []
+
+-- n is the number of a message
+abbrev pub IsMessageOf : Shown → ℕ → Type 0
+IsMessageOf shown n = (1 ≤ n) × (n ≤ length shown.rows)
+
+-- a command's steps leave a message current, or none
+abbrev pub IsWithin : {E : Type 0} → Desk → Result Steps E → Type 0
+IsWithin desk result = IfOk result (λ steps. steps.effects.current ≤ length desk.shown.rows)

@@ -1,0 +1,48 @@
+-- What a command changes, and the desk that it leaves.
+use Rattle.std.specs.Prelude.{ℕ, ◌-◌, ◌==◌, true, List, [], map, slice_get, slice_set, Option, None, unwrap_or, if◌then◌else◌}
+use Rattle.std.specs.List.{fold}
+use Rattle.std.specs.Option.{option_map_or}
+use Rattle.message_state.specs.declared.mark.Act.{Act}
+use Rattle.message_state.specs.declared.row.Row.{Row}
+use Rattle.message_state.specs.States.{after}
+use Rattle.read_commands.specs.declared.desk.Desk.{Desk}
+use Rattle.read_commands.specs.declared.effects.Marking.{Marking}
+use Rattle.read_commands.specs.declared.effects.Effects.{Effects}
+
+-- a row once an act was done on its message
+abbrev pub row_after : Act → Row → Row
+row_after act row = record row { mark = after row.mark act }
+
+-- the rows once an act was done on the message of one of them
+abbrev pub acted : List Row → Marking → List Row
+acted rows m = option_map_or (λ row. slice_set rows m.row (row_after m.act row)) rows (slice_get rows m.row)
+
+-- the rows once each act was done, in order
+abbrev pub rows_after : List Row → List Marking → List Row
+rows_after rows marks = fold acted rows marks
+
+-- the desk after a command
+abbrev pub effect : Desk → Effects → Desk
+effect desk effects = record desk {
+  folder = record desk.folder { marks = map (λ row. row.mark) (rows_after desk.shown.rows effects.marks) };
+  shown = record desk.shown { rows = rows_after desk.shown.rows effects.marks; current = effects.current };
+  vars = unwrap_or effects.vars desk.vars;
+  page = effects.page;
+  fresh = effects.fresh;
+}
+
+-- no change
+abbrev pub unchanged : Desk → Effects
+unchanged desk = record { marks = []; current = desk.shown.current; fresh = desk.fresh; page = desk.page; vars = None }
+
+-- message n becomes current; it is unwritten, where another was current before
+abbrev pub moved : Desk → ℕ → Effects
+moved desk n = record (unchanged desk) { current = n; fresh = if n == desk.shown.current then desk.fresh else true }
+
+-- an act on message n, numbered from 1
+abbrev pub marking : Act → ℕ → Marking
+marking act n = record { row = n - 1; act = act }
+
+-- an act on each of these
+abbrev pub markings : Act → List ℕ → List Marking
+markings act numbers = map (marking act) numbers

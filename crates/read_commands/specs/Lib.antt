@@ -1,0 +1,10 @@
+pub mod Desks
+pub mod Effects
+pub mod Faults
+pub mod Answers
+pub mod Selecting
+pub mod Printing
+pub mod Paging
+pub mod Deleting
+pub mod Setting
+pub mod Commands

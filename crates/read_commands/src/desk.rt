@@ -1,0 +1,38 @@
+use mail_text::{Items, Text};
+use mailx_vars::{Places, Vars};
+use mbox_scan::Folder;
+use message_show::FieldSets;
+use message_state::{Mark, Shown};
+
+/// An open folder.
+#[derive(Drop)]
+pub struct Open {
+    /// The name of its file.
+    pub name: Text,
+    /// Whether it is the system mailbox.
+    pub system: bool,
+    /// Its bytes and messages.
+    pub folder: Folder,
+    /// The mark of each message.
+    pub marks: Items<Mark>,
+}
+
+/// The state of a session between two commands. Calls that take one ask for a valid one: what it shows is valid, its rows are
+/// those of the folder's texts, marks aside, its marks are those of the folder, and a line has room for two bytes.
+#[derive(Drop)]
+pub struct Desk {
+    /// The open folder.
+    pub folder: Open,
+    /// Its messages as they are shown.
+    pub shown: Shown,
+    /// The variables.
+    pub vars: Vars,
+    /// The names of fields that are left out when a message is printed, or shown alone.
+    pub sets: FieldSets,
+    /// The page that was said last, from 0.
+    pub page: usize,
+    /// Whether the current message is unwritten: it wasn't printed since it became current.
+    pub fresh: bool,
+    /// The files and programs that the environment names, and the width of a line.
+    pub places: Places,
+}

@@ -1,0 +1,103 @@
+ghost use Rattle.std.specs.Prelude.{◌≡◌, ◌<◌, ◌∷◌, [], length, slice_set, slice_get, map, OnOk, IfOk};
+ghost use Rattle.message_state.specs.declared.row.Row.{Row};
+ghost use Rattle.message_state.specs.declared.mark.Mark.{Mark};
+ghost use Rattle.read_commands.specs.Desks.{IsDesk};
+ghost use Rattle.read_commands.specs.Effects.{acted, effect, unchanged, moved, markings};
+
+use crate::Desk;
+use mail_text::{Items, Memory};
+use mailx_vars::Vars;
+use message_state::{Act, Mark, Row, after};
+use std::alloc::Global;
+
+/// An act on a message.
+#[derive(Clone, Copy, Debug, PartialEq, Eq)]
+pub struct Marking {
+    /// The place of the message's row, from 0.
+    pub(crate) row: usize,
+    /// What is done.
+    pub(crate) act: Act,
+}
+
+/// What a command changes.
+#[derive(Drop)]
+pub struct Effects {
+    // acts on messages, in order
+    pub(crate) marks: Items<Marking>,
+    // the message that is current then, and whether it is unwritten
+    pub(crate) current: u32,
+    pub(crate) fresh: bool,
+    // the page that was said last
+    pub(crate) page: usize,
+    // the variables, where some are set or unset
+    pub(crate) vars: Option<Vars>,
+}
+
+// Marks a row of the messages and the mark beside it.
+fn mark_row(rows: &mut Items<Row>, marks: &mut Items<Mark>, marking: Marking)
+    requires { marks.old ≡ map (λ (row : Row). row.mark) rows.old }
+    ensures rows { rows.new ≡ acted rows.old marking }
+    ensures marks { marks.new ≡ map (λ (row : Row). row.mark) rows.new }
+{
+    if marking.row < rows.items().len() {
+        let mark = after(rows.items()[marking.row].mark, marking.act);
+        rows.get_mut(marking.row).mark = mark;
+        *marks.get_mut(marking.row) = mark;
+    }
+}
+
+impl Desk {
+    /// Carries out the changes of a command once what it asked for was done. It takes no memory.
+    pub fn settle(&mut self, effects: Effects)
+        requires before { IsDesk self.old }
+        requires after { IsDesk (effect self.old effects) }
+        ensures { self.new ≡ effect self.old effects }
+    {
+        for marking in effects.marks.items() {
+            mark_row(&mut self.shown.rows, &mut self.folder.marks, *marking);
+        }
+        self.shown.current = effects.current;
+        self.fresh = effects.fresh;
+        self.page = effects.page;
+        if let Some(vars) = effects.vars {
+            self.vars = vars;
+        }
+    }
+}
+
+/// No change.
+pub(crate) fn unchanged(alloc: Global, desk: &Desk) -> Effects
+    ensures { result ≡ unchanged desk.now }
+{
+    Effects {
+        marks: Items::new(alloc),
+        current: desk.shown.current,
+        fresh: desk.fresh,
+        page: desk.page,
+        vars: None,
+    }
+}
+
+/// Message n becomes current; it is unwritten, where another was current before.
+pub(crate) fn moved(alloc: Global, desk: &Desk, n: u32) -> Effects
+    ensures { result ≡ moved desk.now n }
+{
+    let fresh = if n == desk.shown.current { desk.fresh } else { true };
+    Effects {
+        current: n,
+        fresh,
+        ..unchanged(alloc, desk)
+    }
+}
+
+/// An act on each of these messages, which are numbered from 1.
+pub(crate) fn markings(alloc: Global, act: Act, numbers: &[u32]) -> Result<Items<Marking>, Memory>
+    ensures { IfOk result (λ marks. marks ≡ markings act numbers.now) }
+{
+    let mut marks = Items::new(alloc);
+    for number in numbers {
+        let row = (*number as usize).saturating_sub(1);
+        marks.push(Marking { row, act })?;
+    }
+    Ok(marks)
+}

@@ -1,0 +1,172 @@
+// What a line's command comes to.
+ghost use Rattle.std.specs.Prelude.{◌≡◌, [], IfOk, IfErr, OnOk, codes};
+ghost use Rattle.std.specs.Str.{bytes_eq};
+ghost use Rattle.std.specs.List.{flat_map};
+ghost use Rattle.mail_text.specs.Lines.{with_feed};
+ghost use Rattle.line_words.specs.Spellings.{names};
+ghost use Rattle.line_words.specs.Line.{reading};
+ghost use Rattle.read_commands.specs.Answers.{OrFault, Means, IsRefused};
+ghost use Rattle.read_commands.specs.Printing.{number};
+ghost use Rattle.read_commands.specs.Paging.{scroll};
+ghost use Rattle.read_commands.specs.Desks.{IsDesk, IsWithin};
+ghost use Rattle.read_commands.specs.Effects.{effect};
+ghost use Rattle.read_commands.specs.Commands.{name_of, alone, help, exit, meaning_of, meaning, read_or_fault, commanded};
+
+use crate::delete::{delete, delete_and_print, undelete};
+use crate::effects::unchanged;
+use crate::faults::fault;
+use crate::page::{headers, scroll};
+use crate::print::{echo, from, number, print, print_following, size, top};
+use crate::set::{set, unset};
+use crate::steps::{quietly, says};
+use crate::{Ask, Desk, Refusal, Steps};
+use line_words::{Command, CommandLine, LineError, command_name, read_line, whole_name};
+use mail_text::{Items, Memory, Text};
+use message_show::How;
+use std::alloc::Global;
+
+// The whole name of the command that a word spells.
+fn name_of(word: &[u8]) -> &'static [u8]
+    ensures { result.now ≡ name_of word.now }
+{
+    match whole_name(word) {
+        Some(name) => name,
+        None => b"",
+    }
+}
+
+// The names of all commands, one a line.
+fn names(alloc: Global) -> Result<Text, Memory>
+    ensures { IfOk result (λ t. t ≡ flat_map with_feed names) }
+{
+    let mut out = Text::new(alloc);
+    let mut k = 0;
+    while let Some(name) = command_name(k) {
+        out.push(name)?;
+        out.push(b"\n")?;
+        k += 1;
+    }
+    Ok(out)
+}
+
+fn help(alloc: Global, desk: &Desk) -> Result<Steps, Refusal>
+    ensures means { Means result (help desk.now) }
+    ensures within { IsWithin desk.now result }
+{
+    let out = names(alloc)?;
+    says(alloc, out, unchanged(alloc, desk))
+}
+
+fn exit(alloc: Global, desk: &Desk) -> Result<Steps, Refusal>
+    ensures means { Means result (exit desk.now) }
+    ensures within { IsWithin desk.now result }
+{
+    let mut asks = Items::new(alloc);
+    asks.push(Ask::Exit)?;
+    Ok(Steps {
+        asks,
+        effects: unchanged(alloc, desk),
+    })
+}
+
+// Refuses a line with words, for a command that takes none.
+fn no_words(alloc: Global, line: &CommandLine) -> Result<(), Refusal>
+    ensures ok { OnOk result (line.now.words ≡ []) }
+    ensures err { IfErr result (λ refusal. (meant : OrFault Steps) → IsRefused refusal (alone line.now meant)) }
+{
+    if line.words.items().is_empty() {
+        Ok(())
+    } else {
+        Err(fault(alloc, name_of(line.word.bytes()), b": bad arguments"))
+    }
+}
+
+fn lone_number(alloc: Global, line: &CommandLine, desk: &Desk) -> Result<Steps, Refusal>
+    requires { IsDesk desk.now }
+    ensures means { Means result (alone line.now (number desk.now)) }
+    ensures within { IsWithin desk.now result }
+{
+    no_words(alloc, line)?;
+    number(alloc, desk)
+}
+
+fn lone_help(alloc: Global, line: &CommandLine, desk: &Desk) -> Result<Steps, Refusal>
+    requires { IsDesk desk.now }
+    ensures means { Means result (alone line.now (help desk.now)) }
+    ensures within { IsWithin desk.now result }
+{
+    no_words(alloc, line)?;
+    help(alloc, desk)
+}
+
+fn lone_exit(alloc: Global, line: &CommandLine, desk: &Desk) -> Result<Steps, Refusal>
+    requires { IsDesk desk.now }
+    ensures means { Means result (alone line.now (exit desk.now)) }
+    ensures within { IsWithin desk.now result }
+{
+    no_words(alloc, line)?;
+    exit(alloc, desk)
+}
+
+fn lone_scroll(alloc: Global, line: &CommandLine, desk: &Desk) -> Result<Steps, Refusal>
+    requires { IsDesk desk.now }
+    ensures means { Means result (alone line.now (scroll desk.now (bytes_eq line.now.word (codes "z-")))) }
+    ensures within { IsWithin desk.now result }
+{
+    no_words(alloc, line)?;
+    scroll(alloc, desk, line.word.bytes() == b"z-".as_slice())
+}
+
+/// What the command of a line asks for and what it changes, or the one line that refuses it. A refused command changes nothing.
+/// Nothing is said or done yet: the asks are carried out in order, and then `Desk::settle` carries out the changes.
+pub fn perform(alloc: Global, line: &CommandLine, desk: &Desk) -> Result<Steps, Refusal>
+    requires { IsDesk desk.now }
+    ensures means { Means result (meaning line.now desk.now) }
+    ensures desk { IfOk result (λ steps. IsDesk (effect desk.now steps.effects)) }
+{
+    let words = line.words.items();
+    match line.command {
+        Command::Print => print(alloc, desk, words, How::Kept),
+        Command::PrintAll => print(alloc, desk, words, How::All),
+        Command::Top => top(alloc, desk, words),
+        Command::From => from(alloc, desk, words),
+        Command::Headers => headers(alloc, desk, words),
+        Command::Next => print_following(alloc, desk, words),
+        Command::Echo => echo(alloc, desk, words),
+        Command::Size => size(alloc, desk, words),
+        Command::Delete => delete(alloc, desk, words),
+        Command::DeleteAndPrint => delete_and_print(alloc, desk, words),
+        Command::Undelete => undelete(alloc, desk, words),
+        Command::Set => set(alloc, desk, words),
+        Command::Unset => unset(alloc, desk, words),
+        Command::Comment => Ok(quietly(alloc, unchanged(alloc, desk))),
+        Command::Number => lone_number(alloc, line, desk),
+        Command::Help => lone_help(alloc, line, desk),
+        Command::Exit => lone_exit(alloc, line, desk),
+        Command::Scroll => lone_scroll(alloc, line, desk),
+        _ => Err(fault(alloc, name_of(line.word.bytes()), b": not built")),
+    }
+}
+
+// Reads a line, or refuses it by its form.
+fn command_line(alloc: Global, line: &[u8]) -> Result<CommandLine, Refusal>
+    ensures { Means result (read_or_fault (reading line.now)) }
+{
+    match read_line(alloc, line) {
+        Ok(line) => Ok(line),
+        Err(LineError::TooLong) => Err(fault(alloc, b"", b"line too long")),
+        Err(LineError::Unknown { word }) => Err(fault(alloc, word.bytes(), b": unknown command")),
+        Err(LineError::OpenQuote) => Err(fault(alloc, b"", b"open quote")),
+        Err(LineError::Memory) => Err(Refusal::Memory),
+    }
+}
+
+/// The same for an input line as it stands, whose form is looked at first.
+pub fn perform_line(alloc: Global, line: &[u8], desk: &Desk) -> Result<Steps, Refusal>
+    requires { IsDesk desk.now }
+    ensures means { Means result (commanded desk.now line.now) }
+    ensures desk { IfOk result (λ steps. IsDesk (effect desk.now steps.effects)) }
+{
+    let line = command_line(alloc, line)?;
+    perform(alloc, &line, desk)
+}

@@ -1,0 +1,279 @@
+// Commands that print messages, or of messages.
+ghost use Rattle.std.specs.Prelude.{◌≡◌, ◌≤◌, ◌<◌, ◌++◌, All, IfOk, OnOk, IfSome, length};
+ghost use Rattle.read_commands.specs.Answers.{Means};
+ghost use Rattle.read_commands.specs.Desks.{IsDesk, IsMessageOf, IsWithin, message_text};
+ghost use Rattle.read_commands.specs.Printing.{heading, printed, after_printing, print, number_of_variable, topped, top, from, size_line, size, print_next, following, following_of, print_following, number, echo};
+
+use crate::effects::{Effects, markings, unchanged};
+use crate::faults::fault;
+use crate::select::{chosen, last_message};
+use crate::steps::says;
+use crate::{Desk, Refusal, Steps};
+use itoa::Buffer;
+use mail_text::{Items, Memory, Text};
+use mailx_vars::{VarError, Vars};
+use mbox_scan::MessageRef;
+use message_list::{Purpose, next_live};
+use message_show::{How, shown_text, summary_lines, top as top_lines};
+use message_state::Act;
+use std::alloc::Global;
+
+/// Message n of the folder, numbered from 1.
+fn message<'a>(desk: &'a Desk, n: u32) -> MessageRef<'a>
+    requires desk { IsDesk desk.now }
+    requires message { IsMessageOf desk.now.shown n }
+    ensures { result ≡ message_text desk.now n }
+{
+    desk.folder.folder.message(n as usize - 1)
+}
+
+// Puts the line above a printed message.
+fn put_heading(out: &mut Text, n: u32) -> Result<(), Memory>
+    ensures { OnOk result (out.new ≡ out.old ++ heading n) }
+{
+    let mut buffer = Buffer::new();
+    out.push(b"Message ")?;
+    out.push(buffer.format(n).as_bytes())?;
+    out.push(b":\n")
+}
+
+// Puts a message as it is printed.
+fn put_printed(alloc: Global, out: &mut Text, desk: &Desk, how: How, n: u32) -> Result<(), Memory>
+    requires desk { IsDesk desk.now }
+    requires message { IsMessageOf desk.now.shown n }
+    ensures { OnOk result (out.new ≡ out.old ++ printed desk.now how n) }
+{
+    put_heading(out, n)?;
+    let shown = shown_text(alloc, &message(desk, n), &desk.sets, how)?;
+    out.push(shown.bytes())?;
+    out.push(b"\n")
+}
+
+/// A message as it is printed.
+pub(crate) fn printed(alloc: Global, desk: &Desk, how: How, n: u32) -> Result<Text, Memory>
+    requires desk { IsDesk desk.now }
+    requires message { IsMessageOf desk.now.shown n }
+    ensures { IfOk result (λ t. t ≡ printed desk.now how n) }
+{
+    let mut out = Text::new(alloc);
+    put_printed(alloc, &mut out, desk, how, n)?;
+    Ok(out)
+}
+
+// Some messages as they are printed.
+fn printed_all(alloc: Global, desk: &Desk, how: How, numbers: &[u32]) -> Result<Text, Memory>
+    requires desk { IsDesk desk.now }
+    requires messages { All (IsMessageOf desk.now.shown) numbers.now }
+    ensures { IfOk result (λ t. t ≡ flat_map (printed desk.now how) numbers.now) }
+{
+    let mut out = Text::new(alloc);
+    for n in numbers {
+        put_printed(alloc, &mut out, desk, how, *n)?;
+    }
+    Ok(out)
+}
+
+/// What printing these messages changes: Look is done on each, and the last is current and written.
+fn after_printing(alloc: Global, desk: &Desk, numbers: &[u32]) -> Result<Effects, Memory>
+    requires { 0 < length numbers.now }
+    ensures { IfOk result (λ effects. effects ≡ after_printing desk.now numbers.now) }
+{
+    Ok(Effects {
+        marks: markings(alloc, Act::Look, numbers)?,
+        current: last_message(numbers),
+        fresh: false,
+        ..unchanged(alloc, desk)
+    })
+}
+
+/// `print`, `type`, `Print`, `Type`.
+pub(crate) fn print(
+    alloc: Global,
+    desk: &Desk,
+    words: &[Text],
+    how: How,
+) -> Result<Steps, Refusal>
+    requires { IsDesk desk.now }
+    ensures means { Means result (print how desk.now words.now) }
+    ensures within { IsWithin desk.now result }
+{
+    let numbers = chosen(alloc, words, &desk.shown, Purpose::Live)?;
+    let out = printed_all(alloc, desk, how, numbers.items())?;
+    let effects = after_printing(alloc, desk, numbers.items())?;
+    says(alloc, out, effects)
+}
+
+/// The number that a variable's value writes.
+pub(crate) fn number_of_variable(alloc: Global, vars: &Vars, name: &[u8]) -> Result<u64, Refusal>
+    ensures { Means result (number_of_variable vars.now name.now) }
+{
+    match vars.number(name) {
+        Ok(n) => Ok(n),
+        Err(VarError::Memory) => Err(Refusal::Memory),
+        Err(_) => Err(fault(alloc, name, b": not a number")),
+    }
+}
+
+// Puts the first lines of a message.
+fn put_topped(alloc: Global, out: &mut Text, desk: &Desk, count: u64, n: u32) -> Result<(), Memory>
+    requires desk { IsDesk desk.now }
+    requires message { IsMessageOf desk.now.shown n }
+    ensures { OnOk result (out.new ≡ out.old ++ topped desk.now count n) }
+{
+    put_heading(out, n)?;
+    let lines = top_lines(alloc, &message(desk, n), &desk.sets, count)?;
+    out.push(lines.bytes())
+}
+
+// The first lines of some messages.
+fn topped_all(alloc: Global, desk: &Desk, count: u64, numbers: &[u32]) -> Result<Text, Memory>
+    requires desk { IsDesk desk.now }
+    requires messages { All (IsMessageOf desk.now.shown) numbers.now }
+    ensures { IfOk result (λ t. t ≡ flat_map (topped desk.now count) numbers.now) }
+{
+    let mut out = Text::new(alloc);
+    for n in numbers {
+        put_topped(alloc, &mut out, desk, count, *n)?;
+    }
+    Ok(out)
+}
+
+/// `top`.
+pub(crate) fn top(alloc: Global, desk: &Desk, words: &[Text]) -> Result<Steps, Refusal>
+    requires { IsDesk desk.now }
+    ensures means { Means result (top desk.now words.now) }
+    ensures within { IsWithin desk.now result }
+{
+    let numbers = chosen(alloc, words, &desk.shown, Purpose::Live)?;
+    let count = number_of_variable(alloc, &desk.vars, b"toplines")?;
+    let out = topped_all(alloc, desk, count, numbers.items())?;
+    let effects = after_printing(alloc, desk, numbers.items())?;
+    says(alloc, out, effects)
+}
+
+/// `from`.
+pub(crate) fn from(alloc: Global, desk: &Desk, words: &[Text]) -> Result<Steps, Refusal>
+    requires { IsDesk desk.now }
+    ensures means { Means result (from desk.now words.now) }
+    ensures within { IsWithin desk.now result }
+{
+    let numbers = chosen(alloc, words, &desk.shown, Purpose::Any)?;
+    let out = summary_lines(alloc, &desk.shown, numbers.items(), desk.places.width)?;
+    says(alloc, out, unchanged(alloc, desk))
+}
+
+// Puts a message's number and size.
+fn put_size(out: &mut Text, desk: &Desk, n: u32) -> Result<(), Memory>
+    requires desk { IsDesk desk.now }
+    requires message { IsMessageOf desk.now.shown n }
+    ensures { OnOk result (out.new ≡ out.old ++ size_line desk.now n) }
+{
+    let mut buffer = Buffer::new();
+    let size = message(desk, n).text().len() as u64 + 1;
+    out.push(buffer.format(n).as_bytes())?;
+    out.push(b": ")?;
+    out.push(buffer.format(size).as_bytes())?;
+    out.push(b"\n")
+}
+
+fn sizes(alloc: Global, desk: &Desk, numbers: &[u32]) -> Result<Text, Memory>
+    requires desk { IsDesk desk.now }
+    requires messages { All (IsMessageOf desk.now.shown) numbers.now }
+    ensures { IfOk result (λ t. t ≡ flat_map (size_line desk.now) numbers.now) }
+{
+    let mut out = Text::new(alloc);
+    for n in numbers {
+        put_size(&mut out, desk, *n)?;
+    }
+    Ok(out)
+}
+
+/// `size`.
+pub(crate) fn size(alloc: Global, desk: &Desk, words: &[Text]) -> Result<Steps, Refusal>
+    requires { IsDesk desk.now }
+    ensures means { Means result (size desk.now words.now) }
+    ensures within { IsWithin desk.now result }
+{
+    let numbers = chosen(alloc, words, &desk.shown, Purpose::Any)?;
+    let out = sizes(alloc, desk, numbers.items())?;
+    says(alloc, out, unchanged(alloc, desk))
+}
+
+// Prints the message, where there is one.
+fn print_next(alloc: Global, desk: &Desk, n: Option<u32>) -> Result<Steps, Refusal>
+    requires desk { IsDesk desk.now }
+    requires message { IfSome n (IsMessageOf desk.now.shown) }
+    ensures means { Means result (print_next desk.now n) }
+    ensures within { IsWithin desk.now result }
+{
+    match n {
+        Some(n) => {
+            let out = printed(alloc, desk, How::Kept, n)?;
+            let effects = after_printing(alloc, desk, &[n])?;
+            says(alloc, out, effects)
+        }
+        None => Err(fault(alloc, b"", b"at end")),
+    }
+}
+
+// What `next` prints without words.
+fn following(desk: &Desk) -> Option<u32>
+    requires { IsDesk desk.now }
+    ensures next { result ≡ following desk.now }
+    ensures message { IfSome result (IsMessageOf desk.now.shown) }
+{
+    let current = desk.shown.current;
+    if desk.fresh && is_live_message(&desk.shown, current) {
+        return Some(current);
+    }
+    next_live(&desk.shown, current)
+}
+
+/// `next`.
+pub(crate) fn print_following(alloc: Global, desk: &Desk, words: &[Text]) -> Result<Steps, Refusal>
+    requires { IsDesk desk.now }
+    ensures means { Means result (print_following desk.now words.now) }
+    ensures within { IsWithin desk.now result }
+{
+    if words.is_empty() {
+        return print_next(alloc, desk, following(desk));
+    }
+    let numbers = chosen(alloc, words, &desk.shown, Purpose::Live)?;
+    let n = following_of(alloc, desk, numbers.items())?;
+    print_next(alloc, desk, n)
+}
+
+/// `=`.
+pub(crate) fn number(alloc: Global, desk: &Desk) -> Result<Steps, Refusal>
+    ensures means { Means result (number desk.now) }
+    ensures within { IsWithin desk.now result }
+{
+    let mut buffer = Buffer::new();
+    let mut out = Text::copy(alloc, buffer.format(desk.shown.current).as_bytes())?;
+    out.push(b"\n")?;
+    says(alloc, out, unchanged(alloc, desk))
+}
+
+// Words joined by one space, as a line.
+fn joined(alloc: Global, words: &[Text]) -> Result<Text, Memory>
+    ensures { IfOk result (λ t. t ≡ with_feed (join_with_byte 32 words.now)) }
+{
+    let mut out = Text::new(alloc);
+    for (k, word) in words.iter().enumerate() {
+        if k > 0 {
+            out.push(b" ")?;
+        }
+        out.push(word.bytes())?;
+    }
+    out.push(b"\n")?;
+    Ok(out)
+}
+
+/// `echo`.
+pub(crate) fn echo(alloc: Global, desk: &Desk, words: &[Text]) -> Result<Steps, Refusal>
+    ensures means { Means result (echo desk.now words.now) }
+    ensures within { IsWithin desk.now result }
+{
+    let out = joined(alloc, words)?;
+    says(alloc, out, unchanged(alloc, desk))
+}

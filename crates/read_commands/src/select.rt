@@ -1,0 +1,86 @@
+// The messages that the words of a command select.
+ghost use Rattle.std.specs.Prelude.{◌≡◌, ◌≤◌, ◌<◌, All, IfOk, length};
+ghost use Rattle.message_state.specs.ShownRows.{IsShown};
+ghost use Rattle.read_commands.specs.Answers.{Means};
+ghost use Rattle.read_commands.specs.Desks.{IsMessageOf};
+ghost use Rattle.read_commands.specs.Selecting.{chosen, single, last_message, is_among, IsListRefusal, AreFlags};
+ghost use Rattle.read_commands.specs.Faults.{bad_arguments};
+
+use crate::Refusal;
+use crate::faults::fault;
+use mail_text::{Items, Memory, Text};
+use message_list::{ListError, Purpose, read_list, select};
+use message_state::Shown;
+use std::alloc::Global;
+
+// The line that refuses a list.
+fn list_refusal(alloc: Global, error: ListError) -> Refusal
+    ensures { IsListRefusal error result }
+{
+    match error {
+        ListError::Syntax { word } => fault(alloc, word.bytes(), b": bad message list"),
+        ListError::NoSuch { word } => fault(alloc, word.bytes(), b": no such message"),
+        ListError::NoneMatch => fault(alloc, b"", b"no applicable message"),
+        ListError::Memory => Refusal::Memory,
+    }
+}
+
+/// The messages that the words select, in view order: one at least, and each is a message.
+pub(crate) fn chosen(
+    alloc: Global,
+    words: &[Text],
+    shown: &Shown,
+    purpose: Purpose,
+) -> Result<Items<u32>, Refusal>
+    requires { IsShown shown.now }
+    ensures means { Means result (chosen purpose shown.now words.now) }
+    ensures some { IfOk result (λ ns. 0 < length ns) }
+    ensures messages { IfOk result (λ ns. All (IsMessageOf shown.now) ns) }
+{
+    let list = match read_list(alloc, words) {
+        Ok(list) => list,
+        Err(error) => return Err(list_refusal(alloc, error)),
+    };
+    match select(alloc, &list, shown, purpose) {
+        Ok(numbers) => Ok(Items::of(numbers)),
+        Err(error) => Err(list_refusal(alloc, error)),
+    }
+}
+
+/// The one message of a selection, for the command of this name.
+pub(crate) fn single(alloc: Global, name: &[u8], numbers: &[u32]) -> Result<u32, Refusal>
+    ensures means { Means result (single name.now numbers.now) }
+{
+    match numbers {
+        [n] => Ok(*n),
+        _ => Err(fault(alloc, name, b": bad arguments")),
+    }
+}
+
+/// The last of some messages.
+pub(crate) fn last_message(numbers: &[u32]) -> u32
+    requires { 0 < length numbers.now }
+    ensures { result ≡ last_message numbers.now }
+{
+    numbers[numbers.len() - 1]
+}
+
+/// Which messages are among some.
+#[derive(Drop)]
+pub(crate) struct Among {
+    flags: Vec<bool>,
+}
+
+impl Among {
+    /// The messages of a list, where there are so many messages in all.
+    pub(crate) fn of(alloc: Global, numbers: &[u32], count: usize) -> Result<Among, Memory>
+        requires { All (λ n. n ≤ count) numbers.now }
+        ensures { IfOk result (λ among. AreFlags among.flags.items numbers.now count) }
+    {
+        let mut flags = vec![in alloc; false; count + 1]?;
+        for n in numbers {
+            flags[*n as usize] = true;
+        }
+        Ok(Among { flags })
+    }
+}
