@@ -1,0 +1,5 @@
+pub mod Spellings
+pub mod Table
+pub mod Words
+pub mod Cutting
+pub mod Line

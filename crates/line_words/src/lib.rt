@@ -1,0 +1,11 @@
+//! Lines of commands: the command that a line names, and the line cut into words.
+#![tactic(auto)]
+
+mod command;
+mod cut;
+mod line;
+mod table;
+
+pub use command::Command;
+pub use line::{CommandLine, LineError};
+pub use table::{command_name, command_of, whole_name};
