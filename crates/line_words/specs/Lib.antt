@@ -3,3 +3,4 @@ pub mod Table
 pub mod Words
 pub mod Cutting
 pub mod Line
+pub mod Laws

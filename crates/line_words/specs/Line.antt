@@ -1,12 +1,12 @@
 -- The lines of commands: the command word, and what follows it.
-use Rattle.std.specs.Prelude.{◌≡◌, ◌⊎◌, ◌≤◌, ◌<◌, ℕ, Bool, true, false, not, ◌==◌, ◌||◌, List, [], ◌∷◌, length, take, drop, nat_lt, codes, Option, Some, None, Result, Ok, Err, if◌then◌else◌}
+use Rattle.std.specs.Prelude.{◌≡◌, ◌≢◌, ◌⊎◌, ◌≤◌, ℕ, Bool, true, false, not, ◌==◌, ◌||◌, List, [], ◌∷◌, length, take, drop, nat_lt, codes, Option, Some, None, Result, Ok, Err, if◌then◌else◌}
 use Rattle.std.specs.List.{prefix_len, starts_with, list_any}
 use Rattle.std.specs.Char.{is_ascii_alphabetic}
 use Rattle.line_words.specs.declared.command.Command.{Command}
 use Rattle.line_words.specs.declared.command.Command.TheVariants.{Next, Print, Shell, Comment}
 use Rattle.line_words.specs.declared.line.CommandLine.{CommandLine}
 use Rattle.line_words.specs.declared.line.LineError.{LineError}
-use Rattle.line_words.specs.declared.line.LineError.TheVariants.{TooLong, Unknown, OpenQuote}
+use Rattle.line_words.specs.declared.line.LineError.TheVariants.{TooLong, Unknown, OpenQuote, Memory}
 use Rattle.line_words.specs.Spellings.{command_of}
 use Rattle.line_words.specs.Words.{is_blank, words_of}
 
@@ -42,30 +42,55 @@ command_named [] [] = Some Next
 command_named [] (b ∷ bs) = Some Print
 command_named (c ∷ cs) after = command_of (c ∷ cs)
 
+-- the command of a line, if it has one
+abbrev pub command_in : List ℕ → Option Command
+command_in line = command_named (command_word line) (after_word line)
+
 -- the commands that take the rest of the line as it stands
 abbrev pub takes_rest : Command → Bool
 takes_rest Shell = true
 takes_rest Comment = true
-takes_rest command = false
+takes_rest other = false
 
 -- a command with its word and the words of what follows it
 abbrev pub with_words : Command → List ℕ → Option (List (List ℕ)) → Result CommandLine LineError
-with_words command word None = Err OpenQuote
-with_words command word (Some words) = Ok (record { command = command; word = word; words = words; rest = [] })
+with_words named word None = Err OpenQuote
+with_words named word (Some words) = Ok (record { command = named; word = word; words = words; rest = [] })
 
 -- a command with its word, before what follows it
 abbrev pub read_as : Command → List ℕ → List ℕ → Result CommandLine LineError
-read_as command word after =
-  if takes_rest command then Ok (record { command = command; word = word; words = []; rest = after })
-  else with_words command word (words_of after)
+read_as named word after =
+  if takes_rest named then Ok (record { command = named; word = word; words = []; rest = after })
+  else with_words named word (words_of after)
 
 -- the command that the word names, if it names one
 abbrev pub read_named : Option Command → List ℕ → List ℕ → Result CommandLine LineError
 read_named None word after = Err (Unknown word)
-read_named (Some command) word after = read_as command word after
+read_named (Some named) word after = read_as named word after
 
 -- what a line is read as
 unfoldable pub reading : List ℕ → Result CommandLine LineError
-reading line =
-  if is_long line then Err TooLong
-  else read_named (command_named (command_word line) (after_word line)) (command_word line) (after_word line)
+reading line = if is_long line then Err TooLong else read_named (command_in line) (command_word line) (after_word line)
+
+-- the line has a command word, and it names no command
+pub record IsUnknown (line word : List ℕ) : Type 0 where
+  pub short : length line ≤ 65536
+  pub is : word ≡ command_word line
+  pub some : word ≢ []
+  pub names_none : command_of word ≡ None
+
+-- a quote isn't closed behind a command that takes words
+pub record IsOpen (line : List ℕ) : Type 0 where
+  pub short : length line ≤ 65536
+  pub named : Command
+  pub is_named : command_in line ≡ Some named
+  pub takes_words : takes_rest named ≡ false
+  pub open_quote : words_of (after_word line) ≡ None
+
+-- the answer is this one, or want of memory
+abbrev pub OrMemory : {T : Type 0} → Result T LineError → Result T LineError → Type 0
+OrMemory result answer = (result ≡ answer) ⊎ (result ≡ Err Memory)
+
+-- the error comes exactly where this holds, want of memory aside
+abbrev pub ComesWhere : {T : Type 0} → Result T LineError → LineError → Type 0 → Type 0
+ComesWhere result error P = (result ≡ Err error → P) × (P → OrMemory result (Err error))
