@@ -1,0 +1,6 @@
+-- What a row of the code's table stands for.
+use Rattle.line_words.specs.declared.table.Spelling as code
+use Rattle.line_words.specs.Spellings.{Spelling}
+
+abbrev pub row_of : code.Spelling → Spelling
+row_of s = record { command = s.command; least = s.least.now; whole = s.whole.now }
