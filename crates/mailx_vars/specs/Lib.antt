@@ -1,0 +1,4 @@
+pub mod Environment
+pub mod Expansion
+pub mod Names
+pub mod Settings
