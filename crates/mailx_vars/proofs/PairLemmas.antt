@@ -96,10 +96,10 @@ clone-pairs (e ∷ es) (n ∷ ns) h =
     ∙ ap (λ ps. (e.0.items, e.1.items) ∷ ps) (clone-pairs es ns h.1)
 
 -- the names once one is set
-names-set : (vars : Settings) (name value : List ℕ) → is_set vars name ≡ true → keys_of (with_value vars name value) ≡ keys_of vars
+pub names-set : (vars : Settings) (name value : List ℕ) → is_set vars name ≡ true → keys_of (with_value vars name value) ≡ keys_of vars
 names-set vars name value set = ap keys_of (cond-true _ _ _ set) ∙ keys-set_value (bytes_eq name) vars value
 
-map-append : (vars : Settings) (p : List ℕ × List ℕ) → keys_of (vars ++ p ∷ []) ≡ keys_of vars ++ p.0 ∷ []
+pub map-append : (vars : Settings) (p : List ℕ × List ℕ) → keys_of (vars ++ p ∷ []) ≡ keys_of vars ++ p.0 ∷ []
 map-append [] p = refl
 map-append (v ∷ vars) p = ap (λ ns. v.0 ∷ ns) (map-append vars p)
 

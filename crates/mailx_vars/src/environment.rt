@@ -1,4 +1,7 @@
 ghost use Rattle.std.specs.Prelude.{◌≡◌, ◌≤◌, ◌++◌, IfOk, IfSome};
+ghost use Rattle.std.specs.List.{find};
+ghost use Rattle.std.specs.Option.{option_copied};
+ghost use Rattle.std.specs.Str.{bytes_eq};
 ghost use Rattle.mail_text.specs.Number.{number_of};
 ghost use Rattle.mailx_vars.specs.Environment.{knows_user, or_default, places_of, variable, width_of};
 
@@ -38,16 +41,21 @@ pub struct Places {
     pub width: usize,
 }
 
+// The first pair of a name.
+fn first_pair<'a>(pairs: &'a [(Text, Text)], name: &[u8]) -> Option<&'a (Text, Text)>
+    ensures { option_copied result ≡ find (λ pair. bytes_eq name.now pair.0) pairs.now }
+{
+    pairs.iter().find(|pair| name == pair.0.bytes())
+}
+
 // The value of a variable; one that is unset counts as empty.
 fn variable<'a>(pairs: &'a [(Text, Text)], name: &[u8]) -> &'a [u8]
     ensures { result.now ≡ variable pairs.now name.now }
 {
-    for (other, value) in pairs {
-        if name == other.bytes() {
-            return value.bytes();
-        }
+    match first_pair(pairs, name) {
+        Some((_, value)) => value.bytes(),
+        None => &[],
     }
-    &[]
 }
 
 // A copy of a value, or of what stands in its place where it is empty.

@@ -1,4 +1,4 @@
-ghost use Rattle.std.specs.Prelude.{◌≡◌, ◌⊎◌, [], length, slice_get, option_map, IfOk, IfErr, IsErrAnd, OnOk, OnErr, MatchOption, Ok, Err};
+ghost use Rattle.std.specs.Prelude.{◌≡◌, ◌<◌, ◌⊎◌, ◌↔◌, length, slice_get, option_map, IsSome, IfOk, IfErr, IsErrAnd, OnOk, OnErr, MatchOption, Ok, Err};
 ghost use Rattle.std.specs.List.{IsDistinct};
 ghost use Rattle.std.specs.Map.{keys_of, values_of};
 ghost use Rattle.std.specs.Str.{bytes_eq};
@@ -67,9 +67,8 @@ impl Vars {
     pub fn copy(&self) -> Result<Vars, Memory>
         ensures { IfOk result (λ vars. vars ≡ self.now) }
     {
-        Ok(Vars {
-            map: self.map.clone()?,
-        })
+        let map = self.map.clone()?;
+        Ok(Vars { map })
     }
 
     /// Sets a variable. One that is set already keeps its place, a new one goes last. `BadName` comes where the name is
@@ -125,7 +124,8 @@ impl Vars {
 
     /// The name of the variable at place `k`, from 0, in order of first setting; none past the last. It takes no memory.
     pub fn name(&self, k: usize) -> Option<&[u8]>
-        ensures { option_map (λ name. name.now) result ≡ slice_get (keys_of self.now) k }
+        ensures name { option_map (λ name. name.now) result ≡ slice_get (keys_of self.now) k }
+        ensures found { IsSome result ↔ (k < length self.now) }
     {
         match self.map.get_index(k) {
             Some((name, _)) => Some(name.as_slice()),
@@ -135,7 +135,8 @@ impl Vars {
 
     /// The value of the variable at place `k`, from 0, in order of first setting; none past the last. It takes no memory.
     pub fn value(&self, k: usize) -> Option<&[u8]>
-        ensures { option_map (λ value. value.now) result ≡ slice_get (values_of self.now) k }
+        ensures value { option_map (λ value. value.now) result ≡ slice_get (values_of self.now) k }
+        ensures found { IsSome result ↔ (k < length self.now) }
     {
         match self.map.get_index(k) {
             Some((_, value)) => Some(value.as_slice()),
