@@ -12,7 +12,7 @@ use Rattle.message_state.specs.declared.mark.State.{State}
 use Rattle.message_state.specs.declared.mark.State.TheVariants.{New, Unread}
 use Rattle.message_state.specs.declared.row.Row.{Row}
 use Rattle.message_state.specs.States.{place}
-use Rattle.message_state.specs.RowLists.{AreRows}
+use Rattle.session_play.specs.Knowing.{AreRows}
 use Rattle.read_commands.specs.declared.desk.Desk.{Desk}
 use Rattle.read_commands.specs.Answers.{OrFault}
 use Rattle.read_commands.specs.Paging.{page_size, page_of, current_page}

@@ -3,7 +3,7 @@ ghost use Rattle.std.specs.Prelude.{◌≡◌, ◌≤◌, length, All, IfOk, IfS
 ghost use Rattle.std.specs.List.{range_with_len};
 ghost use Rattle.mail_dates.specs.Clock.{IsInYears};
 ghost use Rattle.mbox_scan.specs.Mailbox.{texts_of};
-ghost use Rattle.message_state.specs.RowLists.{AreRows};
+ghost use Rattle.session_play.specs.Knowing.{AreRows};
 ghost use Rattle.message_state.specs.declared.row.Row.{Row};
 ghost use Rattle.mailx_session.specs.Openings.{is_in, first_current};
 

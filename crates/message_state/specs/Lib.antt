@@ -5,7 +5,6 @@ pub mod Stamp
 pub mod Ids
 pub mod Fields
 pub mod Rows
-pub mod RowLists
 pub mod ShownRows
 pub mod StampLaws
 pub mod RowLaws

@@ -1,13 +1,19 @@
 -- The state of a session between two commands.
 use Rattle.std.specs.Prelude.{◌≡◌, ◌≤◌, ℕ, ◌-◌, List, [], map, length, slice_get, unwrap_or, IfOk}
+use Rattle.std.specs.List.{AllZip}
 use Rattle.std.specs.declared.result.Result.{Result}
 use Rattle.mbox_scan.specs.Mailbox.{texts_of}
 use Rattle.message_state.specs.declared.row.Row.{Row}
 use Rattle.message_state.specs.ShownRows.{IsShown}
-use Rattle.message_state.specs.RowLists.{AreRowsButMarks}
+use Rattle.message_state.specs.Rows.{IsRow}
+use Rattle.message_state.specs.Status.{mark_of}
 use Rattle.message_state.specs.declared.shown.Shown.{Shown}
 use Rattle.read_commands.specs.declared.desk.Desk.{Desk}
 use Rattle.read_commands.specs.declared.steps.Steps.{Steps}
+
+-- each row is that of its text, its mark aside
+abbrev pub AreRowsButMarks : List (List ℕ) → List Row → Type 0
+AreRowsButMarks texts rows = AllZip (λ t row. IsRow t (record row { mark = mark_of t })) texts rows
 
 -- The desk is valid: so is what it shows, whose rows are those of the folder's texts, marks aside; the marks of the folder are those of the rows;
 -- and a line has room for two bytes

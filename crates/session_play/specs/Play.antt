@@ -10,7 +10,7 @@ use Rattle.host_port.specs.declared.event.Seen.{Seen}
 use Rattle.host_port.specs.declared.event.Seen.TheVariants as seen
 use Rattle.host_port.specs.Calls.{Counts, Rose}
 use Rattle.message_state.specs.declared.row.Row.{Row}
-use Rattle.message_state.specs.RowLists.{AreRows}
+use Rattle.session_play.specs.Knowing.{AreRows}
 use Rattle.session_play.specs.declared.act.Found.{Found}
 use Rattle.session_play.specs.declared.act.Found.TheVariants as found
 use Rattle.session_play.specs.declared.stop.Stop.{Stop}
