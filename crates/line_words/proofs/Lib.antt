@@ -4,3 +4,4 @@ pub mod FrontLemmas
 pub mod LineLemmas
 pub mod SpellingLaws
 pub mod NamedLaws
+pub mod WrittenLaws

@@ -30,7 +30,7 @@ map-id : {X : Type 0} (o : Option (List X)) → option_map (λ left. [] ++ left)
 map-id None = refl
 map-id (Some x) = refl
 
-map-map : {X Y Z : Type 0} (f : X → Y) (g : Y → Z) (h : X → Z) → ((x : X) → g (f x) ≡ h x) → (o : Option X) → option_map g (option_map f o) ≡ option_map h o
+pub map-map : {X Y Z : Type 0} (f : X → Y) (g : Y → Z) (h : X → Z) → ((x : X) → g (f x) ≡ h x) → (o : Option X) → option_map g (option_map f o) ≡ option_map h o
 map-map f g h same None = refl
 map-map f g h same (Some x) = ap (λ y. Some y) (same x)
 
@@ -44,7 +44,7 @@ onto_none b [] = refl
 onto_none b (rest ∷ words) = refl
 
 -- inside a word there is a first word left
-abbrev HasFirst : Option Words → Type 0
+abbrev pub HasFirst : Option Words → Type 0
 HasFirst o = option_map (joined []) o ≡ o
 
 first-onto : (b : ℕ) (o : Option Words) → HasFirst (option_map (onto_first b) o)
@@ -57,7 +57,7 @@ has_first-unquoted : (b : ℕ) (later : Place → Option Words) → HasFirst (la
 has_first-unquoted b later quoted escaped =
     chosen (is_quote b) HasFirst _ _ quoted (chosen (b == 92) HasFirst _ _ escaped (first-onto b (later Word)))
 
-has_first : (bs : List ℕ) → HasFirst (words_from Word bs) × HasFirst (words_from Escaped bs) × ((q : ℕ) → HasFirst (words_from (Quoted q) bs))
+pub has_first : (bs : List ℕ) → HasFirst (words_from Word bs) × HasFirst (words_from Escaped bs) × ((q : ℕ) → HasFirst (words_from (Quoted q) bs))
 unfolding words_from
 has_first [] = (refl, refl, λ q. refl)
 has_first (b ∷ bs) =

@@ -137,7 +137,7 @@ pub fn command_name(k: usize) -> Option<&'static [u8]>
     ensures { option_copied result ≡ slice_get names k }
 {
     match rows().get(k) {
-        Some(spelling) => Some(spelling.whole),
+        Some(named) => Some(named.whole),
         None => None,
     }
 }

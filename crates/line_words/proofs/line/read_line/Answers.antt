@@ -1,5 +1,5 @@
-use Rattle.std.proofs.Common.{◌≡◌, ◌<◌, ◌≤◌, ℕ, List, length, Option, Some, None, Result, Ok, Err, refl, sym, inl, arith}
-use Rattle.line_words.specs.Line.{OrMemory, reading, read_as, command_word, after_word}
+use Rattle.std.proofs.Common.{Some, None, sym, inl}
+use Rattle.line_words.specs.Line.{reading}
 use Rattle.line_words.proofs.LineLemmas.{reading_long, long_comes, unknown_comes, open_comes, word_is, after_is, read_short, or_memory, or_unknown}
 use Rattle.line_words.proofs.line.read_line.Goals as goal
 
