@@ -111,13 +111,13 @@ settings-with_value vars name value are good room distinct =
     (λ t. record {
       few = (let e : length (with_value vars name value) ≡ length vars = ap length (cond-true _ _ _ t) ∙ length-set_value (bytes_eq name) vars value in let few = are.few in omega arith);
       named = ap (list_all is_variable_name) (names-set vars name value t) ∙ are.named;
-      distinct = distinct
+      distinct = distinct;
     })
     (λ f. record {
       few = (let e : length (with_value vars name value) ≡ length vars + 1 = ap length (cond-false _ _ _ f) ∙ length-append vars ((name, value) ∷ []) in let more = room f in omega arith);
       named = ap (λ ps. list_all is_variable_name (keys_of ps)) (cond-false _ _ _ f) ∙ ap (list_all is_variable_name) (map-append vars (name, value))
           ∙ list_all-append is_variable_name (keys_of vars) (name ∷ []) ∙ and_from _ _ are.named (and_from _ _ good refl);
-      distinct = distinct
+      distinct = distinct;
     })
     (cases_Bool (is_set vars name))
 
@@ -142,7 +142,7 @@ without-named (p ∷ vars) name h =
 -- what holds of the variables holds once one is unset
 pub settings-without : (vars : Settings) (name : List ℕ) → AreSettings vars → IsDistinct bytes_eq (keys_of (without vars name)) → AreSettings (without vars name)
 settings-without vars name are distinct = record {
-      few = (let l = without-length vars name in let few = are.few in omega arith);
-      named = without-named vars name are.named;
-      distinct = distinct
-    }
+  few = (let l = without-length vars name in let few = are.few in omega arith);
+  named = without-named vars name are.named;
+  distinct = distinct;
+}

@@ -41,7 +41,7 @@ places_in pairs =
       lister = or_default (variable pairs (codes "LISTER")) (codes "ls");
       shell = or_default (variable pairs (codes "SHELL")) (codes "/bin/sh");
       tz = variable pairs (codes "TZ");
-      width = width_of (number_of (variable pairs (codes "COLUMNS")))
+      width = width_of (number_of (variable pairs (codes "COLUMNS")));
     }
 
 -- the places, where home folder and user are known

@@ -11,6 +11,7 @@ use std::alloc::Global;
 
 /// The fewest and the most columns of a terminal that count.
 const FEWEST_COLUMNS: u64 = 40;
+
 const MOST_COLUMNS: u64 = 1_000;
 
 /// The columns where the environment gives no number that counts.

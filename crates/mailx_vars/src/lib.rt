@@ -16,3 +16,5 @@ pub use laws::variables_are_kept;
 pub use names::{is_short_name, is_user_name, is_variable_name};
 pub use settings::Vars;
 
+#[cfg(test)]
+mod tests;

@@ -82,7 +82,7 @@ impl Vars {
         if !is_variable_name(name) {
             return Err(VarError::BadName);
         }
-        if !self.flag(name) && self.count() == VARIABLE_LIMIT {
+        if !self.flag(name) && self.count() >= VARIABLE_LIMIT {
             return Err(VarError::TooMany);
         }
         put(&mut self.map, name, value)?;

@@ -5,7 +5,7 @@ use Rattle.std.specs.Str.{bytes_eq}
 use Rattle.mailx_vars.specs.Settings.{AreSettings, Settings, is_set, pairs_of, with_value}
 use Rattle.mailx_vars.proofs.PairLemmas.{settings-with_value}
 use Rattle.mailx_vars.proofs.settings.Vars.set.Goals as goal
-use Rattle.mailx_vars.proofs.settings.Vars.set.Goals.{else-not-flag-via-then-not-flag+else-count-eq-VARIABLE_LIMIT, else-not-flag-via-else-not-flag}
+use Rattle.mailx_vars.proofs.settings.Vars.set.Goals.{else-not-flag-via-then-not-flag+else-count-ge-VARIABLE_LIMIT, else-not-flag-via-else-not-flag}
 
 pub invariant_of-self-2 : goal.invariant_of-self-2
 invariant_of-self-2 c =
@@ -13,10 +13,10 @@ invariant_of-self-2 c =
     let same : length vars ≡ length c.args.self.now = ap length c.self.view_is in
     let set : c.flag.result ≡ is_set vars c.args.name.now = c.flag.ensures ∙ sym (ap (λ (v : Settings). is_set v c.args.name.now) c.self.view_is) in
     let room : is_set vars c.args.name.now ≡ false → length vars < 1000 =
-      elim c.else-not-flag.branch [
-        else-not-flag-via-then-not-flag+else-count-eq-VARIABLE_LIMIT w ↦ (λ _. let few = w.count.ensures.settings.few in let count = w.count.ensures.count in let full = w.if-count-eq-VARIABLE_LIMIT.false in omega arith)
-        | else-not-flag-via-else-not-flag w ↦ (λ unset. absurd (true≢false (sym w.if-not-flag.false ∙ set ∙ unset)))
-      ] in
+    elim c.else-not-flag.branch [
+      | else-not-flag-via-then-not-flag+else-count-ge-VARIABLE_LIMIT w ↦ (λ _. let few = w.count.ensures.settings.few in let count = w.count.ensures.count in let full = w.if-count-ge-VARIABLE_LIMIT.false in omega arith)
+      | else-not-flag-via-else-not-flag w ↦ (λ unset. absurd (true≢false (sym w.if-not-flag.false ∙ set ∙ unset)))
+    ] in
     let put = c.in_ok-put.ensures.ok in
     let distinct = c.in_ok-put.ensures.distinct in
     subst (λ (v : Settings). AreSettings v) (sym put)
