@@ -9,8 +9,10 @@ use Rattle.mbox_scan.specs.declared.folder.Folder.{Folder}
 use Rattle.mbox_scan.specs.declared.error.ScanError.{ScanError}
 use Rattle.mbox_scan.specs.declared.error.ScanError.TheVariants as scan
 use Rattle.mbox_scan.specs.Mailbox.{list_of, is_mailbox, texts_of, starts, pieces}
-use Rattle.mailx_top.specs.declared.status.End.TheVariants as ending
-use Rattle.mailx_top.specs.Statuses.{row}
+use Rattle.mail_text.specs.Lines.{with_feed}
+use Rattle.mailx_session.specs.declared.flow.End.TheVariants as ending
+use Rattle.mailx_top.specs.declared.environment.Environment.{Environment}
+use Rattle.mailx_top.specs.Words.{Start}
 use Rattle.mailx_top.specs.Meaning.{with_list, says_and_ends, message_limit}
 use Rattle.std.specs.Prelude.{◌++◌, codes}
 use borrow.Author.Tests.{lt-ltb}
@@ -33,11 +35,11 @@ abbrev pub failed : ScanError → Result Folder ScanError
 failed e = Err e
 
 -- what is done where more messages start than a folder may have
-pub with-too-many : (name b : List ℕ) (count : ℕ) (e : ScanError) → e ≡ scan.TooMany count → (list_of b ≡ None → failed e ≡ failed scan.NotAMailbox) → count ≡ length (starts b) → 1000000 < count
-    → with_list name (list_of b) ≡ says_and_ends (row (name ++ codes ": too many messages")) ending.NoFolder
-with-too-many name b count e found some is many =
+pub with-too-many : (env : Environment) (start : Start) (b : List ℕ) (count : ℕ) (e : ScanError) → e ≡ scan.TooMany count → (list_of b ≡ None → failed e ≡ failed scan.NotAMailbox) → count ≡ length (starts b) → 1000000 < count
+    → with_list env start b (list_of b) ≡ says_and_ends (with_feed (start.file ++ codes ": too many messages")) ending.NoFolder
+with-too-many env start b count e found some is many =
     let long : nat_lt message_limit (length (texts_of b)) ≡ true = lt-ltb _ _ (let e = length-texts b in omega arith) in
-    ap (with_list name) (listed b (λ none. other (ap failed (sym found) ∙ some none))) ∙ cond-true _ _ _ long
+    ap (with_list env start b) (listed b (λ none. other (ap failed (sym found) ∙ some none))) ∙ cond-true _ _ _ long
   where
     other : failed (scan.TooMany count) ≡ failed scan.NotAMailbox → ⊥
     other h = absurd (cc h)

@@ -1,6 +1,6 @@
-pub mod TurnLemmas
+pub mod ShapeLemmas
+pub mod LineLemmas
 pub mod EndLemmas
-pub mod SizeLemmas
 pub mod FolderLemmas
 pub mod RoundLemmas
 pub mod UsageLemmas

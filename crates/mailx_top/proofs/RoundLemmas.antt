@@ -1,5 +1,5 @@
 -- The rounds of a run hand on their input.
-use Rattle.std.proofs.Common.{ℕ, Bool, true, false, List, refl}
+use Rattle.std.proofs.Common.{◌≡◌, ℕ, Bool, true, false, List, refl, sym}
 use Rattle.std.specs.Prelude.{if◌then◌else◌, nat_lt, length}
 use Rattle.std.specs.declared.option.Option.{Option}
 use Rattle.std.specs.declared.option.Option.TheVariants.{Some, None}
@@ -7,11 +7,18 @@ use Rattle.mbox_scan.specs.Mailbox.{list_of}
 use Rattle.session_play.specs.declared.act.Found.{Found}
 use Rattle.session_play.specs.declared.act.Found.TheVariants as found
 use Rattle.session_play.specs.Input.{Input, no_input}
-use Rattle.session_play.specs.Play.{Play, Next}
+use Rattle.session_play.specs.Play.{Play, Ask, Line, Next, Go, Last}
 use Rattle.session_play.specs.Causes.{Threads, NextFrom}
-use Rattle.mailx_top.specs.declared.status.End.{End}
-use Rattle.mailx_top.specs.Variables.{is_short_name}
-use Rattle.mailx_top.specs.Meaning.{State, Opening, Reading, round, opening, opened, with_list, turn, replied, reply, input_of, message_limit}
+use Rattle.mailx_vars.specs.Names.{is_short_name}
+use Rattle.read_commands.specs.declared.desk.Desk.{Desk}
+use Rattle.mailx_session.specs.declared.flow.End.{End}
+use Rattle.mailx_session.specs.Openings.{first_desk, opened}
+use Rattle.mailx_session.specs.Sessions.{line_play}
+use Rattle.mailx_top.specs.declared.environment.Environment.{Environment}
+use Rattle.mailx_top.specs.Words.{Start}
+use Rattle.mailx_top.specs.Meaning.{State, Opening, Reading, round, opening, loaded, with_list, greeted, turn, with_input, prompted, input_of, message_limit}
+use Rattle.mailx_top.proofs.ShapeLemmas.{bind-threads}
+use Rattle.mailx_top.proofs.LineLemmas.{line-threads}
 
 abbrev On : Input → Play (Next State End) → Type 0
 On i p = Threads (NextFrom input_of) i p
@@ -20,28 +27,40 @@ both : (b : Bool) (p q : Play (Next State End)) (i : Input) → On i p → On i 
 both true p q i x y = x
 both false p q i x y = y
 
-threads-list : (name : List ℕ) (l : Option (List (List ℕ))) → On no_input (with_list name l)
-threads-list name None = λ u. tt
-threads-list name (Some texts) = both (nat_lt message_limit (length texts)) _ _ no_input (λ u. tt) refl
+threads-greeted : (quiet : Bool) (desk : Desk) → On no_input (greeted quiet desk)
+threads-greeted true desk = refl
+threads-greeted false desk = λ u. refl
 
-threads-opened : (name : List ℕ) (f : Found) → On no_input (opened name f)
-threads-opened name (found.Bytes bytes true) = λ u. tt
-threads-opened name (found.Bytes None false) = λ u. tt
-threads-opened name (found.Bytes (Some bytes) false) = threads-list name (list_of bytes)
-threads-opened name (found.TooLarge n) = λ u. tt
+threads-list : (env : Environment) (start : Start) (bytes : List ℕ) (l : Option (List (List ℕ))) → On no_input (with_list env start bytes l)
+threads-list env start bytes None = λ u. tt
+threads-list env start bytes (Some texts) =
+    both (nat_lt message_limit (length texts)) _ _ no_input (λ u. tt) (λ rows. threads-greeted start.quiet (opened (first_desk env.pairs) start.file bytes rows))
 
-threads-opening : (name : Option (List ℕ)) → On no_input (opening name)
-threads-opening None = λ u. tt
-threads-opening (Some name) = both (is_short_name name) _ _ no_input (threads-opened name) (λ u. tt)
+threads-loaded : (env : Environment) (start : Start) (f : Found) → On no_input (loaded env start f)
+threads-loaded env start (found.Bytes bytes true) = λ u. tt
+threads-loaded env start (found.Bytes None false) = λ u. tt
+threads-loaded env start (found.Bytes (Some bytes) false) = threads-list env start bytes (list_of bytes)
+threads-loaded env start (found.TooLarge n) = λ u. tt
 
-threads-replied : (texts : List (List ℕ)) (j : Input) (r : Option (List ℕ)) → On j (replied texts j r)
-threads-replied texts j None = tt
-threads-replied texts j (Some bytes) = λ u. refl
+threads-opening : (env : Environment) (start : Option Start) → On no_input (opening env start)
+threads-opening env None = λ u. tt
+threads-opening env (Some start) = both (is_short_name start.file) _ _ no_input (threads-loaded env start) (λ u. tt)
 
-threads-turn : (texts : List (List ℕ)) (j : Input) (line : Option (List ℕ)) → On j (turn texts j line)
-threads-turn texts j None = tt
-threads-turn texts j (Some line) = threads-replied texts j (reply texts line)
+threads-with : (i : Input) (n : Next Desk End) (j : Input) → j ≡ i → On j (with_input i n)
+threads-with i (Go desk) j same = same
+threads-with i (Last e) j same = tt
 
-pub threads-round : (x : State) → On (input_of x) (round x)
-threads-round (Opening name) = threads-opening name
-threads-round (Reading texts i) = (refl, λ a. threads-turn texts a.1 a.0)
+threads-turn : (desk : Desk) (j : Input) (line : Option (List ℕ)) → On j (turn desk j line)
+threads-turn desk j None = tt
+threads-turn desk j (Some line) =
+    bind-threads (λ (n : Next Desk End) (k : Input). k ≡ j) (NextFrom input_of) (line_play desk line) (with_input j) j (line-threads desk line j) (threads-with j)
+
+threads-prompted : (terminal : Bool) (desk : Desk) (i : Input) → Threads (λ (u : Unit {0}) (j : Input). j ≡ i) i (prompted terminal desk)
+threads-prompted true desk i = λ u. refl
+threads-prompted false desk i = refl
+
+pub threads-round : (env : Environment) (x : State) → On (input_of x) (round env x)
+threads-round env (Opening start) = threads-opening env start
+threads-round env (Reading desk i) =
+    bind-threads (λ (u : Unit {0}) (j : Input). j ≡ i) (NextFrom input_of) (prompted env.terminal desk) (λ u. Ask (Line i) (λ a. turn desk a.1 a.0)) i (threads-prompted env.terminal desk i)
+    (λ u j same. (sym same, λ a. threads-turn desk a.1 a.0))

@@ -37,9 +37,9 @@ turn desk j None = Ret (Last ending.Done)
 turn desk j (Some line) = bind (line_play desk line) (with_input j)
 
 -- what is said before a line is asked for: on a terminal the value of `prompt`
-abbrev pub prompted : Bool → Desk → Play (Next State End) → Play (Next State End)
-prompted true desk p = Ask (Say (unwrap_or (value_of desk.vars (codes "prompt")) [])) (λ _. p)
-prompted false desk p = p
+abbrev pub prompted : Bool → Desk → Play (Unit {0})
+prompted true desk = Ask (Say (unwrap_or (value_of desk.vars (codes "prompt")) [])) Ret
+prompted false desk = Ret tt
 
 abbrev pub says_and_ends : List ℕ → End → Play (Next State End)
 says_and_ends text e = Ask (Say text) (λ _. Ret (Last e))
@@ -81,7 +81,7 @@ opening env (Some start) =
 -- what a run in this environment does from a state on, to its next state or its end
 abbrev pub round : Environment → State → Play (Next State End)
 round env (Opening start) = opening env start
-round env (Reading desk i) = prompted env.terminal desk (Ask (Line i) (λ a. turn desk a.1 a.0))
+round env (Reading desk i) = bind (prompted env.terminal desk) (λ u. Ask (Line i) (λ a. turn desk a.1 a.0))
 
 -- the input that a state begins with
 abbrev pub input_of : State → Input

@@ -1,12 +1,14 @@
 // A session by lines.
-ghost use Rattle.std.specs.Prelude.{◌≡◌, ◌<◌, IfOk, IfNone, IfSome, unwrap_or, [], codes};
+ghost use Rattle.std.specs.Prelude.{◌≡◌, ◌<◌, None, IfOk, IfNone, IfSome, IsSome, unwrap_or, [], codes};
+ghost use Rattle.mailx_vars.specs.Settings.{value_of};
 ghost use Rattle.host_port.specs.Ran.{Ran};
-ghost use Rattle.session_play.specs.Input.{left, no_input};
+ghost use Rattle.session_play.specs.Input.{Input, left, no_input};
 ghost use Rattle.session_play.specs.Play.{Play, Ret, Goes, Loop, Caused};
 ghost use Rattle.mailx_top.specs.Meaning.{round, State, Reading, next_state, turn, prompted};
 
 use crate::Environment;
 use host_port::Host;
+use mail_text::Text;
 use mailx_session::{End, Flow, Session};
 use session_play::{Reader, Stop, say};
 use std::alloc::Global;
@@ -23,7 +25,7 @@ fn prompt(session: &Session) -> &[u8]
 
 // Says the prompt on a terminal.
 fn say_prompt<H: Host>(host: &mut H, terminal: bool, session: &Session) -> Result<(), Stop>
-    ensures ran { Ran H.start H.told H.counts host.old host.new (λ es. Goes (prompted_only terminal session.now) es result) }
+    ensures ran { Ran H.start H.told H.counts host.old host.new (λ es. Goes (prompted terminal session.now) es result) }
     ensures cause { Caused (H.counts host.old) (H.counts host.new) result }
 {
     if terminal {
@@ -42,7 +44,8 @@ fn take_line<H: Host>(
     ensures ran { (j : Input) → Ran H.start H.told H.counts host.old host.new
         (λ es. Goes (turn session.old j line) es (next_state session.new j result)) }
     ensures cause { Caused (H.counts host.old) (H.counts host.new) result }
-    ensures more { IsNone line → IfOk result IsSome }
+    ensures ended { line ≡ None → IfOk result IsSome }
+    ensures done { IfOk result (λ end. IfSome end (λ e. e ≡ End.Done)) }
 {
     match line {
         None => Ok(Some(session.end())),

@@ -16,6 +16,86 @@ const THERE: &[u8] =
 const USAGE: &[u8] =
     b"usage: mailx [-eHiNnF] [-f [file]] [-u user] [-s subject] [-b names] [-c names] [address...]\n";
 
+const GREETING: &[u8] =
+    b"\"box\": 2 messages, 2 new, 0 unread\n>N   1 Ann                Mon Jan  1 10:00     74 one\n N   2 bob@y              Tue Jan  2 11:00     66 two\n1: 74\n2: 66\n";
+
+/// Lines over a folder with two messages, and what they say.
+const SCRIPTS: [(&[u8], &[u8]); 26] = [
+    // a message is deleted and given back, and what wasn't printed is printed next
+    (
+        b"d 1\n=\nu 1\n=\nn\nx\n",
+        b"2\n1\nMessage 1:\nFrom ann@x Mon Jan  1 10:00:00 2024\nFrom: Ann <ann@x>\nSubject: one\n\nhello\n",
+    ),
+    (
+        b"f *\n",
+        b">N   1 Ann                Mon Jan  1 10:00     74 one\n N   2 bob@y              Tue Jan  2 11:00     66 two\n",
+    ),
+    // refused lines move nothing
+    (
+        b"u 1\np 9\np :d\n=\n",
+        b"1: no such message\n9: no such message\n:d: no such message\n1\n",
+    ),
+    (
+        b"size 1-$\nsize /TW\nsize bob\nsize 2-1\n",
+        b"1: 74\n2: 66\n2: 66\n2: 66\n2-1: no such message\n",
+    ),
+    // an empty line goes on: what is current and unwritten is printed first
+    (
+        b"\n=\n\n=\n\n=\n",
+        b"Message 1:\nFrom ann@x Mon Jan  1 10:00:00 2024\nFrom: Ann <ann@x>\nSubject: one\n\nhello\n1\nMessage 2:\nFrom bob@y Tue Jan  2 11:00:00 2024\nFrom: bob@y\nSubject: two\n\nbye\n2\nat end\n2\n",
+    ),
+    // a list of `next` goes on behind the current message
+    (
+        b"n 1 2\nn 1\nn (\n",
+        b"Message 2:\nFrom bob@y Tue Jan  2 11:00:00 2024\nFrom: bob@y\nSubject: two\n\nbye\nat end\n(: bad message list\n",
+    ),
+    // a number is a print
+    (
+        b"2\nf\n",
+        b"Message 2:\nFrom bob@y Tue Jan  2 11:00:00 2024\nFrom: bob@y\nSubject: two\n\nbye\n>R   2 bob@y              Tue Jan  2 11:00     66 two\n",
+    ),
+    (
+        b"se toplines=2\nto 2\nse toplines=x\ntop 1\nuns toplines\ntop 1\ntop 9\n=\n",
+        b"Message 2:\nFrom bob@y Tue Jan  2 11:00:00 2024\nFrom: bob@y\ntoplines: not a number\ntoplines: not a number\n9: no such message\n2\n",
+    ),
+    (
+        b"d *\n=\nd\ndp\nf *\nu *\n=\n",
+        b"1\nno applicable message\nno applicable message\n>D   1 Ann                Mon Jan  1 10:00     74 one\n D   2 bob@y              Tue Jan  2 11:00     66 two\n2\n",
+    ),
+    (
+        b"dp 1\nf *\ndt\n=\n",
+        b"Message 2:\nFrom bob@y Tue Jan  2 11:00:00 2024\nFrom: bob@y\nSubject: two\n\nbye\n D   1 Ann                Mon Jan  1 10:00     74 one\n>R   2 bob@y              Tue Jan  2 11:00     66 two\nat end\n2\n",
+    ),
+    (
+        b"d 2\n=\nset autoprint\nd 1\nu\n",
+        b"1\nat end\nMessage 1:\nFrom ann@x Mon Jan  1 10:00:00 2024\nFrom: Ann <ann@x>\nSubject: one\n\nhello\n",
+    ),
+    (b"ec a  'b c' \"d\"e\necho\n", b"a b c de\n\n"),
+    (
+        b"set a b=c noheader noprompt noindentprefix noasksub\nset\n",
+        b"save=\nescape=~\nscreen=20\ntoplines=5\nsendmail=/usr/lib/sendmail\na=\nb=c\n",
+    ),
+    (b"set no=1 nox=2 no\nset noheader noasksub\nset =v\nset a=1 \"b c\"\nunset\n", b": bad name\nb c: bad name\nunset: bad arguments\n"),
+    (b"= 1\nx now\nhelp me\nz 1\nz+x\n", b"=: bad arguments\nxit: bad arguments\nhelp: bad arguments\nz: bad arguments\nz+: bad arguments\n"),
+    (b"z\nz-\n", b"at end\nat end\n"),
+    (
+        b"se screen=1\nz\n=\nz\nz-\nh\n",
+        b" N   2 bob@y              Tue Jan  2 11:00     66 two\n1\nat end\n>N   1 Ann                Mon Jan  1 10:00     74 one\n>N   1 Ann                Mon Jan  1 10:00     74 one\n",
+    ),
+    (
+        b"se screen=1\nh 2\n=\nz\nh 1 2\nset screen=0\nz-\nset screen=\nh\n",
+        b">N   2 bob@y              Tue Jan  2 11:00     66 two\n2\nat end\nheaders: bad arguments\n N   1 Ann                Mon Jan  1 10:00     74 one\nscreen: not a number\n",
+    ),
+    (b"# what '\nec 'a\n", b"open quote\n"),
+    (b"!ls\n|\nq\nr 1\nalias\nthread\nz?\n", b"!: not built\n|: not built\nquit: not built\nreply: not built\nalias: not built\nthread: not built\nz: bad arguments\n"),
+    (b"p -\np +\n=\np +\n", b"-: no such message\nMessage 2:\nFrom bob@y Tue Jan  2 11:00:00 2024\nFrom: bob@y\nSubject: two\n\nbye\n2\n+: no such message\n"),
+    (b"size :n\nsize :r\nT 1\nsize :r\n", b"1: 74\n2: 66\n:r: no such message\nMessage 1:\nFrom ann@x Mon Jan  1 10:00:00 2024\nFrom: Ann <ann@x>\nSubject: one\n\nhello\n1: 74\n"),
+    (b"size ANN@X\nsize ann\nsize Ann\nsize cy\n", b"1: 74\n1: 74\n1: 74\ncy: no such message\n"),
+    (b"size\nsize . 2\nsize 2 1\n", b"1: 74\n1: 74\n2: 66\n1: 74\n2: 66\n"),
+    (b"  p   2\n\t\n", b"Message 2:\nFrom bob@y Tue Jan  2 11:00:00 2024\nFrom: bob@y\nSubject: two\n\nbye\nat end\n"),
+    (b"d 1\nf *\nx", b" D   1 Ann                Mon Jan  1 10:00     74 one\n>N   2 bob@y              Tue Jan  2 11:00     66 two\n"),
+];
+
 /// In what a run differs from `-N -f box` with two messages in the box and the lines `size *` and `x`.
 #[derive(Clone, Copy)]
 enum Unlike {
@@ -36,14 +116,18 @@ enum Unlike {
     RefusedAndFails,
     /// The home folder is unset, and the first call fails.
     HomelessAndFails,
+    /// The words are without `-N`.
+    Greeted,
+    /// The input is a terminal.
+    Terminal,
 }
 
 /// A run, what it says, and the status that it answers.
-const CASES: [(Unlike, &[u8], u8); 23] = [
+const CASES: [(Unlike, &[u8], u8); 25] = [
     (Unlike::Nothing, b"1: 74\n2: 66\n", 0),
     (Unlike::Pieces, b"1: 74\n2: 66\n", 0),
-    (Unlike::Input(b"frob\nx\nsize *\n"), b"not built\n", 0),
-    (Unlike::Input(b"\nsize *"), b"not built\n1: 74\n2: 66\n", 0),
+    (Unlike::Input(b"frob\nx\nsize *\n"), b"frob: unknown command\n", 0),
+    (Unlike::Input(b"size *\nquit"), b"1: 74\n2: 66\nquit: not built\n", 0),
     (Unlike::Folder(b""), b"*: no such message\n", 0),
     (Unlike::Folder(HERE), b"1: 60\n", 0),
     (Unlike::Folder(THERE), b"1: 60\n2: 11\n", 0),
@@ -63,6 +147,8 @@ const CASES: [(Unlike, &[u8], u8); 23] = [
     (Unlike::Fails(9), b"1: 74\n2: 66\n", 0),
     (Unlike::RefusedAndFails, b"", 4),
     (Unlike::HomelessAndFails, b"mailx: output fault\n", 4),
+    (Unlike::Greeted, GREETING, 0),
+    (Unlike::Terminal, b"? 1: 74\n2: 66\n? ", 0),
 ];
 
 fn view(alloc: Global, unlike: Unlike) -> Result<DiskView, Memory> {
@@ -125,7 +211,9 @@ fn words(alloc: Global, unlike: Unlike) -> Result<Vec<Text>, Memory> {
         _ => b"box".as_slice(),
     };
     for word in [flag, b"-f".as_slice(), file] {
-        words.push(Text::copy(alloc, word)?)?;
+        if !matches!(unlike, Unlike::Greeted) || word != b"-N".as_slice() {
+            words.push(Text::copy(alloc, word)?)?;
+        }
     }
     Ok(words)
 }
@@ -146,7 +234,7 @@ fn environment(alloc: Global, unlike: Unlike) -> Result<Environment, Memory> {
     }
     Ok(Environment {
         pairs,
-        terminal: false,
+        terminal: matches!(unlike, Unlike::Terminal),
         token: 1,
     })
 }
@@ -177,6 +265,15 @@ fn is_so(alloc: Global, unlike: Unlike, out: &[u8], status: u8) -> Result<bool, 
         _ => false,
     };
     Ok(ended == status && said.bytes() == out && same && !host.lost())
+}
+
+#[test]
+fn lines_say_what_their_commands_mean(rt: HostRuntime) -> Result<(), Fail> {
+    for (number, (input, said)) in SCRIPTS.iter().enumerate() {
+        let so = is_so(rt.alloc(), Unlike::Input(input), said, 0)?;
+        assert!(rt; so, "script {number}");
+    }
+    Ok(())
 }
 
 #[test]

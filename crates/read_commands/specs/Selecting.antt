@@ -1,5 +1,5 @@
 -- The messages that the words of a command select.
-use Rattle.std.specs.Prelude.{◌≡◌, ℕ, Bool, true, false, ◌==◌, List, [], ◌∷◌, length, ◌≤◌, ◌-◌, slice_index, slice_get, Option, Some}
+use Rattle.std.specs.Prelude.{◌≡◌, ℕ, Bool, true, false, ◌==◌, List, [], ◌∷◌, length, ◌-◌, slice_index, slice_get, Option, unwrap_or}
 use Rattle.std.specs.List.{filter_map, list_any}
 use Rattle.std.specs.Option.{option_map}
 use Rattle.std.specs.declared.result.Result.TheVariants.{Ok, Err}
@@ -55,6 +55,10 @@ IsListRefusal (error.NoSuch word) r = IsRefusal r (no_such word)
 IsListRefusal error.NoneMatch r = IsRefusal r none_applicable
 IsListRefusal error.Memory r = Unit {0}
 
--- there is a flag for each number up to the count, which says whether it is one of these
-abbrev pub AreFlags : List Bool → List ℕ → ℕ → Type 0
-AreFlags flags ns count = (n : ℕ) → n ≤ count → slice_get flags n ≡ Some (is_among ns n)
+-- the flag of a number, false where there is none
+abbrev pub flag_of : List Bool → ℕ → Bool
+flag_of flags n = unwrap_or (slice_get flags n) false
+
+-- the flag of each number says whether it is one of these
+abbrev pub AreFlags : List Bool → List ℕ → Type 0
+AreFlags flags ns = (n : ℕ) → flag_of flags n ≡ is_among ns n

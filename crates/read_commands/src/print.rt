@@ -6,14 +6,14 @@ ghost use Rattle.read_commands.specs.Printing.{heading, printed, after_printing,
 
 use crate::effects::{Effects, markings, unchanged};
 use crate::faults::fault;
-use crate::select::{chosen, last_message};
+use crate::select::{Among, chosen, last_message};
 use crate::steps::says;
 use crate::{Desk, Refusal, Steps};
 use itoa::Buffer;
 use mail_text::{Items, Memory, Text};
 use mailx_vars::{VarError, Vars};
 use mbox_scan::MessageRef;
-use message_list::{Purpose, next_live};
+use message_list::{Purpose, in_base, next_live, place_of};
 use message_show::{How, shown_text, summary_lines, top as top_lines};
 use message_state::Act;
 use std::alloc::Global;
@@ -223,10 +223,28 @@ fn following(desk: &Desk) -> Option<u32>
     ensures message { IfSome result (IsMessageOf desk.now.shown) }
 {
     let current = desk.shown.current;
-    if desk.fresh && is_live_message(&desk.shown, current) {
+    if in_base(&desk.shown, Purpose::Live, current) && desk.fresh {
         return Some(current);
     }
     next_live(&desk.shown, current)
+}
+
+// The first of some messages that stands after the current one in the view.
+fn following_of(alloc: Global, desk: &Desk, numbers: &[u32]) -> Result<Option<u32>, Memory>
+    requires desk { IsDesk desk.now }
+    requires messages { All (IsMessageOf desk.now.shown) numbers.now }
+    ensures next { IfOk result (λ n. n ≡ following_of desk.now numbers.now) }
+    ensures message { IfOk result (λ n. IfSome n (IsMessageOf desk.now.shown)) }
+{
+    let shown = &desk.shown;
+    let among = Among::of(alloc, numbers, shown.rows.items().len())?;
+    match place_of(shown, shown.current) {
+        Some(place) => {
+            let (_, after) = shown.order.items().split_at(place + 1);
+            Ok(after.iter().copied().find(|n| among.has(*n)))
+        }
+        None => Ok(None),
+    }
 }
 
 /// `next`.

@@ -3,7 +3,7 @@ ghost use Rattle.std.specs.Prelude.{◌≡◌, ◌≤◌, ◌<◌, All, IfOk, le
 ghost use Rattle.message_state.specs.ShownRows.{IsShown};
 ghost use Rattle.read_commands.specs.Answers.{Means};
 ghost use Rattle.read_commands.specs.Desks.{IsMessageOf};
-ghost use Rattle.read_commands.specs.Selecting.{chosen, single, last_message, is_among, IsListRefusal, AreFlags};
+ghost use Rattle.read_commands.specs.Selecting.{chosen, single, last_message, is_among, IsListRefusal, AreFlags, flag_of};
 ghost use Rattle.read_commands.specs.Faults.{bad_arguments};
 
 use crate::Refusal;
@@ -75,12 +75,22 @@ impl Among {
     /// The messages of a list, where there are so many messages in all.
     pub(crate) fn of(alloc: Global, numbers: &[u32], count: usize) -> Result<Among, Memory>
         requires { All (λ n. n ≤ count) numbers.now }
-        ensures { IfOk result (λ among. AreFlags among.flags.items numbers.now count) }
+        ensures { IfOk result (λ among. AreFlags among.flags.items numbers.now) }
     {
         let mut flags = vec![in alloc; false; count + 1]?;
         for n in numbers {
             flags[*n as usize] = true;
         }
         Ok(Among { flags })
+    }
+
+    /// Whether message n is among them.
+    pub(crate) fn has(&self, n: u32) -> bool
+        ensures { result ≡ flag_of self.now.flags.items n }
+    {
+        match self.flags.get(n as usize) {
+            Some(flag) => *flag,
+            None => false,
+        }
     }
 }

@@ -16,10 +16,10 @@ returns-in_err-opened-clause-named g c =
     rw (p.1, p.2) (named-cut _ _ c.in_err-opened.ensures.named)
 
 pub returns-in-Folder-clause-ran : goal.returns-in-Folder-clause-ran
-returns-in-Folder-clause-ran g c = Ran-then (λ front rest x y. again front rest refl x y) (rw c.in-Folder.is at c.in_ok-opened.ensures.ran) c.session.ensures.ran
+returns-in-Folder-clause-ran g c = Ran-then (λ front rest x y. again front rest refl x y) (rw c.in-Folder.is at c.in_ok-opened.ensures.ran) c.lines.ensures.ran
 
 pub returns-in-Folder-clause-named : goal.returns-in-Folder-clause-named
-returns-in-Folder-clause-named g c = named-folder _ c.in-Folder.folder _ (rw c.in-Folder.is at c.in_ok-opened.ensures.named) c.session.ensures.done
+returns-in-Folder-clause-named g c = named-folder _ c.in-Folder.session _ (rw c.in-Folder.is at c.in_ok-opened.ensures.named) c.lines.ensures.done
 
 pub returns-in-Ended-clause-ran : goal.returns-in-Ended-clause-ran
 returns-in-Ended-clause-ran g c = Ran-map (λ es x. last x) (rw c.in-Ended.is at c.in_ok-opened.ensures.ran)

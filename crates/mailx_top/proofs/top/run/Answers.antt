@@ -12,8 +12,8 @@ pub returns-in-Ok-clause-run : goal.returns-in-Ok-clause-run
 returns-in-Ok-clause-run g c =
     Ran-map (λ es loop. record {
       whole = record { out = Ok c.in-Ok.end; front = es; behind = []; is = sym (append-nil es); plays = loop; ending = (refl, c.end_status.ensures) };
-      explained = loop-explained round input_of _ es _ threads-round refl loop;
-      opening = opening-explained _ es _ loop;
+      explained = loop-explained (round c.args.env.now) input_of _ es _ (threads-round c.args.env.now) refl loop;
+      opening = opening-explained c.args.env.now _ es _ loop;
     }) c.in-Ok.ensures.ran
 
 pub returns-in-Ok-clause-prefixes : goal.returns-in-Ok-clause-prefixes
@@ -23,8 +23,8 @@ pub returns-in-Err-clause-run : goal.returns-in-Err-clause-run
 returns-in-Err-clause-run g c =
     Ran-then (λ front rest loop said. record {
       whole = record { out = Err c.in-Err.cause; front = front; behind = rest; is = refl; plays = loop; ending = (c.stop_status.ensures, said) };
-      explained = loop-explained round input_of _ front _ threads-round refl loop;
-      opening = opening-explained _ front _ loop;
+      explained = loop-explained (round c.args.env.now) input_of _ front _ (threads-round c.args.env.now) refl loop;
+      opening = opening-explained c.args.env.now _ front _ loop;
     }) c.in-Err.ensures.ran c.say_cut.ensures
 
 pub returns-in-Err-clause-prefixes : goal.returns-in-Err-clause-prefixes
