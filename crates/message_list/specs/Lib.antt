@@ -1,6 +1,0 @@
-pub mod ListWords
-pub mod LocalParts
-pub mod Places
-pub mod Naming
-pub mod Selections
-pub mod Marking

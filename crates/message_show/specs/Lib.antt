@@ -1,4 +1,0 @@
-pub mod FieldSets
-pub mod Summary
-pub mod ShownText
-pub mod Keys
