@@ -1,5 +1,5 @@
 -- What a line is read as, and when each error comes.
-use Rattle.std.proofs.Common.{◌≡◌, ◌≢◌, ◌⊎◌, ◌<◌, ◌≤◌, ℕ, Bool, true, false, List, [], ◌∷◌, length, take, drop, Option, Some, None, Result, Ok, Err, cond, refl, sym, ap, subst, ◌∙◌, inl, inr, ⊎_elim, arith}
+use Rattle.std.proofs.Common.{◌≡◌, ◌≢◌, ◌⊎◌, ◌<◌, ◌≤◌, ℕ, Bool, true, false, List, [], ◌∷◌, length, take, drop, Option, Some, None, Result, Ok, Err, cond, refl, sym, ap, subst, ◌∙◌, inl, inr, ⊎_elim}
 use Rattle.std.proofs.lemmas.Bool.{cond-true, cond-false, lt-ltb, le-ltb, cases_lt}
 use Rattle.std.specs.List.{prefix_len}
 use Rattle.line_words.specs.declared.command.Command.{Command}
@@ -8,7 +8,7 @@ use Rattle.line_words.specs.declared.line.LineError.{LineError}
 use Rattle.line_words.specs.declared.line.LineError.TheVariants.{TooLong, Unknown, OpenQuote, Memory}
 use Rattle.line_words.specs.Spellings.{command_of}
 use Rattle.line_words.specs.Words.{is_blank, words_of}
-use Rattle.line_words.specs.Line.{text_of, word_length, command_word, after_word, command_named, command_in, takes_rest, with_words, read_as, read_named, reading, IsUnknown, IsOpen, OrMemory, ComesWhere}
+use Rattle.line_words.specs.Line.{text_of, word_length, command_word, after_word, command_named, command_in, takes_rest, with_words, read_named, reading, IsUnknown, IsOpen, OrMemory, ComesWhere}
 
 pub reading_long : (line : List ℕ) → 65536 < length line → reading line ≡ Err TooLong
 unfolding reading

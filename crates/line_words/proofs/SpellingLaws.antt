@@ -1,5 +1,5 @@
 -- A word meets spellings of one command at most, and the other laws of the spellings.
-use Rattle.std.proofs.Common.{◌≡◌, ◌≢◌, ℕ, zero, suc, ◌<◌, ◌+◌, Bool, true, false, not, ◌==◌, ◌&&◌, ◌||◌, List, [], ◌∷◌, ◌++◌, length, take, drop, get_or, Option, Some, None, cond, codes, refl, sym, ap, subst, ◌∙◌, inl, inr, ⊎_elim, arith, append_assoc}
+use Rattle.std.proofs.Common.{◌≡◌, ℕ, zero, suc, ◌<◌, Bool, true, false, not, ◌==◌, ◌&&◌, ◌||◌, List, [], ◌∷◌, ◌++◌, length, drop, get_or, Option, Some, None, refl, sym, ap, ◌∙◌, ⊎_elim, arith, append_assoc}
 use Rattle.std.specs.Ordering.{nat_cmp}
 use Rattle.std.specs.Cmp.Lexicographic.{slice_cmp}
 use Rattle.std.specs.Ordering.{is_lt}
@@ -12,10 +12,9 @@ use Rattle.std.proofs.lemmas.Bool.Decides.{Decides-eqb}
 use Rattle.std.proofs.lemmas.Slice.Eq.{starts_is}
 use denote.Enum.Bare.{sameb, same_true}
 use Rattle.line_words.specs.declared.command.Command.{Command}
-use Rattle.line_words.specs.declared.command.Command.TheVariants.{Alias, Alternates, Call, Copy, CopyByAuthor, Delete, DeleteAndPrint, Define, Defines, Ignore, Echo, Condition, Exit, File, Folders, Followup, FollowupAuthors, From, Headers, Help, Hold, Mail, Mbox, Newmail, Next, Pipe, Print, PrintAll, Quit, Reply, ReplyAuthors, Retain, Save, SaveByAuthor, Set, Size, Sort, Thread, Source, Top, Touch, Unalias, Undef, Undelete, Unset, Write, Scroll, Shell, Number, Comment}
 use Rattle.line_words.specs.contracts.command.Command.{the_type}
 use Rattle.line_words.specs.Spellings.{Spelling, spellings, is_met, spelling_of, command_of, names}
-use Rattle.line_words.specs.Laws.{Names, NamesOne, SpellingsName, EachIsNamed, NamesAscend}
+use Rattle.line_words.specs.Laws.{Names, NamesOne, SpellingsName, NamesAscend}
 
 -- ---- fronts
 
@@ -84,8 +83,8 @@ found p [] x h = absurd (cc)
 found p (y ∷ ys) x h =
     ⊎_elim
     (λ t. let same : Some y ≡ Some x = sym (cond-true _ _ _ t) ∙ h in
-        let is : y ≡ x = cc in
-        record { among = (0, omega arith, is); passes = ap p (sym is) ∙ t })
+    let is : y ≡ x = cc in
+    record { among = (0, omega arith, is); passes = ap p (sym is) ∙ t })
     (λ e. let behind = found p ys x (sym (cond-false _ _ _ e) ∙ h) in record { among = later y ys x behind.among; passes = behind.passes })
     (cases_Bool (p y))
 

@@ -1,5 +1,5 @@
 -- The code's table and the spellings.
-use Rattle.std.proofs.Common.{◌≡◌, ℕ, ◌<◌, ◌≤◌, length, get_or, slice_get, List, [], ◌∷◌, Bool, true, false, map, refl, sym, ap, ◌∙◌, ⊎_elim, Option, Some, None, cond}
+use Rattle.std.proofs.Common.{◌≡◌, ℕ, ◌<◌, ◌≤◌, length, get_or, slice_get, List, [], ◌∷◌, Bool, map, refl, sym, ap, ◌∙◌, ⊎_elim, Option, Some, None}
 use Rattle.std.proofs.lemmas.Option.{slice_get-map, slice_get-get_or, slice_get_past}
 use Rattle.std.proofs.lemmas.Bool.{cond-true, cond-false, cases_Bool}
 use Rattle.std.specs.Option.{option_map, option_copied}
@@ -8,7 +8,6 @@ use Rattle.std.proofs.Common.{Bor}
 use Rattle.line_words.specs.Spellings.{Spelling, spellings, names}
 use Rattle.line_words.specs.declared.table.Spelling.{Spelling as Row}
 use Rattle.line_words.specs.Table.{row_of}
-
 
 -- a search among mapped elements is a search by what they are mapped to
 pub find-map : {X Y : Type 0} (f : X → Y) (p : Y → Bool) (xs : List X) → option_map f (find (λ x. p (f x)) xs) ≡ find p (map f xs)

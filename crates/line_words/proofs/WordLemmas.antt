@@ -8,7 +8,7 @@ use Rattle.line_words.specs.declared.cut.Act.{Act}
 use Rattle.line_words.specs.declared.cut.Act.TheVariants.{Pass, Keep, End}
 use Rattle.line_words.specs.declared.cut.Step.{Step}
 use Rattle.line_words.specs.Words.{is_blank, is_quote, unquoted, words_from}
-use Rattle.line_words.specs.Cutting.{goes, unquoted_step, step_of, joined, resumed, gives, IsReady}
+use Rattle.line_words.specs.Cutting.{unquoted_step, step_of, joined, gives, IsReady}
 
 abbrev pub Words : Type 0
 Words = List (List ℕ)
@@ -61,10 +61,11 @@ pub has_first : (bs : List ℕ) → HasFirst (words_from Word bs) × HasFirst (w
 unfolding words_from
 has_first [] = (refl, refl, λ q. refl)
 has_first (b ∷ bs) =
-    let later = has_first bs in
-    ( chosen (is_blank b) HasFirst _ _ (first-empty (words_from Between bs)) (has_first-unquoted b (λ place. words_from place bs) (later.2 b) later.1),
+    let later = has_first bs in (
+      chosen (is_blank b) HasFirst _ _ (first-empty (words_from Between bs)) (has_first-unquoted b (λ place. words_from place bs) (later.2 b) later.1),
       first-onto b (words_from Word bs),
-      λ q. chosen (b == q) HasFirst _ _ later.0 (first-onto b (words_from (Quoted q) bs)) )
+      λ q. chosen (b == q) HasFirst _ _ later.0 (first-onto b (words_from (Quoted q) bs)),
+    )
 
 -- what is given after a step
 abbrev pub given : Act → Place → Words → List ℕ → ℕ → List ℕ → Option Words

@@ -1,9 +1,9 @@
 -- Words that are written one behind the other are cut into these words again.
-use Rattle.std.proofs.Common.{◌≡◌, ℕ, Bool, true, false, not, ◌==◌, ◌||◌, List, [], ◌∷◌, ◌++◌, Option, Some, None, refl, sym, ap, ◌∙◌, inl, inr, append_assoc, append-nil}
+use Rattle.std.proofs.Common.{◌≡◌, ℕ, Bool, true, false, not, ◌==◌, ◌||◌, List, [], ◌∷◌, ◌++◌, Option, Some, refl, sym, ap, ◌∙◌, inl, inr, append_assoc, append-nil}
 use Rattle.std.proofs.lemmas.Bool.{cond-true, cond-false, eq-eqb, eqb-true, and_parts, or_cases, false≢true}
 use Rattle.std.specs.Option.{option_map}
 use Rattle.std.specs.List.{list_all, onto_first}
-use Rattle.line_words.specs.declared.cut.Place.TheVariants.{Between, Word, Escaped, Quoted}
+use Rattle.line_words.specs.declared.cut.Place.TheVariants.{Between, Word, Quoted}
 use Rattle.line_words.specs.Words.{is_blank, is_quote, words_from}
 use Rattle.line_words.specs.Cutting.{joined}
 use Rattle.line_words.specs.Laws.{is_plain, Writes, WritesAll, WordsReadBack}

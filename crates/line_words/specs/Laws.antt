@@ -35,8 +35,8 @@ is_plain b = not (is_blank b || is_quote b || b == 92)
 -- the text writes the word: as it is, where it is plain and not empty, or between two quotes that it lacks
 abbrev pub Writes : List ℕ → List ℕ → Type 0
 Writes text word =
-  ((text ≡ word) × (word ≢ []) × (list_all is_plain word ≡ true))
-  ⊎ ((quote : ℕ) × (is_quote quote ≡ true) × (list_all (λ b. not (b == quote)) word ≡ true) × (text ≡ quote ∷ (word ++ quote ∷ [])))
+    ((text ≡ word) × (word ≢ []) × (list_all is_plain word ≡ true))
+    ⊎ ((quote : ℕ) × (is_quote quote ≡ true) × (list_all (λ b. not (b == quote)) word ≡ true) × (text ≡ quote ∷ (word ++ quote ∷ [])))
 
 -- the line writes the words, with a space between one and the next
 abbrev pub WritesAll : List ℕ → List (List ℕ) → Type 0

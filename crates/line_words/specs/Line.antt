@@ -1,5 +1,5 @@
 -- The lines of commands: the command word, and what follows it.
-use Rattle.std.specs.Prelude.{◌≡◌, ◌≢◌, ◌⊎◌, ◌≤◌, ℕ, Bool, true, false, not, ◌==◌, ◌||◌, List, [], ◌∷◌, length, take, drop, nat_lt, codes, Option, Some, None, Result, Ok, Err, if◌then◌else◌}
+use Rattle.std.specs.Prelude.{◌≡◌, ◌≢◌, ◌⊎◌, ◌≤◌, ℕ, Bool, true, false, ◌==◌, ◌||◌, List, [], ◌∷◌, length, take, drop, nat_lt, codes, Option, Some, None, Result, Ok, Err, if◌then◌else◌}
 use Rattle.std.specs.List.{prefix_len, starts_with, list_any}
 use Rattle.std.specs.Char.{is_ascii_alphabetic}
 use Rattle.line_words.specs.declared.command.Command.{Command}
@@ -25,9 +25,9 @@ is_mark b = list_any (λ c. b == c) (codes "!|#=?")
 -- how many bytes of a text the command word has: the first byte where it is a mark, else z+ or z- where the text begins so, else the letters at the front
 abbrev pub word_length : List ℕ → ℕ
 word_length text =
-  if list_any is_mark (take 1 text) then 1
-  else (if starts_with (◌==◌) text (codes "z+") || starts_with (◌==◌) text (codes "z-") then 2
-  else prefix_len is_ascii_alphabetic text)
+    if list_any is_mark (take 1 text) then 1
+    else (if starts_with (◌==◌) text (codes "z+") || starts_with (◌==◌) text (codes "z-") then 2
+    else prefix_len is_ascii_alphabetic text)
 
 -- the command word of a line, and what follows it
 abbrev pub command_word : List ℕ → List ℕ
@@ -60,8 +60,8 @@ with_words named word (Some words) = Ok (record { command = named; word = word; 
 -- a command with its word, before what follows it
 abbrev pub read_as : Command → List ℕ → List ℕ → Result CommandLine LineError
 read_as named word after =
-  if takes_rest named then Ok (record { command = named; word = word; words = []; rest = after })
-  else with_words named word (words_of after)
+    if takes_rest named then Ok (record { command = named; word = word; words = []; rest = after })
+    else with_words named word (words_of after)
 
 -- the command that the word names, if it names one
 abbrev pub read_named : Option Command → List ℕ → List ℕ → Result CommandLine LineError

@@ -5,12 +5,7 @@ use std::process::Abort;
 use std::test::Fail;
 
 // A spelling's command, what stands before its bracket, its whole name, and the command of one byte less than the least.
-type Spelled = (
-    Command,
-    &'static [u8],
-    &'static [u8],
-    Option<Command>,
-);
+type Spelled = (Command, &'static [u8], &'static [u8], Option<Command>);
 
 #[rattlefmt::skip]
 static SPELLED: [Spelled; 69] = [
@@ -367,7 +362,15 @@ fn refuses_long_lines(rt: HostRuntime) -> Result<(), Fail> {
     let unknown = LineError::Unknown {
         word: Text::copy(alloc, b"frob")?,
     };
-    let said = format!(in alloc; "{unknown}, {}, {}, {}", LineError::OpenQuote, LineError::TooLong, LineError::Memory)?;
-    assert_eq!(rt; said.as_str(), "frob: unknown command, open quote, line too long, out of memory");
+    let said = format!(in alloc;
+        "{unknown}, {}, {}, {}",
+        LineError::OpenQuote,
+        LineError::TooLong,
+        LineError::Memory
+    )?;
+    assert_eq!(rt;
+        said.as_str(),
+        "frob: unknown command, open quote, line too long, out of memory"
+    );
     Ok(())
 }
