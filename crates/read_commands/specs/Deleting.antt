@@ -1,6 +1,6 @@
 -- Commands that delete messages and give them back.
-use Rattle.std.specs.Prelude.{ℕ, Bool, false, not, ◌&&◌, ◌==◌, List, [], ◌∷◌, ◌++◌, Option, codes, unwrap_or, if◌then◌else◌}
-use Rattle.std.specs.List.{list_any, find}
+use Rattle.std.specs.Prelude.{ℕ, Bool, false, not, ◌&&◌, List, [], ◌∷◌, ◌++◌, Option, codes, unwrap_or, if◌then◌else◌}
+use Rattle.std.specs.List.{find}
 use Rattle.std.specs.Option.{option_or}
 use Rattle.std.specs.declared.option.Option.TheVariants.{Some, None}
 use Rattle.mailx_vars.specs.Settings.{is_set}

@@ -1,5 +1,5 @@
 -- What a command changes, and the desk that it leaves.
-use Rattle.std.specs.Prelude.{ℕ, ◌-◌, ◌==◌, true, List, [], map, slice_get, slice_set, Option, None, unwrap_or, if◌then◌else◌}
+use Rattle.std.specs.Prelude.{ℕ, Bool, ◌-◌, ◌==◌, true, List, [], map, slice_get, slice_set, None, unwrap_or, if◌then◌else◌}
 use Rattle.std.specs.List.{fold}
 use Rattle.std.specs.Option.{option_map_or}
 use Rattle.message_state.specs.declared.mark.Act.{Act}
@@ -15,21 +15,27 @@ row_after act row = record row { mark = after row.mark act }
 
 -- the rows once an act was done on the message of one of them
 abbrev pub acted : List Row → Marking → List Row
-acted rows m = option_map_or (λ row. slice_set rows m.row (row_after m.act row)) rows (slice_get rows m.row)
+acted rows m = option_map_or (λ row. slice_set rows m.row (row_after m.act row)) (slice_get rows m.row) rows
 
 -- the rows once each act was done, in order
 abbrev pub rows_after : List Row → List Marking → List Row
 rows_after rows marks = fold acted rows marks
 
+-- the desk with other rows, and their marks
+abbrev pub with_rows : Desk → List Row → Desk
+with_rows desk rows = record desk { folder = record desk.folder { marks = map (λ row. row.mark) rows }; shown = record desk.shown { rows = rows } }
+
+-- the desk with this current message
+abbrev pub with_current : Desk → ℕ → Bool → Desk
+with_current desk current fresh = record desk { shown = record desk.shown { current = current }; fresh = fresh }
+
 -- the desk after a command
 abbrev pub effect : Desk → Effects → Desk
-effect desk effects = record desk {
-  folder = record desk.folder { marks = map (λ row. row.mark) (rows_after desk.shown.rows effects.marks) };
-  shown = record desk.shown { rows = rows_after desk.shown.rows effects.marks; current = effects.current };
-  vars = unwrap_or effects.vars desk.vars;
-  page = effects.page;
-  fresh = effects.fresh;
-}
+effect desk effects =
+    record (with_current (with_rows desk (rows_after desk.shown.rows effects.marks)) effects.current effects.fresh) {
+      vars = unwrap_or effects.vars desk.vars;
+      page = effects.page;
+    }
 
 -- no change
 abbrev pub unchanged : Desk → Effects

@@ -1,6 +1,6 @@
 -- Commands that print messages, or of messages.
-use Rattle.std.specs.Prelude.{ℕ, ◌+◌, Bool, true, false, ◌&&◌, ◌==◌, List, [], ◌∷◌, ◌++◌, length, drop, Option, if◌then◌else◌, codes}
-use Rattle.std.specs.List.{flat_map, join_with_byte, list_any, find}
+use Rattle.std.specs.Prelude.{ℕ, ◌+◌, false, ◌&&◌, List, [], ◌∷◌, ◌++◌, length, Option, if◌then◌else◌, codes}
+use Rattle.std.specs.List.{flat_map, join_with_byte, find}
 use Rattle.std.specs.Fmt.{decimal}
 use Rattle.std.specs.declared.option.Option.TheVariants.{Some, None}
 use Rattle.std.specs.declared.result.Result.TheVariants.{Ok, Err}

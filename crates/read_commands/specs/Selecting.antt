@@ -1,10 +1,9 @@
 -- The messages that the words of a command select.
-use Rattle.std.specs.Prelude.{◌≡◌, ℕ, Bool, true, false, ◌==◌, List, [], ◌∷◌, length, ◌-◌, slice_index, slice_get, Option, unwrap_or}
+use Rattle.std.specs.Prelude.{◌≡◌, ℕ, Bool, false, ◌==◌, List, [], ◌∷◌, length, ◌-◌, slice_index, slice_get, Option, unwrap_or}
 use Rattle.std.specs.List.{filter_map, list_any}
 use Rattle.std.specs.Option.{option_map}
 use Rattle.std.specs.declared.result.Result.TheVariants.{Ok, Err}
 use Rattle.message_state.specs.declared.shown.Shown.{Shown}
-use Rattle.message_list.specs.declared.list.Kind.{Kind}
 use Rattle.message_list.specs.declared.list.Item.{Item}
 use Rattle.message_list.specs.declared.list.ListError.{ListError}
 use Rattle.message_list.specs.declared.list.ListError.TheVariants as error
@@ -12,6 +11,7 @@ use Rattle.message_list.specs.declared.list.Purpose.{Purpose}
 use Rattle.message_list.specs.ListWords.{kind_of, first_bad}
 use Rattle.message_list.specs.Selections.{selection, first_missing}
 use Rattle.read_commands.specs.declared.steps.Refusal.{Refusal}
+use Rattle.read_commands.specs.declared.steps.Refusal.TheVariants.{Memory}
 use Rattle.read_commands.specs.Answers.{OrFault, unless, IsRefusal}
 use Rattle.read_commands.specs.Faults.{bad_arguments, bad_list, no_such, none_applicable}
 
@@ -53,7 +53,7 @@ abbrev pub IsListRefusal : ListError → Refusal → Type 0
 IsListRefusal (error.Syntax word) r = IsRefusal r (bad_list word)
 IsListRefusal (error.NoSuch word) r = IsRefusal r (no_such word)
 IsListRefusal error.NoneMatch r = IsRefusal r none_applicable
-IsListRefusal error.Memory r = Unit {0}
+IsListRefusal error.Memory r = r ≡ Memory
 
 -- the flag of a number, false where there is none
 abbrev pub flag_of : List Bool → ℕ → Bool

@@ -1,5 +1,6 @@
 -- Commands that set and unset variables.
-use Rattle.std.specs.Prelude.{ℕ, Bool, ◌&&◌, nat_lt, nat_eq, ◌==◌, List, [], ◌∷◌, ◌++◌, length, drop, Option, codes, if◌then◌else◌}
+use Rattle.std.specs.Prelude.{◌≡◌, ℕ, Bool, true, false, ◌&&◌, nat_lt, nat_eq, ◌==◌, List, [], ◌∷◌, ◌++◌, length, drop, Option, codes, if◌then◌else◌}
+use Rattle.std.specs.Borrow.{Bor}
 use Rattle.std.specs.List.{flat_map, fold, list_any, starts_with, before_first, after_first}
 use Rattle.std.specs.declared.option.Option.TheVariants.{Some, None}
 use Rattle.std.specs.declared.result.Result.TheVariants.{Ok, Err}
@@ -15,6 +16,11 @@ use Rattle.read_commands.specs.Faults.{bad_arguments, bad_name, too_many_variabl
 
 abbrev pub is_equals : ℕ → Bool
 is_equals b = b == 61
+
+-- the pieces before and after the first `=`, if there is one
+abbrev pub IsSplit : Option (Bor (List ℕ) × Bor (List ℕ)) → List ℕ → Type 0
+IsSplit (Some p) word = (list_any is_equals word ≡ true) × (p.0.now ≡ before_first is_equals word) × (p.1.now ≡ after_first is_equals word)
+IsSplit None word = list_any is_equals word ≡ false
 
 -- a variable as it is listed
 abbrev pub setting_line : List ℕ × List ℕ → List ℕ

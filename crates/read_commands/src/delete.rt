@@ -1,15 +1,19 @@
 // Commands that delete messages and give them back.
-ghost use Rattle.std.specs.Prelude.{◌≡◌, ◌≤◌, ◌<◌, ◌∷◌, ◌++◌, [], All, IfOk, IfSome, length};
+ghost use Rattle.std.specs.Prelude.{◌≡◌, ◌≤◌, ◌<◌, ◌∷◌, ◌++◌, [], false, reverse, Some, All, IfOk, IfSome, length};
 ghost use Rattle.std.specs.List.{find};
 ghost use Rattle.message_state.specs.ShownRows.{IsShown};
 ghost use Rattle.message_state.specs.declared.mark.Act.TheVariants as act;
 ghost use Rattle.message_list.specs.Places.{before_message};
-ghost use Rattle.read_commands.specs.Answers.{Means};
+ghost use Rattle.read_commands.specs.Answers.{Means, next, says, quietly};
+ghost use Rattle.message_list.specs.declared.list.Purpose.TheVariants as purpose;
+ghost use Rattle.message_show.specs.declared.text.How.TheVariants as how;
+ghost use Rattle.read_commands.specs.Printing.{printed};
+ghost use Rattle.read_commands.specs.Selecting.{chosen, last_message};
 ghost use Rattle.read_commands.specs.Desks.{IsDesk, IsMessageOf, IsWithin};
 ghost use Rattle.read_commands.specs.Effects.{unchanged, moved, markings};
 ghost use Rattle.read_commands.specs.Deleting.{is_left, after_deleting, deleted, print_after, delete_and_print, delete, give_back, undelete};
 
-use crate::effects::{Effects, markings, moved, unchanged};
+use crate::effects::{Effects, act_on, markings, moved, unchanged};
 use crate::print::printed;
 use crate::select::{Among, chosen, last_message};
 use crate::steps::{quietly, says};
@@ -19,6 +23,24 @@ use message_list::{Purpose, in_base, next_live, place_of};
 use message_show::How;
 use message_state::{Act, Shown};
 use std::alloc::Global;
+
+// Whether message n is live and isn't among those that are deleted now.
+fn is_left(shown: &Shown, among: &Among<'_>, n: u32) -> bool
+    ensures { result ≡ is_left shown.now among.now n }
+{
+    in_base(shown, Purpose::Live, n) && !among.has(n)
+}
+
+// The last of these messages that is left.
+fn nearest_left(shown: &Shown, among: &Among<'_>, messages: &[u32]) -> Option<u32>
+    ensures { result ≡ find (is_left shown.now among.now) (reverse messages.now) }
+{
+    messages
+        .iter()
+        .rev()
+        .copied()
+        .find(|n| is_left(shown, among, *n))
+}
 
 // The last live message before this one in the view that isn't among those that are deleted now.
 fn last_left(alloc: Global, shown: &Shown, numbers: &[u32], last: u32) -> Result<Option<u32>, Memory>
@@ -30,12 +52,7 @@ fn last_left(alloc: Global, shown: &Shown, numbers: &[u32], last: u32) -> Result
     match place_of(shown, last) {
         Some(p) => {
             let (before, _) = shown.order.items().split_at(p);
-            let left = before
-                .iter()
-                .rev()
-                .copied()
-                .find(|n| in_base(shown, Purpose::Live, *n) && !among.has(*n));
-            Ok(left)
+            Ok(nearest_left(shown, &among, before))
         }
         None => Ok(None),
     }
@@ -78,10 +95,7 @@ fn deleted_and_printed(alloc: Global, desk: &Desk, numbers: &[u32], n: u32) -> R
         marks = markings act.Delete numbers.now ++ markings act.Look (n ∷ []); current = n; fresh = false }) }
 {
     let mut marks = markings(alloc, Act::Delete, numbers)?;
-    let looks = markings(alloc, Act::Look, &[n])?;
-    for look in looks.items() {
-        marks.push(*look)?;
-    }
+    marks.push(act_on(Act::Look, n))?;
     Ok(Effects {
         marks,
         current: n,
@@ -127,7 +141,7 @@ pub(crate) fn delete_and_print(alloc: Global, desk: &Desk, words: &[Text]) -> Re
 // `delete` without `autoprint`.
 fn delete_quietly(alloc: Global, desk: &Desk, words: &[Text]) -> Result<Steps, Refusal>
     requires { IsDesk desk.now }
-    ensures means { Means result (next (chosen Purpose.Live desk.now.shown words.now) (λ ns. quietly (deleted desk.now ns))) }
+    ensures means { Means result (next (chosen purpose.Live desk.now.shown words.now) (λ ns. quietly (deleted desk.now ns))) }
     ensures within { IsWithin desk.now result }
 {
     let numbers = chosen(alloc, words, &desk.shown, Purpose::Live)?;
@@ -153,7 +167,7 @@ fn give_back_and_print(alloc: Global, desk: &Desk, numbers: &[u32]) -> Result<St
     requires desk { IsDesk desk.now }
     requires some { 0 < length numbers.now }
     requires messages { All (IsMessageOf desk.now.shown) numbers.now }
-    ensures means { Means result (says (printed desk.now How.Kept (last_message numbers.now))
+    ensures means { Means result (says (printed desk.now how.Kept (last_message numbers.now))
         (record (unchanged desk.now) { marks = markings act.Undelete numbers.now; current = last_message numbers.now; fresh = false })) }
     ensures within { IsWithin desk.now result }
 {

@@ -2,7 +2,7 @@ ghost use Rattle.std.specs.Prelude.{◌≡◌, ◌<◌, ◌∷◌, [], length, s
 ghost use Rattle.message_state.specs.declared.row.Row.{Row};
 ghost use Rattle.message_state.specs.declared.mark.Mark.{Mark};
 ghost use Rattle.read_commands.specs.Desks.{IsDesk};
-ghost use Rattle.read_commands.specs.Effects.{acted, effect, unchanged, moved, markings};
+ghost use Rattle.read_commands.specs.Effects.{acted, effect, unchanged, moved, marking, markings};
 
 use crate::Desk;
 use mail_text::{Items, Memory};
@@ -53,13 +53,20 @@ impl Desk {
         requires after { IsDesk (effect self.old effects) }
         ensures { self.new ≡ effect self.old effects }
     {
-        for marking in effects.marks.items() {
+        let Effects {
+            marks,
+            current,
+            fresh,
+            page,
+            vars,
+        } = effects;
+        for marking in marks.items() {
             mark_row(&mut self.shown.rows, &mut self.folder.marks, *marking);
         }
-        self.shown.current = effects.current;
-        self.fresh = effects.fresh;
-        self.page = effects.page;
-        if let Some(vars) = effects.vars {
+        self.shown.current = current;
+        self.fresh = fresh;
+        self.page = page;
+        if let Some(vars) = vars {
             self.vars = vars;
         }
     }
@@ -90,14 +97,23 @@ pub(crate) fn moved(alloc: Global, desk: &Desk, n: u32) -> Effects
     }
 }
 
+/// An act on message n, numbered from 1.
+pub(crate) fn act_on(act: Act, n: u32) -> Marking
+    ensures { result ≡ marking act n }
+{
+    Marking {
+        row: (n as usize).saturating_sub(1),
+        act,
+    }
+}
+
 /// An act on each of these messages, which are numbered from 1.
 pub(crate) fn markings(alloc: Global, act: Act, numbers: &[u32]) -> Result<Items<Marking>, Memory>
     ensures { IfOk result (λ marks. marks ≡ markings act numbers.now) }
 {
     let mut marks = Items::new(alloc);
     for number in numbers {
-        let row = (*number as usize).saturating_sub(1);
-        marks.push(Marking { row, act })?;
+        marks.push(act_on(act, *number))?;
     }
     Ok(marks)
 }

@@ -3,10 +3,10 @@
 
 mod delete;
 mod desk;
+mod dispatch;
 mod effects;
 mod faults;
 mod page;
-mod perform;
 mod print;
 mod select;
 mod set;
@@ -15,5 +15,5 @@ mod steps;
 pub use desk::{Desk, Open};
 pub use effects::{Effects, Marking};
 pub use page::{current_page, page_of, page_size};
-pub use perform::{perform, perform_line};
+pub use dispatch::{perform, perform_line};
 pub use steps::{Ask, Refusal, Steps};

@@ -1,5 +1,7 @@
 // Commands that print messages, or of messages.
-ghost use Rattle.std.specs.Prelude.{◌≡◌, ◌≤◌, ◌<◌, ◌++◌, All, IfOk, OnOk, IfSome, length};
+ghost use Rattle.std.specs.Prelude.{◌≡◌, ◌≤◌, ◌<◌, ◌++◌, ◌∷◌, All, IfOk, OnOk, IfSome, length};
+ghost use Rattle.std.specs.List.{flat_map, join_with_byte};
+ghost use Rattle.mail_text.specs.Lines.{with_feed};
 ghost use Rattle.read_commands.specs.Answers.{Means};
 ghost use Rattle.read_commands.specs.Desks.{IsDesk, IsMessageOf, IsWithin, message_text};
 ghost use Rattle.read_commands.specs.Printing.{heading, printed, after_printing, print, number_of_variable, topped, top, from, size_line, size, print_next, following, following_of, print_following, number, echo};
@@ -233,8 +235,7 @@ fn following(desk: &Desk) -> Option<u32>
 fn following_of(alloc: Global, desk: &Desk, numbers: &[u32]) -> Result<Option<u32>, Memory>
     requires desk { IsDesk desk.now }
     requires messages { All (IsMessageOf desk.now.shown) numbers.now }
-    ensures next { IfOk result (λ n. n ≡ following_of desk.now numbers.now) }
-    ensures message { IfOk result (λ n. IfSome n (IsMessageOf desk.now.shown)) }
+    ensures { IfOk result (λ n. n ≡ following_of desk.now numbers.now) }
 {
     let shown = &desk.shown;
     let among = Among::of(alloc, numbers, shown.rows.items().len())?;
@@ -263,6 +264,7 @@ pub(crate) fn print_following(alloc: Global, desk: &Desk, words: &[Text]) -> Res
 
 /// `=`.
 pub(crate) fn number(alloc: Global, desk: &Desk) -> Result<Steps, Refusal>
+    requires { IsDesk desk.now }
     ensures means { Means result (number desk.now) }
     ensures within { IsWithin desk.now result }
 {
@@ -272,23 +274,40 @@ pub(crate) fn number(alloc: Global, desk: &Desk) -> Result<Steps, Refusal>
     says(alloc, out, unchanged(alloc, desk))
 }
 
-// Words joined by one space, as a line.
-fn joined(alloc: Global, words: &[Text]) -> Result<Text, Memory>
-    ensures { IfOk result (λ t. t ≡ with_feed (join_with_byte 32 words.now)) }
+// Puts words, each behind a space.
+fn put_rest(out: &mut Text, words: &[Text]) -> Result<(), Memory>
+    ensures { OnOk result (out.new ≡ out.old ++ flat_map (λ word. 32 ∷ word) words.now) }
 {
-    let mut out = Text::new(alloc);
-    for (k, word) in words.iter().enumerate() {
-        if k > 0 {
-            out.push(b" ")?;
-        }
+    for word in words {
+        out.push(b" ")?;
         out.push(word.bytes())?;
     }
+    Ok(())
+}
+
+// A word and others, joined by one space, as a line.
+fn joined_behind(alloc: Global, first: &Text, rest: &[Text]) -> Result<Text, Memory>
+    ensures { IfOk result (λ t. t ≡ with_feed (join_with_byte 32 (first.now ∷ rest.now))) }
+{
+    let mut out = Text::copy(alloc, first.bytes())?;
+    put_rest(&mut out, rest)?;
     out.push(b"\n")?;
     Ok(out)
 }
 
+// Words joined by one space, as a line.
+fn joined(alloc: Global, words: &[Text]) -> Result<Text, Memory>
+    ensures { IfOk result (λ t. t ≡ with_feed (join_with_byte 32 words.now)) }
+{
+    match words.split_first() {
+        Some((first, rest)) => joined_behind(alloc, first, rest),
+        None => Text::copy(alloc, b"\n"),
+    }
+}
+
 /// `echo`.
 pub(crate) fn echo(alloc: Global, desk: &Desk, words: &[Text]) -> Result<Steps, Refusal>
+    requires { IsDesk desk.now }
     ensures means { Means result (echo desk.now words.now) }
     ensures within { IsWithin desk.now result }
 {

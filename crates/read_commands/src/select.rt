@@ -3,7 +3,7 @@ ghost use Rattle.std.specs.Prelude.{◌≡◌, ◌≤◌, ◌<◌, All, IfOk, le
 ghost use Rattle.message_state.specs.ShownRows.{IsShown};
 ghost use Rattle.read_commands.specs.Answers.{Means};
 ghost use Rattle.read_commands.specs.Desks.{IsMessageOf};
-ghost use Rattle.read_commands.specs.Selecting.{chosen, single, last_message, is_among, IsListRefusal, AreFlags, flag_of};
+ghost use Rattle.read_commands.specs.Selecting.{chosen, single, last_message, is_among, IsListRefusal, AreFlags};
 ghost use Rattle.read_commands.specs.Faults.{bad_arguments};
 
 use crate::Refusal;
@@ -12,6 +12,7 @@ use mail_text::{Items, Memory, Text};
 use message_list::{ListError, Purpose, read_list, select};
 use message_state::Shown;
 use std::alloc::Global;
+use std::marker::Model;
 
 // The line that refuses a list.
 fn list_refusal(alloc: Global, error: ListError) -> Refusal
@@ -65,28 +66,51 @@ pub(crate) fn last_message(numbers: &[u32]) -> u32
     numbers[numbers.len() - 1]
 }
 
-/// Which messages are among some.
+/// Messages, and for each number whether it is one of them. Contracts see them as the list of the messages.
 #[derive(Drop)]
-pub(crate) struct Among {
+pub(crate) struct Among<'a> {
+    numbers: &'a [u32],
     flags: Vec<bool>,
 }
 
-impl Among {
+impl<'a> Model for Among<'a> {
+    ghost use Rattle.std.specs.Prelude.{ℕ, List};
+    ghost use Rattle.read_commands.specs.Selecting.{AreFlags};
+
+    ghost Value = { List ℕ };
+
+    ghost view = { λ a. a.numbers.now };
+
+    ghost invariant = { λ a. AreFlags a.flags.items a.numbers.now };
+}
+
+// A flag for each number up to the count, which says whether it is one of these.
+fn flags_of(alloc: Global, numbers: &[u32], count: usize) -> Result<Vec<bool>, Memory>
+    requires few { count ≤ 1_000_000 }
+    requires within { All (λ n. n ≤ count) numbers.now }
+    ensures { IfOk result (λ flags. AreFlags flags.items numbers.now) }
+{
+    let mut flags = vec![in alloc; false; count + 1]?;
+    for n in numbers {
+        flags[*n as usize] = true;
+    }
+    Ok(flags)
+}
+
+impl<'a> Among<'a> {
     /// The messages of a list, where there are so many messages in all.
-    pub(crate) fn of(alloc: Global, numbers: &[u32], count: usize) -> Result<Among, Memory>
-        requires { All (λ n. n ≤ count) numbers.now }
-        ensures { IfOk result (λ among. AreFlags among.flags.items numbers.now) }
+    pub(crate) fn of(alloc: Global, numbers: &'a [u32], count: usize) -> Result<Among<'a>, Memory>
+        requires few { count ≤ 1_000_000 }
+        requires within { All (λ n. n ≤ count) numbers.now }
+        ensures { IfOk result (λ among. among ≡ numbers.now) }
     {
-        let mut flags = vec![in alloc; false; count + 1]?;
-        for n in numbers {
-            flags[*n as usize] = true;
-        }
-        Ok(Among { flags })
+        let flags = flags_of(alloc, numbers, count)?;
+        Ok(Among { numbers, flags })
     }
 
     /// Whether message n is among them.
     pub(crate) fn has(&self, n: u32) -> bool
-        ensures { result ≡ flag_of self.now.flags.items n }
+        ensures { result ≡ is_among self.now n }
     {
         match self.flags.get(n as usize) {
             Some(flag) => *flag,

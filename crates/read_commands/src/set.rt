@@ -1,9 +1,11 @@
 // Commands that set and unset variables.
-ghost use Rattle.std.specs.Prelude.{◌≡◌, ◌++◌, ◌==◌, IfOk, IfErr, OnOk};
-ghost use Rattle.std.specs.List.{flat_map, list_any, before_first, after_first};
+ghost use Rattle.std.specs.Prelude.{◌≡◌, ◌<◌, ◌++◌, [], Some, Ok, length, slice_index_or, IfOk, IfErr, OnOk};
+ghost use Rattle.read_commands.specs.Effects.{unchanged};
+ghost use Rattle.mailx_vars.specs.Settings.{without};
+ghost use Rattle.std.specs.List.{flat_map, fold};
 ghost use Rattle.read_commands.specs.Answers.{Means, IsRefused};
 ghost use Rattle.read_commands.specs.Desks.{IsDesk, IsWithin};
-ghost use Rattle.read_commands.specs.Setting.{is_equals, setting_line, set_to, unsets, after_word, after_words, set, unset};
+ghost use Rattle.read_commands.specs.Setting.{setting_line, IsSplit, set_to, unsets, after_word, after_words, set, unset};
 
 use crate::effects::{Effects, unchanged};
 use crate::faults::fault;
@@ -11,7 +13,6 @@ use crate::steps::{quietly, says};
 use crate::{Desk, Refusal, Steps};
 use mail_text::{Memory, Text};
 use mailx_vars::{VarError, Vars};
-use memchr::memchr;
 use std::alloc::Global;
 
 // Puts a variable as it is listed.
@@ -37,22 +38,41 @@ fn set_to(alloc: Global, vars: &mut Vars, name: &[u8], value: &[u8]) -> Result<(
     }
 }
 
+// What stands before the first `=` and after it, if there is one.
+fn equals_in(word: &[u8]) -> Option<(&[u8], &[u8])>
+    ensures { IsSplit result word.now }
+{
+    for (k, b) in word.iter().enumerate() {
+        if *b == b'=' {
+            let (name, _) = word.split_at(k);
+            let (_, value) = word.split_at(k + 1);
+            return Some((name, value));
+        }
+    }
+    None
+}
+
+// Whether the word is `no` and a name.
+fn unsets(word: &[u8]) -> bool
+    ensures { result ≡ unsets word.now }
+{
+    word.starts_with(b"no") && word.len() > 2
+}
+
 // Carries out a word of `set`: `name=value`, `noname` or `name`.
 fn set_word(alloc: Global, vars: &mut Vars, word: &[u8]) -> Result<(), Refusal>
     ensures ok { OnOk result (after_word vars.old word.now ≡ Ok vars.new) }
     ensures err { IfErr result (λ refusal. IsRefused refusal (after_word vars.old word.now)) }
 {
-    if let Some(k) = memchr(b'=', word) {
-        let (name, rest) = word.split_at(k);
-        let (_, value) = rest.split_at(1);
-        return set_to(alloc, vars, name, value);
+    match equals_in(word) {
+        Some((name, value)) => set_to(alloc, vars, name, value),
+        None if unsets(word) => {
+            let (_, name) = word.split_at(2);
+            vars.unset(name);
+            Ok(())
+        }
+        None => set_to(alloc, vars, word, b""),
     }
-    if word.len() > 2 && word.starts_with(b"no") {
-        let (_, name) = word.split_at(2);
-        vars.unset(name);
-        return Ok(());
-    }
-    set_to(alloc, vars, word, b"")
 }
 
 // The variables after all words of `set`.
@@ -66,15 +86,24 @@ fn after_words(alloc: Global, vars: &Vars, words: &[Text]) -> Result<Vars, Refus
     Ok(vars)
 }
 
+// Puts the variable at a place.
+fn put_variable(out: &mut Text, vars: &Vars, k: usize) -> Result<(), Memory>
+    requires { k < length vars.now }
+    ensures { OnOk result (out.new ≡ out.old ++ setting_line (slice_index_or vars.now k ([], []))) }
+{
+    match (vars.name(k), vars.value(k)) {
+        (Some(name), Some(value)) => put_setting(out, name, value),
+        _ => Ok(()),
+    }
+}
+
 // All variables, one a line.
 fn listing(alloc: Global, vars: &Vars) -> Result<Text, Memory>
     ensures { IfOk result (λ t. t ≡ flat_map setting_line vars.now) }
 {
     let mut out = Text::new(alloc);
     for k in 0..vars.count() {
-        if let (Some(name), Some(value)) = (vars.name(k), vars.value(k)) {
-            put_setting(&mut out, name, value)?;
-        }
+        put_variable(&mut out, vars, k)?;
     }
     Ok(out)
 }
@@ -91,6 +120,7 @@ fn with_vars(alloc: Global, desk: &Desk, vars: Vars) -> Effects
 
 /// `set`.
 pub(crate) fn set(alloc: Global, desk: &Desk, words: &[Text]) -> Result<Steps, Refusal>
+    requires { IsDesk desk.now }
     ensures means { Means result (set desk.now words.now) }
     ensures within { IsWithin desk.now result }
 {
@@ -115,6 +145,7 @@ fn unset_all(vars: &Vars, names: &[Text]) -> Result<Vars, Memory>
 
 /// `unset`.
 pub(crate) fn unset(alloc: Global, desk: &Desk, words: &[Text]) -> Result<Steps, Refusal>
+    requires { IsDesk desk.now }
     ensures means { Means result (unset desk.now words.now) }
     ensures within { IsWithin desk.now result }
 {

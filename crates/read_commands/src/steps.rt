@@ -1,4 +1,4 @@
-ghost use Rattle.std.specs.Prelude.{◌≡◌, IfOk};
+ghost use Rattle.std.specs.Prelude.{◌≡◌, IfOk, Ok};
 ghost use Rattle.read_commands.specs.Answers.{Means, says, quietly};
 
 use crate::Effects;
@@ -69,7 +69,7 @@ pub(crate) fn says(alloc: Global, bytes: Text, effects: Effects) -> Result<Steps
 
 /// This is changed, and nothing is said.
 pub(crate) fn quietly(alloc: Global, effects: Effects) -> Steps
-    ensures asks { quietly effects ≡ result }
+    ensures { quietly effects ≡ Ok result }
 {
     Steps {
         asks: Items::new(alloc),

@@ -50,6 +50,7 @@ fn names(alloc: Global) -> Result<Text, Memory>
 }
 
 fn help(alloc: Global, desk: &Desk) -> Result<Steps, Refusal>
+    requires { IsDesk desk.now }
     ensures means { Means result (help desk.now) }
     ensures within { IsWithin desk.now result }
 {
@@ -58,6 +59,7 @@ fn help(alloc: Global, desk: &Desk) -> Result<Steps, Refusal>
 }
 
 fn exit(alloc: Global, desk: &Desk) -> Result<Steps, Refusal>
+    requires { IsDesk desk.now }
     ensures means { Means result (exit desk.now) }
     ensures within { IsWithin desk.now result }
 {
@@ -123,6 +125,15 @@ pub fn perform(alloc: Global, line: &CommandLine, desk: &Desk) -> Result<Steps, 
     requires { IsDesk desk.now }
     ensures means { Means result (meaning line.now desk.now) }
     ensures desk { IfOk result (λ steps. IsDesk (effect desk.now steps.effects)) }
+{
+    carry_out(alloc, line, desk)
+}
+
+// The same; that the message which is current then is one is all that is said of the desk.
+fn carry_out(alloc: Global, line: &CommandLine, desk: &Desk) -> Result<Steps, Refusal>
+    requires { IsDesk desk.now }
+    ensures means { Means result (meaning line.now desk.now) }
+    ensures within { IsWithin desk.now result }
 {
     let words = line.words.items();
     match line.command {

@@ -1,0 +1,6 @@
+pub mod MeansLemmas
+pub mod ListLemmas
+pub mod FlagLemmas
+pub mod DeskLemmas
+pub mod EffectLemmas
+pub mod ChosenLemmas
