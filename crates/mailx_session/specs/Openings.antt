@@ -11,6 +11,7 @@ use Rattle.mailx_vars.specs.Settings.{defaults, is_set}
 use Rattle.message_state.specs.declared.mark.State.{State}
 use Rattle.message_state.specs.declared.mark.State.TheVariants.{New, Unread}
 use Rattle.message_state.specs.declared.row.Row.{Row}
+use Rattle.message_state.specs.declared.shown.Shown.{Shown}
 use Rattle.message_state.specs.States.{place}
 use Rattle.session_play.specs.Knowing.{AreRows}
 use Rattle.read_commands.specs.declared.desk.Desk.{Desk}
@@ -59,11 +60,15 @@ IsKnownSize (Err line) known = known ≡ None
 abbrev pub with_page : Desk → Desk
 with_page desk = record desk { page = page_at desk (page_size desk) }
 
+-- the messages of these rows in order of number
+abbrev pub plain : List Row → Shown
+plain rows = record { rows = rows; order = range_with_len 1 (length rows); depth = replicate (length rows) 0; current = first_current rows }
+
 -- a folder of these bytes is opened, with the rows of its texts, in order of number
 abbrev pub opened : Desk → List ℕ → List ℕ → List Row → Desk
 opened desk name bytes rows = with_page (record desk {
   folder = record { name = name; system = false; folder = bytes; marks = map (λ row. row.mark) rows };
-  shown = record { rows = rows; order = range_with_len 1 (length rows); depth = replicate (length rows) 0; current = first_current rows };
+  shown = plain rows;
   fresh = true;
 })
 

@@ -1,5 +1,5 @@
 // What is said of a folder at the start.
-ghost use Rattle.std.specs.Prelude.{◌≡◌, IfOk};
+ghost use Rattle.std.specs.Prelude.{◌≡◌, ◌++◌, IfOk, OnOk};
 ghost use Rattle.std.specs.List.{count_by};
 ghost use Rattle.read_commands.specs.Desks.{IsDesk};
 ghost use Rattle.read_commands.specs.Paging.{current_page};

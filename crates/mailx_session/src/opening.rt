@@ -1,11 +1,12 @@
 // The rows and the view of a folder that is opened.
-ghost use Rattle.std.specs.Prelude.{◌≡◌, ◌≤◌, length, All, IfOk, IfSome, replicate};
-ghost use Rattle.std.specs.List.{range_with_len};
+ghost use Rattle.std.specs.Prelude.{◌≡◌, ◌≤◌, length, map, All, IfOk, IfSome, replicate};
+ghost use Rattle.std.specs.List.{range_with_len, position};
+ghost use Rattle.read_commands.specs.Paging.{page_size};
 ghost use Rattle.mail_dates.specs.Clock.{IsInYears};
 ghost use Rattle.mbox_scan.specs.Mailbox.{texts_of};
 ghost use Rattle.session_play.specs.Knowing.{AreRows};
 ghost use Rattle.message_state.specs.declared.row.Row.{Row};
-ghost use Rattle.mailx_session.specs.Openings.{is_in, first_current};
+ghost use Rattle.mailx_session.specs.Openings.{is_in, first_current, desk_with, IsKnownSize, plain};
 
 use mail_text::{Items, Memory, Text};
 use mbox_scan::Folder;
@@ -127,7 +128,7 @@ pub(crate) fn first_current(rows: &[Row]) -> u32
 /// The messages in order of number.
 pub(crate) fn plain_view(alloc: Global, rows: Items<Row>) -> Result<Shown, Memory>
     requires { length rows ≤ 1_000_000 }
-    ensures { IfOk result (λ shown. shown ≡ record { rows = rows; order = range_with_len 1 (length rows); depth = replicate (length rows) 0; current = first_current rows }) }
+    ensures shown { IfOk result (λ shown. shown ≡ plain rows) }
 {
     let count = rows.items().len() as u32;
     let current = first_current(rows.items());

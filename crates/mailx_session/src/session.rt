@@ -1,9 +1,10 @@
 // A session and its lines.
-ghost use Rattle.std.specs.Prelude.{◌≡◌, true, IfOk, OnOk, OnErr};
+ghost use Rattle.std.specs.Prelude.{◌≡◌, true, Ok, IfOk, OnOk, OnErr};
 ghost use Rattle.host_port.specs.Ran.{Ran};
 ghost use Rattle.session_play.specs.Play.{Play, Ask, Ret, Say, Goes, Caused};
 ghost use Rattle.mailx_vars.specs.Environment.{knows_user};
 ghost use Rattle.read_commands.specs.Desks.{IsDesk};
+ghost use Rattle.read_commands.specs.Effects.{effect};
 ghost use Rattle.mailx_session.specs.Sessions.{asked_for, carried_out, line_play, next_desk};
 ghost use Rattle.mailx_session.specs.Openings.{first_desk, greeting, Opens};
 
