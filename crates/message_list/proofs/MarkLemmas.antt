@@ -11,7 +11,7 @@ use Rattle.message_list.specs.declared.list.Purpose.{Purpose}
 use Rattle.message_list.specs.declared.span.Span.{Span}
 use Rattle.message_list.specs.Places.{in_base}
 use Rattle.message_list.specs.Naming.{names}
-use Rattle.message_list.specs.Selections.{is_named, finds}
+use Rattle.message_list.specs.Selections.{finds}
 use Rattle.message_list.specs.Marking.{kind_reaches, is_hit, selects, is_selected, is_within, IsSpanOf}
 use Rattle.message_list.proofs.ListFacts.{any_found, list_any-filter}
 use Rattle.message_list.proofs.NamingLemmas.{names_by_parts}
@@ -77,10 +77,10 @@ module _ (shown : Shown) (purpose : Purpose) (item : Item) (span : Span) (of : I
       let within : span.to ≤ length shown.order = of.within in
       any_found (selects shown purpose item) shown.order 0 found
       (λ any. let h = some any in
-        let low : span.from ≤ h.0 = h.1 in
-        let high : h.0 < place = h.2 in
-        let lt : h.0 < length shown.order = omega arith in
-        (h.0, lt, selects_here h.0 lt ∙ and_from _ _ (and_from _ _ (le-leb span.from h.0 low) (lt-ltb h.0 span.to (omega arith))) h.3))
+      let low : span.from ≤ h.0 = h.1 in
+      let high : h.0 < place = h.2 in
+      let lt : h.0 < length shown.order = omega arith in
+      (h.0, lt, selects_here h.0 lt ∙ and_from _ _ (and_from _ _ (le-leb span.from h.0 low) (lt-ltb h.0 span.to (omega arith))) h.3))
       (λ nothing p lt. selects_here p lt ∙ elim (cases_Bool (is_within span p)) [
         | inl inside ↦ let parts = and_parts (nat_le span.from p) (nat_lt p span.to) inside in
             let below : p < span.to = ltb-true p span.to parts.1 in

@@ -1,5 +1,5 @@
 -- A word names a message where it reaches it and the row fits.
-use Rattle.std.proofs.Common.{◌≡◌, ℕ, Bool, true, false, ◌&&◌, ◌||◌, ◌==◌, List, Option, Some, None, refl, sym, ap, ◌∙◌}
+use Rattle.std.proofs.Common.{◌≡◌, ℕ, Bool, true, false, ◌&&◌, List, Option, Some, None, refl, ap}
 use Rattle.std.specs.Option.{option_map_or}
 use Rattle.message_state.specs.declared.row.Row.{Row}
 use Rattle.message_state.specs.declared.shown.Shown.{Shown}
@@ -8,25 +8,25 @@ use Rattle.message_list.specs.declared.list.Kind.TheVariants.{Number, Range, Nex
 use Rattle.message_list.specs.declared.list.Purpose.{Purpose}
 use Rattle.message_list.specs.Places.{row_at, is_for, in_base}
 use Rattle.message_list.specs.Naming.{kind_names}
-use Rattle.message_list.specs.Marking.{kind_fits, kind_reaches, kind_hit}
+use Rattle.message_list.specs.Marking.{kind_reaches, kind_hit}
 
 both_rows : (f g : Row → Bool) (o : Option Row) → (option_map_or f o false && option_map_or g o false) ≡ option_map_or (λ row. g row && f row) o false
 both_rows f g None = refl
 both_rows f g (Some row) = and_flips (f row) (g row)
   where
-  and_flips : (a b : Bool) → (a && b) ≡ (b && a)
-  and_flips true true = refl
-  and_flips true false = refl
-  and_flips false true = refl
-  and_flips false false = refl
+    and_flips : (a b : Bool) → (a && b) ≡ (b && a)
+    and_flips true true = refl
+    and_flips true false = refl
+    and_flips false true = refl
+    and_flips false false = refl
 
 any_row : (g : Row → Bool) (o : Option Row) → option_map_or g o false ≡ option_map_or (λ row. g row && true) o false
 any_row g None = refl
 any_row g (Some row) = and_all (g row)
   where
-  and_all : (b : Bool) → b ≡ (b && true)
-  and_all true = refl
-  and_all false = refl
+    and_all : (b : Bool) → b ≡ (b && true)
+    and_all true = refl
+    and_all false = refl
 
 pub names_by_parts : (kind : Kind) (word : List ℕ) (shown : Shown) (purpose : Purpose) (n : ℕ)
     → (kind_names kind word shown purpose n && in_base shown purpose n) ≡ (kind_reaches shown purpose kind n && kind_hit shown purpose kind word n)

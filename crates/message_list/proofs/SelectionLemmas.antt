@@ -1,9 +1,9 @@
 -- What a list selects: of one message, of words that each find something, and in the base set.
-use Rattle.std.proofs.Common.{◌≡◌, ◌≢◌, ℕ, ◌<◌, ◌≤◌, Bool, true, false, not, ◌==◌, ◌&&◌, ◌||◌, List, [], ◌∷◌, filter, length, get_or, Option, Some, None, refl, sym, ap, ◌∙◌, arith, inl, inr, subst, Vec, Global, Result, Ok, Err}
-use Rattle.std.specs.List.{list_any, find, All}
+use Rattle.std.proofs.Common.{◌≡◌, ℕ, ◌<◌, ◌≤◌, Bool, true, false, not, ◌==◌, ◌&&◌, List, [], ◌∷◌, filter, length, get_or, Option, Some, None, refl, sym, ap, ◌∙◌, arith, inl, inr, subst, Vec, Global, Result, Ok, Err}
+use Rattle.std.specs.List.{find, All}
 use Rattle.std.specs.Result.{IfOk}
 use Rattle.std.specs.Option.{option_map, option_or, option_to_list}
-use Rattle.std.proofs.lemmas.Bool.{cases_Bool, cases_eq, and_from, and_left, and_right, eq-eqb, ne_eqb, cond-true, cond-false, false≢true}
+use Rattle.std.proofs.lemmas.Bool.{cases_Bool, cases_eq, and_from, and_left, and_right, eq-eqb, ne_eqb, cond-true, cond-false}
 use Rattle.std.proofs.lemmas.List.Folds.{list_any_at, list_any_none}
 use Rattle.std.proofs.lemmas.List.Elements.{All-same, All-weaker, All-nil, All-cons, All-filter, All-from_get_or, filter_passes}
 use Rattle.message_state.specs.declared.shown.Shown.{Shown}
@@ -13,7 +13,7 @@ use Rattle.message_list.specs.declared.list.ListError.{ListError}
 use Rattle.message_list.specs.declared.list.ListError.TheVariants.{Syntax, NoSuch, NoneMatch, Memory}
 use Rattle.message_list.specs.declared.list.Purpose.{Purpose}
 use Rattle.message_list.specs.declared.list.Purpose.TheVariants.{Live, Dead, Any}
-use Rattle.message_list.specs.Places.{in_base, place_of, back_from, first_of}
+use Rattle.message_list.specs.Places.{in_base, back_from}
 use Rattle.message_list.specs.Naming.{names}
 use Rattle.message_list.specs.Selections.{base_of, current_of, default_message, is_named, selection, finds, first_missing, IsMissing, IsNoSuch}
 use Rattle.message_list.specs.Marking.{selects}
@@ -35,8 +35,8 @@ module _ (shown : Shown) (valid : IsShown shown) (purpose : Purpose) (item : Ite
       sym (filter-filter (is_named shown purpose (item ∷ [])) (in_base shown purpose) shown.order)
       ∙ filter_only test shown.order at.0 0 at.1 (ap test at.2 ∙ and_from _ _ (named_one k ∙ eq-eqb k k refl) within)
       (λ q lt other. and_left _ _ (named_one (get_or shown.order q 0) ∙ ne_eqb _ _ (λ same.
-        let one : Some q ≡ Some at.0 = sym (place_at shown valid q k lt same) ∙ place_at shown valid at.0 k at.1 at.2 in
-        let e : q ≡ at.0 = cc in other e)))
+      let one : Some q ≡ Some at.0 = sym (place_at shown valid q k lt same) ∙ place_at shown valid at.0 k at.1 at.2 in
+      let e : q ≡ at.0 = cc in other e)))
       ∙ ap (λ n. n ∷ []) at.2
 
   pub finds_one : in_base shown purpose k ≡ true → finds shown purpose item ≡ true
@@ -49,10 +49,10 @@ module _ (shown : Shown) (valid : IsShown shown) (purpose : Purpose) (item : Ite
   misses_one out =
       sym (list_any-filter (names shown purpose item) (in_base shown purpose) shown.order)
       ∙ list_any_none (selects shown purpose item) shown.order (All-from_get_or (λ n. selects shown purpose item n ≡ false) shown.order 0
-        (λ q lt. elim (cases_eq (get_or shown.order q 0) k) [
-          | inl e ↦ and_right _ _ (ap (in_base shown purpose) e ∙ out)
-          | inr ne ↦ and_left _ _ (alone (get_or shown.order q 0) ∙ ne_eqb _ _ ne)
-        ]))
+      (λ q lt. elim (cases_eq (get_or shown.order q 0) k) [
+        | inl e ↦ and_right _ _ (ap (in_base shown purpose) e ∙ out)
+        | inr ne ↦ and_left _ _ (alone (get_or shown.order q 0) ∙ ne_eqb _ _ ne)
+      ]))
 
 module _ (shown : Shown) (purpose : Purpose) where
   -- each word finds something
@@ -76,7 +76,7 @@ module _ (shown : Shown) (purpose : Purpose) where
       elim (cases_Bool (finds shown purpose item)) [
         | inl found ↦ filter_some (is_named shown purpose (item ∷ items)) (base_of shown purpose) (any_left (names shown purpose item) (is_named shown purpose items) (base_of shown purpose) found)
         | inr none ↦ let bad : Some item.word ≡ None =
-              sym (ap (option_map (λ x. x.word)) (cond-true (not (finds shown purpose item)) (Some item) (find (λ x. not (finds shown purpose x)) items) (ap not none))) ∙ met in absurd (cc)
+            sym (ap (option_map (λ x. x.word)) (cond-true (not (finds shown purpose item)) (Some item) (find (λ x. not (finds shown purpose x)) items) (ap not none))) ∙ met in absurd (cc)
       ]
 
   -- the default message is in the base set

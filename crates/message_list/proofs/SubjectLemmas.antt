@@ -1,6 +1,6 @@
 -- What a search for a string tells of a text.
-use Rattle.std.proofs.Common.{◌≡◌, ℕ, ◌+◌, ◌<◌, ◌≤◌, Bool, true, false, List, length, get_or, Option, Some, None, is_some, sym, ap, ◌∙◌, arith, subst}
-use Rattle.std.specs.List.{list_any, range_with_len, All}
+use Rattle.std.proofs.Common.{◌≡◌, ℕ, ◌+◌, ◌<◌, ◌≤◌, true, false, List, length, get_or, Option, Some, None, is_some, sym, ap, ◌∙◌, arith}
+use Rattle.std.specs.List.{range_with_len}
 use Rattle.std.proofs.lemmas.Bool.{false_from_ne_true}
 use Rattle.std.proofs.lemmas.List.Folds.{list_any_at, list_any_none}
 use Rattle.std.proofs.lemmas.List.FromFn.{length-range_with_len, get_or-range_with_len}
@@ -22,9 +22,9 @@ unfolding holds
 holds-none string text nowhere =
     list_any_none (occurs_at text string) (range_with_len 0 (length text + 1))
     (λ i d lt.
-      let within : i < length text + 1 = omega (arith, length-range_with_len 0 (length text + 1)) in
-      let at : get_or (range_with_len 0 (length text + 1)) i d ≡ i = get_or-range_with_len 0 (length text + 1) i d within ∙ omega arith in
-      ap (occurs_at text string) at ∙ false_from_ne_true _ (λ here. nowhere i within (OccursAt-true text string i here)))
+    let within : i < length text + 1 = omega (arith, length-range_with_len 0 (length text + 1)) in
+    let at : get_or (range_with_len 0 (length text + 1)) i d ≡ i = get_or-range_with_len 0 (length text + 1) i d within ∙ omega arith in
+    ap (occurs_at text string) at ∙ false_from_ne_true _ (λ here. nowhere i within (OccursAt-true text string i here)))
 
 -- the answer of a search
 pub holds-found : (string text : List ℕ) (r : Option ℕ) → FindsNeedle text string 0 r → is_some r ≡ holds string text

@@ -1,11 +1,12 @@
 -- The places of messages in a view.
-use Rattle.std.proofs.Common.{◌≡◌, ◌≢◌, ℕ, ◌+◌, ◌-◌, ◌<◌, ◌≤◌, Bool, true, false, ◌==◌, List, length, get_or, Option, Some, None, sym, ap, ◌∙◌, arith, inl, inr}
+use Rattle.std.proofs.Common.{◌≡◌, ◌≢◌, ℕ, ◌-◌, ◌<◌, ◌≤◌, true, false, ◌==◌, length, get_or, Option, Some, None, refl, sym, ap, ◌∙◌, arith, inl, inr}
 use Rattle.std.specs.Option.{option_map_or}
-use Rattle.std.specs.List.{range_with_len, slice_get}
-use Rattle.std.proofs.lemmas.Bool.{eq-eqb, ne_eqb, cases_eq, cases_lt, cond-true, cond-false, false≢true}
+use Rattle.std.specs.List.{range_with_len, slice_get, All}
+use Rattle.std.proofs.lemmas.Bool.{eq-eqb, ne_eqb, cases_eq, cond-true, cond-false, false≢true}
 use Rattle.std.proofs.lemmas.Option.{slice_get_cases}
 use Rattle.std.proofs.lemmas.Grind.{get_or_default_zero}
-use Rattle.std.proofs.lemmas.List.Sorted.{length_permutation, Contains-permutation}
+use Rattle.std.proofs.lemmas.List.Sorted.{length_permutation, Contains-permutation, All-permutation}
+use Rattle.std.proofs.lemmas.List.Elements.{All-from_get_or, All-get_or}
 use Rattle.std.proofs.lemmas.List.FromFn.{length-range_with_len, get_or-range_with_len}
 use Rattle.message_state.specs.declared.row.Row.{Row}
 use Rattle.message_list.specs.declared.list.Purpose.{Purpose}
@@ -48,3 +49,18 @@ stands shown valid n low high =
     let here : get_or (range_with_len 1 (length shown.rows)) (n - 1) n ≡ n = get_or-range_with_len 1 (length shown.rows) (n - 1) n (omega arith) ∙ omega arith in
     let found = Contains-permutation (range_with_len 1 (length shown.rows)) shown.order n valid.order (n - 1, within, here) in
     (found.0, found.1, sym (get_or_default_zero shown.order found.0 n found.1) ∙ found.2)
+
+-- what stands in the view is a message
+pub message_at : (shown : Shown) → IsShown shown → (p : ℕ) → p < length shown.order → (1 ≤ get_or shown.order p 0) × (get_or shown.order p 0 ≤ length shown.rows)
+message_at shown valid p lt =
+    let is = λ (n : ℕ). (1 ≤ n) × (n ≤ length shown.rows) in
+    let count = length-range_with_len 1 (length shown.rows) in
+    let range : All is (range_with_len 1 (length shown.rows)) = All-from_get_or is (range_with_len 1 (length shown.rows)) 0
+    (λ i high. let at = get_or-range_with_len 1 (length shown.rows) i 0 (omega arith) in (omega arith, omega arith)) in
+    All-get_or is shown.order p 0 lt (All-permutation is (range_with_len 1 (length shown.rows)) shown.order valid.order range)
+
+-- two messages of the view at different places
+pub apart_messages : (shown : Shown) → IsShown shown → (p q : ℕ) → p < length shown.order → q < length shown.order → q ≢ p → get_or shown.order q 0 ≢ get_or shown.order p 0
+apart_messages shown valid p q high lt other same =
+    let one : Some q ≡ Some p = sym (place_at shown valid q (get_or shown.order p 0) lt same) ∙ place_at shown valid p (get_or shown.order p 0) high refl in
+    let e : q ≡ p = cc in other e

@@ -1,5 +1,5 @@
 -- How the walk over a view finds what a word names: by the places where a message can stand, and by its row.
-use Rattle.std.specs.Prelude.{◌≡◌, ℕ, ◌<◌, ◌≤◌, Bool, true, false, ◌&&◌, ◌||◌, nat_le, nat_lt, List, [], length, drop, slice_index, slice_index_or, Option}
+use Rattle.std.specs.Prelude.{◌≡◌, ℕ, ◌-◌, ◌<◌, ◌≤◌, Bool, true, false, ◌&&◌, ◌||◌, nat_le, nat_lt, List, [], length, drop, slice_index, slice_index_or}
 use Rattle.message_state.specs.declared.row.Row.{Row}
 use Rattle.message_state.specs.declared.shown.Shown.{Shown}
 use Rattle.message_list.specs.declared.list.Kind.{Kind}
@@ -45,12 +45,18 @@ is_selected shown purpose items n = is_named shown purpose items n && in_base sh
 abbrev pub is_within : Span → ℕ → Bool
 is_within span p = nat_le span.from p && nat_lt p span.to
 
+-- the place of message n is that at n - 1
+pub record ArePlaces (shown : Shown) (places : List ℕ) : Type 0 where
+  pub long : length places ≡ length shown.order
+  pub at : (p : ℕ) → p < length shown.order → slice_index places (slice_index shown.order p - 1) ≡ p
+
 -- the messages that words name by their place
 pub record AreLandmarks (shown : Shown) (marks : Landmarks) : Type 0 where
   pub first : marks.first ≡ first_of shown marks.purpose
   pub last : marks.last ≡ last_of shown marks.purpose
   pub next : marks.next ≡ next_of shown marks.purpose shown.current
   pub previous : marks.previous ≡ previous_of shown marks.purpose shown.current
+  pub places : ArePlaces shown marks.places.items
 
 -- at the places of the view the test holds just in the span
 pub record IsSpanOf (shown : Shown) (test : ℕ → Bool) (span : Span) : Type 0 where

@@ -7,7 +7,6 @@ use Rattle.std.specs.Str.{str_to_ascii_lowercase}
 use Rattle.mail_text.specs.Ascii.{same_ascii}
 use Rattle.message_state.specs.declared.mark.State.{State}
 use Rattle.message_state.specs.declared.mark.State.TheVariants.{New, Unread, Read, Deleted}
-use Rattle.message_state.specs.declared.row.Row.{Row}
 use Rattle.message_state.specs.declared.shown.Shown.{Shown}
 use Rattle.message_state.specs.States.{place}
 use Rattle.message_list.specs.declared.list.End.{End}

@@ -1,5 +1,6 @@
 ghost use Rattle.std.specs.Prelude.{◌≡◌, ◌≤◌, ◌+◌, ◌==◌, ◌∷◌, ◌++◌, [], ℕ, List, length, IfSome, false};
 ghost use Rattle.std.specs.List.{list_any};
+ghost use Rattle.mail_addresses.specs.Lexical.{IsQuotedContent};
 ghost use Rattle.message_list.specs.LocalParts.{closing_quote, before_at, local_part};
 ghost use Rattle.message_list.specs.Naming.{is_author};
 
@@ -8,6 +9,17 @@ use mail_text::same_ascii;
 /// The local part of an author's bare address: the quoted string that it begins with, where that is closed, else the bytes
 /// before the first `@`, or all where there is none (RFC 5322, section 3.4.1). It takes no memory.
 pub fn author_local_part(author: &[u8]) -> &[u8]
+    ensures value { result.now ≡ local_part author.now }
+    ensures quoted { (inside after : List ℕ) → IsQuotedContent inside → author.now ≡ 34 ∷ (inside ++ 34 ∷ after)
+        → result.now ≡ 34 ∷ (inside ++ 34 ∷ []) }
+    ensures other { ((inside after : List ℕ) → IsQuotedContent inside → author.now ≡ 34 ∷ (inside ++ 34 ∷ after) → ⊥)
+        → result.now ≡ before_at author.now }
+{
+    local_part(author)
+}
+
+// The same by its definition.
+fn local_part(author: &[u8]) -> &[u8]
     ensures { result.now ≡ local_part author.now }
 {
     match author {

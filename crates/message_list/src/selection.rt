@@ -185,7 +185,7 @@ fn select_named(
     ensures err { IfErr result (IsMissing shown.now purpose items.now) }
 {
     let order = shown.order.items();
-    let landmarks = landmarks_of(shown, purpose);
+    let landmarks = landmarks_of(alloc, shown, purpose)?;
     let mut marks = unmarked(alloc, order.len())?;
     for item in items {
         let found = mark(alloc, item, shown, &landmarks, &mut marks)?;

@@ -1,12 +1,14 @@
-ghost use Rattle.std.specs.Prelude.{◌≡◌, ◌<◌, ◌≤◌, length, IfSome};
+ghost use Rattle.std.specs.Prelude.{◌≡◌, ◌<◌, ◌≤◌, length, IfOk, IfSome};
 ghost use Rattle.message_state.specs.ShownRows.{IsShown};
 ghost use Rattle.message_list.specs.Naming.{is_message, end_message, end_place, is_between};
 ghost use Rattle.message_list.specs.Places.{place_of};
-ghost use Rattle.message_list.specs.Marking.{kind_reaches, AreLandmarks, IsSpanOf};
+ghost use Rattle.message_list.specs.Marking.{kind_reaches, AreLandmarks, ArePlaces, IsSpanOf};
 
 use crate::list::{End, Kind, Purpose};
-use crate::view::{find_place, first_of, last_of, next_of, previous_of};
+use crate::view::{first_of, last_of, next_of, previous_of};
+use mail_text::Memory;
 use message_state::Shown;
+use std::alloc::Global;
 
 // Places of a view, from one up to another.
 #[derive(Clone, Copy)]
@@ -15,29 +17,63 @@ pub(crate) struct Span {
     pub(crate) to: usize,
 }
 
-// The messages that words name by their place in the view.
-#[derive(Clone, Copy)]
+// The messages that words name by their place in the view, and the place of each message.
+#[derive(Drop)]
 pub(crate) struct Landmarks {
     pub(crate) purpose: Purpose,
     pub(crate) first: Option<u32>,
     pub(crate) last: Option<u32>,
     pub(crate) next: Option<u32>,
     pub(crate) previous: Option<u32>,
+    // The place of message `n` stands at place `n - 1`.
+    pub(crate) places: Vec<usize>,
 }
 
 // The landmarks of a view.
-pub(crate) fn landmarks_of(shown: &Shown, purpose: Purpose) -> Landmarks
+pub(crate) fn landmarks_of(
+    alloc: Global,
+    shown: &Shown,
+    purpose: Purpose,
+) -> Result<Landmarks, Memory>
     requires { IsShown shown.now }
-    ensures marks { AreLandmarks shown.now result }
-    ensures purpose { result.purpose ≡ purpose }
+    ensures marks { IfOk result (AreLandmarks shown.now) }
+    ensures purpose { IfOk result (λ marks. marks.purpose ≡ purpose) }
 {
-    Landmarks {
+    let places = places_of(alloc, shown)?;
+    Ok(Landmarks {
         purpose,
         first: first_of(shown, purpose),
         last: last_of(shown, purpose),
         next: next_of(shown, purpose, shown.current),
         previous: previous_of(shown, purpose, shown.current),
+        places,
+    })
+}
+
+// The place of each message, by its number.
+fn places_of(alloc: Global, shown: &Shown) -> Result<Vec<usize>, Memory>
+    requires { IsShown shown.now }
+    ensures { IfOk result (λ places. ArePlaces shown.now places.items) }
+{
+    let order = shown.order.items();
+    let mut places = vec![in alloc; 0; order.len()]?;
+    for (p, n) in order.iter().enumerate() {
+        places[*n as usize - 1] = p;
     }
+    Ok(places)
+}
+
+// The place of message `k`, if there is one, by the places of all.
+fn place_in(shown: &Shown, places: &[usize], k: u64) -> Option<usize>
+    requires valid { IsShown shown.now }
+    requires places { ArePlaces shown.now places.now }
+    ensures place { result ≡ place_of shown.now k }
+    ensures within { IfSome result (λ p. p < length shown.now.order) }
+{
+    if k == 0 || k > shown.order.items().len() as u64 {
+        return None;
+    }
+    Some(places[k as usize - 1])
 }
 
 // The places of the messages that a word of this kind names, as far as no row is asked.
@@ -47,17 +83,17 @@ pub(crate) fn span_of(shown: &Shown, kind: Kind, marks: &Landmarks) -> Span
     ensures { IsSpanOf shown.now (kind_reaches shown.now marks.now.purpose kind) result }
 {
     match kind {
-        Kind::Number(k) => span_of_message(shown, Some(k)),
+        Kind::Number(k) => span_of_message(shown, marks, Some(k)),
         Kind::Range(a, b) => {
             let from = end_place(shown, a, marks);
             let to = end_place(shown, b, marks);
             span_between(shown, from, to)
         }
-        Kind::Next => span_of_message(shown, marks.next.map(u64::from)),
-        Kind::Previous => span_of_message(shown, marks.previous.map(u64::from)),
-        Kind::Current => span_of_message(shown, Some(u64::from(shown.current))),
-        Kind::First => span_of_message(shown, marks.first.map(u64::from)),
-        Kind::Last => span_of_message(shown, marks.last.map(u64::from)),
+        Kind::Next => span_of_message(shown, marks, marks.next.map(u64::from)),
+        Kind::Previous => span_of_message(shown, marks, marks.previous.map(u64::from)),
+        Kind::Current => span_of_message(shown, marks, Some(u64::from(shown.current))),
+        Kind::First => span_of_message(shown, marks, marks.first.map(u64::from)),
+        Kind::Last => span_of_message(shown, marks, marks.last.map(u64::from)),
         Kind::All | Kind::Address | Kind::Subject | Kind::Letter(_) => Span {
             from: 0,
             to: shown.order.items().len(),
@@ -66,13 +102,14 @@ pub(crate) fn span_of(shown: &Shown, kind: Kind, marks: &Landmarks) -> Span
 }
 
 // The place of a message.
-fn span_of_message(shown: &Shown, message: Option<u64>) -> Span
-    requires { IsShown shown.now }
+fn span_of_message(shown: &Shown, marks: &Landmarks, message: Option<u64>) -> Span
+    requires valid { IsShown shown.now }
+    requires marks { AreLandmarks shown.now marks.now }
     ensures { IsSpanOf shown.now (is_message message) result }
 {
     match message {
         Some(k) => {
-            let place = find_place(shown, k);
+            let place = place_in(shown, &marks.places, k);
             match place {
                 Some(p) => Span { from: p, to: p + 1 },
                 None => Span { from: 0, to: 0 },
@@ -108,7 +145,7 @@ fn end_place(shown: &Shown, end: End, marks: &Landmarks) -> Option<usize>
     ensures within { IfSome result (λ p. p < length shown.now.order) }
 {
     match end_message(shown, end, marks) {
-        Some(k) => find_place(shown, k),
+        Some(k) => place_in(shown, &marks.places, k),
         None => None,
     }
 }

@@ -1,4 +1,4 @@
-use Rattle.std.proofs.Common.{◌<◌, ◌==◌, length, ap, take, ◌∙◌, sym, arith}
+use Rattle.std.proofs.Common.{◌==◌, length, ap, take, ◌∙◌, sym, arith}
 use Rattle.std.proofs.lemmas.Bool.{eq-eqb, ne_eqb}
 use Rattle.std.proofs.lemmas.List.Sums.{position_or_len_is}
 use Rattle.message_list.proofs.author.before_at.Goals as goal

@@ -1,9 +1,9 @@
-use Rattle.std.proofs.Common.{◌≡◌, ◌<◌, ◌+◌, ◌++◌, ◌∷◌, [], List, ℕ, length, get_or, map, take, is_none, Some, sym, ap, ◌∙◌, arith, inl, inr}
+use Rattle.std.proofs.Common.{◌≡◌, List, ℕ, get_or, is_none, Some, sym, ap, ◌∙◌, arith, inl, inr}
 use Rattle.std.proofs.lemmas.Bool.{cases_eq}
 use Rattle.std.proofs.lemmas.List.{get_or_read}
 use Rattle.std.proofs.lemmas.List.Elements.{All-same, All-push}
 use Rattle.message_list.specs.declared.list.Item.{Item}
-use Rattle.message_list.specs.ListWords.{kind_of, AreItems, IsBadList, IsBadWord}
+use Rattle.message_list.specs.ListWords.{kind_of}
 use Rattle.message_list.proofs.WordLemmas.{bad_list, words_more}
 use Rattle.message_list.proofs.read.read_list.Goals as goal
 

@@ -1,4 +1,4 @@
-use Rattle.std.proofs.Common.{◌≡◌, ℕ, ◌<◌, map, take, get_or, false, is_none, [], List}
+use Rattle.std.proofs.Common.{◌≡◌, ℕ, ◌<◌, map, take, get_or, false, is_none, List}
 use Rattle.message_list.specs.ListWords.{kind_of, HaveKinds}
 use Rattle.message_list.proofs.read.read_list.Given as goal
 

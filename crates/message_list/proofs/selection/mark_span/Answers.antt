@@ -1,6 +1,6 @@
-use Rattle.std.proofs.Common.{◌≡◌, ◌+◌, ◌<◌, ◌≤◌, ◌&&◌, ◌||◌, nat_le, nat_lt, ℕ, List, Bool, false, length, get_or, sym, ap, ◌∙◌, arith, length-set}
+use Rattle.std.proofs.Common.{◌≡◌, ◌<◌, ◌≤◌, ◌&&◌, ◌||◌, nat_le, nat_lt, ℕ, List, Bool, false, length, get_or, sym, ap, ◌∙◌, arith, length-set}
 use Rattle.std.proofs.lemmas.Bool.{and_left}
-use Rattle.message_list.specs.Marking.{is_hit, is_within}
+use Rattle.message_list.specs.Marking.{is_hit}
 use Rattle.message_list.proofs.ListFacts.{or_nothing}
 use Rattle.message_list.proofs.MarkLemmas.{marks_step, some_step, none_step, nothing_between, selects_here, finds_here}
 use Rattle.message_list.proofs.selection.mark_span.Goals as goal
@@ -36,10 +36,10 @@ returns-clause-marks c =
     record {
       long = c.loop-place.auto.marks;
       marks = λ p lt.
-        let hit = is_hit c.args.shown.now c.args.purpose c.args.item.now (get_or c.args.shown.now.order p 0) in
-        c.loop-place.invariant.marks p lt
-        ∙ ap (λ to. get_or c.args.marks.now p false || ((nat_le c.args.span.from p && nat_lt p to) && hit)) place
-        ∙ ap (λ (t : Bool). get_or c.args.marks.now p false || t) (sym (selects_here c.args.shown.now c.args.purpose c.args.item.now c.args.span c.requires.span p lt));
+          let hit = is_hit c.args.shown.now c.args.purpose c.args.item.now (get_or c.args.shown.now.order p 0) in
+          c.loop-place.invariant.marks p lt
+          ∙ ap (λ to. get_or c.args.marks.now p false || ((nat_le c.args.span.from p && nat_lt p to) && hit)) place
+          ∙ ap (λ (t : Bool). get_or c.args.marks.now p false || t) (sym (selects_here c.args.shown.now c.args.purpose c.args.item.now c.args.span c.requires.span p lt));
     }
 
 pub returns-clause-found : goal.returns-clause-found

@@ -1,4 +1,4 @@
-use Rattle.std.proofs.Common.{◌≡◌, ◌+◌, ◌<◌, ◌++◌, ◌∷◌, [], ℕ, List, Bool, true, false, Vec, Global, filter, take, get_or, length, cond, sym, ap, ◌∙◌, arith, append-nil}
+use Rattle.std.proofs.Common.{◌<◌, ◌++◌, ◌∷◌, [], ℕ, List, Vec, Global, filter, take, get_or, length, sym, ap, ◌∙◌, arith, append-nil}
 use Rattle.std.proofs.lemmas.List.Elements.{filter_more}
 use Rattle.std.proofs.lemmas.Bool.{cond-true, cond-false}
 use Rattle.message_list.proofs.selection.marked.Goals as goal

@@ -1,4 +1,4 @@
-use Rattle.std.proofs.Common.{◌≡◌, ◌<◌, arith}
+use Rattle.std.proofs.Common.{arith}
 use Rattle.message_list.proofs.SelectionLemmas.{union_some, some_found}
 use Rattle.message_list.proofs.selection.select_items.Goals as goal
 

@@ -1,4 +1,4 @@
-use Rattle.std.proofs.Common.{◌≡◌, ◌<◌, ◌∷◌, [], ℕ, List, length, get_or, refl, sym, ap, ◌∙◌, arith}
+use Rattle.std.proofs.Common.{◌≡◌, ◌∷◌, [], get_or, refl, sym, ap, ◌∙◌, arith}
 use Rattle.message_list.specs.declared.list.Item.{Item}
 use Rattle.message_list.specs.Selections.{finds}
 use Rattle.message_list.proofs.SelectionLemmas.{union_one, finds_one, misses_one, all_met, missing}
@@ -13,7 +13,7 @@ returns-in_ok-single-in-Some-clause-met c =
     let item : Item = c.args.item.now in
     all_met c.args.shown.now c.args.purpose (item ∷ [])
     (λ i d lt. let first : i ≡ 0 = omega arith in ap (λ q. finds c.args.shown.now c.args.purpose (get_or (item ∷ []) q d)) first
-      ∙ finds_one c.args.shown.now c.requires.valid c.args.purpose item c.args.k c.requires.alone c.in-Some.ensures.1)
+    ∙ finds_one c.args.shown.now c.requires.valid c.args.purpose item c.args.k c.requires.alone c.in-Some.ensures.1)
 
 pub returns-in-None-clause-err : goal.returns-in-None-clause-err
 returns-in-None-clause-err c =

@@ -1,4 +1,4 @@
-use Rattle.std.proofs.Common.{◌<◌, ◌≤◌, length, sym, ◌∙◌, arith}
+use Rattle.std.proofs.Common.{◌<◌, length, arith}
 use Rattle.message_list.proofs.ViewLemmas.{order_length}
 use Rattle.message_list.proofs.SpanLemmas.{span_from, span_turned}
 use Rattle.message_list.proofs.span.span_between.Goals as goal

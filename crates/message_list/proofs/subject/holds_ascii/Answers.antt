@@ -1,8 +1,7 @@
-use Rattle.std.proofs.Common.{◌<◌, ◌≡◌, length, map, List, ℕ, sym, ap, ◌∙◌, arith, subst}
+use Rattle.std.proofs.Common.{◌≡◌, List, ℕ, sym, ap, ◌∙◌, arith}
 use Rattle.std.proofs.lemmas.List.{length-map}
 use Rattle.std.specs.Str.{str_to_ascii_lowercase}
 use Rattle.std.specs.Char.{to_ascii_lowercase}
-use Rattle.memchr.specs.Find.{FindsNeedle}
 use Rattle.message_list.specs.Naming.{holds}
 use Rattle.message_list.proofs.SubjectLemmas.{holds-found, holds-short}
 use Rattle.message_list.proofs.subject.holds_ascii.Goals as goal
@@ -10,7 +9,7 @@ use Rattle.message_list.proofs.subject.holds_ascii.Goals as goal
 pub returns-then-text-string : goal.returns-then-text-string
 returns-then-text-string c =
     sym (holds-short (str_to_ascii_lowercase c.args.string.now) (str_to_ascii_lowercase c.args.text.now)
-      (omega (arith, length-map c.args.text.now to_ascii_lowercase, length-map c.args.string.now to_ascii_lowercase)))
+    (omega (arith, length-map c.args.text.now to_ascii_lowercase, length-map c.args.string.now to_ascii_lowercase)))
 
 pub returns : goal.returns
 returns c =

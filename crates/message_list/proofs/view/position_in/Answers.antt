@@ -1,4 +1,4 @@
-use Rattle.std.proofs.Common.{◌<◌, ◌==◌, length, sym, ◌∙◌, arith}
+use Rattle.std.proofs.Common.{◌==◌, sym, ◌∙◌, arith}
 use Rattle.std.proofs.lemmas.Bool.{eq-eqb, ne_eqb}
 use Rattle.message_list.proofs.ListFacts.{position_found, position_missed}
 use Rattle.message_list.proofs.view.position_in.Goals as goal
