@@ -53,6 +53,9 @@ impl Names {
     pub(crate) fn has(&self, name: &[u8]) -> bool
         ensures { result ≡ has_name self.now name.now }
     {
+        if self.names.is_empty() {
+            return false;
+        }
         if name.len() <= LONGEST {
             let mut buffer = [0; LONGEST];
             let key = &mut buffer[..name.len()];

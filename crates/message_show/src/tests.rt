@@ -21,6 +21,18 @@ const DELIVERED: &[u8] =
 
 const UNDATED: &[u8] = b"From a@x\nFrom: Annabel Longname of Author <a@x>\nSubject: s";
 
+// What is said of messages of the texts above, and of one in each state.
+const SUMMARIES: &[u8] =
+    b">N   1 Ann                Mon Jan  1 10:00     74 one\n>N   1 Ann         \n>\n N   1 Ann                Mon Jan  1 10:00     74 on\n>R   1 Ann                Mon Jan  1 10:00     85 one\n>N   1 Ann B.             Tue Mar  5 09:15    377 Plan\n N   1 Annabel Longname o                      59       s\n N   1 Annabel Longname o                      59                     s\n";
+
+const STATES: &[u8] =
+    b" N   1 Ann                Mon Jan  1 10:00     74 one\n U   1 Ann                Mon Jan  1 10:00      5 one\n R   1 Ann                Mon Jan  1 10:00 123456 one\n D   1 Ann                Mon Jan  1 10:00 1234567 one\n P   1 Ann                Mon Jan  1 10:00  99999 one\n S   1 Ann                Mon Jan  1 10:00      1 one\n M   1 Ann                Mon Jan  1 10:00     74 one\n";
+
+// What is said of two messages by pages, each ended by a dot, and by numbers.
+const PAGES: &[u8] = b".>N   2 bob\n.>N   2 bob\n N   1 Ann\n. N   1 Ann\n...";
+
+const LISTS: &[u8] = b" N   1 Ann\n>N   2 bob\n>N   2 bob\n N   1 Ann\n N   1 Ann\n.";
+
 // Two places of a view.
 fn places(turned: bool) -> [u32; 2]
     ensures { IsPermutation (1 ∷ 2 ∷ []) result }
@@ -56,88 +68,72 @@ fn two(
     })
 }
 
-// The summary line of a message of this text.
-fn line_of(
+// Puts the summary line of a message of this text at the end.
+fn put_line(
     alloc: Global,
-    text: &[u8],
+    said: &mut Text,
+    first: Row,
     depth: u32,
     current: u32,
     width: usize,
-) -> Result<Text, Memory>
-    requires current { current ≤ 2 }
-    requires width { 2 ≤ width }
+) -> Result<(), Memory>
+    requires first { IfSome first.moment IsInYears }
 {
-    let first = row_of(alloc, text)?;
-    let second = row_of(alloc, TWO)?;
-    let shown = two(alloc, first, second, false, depth, current)?;
-    summary_line(alloc, &shown, 1, width)
+    if current <= 2 && 2 <= width {
+        let second = row_of(alloc, TWO)?;
+        let shown = two(alloc, first, second, false, depth, current)?;
+        said.push(summary_line(alloc, &shown, 1, width)?.bytes())?;
+        said.push(b"\n")?;
+    }
+    Ok(())
 }
 
 #[test]
 fn summaries_by_width_and_depth(rt: HostRuntime) -> Result<(), Fail> {
     let alloc = rt.alloc();
-    assert!(rt;
-        line_of(alloc, ONE, 0, 1, 80)?.bytes()
-            == b">N   1 Ann                Mon Jan  1 10:00     74 one".as_slice()
-    );
-    assert!(rt; line_of(alloc, ONE, 0, 1, 20)?.bytes() == b">N   1 Ann         ".as_slice());
-    assert!(rt; line_of(alloc, ONE, 0, 1, 2)?.bytes() == b">".as_slice());
-    assert!(rt;
-        line_of(alloc, ONE, 0, 2, 53)?.bytes()
-            == b" N   1 Ann                Mon Jan  1 10:00     74 on".as_slice()
-    );
-    assert!(rt;
-        line_of(alloc, READ, 0, 1, 80)?.bytes()
-            == b">R   1 Ann                Mon Jan  1 10:00     85 one".as_slice()
-    );
-    assert!(rt;
-        line_of(alloc, DELIVERED, 0, 1, 80)?.bytes()
-            == b">N   1 Ann B.             Tue Mar  5 09:15    377 Plan".as_slice()
-    );
-    assert!(rt;
-        line_of(alloc, UNDATED, 3, 0, 80)?.bytes()
-            == b" N   1 Annabel Longname o                      59       s".as_slice()
-    );
-    assert!(rt;
-        line_of(alloc, UNDATED, 11, 0, 99)?.bytes()
-            == b" N   1 Annabel Longname o                      59                     s".as_slice()
-    );
-    Ok(())
-}
-
-// What a summary line says of a message with this mark and size, its state's letter and what stands behind the date.
-fn letter_and_size(alloc: Global, state: State, size: u64) -> Result<Text, Memory> {
-    let mut first = row_of(alloc, ONE)?;
-    first.mark.state = state;
-    first.size = size;
-    let second = row_of(alloc, TWO)?;
-    let shown = two(alloc, first, second, true, 0, 2)?;
-    let line = summary_line(alloc, &shown, 1, 80)?;
-    let mut text = Text::new(alloc);
-    for (place, byte) in line.bytes().iter().enumerate() {
-        if place == 1 || place >= 42 {
-            text.push(&[*byte])?;
-        }
+    let mut said = Text::new(alloc);
+    for (text, depth, current, width) in [
+        (ONE, 0, 1, 80),
+        (ONE, 0, 1, 20),
+        (ONE, 0, 1, 2),
+        (ONE, 0, 2, 53),
+        (READ, 0, 1, 80),
+        (DELIVERED, 0, 1, 80),
+        (UNDATED, 3, 0, 80),
+        (UNDATED, 11, 0, 99),
+    ] {
+        put_line(
+            alloc,
+            &mut said,
+            row_of(alloc, text)?,
+            depth,
+            current,
+            width,
+        )?;
     }
-    Ok(text)
+    assert!(rt; said.bytes() == SUMMARIES);
+    Ok(())
 }
 
 #[test]
 fn letters_of_states_and_wide_sizes(rt: HostRuntime) -> Result<(), Fail> {
     let alloc = rt.alloc();
-    assert!(rt; letter_and_size(alloc, State::New, 74)?.bytes() == b"N     74 one".as_slice());
-    assert!(rt; letter_and_size(alloc, State::Unread, 5)?.bytes() == b"U      5 one".as_slice());
-    assert!(rt;
-        letter_and_size(alloc, State::Read, 123_456)?.bytes() == b"R 123456 one".as_slice()
-    );
-    assert!(rt;
-        letter_and_size(alloc, State::Deleted, 1_234_567)?.bytes() == b"D 1234567 one".as_slice()
-    );
-    assert!(rt;
-        letter_and_size(alloc, State::Preserved, 99_999)?.bytes() == b"P  99999 one".as_slice()
-    );
-    assert!(rt; letter_and_size(alloc, State::Saved, 74)?.bytes() == b"S     74 one".as_slice());
-    assert!(rt; letter_and_size(alloc, State::Mboxed, 74)?.bytes() == b"M     74 one".as_slice());
+    let mut said = Text::new(alloc);
+    for (state, size) in [
+        (State::New, 74),
+        (State::Unread, 5),
+        (State::Read, 123_456),
+        (State::Deleted, 1_234_567),
+        (State::Preserved, 99_999),
+        (State::Saved, 1),
+        (State::Mboxed, 74),
+    ] {
+        let mut row = row_of(alloc, ONE)?;
+        row.mark.state = state;
+        row.size = size;
+        put_line(alloc, &mut said, row, 0, 0, 80)?;
+    }
+    assert!(rt; said.bytes() == STATES);
     Ok(())
 }
 
@@ -147,21 +143,23 @@ fn pages_and_lists_of_a_view(rt: HostRuntime) -> Result<(), Fail> {
     let first = row_of(alloc, ONE)?;
     let second = row_of(alloc, TWO)?;
     let shown = two(alloc, first, second, true, 1, 2)?;
-    assert!(rt; page(alloc, &shown, 0, 0, 11)?.bytes() == b"".as_slice());
-    assert!(rt; page(alloc, &shown, 0, 1, 11)?.bytes() == b">N   2 bob\n".as_slice());
-    assert!(rt;
-        page(alloc, &shown, 0, usize::MAX, 11)?.bytes() == b">N   2 bob\n N   1 Ann\n".as_slice()
-    );
-    assert!(rt; page(alloc, &shown, 1, 1, 11)?.bytes() == b" N   1 Ann\n".as_slice());
-    assert!(rt; page(alloc, &shown, 2, 5, 11)?.bytes() == b"".as_slice());
-    assert!(rt; page(alloc, &shown, usize::MAX, usize::MAX, 11)?.bytes() == b"".as_slice());
-    assert!(rt; summary_lines(alloc, &shown, &[1], 11)?.bytes() == b" N   1 Ann\n".as_slice());
-    assert!(rt;
-        summary_lines(alloc, &shown, &[2, 1], 11)?.bytes() == b">N   2 bob\n N   1 Ann\n".as_slice()
-    );
-    assert!(rt;
-        summary_lines(alloc, &shown, &[1, 2], 11)?.bytes() == b" N   1 Ann\n>N   2 bob\n".as_slice()
-    );
+    let mut said = Text::new(alloc);
+    for (start, count) in [
+        (0, 0),
+        (0, 1),
+        (0, usize::MAX),
+        (1, 1),
+        (2, 5),
+        (usize::MAX, usize::MAX),
+    ] {
+        said.push(page(alloc, &shown, start, count, 11)?.bytes())?;
+        said.push(b".")?;
+    }
+    assert!(rt; said.bytes() == PAGES);
+    let mut said = summary_lines(alloc, &shown, &[1, 2, 2, 1, 1], 11)?;
+    said.push(summary_lines(alloc, &shown, &[], 11)?.bytes())?;
+    said.push(b".")?;
+    assert!(rt; said.bytes() == LISTS);
     Ok(())
 }
 
@@ -174,16 +172,6 @@ fn names(alloc: Global, text: &[u8]) -> Result<Vec<Text>, Memory> {
     Ok(names)
 }
 
-// The names, each ended by a line feed.
-fn joined(alloc: Global, names: &[Text]) -> Result<Text, Memory> {
-    let mut text = Text::new(alloc);
-    for name in names {
-        text.push(name.bytes())?;
-        text.push(b"\n")?;
-    }
-    Ok(text)
-}
-
 // The sets with these names, ignored ones in two calls.
 fn sets(alloc: Global, ignored: &[u8], more: &[u8], retained: &[u8]) -> Result<FieldSets, Memory> {
     let mut sets = FieldSets::new(alloc);
@@ -193,93 +181,93 @@ fn sets(alloc: Global, ignored: &[u8], more: &[u8], retained: &[u8]) -> Result<F
     Ok(sets)
 }
 
+// Puts names at the end, each ended by a line feed.
+fn put_names(said: &mut Text, names: &[Text]) -> Result<(), Memory> {
+    for name in names {
+        said.push(name.bytes())?;
+        said.push(b"\n")?;
+    }
+    Ok(())
+}
+
+// The ignored and the retained names, and for each of some lines whether a field of that name is kept.
+fn told(alloc: Global, sets: &FieldSets, asked: &[u8]) -> Result<Text, Memory> {
+    let mut said = Text::new(alloc);
+    put_names(&mut said, sets.ignored())?;
+    said.push(b".")?;
+    put_names(&mut said, sets.retained())?;
+    said.push(b".")?;
+    for name in lines(asked) {
+        said.push(if sets.keeps(name) { b"+" } else { b"-" })?;
+    }
+    Ok(said)
+}
+
+const MORE: &[u8] = b"SUBJECT\nTo\nx-A\n\xc3\x84";
+
+const ASKED: &[u8] = b"subJect\nTO\nX-A\n\xc3\x84\n\xc3\xa4\nSubjec\nSubjects\nFrom\ndate";
+
+const IGNORING: &[u8] = b"Subject\nX-a\nTo\n\xc3\x84\n..----+++++";
+
+const RETAINING: &[u8] = b"From\nSUBJECT\nTo\nx-A\n\xc3\x84\n.to\nDate\n.-+------+";
+
 #[test]
 fn names_of_both_sets(rt: HostRuntime) -> Result<(), Fail> {
     let alloc = rt.alloc();
-    let none = sets(alloc, b"", b"", b"")?;
-    assert!(rt; none.keeps(b"Subject") && none.ignored().is_empty() && none.retained().is_empty());
-    let ignoring = sets(
+    let none = told(alloc, &sets(alloc, b"", b"", b"")?, ASKED)?;
+    assert!(rt; none.bytes() == b"..+++++++++".as_slice());
+    let ignoring = told(
         alloc,
-        b"Subject\nX-a\nsubject",
-        b"SUBJECT\nTo\nx-A\n\xc3\x84",
-        b"",
+        &sets(alloc, b"Subject\nX-a\nsubject", MORE, b"")?,
+        ASKED,
     )?;
-    assert!(rt;
-        joined(alloc, ignoring.ignored())?.bytes() == b"Subject\nX-a\nTo\n\xc3\x84\n".as_slice()
-    );
-    assert!(rt;
-        !ignoring.keeps(b"subJect") && !ignoring.keeps(b"TO") && !ignoring.keeps(b"\xc3\x84")
-    );
-    assert!(rt;
-        ignoring.keeps(b"Subjec") && ignoring.keeps(b"Subjects") && ignoring.keeps(b"\xc3\xa4")
-    );
-    let retaining = sets(alloc, b"From\nTo", b"", b"to\nDate\nTo")?;
-    assert!(rt; joined(alloc, retaining.ignored())?.bytes() == b"From\nTo\n".as_slice());
-    assert!(rt; joined(alloc, retaining.retained())?.bytes() == b"to\nDate\n".as_slice());
-    assert!(rt; retaining.keeps(b"TO") && retaining.keeps(b"date"));
-    assert!(rt; !retaining.keeps(b"From") && !retaining.keeps(b"Subject"));
+    assert!(rt; ignoring.bytes() == IGNORING);
+    let retaining = told(alloc, &sets(alloc, b"From", MORE, b"to\nDate\nTo")?, ASKED)?;
+    assert!(rt; retaining.bytes() == RETAINING);
     let long = sets(alloc, &[b'X'; 1000], b"", b"")?;
     assert!(rt; !long.keeps(&[b'x'; 1000]) && long.keeps(&[b'x'; 999]) && long.keeps(&[b'x'; 998]));
     Ok(())
 }
 
-// The shown text of the first message of a folder.
-fn shown_of(alloc: Global, text: &[u8], sets: &FieldSets, how: How) -> Result<Text, Fail> {
+const LONG: &[u8] = b"From a@x\nA: b\n c\nX: y\nno field\na: d\n\nbody\n\nmore";
+
+const SHORT: &[u8] = b"From a@x\n folded\nA: b\n c";
+
+// The shown text, its first four lines and the whole text of each message of a folder, with a bar after each.
+fn shown_of(alloc: Global, text: &[u8], sets: &FieldSets) -> Result<Text, Fail> {
     let folder = Folder::open(alloc, Text::copy(alloc, text)?)?;
-    if folder.count() == 0 {
-        return Ok(Text::new(alloc));
+    let mut said = Text::new(alloc);
+    for k in 0..folder.count() {
+        let message = folder.message(k);
+        said.push(shown_text(alloc, &message, sets, How::Kept)?.bytes())?;
+        said.push(b"|")?;
+        said.push(top(alloc, &message, sets, 4)?.bytes())?;
+        said.push(top(alloc, &message, sets, 0)?.bytes())?;
+        said.push(b"|")?;
+        said.push(shown_text(alloc, &message, sets, How::All)?.bytes())?;
+        said.push(b"|")?;
     }
-    Ok(shown_text(alloc, &folder.message(0), sets, how)?)
+    Ok(said)
 }
 
-// The first lines of the first message of a folder.
-fn top_of(alloc: Global, text: &[u8], sets: &FieldSets, count: u64) -> Result<Text, Fail> {
-    let folder = Folder::open(alloc, Text::copy(alloc, text)?)?;
-    if folder.count() == 0 {
-        return Ok(Text::new(alloc));
-    }
-    Ok(top(alloc, &folder.message(0), sets, count)?)
-}
+const LONG_SHOWN: &[u8] =
+    b"From a@x\nX: y\nno field\n\nbody\n\nmore|From a@x\nX: y\nno field\n\n|From a@x\nA: b\n c\nX: y\nno field\na: d\n\nbody\n\nmore|";
+
+const LONG_OTHER: &[u8] =
+    b"From a@x\nno field\n\nbody\n\nmore|From a@x\nno field\n\nbody\n|From a@x\nA: b\n c\nX: y\nno field\na: d\n\nbody\n\nmore|";
+
+const SHORT_SHOWN: &[u8] = b"From a@x\n folded|From a@x\n folded\n|From a@x\n folded\nA: b\n c|";
 
 #[test]
 fn texts_and_their_first_lines(rt: HostRuntime) -> Result<(), Fail> {
     let alloc = rt.alloc();
-    let text: &[u8] = b"From a@x\nA: b\n c\nX: y\nno field\na: d\n\nbody\n\nmore";
-    let short: &[u8] = b"From a@x\n folded\nA: b\n c";
-    let none = sets(alloc, b"", b"", b"")?;
     let ignoring = sets(alloc, b"a", b"", b"")?;
     let retaining = sets(alloc, b"X", b"", b"x")?;
     let other = sets(alloc, b"", b"", b"z")?;
-    assert!(rt; shown_of(alloc, text, &none, How::Kept)?.bytes() == text);
-    assert!(rt; shown_of(alloc, text, &other, How::All)?.bytes() == text);
-    assert!(rt;
-        shown_of(alloc, text, &ignoring, How::Kept)?.bytes()
-            == b"From a@x\nX: y\nno field\n\nbody\n\nmore".as_slice()
-    );
-    assert!(rt;
-        shown_of(alloc, text, &retaining, How::Kept)?.bytes()
-            == b"From a@x\nX: y\nno field\n\nbody\n\nmore".as_slice()
-    );
-    assert!(rt;
-        shown_of(alloc, text, &other, How::Kept)?.bytes()
-            == b"From a@x\nno field\n\nbody\n\nmore".as_slice()
-    );
-    assert!(rt;
-        shown_of(alloc, short, &ignoring, How::Kept)?.bytes() == b"From a@x\n folded".as_slice()
-    );
-    assert!(rt; shown_of(alloc, short, &ignoring, How::All)?.bytes() == short);
-    assert!(rt;
-        shown_of(alloc, b"From a@x\nA: b", &ignoring, How::Kept)?.bytes() == b"From a@x".as_slice()
-    );
-    assert!(rt; top_of(alloc, text, &none, 0)?.bytes() == b"".as_slice());
-    assert!(rt; top_of(alloc, text, &none, 3)?.bytes() == b"From a@x\nA: b\n c\n".as_slice());
-    assert!(rt;
-        top_of(alloc, text, &ignoring, 4)?.bytes() == b"From a@x\nX: y\nno field\n\n".as_slice()
-    );
-    assert!(rt;
-        top_of(alloc, short, &none, u64::MAX)?.bytes()
-            == b"From a@x\n folded\nA: b\n c\n".as_slice()
-    );
+    assert!(rt; shown_of(alloc, LONG, &ignoring)?.bytes() == LONG_SHOWN);
+    assert!(rt; shown_of(alloc, LONG, &retaining)?.bytes() == LONG_SHOWN);
+    assert!(rt; shown_of(alloc, LONG, &other)?.bytes() == LONG_OTHER);
+    assert!(rt; shown_of(alloc, SHORT, &ignoring)?.bytes() == SHORT_SHOWN);
     all_fields_make_the_text();
     Ok(())
 }
