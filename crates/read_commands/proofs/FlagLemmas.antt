@@ -23,16 +23,16 @@ pub flags-more : (flags : List Bool) (numbers : List ℕ) (i k : ℕ) → i < le
 flags-more flags numbers i k within is inside before n =
     ⊎_elim
     (λ same. let e : k ≡ n = eqb-true k n same in
-      unwrap_or-slice_get (slice_set flags k true) n false
-      ∙ ap (λ (m : ℕ). get_or (slice_set flags k true) m false) (sym e)
-      ∙ get_or-set_same flags k true false inside
-      ∙ sym (among ∙ ap (λ (b : Bool). is_among (take i numbers) n || b) same ∙ or-true (is_among (take i numbers) n)))
+    unwrap_or-slice_get (slice_set flags k true) n false
+    ∙ ap (λ (m : ℕ). get_or (slice_set flags k true) m false) (sym e)
+    ∙ get_or-set_same flags k true false inside
+    ∙ sym (among ∙ ap (λ (b : Bool). is_among (take i numbers) n || b) same ∙ or-true (is_among (take i numbers) n)))
     (λ other.
-      unwrap_or-slice_get (slice_set flags k true) n false
-      ∙ get_or-set_other flags k n true false (λ e. absurd (eqb-false k n other (sym e)))
-      ∙ sym (unwrap_or-slice_get flags n false)
-      ∙ before n
-      ∙ sym (among ∙ ap (λ (b : Bool). is_among (take i numbers) n || b) other ∙ or-none (is_among (take i numbers) n)))
+    unwrap_or-slice_get (slice_set flags k true) n false
+    ∙ get_or-set_other flags k n true false (λ e. absurd (eqb-false k n other (sym e)))
+    ∙ sym (unwrap_or-slice_get flags n false)
+    ∙ before n
+    ∙ sym (among ∙ ap (λ (b : Bool). is_among (take i numbers) n || b) other ∙ or-none (is_among (take i numbers) n)))
     (cases_Bool (k == n))
   where
     among : is_among (take (i + 1) numbers) n ≡ (is_among (take i numbers) n || (k == n))

@@ -43,7 +43,12 @@ fn nearest_left(shown: &Shown, among: &Among<'_>, messages: &[u32]) -> Option<u3
 }
 
 // The last live message before this one in the view that isn't among those that are deleted now.
-fn last_left(alloc: Global, shown: &Shown, numbers: &[u32], last: u32) -> Result<Option<u32>, Memory>
+fn last_left(
+    alloc: Global,
+    shown: &Shown,
+    numbers: &[u32],
+    last: u32,
+) -> Result<Option<u32>, Memory>
     requires shown { IsShown shown.now }
     requires messages { All (IsMessageOf shown.now) numbers.now }
     ensures { IfOk result (λ n. n ≡ find (is_left shown.now numbers.now) (before_message shown.now last)) }
@@ -90,9 +95,17 @@ fn deleted(alloc: Global, desk: &Desk, numbers: &[u32]) -> Result<Effects, Memor
 }
 
 // What deleting these and printing message n changes.
-fn deleted_and_printed(alloc: Global, desk: &Desk, numbers: &[u32], n: u32) -> Result<Effects, Memory>
+fn deleted_and_printed(
+    alloc: Global,
+    desk: &Desk,
+    numbers: &[u32],
+    n: u32,
+) -> Result<Effects, Memory>
     ensures { IfOk result (λ effects. effects ≡ record (unchanged desk.now) {
-        marks = markings act.Delete numbers.now ++ markings act.Look (n ∷ []); current = n; fresh = false }) }
+      marks = markings act.Delete numbers.now ++ markings act.Look (n ∷ []);
+      current = n;
+      fresh = false;
+    }) }
 {
     let mut marks = markings(alloc, Act::Delete, numbers)?;
     marks.push(act_on(Act::Look, n))?;
@@ -105,7 +118,12 @@ fn deleted_and_printed(alloc: Global, desk: &Desk, numbers: &[u32], n: u32) -> R
 }
 
 // Deletes these and prints the new current message, if there is one.
-fn print_after(alloc: Global, desk: &Desk, numbers: &[u32], n: Option<u32>) -> Result<Steps, Refusal>
+fn print_after(
+    alloc: Global,
+    desk: &Desk,
+    numbers: &[u32],
+    n: Option<u32>,
+) -> Result<Steps, Refusal>
     requires desk { IsDesk desk.now }
     requires message { IfSome n (IsMessageOf desk.now.shown) }
     ensures means { Means result (print_after desk.now numbers.now n) }

@@ -89,7 +89,11 @@ pub(crate) fn unchanged(alloc: Global, desk: &Desk) -> Effects
 pub(crate) fn moved(alloc: Global, desk: &Desk, n: u32) -> Effects
     ensures { result ≡ moved desk.now n }
 {
-    let fresh = if n == desk.shown.current { desk.fresh } else { true };
+    let fresh = if n == desk.shown.current {
+        desk.fresh
+    } else {
+        true
+    };
     Effects {
         current: n,
         fresh,

@@ -13,7 +13,7 @@ mod set;
 mod steps;
 
 pub use desk::{Desk, Open};
+pub use dispatch::{perform, perform_line};
 pub use effects::{Effects, Marking};
 pub use page::{current_page, page_of, page_size};
-pub use dispatch::{perform, perform_line};
 pub use steps::{Ask, Refusal, Steps};

@@ -89,12 +89,7 @@ fn after_printing(alloc: Global, desk: &Desk, numbers: &[u32]) -> Result<Effects
 }
 
 /// `print`, `type`, `Print`, `Type`.
-pub(crate) fn print(
-    alloc: Global,
-    desk: &Desk,
-    words: &[Text],
-    how: How,
-) -> Result<Steps, Refusal>
+pub(crate) fn print(alloc: Global, desk: &Desk, words: &[Text], how: How) -> Result<Steps, Refusal>
     requires { IsDesk desk.now }
     ensures means { Means result (print how desk.now words.now) }
     ensures within { IsWithin desk.now result }

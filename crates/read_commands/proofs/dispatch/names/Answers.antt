@@ -27,12 +27,11 @@ loop-name-preserved c =
     let name = c.in-Some.name.now in
     let within : c.loop-name.k < length names = slice_get_within names c.loop-name.k name (sym c.in-Some.ensures) in
     let put : c.push-in-Some.new.self ≡ c.loop-name.out ++ with_feed name =
-    c.in_ok-push-2.ensures.ok ∙ ap (λ (l : List ℕ). l ++ 10 ∷ []) c.in_ok-push.ensures.ok ∙ append_assoc c.loop-name.out name (10 ∷ []) in
-    (
+    c.in_ok-push-2.ensures.ok ∙ ap (λ (l : List ℕ). l ++ 10 ∷ []) c.in_ok-push.ensures.ok ∙ append_assoc c.loop-name.out name (10 ∷ []) in (
       omega arith,
       put ∙ ap (λ (l : List ℕ). l ++ with_feed name) c.loop-name.invariant.1
-      ∙ ap (λ (n : List ℕ). flat_map with_feed (take c.loop-name.k names) ++ with_feed n) (sym (get_or_from_slice_get names c.loop-name.k name name (sym c.in-Some.ensures)))
-      ∙ sym (pieces-more with_feed names c.loop-name.k name within),
+          ∙ ap (λ (n : List ℕ). flat_map with_feed (take c.loop-name.k names) ++ with_feed n) (sym (get_or_from_slice_get names c.loop-name.k name name (sym c.in-Some.ensures)))
+          ∙ sym (pieces-more with_feed names c.loop-name.k name within),
     )
 
 pub returns : goal.returns

@@ -6,7 +6,7 @@ use Rattle.read_commands.proofs.page.turned.Goals as goal
 
 pub returns-in_default-clause-means : goal.returns-in_default-clause-means
 returns-in_default-clause-means c = elim c.in_default.branch [
-  in_default-via-in-Some+else-start-items w ↦
+  | in_default-via-in-Some+else-start-items w ↦
       let is = w.in-Some.ensures.1 in
       let seen = ap length w.items.ensures in
       turned-past c.args.desk.now c.args.page c.args.size c.fault.result (omega (arith, is, seen, w.if-start-items.false)) c.fault.ensures
