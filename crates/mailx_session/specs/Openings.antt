@@ -1,5 +1,5 @@
 -- The desk that a session begins with.
-use Rattle.std.specs.Prelude.{◌≡◌, ℕ, ◌+◌, min, Bool, true, false, ◌==◌, List, [], ◌∷◌, ◌++◌, map, length, replicate, codes, Option, Some, None, position, if◌then◌else◌}
+use Rattle.std.specs.Prelude.{◌≡◌, ℕ, ◌+◌, min, Bool, true, false, ◌==◌, List, [], ◌++◌, map, length, replicate, codes, Option, Some, None, position, if◌then◌else◌}
 use Rattle.std.specs.List.{range_with_len, count_by}
 use Rattle.std.specs.Fmt.{decimal}
 use Rattle.std.specs.declared.result.Result.TheVariants.{Ok, Err}
@@ -15,6 +15,7 @@ use Rattle.message_state.specs.declared.shown.Shown.{Shown}
 use Rattle.message_state.specs.States.{place}
 use Rattle.session_play.specs.Knowing.{AreRows}
 use Rattle.read_commands.specs.declared.desk.Desk.{Desk}
+use Rattle.read_commands.specs.declared.desk.Open.{Open}
 use Rattle.read_commands.specs.Answers.{OrFault}
 use Rattle.read_commands.specs.Paging.{page_size, page_of, current_page}
 
@@ -64,13 +65,13 @@ with_page desk = record desk { page = page_at desk (page_size desk) }
 abbrev pub plain : List Row → Shown
 plain rows = record { rows = rows; order = range_with_len 1 (length rows); depth = replicate (length rows) 0; current = first_current rows }
 
+-- the desk with another folder, whose messages are shown so
+abbrev pub with_folder : Desk → Open → Shown → Desk
+with_folder desk folder shown = record desk { folder = folder; shown = shown; fresh = true }
+
 -- a folder of these bytes is opened, with the rows of its texts, in order of number
 abbrev pub opened : Desk → List ℕ → List ℕ → List Row → Desk
-opened desk name bytes rows = with_page (record desk {
-  folder = record { name = name; system = false; folder = bytes; marks = map (λ row. row.mark) rows };
-  shown = plain rows;
-  fresh = true;
-})
+opened desk name bytes rows = with_page (with_folder desk (record { name = name; system = false; folder = bytes; marks = map (λ row. row.mark) rows }) (plain rows))
 
 -- a folder was opened
 abbrev pub Opens : Desk → List ℕ → List ℕ → Desk → Type 0

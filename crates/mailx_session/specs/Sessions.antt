@@ -40,7 +40,11 @@ abbrev pub line_play : Desk → List ℕ → Play (Next Desk End)
 line_play desk line = carried_out desk (commanded desk line)
 
 -- the next desk, or the end
+abbrev pub next_of : Desk → Flow → Next Desk End
+next_of desk flow.Go = Go desk
+next_of desk (flow.End e) = Last e
+
+-- the same, where the run isn't cut off
 abbrev pub next_desk : Desk → Result Flow Stop → Result (Next Desk End) Stop
-next_desk desk (Ok flow.Go) = Ok (Go desk)
-next_desk desk (Ok (flow.End e)) = Ok (Last e)
+next_desk desk (Ok f) = Ok (next_of desk f)
 next_desk desk (Err cause) = Err cause

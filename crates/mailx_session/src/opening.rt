@@ -1,19 +1,20 @@
 // The rows and the view of a folder that is opened.
-ghost use Rattle.std.specs.Prelude.{◌≡◌, ◌≤◌, length, map, All, IfOk, IfSome, replicate};
+ghost use Rattle.std.specs.Prelude.{◌≡◌, ◌<◌, ◌≤◌, length, map, All, IfOk, IfSome, replicate};
 ghost use Rattle.std.specs.List.{range_with_len, position};
 ghost use Rattle.read_commands.specs.Paging.{page_size};
 ghost use Rattle.mail_dates.specs.Clock.{IsInYears};
 ghost use Rattle.mbox_scan.specs.Mailbox.{texts_of};
 ghost use Rattle.session_play.specs.Knowing.{AreRows};
 ghost use Rattle.message_state.specs.declared.row.Row.{Row};
-ghost use Rattle.mailx_session.specs.Openings.{is_in, first_current, desk_with, IsKnownSize, plain};
+ghost use Rattle.mailx_session.specs.Openings.{is_in, first_current, desk_with, IsKnownSize, plain, with_folder, with_page};
+ghost use Rattle.read_commands.specs.Desks.{IsDesk};
 
 use mail_text::{Items, Memory, Text};
-use mbox_scan::Folder;
-use message_state::{Mark, Row, Shown, State, row_of};
-use read_commands::{Desk, Open, Refusal, page_size};
 use mailx_vars::{Places, Vars};
+use mbox_scan::Folder;
 use message_show::FieldSets;
+use message_state::{Mark, Row, Shown, State, row_of};
+use read_commands::{Desk, Open, Refusal, page_of, page_size};
 use std::alloc::Global;
 
 /// The desk before a folder is opened.
@@ -48,7 +49,8 @@ pub(crate) fn first_desk(alloc: Global, places: Places) -> Result<Desk, Memory>
 
 /// How many messages a page has, where `screen` is a number.
 pub(crate) fn known_page_size(alloc: Global, desk: &Desk) -> Result<Option<usize>, Memory>
-    ensures { IfOk result (IsKnownSize (page_size desk.now)) }
+    ensures size { IfOk result (IsKnownSize (page_size desk.now)) }
+    ensures some { IfOk result (λ size. IfSome size (λ n. 0 < n)) }
 {
     match page_size(alloc, desk) {
         Ok(size) => Ok(Some(size)),
@@ -129,6 +131,7 @@ pub(crate) fn first_current(rows: &[Row]) -> u32
 pub(crate) fn plain_view(alloc: Global, rows: Items<Row>) -> Result<Shown, Memory>
     requires { length rows ≤ 1_000_000 }
     ensures shown { IfOk result (λ shown. shown ≡ plain rows) }
+    ensures current { IfOk result (λ shown. shown.current ≤ length rows) }
 {
     let count = rows.items().len() as u32;
     let current = first_current(rows.items());
@@ -138,4 +141,23 @@ pub(crate) fn plain_view(alloc: Global, rows: Items<Row>) -> Result<Shown, Memor
         rows,
         current,
     })
+}
+
+/// Puts a folder on the desk, whose messages are shown so. The page is that of the current message, where the size of a page is
+/// known.
+pub(crate) fn put_folder(desk: &mut Desk, size: Option<usize>, folder: Open, shown: Shown)
+    requires size { IsKnownSize (page_size desk.old) size }
+    requires some { IfSome size (λ n. 0 < n) }
+    requires desk { IsDesk (with_folder desk.old folder shown) }
+    ensures put { desk.new ≡ with_page (with_folder desk.old folder shown) }
+    ensures valid { IsDesk desk.new }
+{
+    desk.folder = folder;
+    desk.shown = shown;
+    desk.fresh = true;
+    let page = match size {
+        Some(size) => page_of(desk, desk.shown.current, size),
+        None => 0,
+    };
+    desk.page = page;
 }

@@ -5,17 +5,17 @@ ghost use Rattle.session_play.specs.Play.{Play, Ask, Ret, Say, Goes, Caused};
 ghost use Rattle.mailx_vars.specs.Environment.{knows_user};
 ghost use Rattle.read_commands.specs.Desks.{IsDesk};
 ghost use Rattle.read_commands.specs.Effects.{effect};
-ghost use Rattle.mailx_session.specs.Sessions.{asked_for, carried_out, line_play, next_desk};
+ghost use Rattle.mailx_session.specs.Sessions.{asked_for, settled, carried_out, line_play, next_of, next_desk};
 ghost use Rattle.mailx_session.specs.Openings.{first_desk, greeting, Opens};
 
 use crate::flow::{End, Flow};
 use crate::greeting::greeting;
-use crate::opening::{first_desk, known_page_size, marks_of, plain_view, rows_of};
+use crate::opening::{first_desk, known_page_size, marks_of, plain_view, put_folder, rows_of};
 use host_port::Host;
 use mail_text::{Memory, Text};
 use mailx_vars::Places;
 use mbox_scan::Folder;
-use read_commands::{Ask, Desk, Open, Refusal, Steps, page_of, perform_line};
+use read_commands::{Ask, Desk, Effects, Open, Refusal, Steps, perform_line};
 use session_play::{Stop, say};
 use std::alloc::Global;
 use std::marker::Model;
@@ -78,18 +78,13 @@ impl Session {
         let rows = rows_of(self.alloc, &folder)?;
         let marks = marks_of(self.alloc, rows.items())?;
         let shown = plain_view(self.alloc, rows)?;
-        self.desk.folder = Open {
+        let folder = Open {
             name,
             system: false,
             folder,
             marks,
         };
-        self.desk.shown = shown;
-        self.desk.fresh = true;
-        self.desk.page = match size {
-            Some(size) => page_of(&self.desk, self.desk.shown.current, size),
-            None => 0,
-        };
+        put_folder(&mut self.desk, size, folder, shown);
         Ok(())
     }
 
@@ -114,11 +109,21 @@ impl Session {
         ensures ran { Ran H.start H.told H.counts host.old host.new (λ es. Goes (carried_out self.old (Ok steps)) es (next_desk self.new result)) }
         ensures cause { Caused (H.counts host.old) (H.counts host.new) result }
     {
-        match do_asks(host, steps.asks.items())? {
-            Some(end) => Ok(Flow::End(end)),
+        let Steps { asks, effects } = steps;
+        let ended = do_asks(host, asks.items())?;
+        Ok(self.finish(effects, ended))
+    }
+
+    // Makes the changes of a command, unless the run ends.
+    fn finish(&mut self, effects: Effects, ended: Option<End>) -> Flow
+        requires { IsDesk (effect self.old effects) }
+        ensures { settled self.old effects ended ≡ Ret (next_of self.new result) }
+    {
+        match ended {
+            Some(end) => Flow::End(end),
             None => {
-                self.desk.settle(steps.effects);
-                Ok(Flow::Go)
+                self.desk.settle(effects);
+                Flow::Go
             }
         }
     }

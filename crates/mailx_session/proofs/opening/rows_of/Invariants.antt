@@ -1,4 +1,4 @@
-use Rattle.std.proofs.Common.{◌≡◌, take, length}
+use Rattle.std.proofs.Common.{take}
 use Rattle.std.specs.Prelude.{All, IfSome}
 use Rattle.mail_dates.specs.Clock.{IsInYears}
 use Rattle.mbox_scan.specs.Mailbox.{texts_of}

@@ -1,0 +1,64 @@
+-- The desk of a folder that is opened is valid.
+use Rattle.std.proofs.Common.{◌≡◌, ◌≤◌, ◌+◌, ℕ, zero, suc, List, [], ◌∷◌, ◌++◌, length, map, refl, sym, ap, ◌∙◌, arith}
+use Rattle.std.specs.Prelude.{All, IfSome, false}
+use Rattle.std.specs.List.{AllZip, range_with_len}
+use Rattle.std.proofs.lemmas.List.Sorted.{IsPermutation-refl}
+use Rattle.std.proofs.lemmas.List.{length-replicate}
+use Rattle.std.proofs.lemmas.List.FromFn.{length-range_with_len}
+use Rattle.mail_dates.specs.Clock.{IsInYears}
+use Rattle.mbox_scan.specs.Mailbox.{texts_of, pieces, starts}
+use Rattle.mailx_vars.specs.declared.environment.Places.{Places}
+use Rattle.message_state.specs.declared.row.Row.{Row}
+use Rattle.message_state.specs.Rows.{IsRow}
+use Rattle.message_state.specs.Status.{mark_of}
+use Rattle.session_play.specs.Knowing.{AreRows}
+use Rattle.read_commands.specs.declared.desk.Desk.{Desk}
+use Rattle.read_commands.specs.Desks.{IsDesk, AreRowsButMarks}
+use Rattle.mailx_session.specs.Openings.{desk_with, with_folder, with_page, plain, first_current}
+
+-- a row more
+pub zip-push : {A B : Type 0} (R : A → B → Type 0) (xs : List A) (ys : List B) (x : A) (y : B) → AllZip R xs ys → R x y → AllZip R (xs ++ x ∷ []) (ys ++ y ∷ [])
+zip-push R [] [] x y h r = (r, tt)
+zip-push R [] (b ∷ ys) x y h r = absurd h
+zip-push R (a ∷ xs) [] x y h r = absurd h
+zip-push R (a ∷ xs) (b ∷ ys) x y h r = (h.0, zip-push R xs ys x y h.1 r)
+
+-- a number more
+pub range-more : (a n : ℕ) → range_with_len a (suc n) ≡ range_with_len a n ++ (a + n) ∷ []
+range-more a zero = ap (λ (m : ℕ). m ∷ []) (let same : a ≡ a + 0 = omega arith in same)
+range-more a (suc n) =
+    ap (λ (l : List ℕ). a ∷ l) (range-more (a + 1) n) ∙ ap (λ (m : ℕ). a ∷ range_with_len (a + 1) n ++ m ∷ []) (let same : a + 1 + n ≡ a + suc n = omega arith in same)
+
+-- the row of a text is so with its own mark
+marks-aside : (t : List ℕ) (row : Row) → IsRow t row → IsRow t (record row { mark = mark_of t })
+marks-aside t row is = record { mark = refl; subject = is.subject; author = is.author; to = is.to; moment = is.moment; size = is.size; ids = is.ids }
+
+all-aside : (texts : List (List ℕ)) (rows : List Row) → AreRows texts rows → AreRowsButMarks texts rows
+all-aside [] [] h = tt
+all-aside [] (r ∷ rs) h = absurd h
+all-aside (t ∷ ts) [] h = absurd h
+all-aside (t ∷ ts) (r ∷ rs) h = (marks-aside t r h.0, all-aside ts rs h.1)
+
+-- a folder that was just loaded
+pub opened-desk : (desk : Desk) (name bytes : List ℕ) (rows : List Row) → 2 ≤ desk.places.width → AreRows (texts_of bytes) rows → All (λ (row : Row). IfSome row.moment IsInYears) rows → length rows ≤ 1_000_000 → first_current rows ≤ length rows
+    → IsDesk (with_folder desk (record { name = name; system = false; folder = bytes; marks = map (λ row. row.mark) rows }) (plain rows))
+opened-desk desk name bytes rows wide are years few within = record {
+  shown = record { few = few; order = IsPermutation-refl (range_with_len 1 (length rows)); depths = length-replicate (length rows) 0 ∙ sym (length-range_with_len 1 (length rows)); current = within; years = years };
+  rows = all-aside (texts_of bytes) rows are;
+  marks = refl;
+  width = wide;
+}
+
+-- a desk without messages
+pub empty-desk : (places : Places) → 2 ≤ places.width → IsDesk (desk_with places)
+unfolding texts_of pieces starts
+empty-desk places wide = record {
+  shown = record { few = omega arith; order = IsPermutation-refl []; depths = refl; current = omega arith; years = λ k d within. absurd (omega arith) };
+  rows = tt;
+  marks = refl;
+  width = wide;
+}
+
+-- a page is no matter of validity
+pub paged-desk : (desk : Desk) → IsDesk desk → IsDesk (with_page desk)
+paged-desk desk d = record { shown = d.shown; rows = d.rows; marks = d.marks; width = d.width }
