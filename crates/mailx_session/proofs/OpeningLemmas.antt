@@ -8,13 +8,15 @@ use Rattle.std.proofs.lemmas.List.FromFn.{length-range_with_len}
 use Rattle.mail_dates.specs.Clock.{IsInYears}
 use Rattle.mbox_scan.specs.Mailbox.{texts_of, pieces, starts}
 use Rattle.mailx_vars.specs.declared.environment.Places.{Places}
+use Rattle.message_state.specs.declared.mark.Mark.{Mark}
 use Rattle.message_state.specs.declared.row.Row.{Row}
+use Rattle.message_state.specs.declared.shown.Shown.{Shown}
 use Rattle.message_state.specs.Rows.{IsRow}
 use Rattle.message_state.specs.Status.{mark_of}
 use Rattle.session_play.specs.Knowing.{AreRows}
 use Rattle.read_commands.specs.declared.desk.Desk.{Desk}
 use Rattle.read_commands.specs.Desks.{IsDesk, AreRowsButMarks}
-use Rattle.mailx_session.specs.Openings.{desk_with, with_folder, with_page, plain, first_current}
+use Rattle.mailx_session.specs.Openings.{desk_with, with_folder, with_page, plain, first_current, opened}
 
 -- a row more
 pub zip-push : {A B : Type 0} (R : A → B → Type 0) (xs : List A) (ys : List B) (x : A) (y : B) → AllZip R xs ys → R x y → AllZip R (xs ++ x ∷ []) (ys ++ y ∷ [])
@@ -62,3 +64,12 @@ empty-desk places wide = record {
 -- a page is no matter of validity
 pub paged-desk : (desk : Desk) → IsDesk desk → IsDesk (with_page desk)
 paged-desk desk d = record { shown = d.shown; rows = d.rows; marks = d.marks; width = d.width }
+
+-- a folder that was put on the desk is opened
+pub opened-is : (desk new : Desk) (name bytes : List ℕ) (rows : List Row) (marks : List Mark) (shown : Shown) → new ≡ with_page (with_folder desk (record { name = name; system = false; folder = bytes; marks = marks }) shown)
+    → marks ≡ map (λ row. row.mark) rows → shown ≡ plain rows → new ≡ opened desk name bytes rows
+unfolding opened
+opened-is desk new name bytes rows marks shown put same is =
+    put
+    ∙ ap (λ (s : Shown). with_page (with_folder desk (record { name = name; system = false; folder = bytes; marks = marks }) s)) is
+    ∙ ap (λ (ms : List Mark). with_page (with_folder desk (record { name = name; system = false; folder = bytes; marks = ms }) (plain rows))) same

@@ -70,7 +70,7 @@ abbrev pub with_folder : Desk → Open → Shown → Desk
 with_folder desk folder shown = record desk { folder = folder; shown = shown; fresh = true }
 
 -- a folder of these bytes is opened, with the rows of its texts, in order of number
-abbrev pub opened : Desk → List ℕ → List ℕ → List Row → Desk
+unfoldable pub opened : Desk → List ℕ → List ℕ → List Row → Desk
 opened desk name bytes rows = with_page (with_folder desk (record { name = name; system = false; folder = bytes; marks = map (λ row. row.mark) rows }) (plain rows))
 
 -- a folder was opened
@@ -88,5 +88,5 @@ page_or_none (Ok page) = page
 page_or_none (Err line) = []
 
 -- what is said at the start: with `header` set the opening line and the page of the current message
-abbrev pub greeting : Desk → List ℕ
+unfoldable pub greeting : Desk → List ℕ
 greeting desk = if is_set desk.vars (codes "header") then opening_line desk ++ page_or_none (current_page desk) else []

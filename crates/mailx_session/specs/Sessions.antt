@@ -1,5 +1,5 @@
 -- What a session does with a line.
-use Rattle.std.specs.Prelude.{ℕ, List, [], ◌∷◌}
+use Rattle.std.specs.Prelude.{◌≡◌, ℕ, List, [], ◌∷◌}
 use Rattle.std.specs.declared.option.Option.{Option}
 use Rattle.std.specs.declared.option.Option.TheVariants.{Some, None}
 use Rattle.std.specs.declared.result.Result.{Result}
@@ -38,6 +38,11 @@ carried_out desk (Err line) = Ask (Say line) (λ _. Ret (Go desk))
 -- what an input line does
 abbrev pub line_play : Desk → List ℕ → Play (Next Desk End)
 line_play desk line = carried_out desk (commanded desk line)
+
+-- where the run ends, the session is done
+abbrev pub EndsDone : Flow → Type 0
+EndsDone flow.Go = Unit {0}
+EndsDone (flow.End e) = e ≡ Done
 
 -- the next desk, or the end
 abbrev pub next_of : Desk → Flow → Next Desk End

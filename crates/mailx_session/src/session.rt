@@ -1,11 +1,11 @@
 // A session and its lines.
-ghost use Rattle.std.specs.Prelude.{◌≡◌, true, Ok, IfOk, OnOk, OnErr};
+ghost use Rattle.std.specs.Prelude.{◌≡◌, true, Ok, IfOk, IfSome, OnOk, OnErr};
 ghost use Rattle.host_port.specs.Ran.{Ran};
 ghost use Rattle.session_play.specs.Play.{Play, Ask, Ret, Say, Goes, Caused};
 ghost use Rattle.mailx_vars.specs.Environment.{knows_user};
 ghost use Rattle.read_commands.specs.Desks.{IsDesk};
 ghost use Rattle.read_commands.specs.Effects.{effect};
-ghost use Rattle.mailx_session.specs.Sessions.{asked_for, settled, carried_out, line_play, next_of, next_desk};
+ghost use Rattle.mailx_session.specs.Sessions.{asked_for, settled, carried_out, line_play, next_of, next_desk, EndsDone};
 ghost use Rattle.mailx_session.specs.Openings.{first_desk, greeting, Opens};
 
 use crate::flow::{End, Flow};
@@ -41,6 +41,7 @@ impl Model for Session {
 // Does what is asked for, in order, up to what ends the run.
 fn do_asks<H: Host>(host: &mut H, asks: &[Ask]) -> Result<Option<End>, Stop>
     ensures ran { Ran H.start H.told H.counts host.old host.new (λ es. Goes (asked_for asks.now) es result) }
+    ensures done { IfOk result (λ ended. IfSome ended (λ e. e ≡ End.Done)) }
     ensures cause { Caused (H.counts host.old) (H.counts host.new) result }
 {
     for ask in asks {
@@ -107,6 +108,7 @@ impl Session {
     fn carry_out<H: Host>(&mut self, host: &mut H, steps: Steps) -> Result<Flow, Stop>
         requires { IsDesk (effect self.old steps.effects) }
         ensures ran { Ran H.start H.told H.counts host.old host.new (λ es. Goes (carried_out self.old (Ok steps)) es (next_desk self.new result)) }
+        ensures done { IfOk result EndsDone }
         ensures cause { Caused (H.counts host.old) (H.counts host.new) result }
     {
         let Steps { asks, effects } = steps;
@@ -117,7 +119,8 @@ impl Session {
     // Makes the changes of a command, unless the run ends.
     fn finish(&mut self, effects: Effects, ended: Option<End>) -> Flow
         requires { IsDesk (effect self.old effects) }
-        ensures { settled self.old effects ended ≡ Ret (next_of self.new result) }
+        ensures settled { settled self.old effects ended ≡ Ret (next_of self.new result) }
+        ensures done { IfSome ended (λ e. e ≡ End.Done) → EndsDone result }
     {
         match ended {
             Some(end) => Flow::End(end),
@@ -131,6 +134,7 @@ impl Session {
     /// Takes one input line, without its line feed.
     pub fn step<H: Host>(&mut self, line: &[u8], host: &mut H) -> Result<Flow, Stop>
         ensures ran { Ran H.start H.told H.counts host.old host.new (λ es. Goes (line_play self.old line.now) es (next_desk self.new result)) }
+        ensures done { IfOk result EndsDone }
         ensures cause { Caused (H.counts host.old) (H.counts host.new) result }
     {
         match perform_line(self.alloc, line, &self.desk) {

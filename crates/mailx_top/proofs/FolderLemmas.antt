@@ -1,5 +1,5 @@
 -- A mailbox with too many messages.
-use Rattle.std.proofs.Common.{◌≡◌, ◌<◌, ℕ, suc, true, List, [], ◌∷◌, length, refl, sym, ap, ◌∙◌, ⊎_elim, arith}
+use Rattle.std.proofs.Common.{◌≡◌, ◌<◌, ℕ, suc, true, List, [], ◌∷◌, length, refl, sym, ap, ◌∙◌, ⊎_elim, subst, inl, arith}
 use Rattle.std.specs.Prelude.{nat_lt}
 use Rattle.std.specs.declared.option.Option.TheVariants.{Some, None}
 use Rattle.std.proofs.lemmas.Bool.{cases_Bool, cond-true, cond-false}
@@ -13,7 +13,13 @@ use Rattle.mail_text.specs.Lines.{with_feed}
 use Rattle.mailx_session.specs.declared.flow.End.TheVariants as ending
 use Rattle.mailx_top.specs.declared.environment.Environment.{Environment}
 use Rattle.mailx_top.specs.Words.{Start}
-use Rattle.mailx_top.specs.Meaning.{with_list, says_and_ends, message_limit}
+use Rattle.host_port.specs.declared.event.Event.{Event}
+use Rattle.session_play.specs.declared.stop.Stop.{Stop}
+use Rattle.session_play.specs.Play.{Goes, Next}
+use Rattle.read_commands.specs.declared.desk.Desk.{Desk}
+use Rattle.mailx_session.specs.declared.flow.End.{End}
+use Rattle.mailx_session.specs.Openings.{first_desk, Opens}
+use Rattle.mailx_top.specs.Meaning.{State, with_list, begun, greeted, says_and_ends, message_limit}
 use Rattle.std.specs.Prelude.{◌++◌, codes}
 use borrow.Author.Tests.{lt-ltb}
 
@@ -30,6 +36,13 @@ length-texts b = length-pieces b (starts b)
 listed : (b : List ℕ) → (list_of b ≡ None → ⊥) → list_of b ≡ Some (texts_of b)
 unfolding list_of
 listed b some = ⊎_elim (λ t. cond-true _ _ _ t) (λ f. absurd (some (cond-false _ _ _ f))) (cases_Bool (is_mailbox b))
+
+-- a session that was opened goes as it is greeted
+pub begun-goes : (env : Environment) (start : Start) (bytes : List ℕ) (desk : Desk) (out : Result (Next State End) Stop) → Opens (first_desk env.pairs) start.file bytes desk → (es : List Event) → Goes (greeted start.quiet desk) es out
+    → Goes (begun env start bytes (texts_of bytes)) es out
+begun-goes env start bytes desk out (rows, are, is) es went =
+    let G : Desk → Type 0 = λ d. Goes (greeted start.quiet d) es out in
+    inl (rows, [], es, refl, (refl, are), subst G is went)
 
 abbrev pub failed : ScanError → Result Folder ScanError
 failed e = Err e

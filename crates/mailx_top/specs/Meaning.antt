@@ -53,12 +53,16 @@ greeted false desk = Ask (Say (greeting desk)) (λ _. Ret (Go (Reading desk no_i
 abbrev pub message_limit : ℕ
 message_limit = 1000000
 
+-- a folder with these texts is opened
+abbrev pub begun : Environment → Start → List ℕ → List (List ℕ) → Play (Next State End)
+begun env start bytes texts = Ask (Know texts) (λ rows. greeted start.quiet (opened (first_desk env.pairs) start.file bytes rows))
+
 -- a folder of these bytes is opened, where its texts are defined and not too many
 abbrev pub with_list : Environment → Start → List ℕ → Option (List (List ℕ)) → Play (Next State End)
 with_list env start bytes None = says_and_ends (with_feed (start.file ++ codes ": not a mailbox")) ending.NoFolder
 with_list env start bytes (Some texts) =
     if nat_lt message_limit (length texts) then says_and_ends (with_feed (start.file ++ codes ": too many messages")) ending.NoFolder
-    else Ask (Know texts) (λ rows. greeted start.quiet (opened (first_desk env.pairs) start.file bytes rows))
+    else begun env start bytes texts
 
 -- what follows the load of the folder
 abbrev pub loaded : Environment → Start → Found → Play (Next State End)

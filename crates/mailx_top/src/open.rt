@@ -1,13 +1,13 @@
 // The opening of the folder.
-ghost use Rattle.std.specs.Prelude.{◌≡◌, ◌++◌, true, IfOk, IfErr};
+ghost use Rattle.std.specs.Prelude.{◌≡◌, ◌++◌, true, false, IfOk, IfErr};
 ghost use Rattle.host_port.specs.Ran.{Ran};
 ghost use Rattle.mail_text.specs.Lines.{with_feed};
 ghost use Rattle.mbox_scan.specs.Mailbox.{texts_of, list_of};
-ghost use Rattle.session_play.specs.Play.{Play, Ask, Read, Know, Goes, Caused};
+ghost use Rattle.session_play.specs.Play.{Play, Ask, Read, Goes, Caused};
 ghost use Rattle.mailx_vars.specs.Environment.{knows_user};
 ghost use Rattle.mailx_vars.specs.Names.{is_short_name};
-ghost use Rattle.mailx_session.specs.Openings.{first_desk, opened};
-ghost use Rattle.mailx_top.specs.Meaning.{opening, loaded, with_list, greeted, says_and_ends};
+ghost use Rattle.mailx_session.specs.Openings.{first_desk, Opens};
+ghost use Rattle.mailx_top.specs.Meaning.{opening, loaded, with_list, begun, greeted, says_and_ends};
 ghost use Rattle.mailx_top.specs.Opened.{opened_state};
 ghost use Rattle.mailx_top.specs.Usage.{IsUsageCut, OpensWithoutUsage, OpensAsNamed};
 ghost use Rattle.mailx_top.specs.Wants.{start_from};
@@ -72,23 +72,51 @@ fn end_at_file<H: Host>(
     end_with(host, line.bytes(), end)
 }
 
+// Says the greeting of a session.
+fn greet_aloud<H: Host>(host: &mut H, session: Session) -> Result<Opened, Stop>
+    ensures ran { Ran H.start H.told H.counts host.old host.new
+        (λ es. Goes (greeted false session) es (opened_state result)) }
+    ensures cause { Caused (H.counts host.old) (H.counts host.new) result }
+    ensures plain { OpensWithoutUsage result }
+{
+    let greeting = match session.greeting() {
+        Ok(greeting) => greeting,
+        Err(Memory) => return Err(Stop::Memory),
+    };
+    match say(host, greeting.bytes()) {
+        Ok(()) => Ok(Opened::Folder(session)),
+        Err(cause) => Err(cause),
+    }
+}
+
 // Says the greeting of a session, unless it is to be quiet.
-fn greet<H: Host>(
-    alloc: Global,
-    host: &mut H,
-    quiet: bool,
-    session: Session,
-) -> Result<Opened, Stop>
+fn greet<H: Host>(host: &mut H, quiet: bool, session: Session) -> Result<Opened, Stop>
     ensures ran { Ran H.start H.told H.counts host.old host.new
         (λ es. Goes (greeted quiet session) es (opened_state result)) }
     ensures cause { Caused (H.counts host.old) (H.counts host.new) result }
     ensures plain { OpensWithoutUsage result }
 {
-    if !quiet {
-        let greeting = session.greeting()?;
-        say(host, greeting.bytes())?;
+    if quiet {
+        Ok(Opened::Folder(session))
+    } else {
+        greet_aloud(host, session)
     }
-    Ok(Opened::Folder(session))
+}
+
+// A session with a folder.
+fn new_session(
+    alloc: Global,
+    env: &Environment,
+    file: &[u8],
+    folder: Folder,
+) -> Result<Session, Memory>
+    requires { knows_user env.now.pairs ≡ true }
+    ensures { IfOk result (λ session. Opens (first_desk env.now.pairs) file.now folder session) }
+{
+    let mut session = Session::new(alloc, env.pairs.items())?;
+    let name = Text::copy(alloc, file)?;
+    session.open(name, folder)?;
+    Ok(session)
 }
 
 // Begins a session with a folder.
@@ -101,14 +129,14 @@ fn begin<H: Host>(
 ) -> Result<Opened, Stop>
     requires { knows_user env.now.pairs ≡ true }
     ensures ran { Ran H.start H.told H.counts host.old host.new
-        (λ es. Goes (Ask (Know (texts_of folder)) (λ rows. greeted start.quiet (opened (first_desk env.now.pairs) start.file.now folder rows))) es (opened_state result)) }
+        (λ es. Goes (begun env.now (start_from start.entry) folder (texts_of folder)) es (opened_state result)) }
     ensures cause { Caused (H.counts host.old) (H.counts host.new) result }
     ensures plain { OpensWithoutUsage result }
 {
-    let mut session = Session::new(alloc, env.pairs.items())?;
-    let name = Text::copy(alloc, start.file)?;
-    session.open(name, folder)?;
-    greet(alloc, host, start.quiet, session)
+    match new_session(alloc, env, start.file, folder) {
+        Ok(session) => greet(host, start.quiet, session),
+        Err(Memory) => Err(Stop::Memory),
+    }
 }
 
 fn open_bytes<H: Host>(
@@ -120,7 +148,7 @@ fn open_bytes<H: Host>(
 ) -> Result<Opened, Stop>
     requires { knows_user env.now.pairs ≡ true }
     ensures ran { Ran H.start H.told H.counts host.old host.new
-        (λ es. Goes (with_list env.now (start_from start) bytes (list_of bytes)) es (opened_state result)) }
+        (λ es. Goes (with_list env.now (start_from start.entry) bytes (list_of bytes)) es (opened_state result)) }
     ensures cause { Caused (H.counts host.old) (H.counts host.new) result }
     ensures plain { OpensWithoutUsage result }
 {
@@ -145,7 +173,7 @@ fn open_found<H: Host>(
 ) -> Result<Opened, Stop>
     requires { knows_user env.now.pairs ≡ true }
     ensures ran { Ran H.start H.told H.counts host.old host.new
-        (λ es. Goes (loaded env.now (start_from start) found) es (opened_state result)) }
+        (λ es. Goes (loaded env.now (start_from start.entry) found) es (opened_state result)) }
     ensures cause { Caused (H.counts host.old) (H.counts host.new) result }
     ensures plain { OpensWithoutUsage result }
 {
@@ -176,7 +204,7 @@ fn load_and_open<H: Host>(
     requires name { is_short_name start.file.now ≡ true }
     requires user { knows_user env.now.pairs ≡ true }
     ensures ran { Ran H.start H.told H.counts host.old host.new
-        (λ es. Goes (Ask (Read start.file.now) (loaded env.now (start_from start))) es (opened_state result)) }
+        (λ es. Goes (Ask (Read start.entry.file.now) (loaded env.now (start_from start.entry))) es (opened_state result)) }
     ensures cause { Caused (H.counts host.old) (H.counts host.new) result }
     ensures plain { OpensWithoutUsage result }
 {
@@ -192,7 +220,7 @@ fn open_named<H: Host>(
 ) -> Result<Opened, Stop>
     requires { knows_user env.now.pairs ≡ true }
     ensures ran { Ran H.start H.told H.counts host.old host.new
-        (λ es. Goes (opening env.now (Some (start_from start))) es (opened_state result)) }
+        (λ es. Goes (opening env.now (Some (start_from start.entry))) es (opened_state result)) }
     ensures cause { Caused (H.counts host.old) (H.counts host.new) result }
     ensures plain { OpensWithoutUsage result }
 {

@@ -1,14 +1,13 @@
 // A session by lines.
-ghost use Rattle.std.specs.Prelude.{◌≡◌, ◌<◌, None, IfOk, IfNone, IfSome, IsSome, unwrap_or, [], codes};
+ghost use Rattle.std.specs.Prelude.{◌≡◌, ◌<◌, Some, IfOk, IfNone, IfSome, unwrap_or, [], codes};
 ghost use Rattle.mailx_vars.specs.Settings.{value_of};
 ghost use Rattle.host_port.specs.Ran.{Ran};
 ghost use Rattle.session_play.specs.Input.{Input, left, no_input};
-ghost use Rattle.session_play.specs.Play.{Play, Ret, Goes, Loop, Caused};
+ghost use Rattle.session_play.specs.Play.{Play, Ask, Line, Goes, Loop, Caused};
 ghost use Rattle.mailx_top.specs.Meaning.{round, State, Reading, next_state, turn, prompted};
 
 use crate::Environment;
 use host_port::Host;
-use mail_text::Text;
 use mailx_session::{End, Flow, Session};
 use session_play::{Reader, Stop, say};
 use std::alloc::Global;
@@ -35,24 +34,41 @@ fn say_prompt<H: Host>(host: &mut H, terminal: bool, session: &Session) -> Resul
     }
 }
 
-// Takes a line, or the end of input.
-fn take_line<H: Host>(
+// Takes a line.
+fn step<H: Host>(
     host: &mut H,
     session: &mut Session,
-    line: Option<Text>,
+    line: &[u8],
 ) -> Result<Option<End>, Stop>
     ensures ran { (j : Input) → Ran H.start H.told H.counts host.old host.new
-        (λ es. Goes (turn session.old j line) es (next_state session.new j result)) }
+        (λ es. Goes (turn session.old j (Some line.now)) es (next_state session.new j result)) }
     ensures cause { Caused (H.counts host.old) (H.counts host.new) result }
-    ensures ended { line ≡ None → IfOk result IsSome }
     ensures done { IfOk result (λ end. IfSome end (λ e. e ≡ End.Done)) }
 {
-    match line {
-        None => Ok(Some(session.end())),
-        Some(line) => match session.step(line.bytes(), host)? {
-            Flow::Go => Ok(None),
-            Flow::End(end) => Ok(Some(end)),
-        },
+    match session.step(line, host) {
+        Ok(Flow::Go) => Ok(None),
+        Ok(Flow::End(end)) => Ok(Some(end)),
+        Err(cause) => Err(cause),
+    }
+}
+
+// Takes the next line, or the end of input.
+fn next_line<H: Host>(
+    alloc: Global,
+    host: &mut H,
+    reader: &mut Reader,
+    session: &mut Session,
+) -> Result<Option<End>, Stop>
+    ensures ran { Ran H.start H.told H.counts host.old host.new
+        (λ es. Goes (Ask (Line reader.old) (λ a. turn session.old a.1 a.0)) es (next_state session.new reader.new result)) }
+    ensures cause { Caused (H.counts host.old) (H.counts host.new) result }
+    ensures progress { IfOk result (λ end. IfNone end (left reader.new < left reader.old)) }
+    ensures done { IfOk result (λ end. IfSome end (λ e. e ≡ End.Done)) }
+{
+    match reader.line(alloc, host) {
+        Ok(Some(line)) => step(host, session, line.bytes()),
+        Ok(None) => Ok(Some(session.end())),
+        Err(cause) => Err(cause),
     }
 }
 
@@ -69,9 +85,10 @@ fn one_line<H: Host>(
     ensures progress { IfOk result (λ end. IfNone end (left reader.new < left reader.old)) }
     ensures done { IfOk result (λ end. IfSome end (λ e. e ≡ End.Done)) }
 {
-    say_prompt(host, env.terminal, session)?;
-    let line = reader.line(alloc, host)?;
-    take_line(host, session, line)
+    match say_prompt(host, env.terminal, session) {
+        Ok(()) => next_line(alloc, host, reader, session),
+        Err(cause) => Err(cause),
+    }
 }
 
 /// Lines from the input, to its end or to the line that ends the run.

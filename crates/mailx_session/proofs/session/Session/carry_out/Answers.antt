@@ -11,4 +11,4 @@ returns-in_err-ended-clause-ran g c =
 
 pub returns-clause-ran : goal.returns-clause-ran
 returns-clause-ran g c =
-    Ran-map (λ es went. goes-as (asked_for c.args.steps.asks) (settled c.args.self.now c.args.steps.effects) c.in_ok-ended.ended (next_of c.finish.new.self c.finish.result) es c.finish.ensures went) (rw c.items.ensures at c.in_ok-ended.ensures.ran)
+    Ran-map (λ es went. goes-as (asked_for c.args.steps.asks) (settled c.args.self.now c.args.steps.effects) c.in_ok-ended.ended (next_of c.finish.new.self c.finish.result) es c.finish.ensures.settled went) (rw c.items.ensures at c.in_ok-ended.ensures.ran)
