@@ -2,6 +2,6 @@ pub mod ShapeLemmas
 pub mod LineLemmas
 pub mod EndLemmas
 pub mod FolderLemmas
+pub mod NameLemmas
 pub mod RoundLemmas
-pub mod UsageLemmas
 pub mod OpeningLemmas

@@ -186,21 +186,21 @@ greeted-ends : (quiet : Bool) (desk : Desk) → Loadless (greeted quiet desk) ×
 greeted-ends true desk = (tt, (tt, refl))
 greeted-ends false desk = (λ u. tt, λ u. (tt, refl))
 
-list-ends : (env : Environment) (start : Start) (bytes : List ℕ) (l : Option (List (List ℕ))) → Loadless (with_list env start bytes l) × Ends (EndsWith (end_of_list l)) (with_list env start bytes l)
-list-ends env start bytes None = (λ u. tt, λ u. refl)
-list-ends env start bytes (Some texts) = go (nat_lt message_limit (length texts))
+list-ends : (desk : Desk) (start : Start) (bytes : List ℕ) (l : Option (List (List ℕ))) → Loadless (with_list desk start bytes l) × Ends (EndsWith (end_of_list l)) (with_list desk start bytes l)
+list-ends desk start bytes None = (λ u. tt, λ u. refl)
+list-ends desk start bytes (Some texts) = go (nat_lt message_limit (length texts))
   where
-    go : (b : Bool) → let p = if b then says_and_ends (with_feed (start.file ++ codes ": too many messages")) ending.NoFolder else Ask (Know texts) (λ rows. greeted start.quiet (opened (first_desk env.pairs) start.file bytes rows)) in
+    go : (b : Bool) → let p = if b then says_and_ends (with_feed (start.file ++ codes ": too many messages")) ending.NoFolder else Ask (Know texts) (λ rows. greeted start.quiet (opened desk start.file bytes rows)) in
         Loadless p × Ends (EndsWith (if b then ending.NoFolder else ending.Done)) p
     go true = (λ u. tt, λ u. refl)
     go false =
-        (λ rows. (greeted-ends start.quiet (opened (first_desk env.pairs) start.file bytes rows)).0, λ rows. (greeted-ends start.quiet (opened (first_desk env.pairs) start.file bytes rows)).1)
+        (λ rows. (greeted-ends start.quiet (opened desk start.file bytes rows)).0, λ rows. (greeted-ends start.quiet (opened desk start.file bytes rows)).1)
 
-loaded-ends : (env : Environment) (start : Start) (f : Found) → Loadless (loaded env start f) × Ends (EndsWith (end_of f)) (loaded env start f)
-loaded-ends env start (found.Bytes bytes true) = (λ u. tt, λ u. refl)
-loaded-ends env start (found.Bytes None false) = (λ u. tt, λ u. refl)
-loaded-ends env start (found.Bytes (Some bytes) false) = list-ends env start bytes (list_of bytes)
-loaded-ends env start (found.TooLarge n) = (λ u. tt, λ u. refl)
+loaded-ends : (desk : Desk) (start : Start) (f : Found) → Loadless (loaded desk start f) × Ends (EndsWith (end_of f)) (loaded desk start f)
+loaded-ends desk start (found.Bytes bytes true) = (λ u. tt, λ u. refl)
+loaded-ends desk start (found.Bytes None false) = (λ u. tt, λ u. refl)
+loaded-ends desk start (found.Bytes (Some bytes) false) = list-ends desk start bytes (list_of bytes)
+loaded-ends desk start (found.TooLarge n) = (λ u. tt, λ u. refl)
 
 -- how an end and what was seen belong together
 record Matches (start : Option Start) (es : List Event) (e : End) : Type 0 where
@@ -324,12 +324,12 @@ explained-cut start es out cause is = subst (λ o. IsOpeningExplained start o es
   no_folder_always = λ h. tt;
 })
 
-explained-found : (env : Environment) (start : Start) (es : List Event) (out : Result End Stop) → is_short_name start.file ≡ true → AfterLoad env start.file (loaded env start) es out → IsOpeningExplained (Some start) out es
-explained-found env start es out short (inr (cause, is)) = explained-cut (Some start) es out cause is
-explained-found env start es out short (inl (f, rest, is, goes)) =
-    let l = loaded-ends env start f in
-    let x = continues-with env saw_held (end_of f) (loaded env start f) rest out l.0 l.1 goes in
-    let y = continues-with env saw_no_folder (end_of f) (loaded env start f) rest out l.0 l.1 goes in
+explained-found : (env : Environment) (desk : Desk) (start : Start) (es : List Event) (out : Result End Stop) → is_short_name start.file ≡ true → AfterLoad env start.file (loaded desk start) es out → IsOpeningExplained (Some start) out es
+explained-found env desk start es out short (inr (cause, is)) = explained-cut (Some start) es out cause is
+explained-found env desk start es out short (inl (f, rest, is, goes)) =
+    let l = loaded-ends desk start f in
+    let x = continues-with env saw_held (end_of f) (loaded desk start f) rest out l.0 l.1 goes in
+    let y = continues-with env saw_no_folder (end_of f) (loaded desk start f) rest out l.0 l.1 goes in
     let E : List Event → Type 0 = λ es. IsOpeningExplained (Some start) out es in
     subst E (sym is) (explained-as (Some start) _ out (end_of f) (matches-found start rest f short x.0 y.0) x.1)
 
@@ -343,8 +343,8 @@ explained-opening : (env : Environment) (start : Option Start) (es : List Event)
 explained-opening env None es out goes = explained-said env None usage ending.Usage es out goes (matches-none es)
 explained-opening env (Some start) es out goes = go (is_short_name start.file) refl goes
   where
-    go : (b : Bool) → is_short_name start.file ≡ b → Continues env (if b then Ask (Read start.file) (loaded env start) else says_and_ends (with_feed (start.file ++ codes ": bad name")) ending.NoFolder) es out → IsOpeningExplained (Some start) out es
-    go true is goes = explained-found env start es out is (after-load env start.file (loaded env start) es out goes)
+    go : (b : Bool) → is_short_name start.file ≡ b → Continues env (if b then Ask (Read start.file) (loaded (first_desk env.pairs) start) else says_and_ends (with_feed (start.file ++ codes ": bad name")) ending.NoFolder) es out → IsOpeningExplained (Some start) out es
+    go true is goes = explained-found env (first_desk env.pairs) start es out is (after-load env start.file (loaded (first_desk env.pairs) start) es out goes)
     go false is goes = explained-said env (Some start) (with_feed (start.file ++ codes ": bad name")) ending.NoFolder es out goes (λ x y. matches-bad start es is x)
 
 -- a run from its opening tells why it opened no folder

@@ -31,20 +31,20 @@ threads-greeted : (quiet : Bool) (desk : Desk) → On no_input (greeted quiet de
 threads-greeted true desk = refl
 threads-greeted false desk = λ u. refl
 
-threads-list : (env : Environment) (start : Start) (bytes : List ℕ) (l : Option (List (List ℕ))) → On no_input (with_list env start bytes l)
-threads-list env start bytes None = λ u. tt
-threads-list env start bytes (Some texts) =
-    both (nat_lt message_limit (length texts)) _ _ no_input (λ u. tt) (λ rows. threads-greeted start.quiet (opened (first_desk env.pairs) start.file bytes rows))
+threads-list : (desk : Desk) (start : Start) (bytes : List ℕ) (l : Option (List (List ℕ))) → On no_input (with_list desk start bytes l)
+threads-list desk start bytes None = λ u. tt
+threads-list desk start bytes (Some texts) =
+    both (nat_lt message_limit (length texts)) _ _ no_input (λ u. tt) (λ rows. threads-greeted start.quiet (opened desk start.file bytes rows))
 
-threads-loaded : (env : Environment) (start : Start) (f : Found) → On no_input (loaded env start f)
-threads-loaded env start (found.Bytes bytes true) = λ u. tt
-threads-loaded env start (found.Bytes None false) = λ u. tt
-threads-loaded env start (found.Bytes (Some bytes) false) = threads-list env start bytes (list_of bytes)
-threads-loaded env start (found.TooLarge n) = λ u. tt
+threads-loaded : (desk : Desk) (start : Start) (f : Found) → On no_input (loaded desk start f)
+threads-loaded desk start (found.Bytes bytes true) = λ u. tt
+threads-loaded desk start (found.Bytes None false) = λ u. tt
+threads-loaded desk start (found.Bytes (Some bytes) false) = threads-list desk start bytes (list_of bytes)
+threads-loaded desk start (found.TooLarge n) = λ u. tt
 
 threads-opening : (env : Environment) (start : Option Start) → On no_input (opening env start)
 threads-opening env None = λ u. tt
-threads-opening env (Some start) = both (is_short_name start.file) _ _ no_input (threads-loaded env start) (λ u. tt)
+threads-opening env (Some start) = both (is_short_name start.file) _ _ no_input (threads-loaded (first_desk env.pairs) start) (λ u. tt)
 
 threads-with : (i : Input) (n : Next Desk End) (j : Input) → j ≡ i → On j (with_input i n)
 threads-with i (Go desk) j same = same

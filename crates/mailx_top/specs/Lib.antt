@@ -3,6 +3,5 @@ pub mod Wants
 pub mod Meaning
 pub mod Statuses
 pub mod Runs
-pub mod Opened
 pub mod Usage
 pub mod Openings

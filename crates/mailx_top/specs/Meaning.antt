@@ -54,33 +54,37 @@ abbrev pub message_limit : ℕ
 message_limit = 1000000
 
 -- a folder with these texts is opened
-abbrev pub begun : Environment → Start → List ℕ → List (List ℕ) → Play (Next State End)
-begun env start bytes texts = Ask (Know texts) (λ rows. greeted start.quiet (opened (first_desk env.pairs) start.file bytes rows))
+abbrev pub begun : Desk → Start → List ℕ → List (List ℕ) → Play (Next State End)
+begun desk start bytes texts = Ask (Know texts) (λ rows. greeted start.quiet (opened desk start.file bytes rows))
 
 -- a folder of these bytes is opened, where its texts are defined and not too many
-abbrev pub with_list : Environment → Start → List ℕ → Option (List (List ℕ)) → Play (Next State End)
-with_list env start bytes None = says_and_ends (with_feed (start.file ++ codes ": not a mailbox")) ending.NoFolder
-with_list env start bytes (Some texts) =
+abbrev pub with_list : Desk → Start → List ℕ → Option (List (List ℕ)) → Play (Next State End)
+with_list desk start bytes None = says_and_ends (with_feed (start.file ++ codes ": not a mailbox")) ending.NoFolder
+with_list desk start bytes (Some texts) =
     if nat_lt message_limit (length texts) then says_and_ends (with_feed (start.file ++ codes ": too many messages")) ending.NoFolder
-    else begun env start bytes texts
+    else begun desk start bytes texts
 
 -- what follows the load of the folder
-abbrev pub loaded : Environment → Start → Found → Play (Next State End)
-loaded env start (found.Bytes bytes true) = says_and_ends (with_feed (start.file ++ codes ": busy")) ending.Refused
-loaded env start (found.Bytes None false) = says_and_ends (with_feed (start.file ++ codes ": no such file")) ending.NoFolder
-loaded env start (found.Bytes (Some bytes) false) = with_list env start bytes (list_of bytes)
-loaded env start (found.TooLarge n) = says_and_ends (with_feed (start.file ++ codes ": too large")) ending.NoFolder
+abbrev pub loaded : Desk → Start → Found → Play (Next State End)
+loaded desk start (found.Bytes bytes true) = says_and_ends (with_feed (start.file ++ codes ": busy")) ending.Refused
+loaded desk start (found.Bytes None false) = says_and_ends (with_feed (start.file ++ codes ": no such file")) ending.NoFolder
+loaded desk start (found.Bytes (Some bytes) false) = with_list desk start bytes (list_of bytes)
+loaded desk start (found.TooLarge n) = says_and_ends (with_feed (start.file ++ codes ": too large")) ending.NoFolder
+
+-- the folder is loaded, where its name can be a file's
+abbrev pub starting : Desk → Start → Play (Next State End)
+starting desk start =
+    if is_short_name start.file then Ask (Read start.file) (loaded desk start)
+    else says_and_ends (with_feed (start.file ++ codes ": bad name")) ending.NoFolder
 
 -- the usage
 abbrev pub usage : List ℕ
 usage = with_feed (codes "usage: mailx [-eHiNnF] [-f [file]] [-u user] [-s subject] [-b names] [-c names] [address...]")
 
--- the folder is loaded, where its name can be a file's
+-- a run starts on its first desk, or its words are refused
 abbrev pub opening : Environment → Option Start → Play (Next State End)
 opening env None = says_and_ends usage ending.Usage
-opening env (Some start) =
-    if is_short_name start.file then Ask (Read start.file) (loaded env start)
-    else says_and_ends (with_feed (start.file ++ codes ": bad name")) ending.NoFolder
+opening env (Some start) = starting (first_desk env.pairs) start
 
 -- what a run in this environment does from a state on, to its next state or its end
 abbrev pub round : Environment → State → Play (Next State End)

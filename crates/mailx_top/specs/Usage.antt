@@ -11,17 +11,11 @@ use Rattle.mailx_session.specs.declared.flow.End.TheVariants as ending
 use Rattle.mailx_top.specs.Words.{Start}
 use Rattle.mailx_top.specs.declared.status.Status.{Status}
 use Rattle.mailx_top.specs.declared.status.Status.TheVariants as status
-use Rattle.mailx_top.specs.declared.open.Opened.{Opened}
-use Rattle.mailx_top.specs.declared.open.Opened.TheVariants as opened_as
 
 -- an end that isn't the one of refused words
 abbrev pub IsNoUsage : End → Type 0
 IsNoUsage ending.Usage = ⊥
 IsNoUsage e = Unit {0}
-
-abbrev pub OpensWithoutUsage : Result Opened Stop → Type 0
-OpensWithoutUsage (Ok (opened_as.Ended e)) = IsNoUsage e
-OpensWithoutUsage r = Unit {0}
 
 -- refused words end so, or are cut off where the output fails or memory is wanted
 abbrev pub IsUsageCut : Stop → Type 0
@@ -29,13 +23,7 @@ IsUsageCut stop.Output = Unit {0}
 IsUsageCut stop.Memory = Unit {0}
 IsUsageCut cause = ⊥
 
--- the opening ends as refused words do exactly where there is no way to start
-abbrev pub OpensAsNamed : Option Start → Result Opened Stop → Type 0
-OpensAsNamed (Some start) r = OpensWithoutUsage r
-OpensAsNamed None (Ok (opened_as.Ended e)) = e ≡ ending.Usage
-OpensAsNamed None (Ok (opened_as.Folder desk)) = ⊥
-OpensAsNamed None (Err cause) = IsUsageCut cause
-
+-- a run ends as refused words do exactly where there is no way to start
 abbrev pub EndsAsNamed : Option Start → Result End Stop → Type 0
 EndsAsNamed (Some start) (Ok e) = IsNoUsage e
 EndsAsNamed (Some start) (Err cause) = Unit {0}

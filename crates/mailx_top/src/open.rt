@@ -1,21 +1,19 @@
 // The opening of the folder.
-ghost use Rattle.std.specs.Prelude.{◌≡◌, ◌++◌, true, false, IfOk, IfErr};
+ghost use Rattle.std.specs.Prelude.{◌≡◌, ◌++◌, true, false, Some, None, IfOk, IfSome};
 ghost use Rattle.host_port.specs.Ran.{Ran};
 ghost use Rattle.mail_text.specs.Lines.{with_feed};
 ghost use Rattle.mbox_scan.specs.Mailbox.{texts_of, list_of};
-ghost use Rattle.session_play.specs.Play.{Play, Ask, Read, Goes, Caused};
-ghost use Rattle.mailx_vars.specs.Environment.{knows_user};
+ghost use Rattle.session_play.specs.Input.{no_input};
+ghost use Rattle.session_play.specs.Play.{Play, Ask, Read, Goes, Loop, Caused};
 ghost use Rattle.mailx_vars.specs.Names.{is_short_name};
-ghost use Rattle.mailx_session.specs.Openings.{first_desk, Opens};
-ghost use Rattle.mailx_top.specs.Meaning.{opening, loaded, with_list, begun, greeted, says_and_ends};
-ghost use Rattle.mailx_top.specs.Opened.{opened_state};
-ghost use Rattle.mailx_top.specs.Usage.{IsUsageCut, OpensWithoutUsage, OpensAsNamed};
+ghost use Rattle.read_commands.specs.declared.desk.Desk.{Desk};
+ghost use Rattle.mailx_session.specs.Openings.{Opens};
+ghost use Rattle.mailx_top.specs.declared.environment.Environment.{Environment};
+ghost use Rattle.mailx_top.specs.Meaning.{starting, loaded, with_list, begun, greeted, says_and_ends, round, Opening, next_state};
+ghost use Rattle.mailx_top.specs.Usage.{IsNoUsage, EndsAsNamed};
 ghost use Rattle.mailx_top.specs.Wants.{start_from};
-ghost use Rattle.mailx_top.specs.Words.{start_of};
-ghost use Rattle.mailx_top.specs.declared.open.Opened.TheVariants as opened_as;
 
-use crate::Environment;
-use crate::words::{Wanted, start_of};
+use crate::words::Wanted;
 use host_port::Host;
 use mail_text::{Memory, Text};
 use mailx_session::{End, Session};
@@ -24,26 +22,33 @@ use mbox_scan::{Folder, ScanError};
 use session_play::{Found, Stop, load, say};
 use std::alloc::Global;
 
-/// What the opening gives.
-#[derive(Drop)]
-pub(crate) enum Opened {
-    Folder(Session),
-    Ended(End),
-}
-
 const USAGE: &[u8] =
     b"usage: mailx [-eHiNnF] [-f [file]] [-u user] [-s subject] [-b names] [-c names] [address...]\n";
 
-// Says a line and ends.
-fn end_with<H: Host>(host: &mut H, line: &[u8], end: End) -> Result<Opened, Stop>
-    ensures ran { Ran H.start H.told H.counts host.old host.new
-        (λ es. Goes (says_and_ends line.now end) es (opened_state result)) }
+/// Says the usage and ends.
+pub(crate) fn end_with_usage<H: Host>(host: &mut H) -> Result<End, Stop>
+    ensures ran { (env : Environment) → Ran H.start H.told H.counts host.old host.new
+        (λ es. Loop (round env) (Opening None) es result) }
     ensures cause { Caused (H.counts host.old) (H.counts host.new) result }
-    ensures same_end { IfOk result (λ o. o ≡ opened_as.Ended end) }
-    ensures only_output { IfErr result (λ cause. IsUsageCut cause) }
+    ensures named { EndsAsNamed None result }
 {
-    say(host, line)?;
-    Ok(Opened::Ended(end))
+    match say(host, USAGE) {
+        Ok(()) => Ok(End::Usage),
+        Err(cause) => Err(cause),
+    }
+}
+
+// Says a line and ends.
+fn end_with<H: Host>(host: &mut H, line: &[u8], end: End) -> Result<Option<End>, Stop>
+    ensures ran { (desk : Desk) → Ran H.start H.told H.counts host.old host.new
+        (λ es. Goes (says_and_ends line.now end) es (next_state desk no_input result)) }
+    ensures cause { Caused (H.counts host.old) (H.counts host.new) result }
+    ensures same_end { IfOk result (λ e. e ≡ Some end) }
+{
+    match say(host, line) {
+        Ok(()) => Ok(Some(end)),
+        Err(cause) => Err(cause),
+    }
 }
 
 fn fault_line(alloc: Global, name: &[u8], fault: &[u8]) -> Result<Text, Memory>
@@ -62,79 +67,77 @@ fn end_at_file<H: Host>(
     name: &[u8],
     fault: &[u8],
     end: End,
-) -> Result<Opened, Stop>
-    ensures ran { Ran H.start H.told H.counts host.old host.new
-        (λ es. Goes (says_and_ends (with_feed (name.now ++ fault.now)) end) es (opened_state result)) }
+) -> Result<Option<End>, Stop>
+    ensures ran { (desk : Desk) → Ran H.start H.told H.counts host.old host.new
+        (λ es. Goes (says_and_ends (with_feed (name.now ++ fault.now)) end) es (next_state desk no_input result)) }
     ensures cause { Caused (H.counts host.old) (H.counts host.new) result }
-    ensures same_end { IfOk result (λ o. o ≡ opened_as.Ended end) }
+    ensures same_end { IfOk result (λ e. e ≡ Some end) }
 {
-    let line = fault_line(alloc, name, fault)?;
-    end_with(host, line.bytes(), end)
+    match fault_line(alloc, name, fault) {
+        Ok(line) => end_with(host, line.bytes(), end),
+        Err(Memory) => Err(Stop::Memory),
+    }
 }
 
 // Says the greeting of a session.
-fn greet_aloud<H: Host>(host: &mut H, session: Session) -> Result<Opened, Stop>
+fn greet_aloud<H: Host>(host: &mut H, session: &Session) -> Result<Option<End>, Stop>
     ensures ran { Ran H.start H.told H.counts host.old host.new
-        (λ es. Goes (greeted false session) es (opened_state result)) }
+        (λ es. Goes (greeted false session.now) es (next_state session.now no_input result)) }
     ensures cause { Caused (H.counts host.old) (H.counts host.new) result }
-    ensures plain { OpensWithoutUsage result }
+    ensures plain { IfOk result (λ end. IfSome end (λ e. IsNoUsage e)) }
 {
     let greeting = match session.greeting() {
         Ok(greeting) => greeting,
         Err(Memory) => return Err(Stop::Memory),
     };
     match say(host, greeting.bytes()) {
-        Ok(()) => Ok(Opened::Folder(session)),
+        Ok(()) => Ok(None),
         Err(cause) => Err(cause),
     }
 }
 
 // Says the greeting of a session, unless it is to be quiet.
-fn greet<H: Host>(host: &mut H, quiet: bool, session: Session) -> Result<Opened, Stop>
+fn greet<H: Host>(host: &mut H, quiet: bool, session: &Session) -> Result<Option<End>, Stop>
     ensures ran { Ran H.start H.told H.counts host.old host.new
-        (λ es. Goes (greeted quiet session) es (opened_state result)) }
+        (λ es. Goes (greeted quiet session.now) es (next_state session.now no_input result)) }
     ensures cause { Caused (H.counts host.old) (H.counts host.new) result }
-    ensures plain { OpensWithoutUsage result }
+    ensures plain { IfOk result (λ end. IfSome end (λ e. IsNoUsage e)) }
 {
     if quiet {
-        Ok(Opened::Folder(session))
+        Ok(None)
     } else {
         greet_aloud(host, session)
     }
 }
 
-// A session with a folder.
-fn new_session(
+// Puts a folder into the session.
+fn put_folder(
     alloc: Global,
-    env: &Environment,
+    session: &mut Session,
     file: &[u8],
     folder: Folder,
-) -> Result<Session, Memory>
-    requires { knows_user env.now.pairs ≡ true }
-    ensures { IfOk result (λ session. Opens (first_desk env.now.pairs) file.now folder session) }
+) -> Result<(), Memory>
+    ensures { IfOk result (λ u. Opens session.old file.now folder session.new) }
 {
-    let mut session = Session::new(alloc, env.pairs.items())?;
     let name = Text::copy(alloc, file)?;
-    session.open(name, folder)?;
-    Ok(session)
+    session.open(name, folder)
 }
 
-// Begins a session with a folder.
+// Begins the session with a folder.
 fn begin<H: Host>(
     alloc: Global,
     host: &mut H,
-    env: &Environment,
     start: Wanted<'_>,
     folder: Folder,
-) -> Result<Opened, Stop>
-    requires { knows_user env.now.pairs ≡ true }
+    session: &mut Session,
+) -> Result<Option<End>, Stop>
     ensures ran { Ran H.start H.told H.counts host.old host.new
-        (λ es. Goes (begun env.now (start_from start.entry) folder (texts_of folder)) es (opened_state result)) }
+        (λ es. Goes (begun session.old (start_from start.entry) folder (texts_of folder)) es (next_state session.new no_input result)) }
     ensures cause { Caused (H.counts host.old) (H.counts host.new) result }
-    ensures plain { OpensWithoutUsage result }
+    ensures plain { IfOk result (λ end. IfSome end (λ e. IsNoUsage e)) }
 {
-    match new_session(alloc, env, start.file, folder) {
-        Ok(session) => greet(host, start.quiet, session),
+    match put_folder(alloc, session, start.file, folder) {
+        Ok(()) => greet(host, start.quiet, session),
         Err(Memory) => Err(Stop::Memory),
     }
 }
@@ -142,18 +145,17 @@ fn begin<H: Host>(
 fn open_bytes<H: Host>(
     alloc: Global,
     host: &mut H,
-    env: &Environment,
     start: Wanted<'_>,
     bytes: Text,
-) -> Result<Opened, Stop>
-    requires { knows_user env.now.pairs ≡ true }
+    session: &mut Session,
+) -> Result<Option<End>, Stop>
     ensures ran { Ran H.start H.told H.counts host.old host.new
-        (λ es. Goes (with_list env.now (start_from start.entry) bytes (list_of bytes)) es (opened_state result)) }
+        (λ es. Goes (with_list session.old (start_from start.entry) bytes (list_of bytes)) es (next_state session.new no_input result)) }
     ensures cause { Caused (H.counts host.old) (H.counts host.new) result }
-    ensures plain { OpensWithoutUsage result }
+    ensures plain { IfOk result (λ end. IfSome end (λ e. IsNoUsage e)) }
 {
     match Folder::open(alloc, bytes) {
-        Ok(folder) => begin(alloc, host, env, start, folder),
+        Ok(folder) => begin(alloc, host, start, folder, session),
         Err(ScanError::NotAMailbox) => {
             end_at_file(alloc, host, start.file, b": not a mailbox", End::NoFolder)
         }
@@ -167,15 +169,14 @@ fn open_bytes<H: Host>(
 fn open_found<H: Host>(
     alloc: Global,
     host: &mut H,
-    env: &Environment,
     start: Wanted<'_>,
     found: Found,
-) -> Result<Opened, Stop>
-    requires { knows_user env.now.pairs ≡ true }
+    session: &mut Session,
+) -> Result<Option<End>, Stop>
     ensures ran { Ran H.start H.told H.counts host.old host.new
-        (λ es. Goes (loaded env.now (start_from start.entry) found) es (opened_state result)) }
+        (λ es. Goes (loaded session.old (start_from start.entry) found) es (next_state session.new no_input result)) }
     ensures cause { Caused (H.counts host.old) (H.counts host.new) result }
-    ensures plain { OpensWithoutUsage result }
+    ensures plain { IfOk result (λ end. IfSome end (λ e. IsNoUsage e)) }
 {
     match found {
         Found::Bytes { held: true, .. } => {
@@ -188,7 +189,7 @@ fn open_found<H: Host>(
         Found::Bytes {
             bytes: Some(bytes),
             held: false,
-        } => open_bytes(alloc, host, env, start, bytes),
+        } => open_bytes(alloc, host, start, bytes, session),
         Found::TooLarge { .. } => {
             end_at_file(alloc, host, start.file, b": too large", End::NoFolder)
         }
@@ -198,53 +199,36 @@ fn open_found<H: Host>(
 fn load_and_open<H: Host>(
     alloc: Global,
     host: &mut H,
-    env: &Environment,
     start: Wanted<'_>,
-) -> Result<Opened, Stop>
-    requires name { is_short_name start.file.now ≡ true }
-    requires user { knows_user env.now.pairs ≡ true }
+    session: &mut Session,
+) -> Result<Option<End>, Stop>
+    requires { is_short_name start.file.now ≡ true }
     ensures ran { Ran H.start H.told H.counts host.old host.new
-        (λ es. Goes (Ask (Read start.entry.file.now) (loaded env.now (start_from start.entry))) es (opened_state result)) }
+        (λ es. Goes (Ask (Read start.entry.file.now) (loaded session.old (start_from start.entry))) es (next_state session.new no_input result)) }
     ensures cause { Caused (H.counts host.old) (H.counts host.new) result }
-    ensures plain { OpensWithoutUsage result }
+    ensures plain { IfOk result (λ end. IfSome end (λ e. IsNoUsage e)) }
 {
-    let found = load(alloc, host, start.file)?;
-    open_found(alloc, host, env, start, found)
-}
-
-fn open_named<H: Host>(
-    alloc: Global,
-    host: &mut H,
-    env: &Environment,
-    start: Wanted<'_>,
-) -> Result<Opened, Stop>
-    requires { knows_user env.now.pairs ≡ true }
-    ensures ran { Ran H.start H.told H.counts host.old host.new
-        (λ es. Goes (opening env.now (Some (start_from start.entry))) es (opened_state result)) }
-    ensures cause { Caused (H.counts host.old) (H.counts host.new) result }
-    ensures plain { OpensWithoutUsage result }
-{
-    if is_short_name(start.file) {
-        load_and_open(alloc, host, env, start)
-    } else {
-        end_at_file(alloc, host, start.file, b": bad name", End::NoFolder)
+    match load(alloc, host, start.file) {
+        Ok(found) => open_found(alloc, host, start, found, session),
+        Err(cause) => Err(cause),
     }
 }
 
-/// Opens the folder that the words name.
+/// Opens the folder that the words name, or says why not.
 pub(crate) fn open<H: Host>(
     alloc: Global,
     host: &mut H,
-    words: &[Text],
-    env: &Environment,
-) -> Result<Opened, Stop>
+    start: Wanted<'_>,
+    session: &mut Session,
+) -> Result<Option<End>, Stop>
     ensures ran { Ran H.start H.told H.counts host.old host.new
-        (λ es. Goes (opening env.now (start_of words.now env.now.pairs)) es (opened_state result)) }
+        (λ es. Goes (starting session.old (start_from start.entry)) es (next_state session.new no_input result)) }
     ensures cause { Caused (H.counts host.old) (H.counts host.new) result }
-    ensures named { OpensAsNamed (start_of words.now env.now.pairs) result }
+    ensures plain { IfOk result (λ end. IfSome end (λ e. IsNoUsage e)) }
 {
-    match start_of(words, env) {
-        Some(start) => open_named(alloc, host, env, start),
-        None => end_with(host, USAGE, End::Usage),
+    if is_short_name(start.file) {
+        load_and_open(alloc, host, start, session)
+    } else {
+        end_at_file(alloc, host, start.file, b": bad name", End::NoFolder)
     }
 }

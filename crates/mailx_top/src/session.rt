@@ -96,17 +96,16 @@ pub(crate) fn lines<H: Host>(
     alloc: Global,
     host: &mut H,
     env: &Environment,
-    session: Session,
+    session: &mut Session,
 ) -> Result<End, Stop>
     ensures ran { Ran H.start H.told H.counts host.old host.new
-        (λ es. Loop (round env.now) (Reading session no_input) es result) }
+        (λ es. Loop (round env.now) (Reading session.old no_input) es result) }
     ensures cause { Caused (H.counts host.old) (H.counts host.new) result }
     ensures done { IfOk result (λ e. e ≡ End.Done) }
 {
-    let mut session = session;
     let mut reader = Reader::new(alloc);
     'lines: loop {
-        if let Some(end) = one_line(alloc, host, env, &mut reader, &mut session)? {
+        if let Some(end) = one_line(alloc, host, env, &mut reader, session)? {
             return Ok(end);
         }
     }

@@ -1,27 +1,69 @@
 // The whole run.
-ghost use Rattle.std.specs.Prelude.{◌≡◌, ◌++◌, List, Some, None};
+ghost use Rattle.std.specs.Prelude.{◌≡◌, ◌++◌, true, List, Some, None, IfOk};
 ghost use Rattle.host_port.specs.Calls.{Rose};
 ghost use Rattle.host_port.specs.Disk.{disk};
 ghost use Rattle.host_port.specs.Own.{of_others};
 ghost use Rattle.host_port.specs.Ran.{Ran};
 ghost use Rattle.host_port.specs.declared.event.Event.{Event};
 ghost use Rattle.session_play.specs.Play.{Play, Loop, Caused};
+ghost use Rattle.mailx_vars.specs.Environment.{knows_user};
+ghost use Rattle.mailx_session.specs.Openings.{first_desk};
 ghost use Rattle.mailx_top.specs.Meaning.{round, Opening};
 ghost use Rattle.mailx_top.specs.Runs.{IsRun, SaysLast};
 ghost use Rattle.mailx_top.specs.Statuses.{line_at_stop};
-ghost use Rattle.mailx_top.specs.Usage.{EndsAsNamed, IsUsageStatus};
+ghost use Rattle.mailx_top.specs.Usage.{EndsAsNamed, IsNoUsage, IsUsageStatus};
+ghost use Rattle.mailx_top.specs.Wants.{start_from};
 ghost use Rattle.mailx_top.specs.Words.{are_read, start_of};
 
-use crate::open::{Opened, open};
+use crate::open::{end_with_usage, open};
 use crate::session::lines;
 use crate::status::{end_status, stop_line, stop_status};
-use crate::words::are_read;
+use crate::words::{Wanted, are_read, start_of};
 use crate::{Environment, Status};
 use host_port::Host;
-use mail_text::Text;
-use mailx_session::End;
+use mail_text::{Memory, Text};
+use mailx_session::{End, Session};
 use session_play::Stop;
 use std::alloc::Global;
+
+// A session from its opening to its end.
+fn play_session<H: Host>(
+    alloc: Global,
+    host: &mut H,
+    env: &Environment,
+    start: Wanted<'_>,
+    session: &mut Session,
+) -> Result<End, Stop>
+    requires { session.old ≡ first_desk env.now.pairs }
+    ensures ran { Ran H.start H.told H.counts host.old host.new
+        (λ es. Loop (round env.now) (Opening (Some (start_from start.entry))) es result) }
+    ensures cause { Caused (H.counts host.old) (H.counts host.new) result }
+    ensures plain { IfOk result (λ e. IsNoUsage e) }
+{
+    match open(alloc, host, start, session) {
+        Ok(None) => lines(alloc, host, env, session),
+        Ok(Some(end)) => Ok(end),
+        Err(cause) => Err(cause),
+    }
+}
+
+fn start_session<H: Host>(
+    alloc: Global,
+    host: &mut H,
+    env: &Environment,
+    start: Wanted<'_>,
+) -> Result<End, Stop>
+    requires { knows_user env.now.pairs ≡ true }
+    ensures ran { Ran H.start H.told H.counts host.old host.new
+        (λ es. Loop (round env.now) (Opening (Some (start_from start.entry))) es result) }
+    ensures cause { Caused (H.counts host.old) (H.counts host.new) result }
+    ensures plain { IfOk result (λ e. IsNoUsage e) }
+{
+    match Session::new(alloc, env.pairs.items()) {
+        Ok(mut session) => play_session(alloc, host, env, start, &mut session),
+        Err(Memory) => Err(Stop::Memory),
+    }
+}
 
 fn play<H: Host>(
     alloc: Global,
@@ -34,10 +76,9 @@ fn play<H: Host>(
     ensures cause { Caused (H.counts host.old) (H.counts host.new) result }
     ensures named { EndsAsNamed (start_of words.now env.now.pairs) result }
 {
-    let opened = open(alloc, host, words, env)?;
-    match opened {
-        Opened::Folder(session) => lines(alloc, host, env, session),
-        Opened::Ended(end) => Ok(end),
+    match start_of(words, env) {
+        Some(start) => start_session(alloc, host, env, start),
+        None => end_with_usage(host),
     }
 }
 

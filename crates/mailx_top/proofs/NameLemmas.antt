@@ -1,0 +1,28 @@
+-- A short name can be a file's.
+use Rattle.std.proofs.Common.{◌≡◌, ◌≤◌, ◌<◌, ◌==◌, ℕ, Bool, true, false, List, [], ◌∷◌, length, refl, arith}
+use Rattle.std.specs.Prelude.{nat_lt, nat_le, not, ◌&&◌, ◌||◌}
+use Rattle.std.specs.List.{list_all, list_any}
+use Rattle.std.proofs.lemmas.Bool.{and_parts, leb-true, ltb-true, not-true}
+use Rattle.host_port.specs.Names.{IsFileName, has_no_zero}
+use Rattle.mailx_vars.specs.Names.{is_short, is_short_name, is_zero}
+
+no-zero : (name : List ℕ) → list_any is_zero name ≡ false → has_no_zero name ≡ true
+no-zero [] h = refl
+no-zero (b ∷ bs) h = go (b == 0) h (no-zero bs)
+  where
+    go : (t : Bool) → (t || list_any is_zero bs) ≡ false → (list_any is_zero bs ≡ false → has_no_zero bs ≡ true) → (not t && has_no_zero bs) ≡ true
+    go true h more = absurd (cc h)
+    go false h more = more h
+
+pub file-name : (name : List ℕ) → is_short_name name ≡ true → IsFileName name
+file-name name h =
+    let p = and_parts (is_short name) _ h in
+    let q = and_parts (nat_lt 0 (length name)) _ p.0 in
+    record {
+      some = ltb-true 0 (length name) q.0;
+      short = below (length name) (leb-true (length name) 4000 q.1);
+      no_zero = no-zero name (not-true (list_any is_zero name) p.1);
+    }
+  where
+    below : (n : ℕ) → n ≤ 4000 → n ≤ 4032
+    below n h = omega arith
