@@ -160,7 +160,13 @@ fn open_bytes<H: Host>(
             end_at_file(alloc, host, start.file, b": not a mailbox", End::NoFolder)
         }
         Err(ScanError::TooMany { .. }) => {
-            end_at_file(alloc, host, start.file, b": too many messages", End::NoFolder)
+            end_at_file(
+                alloc,
+                host,
+                start.file,
+                b": too many messages",
+                End::NoFolder,
+            )
         }
         Err(ScanError::Memory) => Err(Stop::Memory),
     }

@@ -35,11 +35,7 @@ fn say_prompt<H: Host>(host: &mut H, terminal: bool, session: &Session) -> Resul
 }
 
 // Takes a line.
-fn step<H: Host>(
-    host: &mut H,
-    session: &mut Session,
-    line: &[u8],
-) -> Result<Option<End>, Stop>
+fn step<H: Host>(host: &mut H, session: &mut Session, line: &[u8]) -> Result<Option<End>, Stop>
     ensures ran { (j : Input) → Ran H.start H.told H.counts host.old host.new
         (λ es. Goes (turn session.old j (Some line.now)) es (next_state session.new j result)) }
     ensures cause { Caused (H.counts host.old) (H.counts host.new) result }

@@ -75,8 +75,14 @@ const SCRIPTS: [(&[u8], &[u8]); 26] = [
         b"set a b=c noheader noprompt noindentprefix noasksub\nset\n",
         b"save=\nescape=~\nscreen=20\ntoplines=5\nsendmail=/usr/lib/sendmail\na=\nb=c\n",
     ),
-    (b"set no=1 nox=2 no\nset noheader noasksub\nset =v\nset a=1 \"b c\"\nunset\n", b": bad name\nb c: bad name\nunset: bad arguments\n"),
-    (b"= 1\nx now\nhelp me\nz 1\nz+x\n", b"=: bad arguments\nxit: bad arguments\nhelp: bad arguments\nz: bad arguments\nz+: bad arguments\n"),
+    (
+        b"set no=1 nox=2 no\nset noheader noasksub\nset =v\nset a=1 \"b c\"\nunset\n",
+        b": bad name\nb c: bad name\nunset: bad arguments\n",
+    ),
+    (
+        b"= 1\nx now\nhelp me\nz 1\nz+x\n",
+        b"=: bad arguments\nxit: bad arguments\nhelp: bad arguments\nz: bad arguments\nz+: bad arguments\n",
+    ),
     (b"z\nz-\n", b"at end\nat end\n"),
     (
         b"se screen=1\nz\n=\nz\nz-\nh\n",
@@ -87,13 +93,34 @@ const SCRIPTS: [(&[u8], &[u8]); 26] = [
         b">N   2 bob@y              Tue Jan  2 11:00     66 two\n2\nat end\nheaders: bad arguments\n N   1 Ann                Mon Jan  1 10:00     74 one\nscreen: not a number\n",
     ),
     (b"# what '\nec 'a\n", b"open quote\n"),
-    (b"!ls\n|\nq\nr 1\nalias\nthread\nz?\n", b"!: not built\n|: not built\nquit: not built\nreply: not built\nalias: not built\nthread: not built\nz: bad arguments\n"),
-    (b"p -\np +\n=\np +\n", b"-: no such message\nMessage 2:\nFrom bob@y Tue Jan  2 11:00:00 2024\nFrom: bob@y\nSubject: two\n\nbye\n2\n+: no such message\n"),
-    (b"size :n\nsize :r\nT 1\nsize :r\n", b"1: 74\n2: 66\n:r: no such message\nMessage 1:\nFrom ann@x Mon Jan  1 10:00:00 2024\nFrom: Ann <ann@x>\nSubject: one\n\nhello\n1: 74\n"),
-    (b"size ANN@X\nsize ann\nsize Ann\nsize cy\n", b"1: 74\n1: 74\n1: 74\ncy: no such message\n"),
-    (b"size\nsize . 2\nsize 2 1\n", b"1: 74\n1: 74\n2: 66\n1: 74\n2: 66\n"),
-    (b"  p   2\n\t\n", b"Message 2:\nFrom bob@y Tue Jan  2 11:00:00 2024\nFrom: bob@y\nSubject: two\n\nbye\nat end\n"),
-    (b"d 1\nf *\nx", b" D   1 Ann                Mon Jan  1 10:00     74 one\n>N   2 bob@y              Tue Jan  2 11:00     66 two\n"),
+    (
+        b"!ls\n|\nq\nr 1\nalias\nthread\nz?\n",
+        b"!: not built\n|: not built\nquit: not built\nreply: not built\nalias: not built\nthread: not built\nz: bad arguments\n",
+    ),
+    (
+        b"p -\np +\n=\np +\n",
+        b"-: no such message\nMessage 2:\nFrom bob@y Tue Jan  2 11:00:00 2024\nFrom: bob@y\nSubject: two\n\nbye\n2\n+: no such message\n",
+    ),
+    (
+        b"size :n\nsize :r\nT 1\nsize :r\n",
+        b"1: 74\n2: 66\n:r: no such message\nMessage 1:\nFrom ann@x Mon Jan  1 10:00:00 2024\nFrom: Ann <ann@x>\nSubject: one\n\nhello\n1: 74\n",
+    ),
+    (
+        b"size ANN@X\nsize ann\nsize Ann\nsize cy\n",
+        b"1: 74\n1: 74\n1: 74\ncy: no such message\n",
+    ),
+    (
+        b"size\nsize . 2\nsize 2 1\n",
+        b"1: 74\n1: 74\n2: 66\n1: 74\n2: 66\n",
+    ),
+    (
+        b"  p   2\n\t\n",
+        b"Message 2:\nFrom bob@y Tue Jan  2 11:00:00 2024\nFrom: bob@y\nSubject: two\n\nbye\nat end\n",
+    ),
+    (
+        b"d 1\nf *\nx",
+        b" D   1 Ann                Mon Jan  1 10:00     74 one\n>N   2 bob@y              Tue Jan  2 11:00     66 two\n",
+    ),
 ];
 
 /// In what a run differs from `-N -f box` with two messages in the box and the lines `size *` and `x`.
@@ -126,8 +153,16 @@ enum Unlike {
 const CASES: [(Unlike, &[u8], u8); 25] = [
     (Unlike::Nothing, b"1: 74\n2: 66\n", 0),
     (Unlike::Pieces, b"1: 74\n2: 66\n", 0),
-    (Unlike::Input(b"frob\nx\nsize *\n"), b"frob: unknown command\n", 0),
-    (Unlike::Input(b"size *\nquit"), b"1: 74\n2: 66\nquit: not built\n", 0),
+    (
+        Unlike::Input(b"frob\nx\nsize *\n"),
+        b"frob: unknown command\n",
+        0,
+    ),
+    (
+        Unlike::Input(b"size *\nquit"),
+        b"1: 74\n2: 66\nquit: not built\n",
+        0,
+    ),
     (Unlike::Folder(b""), b"*: no such message\n", 0),
     (Unlike::Folder(HERE), b"1: 60\n", 0),
     (Unlike::Folder(THERE), b"1: 60\n2: 11\n", 0),

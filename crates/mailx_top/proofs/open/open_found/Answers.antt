@@ -13,5 +13,5 @@ returns-in-Bytes-None-false-clause-ran g c =
     rw (with-none c.args.session.now (start_from c.args.start) _ _ _ w.is w.bytes-is w.held-test) (c.end_at_file-in-Bytes-None-false.ensures.ran c.args.session.now)
 
 pub returns-in-TooLarge-clause-ran : goal.returns-in-TooLarge-clause-ran
-returns-in-TooLarge-clause-ran g c = 
+returns-in-TooLarge-clause-ran g c =
     rw (with-large c.args.session.now (start_from c.args.start) _ _ c.in-TooLarge.is) (c.end_at_file-in-TooLarge.ensures.ran c.args.session.now)
