@@ -1,5 +1,5 @@
 -- A whole run, by its own events.
-use Rattle.std.specs.Prelude.{◌≡◌, ◌⊎◌, ℕ, true, false, List, [], ◌∷◌, take}
+use Rattle.std.specs.Prelude.{◌≡◌, ◌⊎◌, ℕ, Bool, true, false, List, [], ◌∷◌, take}
 use Rattle.std.specs.declared.option.Option.{Option}
 use Rattle.std.specs.declared.result.Result.{Result}
 use Rattle.std.specs.declared.result.Result.TheVariants.{Ok, Err}
@@ -12,19 +12,25 @@ use Rattle.mailx_top.specs.declared.status.End.{End}
 use Rattle.mailx_top.specs.declared.status.Status.{Status}
 use Rattle.mailx_top.specs.Meaning.{Opening, round}
 use Rattle.mailx_top.specs.Openings.{IsOpeningExplained}
+use Rattle.mailx_top.specs.Words.{are_read}
 use Rattle.mailx_top.specs.Statuses.{status_at_end, status_at_stop, line_at_stop}
 
 -- bytes are said by one Out, as far as they went
 abbrev pub AsFar : List ℕ → List Event → Type 0
 AsFar bytes es = (es ≡ event.Out bytes false ∷ []) ⊎ ((n : ℕ) × (es ≡ event.Out (take n bytes) true ∷ []))
 
--- an end adds nothing; at a cut its line is said, as far as it went
-abbrev pub Ending : Status → Result End Stop → List Event → Type 0
-Ending s (Ok e) es = (es ≡ []) × (s ≡ status_at_end e)
-Ending s (Err cause) es = (s ≡ status_at_stop cause) × AsFar (line_at_stop cause) es
+-- bytes are said, as far as they went, where the words were read; else nothing is
+abbrev pub SaysLast : Bool → List ℕ → List Event → Type 0
+SaysLast true bytes es = AsFar bytes es
+SaysLast false bytes es = es ≡ []
 
--- the own events of a run that opens this folder and ends with this status: those of its meaning, with each cut explained
-pub record IsRun (folder : Option (List ℕ)) (s : Status) (es : List Event) : Type 0 where
-  pub whole : Whole round (Opening folder) (Ending s) es
+-- an end adds nothing; at a cut its line is said, where the words were read
+abbrev pub Ending : Bool → Status → Result End Stop → List Event → Type 0
+Ending read s (Ok e) es = (es ≡ []) × (s ≡ status_at_end e)
+Ending read s (Err cause) es = (s ≡ status_at_stop cause) × SaysLast read (line_at_stop cause) es
+
+-- The own events of a run with these words, which opens this folder and ends with this status: those of its meaning, with each cut explained.
+pub record IsRun (words : List (List ℕ)) (folder : Option (List ℕ)) (s : Status) (es : List Event) : Type 0 where
+  pub whole : Whole round (Opening folder) (Ending (are_read words) s) es
   pub explained : IsExplained whole.out whole.front
   pub opening : IsOpeningExplained folder whole.out whole.front

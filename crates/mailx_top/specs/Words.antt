@@ -1,5 +1,5 @@
 -- The words of the command line.
-use Rattle.std.specs.Prelude.{◌==◌, ◌&&◌, ◌||◌, not, ℕ, Bool, false, List, [], ◌∷◌, if◌then◌else◌, codes}
+use Rattle.std.specs.Prelude.{◌==◌, ◌&&◌, ◌||◌, not, ℕ, Bool, false, List, [], ◌∷◌, if◌then◌else◌, is_some, codes}
 use Rattle.std.specs.declared.option.Option.{Option}
 use Rattle.std.specs.declared.option.Option.TheVariants.{Some, None}
 use Rattle.std.specs.Str.{bytes_eq, is_utf8}
@@ -14,6 +14,10 @@ begins_plainly (b ∷ bs) = not (b == 45 || b == 37 || b == 35 || b == 38 || b =
 abbrev pub reading : List (List ℕ) → Option (List ℕ)
 reading (a ∷ b ∷ f ∷ []) = if bytes_eq a (codes "-N") && (bytes_eq b (codes "-f") && (begins_plainly f && is_utf8 f)) then Some f else None
 reading words = None
+
+-- the words can be read
+abbrev pub are_read : List (List ℕ) → Bool
+are_read words = is_some (reading words)
 
 -- the folder to open; none where the words are refused, or home folder and user aren't known
 abbrev pub folder_named : List (List ℕ) → List (List ℕ × List ℕ) → Option (List ℕ)

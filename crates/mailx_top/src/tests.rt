@@ -32,10 +32,14 @@ enum Unlike {
     User(&'static [u8]),
     /// The call of this number fails.
     Fails(u64),
+    /// A word is refused, and the first call fails.
+    RefusedAndFails,
+    /// The home folder is unset, and the first call fails.
+    HomelessAndFails,
 }
 
 /// A run, what it says, and the status that it answers.
-const CASES: [(Unlike, &[u8], u8); 21] = [
+const CASES: [(Unlike, &[u8], u8); 23] = [
     (Unlike::Nothing, b"1: 74\n2: 66\n", 0),
     (Unlike::Pieces, b"1: 74\n2: 66\n", 0),
     (Unlike::Input(b"frob\nx\nsize *\n"), b"not built\n", 0),
@@ -57,6 +61,8 @@ const CASES: [(Unlike, &[u8], u8); 21] = [
     (Unlike::Fails(2), b"mailx: input fault\n", 3),
     (Unlike::Fails(5), b"mailx: output fault\n", 4),
     (Unlike::Fails(9), b"1: 74\n2: 66\n", 0),
+    (Unlike::RefusedAndFails, b"", 4),
+    (Unlike::HomelessAndFails, b"mailx: output fault\n", 4),
 ];
 
 fn view(alloc: Global, unlike: Unlike) -> Result<DiskView, Memory> {
@@ -81,8 +87,10 @@ fn plan(alloc: Global, unlike: Unlike) -> Result<Plan, Memory> {
         let name = Text::copy(alloc, b"box")?;
         foreign.push((1, ForeignStep::Lock { name, token: 9 }))?;
     }
-    if let Unlike::Fails(call) = unlike {
-        fails.push((call, Part::Before))?;
+    match unlike {
+        Unlike::Fails(call) => fails.push((call, Part::Before))?,
+        Unlike::RefusedAndFails | Unlike::HomelessAndFails => fails.push((1, Part::Before))?,
+        _ => {}
     }
     Ok(Plan {
         chunk: 3,
@@ -109,6 +117,7 @@ fn words(alloc: Global, unlike: Unlike) -> Result<Vec<Text>, Memory> {
     let mut words = Vec::new(alloc);
     let flag = match unlike {
         Unlike::Flag(flag) => flag,
+        Unlike::RefusedAndFails => b"-n".as_slice(),
         _ => b"-N".as_slice(),
     };
     let file = match unlike {
@@ -124,6 +133,7 @@ fn words(alloc: Global, unlike: Unlike) -> Result<Vec<Text>, Memory> {
 fn environment(alloc: Global, unlike: Unlike) -> Result<Environment, Memory> {
     let home = match unlike {
         Unlike::Home(home) => home,
+        Unlike::HomelessAndFails => b"".as_slice(),
         _ => b"/h".as_slice(),
     };
     let user = match unlike {

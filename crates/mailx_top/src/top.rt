@@ -7,13 +7,15 @@ ghost use Rattle.host_port.specs.Ran.{Ran};
 ghost use Rattle.host_port.specs.declared.event.Event.{Event};
 ghost use Rattle.session_play.specs.Play.{Play, Loop, Caused};
 ghost use Rattle.mailx_top.specs.Meaning.{round, Opening};
-ghost use Rattle.mailx_top.specs.Runs.{IsRun};
+ghost use Rattle.mailx_top.specs.Runs.{IsRun, SaysLast};
+ghost use Rattle.mailx_top.specs.Statuses.{line_at_stop};
 ghost use Rattle.mailx_top.specs.Usage.{EndsAsNamed, IsUsageStatus};
-ghost use Rattle.mailx_top.specs.Words.{folder_named};
+ghost use Rattle.mailx_top.specs.Words.{are_read, folder_named};
 
 use crate::open::{Opened, open};
 use crate::session::session;
 use crate::status::{End, end_status, stop_line, stop_status};
+use crate::words::are_read;
 use crate::{Environment, Status};
 use host_port::Host;
 use mail_text::Text;
@@ -38,12 +40,21 @@ fn play<H: Host>(
     }
 }
 
+// Says why the run is cut off, where its words were read.
+fn say_cut<H: Host>(host: &mut H, words: &[Text], cause: Stop)
+    ensures { Ran H.start H.told H.counts host.old host.new (SaysLast (are_read words.now) (line_at_stop cause)) }
+{
+    if are_read(words) {
+        let _ = host.say(stop_line(cause));
+    }
+}
+
 /// All that the program does: it reads the words of the command line without the program's own name, opens the folder
 /// that they name, carries out the lines of its input, and answers how it ended. The status' cause is the clause of
 /// its name.
 pub fn run<H: Host>(alloc: Global, words: &[Text], env: &Environment, host: &mut H) -> Status
     // The own events are those of the command meaning, and output and status are its.
-    ensures run { Ran H.start H.told H.counts host.old host.new (IsRun (folder_named words.now env.now.pairs) result) }
+    ensures run { Ran H.start H.told H.counts host.old host.new (IsRun words.now (folder_named words.now env.now.pairs) result) }
     // A fault is answered only where the host's count of it rose.
     ensures input_fault { result ≡ Status.InputFault → Rose (H.counts host.old).ins (H.counts host.new).ins }
     ensures output_fault { result ≡ Status.OutputFault → Rose (H.counts host.old).outs (H.counts host.new).outs }
@@ -58,7 +69,7 @@ pub fn run<H: Host>(alloc: Global, words: &[Text], env: &Environment, host: &mut
     match play(alloc, host, words, env) {
         Ok(end) => end_status(end),
         Err(cause) => {
-            let _ = host.say(stop_line(cause));
+            say_cut(host, words, cause);
             stop_status(cause)
         }
     }

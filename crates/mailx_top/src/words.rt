@@ -1,7 +1,7 @@
 // The words of the command line.
 ghost use Rattle.std.specs.Prelude.{◌≡◌, IfSome, IfNone, Some, None};
 ghost use Rattle.std.specs.Str.{is_utf8};
-ghost use Rattle.mailx_top.specs.Words.{begins_plainly, reading, folder_named};
+ghost use Rattle.mailx_top.specs.Words.{begins_plainly, reading, are_read, folder_named};
 
 use crate::Environment;
 use crate::environment::knows_user;
@@ -43,6 +43,13 @@ fn reading(words: &[Text]) -> Option<&[u8]>
         }
         _ => None,
     }
+}
+
+/// Whether the words can be read.
+pub(crate) fn are_read(words: &[Text]) -> bool
+    ensures { result ≡ are_read words.now }
+{
+    reading(words).is_some()
 }
 
 /// The folder that the words name, or None where they are refused or home folder and user aren't known.

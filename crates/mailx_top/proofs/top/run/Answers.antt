@@ -1,11 +1,10 @@
 use Rattle.std.proofs.Common.{refl, sym, Ok, Err, []}
 use Rattle.std.proofs.lemmas.List.{append-nil}
-use Rattle.host_port.proofs.RanLemmas.{Ran-then, Ran-map, called}
+use Rattle.host_port.proofs.RanLemmas.{Ran-then, Ran-map}
 use Rattle.host_port.proofs.OwnLemmas.{disk-of_others}
 use Rattle.session_play.proofs.CauseLemmas.{loop-explained}
 use Rattle.mailx_top.specs.Meaning.{round, input_of}
 use Rattle.mailx_top.proofs.OpeningLemmas.{opening-explained}
-use Rattle.mailx_top.proofs.EndLemmas.{said-far}
 use Rattle.mailx_top.proofs.RoundLemmas.{threads-round}
 use Rattle.mailx_top.proofs.top.run.Goals as goal
 
@@ -26,7 +25,7 @@ returns-in-Err-clause-run g c =
       whole = record { out = Err c.in-Err.cause; front = front; behind = rest; is = refl; plays = loop; ending = (c.stop_status.ensures, said) };
       explained = loop-explained round input_of _ front _ threads-round refl loop;
       opening = opening-explained _ front _ loop;
-    }) c.in-Err.ensures.ran (called (said-far c.say.result _ _ c.stop_line.ensures) c.say.ensures.start c.say.ensures.counts c.say.ensures.call)
+    }) c.in-Err.ensures.ran c.say_cut.ensures
 
 pub returns-in-Err-clause-prefixes : goal.returns-in-Err-clause-prefixes
 returns-in-Err-clause-prefixes g c = λ trace front rest told is. disk-of_others _ front
