@@ -1,0 +1,7 @@
+pub mod TableLemmas
+pub mod WordLemmas
+pub mod FrontLemmas
+pub mod LineLemmas
+pub mod SpellingLaws
+pub mod NamedLaws
+pub mod WrittenLaws

@@ -1,0 +1,47 @@
+-- How a line is cut byte by byte, and what a line that is partly cut still gives.
+use Rattle.std.specs.Prelude.{◌≡◌, ℕ, ◌==◌, List, [], ◌∷◌, ◌++◌, Option, if◌then◌else◌}
+use Rattle.std.specs.Option.{option_map}
+use Rattle.line_words.specs.declared.cut.Place.{Place}
+use Rattle.line_words.specs.declared.cut.Place.TheVariants.{Between, Word, Escaped, Quoted}
+use Rattle.line_words.specs.declared.cut.Act.{Act}
+use Rattle.line_words.specs.declared.cut.Act.TheVariants.{Pass, Keep, End}
+use Rattle.line_words.specs.declared.cut.Step.{Step}
+use Rattle.line_words.specs.Words.{is_blank, is_quote, words_from}
+
+-- this becomes of the byte, and the next one stands there
+abbrev pub goes : Place → Act → Step
+goes place act = record { place = place; act = act }
+
+-- a byte outside quotes that is no blank
+abbrev pub unquoted_step : ℕ → Step
+unquoted_step b = if is_quote b then goes (Quoted b) Pass else (if b == 92 then goes Escaped Pass else goes Word Keep)
+
+-- what becomes of a byte, and where the next one stands
+abbrev pub step_of : Place → ℕ → Step
+step_of Between b = if is_blank b then goes Between Pass else unquoted_step b
+step_of Word b = if is_blank b then goes Between End else unquoted_step b
+step_of Escaped b = goes Word Keep
+step_of (Quoted quote) b = if b == quote then goes Word Pass else goes (Quoted quote) Keep
+
+-- the front of a word before what is left: the rest of the word, and other words
+abbrev pub joined : List ℕ → List (List ℕ) → List (List ℕ)
+joined word [] = word ∷ []
+joined word (rest ∷ words) = (word ++ rest) ∷ words
+
+-- whole words and the front of a word before what is left; between words there is no such front
+abbrev pub resumed : Place → List (List ℕ) → List ℕ → List (List ℕ) → List (List ℕ)
+resumed Between words word left = words ++ left
+resumed Word words word left = words ++ joined word left
+resumed Escaped words word left = words ++ joined word left
+resumed (Quoted quote) words word left = words ++ joined word left
+
+-- what whole words, the front of a word and the bytes that are left give
+abbrev pub gives : Place → List (List ℕ) → List ℕ → List ℕ → Option (List (List ℕ))
+gives place words word bytes = option_map (resumed place words word) (words_from place bytes)
+
+-- the front of a word is empty between words
+abbrev pub IsReady : Place → List ℕ → Type 0
+IsReady Between word = word ≡ []
+IsReady Word word = Unit {0}
+IsReady Escaped word = Unit {0}
+IsReady (Quoted quote) word = Unit {0}

@@ -1,0 +1,49 @@
+-- Laws of the spellings and of words.
+use Rattle.std.specs.Prelude.{◌≡◌, ◌≢◌, ◌↔◌, ◌⊎◌, ℕ, Bool, true, not, ◌==◌, ◌||◌, List, [], ◌∷◌, ◌++◌, Some}
+use Rattle.std.specs.Ordering.{nat_cmp}
+use Rattle.std.specs.Cmp.Lexicographic.{slice_cmp}
+use Rattle.std.specs.declared.cmp.Ordering.TheVariants.{Less}
+use Rattle.std.specs.List.{Contains, AllPairs, list_all}
+use Rattle.line_words.specs.declared.command.Command.{Command}
+use Rattle.line_words.specs.Spellings.{Spelling, spellings, is_met, command_of, names}
+use Rattle.line_words.specs.Words.{is_blank, is_quote, words_of}
+
+-- the word meets a spelling of the command
+abbrev pub Names : List ℕ → Command → Type 0
+Names word named = (s : Spelling) × Contains spellings s × (is_met word s ≡ true) × (s.command ≡ named)
+
+-- the command that is found is the one command of which the word meets a spelling
+abbrev pub NamesOne : Type 0
+NamesOne = (word : List ℕ) (named : Command) → (command_of word ≡ Some named) ↔ Names word named
+
+-- what stands before the bracket names the command of a spelling, and so does the whole name
+abbrev pub SpellingsName : Type 0
+SpellingsName = (s : Spelling) → Contains spellings s → (command_of s.least ≡ Some s.command) × (command_of s.whole ≡ Some s.command)
+
+-- each command has a name
+abbrev pub EachIsNamed : Type 0
+EachIsNamed = (named : Command) → (word : List ℕ) × (command_of word ≡ Some named)
+
+-- the whole names stand in the order of their bytes, each once
+abbrev pub NamesAscend : Type 0
+NamesAscend = AllPairs (λ a b. slice_cmp nat_cmp a b ≡ Less) names
+
+-- a byte that is no blank, no quote and no backslash
+abbrev pub is_plain : ℕ → Bool
+is_plain b = not (is_blank b || is_quote b || b == 92)
+
+-- the text writes the word: as it is, where it is plain and not empty, or between two quotes that it lacks
+abbrev pub Writes : List ℕ → List ℕ → Type 0
+Writes text word =
+    ((text ≡ word) × (word ≢ []) × (list_all is_plain word ≡ true))
+    ⊎ ((quote : ℕ) × (is_quote quote ≡ true) × (list_all (λ b. not (b == quote)) word ≡ true) × (text ≡ quote ∷ (word ++ quote ∷ [])))
+
+-- the line writes the words, with a space between one and the next
+abbrev pub WritesAll : List ℕ → List (List ℕ) → Type 0
+WritesAll line [] = line ≡ []
+WritesAll line (word ∷ []) = Writes line word
+WritesAll line (word ∷ other ∷ words) = (text : List ℕ) × ((rest : List ℕ) × (line ≡ text ++ 32 ∷ rest) × Writes text word × WritesAll rest (other ∷ words))
+
+-- words that are written so are cut into these words again
+abbrev pub WordsReadBack : Type 0
+WordsReadBack = (line : List ℕ) (words : List (List ℕ)) → WritesAll line words → words_of line ≡ Some words

@@ -1,0 +1,6 @@
+pub mod Spellings
+pub mod Table
+pub mod Words
+pub mod Cutting
+pub mod Line
+pub mod Laws

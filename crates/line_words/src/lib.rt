@@ -1,0 +1,16 @@
+//! Lines of commands: the command that a line names, and the line cut into words.
+#![tactic(auto)]
+
+mod command;
+mod cut;
+mod laws;
+mod line;
+mod table;
+
+pub use command::Command;
+pub use laws::{a_word_names_one_command, words_read_back};
+pub use line::{CommandLine, LineError, read_line};
+pub use table::{command_name, command_of, whole_name};
+
+#[cfg(test)]
+mod tests;
