@@ -1,0 +1,5 @@
+pub mod Environment
+pub mod Expansion
+pub mod Names
+pub mod SettingLaws
+pub mod Settings
