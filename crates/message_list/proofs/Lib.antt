@@ -1,0 +1,9 @@
+pub mod SubjectLemmas
+pub mod QuoteLemmas
+pub mod ListFacts
+pub mod ViewLemmas
+pub mod SpanLemmas
+pub mod NamingLemmas
+pub mod WordLemmas
+pub mod MarkLemmas
+pub mod SelectionLemmas

@@ -1,0 +1,6 @@
+pub mod ListWords
+pub mod LocalParts
+pub mod Places
+pub mod Naming
+pub mod Selections
+pub mod Marking

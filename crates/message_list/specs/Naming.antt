@@ -1,0 +1,79 @@
+-- Which messages a word of a list names.
+use Rattle.std.specs.Prelude.{ℕ, ◌+◌, Bool, true, false, not, ◌&&◌, ◌||◌, ◌==◌, nat_le, List, length, drop, Option, Some, None}
+use Rattle.std.specs.Option.{option_and_then}
+use Rattle.std.specs.List.{list_any, range_with_len}
+use Rattle.memchr.specs.Find.{occurs_at}
+use Rattle.std.specs.Str.{str_to_ascii_lowercase}
+use Rattle.mail_text.specs.Ascii.{same_ascii}
+use Rattle.message_state.specs.declared.mark.State.{State}
+use Rattle.message_state.specs.declared.mark.State.TheVariants.{New, Unread, Read, Deleted}
+use Rattle.message_state.specs.declared.shown.Shown.{Shown}
+use Rattle.message_state.specs.States.{place}
+use Rattle.message_list.specs.declared.list.End.{End}
+use Rattle.message_list.specs.declared.list.End.TheVariants as at
+use Rattle.message_list.specs.declared.list.Kind.{Kind}
+use Rattle.message_list.specs.declared.list.Kind.TheVariants.{Number, Range, Next, Previous, Current, First, Last, All, Address, Subject, Letter}
+use Rattle.message_list.specs.declared.list.Item.{Item}
+use Rattle.message_list.specs.declared.list.Purpose.{Purpose}
+use Rattle.message_list.specs.LocalParts.{local_part}
+use Rattle.message_list.specs.Places.{row_passes, place_of, first_of, last_of, next_of, previous_of}
+
+-- the message is this one
+abbrev pub is_message : Option ℕ → ℕ → Bool
+is_message None n = false
+is_message (Some k) n = n == k
+
+-- the message at an end of a range
+abbrev pub end_message : Shown → Purpose → End → Option ℕ
+end_message shown purpose (at.Number k) = Some k
+end_message shown purpose at.Current = Some shown.current
+end_message shown purpose at.First = first_of shown purpose
+end_message shown purpose at.Last = last_of shown purpose
+
+-- the place of an end of a range in the view; none where it is no message of the view
+abbrev pub end_place : Shown → Purpose → End → Option ℕ
+end_place shown purpose end = option_and_then (place_of shown) (end_message shown purpose end)
+
+-- the place lies from the first end to the second
+abbrev pub is_between : Option ℕ → Option ℕ → Option ℕ → Bool
+is_between (Some a) (Some b) (Some p) = nat_le a p && nat_le p b
+is_between a b p = false
+
+-- the string stands at some place of the text
+unfoldable pub holds : List ℕ → List ℕ → Bool
+holds string text = list_any (occurs_at text string) (range_with_len 0 (length text + 1))
+
+-- the same, the case of ASCII letters aside
+abbrev pub holds_ascii : List ℕ → List ℕ → Bool
+holds_ascii string text = holds (str_to_ascii_lowercase string) (str_to_ascii_lowercase text)
+
+-- the author is the word, or, where the word has no `@`, the author's local part is; the case of ASCII letters aside
+abbrev pub is_author : List ℕ → List ℕ → Bool
+is_author word author = same_ascii author word || (not (list_any (λ b. b == 64) word) && same_ascii (local_part author) word)
+
+-- d is deleted, n new, o neither read nor new, r read, u unread
+abbrev pub has_letter : ℕ → State → Bool
+has_letter letter state =
+    (letter == 100 && place state == place Deleted)
+    || (letter == 110 && place state == place New)
+    || (letter == 111 && not (place state == place Read) && not (place state == place New))
+    || (letter == 114 && place state == place Read)
+    || (letter == 117 && place state == place Unread)
+
+-- a word of this kind names message n
+abbrev pub kind_names : Kind → List ℕ → Shown → Purpose → ℕ → Bool
+kind_names (Number k) word shown purpose n = n == k
+kind_names (Range a b) word shown purpose n = is_between (end_place shown purpose a) (end_place shown purpose b) (place_of shown n)
+kind_names Next word shown purpose n = is_message (next_of shown purpose shown.current) n
+kind_names Previous word shown purpose n = is_message (previous_of shown purpose shown.current) n
+kind_names Current word shown purpose n = n == shown.current
+kind_names First word shown purpose n = is_message (first_of shown purpose) n
+kind_names Last word shown purpose n = is_message (last_of shown purpose) n
+kind_names All word shown purpose n = true
+kind_names Address word shown purpose n = row_passes (λ row. is_author word row.author) shown n
+kind_names Subject word shown purpose n = row_passes (λ row. holds_ascii (drop 1 word) row.subject) shown n
+kind_names (Letter letter) word shown purpose n = row_passes (λ row. has_letter letter row.mark.state) shown n
+
+-- the item's word names message n
+abbrev pub names : Shown → Purpose → Item → ℕ → Bool
+names shown purpose item n = kind_names item.kind item.word shown purpose n

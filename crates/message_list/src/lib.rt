@@ -1,0 +1,20 @@
+//! Message lists: the words that name messages, and the messages that a list of them selects.
+#![tactic(auto)]
+
+mod author;
+mod kind;
+mod list;
+mod read;
+mod selection;
+mod span;
+mod subject;
+mod view;
+
+pub use author::author_local_part;
+pub use list::{End, Item, Kind, ListError, ListSpec, Purpose};
+pub use read::read_list;
+pub use selection::select;
+pub use view::{first_live, is_live, next_live, place_of, previous_live};
+
+#[cfg(test)]
+mod tests;
