@@ -1,0 +1,8 @@
+use Rattle.std.proofs.Common.{◌≡◌, length, take, drop}
+use Rattle.message_show.specs.FieldSets.{with_names}
+use Rattle.message_show.proofs.names.Names.add_each.Given as goal
+
+abbrev pub invariant-loop-name : goal.invariant-loop-name
+invariant-loop-name l =
+    (with_names l.self (drop l.name-index l.names) ≡ with_names l.initial.self l.names)
+    × (take (length l.initial.self) l.self ≡ l.initial.self)

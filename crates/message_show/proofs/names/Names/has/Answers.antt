@@ -1,0 +1,11 @@
+use Rattle.std.proofs.Common.{List, ℕ, ap, ◌∙◌}
+use Rattle.std.specs.Str.{str_to_ascii_lowercase}
+use Rattle.message_show.specs.FieldSets.{has_name}
+use Rattle.message_show.proofs.NameLemmas.{found-has}
+use Rattle.message_show.proofs.names.Names.has.Goals as goal
+
+pub returns-then-name-le-LONGEST : goal.returns-then-name-le-LONGEST
+returns-then-name-le-LONGEST c =
+    c.contains.ensures
+    ∙ found-has c.self.inside.names.items c.self.inside.keys.keys c.args.name.now c.make_ascii_lowercase.new.self c.self.invariant (c.make_ascii_lowercase.ensures.after ∙ ap str_to_ascii_lowercase c.copy_from_slice.ensures.after)
+    ∙ ap (λ (names : List (List ℕ)). has_name names c.args.name.now) c.self.view_is

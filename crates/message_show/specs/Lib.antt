@@ -1,0 +1,4 @@
+pub mod FieldSets
+pub mod Summary
+pub mod ShownText
+pub mod Keys

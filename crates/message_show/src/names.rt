@@ -1,0 +1,131 @@
+// Names of fields in order, with an index by their lower-case forms.
+ghost use Rattle.std.specs.Prelude.{◌≡◌, ◌≤◌, [], length, take, IfOk, OnOk, OnErr};
+ghost use Rattle.message_show.specs.FieldSets.{has_name, with_name, with_names};
+ghost use Rattle.std.specs.Str.{str_to_ascii_lowercase};
+
+use indexmap::IndexSet;
+use mail_text::{Memory, Text, same_ascii};
+use std::alloc::Global;
+use std::marker::Model;
+
+// A name of up to so many bytes is looked for in the index; a longer one would make a header's line longer than RFC 5322,
+// section 2.1.1 allows, and is compared with each name.
+const LONGEST: usize = 998;
+
+// Names in order of first naming, each once, ASCII case ignored. Contracts see the list of them.
+#[derive(Drop)]
+pub(crate) struct Names {
+    alloc: Global,
+    names: Vec<Text>,
+    keys: IndexSet<Vec<u8>>,
+}
+
+impl Model for Names {
+    ghost use Rattle.std.specs.Prelude.{List, ℕ};
+    ghost use Rattle.message_show.specs.Keys.{AreKeysOf};
+
+    ghost Value = { List (List ℕ) };
+
+    ghost view = { λ n. n.names.items };
+
+    ghost invariant = { λ n. AreKeysOf n.names.items n.keys.keys };
+}
+
+impl Names {
+    // No names. It takes no memory.
+    pub(crate) fn new(alloc: Global) -> Names
+        ensures { result ≡ [] }
+    {
+        Names {
+            alloc,
+            names: Vec::new(alloc),
+            keys: IndexSet::new(alloc),
+        }
+    }
+
+    pub(crate) fn names(&self) -> &[Text]
+        ensures { result.now ≡ self.now }
+    {
+        &self.names
+    }
+
+    // Whether the name is among them.
+    pub(crate) fn has(&self, name: &[u8]) -> bool
+        ensures { result ≡ has_name self.now name.now }
+    {
+        if self.names.is_empty() {
+            return false;
+        }
+        if name.len() <= LONGEST {
+            let mut buffer = [0; LONGEST];
+            let key = &mut buffer[..name.len()];
+            key.copy_from_slice(name);
+            key.make_ascii_lowercase();
+            self.keys.contains(&*key)
+        } else {
+            self.names
+                .iter()
+                .any(|other| same_ascii(name, other.bytes()))
+        }
+    }
+
+    // Puts these names at the end, but for those that are there. After want of memory the names are as before.
+    pub(crate) fn add(&mut self, names: &[Text]) -> Result<(), Memory>
+        ensures ok { OnOk result (self.new ≡ with_names self.old names.now) }
+        ensures err { OnErr result (self.new ≡ self.old) }
+    {
+        let count = self.names.len();
+        match self.add_each(names) {
+            Ok(()) => Ok(()),
+            Err(memory) => {
+                self.truncate(count);
+                Err(memory)
+            }
+        }
+    }
+
+    // Puts these names at the end, but for those that are there. After want of memory some may have been put.
+    fn add_each(&mut self, names: &[Text]) -> Result<(), Memory>
+        ensures ok { OnOk result (self.new ≡ with_names self.old names.now) }
+        ensures err { OnErr result (take (length self.old) self.new ≡ self.old) }
+    {
+        for name in names {
+            self.add_one(name.bytes())?;
+        }
+        Ok(())
+    }
+
+    // Puts a name at the end, if it isn't there.
+    fn add_one(&mut self, name: &[u8]) -> Result<(), Memory>
+        ensures ok { OnOk result (self.new ≡ with_name self.old name.now) }
+        ensures err { OnErr result (self.new ≡ self.old) }
+    {
+        let text = Text::copy(self.alloc, name)?;
+        let key = lower_case(self.alloc, name)?;
+        self.names.try_reserve(1)?;
+        if self.keys.insert(key)? {
+            match self.names.push(text) {
+                Ok(()) => {}
+                Err(_) => unreachable!(),
+            }
+        }
+        Ok(())
+    }
+
+    // Keeps the first names alone.
+    fn truncate(&mut self, count: usize)
+        ensures { self.new ≡ take count self.old }
+    {
+        self.names.truncate(count);
+        self.keys.truncate(count);
+    }
+}
+
+// A copy of the name in lower case.
+fn lower_case(alloc: Global, name: &[u8]) -> Result<Vec<u8>, Memory>
+    ensures { IfOk result (λ key. key.items ≡ str_to_ascii_lowercase name.now) }
+{
+    let mut key = name.to_vec(alloc)?;
+    key.make_ascii_lowercase();
+    Ok(key)
+}

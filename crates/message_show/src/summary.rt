@@ -1,0 +1,147 @@
+ghost use Rattle.std.specs.Prelude.{◌≡◌, ◌+◌, ◌-◌, ◌<◌, ◌≤◌, ◌++◌, All, ℕ, length, take, slice_index, IfOk, OnOk};
+ghost use Rattle.mail_text.specs.Lines.{with_feed};
+ghost use Rattle.message_state.specs.ShownRows.{IsShown};
+ghost use Rattle.message_show.specs.Summary.{summary, summaries, page_text};
+
+use crate::columns::columns;
+use mail_text::{Memory, Text};
+use message_state::Shown;
+use std::alloc::Global;
+
+/// The summary line of message `k`, without a line feed: the mark `>` of the current message, the letter of its state (N U R D
+/// P S M for New, Unread, Read, Deleted, Preserved, Saved and Mboxed), its number, its author, its date as a clock at the
+/// date's own offset shows it, its size, its depth and its subject, cut to `width - 1` bytes. Only want of memory can fail.
+pub fn summary_line(alloc: Global, shown: &Shown, k: u32, width: usize) -> Result<Text, Memory>
+    requires valid { IsShown shown.now }
+    requires first { 1 ≤ k }
+    requires last { k ≤ length shown.now.rows }
+    requires width { 2 ≤ width }
+    ensures { IfOk result (λ t. t ≡ summary shown.now k width) }
+{
+    let place = place_of(shown, k, 0);
+    summary_at(alloc, shown, place, width)
+}
+
+/// The summary lines of these messages in this order, each ended by one line feed. Numbers that stand in the order of the view
+/// are found in one walk over it. Only want of memory can fail.
+pub fn summary_lines(
+    alloc: Global,
+    shown: &Shown,
+    numbers: &[u32],
+    width: usize,
+) -> Result<Text, Memory>
+    requires valid { IsShown shown.now }
+    requires messages { All (λ k. (1 ≤ k) × (k ≤ length shown.now.rows)) numbers.now }
+    requires width { 2 ≤ width }
+    ensures { IfOk result (λ t. t ≡ summaries shown.now numbers.now width) }
+{
+    let mut text = Text::new(alloc);
+    let mut place = 0;
+    for k in numbers {
+        place = place_of(shown, *k, place);
+        push_summary(alloc, &mut text, shown, place, width)?;
+    }
+    Ok(text)
+}
+
+/// The summary lines of up to `lines` places of the view from place `start`, counted from 0, each ended by one line feed. Only
+/// want of memory can fail.
+pub fn page(
+    alloc: Global,
+    shown: &Shown,
+    start: usize,
+    lines: usize,
+    width: usize,
+) -> Result<Text, Memory>
+    requires valid { IsShown shown.now }
+    requires width { 2 ≤ width }
+    ensures { IfOk result (λ t. t ≡ page_text shown.now start lines width) }
+{
+    let count = shown.order.items().len();
+    let first = start.min(count);
+    let end = first + lines.min(count - first);
+    let mut text = Text::new(alloc);
+    for place in first..end {
+        push_summary(alloc, &mut text, shown, place, width)?;
+    }
+    Ok(text)
+}
+
+// Puts the summary line of the message at a place of the view at the end, with a line feed.
+fn push_summary(
+    alloc: Global,
+    text: &mut Text,
+    shown: &Shown,
+    place: usize,
+    width: usize,
+) -> Result<(), Memory>
+    requires valid { IsShown shown.now }
+    requires place { place < length shown.now.order }
+    requires width { 2 ≤ width }
+    ensures { OnOk result (text.new ≡ text.old ++ with_feed (summary shown.now (slice_index shown.now.order place) width)) }
+{
+    let line = summary_at(alloc, shown, place, width)?;
+    text.push(line.bytes())?;
+    text.push(b"\n")
+}
+
+// The summary line of the message at a place of the view.
+fn summary_at(alloc: Global, shown: &Shown, place: usize, width: usize) -> Result<Text, Memory>
+    requires valid { IsShown shown.now }
+    requires place { place < length shown.now.order }
+    requires width { 2 ≤ width }
+    ensures { IfOk result (λ t. t ≡ summary shown.now (slice_index shown.now.order place) width) }
+{
+    let number = shown.order.items()[place];
+    let depth = shown.depth.items()[place];
+    let row = &shown.rows.items()[number as usize - 1];
+    let line = columns(alloc, shown.current, number, depth, row)?;
+    cut(alloc, line, row.subject.bytes(), width - 1)
+}
+
+// The columns and the subject, cut to so many bytes.
+fn cut(alloc: Global, columns: Text, subject: &[u8], most: usize) -> Result<Text, Memory>
+    ensures { IfOk result (λ t. t ≡ take most (columns ++ subject.now)) }
+{
+    let length = columns.bytes().len();
+    if most < length {
+        Text::copy(alloc, &columns.bytes()[..most])
+    } else {
+        let mut line = columns;
+        let (front, _) = subject.split_at(subject.len().min(most - length));
+        line.push(front)?;
+        Ok(line)
+    }
+}
+
+// The place of message `k` in the view. It is its place where no view is sorted, or stands after the place `from`, or before.
+fn place_of(shown: &Shown, k: u32, from: usize) -> usize
+    requires valid { IsShown shown.now }
+    requires first { 1 ≤ k }
+    requires last { k ≤ length shown.now.rows }
+    ensures within { result < length shown.now.order }
+    ensures found { slice_index shown.now.order result ≡ k }
+{
+    let order = shown.order.items();
+    let own = k as usize - 1;
+    if order[own] == k {
+        return own;
+    }
+    let (before, after) = order.split_at(from.min(order.len()));
+    match after.iter().position(|number| *number == k) {
+        Some(place) => before.len() + place,
+        None => first_place(order, k),
+    }
+}
+
+// The first place of a number.
+fn first_place(order: &[u32], k: u32) -> usize
+    requires { (place : ℕ) × (place < length order.now) × (slice_index order.now place ≡ k) }
+    ensures within { result < length order.now }
+    ensures found { slice_index order.now result ≡ k }
+{
+    match order.iter().position(|number| *number == k) {
+        Some(place) => place,
+        None => unreachable!(),
+    }
+}
