@@ -14,7 +14,7 @@ pub use author::author_local_part;
 pub use list::{End, Item, Kind, ListError, ListSpec, Purpose};
 pub use read::read_list;
 pub use selection::select;
-pub use view::{first_live, is_live, next_live, place_of, previous_live};
+pub use view::{first_live, in_base, is_live, next_live, place_of, previous_live};
 
 #[cfg(test)]
 mod tests;

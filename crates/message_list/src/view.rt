@@ -68,8 +68,8 @@ pub(crate) fn is_for(purpose: Purpose, mark: Mark) -> bool
     }
 }
 
-// Whether message `n` is in the base set.
-pub(crate) fn in_base(shown: &Shown, purpose: Purpose, n: u32) -> bool
+/// Whether message `n` is in the base set.
+pub fn in_base(shown: &Shown, purpose: Purpose, n: u32) -> bool
     ensures { result ≡ in_base shown.now purpose n }
 {
     match row_at(shown, n) {

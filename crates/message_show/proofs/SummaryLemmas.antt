@@ -10,7 +10,7 @@ use Rattle.std.proofs.lemmas.Map.Keys.{IsDistinct-IsPermutation}
 use Rattle.message_state.specs.declared.row.Row.{Row}
 use Rattle.message_state.specs.declared.shown.Shown.{Shown}
 use Rattle.message_state.specs.ShownRows.{IsShown}
-use Rattle.message_show.specs.Summary.{spaces, place_in, depth_of, columns, summary_of, summary, summaries, page_text}
+use Rattle.message_show.specs.Summary.{spaces, place_in, depth_of, columns, summary_of, summary, summaries, page_text, with_current}
 use Rattle.mail_text.specs.Lines.{with_feed}
 
 pub spaces_taken : (n : ℕ) → n ≤ 20 → take n (replicate 20 32) ≡ spaces n
@@ -85,14 +85,14 @@ module _ (shown : Shown) (valid : IsShown shown) where
       (found.0, found.1, get_or_default shown.order found.0 0 k found.1 ∙ found.2)
 
   -- the summary of the message at a place
-  pub summary-at : (place width : ℕ) (row : Row) → place < length shown.order → (let k = get_or shown.order place 0 in row ≡ get_or shown.rows (k - 1) row
-      → summary shown k width ≡ take (width - 1) (columns shown.current k (get_or shown.depth place 0) row ++ row.subject))
+  pub summary-at : (current place width : ℕ) (row : Row) → place < length shown.order → (let k = get_or shown.order place 0 in row ≡ get_or shown.rows (k - 1) row
+      → summary (with_current shown current) k width ≡ take (width - 1) (columns current k (get_or shown.depth place 0) row ++ row.subject))
   unfolding summary
-  summary-at place width row within is =
+  summary-at current place width row within is =
       let k = get_or shown.order place 0 in
       let message = number-within place within in
-      ap (λ (r : Option Row). summary_of shown.current k (depth_of shown k) r width) (slice_get-read shown.rows (k - 1) row (omega (arith, message.0, message.1)) is)
-      ∙ ap (λ (at : ℕ). take (width - 1) (columns shown.current k (get_or shown.depth at 0) row ++ row.subject)) (number-place place within)
+      ap (λ (r : Option Row). summary_of current k (depth_of shown k) r width) (slice_get-read shown.rows (k - 1) row (omega (arith, message.0, message.1)) is)
+      ∙ ap (λ (at : ℕ). take (width - 1) (columns current k (get_or shown.depth at 0) row ++ row.subject)) (number-place place within)
 
 -- ---- many lines
 

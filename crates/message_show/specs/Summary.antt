@@ -58,6 +58,10 @@ abbrev pub summary_of : ℕ → ℕ → ℕ → Option Row → ℕ → List ℕ
 summary_of current number depth (Some row) width = take (width - 1) (columns current number depth row ++ row.subject)
 summary_of current number depth None width = []
 
+-- the same messages with another current one, or with none
+abbrev pub with_current : Shown → ℕ → Shown
+with_current shown current = record shown { current = current }
+
 -- the place of a message in the view, from 0
 abbrev pub place_in : List ℕ → ℕ → ℕ
 place_in order k = position_or_len (λ n. n == k) order

@@ -1,7 +1,7 @@
 ghost use Rattle.std.specs.Prelude.{◌≡◌, ◌+◌, ◌-◌, ◌<◌, ◌≤◌, ◌++◌, All, ℕ, length, take, slice_index, IfOk, OnOk};
 ghost use Rattle.mail_text.specs.Lines.{with_feed};
 ghost use Rattle.message_state.specs.ShownRows.{IsShown};
-ghost use Rattle.message_show.specs.Summary.{summary, summaries, page_text};
+ghost use Rattle.message_show.specs.Summary.{summary, summaries, page_text, with_current};
 
 use crate::columns::columns;
 use mail_text::{Memory, Text};
@@ -19,7 +19,7 @@ pub fn summary_line(alloc: Global, shown: &Shown, k: u32, width: usize) -> Resul
     ensures { IfOk result (λ t. t ≡ summary shown.now k width) }
 {
     let place = place_of(shown, k, 0);
-    summary_at(alloc, shown, place, width)
+    summary_at(alloc, shown, shown.current, place, width)
 }
 
 /// The summary lines of these messages in this order, each ended by one line feed. Numbers that stand in the order of the view
@@ -39,7 +39,7 @@ pub fn summary_lines(
     let mut place = 0;
     for k in numbers {
         place = place_of(shown, *k, place);
-        push_summary(alloc, &mut text, shown, place, width)?;
+        push_summary(alloc, &mut text, shown, shown.current, place, width)?;
     }
     Ok(text)
 }
@@ -57,12 +57,28 @@ pub fn page(
     requires width { 2 ≤ width }
     ensures { IfOk result (λ t. t ≡ page_text shown.now start lines width) }
 {
+    page_with_current(alloc, shown, shown.current, start, lines, width)
+}
+
+/// The same with another current message, or none where `current` is 0.
+pub fn page_with_current(
+    alloc: Global,
+    shown: &Shown,
+    current: u32,
+    start: usize,
+    lines: usize,
+    width: usize,
+) -> Result<Text, Memory>
+    requires valid { IsShown shown.now }
+    requires width { 2 ≤ width }
+    ensures { IfOk result (λ t. t ≡ page_text (with_current shown.now current) start lines width) }
+{
     let count = shown.order.items().len();
     let first = start.min(count);
     let end = first + lines.min(count - first);
     let mut text = Text::new(alloc);
     for place in first..end {
-        push_summary(alloc, &mut text, shown, place, width)?;
+        push_summary(alloc, &mut text, shown, current, place, width)?;
     }
     Ok(text)
 }
@@ -72,30 +88,37 @@ fn push_summary(
     alloc: Global,
     text: &mut Text,
     shown: &Shown,
+    current: u32,
     place: usize,
     width: usize,
 ) -> Result<(), Memory>
     requires valid { IsShown shown.now }
     requires place { place < length shown.now.order }
     requires width { 2 ≤ width }
-    ensures { OnOk result (text.new ≡ text.old ++ with_feed (summary shown.now (slice_index shown.now.order place) width)) }
+    ensures { OnOk result (text.new ≡ text.old ++ with_feed (summary (with_current shown.now current) (slice_index shown.now.order place) width)) }
 {
-    let line = summary_at(alloc, shown, place, width)?;
+    let line = summary_at(alloc, shown, current, place, width)?;
     text.push(line.bytes())?;
     text.push(b"\n")
 }
 
 // The summary line of the message at a place of the view.
-fn summary_at(alloc: Global, shown: &Shown, place: usize, width: usize) -> Result<Text, Memory>
+fn summary_at(
+    alloc: Global,
+    shown: &Shown,
+    current: u32,
+    place: usize,
+    width: usize,
+) -> Result<Text, Memory>
     requires valid { IsShown shown.now }
     requires place { place < length shown.now.order }
     requires width { 2 ≤ width }
-    ensures { IfOk result (λ t. t ≡ summary shown.now (slice_index shown.now.order place) width) }
+    ensures { IfOk result (λ t. t ≡ summary (with_current shown.now current) (slice_index shown.now.order place) width) }
 {
     let number = shown.order.items()[place];
     let depth = shown.depth.items()[place];
     let row = &shown.rows.items()[number as usize - 1];
-    let line = columns(alloc, shown.current, number, depth, row)?;
+    let line = columns(alloc, current, number, depth, row)?;
     cut(alloc, line, row.subject.bytes(), width - 1)
 }
 

@@ -34,13 +34,13 @@ pub returns : goal.returns
 returns c =
     let row = c.index-items-number.result in
     let is = row-is c.items.result.now c.args.shown.now.order c.items-3.result.now c.args.shown.now.rows c.args.place row c.index-items-number.is c.items.ensures c.items-3.ensures in
-    let summary = summary-at c.args.shown.now c.requires.valid c.args.place c.args.width row c.requires.place is in
+    let summary = summary-at c.args.shown.now c.requires.valid c.args.current c.args.place c.args.width row c.requires.place is in
     let line =
     c.in_ok-line.ensures
-    ∙ ap (λ (xs : List ℕ). columns c.args.shown.now.current (get_or xs c.args.place 0) (get_or c.items-2.result.now c.args.place 0) row) c.items.ensures
-    ∙ ap (λ (xs : List ℕ). columns c.args.shown.now.current (get_or c.args.shown.now.order c.args.place 0) (get_or xs c.args.place 0) row) c.items-2.ensures in
+    ∙ ap (λ (xs : List ℕ). columns c.args.current (get_or xs c.args.place 0) (get_or c.items-2.result.now c.args.place 0) row) c.items.ensures
+    ∙ ap (λ (xs : List ℕ). columns c.args.current (get_or c.args.shown.now.order c.args.place 0) (get_or xs c.args.place 0) row) c.items-2.ensures in
     let whole =
     ap (λ (l : List ℕ). take (c.args.width - 1) (l ++ c.bytes.result.now)) line
-    ∙ ap (λ (l : List ℕ). take (c.args.width - 1) (columns c.args.shown.now.current (get_or c.args.shown.now.order c.args.place 0) (get_or c.args.shown.now.depth c.args.place 0) row ++ l)) c.bytes.ensures
+    ∙ ap (λ (l : List ℕ). take (c.args.width - 1) (columns c.args.current (get_or c.args.shown.now.order c.args.place 0) (get_or c.args.shown.now.depth c.args.place 0) row ++ l)) c.bytes.ensures
     ∙ sym summary in
     subst (λ (text : List ℕ). IfOk c.cut.result (λ t. t ≡ text)) whole c.cut.ensures
