@@ -1,0 +1,12 @@
+//! The record of a commit: its text, and the record that a text gives.
+#![tactic(auto)]
+
+mod error;
+mod record;
+mod valid;
+mod writer;
+
+pub use error::RecordError;
+pub use record::{Entry, EntryKind, Phase, Record};
+pub use valid::{is_lawful, is_valid};
+pub use writer::write;
