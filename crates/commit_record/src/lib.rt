@@ -2,11 +2,18 @@
 #![tactic(auto)]
 
 mod error;
+mod laws;
+mod reader;
 mod record;
 mod valid;
 mod writer;
 
 pub use error::RecordError;
+pub use laws::a_text_has_one_record;
+pub use reader::read;
 pub use record::{Entry, EntryKind, Phase, Record};
 pub use valid::{is_lawful, is_valid};
 pub use writer::write;
+
+#[cfg(test)]
+mod tests;

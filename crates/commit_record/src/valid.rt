@@ -86,5 +86,8 @@ pub fn is_valid(value: &Record) -> bool
     ensures { result ≡ is_valid value.now }
 {
     let entries = value.entries.items();
-    !entries.is_empty() && entries.len() <= MOST_ENTRIES && are_lawful(entries) && are_distinct(entries)
+    !entries.is_empty()
+        && entries.len() <= MOST_ENTRIES
+        && are_lawful(entries)
+        && are_distinct(entries)
 }
