@@ -5,6 +5,7 @@ ghost use Rattle.std.specs.Bool.{Decides};
 ghost use Rattle.std.specs.Char.{is_ascii_digit};
 ghost use Rattle.std.specs.List.{prefix_len};
 ghost use Rattle.std.specs.Option.{option_copied, option_map};
+ghost use Rattle.std.specs.Str.{bytes_eq};
 ghost use Rattle.commit_record.specs.Format.{IsWritten};
 ghost use Rattle.commit_record.specs.Reading.{after, count_at, counted_head, counted_name_at, entries_at, entry_at, head_at, kind_at, name_at, number_at, phase_at, record_at, token_at, token_head, with_entries};
 
@@ -224,6 +225,12 @@ fn record_at(alloc: Global, bytes: &[u8]) -> Result<Option<Record>, Memory>
     }
 }
 
+fn is_same(text: &Text, bytes: &[u8]) -> bool
+    ensures { result ≡ bytes_eq text.now bytes.now }
+{
+    text.bytes() == bytes
+}
+
 // Whether the bytes are the text of this record.
 fn is_text_of(alloc: Global, value: &Record, bytes: &[u8]) -> Result<bool, Memory>
     ensures { IfOk result (λ is. Decides is (IsWritten bytes.now value.now)) }
@@ -234,7 +241,7 @@ fn is_text_of(alloc: Global, value: &Record, bytes: &[u8]) -> Result<bool, Memor
         return Ok(false);
     }
     let text = write(alloc, value)?;
-    Ok(text.bytes() == bytes)
+    Ok(is_same(&text, bytes))
 }
 
 // This record, if the bytes are its text.
