@@ -8,6 +8,7 @@ use Rattle.line_words.specs.declared.cut.Act.TheVariants.{Pass, Keep, End}
 use Rattle.line_words.specs.declared.cut.Step.{Step}
 use Rattle.line_words.specs.Words.{is_blank, is_quote, words_from}
 
+-- this becomes of the byte, and the next one stands there
 abbrev pub goes : Place → Act → Step
 goes place act = record { place = place; act = act }
 

@@ -29,10 +29,11 @@ word_length text =
     else (if starts_with (◌==◌) text (codes "z+") || starts_with (◌==◌) text (codes "z-") then 2
     else prefix_len is_ascii_alphabetic text)
 
--- the command word of a line, and what follows it
+-- the command word of a line
 abbrev pub command_word : List ℕ → List ℕ
 command_word line = take (word_length (text_of line)) (text_of line)
 
+-- what follows the command word
 abbrev pub after_word : List ℕ → List ℕ
 after_word line = drop (word_length (text_of line)) (text_of line)
 

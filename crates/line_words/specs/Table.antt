@@ -2,5 +2,6 @@
 use Rattle.line_words.specs.declared.table.Spelling as code
 use Rattle.line_words.specs.Spellings.{Spelling}
 
+-- the spelling that a row writes down
 abbrev pub row_of : code.Spelling → Spelling
 row_of s = record { command = s.command; least = s.least.now; whole = s.whole.now }

@@ -17,7 +17,7 @@ is_quote b = b == 34 || b == 39
 abbrev pub unquoted : ℕ → (Place → Option (List (List ℕ))) → Option (List (List ℕ))
 unquoted b later = if is_quote b then later (Quoted b) else (if b == 92 then later Escaped else option_map (onto_first b) (later Word))
 
--- the words of bytes that stand between words, in a word, behind a backslash or between two quotes; inside a word the first one is what is left of it. There are none where a quote isn't closed
+-- the words that bytes give which begin between words, in a word, behind a backslash or between quotes, the first of them the rest of the word in which they begin; none where a quote isn't closed
 unfoldable pub words_from : Place → List ℕ → Option (List (List ℕ))
 words_from Between [] = Some []
 words_from Word [] = Some ([] ∷ [])

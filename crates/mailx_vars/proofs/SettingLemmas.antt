@@ -1,16 +1,15 @@
 -- What is found of variables that are set and unset.
 use Rattle.std.proofs.Common.{◌≡◌, ℕ, List, [], ◌∷◌, ◌++◌, refl, sym, ap, ◌∙◌, true, false, ⊎_elim, Bool, true≢false}
-use Rattle.std.specs.Prelude.{if◌then◌else◌, is_some, IsSome}
-use Rattle.std.specs.declared.option.Option.{Option}
+use Rattle.std.specs.Prelude.{if◌then◌else◌, is_some}
 use Rattle.std.specs.declared.option.Option.TheVariants.{Some, None}
 use Rattle.std.specs.Cmp.{IsEquivalence}
-use Rattle.std.specs.Map.{lookup, keys_of}
+use Rattle.std.specs.Map.{keys_of}
 use Rattle.std.specs.Str.{bytes_eq}
 use Rattle.std.proofs.lemmas.Bool.{cases_Bool, cond-true, cond-false}
 use Rattle.std.proofs.lemmas.Map.{lookup-set_value, lookup-remove_entry}
 use Rattle.std.proofs.lemmas.Slice.Eq.{bytes_eq-Decides}
 use Rattle.mailx_vars.specs.SettingLaws.{SetAgainIsLast, SetGives, SetKeepsOrder, UnsetTakes}
-use Rattle.mailx_vars.specs.Settings.{AreSettings, Settings, is_set, value_of, with_value, without}
+use Rattle.mailx_vars.specs.Settings.{Settings, is_set, value_of, without}
 use Rattle.mailx_vars.proofs.PairLemmas.{map-append, names-set}
 
 same-refl : (a : List ℕ) → bytes_eq a a ≡ true

@@ -6,6 +6,7 @@ use Rattle.mail_text.specs.Number.{number_of}
 use Rattle.mailx_vars.specs.Names.{is_short_name, is_user_name}
 use Rattle.mailx_vars.specs.declared.environment.Places.{Places}
 
+-- the environment as it is given
 abbrev pub Pairs : Type 0
 Pairs = List (List ℕ × List ℕ)
 

@@ -1,5 +1,5 @@
 -- What a file name stands for.
-use Rattle.std.specs.Prelude.{◌≡◌, ◌⊎◌, ◌==◌, ℕ, Bool, List, [], ◌∷◌, ◌++◌, Option, Some, None, length, drop, codes, nat_eq, unwrap_or, if◌then◌else◌}
+use Rattle.std.specs.Prelude.{◌≡◌, ◌⊎◌, ◌==◌, ℕ, Bool, List, [], ◌++◌, length, drop, codes, nat_eq, unwrap_or, if◌then◌else◌}
 use Rattle.std.specs.declared.result.Result.{Result}
 use Rattle.std.specs.declared.result.Result.TheVariants.{Ok, Err}
 use Rattle.std.specs.List.{starts_with}
@@ -9,6 +9,7 @@ use Rattle.mailx_vars.specs.declared.environment.Places.{Places}
 use Rattle.mailx_vars.specs.declared.error.NameError.{NameError}
 use Rattle.mailx_vars.specs.declared.error.NameError.TheVariants.{NoPrevious, NoFolder, Memory}
 
+-- a name has this in front
 abbrev pub begins : List ℕ → List ℕ → Bool
 begins name front = starts_with nat_eq name front
 

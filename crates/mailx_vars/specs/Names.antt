@@ -14,12 +14,9 @@ is_variable_name name = nat_lt 0 (length name) && list_all is_variable_byte name
 abbrev pub is_short : List ℕ → Bool
 is_short name = nat_lt 0 (length name) && nat_le (length name) 4000
 
-abbrev pub is_zero : ℕ → Bool
-is_zero b = b == 0
-
 -- a file's name: 1 to 4,000 bytes, none of them zero
 abbrev pub is_short_name : List ℕ → Bool
-is_short_name name = is_short name && not (list_any is_zero name)
+is_short_name name = is_short name && not (list_any (λ b. b == 0) name)
 
 -- neither below 33 nor the byte 127
 abbrev pub is_graphic : ℕ → Bool

@@ -18,6 +18,7 @@ Settings = List (List ℕ × List ℕ)
 abbrev pub value_of : Settings → List ℕ → Option (List ℕ)
 value_of vars name = lookup (bytes_eq name) vars
 
+-- a variable is set, be it to nothing
 abbrev pub is_set : Settings → List ℕ → Bool
 is_set vars name = is_some (value_of vars name)
 

@@ -182,24 +182,22 @@ fn environment(alloc: Global, text: &str) -> Result<Vec<(Text, Text)>, Fail> {
 }
 
 fn shown(alloc: Global, places: &Places) -> Result<Text, Fail> {
-    let mut list = Text::copy(alloc, places.home.bytes())?;
-    let texts = [
-        places.user.bytes(),
-        places.mail.bytes(),
-        places.rc.bytes(),
-        places.mbox.bytes(),
-        places.dead.bytes(),
-        places.lister.bytes(),
-        places.shell.bytes(),
-        places.tz.bytes(),
-    ];
-    for text in texts {
-        list.push(b",")?;
-        list.push(text)?;
-    }
-    let width = format!(in alloc; ",{}", places.width)?;
-    list.push(width.as_bytes())?;
-    Ok(list)
+    let Places {
+        home,
+        user,
+        mail,
+        rc,
+        mbox,
+        dead,
+        lister,
+        shell,
+        tz,
+        width,
+    } = places;
+    let text = format!(in alloc;
+        "{home},{user},{mail},{rc},{mbox},{dead},{lister},{shell},{tz},{width}"
+    )?;
+    Ok(Text::copy(alloc, text.as_bytes())?)
 }
 
 // The places that an environment makes.

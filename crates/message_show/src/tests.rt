@@ -190,26 +190,32 @@ fn put_names(said: &mut Text, names: &[Text]) -> Result<(), Memory> {
     Ok(())
 }
 
-// The ignored and the retained names, and for each of some lines whether a field of that name is kept.
-fn told(alloc: Global, sets: &FieldSets, asked: &[u8]) -> Result<Text, Memory> {
-    let mut said = Text::new(alloc);
-    put_names(&mut said, sets.ignored())?;
+// Puts the ignored and the retained names at the end, and for each name that is asked for whether its fields are kept.
+fn put_told(said: &mut Text, sets: &FieldSets) -> Result<(), Memory> {
+    put_names(said, sets.ignored())?;
     said.push(b".")?;
-    put_names(&mut said, sets.retained())?;
+    put_names(said, sets.retained())?;
     said.push(b".")?;
-    for name in lines(asked) {
+    for name in lines(ASKED) {
         said.push(if sets.keeps(name) { b"+" } else { b"-" })?;
     }
-    Ok(said)
+    said.push(b"\n")
 }
+
+const NONE: &[u8] = b"";
+
+const FIRST: &[u8] = b"Subject\nX-a\nsubject";
 
 const MORE: &[u8] = b"SUBJECT\nTo\nx-A\n\xc3\x84";
 
+const FROM: &[u8] = b"From";
+
+const DATES: &[u8] = b"to\nDate\nTo";
+
 const ASKED: &[u8] = b"subJect\nTO\nX-A\n\xc3\x84\n\xc3\xa4\nSubjec\nSubjects\nFrom\ndate";
 
-const IGNORING: &[u8] = b"Subject\nX-a\nTo\n\xc3\x84\n..----+++++";
-
-const RETAINING: &[u8] = b"From\nSUBJECT\nTo\nx-A\n\xc3\x84\n.to\nDate\n.-+------+";
+const TOLD: &[u8] =
+    b"..+++++++++\nSubject\nX-a\nTo\n\xc3\x84\n..----+++++\nFrom\nSUBJECT\nTo\nx-A\n\xc3\x84\n.to\nDate\n.-+------+\n";
 
 // So many times the byte.
 fn repeated(alloc: Global, byte: u8, count: usize) -> Result<Text, Memory> {
@@ -233,17 +239,23 @@ fn long_names_are_found(alloc: Global) -> Result<bool, Memory> {
 #[test]
 fn names_of_both_sets(rt: HostRuntime) -> Result<(), Fail> {
     let alloc = rt.alloc();
-    let none = told(alloc, &sets(alloc, b"", b"", b"")?, ASKED)?;
-    assert!(rt; none.bytes() == b"..+++++++++".as_slice());
-    let ignoring = told(
-        alloc,
-        &sets(alloc, b"Subject\nX-a\nsubject", MORE, b"")?,
-        ASKED,
-    )?;
-    assert!(rt; ignoring.bytes() == IGNORING);
-    let retaining = told(alloc, &sets(alloc, b"From", MORE, b"to\nDate\nTo")?, ASKED)?;
-    assert!(rt; retaining.bytes() == RETAINING);
-    assert!(rt; long_names_are_found(alloc)?);
+    let mut said = Text::new(alloc);
+    for (ignored, more, retained) in [
+        (NONE, NONE, NONE),
+        (FIRST, MORE, NONE),
+        (FROM, MORE, DATES),
+    ] {
+        let sets = sets(alloc, ignored, more, retained)?;
+        put_told(&mut said, &sets)?;
+    }
+    assert!(rt; said.bytes() == TOLD);
+    Ok(())
+}
+
+#[test]
+fn names_longer_than_lines(rt: HostRuntime) -> Result<(), Fail> {
+    let found = long_names_are_found(rt.alloc())?;
+    assert!(rt; found);
     Ok(())
 }
 
@@ -251,10 +263,9 @@ const LONG: &[u8] = b"From a@x\nA: b\n c\nX: y\nno field\na: d\n\nbody\n\nmore";
 
 const SHORT: &[u8] = b"From a@x\n folded\nA: b\n c";
 
-// The shown text, its first four lines and the whole text of each message of a folder, with a bar after each.
-fn shown_of(alloc: Global, text: &[u8], sets: &FieldSets) -> Result<Text, Fail> {
+// Puts the shown text, its first four lines and the whole text of each message of a folder at the end, with a bar after each.
+fn put_shown(alloc: Global, said: &mut Text, text: &[u8], sets: &FieldSets) -> Result<(), Fail> {
     let folder = Folder::open(alloc, Text::copy(alloc, text)?)?;
-    let mut said = Text::new(alloc);
     for k in 0..folder.count() {
         let message = folder.message(k);
         said.push(shown_text(alloc, &message, sets, How::Kept)?.bytes())?;
@@ -265,27 +276,36 @@ fn shown_of(alloc: Global, text: &[u8], sets: &FieldSets) -> Result<Text, Fail> 
         said.push(shown_text(alloc, &message, sets, How::All)?.bytes())?;
         said.push(b"|")?;
     }
-    Ok(said)
+    Ok(())
 }
 
-const LONG_SHOWN: &[u8] =
-    b"From a@x\nX: y\nno field\n\nbody\n\nmore|From a@x\nX: y\nno field\n\n|From a@x\nA: b\n c\nX: y\nno field\na: d\n\nbody\n\nmore|";
+const A: &[u8] = b"a";
 
-const LONG_OTHER: &[u8] =
-    b"From a@x\nno field\n\nbody\n\nmore|From a@x\nno field\n\nbody\n|From a@x\nA: b\n c\nX: y\nno field\na: d\n\nbody\n\nmore|";
+const X: &[u8] = b"x";
 
-const SHORT_SHOWN: &[u8] = b"From a@x\n folded|From a@x\n folded\n|From a@x\n folded\nA: b\n c|";
+const Z: &[u8] = b"z";
+
+const SHOWN: &[u8] =
+    b"From a@x\nX: y\nno field\n\nbody\n\nmore|From a@x\nX: y\nno field\n\n|From a@x\nA: b\n c\nX: y\nno field\na: d\n\nbody\n\nmore|From a@x\nX: y\nno field\n\nbody\n\nmore|From a@x\nX: y\nno field\n\n|From a@x\nA: b\n c\nX: y\nno field\na: d\n\nbody\n\nmore|From a@x\nno field\n\nbody\n\nmore|From a@x\nno field\n\nbody\n|From a@x\nA: b\n c\nX: y\nno field\na: d\n\nbody\n\nmore|From a@x\n folded|From a@x\n folded\n|From a@x\n folded\nA: b\n c|";
 
 #[test]
 fn texts_and_their_first_lines(rt: HostRuntime) -> Result<(), Fail> {
     let alloc = rt.alloc();
-    let ignoring = sets(alloc, b"a", b"", b"")?;
-    let retaining = sets(alloc, b"X", b"", b"x")?;
-    let other = sets(alloc, b"", b"", b"z")?;
-    assert!(rt; shown_of(alloc, LONG, &ignoring)?.bytes() == LONG_SHOWN);
-    assert!(rt; shown_of(alloc, LONG, &retaining)?.bytes() == LONG_SHOWN);
-    assert!(rt; shown_of(alloc, LONG, &other)?.bytes() == LONG_OTHER);
-    assert!(rt; shown_of(alloc, SHORT, &ignoring)?.bytes() == SHORT_SHOWN);
-    all_fields_make_the_text();
+    let mut said = Text::new(alloc);
+    for (text, ignored, retained) in [
+        (LONG, A, NONE),
+        (LONG, X, X),
+        (LONG, NONE, Z),
+        (SHORT, A, NONE),
+    ] {
+        let sets = sets(alloc, ignored, NONE, retained)?;
+        put_shown(alloc, &mut said, text, &sets)?;
+    }
+    assert!(rt; said.bytes() == SHOWN);
     Ok(())
+}
+
+#[test]
+fn all_fields_are_the_text(_rt: HostRuntime) {
+    all_fields_make_the_text();
 }

@@ -1,4 +1,4 @@
-use Rattle.std.proofs.Common.{◌≡◌, ℕ, List, [], ap, ◌∙◌, sym, option_map}
+use Rattle.std.proofs.Common.{ℕ, List, [], ap, ◌∙◌, option_map}
 use Rattle.std.specs.Prelude.{unwrap_or}
 use Rattle.std.specs.declared.option.Option.{Option}
 use Rattle.mailx_vars.proofs.PlaceLemmas.{first-value}

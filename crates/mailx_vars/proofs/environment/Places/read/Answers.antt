@@ -1,9 +1,9 @@
-use Rattle.std.proofs.Common.{◌≡◌, List, ℕ, ◌++◌, ap, sym, ◌∙◌, refl}
+use Rattle.std.proofs.Common.{List, ℕ, ◌++◌, ap, sym, ◌∙◌, refl}
 use Rattle.std.specs.Prelude.{codes}
 use Rattle.std.specs.declared.option.Option.TheVariants.{Some}
 use Rattle.std.proofs.lemmas.Bool.{cond-true}
 use Rattle.mail_text.specs.Number.{number_of}
-use Rattle.mailx_vars.specs.Environment.{places_in, variable, width_of}
+use Rattle.mailx_vars.specs.Environment.{places_in, width_of}
 use Rattle.mailx_vars.specs.declared.environment.Places.{Places}
 use Rattle.mailx_vars.proofs.PlaceLemmas.{same-default, same-places}
 use Rattle.mailx_vars.proofs.environment.Places.read.Goals as goal

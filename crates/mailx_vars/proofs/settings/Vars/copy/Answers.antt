@@ -1,5 +1,5 @@
 use Rattle.std.proofs.Common.{sym, ◌∙◌, subst}
-use Rattle.mailx_vars.specs.Settings.{AreSettings, Settings, pairs_of}
+use Rattle.mailx_vars.specs.Settings.{AreSettings, Settings}
 use Rattle.mailx_vars.proofs.PairLemmas.{clone-pairs}
 use Rattle.mailx_vars.proofs.settings.Vars.copy.Goals as goal
 

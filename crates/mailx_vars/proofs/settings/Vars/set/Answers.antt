@@ -2,7 +2,7 @@ use Rattle.std.proofs.Common.{◌≡◌, ◌<◌, false, length, sym, ap, ◌∙
 use Rattle.std.specs.List.{IsDistinct}
 use Rattle.std.specs.Map.{keys_of}
 use Rattle.std.specs.Str.{bytes_eq}
-use Rattle.mailx_vars.specs.Settings.{AreSettings, Settings, is_set, pairs_of, with_value}
+use Rattle.mailx_vars.specs.Settings.{AreSettings, Settings, is_set, pairs_of}
 use Rattle.mailx_vars.proofs.PairLemmas.{settings-with_value}
 use Rattle.mailx_vars.proofs.settings.Vars.set.Goals as goal
 use Rattle.mailx_vars.proofs.settings.Vars.set.Goals.{else-not-flag-via-then-not-flag+else-count-ge-VARIABLE_LIMIT, else-not-flag-via-else-not-flag}

@@ -1,0 +1,89 @@
+-- How the parts of a record are found at the front of bytes, each with what follows it.
+use Rattle.std.specs.Prelude.{ℕ, zero, suc, nat_lt, nat_le, List, [], ◌∷◌, ◌++◌, length, take, drop, codes, Option, Some, None, if◌then◌else◌}
+use Rattle.std.specs.Char.{is_ascii_digit}
+use Rattle.std.specs.Int.{from_be_bytes, w64}
+use Rattle.std.specs.List.{prefix_len}
+use Rattle.std.specs.Option.{option_map, option_and_then}
+use Rattle.std.specs.Result.{result_ok}
+use Rattle.std.specs.Str.{bytes_eq}
+use Rattle.hex.specs.Hex.{decode_sized}
+use Rattle.mail_text.specs.Number.{number_of}
+use Rattle.commit_record.specs.declared.record.Phase.{Phase}
+use Rattle.commit_record.specs.declared.record.Phase.TheVariants.{Prepare, Go}
+use Rattle.commit_record.specs.declared.record.EntryKind.{EntryKind}
+use Rattle.commit_record.specs.declared.record.EntryKind.TheVariants.{Replace}
+use Rattle.commit_record.specs.declared.record.Entry.{Entry}
+use Rattle.commit_record.specs.declared.record.Record.{Record}
+use Rattle.commit_record.specs.declared.reader.Head.{Head}
+
+-- what follows a front
+unfoldable pub after : List ℕ → List ℕ → Option (List ℕ)
+after front bytes = if bytes_eq (take (length front) bytes) front then Some (drop (length front) bytes) else None
+
+-- what follows a front is this value's
+abbrev pub with_value : {A : Type 0} → A → Option (List ℕ) → Option (A × List ℕ)
+with_value x rest = option_map (λ bytes. (x, bytes)) rest
+
+-- a number in decimal digits
+unfoldable pub number_at : List ℕ → Option (ℕ × List ℕ)
+number_at bytes = let n = prefix_len is_ascii_digit bytes in option_map (λ number. (number, drop n bytes)) (number_of (take n bytes))
+
+-- a number in 16 hexadecimal digits
+unfoldable pub token_at : List ℕ → Option (ℕ × List ℕ)
+token_at bytes =
+    if nat_lt (length bytes) 16 then None
+    else option_map (λ digits. (from_be_bytes w64 digits, drop 16 bytes)) (result_ok (decode_sized (take 16 bytes) 8))
+
+-- the first of two, if it is there
+abbrev pub or_else : {A : Type 0} → Option A → Option A → Option A
+or_else None other = other
+or_else (Some x) other = Some x
+
+-- the word of a phase and its line feed
+unfoldable pub phase_at : List ℕ → Option (Phase × List ℕ)
+phase_at bytes = or_else (with_value Prepare (after (codes "prepare\n") bytes)) (with_value Go (after (codes "go\n") bytes))
+
+-- the word of a kind and the space behind it
+unfoldable pub kind_at : List ℕ → Option (EntryKind × List ℕ)
+kind_at bytes = with_value Replace (after (codes "replace ") bytes)
+
+-- so many bytes, and a line feed
+unfoldable pub name_at : ℕ → List ℕ → Option (List ℕ × List ℕ)
+name_at n bytes = if nat_lt (length bytes) n then None else with_value (take n bytes) (after (codes "\n") (drop n bytes))
+
+-- a number, a space, so many bytes, and a line feed
+unfoldable pub counted_name_at : List ℕ → Option (List ℕ × List ℕ)
+counted_name_at bytes = option_and_then (λ n. option_and_then (name_at n.0) (after (codes " ") n.1)) (number_at bytes)
+
+-- an entry's line
+unfoldable pub entry_at : List ℕ → Option (Entry × List ℕ)
+entry_at bytes = option_and_then (λ k. option_map (λ n. (record { kind = k.0; name = n.0 }, n.1)) (counted_name_at k.1)) (kind_at bytes)
+
+-- the entries of so many lines, behind these entries
+unfoldable pub entries_at : ℕ → List Entry → List ℕ → Option (List Entry)
+entries_at zero entries bytes = Some entries
+entries_at (suc n) entries bytes = option_and_then (λ e. entries_at n (entries ++ e.0 ∷ []) e.1) (entry_at bytes)
+
+-- a number, and the line feed behind it
+unfoldable pub count_at : List ℕ → Option (ℕ × List ℕ)
+count_at bytes = option_and_then (λ n. with_value n.0 (after (codes "\n") n.1)) (number_at bytes)
+
+-- the number of entries, behind this phase and this token
+unfoldable pub counted_head : Phase → ℕ → List ℕ → Option (Head × List ℕ)
+counted_head phase token bytes = option_and_then (λ b. option_map (λ n. (record { phase = phase; token = token; count = n.0 }, n.1)) (count_at b)) (after (codes "\nentries ") bytes)
+
+-- the token, and the number of entries, behind this phase
+unfoldable pub token_head : Phase → List ℕ → Option (Head × List ℕ)
+token_head phase bytes = option_and_then (λ b. option_and_then (λ t. counted_head phase t.0 t.1) (token_at b)) (after (codes "token ") bytes)
+
+-- what a record says before its entries
+unfoldable pub head_at : List ℕ → Option (Head × List ℕ)
+head_at bytes = option_and_then (λ b. option_and_then (λ p. token_head p.0 p.1) (phase_at b)) (after (codes "mailx-commit 1\nphase ") bytes)
+
+-- the record of this head with these entries
+abbrev pub with_entries : Head → List Entry → Record
+with_entries head entries = record { phase = head.phase; token = head.token; entries = entries }
+
+-- the record that bytes may be the text of
+unfoldable pub record_at : List ℕ → Option Record
+record_at bytes = option_and_then (λ h. if nat_le h.0.count 16 then option_map (with_entries h.0) (entries_at h.0.count [] h.1) else None) (head_at bytes)

@@ -1,0 +1,19 @@
+//! The record of a commit: its text, and the record that a text gives.
+#![tactic(auto)]
+
+mod error;
+mod laws;
+mod reader;
+mod record;
+mod valid;
+mod writer;
+
+pub use error::RecordError;
+pub use laws::a_text_has_one_record;
+pub use reader::read;
+pub use record::{Entry, EntryKind, Phase, Record};
+pub use valid::{is_lawful, is_valid};
+pub use writer::write;
+
+#[cfg(test)]
+mod tests;

@@ -1,0 +1,272 @@
+// The record that a text gives. Its parts are looked for from the front, each with what follows it; then the record is
+// written, and its text compared with the bytes.
+ghost use Rattle.std.specs.Prelude.{◌≡◌, ◌≤◌, ◌⊎◌, [], length, IfOk};
+ghost use Rattle.std.specs.Bool.{Decides};
+ghost use Rattle.std.specs.Char.{is_ascii_digit};
+ghost use Rattle.std.specs.List.{prefix_len};
+ghost use Rattle.std.specs.Option.{option_copied, option_map};
+ghost use Rattle.std.specs.Str.{bytes_eq};
+ghost use Rattle.commit_record.specs.Format.{IsWritten};
+ghost use Rattle.commit_record.specs.Reading.{after, count_at, counted_head, counted_name_at, entries_at, entry_at, head_at, kind_at, name_at, number_at, phase_at, record_at, token_at, token_head, with_entries};
+
+use crate::valid::{MOST_ENTRIES, is_valid};
+use crate::writer::write;
+use crate::{Entry, EntryKind, Phase, Record, RecordError};
+use mail_text::{Items, Memory, Text, read_number};
+use std::alloc::Global;
+
+/// The digits of a token.
+const TOKEN_DIGITS: usize = 16;
+
+// What a record says before its entries.
+#[derive(Clone, Copy)]
+pub(crate) struct Head {
+    phase: Phase,
+    token: u64,
+    count: u64,
+}
+
+// What follows a front.
+#[tactic(auto, unfolding(crate::specs::Reading::after))]
+fn after<'a>(front: &[u8], bytes: &'a [u8]) -> Option<&'a [u8]>
+    ensures { option_copied result ≡ after front.now bytes.now }
+{
+    bytes.strip_prefix(front)
+}
+
+// How many decimal digits stand at the front.
+fn digits(bytes: &[u8]) -> usize
+    ensures value { result ≡ prefix_len is_ascii_digit bytes.now }
+    ensures within { result ≤ length bytes.now }
+{
+    bytes
+        .iter()
+        .position(|byte| !byte.is_ascii_digit())
+        .unwrap_or(bytes.len())
+}
+
+// A number in decimal digits.
+#[tactic(auto, unfolding(crate::specs::Reading::number_at))]
+fn number_at(bytes: &[u8]) -> Option<(u64, &[u8])>
+    ensures { option_map (λ p. (p.0, p.1.now)) result ≡ number_at bytes.now }
+{
+    let (digits, rest) = bytes.split_at(digits(bytes));
+    match read_number(digits) {
+        Some(number) => Some((number, rest)),
+        None => None,
+    }
+}
+
+// A number in 16 hexadecimal digits.
+#[tactic(auto, unfolding(crate::specs::Reading::token_at))]
+fn token_at(bytes: &[u8]) -> Option<(u64, &[u8])>
+    ensures { option_map (λ p. (p.0, p.1.now)) result ≡ token_at bytes.now }
+{
+    if bytes.len() < TOKEN_DIGITS {
+        return None;
+    }
+    let (digits, rest) = bytes.split_at(TOKEN_DIGITS);
+    let mut token = [0; 8];
+    match hex::decode_to_slice(digits, &mut token) {
+        Ok(()) => Some((u64::from_be_bytes(token), rest)),
+        Err(_) => None,
+    }
+}
+
+// The word of a phase and its line feed.
+#[tactic(auto, unfolding(crate::specs::Reading::phase_at))]
+fn phase_at(bytes: &[u8]) -> Option<(Phase, &[u8])>
+    ensures { option_map (λ p. (p.0, p.1.now)) result ≡ phase_at bytes.now }
+{
+    match after(b"prepare\n", bytes) {
+        Some(rest) => Some((Phase::Prepare, rest)),
+        None => match after(b"go\n", bytes) {
+            Some(rest) => Some((Phase::Go, rest)),
+            None => None,
+        },
+    }
+}
+
+// The word of a kind and the space behind it.
+#[tactic(auto, unfolding(crate::specs::Reading::kind_at))]
+fn kind_at(bytes: &[u8]) -> Option<(EntryKind, &[u8])>
+    ensures { option_map (λ p. (p.0, p.1.now)) result ≡ kind_at bytes.now }
+{
+    match after(b"replace ", bytes) {
+        Some(rest) => Some((EntryKind::Replace, rest)),
+        None => None,
+    }
+}
+
+// So many bytes, and a line feed.
+#[tactic(auto, unfolding(crate::specs::Reading::name_at))]
+fn name_at(length: u64, bytes: &[u8]) -> Option<(&[u8], &[u8])>
+    ensures { option_map (λ p. (p.0.now, p.1.now)) result ≡ name_at length bytes.now }
+{
+    if (bytes.len() as u64) < length {
+        return None;
+    }
+    let (name, rest) = bytes.split_at(length as usize);
+    match after(b"\n", rest) {
+        Some(rest) => Some((name, rest)),
+        None => None,
+    }
+}
+
+// What an entry's line says behind its kind.
+#[tactic(auto, unfolding(crate::specs::Reading::counted_name_at))]
+fn counted_name_at(bytes: &[u8]) -> Option<(&[u8], &[u8])>
+    ensures { option_map (λ p. (p.0.now, p.1.now)) result ≡ counted_name_at bytes.now }
+{
+    let (length, rest) = number_at(bytes)?;
+    let rest = after(b" ", rest)?;
+    name_at(length, rest)
+}
+
+// The line of an entry: its kind, its name and what follows the line.
+#[tactic(auto, unfolding(crate::specs::Reading::entry_at))]
+fn entry_at(bytes: &[u8]) -> Option<(EntryKind, &[u8], &[u8])>
+    ensures { option_map (λ p. (record { kind = p.0; name = p.1.now }, p.2.now)) result ≡ entry_at bytes.now }
+{
+    let (kind, rest) = kind_at(bytes)?;
+    let (name, rest) = counted_name_at(rest)?;
+    Some((kind, name, rest))
+}
+
+// The entries of so many lines.
+fn entries_at(alloc: Global, count: u64, bytes: &[u8]) -> Result<Option<Items<Entry>>, Memory>
+    ensures { IfOk result (λ found. found ≡ entries_at count [] bytes.now) }
+{
+    let mut entries = Items::new(alloc);
+    let mut rest = bytes;
+    for _line in 0..count {
+        match entry_at(rest) {
+            Some((kind, name, after)) => {
+                let name = Text::copy(alloc, name)?;
+                entries.push(Entry { kind, name })?;
+                rest = after;
+            }
+            None => return Ok(None),
+        }
+    }
+    Ok(Some(entries))
+}
+
+// A number, and the line feed behind it.
+#[tactic(auto, unfolding(crate::specs::Reading::count_at))]
+fn count_at(bytes: &[u8]) -> Option<(u64, &[u8])>
+    ensures { option_map (λ p. (p.0, p.1.now)) result ≡ count_at bytes.now }
+{
+    let (count, rest) = number_at(bytes)?;
+    let rest = after(b"\n", rest)?;
+    Some((count, rest))
+}
+
+// The number of entries, behind this phase and this token.
+#[tactic(auto, unfolding(crate::specs::Reading::counted_head))]
+fn counted_head(phase: Phase, token: u64, bytes: &[u8]) -> Option<(Head, &[u8])>
+    ensures { option_map (λ p. (p.0, p.1.now)) result ≡ counted_head phase token bytes.now }
+{
+    let rest = after(b"\nentries ", bytes)?;
+    let (count, rest) = count_at(rest)?;
+    Some((
+        Head {
+            phase,
+            token,
+            count,
+        },
+        rest,
+    ))
+}
+
+// The token and the number of entries, behind this phase.
+#[tactic(auto, unfolding(crate::specs::Reading::token_head))]
+fn token_head(phase: Phase, bytes: &[u8]) -> Option<(Head, &[u8])>
+    ensures { option_map (λ p. (p.0, p.1.now)) result ≡ token_head phase bytes.now }
+{
+    let rest = after(b"token ", bytes)?;
+    let (token, rest) = token_at(rest)?;
+    counted_head(phase, token, rest)
+}
+
+// The phase, the token and the number of entries.
+#[tactic(auto, unfolding(crate::specs::Reading::head_at))]
+fn head_at(bytes: &[u8]) -> Option<(Head, &[u8])>
+    ensures { option_map (λ p. (p.0, p.1.now)) result ≡ head_at bytes.now }
+{
+    let rest = after(b"mailx-commit 1\nphase ", bytes)?;
+    let (phase, rest) = phase_at(rest)?;
+    token_head(phase, rest)
+}
+
+// The record of this head with these entries, if there are any.
+fn with_entries(head: Head, entries: Option<Items<Entry>>) -> Option<Record>
+    ensures { result ≡ option_map (with_entries head) entries }
+{
+    let entries = entries?;
+    Some(Record {
+        phase: head.phase,
+        token: head.token,
+        entries,
+    })
+}
+
+// The record that the bytes may be the text of.
+#[tactic(auto, unfolding(crate::specs::Reading::record_at))]
+fn record_at(alloc: Global, bytes: &[u8]) -> Result<Option<Record>, Memory>
+    ensures { IfOk result (λ found. found ≡ record_at bytes.now) }
+{
+    match head_at(bytes) {
+        Some((head, rest)) if head.count <= MOST_ENTRIES as u64 => {
+            let found = entries_at(alloc, head.count, rest)?;
+            Ok(with_entries(head, found))
+        }
+        _ => Ok(None),
+    }
+}
+
+fn is_same(text: &Text, bytes: &[u8]) -> bool
+    ensures { result ≡ bytes_eq text.now bytes.now }
+{
+    text.bytes() == bytes
+}
+
+// Whether the bytes are the text of this record.
+fn is_text_of(alloc: Global, value: &Record, bytes: &[u8]) -> Result<bool, Memory>
+    ensures { IfOk result (λ is. Decides is (IsWritten bytes.now value.now)) }
+{
+    // The token fits 64 bits.
+    let _token = value.token;
+    if !is_valid(value) {
+        return Ok(false);
+    }
+    let text = write(alloc, value)?;
+    Ok(is_same(&text, bytes))
+}
+
+// This record, if the bytes are its text.
+fn checked(alloc: Global, value: Record, bytes: &[u8]) -> Result<Record, RecordError>
+    ensures ok { IfOk result (λ r. (r ≡ value) × IsWritten bytes.now value) }
+    ensures not_a_record { result ≡ Err RecordError.NotARecord → IsWritten bytes.now value → ⊥ }
+{
+    let is = is_text_of(alloc, &value, bytes)?;
+    if is {
+        Ok(value)
+    } else {
+        Err(RecordError::NotARecord)
+    }
+}
+
+/// The record that bytes are the text of. `NotARecord` comes exactly where they are the text of no valid record, so also
+/// where a byte stands behind the last line, a number has a leading zero, or a digit of the token is upper case.
+pub fn read(alloc: Global, bytes: &[u8]) -> Result<Record, RecordError>
+    ensures ok { IfOk result (λ r. IsWritten bytes.now r) }
+    ensures not_a_record { result ≡ Err RecordError.NotARecord → (r : Record) → IsWritten bytes.now r → ⊥ }
+    ensures read_back { (r : Record) → IsWritten bytes.now r → (result ≡ Ok r) ⊎ (result ≡ Err RecordError.Memory) }
+{
+    let found = record_at(alloc, bytes)?;
+    match found {
+        Some(value) => checked(alloc, value, bytes),
+        None => Err(RecordError::NotARecord),
+    }
+}

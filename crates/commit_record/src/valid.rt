@@ -1,0 +1,93 @@
+// Which records are valid.
+ghost use Rattle.std.specs.Prelude.{◌≡◌, ◌-◌, length, drop};
+ghost use Rattle.std.specs.List.{list_all, list_any};
+ghost use Rattle.std.specs.Str.{bytes_eq};
+ghost use Rattle.commit_record.specs.Names.{is_lower_hex, is_staged_end, is_lawful};
+ghost use Rattle.commit_record.specs.Format.{are_distinct, is_valid};
+
+use crate::{Entry, Record};
+
+/// The most bytes of a name.
+const LONGEST_NAME: usize = 4_000;
+
+/// The most entries of a record.
+pub(crate) const MOST_ENTRIES: usize = 16;
+
+/// The bytes of the end of a staged name: `.mx` and 16 digits.
+const STAGED_END: usize = 19;
+
+fn is_lower_hex(byte: u8) -> bool
+    ensures { result ≡ is_lower_hex byte }
+{
+    matches!(byte, b'0'..=b'9' | b'a'..=b'f')
+}
+
+fn are_lower_hex(bytes: &[u8]) -> bool
+    ensures { result ≡ list_all is_lower_hex bytes.now }
+{
+    bytes.iter().all(|byte| is_lower_hex(*byte))
+}
+
+// Whether these are `.mx` and 16 lower case hexadecimal digits.
+fn is_staged_end(end: &[u8]) -> bool
+    ensures { result ≡ is_staged_end end.now }
+{
+    if end.len() != STAGED_END {
+        return false;
+    }
+    let (mark, digits) = end.split_at(3);
+    mark == b".mx".as_slice() && are_lower_hex(digits)
+}
+
+// Whether the name ends as a staged name does.
+fn is_staged(name: &[u8]) -> bool
+    ensures { result ≡ is_staged_end (drop (length name.now - 19) name.now) }
+{
+    let (_, end) = name.split_at(name.len().saturating_sub(STAGED_END));
+    is_staged_end(end)
+}
+
+/// Whether an entry may have this name: there are 1 to 4,000 bytes, none of them zero, and they end neither in `.lock` nor in
+/// `.mx` and 16 lower case hexadecimal digits. It takes no memory.
+pub fn is_lawful(name: &[u8]) -> bool
+    ensures { result ≡ is_lawful name.now }
+{
+    !name.is_empty()
+        && name.len() <= LONGEST_NAME
+        && !name.contains(&0)
+        && !name.ends_with(b".lock")
+        && !is_staged(name)
+}
+
+fn are_lawful(entries: &[Entry]) -> bool
+    ensures { result ≡ list_all (λ e. is_lawful e.name) entries.now }
+{
+    entries.iter().all(|entry| is_lawful(entry.name.bytes()))
+}
+
+// Whether an entry has this name.
+fn has_name(entries: &[Entry], name: &[u8]) -> bool
+    ensures { result ≡ list_any (λ e. bytes_eq name.now e.name) entries.now }
+{
+    entries.iter().any(|entry| name == entry.name.bytes())
+}
+
+fn are_distinct(entries: &[Entry]) -> bool
+    ensures { result ≡ are_distinct entries.now }
+{
+    match entries {
+        [] => true,
+        [first, rest @ ..] => !has_name(rest, first.name.bytes()) && are_distinct(rest),
+    }
+}
+
+/// Whether the record has 1 to 16 entries with distinct lawful names. It takes no memory.
+pub fn is_valid(value: &Record) -> bool
+    ensures { result ≡ is_valid value.now }
+{
+    let entries = value.entries.items();
+    !entries.is_empty()
+        && entries.len() <= MOST_ENTRIES
+        && are_lawful(entries)
+        && are_distinct(entries)
+}

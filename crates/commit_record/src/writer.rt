@@ -1,0 +1,88 @@
+// A record as a text.
+ghost use Rattle.std.specs.Prelude.{◌≡◌, ◌++◌, true, length, codes, decimal, IfOk, OnOk};
+ghost use Rattle.std.specs.List.{flat_map};
+ghost use Rattle.commit_record.specs.Format.{entry_line, is_valid, kind_word, phase_word, token_digits, written};
+
+use crate::{Entry, EntryKind, Phase, Record};
+use itoa::Buffer;
+use mail_text::{Memory, Text};
+use std::alloc::Global;
+
+// The word of a phase.
+fn phase_word(phase: Phase) -> &'static [u8]
+    ensures { result.now ≡ phase_word phase }
+{
+    match phase {
+        Phase::Prepare => b"prepare",
+        Phase::Go => b"go",
+    }
+}
+
+// The word of a kind.
+fn kind_word(kind: EntryKind) -> &'static [u8]
+    ensures { result.now ≡ kind_word kind }
+{
+    match kind {
+        EntryKind::Replace => b"replace",
+    }
+}
+
+// Puts a number in decimal digits at the end.
+fn push_number(text: &mut Text, number: usize) -> Result<(), Memory>
+    ensures { OnOk result (text.new ≡ text.old ++ decimal number) }
+{
+    let mut buffer = Buffer::new();
+    text.push(buffer.format(number).as_bytes())
+}
+
+// Puts a token at the end, as 16 lower case hexadecimal digits.
+fn push_token(alloc: Global, text: &mut Text, token: u64) -> Result<(), Memory>
+    ensures { OnOk result (text.new ≡ text.old ++ token_digits token) }
+{
+    let digits = hex::encode(alloc, token.to_be_bytes())?;
+    text.push(digits.as_bytes())
+}
+
+// Puts the line of an entry at the end.
+#[tactic(auto, unfolding(crate::specs::Format::entry_line))]
+fn push_entry(text: &mut Text, entry: &Entry) -> Result<(), Memory>
+    ensures { OnOk result (text.new ≡ text.old ++ entry_line entry.now) }
+{
+    let name = entry.name.bytes();
+    text.push(kind_word(entry.kind))?;
+    text.push(b" ")?;
+    push_number(text, name.len())?;
+    text.push(b" ")?;
+    text.push(name)?;
+    text.push(b"\n")
+}
+
+// Puts the lines of entries at the end.
+fn push_entries(text: &mut Text, entries: &[Entry]) -> Result<(), Memory>
+    ensures { OnOk result (text.new ≡ text.old ++ flat_map entry_line entries.now) }
+{
+    for entry in entries {
+        push_entry(text, entry)?;
+    }
+    Ok(())
+}
+
+/// The text of a record: `mailx-commit 1`, the phase, the token in 16 lower case hexadecimal digits, the number of entries, a
+/// line for each entry with the number of bytes of its name and the name, and `end`; a line feed ends each line. The record
+/// has to be valid.
+pub fn write(alloc: Global, value: &Record) -> Result<Text, Memory>
+    requires { is_valid value.now ≡ true }
+    ensures { IfOk result (λ text. text ≡ written value.now) }
+{
+    let entries = value.entries.items();
+    let mut text = Text::copy(alloc, b"mailx-commit 1\nphase ")?;
+    text.push(phase_word(value.phase))?;
+    text.push(b"\ntoken ")?;
+    push_token(alloc, &mut text, value.token)?;
+    text.push(b"\nentries ")?;
+    push_number(&mut text, entries.len())?;
+    text.push(b"\n")?;
+    push_entries(&mut text, entries)?;
+    text.push(b"end\n")?;
+    Ok(text)
+}
