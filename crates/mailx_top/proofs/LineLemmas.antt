@@ -4,7 +4,7 @@ use Rattle.std.specs.declared.option.Option.{Option}
 use Rattle.std.specs.declared.option.Option.TheVariants.{Some, None}
 use Rattle.std.specs.declared.result.Result.TheVariants.{Ok, Err}
 use Rattle.session_play.specs.Input.{Input}
-use Rattle.session_play.specs.Play.{Play, Next, Go, Last}
+use Rattle.session_play.specs.Play.{Next, Go, Last}
 use Rattle.session_play.specs.Causes.{Threads}
 use Rattle.read_commands.specs.declared.desk.Desk.{Desk}
 use Rattle.read_commands.specs.declared.effects.Effects.{Effects}

@@ -1,16 +1,19 @@
 -- A short name can be a file's.
-use Rattle.std.proofs.Common.{◌≡◌, ◌≤◌, ◌<◌, ◌==◌, ℕ, Bool, true, false, List, [], ◌∷◌, length, refl, arith}
-use Rattle.std.specs.Prelude.{nat_lt, nat_le, not, ◌&&◌, ◌||◌}
-use Rattle.std.specs.List.{list_all, list_any}
+use Rattle.std.proofs.Common.{◌≡◌, ◌≤◌, ◌==◌, ℕ, Bool, true, false, List, [], ◌∷◌, length, refl, arith}
+use Rattle.std.specs.Prelude.{nat_lt, not, ◌&&◌, ◌||◌}
+use Rattle.std.specs.List.{list_any}
 use Rattle.std.proofs.lemmas.Bool.{and_parts, leb-true, ltb-true, not-true}
 use Rattle.host_port.specs.Names.{IsFileName, has_no_zero}
-use Rattle.mailx_vars.specs.Names.{is_short, is_short_name, is_zero}
+use Rattle.mailx_vars.specs.Names.{is_short, is_short_name}
 
-no-zero : (name : List ℕ) → list_any is_zero name ≡ false → has_no_zero name ≡ true
+abbrev is-zero : ℕ → Bool
+is-zero b = b == 0
+
+no-zero : (name : List ℕ) → list_any is-zero name ≡ false → has_no_zero name ≡ true
 no-zero [] h = refl
 no-zero (b ∷ bs) h = go (b == 0) h (no-zero bs)
   where
-    go : (t : Bool) → (t || list_any is_zero bs) ≡ false → (list_any is_zero bs ≡ false → has_no_zero bs ≡ true) → (not t && has_no_zero bs) ≡ true
+    go : (t : Bool) → (t || list_any is-zero bs) ≡ false → (list_any is-zero bs ≡ false → has_no_zero bs ≡ true) → (not t && has_no_zero bs) ≡ true
     go true h more = absurd (cc h)
     go false h more = more h
 
@@ -21,7 +24,7 @@ file-name name h =
     record {
       some = ltb-true 0 (length name) q.0;
       short = below (length name) (leb-true (length name) 4000 q.1);
-      no_zero = no-zero name (not-true (list_any is_zero name) p.1);
+      no_zero = no-zero name (not-true (list_any is-zero name) p.1);
     }
   where
     below : (n : ℕ) → n ≤ 4000 → n ≤ 4032

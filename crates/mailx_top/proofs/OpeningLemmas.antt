@@ -14,8 +14,8 @@ use Rattle.session_play.specs.declared.act.Found.{Found}
 use Rattle.session_play.specs.declared.act.Found.TheVariants as found
 use Rattle.session_play.specs.declared.stop.Stop.{Stop}
 use Rattle.session_play.specs.declared.stop.Stop.TheVariants as stop
-use Rattle.session_play.specs.Input.{Input, no_input, took, Reads}
-use Rattle.session_play.specs.Play.{Line, Say, Read, Know, Answer, Play, Ret, Ask, Says, SaysInPart, seen_of, Partly, Goes, Next, Go, Last, Loop, again, last, cut}
+use Rattle.session_play.specs.Input.{Input, took, Reads}
+use Rattle.session_play.specs.Play.{Line, Say, Read, Know, Play, Ret, Ask, Says, SaysInPart, seen_of, Partly, Goes, Next, Go, Last, Loop, again, last, cut}
 use Rattle.mail_text.specs.Lines.{with_feed}
 use Rattle.mailx_vars.specs.Names.{is_short_name}
 use Rattle.read_commands.specs.declared.desk.Desk.{Desk}

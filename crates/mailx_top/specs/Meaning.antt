@@ -1,5 +1,5 @@
 -- The meaning of a run: what it does at the opening, and for each line.
-use Rattle.std.specs.Prelude.{nat_lt, ℕ, Bool, true, false, List, [], ◌∷◌, ◌++◌, if◌then◌else◌, length, unwrap_or, codes}
+use Rattle.std.specs.Prelude.{nat_lt, ℕ, Bool, true, false, List, [], ◌++◌, if◌then◌else◌, length, unwrap_or, codes}
 use Rattle.std.specs.declared.option.Option.{Option}
 use Rattle.std.specs.declared.option.Option.TheVariants.{Some, None}
 use Rattle.std.specs.declared.result.Result.{Result}

@@ -1,4 +1,4 @@
-use Rattle.std.proofs.Common.{ap, Err, refl}
+use Rattle.std.proofs.Common.{ap, Err}
 use Rattle.host_port.proofs.RanLemmas.{Ran-none}
 use Rattle.session_play.proofs.PlayLemmas.{at-memory}
 use Rattle.mbox_scan.specs.Mailbox.{list_of}
