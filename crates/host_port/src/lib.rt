@@ -2,8 +2,12 @@
 //! makes, and a host in memory that tells its trace.
 #![tactic(auto)]
 
+mod calls;
+mod disk_calls;
+mod ending;
 mod event;
 mod host;
+mod images;
 mod memory;
 mod named;
 mod standing;
