@@ -4,6 +4,8 @@
 
 mod calls;
 mod disk_calls;
+#[cfg(test)]
+mod disk_tests;
 mod ending;
 mod event;
 mod host;
