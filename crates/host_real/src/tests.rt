@@ -15,6 +15,7 @@ enum Name {
     BoxLock,
     New,
     Right,
+    Claim,
     InNoFolder,
 }
 
@@ -39,6 +40,7 @@ fn path(name: Name) -> &'static [u8]
         Name::BoxLock => b"box.lock",
         Name::New => b"new",
         Name::Right => b"right",
+        Name::Claim => b"claim",
         Name::InNoFolder => b"none/box",
     }
 }
@@ -122,7 +124,7 @@ const OF_ANOTHER: [Call; 4] = [
     Call::Seize(Name::Right),
 ];
 
-const LATER: [Call; 10] = [
+const LATER: [Call; 11] = [
     Call::Unlock(Name::Box, 0xab),
     Call::Load(Name::Box),
     Call::Release(Name::Right),
@@ -133,6 +135,7 @@ const LATER: [Call; 10] = [
     Call::Publish(Name::InNoFolder, Name::Box),
     Call::Lock(Name::InNoFolder, 1),
     Call::Erase(Name::InNoFolder),
+    Call::Erase(Name::Right),
 ];
 
 #[test]
@@ -147,7 +150,7 @@ fn the_machine_keeps_files_locks_and_rights(rt: HostRuntime) -> Result<(), Fail>
         assert_eq!(rt; of_another.bytes(), b"n.hn".as_slice());
     }
     let later = answers(alloc, &mut host, &LATER)?;
-    assert_eq!(rt; later.bytes(), b".m...a!n!.".as_slice());
+    assert_eq!(rt; later.bytes(), b".m...a!n!..".as_slice());
     assert_eq!(rt; host.disks, 2);
     Ok(())
 }
@@ -157,11 +160,12 @@ fn a_right_ends_with_its_holder(rt: HostRuntime) -> Result<(), Fail> {
     let alloc = rt.alloc();
     {
         let mut another = RealHost::new(rt, alloc);
-        let got = answers(alloc, &mut another, &[Call::Seize(Name::Right)])?;
+        let got = answers(alloc, &mut another, &[Call::Seize(Name::Claim)])?;
         assert_eq!(rt; got.bytes(), b"y".as_slice());
     }
     let mut host = RealHost::new(rt, alloc);
-    let got = answers(alloc, &mut host, &[Call::Seize(Name::Right)])?;
-    assert_eq!(rt; got.bytes(), b"y".as_slice());
+    let calls = [Call::Seize(Name::Claim), Call::Erase(Name::Claim)];
+    let got = answers(alloc, &mut host, &calls)?;
+    assert_eq!(rt; got.bytes(), b"y.".as_slice());
     Ok(())
 }
