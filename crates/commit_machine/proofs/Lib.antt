@@ -1,0 +1,4 @@
+pub mod Same
+pub mod NameLemmas
+pub mod RecordLemmas
+pub mod Keep

@@ -1,0 +1,8 @@
+use Rattle.commit_machine.proofs.Same
+use Rattle.commit_machine.proofs.NameLemmas
+use Rattle.commit_machine.proofs.RecordLemmas
+use Rattle.commit_machine.proofs.Keep
+use Rattle.commit_machine.proofs.laws.crash_safe.Goals as goal
+
+pub returns : goal.returns
+returns c = ?

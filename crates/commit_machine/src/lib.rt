@@ -1,0 +1,6 @@
+//! One machine for commit and recovery.
+#![tactic(auto)]
+
+mod laws;
+
+pub use laws::crash_safe;
