@@ -61,6 +61,30 @@ named-insert {A = A} (e ∷ es) k v q =
     (λ t. bytes-other q k.items (λ same. differ k.items e.0.items other (sym same ∙ (bytes_eq-Decides q e.0.items).0 t))) (named-insert es k v q))
     (cases_Bool (bytes_eq k.items e.0.items))
 
+-- a name that is cleared has no value, and every other name what it had
+pub named-clear : {A : Type 0} (es : List (Key × Option A)) (n : List ℕ) (q : List ℕ)
+    → named (pairs_of (map.set_value (λ (k : Key). bytes_eq n k.items) es None)) q ≡ with_at (named (pairs_of es)) n None q
+named-clear [] n q = none-either (bytes_eq q n) None refl
+  where
+    none-either : {A : Type 0} (b : Bool) (v : Option A) → v ≡ None → v ≡ (if b then None else v)
+    none-either true v is = is
+    none-either false v is = refl
+named-clear {A = A} (e ∷ es) n q =
+    let N : List (Key × Option A) → Option A = λ r. named (pairs_of r) q in
+    ⊎_elim
+    (λ same. ap N (cond-true _ _ _ same) ∙ at-same (bytes_eq q e.0.items) (bytes_eq q n) None e.1 (lookup (pairs_of es) q) (ap (bytes_eq q) (sym ((bytes_eq-Decides n e.0.items).0 same))))
+    (λ other. ap N (cond-false _ _ _ other) ∙ at-other (bytes_eq q e.0.items) (bytes_eq q n) None e.1 _ _
+    (λ t. bytes-other q n (λ same. differ n e.0.items other (sym same ∙ (bytes_eq-Decides q e.0.items).0 t))) (named-clear es n q))
+    (cases_Bool (bytes_eq n e.0.items))
+
+-- a name that isn't there is cleared already
+pub named-absent : {A : Type 0} (ps : List (List ℕ × Option A)) (n q : List ℕ) → lookup ps n ≡ None → named ps q ≡ with_at (named ps) n None q
+named-absent ps n q none =
+    ⊎_elim
+    (λ same. ap (λ m. named ps m) ((bytes_eq-Decides q n).0 same) ∙ ap flat none ∙ sym (cond-true _ _ _ same))
+    (λ other. sym (cond-false _ _ _ other))
+    (cases_Bool (bytes_eq q n))
+
 put-first : {A : Type 0} (b : Bool) (old : Option A) (v : A) (r : Option A) → (b ≡ true → old ≡ None)
     → or_else (if b then Some v else old) r ≡ or_else old (if b then Some v else r)
 put-first true old v r none = ap (λ o. or_else o (Some v)) (sym (none refl))

@@ -7,18 +7,16 @@ use Rattle.std.specs.declared.result.Result.TheVariants.{Ok, Err}
 use Rattle.host_port.specs.declared.event.Event.{Event}
 use Rattle.host_port.specs.Disk.{Disk, disk, after}
 use Rattle.host_port.specs.Views.{disk_of}
-use Rattle.host_port.specs.Tapes.{shown, ShowsSame, ShowsTrace}
+use Rattle.host_port.specs.Tapes.{SameDisk}
 use Rattle.host_port.proofs.RanLemmas.{disk-append}
 
-same-disk : (d e : Disk) → ShowsSame d e → d ≡ e
-same-disk d e s = λ i. record { files = λ q. s.files q i; locks = λ q. s.locks q i }
+pub same-disk : (d e : Disk) → SameDisk d e → d ≡ e
+same-disk d e s = λ i. record { files = λ q. s.files q i; locks = λ q. s.locks q i; rights = λ q. s.rights q i }
 
-pub shows-more : (sf : List (List ℕ × List ℕ)) (sl : List (List ℕ × ℕ)) (files files' : List (List ℕ × Option (List ℕ))) (locks locks' : List (List ℕ × Option ℕ)) (trace trace' : List Event) (e : Event)
-    → ShowsTrace sf sl files locks trace → ShowsSame (shown files' locks') (after (shown files locks) e) → trace' ≡ trace ++ e ∷ [] → ShowsTrace sf sl files' locks' trace'
-shows-more sf sl files files' locks locks' trace trace' e before next is =
-    let whole : after (shown files locks) e ≡ disk (disk_of sf sl) trace' =
-    ap (λ d. after d e) (same-disk _ _ before) ∙ sym (disk-append (disk_of sf sl) trace (e ∷ [])) ∙ ap (disk (disk_of sf sl)) (sym is) in
-    let S : Disk → Type 0 = λ d. ShowsSame (shown files' locks') d in
+pub shows-more : (start old new : Disk) (trace trace' : List Event) (e : Event) → SameDisk old (disk start trace) → SameDisk new (after old e) → trace' ≡ trace ++ e ∷ [] → SameDisk new (disk start trace')
+shows-more start old new trace trace' e before next is =
+    let whole : after old e ≡ disk start trace' = ap (λ d. after d e) (same-disk _ _ before) ∙ sym (disk-append start trace (e ∷ [])) ∙ ap (disk start) (sym is) in
+    let S : Disk → Type 0 = λ d. SameDisk new d in
     subst S whole next
 
 -- a push for which room was made

@@ -1,19 +1,21 @@
 -- What one call of a host adds to its trace.
-use Rattle.std.specs.Prelude.{◌≡◌, ◌+◌, ◌-◌, ◌^◌, ◌<◌, ◌≤◌, min, ℕ, true, false, List, [], ◌∷◌, ◌++◌, map, take, is_some, length}
+use Rattle.std.specs.Prelude.{◌≡◌, ◌+◌, ◌-◌, ◌^◌, ◌<◌, ◌≤◌, min, ℕ, Bool, true, false, List, [], ◌∷◌, ◌++◌, map, take, is_some, is_none, length}
 use Rattle.std.specs.declared.option.Option.{Option}
 use Rattle.std.specs.declared.option.Option.TheVariants.{Some, None}
 use Rattle.std.specs.declared.result.Result.{Result}
 use Rattle.std.specs.declared.result.Result.TheVariants.{Ok, Err}
 use Rattle.host_port.specs.declared.event.Event.{Event}
-use Rattle.host_port.specs.declared.event.Event.TheVariants.{In, Out, Load, Foreign}
+use Rattle.host_port.specs.declared.event.Event.TheVariants.{In, Out, Load, Stage, Publish, Erase, Lock, Unlock, Seize, Release, Foreign}
 use Rattle.host_port.specs.declared.event.Seen.TheVariants as seen
 use Rattle.host_port.specs.declared.event.ForeignStep.{ForeignStep}
 use Rattle.host_port.specs.declared.event.LoadAnswer.{LoadAnswer}
 use Rattle.host_port.specs.declared.host.InFault.{InFault}
 use Rattle.host_port.specs.declared.host.OutFault.{OutFault}
+use Rattle.host_port.specs.declared.host.DiskFault.{DiskFault}
 use Rattle.host_port.specs.declared.host.LoadError.{LoadError}
 use Rattle.host_port.specs.declared.host.LoadError.TheVariants as error
 use Rattle.host_port.specs.Disk.{Disk, disk}
+use Rattle.host_port.specs.Ends.{is_owner, is_open, IsCutShort}
 
 -- how often each kind of call has failed
 pub record Counts : Type 0 where
@@ -81,3 +83,37 @@ LoadCause before now (Ok a) = FitsLoad a.bytes
 LoadCause before now (Err error.Failed) = Rose before now
 LoadCause before now (Err (error.TooLarge n)) = load_limit < n
 LoadCause before now (Err error.Memory) = Unit {0}
+
+-- the event of a staging: the file stands whole
+abbrev pub Staged : List ℕ → List ℕ → Result Unit DiskFault → Disk → Event → Type 0
+Staged name bytes (Ok u) d e = e ≡ Stage name (Some bytes) false
+Staged name bytes (Err fault) d e = IsCutShort d (Stage name (Some bytes) false) e
+
+-- the event of a publication: true exactly where the file stood
+abbrev pub Published : List ℕ → List ℕ → Result Bool DiskFault → Disk → Event → Type 0
+Published from to (Ok done) d e = (e ≡ Publish from to done false) × (done ≡ is_some (d.files from))
+Published from to (Err fault) d e = IsCutShort d (Publish from to true false) e
+
+-- the event of an erasure: no file stands
+abbrev pub Erased : List ℕ → Result Unit DiskFault → Disk → Event → Type 0
+Erased name (Ok u) d e = e ≡ Erase name true false
+Erased name (Err fault) d e = IsCutShort d (Erase name true false) e
+
+-- the event of a locking: true exactly where no lock stood
+abbrev pub Locked : List ℕ → ℕ → Result Bool DiskFault → Disk → Event → Type 0
+Locked name token (Ok got) d e = (e ≡ Lock name token got false) × (got ≡ is_none (d.locks name))
+Locked name token (Err fault) d e = IsCutShort d (Lock name token true false) e
+
+-- the event of an unlocking: done exactly where the lock's owner is the token
+abbrev pub Unlocked : List ℕ → ℕ → Result Unit DiskFault → Disk → Event → Type 0
+Unlocked name token (Ok u) d e = e ≡ Unlock name token (is_owner token (d.locks name)) false
+Unlocked name token (Err fault) d e = IsCutShort d (Unlock name token true false) e
+
+-- the event of a seizure: true exactly where no other had the right
+abbrev pub Seized : List ℕ → Result Bool DiskFault → Disk → Event → Type 0
+Seized name (Ok got) d e = (e ≡ Seize name got false) × (got ≡ is_open (d.rights name))
+Seized name (Err fault) d e = IsCutShort d (Seize name true false) e
+
+-- the event of a release
+abbrev pub Released : List ℕ → Disk → Event → Type 0
+Released name d e = e ≡ Release name

@@ -1,17 +1,20 @@
 -- A disk, and what the events of a trace do to it.
-use Rattle.std.specs.Prelude.{◌==◌, ℕ, List, [], ◌∷◌, if◌then◌else◌}
+use Rattle.std.specs.Prelude.{◌==◌, ℕ, Bool, true, false, List, [], ◌∷◌, if◌then◌else◌}
 use Rattle.std.specs.declared.option.Option.{Option}
 use Rattle.std.specs.declared.option.Option.TheVariants.{Some, None}
 use Rattle.std.specs.Str.{bytes_eq}
 use Rattle.host_port.specs.declared.event.Event.{Event}
-use Rattle.host_port.specs.declared.event.Event.TheVariants.{Foreign}
+use Rattle.host_port.specs.declared.event.Event.TheVariants as event
 use Rattle.host_port.specs.declared.event.ForeignStep.{ForeignStep}
-use Rattle.host_port.specs.declared.event.ForeignStep.TheVariants.{Write, Remove, Lock, Unlock}
+use Rattle.host_port.specs.declared.event.ForeignStep.TheVariants.{Write, Remove, Lock, Unlock, Seize, Release}
+use Rattle.host_port.specs.declared.event.Holder.{Holder}
+use Rattle.host_port.specs.declared.event.Holder.TheVariants.{Own, Other}
 
--- the files by name, and the owners of locks by name
+-- the files by name, the owners of locks by name, and who has the right of a name
 pub record Disk : Type 0 where
   pub files : List ℕ → Option (List ℕ)
   pub locks : List ℕ → Option ℕ
+  pub rights : List ℕ → Option Holder
 
 -- a map with another value at one name
 abbrev pub with_at : {A : Type 0} → (List ℕ → Option A) → List ℕ → Option A → List ℕ → Option A
@@ -27,16 +30,42 @@ abbrev pub unlocked : Option ℕ → ℕ → Option ℕ
 unlocked None token = None
 unlocked (Some owner) token = if owner == token then None else Some owner
 
+-- another takes a right that nobody has
+abbrev pub taken : Option Holder → Option Holder
+taken None = Some Other
+taken (Some holder) = Some holder
+
+-- another gives up a right, which it has not where this run has it
+abbrev pub without_other : Option Holder → Option Holder
+without_other None = None
+without_other (Some Own) = Some Own
+without_other (Some Other) = None
+
+-- this run gives up a right, which it has not where another has it
+abbrev pub without_own : Option Holder → Option Holder
+without_own None = None
+without_own (Some Own) = None
+without_own (Some Other) = Some Other
+
 -- what another's step makes of a disk
 abbrev pub after_step : Disk → ForeignStep → Disk
 after_step d (Write name bytes) = record d { files = with_at d.files name (Some bytes) }
 after_step d (Remove name) = record d { files = with_at d.files name None }
 after_step d (Lock name token) = record d { locks = with_at d.locks name (locked (d.locks name) token) }
 after_step d (Unlock name token) = record d { locks = with_at d.locks name (unlocked (d.locks name) token) }
+after_step d (Seize name) = record d { rights = with_at d.rights name (taken (d.rights name)) }
+after_step d (Release name) = record d { rights = with_at d.rights name (without_other (d.rights name)) }
 
--- what an event makes of a disk
+-- what an event makes of a disk, by what it says was done
 abbrev pub after : Disk → Event → Disk
-after d (Foreign step) = after_step d step
+after d (event.Stage name bytes failed) = record d { files = with_at d.files name bytes }
+after d (event.Publish from to true failed) = record d { files = with_at (with_at d.files from None) to (d.files from) }
+after d (event.Erase name true failed) = record d { files = with_at d.files name None }
+after d (event.Lock name token true failed) = record d { locks = with_at d.locks name (Some token) }
+after d (event.Unlock name token true failed) = record d { locks = with_at d.locks name None }
+after d (event.Seize name true failed) = record d { rights = with_at d.rights name (Some Own) }
+after d (event.Release name) = record d { rights = with_at d.rights name (without_own (d.rights name)) }
+after d (event.Foreign step) = after_step d step
 after d e = d
 
 -- the disk after a list of events

@@ -1,9 +1,11 @@
 pub mod Names
 pub mod Disk
+pub mod Ends
 pub mod Calls
 pub mod Own
 pub mod Ran
 pub mod Views
 pub mod Pairs
 pub mod Tapes
+pub mod Standings
 pub mod MemHosts

@@ -1,18 +1,29 @@
 -- What a stretch of calls of a host did, by its own events.
-use Rattle.std.specs.Prelude.{◌≡◌, List, [], ◌∷◌, ◌++◌, is_some}
+use Rattle.std.specs.Prelude.{◌≡◌, Bool, true, false, List, [], ◌∷◌, ◌++◌, is_some, is_none}
 use Rattle.std.specs.declared.option.Option.{Option}
 use Rattle.std.specs.declared.option.Option.TheVariants.{Some}
 use Rattle.host_port.specs.declared.event.Event.{Event}
-use Rattle.host_port.specs.declared.event.Event.TheVariants.{Load}
+use Rattle.host_port.specs.declared.event.Event.TheVariants.{Load, Publish, Erase, Lock, Unlock, Seize}
 use Rattle.host_port.specs.declared.event.Seen.TheVariants as seen
 use Rattle.host_port.specs.Disk.{Disk, disk, after}
 use Rattle.host_port.specs.Calls.{Counts, NeverFall, IsTooLarge}
+use Rattle.host_port.specs.Ends.{is_owner, is_open}
 use Rattle.host_port.specs.Own.{own}
+
+-- a call was done exactly where the disk allows it, or where it failed only there
+abbrev pub AllowedBy : Bool → Bool → Bool → Type 0
+AllowedBy allowed done false = done ≡ allowed
+AllowedBy allowed done true = done ≡ true → allowed ≡ true
 
 -- what an event says of the disk just before it is so
 abbrev pub Agrees : Disk → Event → Type 0
 Agrees d (Load name (seen.Bytes bytes held)) = (bytes ≡ d.files name) × (held ≡ is_some (d.locks name))
 Agrees d (Load name (seen.TooLarge n)) = IsTooLarge (d.files name) n
+Agrees d (Publish from to done failed) = AllowedBy (is_some (d.files from)) done failed
+Agrees d (Erase name done failed) = AllowedBy true done failed
+Agrees d (Lock name token got failed) = AllowedBy (is_none (d.locks name)) got failed
+Agrees d (Unlock name token done failed) = AllowedBy (is_owner token (d.locks name)) done failed
+Agrees d (Seize name got failed) = AllowedBy (is_open (d.rights name)) got failed
 Agrees d e = Unit {0}
 
 -- each event says what is so

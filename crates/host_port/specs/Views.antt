@@ -19,9 +19,9 @@ abbrev pub lookup : {A : Type 0} → List (List ℕ × A) → List ℕ → Optio
 lookup [] q = None
 lookup (p ∷ ps) q = if bytes_eq q p.0 then Some p.1 else lookup ps q
 
--- the disk that the lists show
+-- the disk that the lists show, where nobody has a right
 abbrev pub disk_of : List (List ℕ × List ℕ) → List (List ℕ × ℕ) → Disk
-disk_of files locks = record { files = lookup files; locks = lookup locks }
+disk_of files locks = record { files = lookup files; locks = lookup locks; rights = λ q. None }
 
 -- what a list of pairs has for a name, where a pair may say that it has nothing
 abbrev pub flat : {A : Type 0} → Option (Option A) → Option A

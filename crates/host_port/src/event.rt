@@ -4,13 +4,67 @@ use mail_text::{Items, Text};
 #[derive(Drop, Debug)]
 pub enum Event {
     /// Input was taken; no bytes are its end, or a fault.
-    In { bytes: Text, failed: bool },
+    In {
+        bytes: Text,
+        failed: bool,
+    },
     /// Output went out: all of what the call was given, or after a fault a front of it.
-    Out { bytes: Text, failed: bool },
+    Out {
+        bytes: Text,
+        failed: bool,
+    },
     /// A file was loaded.
-    Load { name: Text, seen: Seen },
+    Load {
+        name: Text,
+        seen: Seen,
+    },
+    /// A file was written whole: what stands at the name after the call.
+    Stage {
+        name: Text,
+        bytes: Option<Text>,
+        failed: bool,
+    },
+    /// A file was given another name, and stands in the place of what stood there.
+    Publish {
+        from: Text,
+        to: Text,
+        done: bool,
+        failed: bool,
+    },
+    /// A file was taken away.
+    Erase {
+        name: Text,
+        done: bool,
+        failed: bool,
+    },
+    /// A lock was put.
+    Lock {
+        name: Text,
+        token: u64,
+        got: bool,
+        failed: bool,
+    },
+    /// A lock of this owner was taken away.
+    Unlock {
+        name: Text,
+        token: u64,
+        done: bool,
+        failed: bool,
+    },
+    /// A right was taken.
+    Seize {
+        name: Text,
+        got: bool,
+        failed: bool,
+    },
+    /// A right was given up.
+    Release {
+        name: Text,
+    },
     /// Another program did a step.
-    Foreign { step: ForeignStep },
+    Foreign {
+        step: ForeignStep,
+    },
 }
 
 /// What a load saw at its step.
@@ -37,6 +91,19 @@ pub enum ForeignStep {
     Lock { name: Text, token: u64 },
     /// A lock of this owner is taken away.
     Unlock { name: Text, token: u64 },
+    /// A right is taken that nobody has.
+    Seize { name: Text },
+    /// A right is given up that this run doesn't have.
+    Release { name: Text },
+}
+
+/// Who has a right.
+#[derive(Clone, Copy, Debug, PartialEq, Eq)]
+pub enum Holder {
+    /// This run.
+    Own,
+    /// Another program.
+    Other,
 }
 
 /// What a load answers.
@@ -55,7 +122,7 @@ pub struct DiskView {
     pub locks: Items<(Text, u64)>,
 }
 
-/// What a failing call leaves.
+/// What a failing call leaves, and what a run leaves that stops inside a call.
 #[derive(Drop, Debug)]
 pub enum Part {
     /// Nothing of the call was done.

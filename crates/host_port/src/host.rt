@@ -18,6 +18,11 @@ pub struct InFault;
 #[error("output fault")]
 pub struct OutFault;
 
+/// A file, a lock or a right could not be changed.
+#[derive(Clone, Copy, Debug, PartialEq, Eq, Error)]
+#[error("disk fault")]
+pub struct DiskFault;
+
 /// Why a load gave no file.
 #[derive(Clone, Copy, Debug, PartialEq, Eq, Error)]
 pub enum LoadError {

@@ -6,20 +6,21 @@ mod event;
 mod host;
 mod memory;
 mod named;
+mod standing;
 mod tape;
 #[cfg(test)]
 mod tests;
 
 ghost use Rattle.std.specs.Prelude.{◌≡◌, List};
 ghost use Rattle.host_port.specs.Disk.{Disk, disk};
-ghost use Rattle.host_port.specs.Own.{of_others};
+ghost use Rattle.host_port.specs.Own.{own, of_others, OnlyLooks};
 ghost use Rattle.host_port.specs.declared.event.Event.{Event};
 
-pub use event::{DiskView, Event, ForeignStep, LoadAnswer, Part, Plan, Seen};
-pub use host::{Host, InFault, LoadError, OutFault};
+pub use event::{DiskView, Event, ForeignStep, Holder, LoadAnswer, Part, Plan, Seen};
+pub use host::{DiskFault, Host, InFault, LoadError, OutFault};
 pub use memory::MemHost;
 
-/// A law: own events that change no disk leave the disk that the steps of others make of the start.
+/// A law: own events that may change no disk leave the disk that the steps of others make of the start.
 pub fn others_alone()
-    ensures { (start : Disk) (p : List Event) → disk start p ≡ disk start (of_others p) }
+    ensures { (start : Disk) (p : List Event) → OnlyLooks (own p) → disk start p ≡ disk start (of_others p) }
 {}

@@ -10,6 +10,7 @@ ghost use Rattle.host_port.specs.declared.event.Event.{Event};
 ghost use Rattle.host_port.specs.declared.event.Event.TheVariants as event;
 
 use crate::named::Named;
+use crate::standing::Standing;
 use crate::tape::{Tape, add_others, copy_files, copy_locks, show_files, show_locks};
 use crate::{
     DiskView, Event, ForeignStep, Host, InFault, LoadAnswer, LoadError, OutFault, Part, Plan, Seen,
@@ -113,8 +114,8 @@ fn look(
     ensures loaded { IfOk result (λ r. Loaded name.now r.0 (disk (disk_of tape.now.start.files tape.now.start.locks) tape.now.trace.items) r.1) }
     ensures cause { IfOk result (λ r. LoadCause 0 0 r.0) }
 {
-    let held = tape.locks.has(name);
-    let found = tape.files.get(name);
+    let held = tape.standing.locks.has(name);
+    let found = tape.standing.files.get(name);
     let name = Text::copy(alloc, name)?;
     if let Some(text) = found
         && text.bytes().len() > LOAD_LIMIT
@@ -177,10 +178,14 @@ impl MemHost {
     {
         let files = copy_files(alloc, view.files.items())?;
         let locks = copy_locks(alloc, view.locks.items())?;
-        let tape = Tape {
-            start: view,
+        let standing = Standing {
             files,
             locks,
+            rights: Named::new(alloc),
+        };
+        let tape = Tape {
+            start: view,
+            standing,
             trace: Vec::new(alloc),
         };
         Ok(MemHost {
@@ -208,8 +213,8 @@ impl MemHost {
     pub fn view(&self) -> Result<DiskView, Memory>
         ensures { IfOk result (λ v. (trace : List Event) → host_told self.now ≡ Some trace → ShowsSame (disk_of v.files v.locks) (disk (host_start self.now) trace)) }
     {
-        let files = show_files(self.alloc, &self.tape.files)?;
-        let locks = show_locks(self.alloc, &self.tape.locks)?;
+        let files = show_files(self.alloc, &self.tape.standing.files)?;
+        let locks = show_locks(self.alloc, &self.tape.standing.locks)?;
         Ok(DiskView { files, locks })
     }
 

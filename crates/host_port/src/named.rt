@@ -75,4 +75,13 @@ impl<V: Drop> Named<V> {
         self.map.insert(key, value)?;
         Ok(())
     }
+
+    /// Leaves a name without a value. It takes no memory.
+    pub fn clear(&mut self, name: &[u8])
+        ensures { (q : List ℕ) → named self.new q ≡ with_at (named self.old) name.now None q }
+    {
+        if let Some(value) = self.map.get_mut(name) {
+            *value = None;
+        }
+    }
 }

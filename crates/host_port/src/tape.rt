@@ -1,12 +1,14 @@
 // The trace of a host in memory, and the disk that it makes.
 ghost use Rattle.std.specs.Prelude.{◌≡◌, ◌++◌, [], ◌∷◌, List, ℕ, OnOk, OnErr, IfOk, map, Some, None, true, is_some, slice_get};
 ghost use Rattle.std.specs.Option.{option_copied};
-ghost use Rattle.host_port.specs.Disk.{after, after_step, disk};
-ghost use Rattle.host_port.specs.Tapes.{shown, ShowsSame, ShowsTrace};
+ghost use Rattle.host_port.specs.Disk.{disk};
+ghost use Rattle.host_port.specs.Standings.{disk_now};
+ghost use Rattle.host_port.specs.Tapes.{SameDisk};
 ghost use Rattle.host_port.specs.Views.{disk_of, lookup, named, names_of, or_else, at_name, steps_before};
 ghost use Rattle.host_port.specs.declared.event.Event.TheVariants as event;
 
 use crate::named::Named;
+use crate::standing::{Standing, effect};
 use crate::{DiskView, Event, ForeignStep};
 use mail_text::{Items, Memory, Text};
 use std::alloc::Global;
@@ -15,57 +17,9 @@ use std::alloc::Global;
 #[derive(Drop)]
 pub struct Tape {
     pub start: DiskView,
-    pub files: Named<Text>,
-    pub locks: Named<u64>,
+    pub standing: Standing,
     pub trace: Vec<Event>,
-    ghost shows: { ShowsTrace start.files start.locks files locks trace.items },
-}
-
-fn effect_of_step(
-    alloc: Global,
-    files: &mut Named<Text>,
-    locks: &mut Named<u64>,
-    step: &ForeignStep,
-) -> Result<(), Memory>
-    ensures ok { OnOk result (ShowsSame (shown files.new locks.new) (after_step (shown files.old locks.old) step.now)) }
-    ensures same_files { OnErr result (files.new ≡ files.old) }
-    ensures same_locks { OnErr result (locks.new ≡ locks.old) }
-{
-    match step {
-        ForeignStep::Write { name, bytes } => {
-            let copy = Text::copy(alloc, bytes.bytes())?;
-            files.put(alloc, name.bytes(), Some(copy))
-        }
-        ForeignStep::Remove { name } => files.put(alloc, name.bytes(), None),
-        ForeignStep::Lock { name, token } => {
-            if locks.has(name.bytes()) {
-                return Ok(());
-            }
-            locks.put(alloc, name.bytes(), Some(*token))
-        }
-        ForeignStep::Unlock { name, token } => {
-            if locks.get(name.bytes()) != Some(token) {
-                return Ok(());
-            }
-            locks.put(alloc, name.bytes(), None)
-        }
-    }
-}
-
-fn effect(
-    alloc: Global,
-    files: &mut Named<Text>,
-    locks: &mut Named<u64>,
-    event: &Event,
-) -> Result<(), Memory>
-    ensures ok { OnOk result (ShowsSame (shown files.new locks.new) (after (shown files.old locks.old) event.now)) }
-    ensures same_files { OnErr result (files.new ≡ files.old) }
-    ensures same_locks { OnErr result (locks.new ≡ locks.old) }
-{
-    match event {
-        Event::Foreign { step } => effect_of_step(alloc, files, locks, step),
-        _ => Ok(()),
-    }
+    ghost shows: { SameDisk (disk_now standing) (disk (disk_of start.files start.locks) trace.items) },
 }
 
 impl Tape {
@@ -76,7 +30,7 @@ impl Tape {
         ensures start { self.new.start ≡ self.old.start }
     {
         self.trace.reserve(1)?;
-        effect(alloc, &mut self.files, &mut self.locks, &event)?;
+        effect(alloc, &mut self.standing, &event)?;
         match self.trace.push(event) {
             Ok(()) => Ok(()),
             Err(_) => unreachable!(),
@@ -102,6 +56,12 @@ fn copy_step(alloc: Global, step: &ForeignStep) -> Result<ForeignStep, Memory>
         ForeignStep::Unlock { name, token } => Ok(ForeignStep::Unlock {
             name: Text::copy(alloc, name.bytes())?,
             token: *token,
+        }),
+        ForeignStep::Seize { name } => Ok(ForeignStep::Seize {
+            name: Text::copy(alloc, name.bytes())?,
+        }),
+        ForeignStep::Release { name } => Ok(ForeignStep::Release {
+            name: Text::copy(alloc, name.bytes())?,
         }),
     }
 }

@@ -114,6 +114,7 @@ fn letter(event: &Event) -> u8 {
         } => b'L',
         Event::Load { .. } => b'l',
         Event::Foreign { .. } => b'f',
+        _ => b'?',
     }
 }
 

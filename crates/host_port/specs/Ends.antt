@@ -1,0 +1,74 @@
+-- How a call on the disk ends: carried out, failing with a part of it done, or with the run stopped inside it.
+use Rattle.std.specs.Prelude.{◌≡◌, ◌==◌, ◌&&◌, ℕ, Bool, true, false, List, is_some, is_none, if◌then◌else◌}
+use Rattle.std.specs.declared.option.Option.{Option}
+use Rattle.std.specs.declared.option.Option.TheVariants.{Some, None}
+use Rattle.host_port.specs.declared.event.Event.{Event}
+use Rattle.host_port.specs.declared.event.Event.TheVariants.{Stage, Publish, Erase, Lock, Unlock, Seize, Foreign}
+use Rattle.host_port.specs.declared.event.Part.{Part}
+use Rattle.host_port.specs.declared.event.Part.TheVariants.{Before, After, Bytes, Nothing}
+use Rattle.host_port.specs.declared.event.Holder.{Holder}
+use Rattle.host_port.specs.declared.event.Holder.TheVariants.{Own, Other}
+use Rattle.host_port.specs.Disk.{Disk, after, after_step, without_own}
+
+-- the lock's owner is this one
+abbrev pub is_owner : ℕ → Option ℕ → Bool
+is_owner token None = false
+is_owner token (Some owner) = owner == token
+
+-- no other has the right
+abbrev pub is_open : Option Holder → Bool
+is_open None = true
+is_open (Some Own) = true
+is_open (Some Other) = false
+
+-- The event of a call that is carried out on a disk. It is done exactly where the disk allows it: a rename where its
+-- file stands, a lock where none stands, an unlock where the lock is the caller's, a seizure where no other has the right.
+abbrev pub carried_out : Disk → Event → Event
+carried_out d (Stage name bytes failed) = Stage name bytes false
+carried_out d (Publish from to done failed) = Publish from to (is_some (d.files from)) false
+carried_out d (Erase name done failed) = Erase name true false
+carried_out d (Lock name token got failed) = Lock name token (is_none (d.locks name)) false
+carried_out d (Unlock name token done failed) = Unlock name token (is_owner token (d.locks name)) false
+carried_out d (Seize name got failed) = Seize name (is_open (d.rights name)) false
+carried_out d e = e
+
+-- all of the call was done
+abbrev pub is_after : Part → Bool
+is_after After = true
+is_after part = false
+
+-- what stands at a name where a file was to be written whole
+abbrev pub left : Option (List ℕ) → Option (List ℕ) → Part → Option (List ℕ)
+left old whole Before = old
+left old whole After = whole
+left old whole (Bytes bytes) = Some bytes
+left old whole Nothing = None
+
+-- The failing form of an event, with the part of the call that was done. What is written whole may be left as any bytes
+-- or as none; every other call is done or not, and done only where the disk allows it.
+abbrev pub cut_short : Disk → Event → Part → Event
+cut_short d (Stage name bytes failed) part = Stage name (left (d.files name) bytes part) true
+cut_short d (Publish from to done failed) part = Publish from to (is_after part && is_some (d.files from)) true
+cut_short d (Erase name done failed) part = Erase name (is_after part) true
+cut_short d (Lock name token got failed) part = Lock name token (is_after part && is_none (d.locks name)) true
+cut_short d (Unlock name token done failed) part = Unlock name token (is_after part && is_owner token (d.locks name)) true
+cut_short d (Seize name got failed) part = Seize name (is_after part && is_open (d.rights name)) true
+cut_short d e part = e
+
+-- an event is a failing form of another
+abbrev pub IsCutShort : Disk → Event → Event → Type 0
+IsCutShort d whole e = (part : Part) × (e ≡ cut_short d whole part)
+
+-- the disk that a run leaves when it ends: its rights end with it, and all else stays
+abbrev pub ended : Disk → Disk
+ended d = record d { rights = λ q. without_own (d.rights q) }
+
+-- The disk that is left where the run stops inside an event: what a failing form of the event makes of the disk. A step
+-- of another is done or not done.
+abbrev pub stopped : Disk → Event → Part → Disk
+stopped d (Foreign step) part = ended (if is_after part then after_step d step else d)
+stopped d e part = ended (after d (cut_short d e part))
+
+-- the images of a stop before or inside an event
+abbrev pub IsImage : Disk → Event → Disk → Type 0
+IsImage d e image = (part : Part) × (image ≡ stopped d e part)
