@@ -3,4 +3,7 @@ pub mod Records
 pub mod Settled
 pub mod Jobs
 pub mod Machine
+pub mod Goes
+pub mod Lawful
+pub mod Due
 pub mod Laws

@@ -1,6 +1,6 @@
-ghost use Rattle.commit_machine.specs.Laws.{Temp};
+ghost use Rattle.commit_machine.specs.Laws.{CrashSafe};
 
 /// At every moment of a commit or a recovery, what recovery would make of the disk is what the changes give.
 pub fn crash_safe()
-    ensures { Temp }
+    ensures { CrashSafe }
 {}
