@@ -44,7 +44,7 @@ not_same n m h e = let w : bytes_eq n m ≡ true = subst (λ (z : List ℕ). byt
 pub record_name-not : (actor n : List ℕ) → is_record_name actor n ≡ false → (n ≢ record_name actor) × (n ≢ new_name actor)
 record_name-not actor n h = let p = or_false _ _ h in (not_same n (record_name actor) p.0, not_same n (new_name actor) p.1)
 
-shown : (actor : List ℕ) (o : Option Record) (n : List ℕ) → hides actor o n ≡ false → IsShown actor o n
+pub shown : (actor : List ℕ) (o : Option Record) (n : List ℕ) → hides actor o n ≡ false → IsShown actor o n
 shown actor None n h = record { not_record = (record_name-not actor n h).0; not_new = (record_name-not actor n h).1; not_staged = λ r m e mem. absurd (cc) }
 shown actor (Some q) n h =
     let p = or_false (is_record_name actor n) (is_staged_of q n) h in
@@ -58,7 +58,7 @@ shown actor (Some q) n h =
         absurd (cc);
     }
 
-settled_at : (actor : List ℕ) (f : Files) (n : List ℕ) (o : Option Record) → record_in (f (record_name actor)) ≡ o → settled actor f n ≡ if hides actor o n then None else placed o f n
+pub settled_at : (actor : List ℕ) (f : Files) (n : List ℕ) (o : Option Record) → record_in (f (record_name actor)) ≡ o → settled actor f n ≡ if hides actor o n then None else placed o f n
 settled_at actor f n o e = ap (λ (z : Option Record). if hides actor z n then None else placed z f n) e
 
 -- where the record stays, what is put in place decides
@@ -94,7 +94,7 @@ pub keep_new : (actor : List ℕ) (f : Files) (c : Option (List ℕ)) (n : List 
 keep_new actor f c n = same_settled actor f (with_at f (new_name actor) c) n (record_in (f (record_name actor))) refl (put_there f (new_name actor) (record_name actor) c (record-new actor))
     (λ s. placed_same (record_in (f (record_name actor))) f (with_at f (new_name actor) c) n (put_there f (new_name actor) n c s.not_new) (λ r e go m. put_there f (new_name actor) (staged_name r.token n) c (staged-new r.token n actor)))
 
-record-staged : (t : ℕ) (m actor : List ℕ) → record_name actor ≢ staged_name t m
+pub record-staged : (t : ℕ) (m actor : List ℕ) → record_name actor ≢ staged_name t m
 record-staged t m actor e = staged-record t m actor (sym e)
 
 -- a write to a staged file of a record that is not decided

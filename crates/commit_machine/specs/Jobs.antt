@@ -16,21 +16,28 @@ pub data Passed : Type 0 where
   After : Passed
   Unknown : Passed
 
-pub data Ending : Type 0 where
-  -- of a commit: it was decided and carried out
-  Done : Ending
-  -- of a recovery: no record stood, a record was undone, a record was carried out
-  Nothing : Ending
-  RolledBack : Ending
-  Finished : Ending
-  -- another has the right, or a lock stands on the file
-  Busy : List ℕ → Ending
+-- what a recovery finds: no record, one that it undoes, one that it carries out
+pub data Found : Type 0 where
+  Nothing : Found
+  RolledBack : Found
+  Finished : Found
+
+-- why a job isn't done
+pub data Refusal : Type 0 where
+  -- another has the right of this name, or a lock stands on this file
+  Busy : List ℕ → Refusal
   -- what stands as the record is none
-  NotARecord : Ending
+  NotARecord : Refusal
   -- the file of this name is or would be so long
-  TooLarge : List ℕ → ℕ → Ending
+  TooLarge : List ℕ → ℕ → Refusal
   -- the file of this name has changed at this message
-  Changed : List ℕ → ℕ → Ending
+  Changed : List ℕ → ℕ → Refusal
+
+pub data Ending : Type 0 where
+  -- a commit was decided and carried out
+  Done : Ending
+  Recovered : Found → Ending
+  Refused : Refusal → Ending
   -- a call failed
   Failed : Passed → Ending
   NoMemory : Ending
@@ -38,7 +45,7 @@ pub data Ending : Type 0 where
 -- what becomes of a file that was loaded: how it is done and what is staged for it, or why it can't be done
 pub data Verdict : Type 0 where
   Puts : EntryKind → List ℕ → Verdict
-  Refuses : Ending → Verdict
+  Refuses : Refusal → Verdict
 
 -- an edit of one file
 pub record Edit : Type 0 where

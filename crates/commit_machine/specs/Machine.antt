@@ -6,7 +6,7 @@ use Rattle.commit_record.specs.declared.record.EntryKind.TheVariants.{Replace}
 use Rattle.commit_record.specs.declared.record.Record.{Record}
 use Rattle.commit_machine.specs.Names.{record_name, new_name, right_name, staged_name}
 use Rattle.commit_machine.specs.Records.{record_in, record_of, is_go, names_of, kind_of}
-use Rattle.commit_machine.specs.Jobs.{Passed, Before, After, Unknown, Ending, Done, Nothing, RolledBack, Finished, Busy, NotARecord, TooLarge, Failed, NoMemory, Verdict, Puts, Refuses, Edit, Job, Made, edits_of, all_of, prepare_of, go_of}
+use Rattle.commit_machine.specs.Jobs.{Passed, Before, After, Unknown, Found, Nothing, RolledBack, Finished, Refusal, Busy, NotARecord, TooLarge, Ending, Done, Recovered, Refused, Failed, NoMemory, Verdict, Puts, Refuses, Edit, Job, Made, edits_of, all_of, prepare_of, go_of}
 
 -- what follows when a record is done with: the rest of the job, or the end
 pub data Then : Type 0 where
@@ -21,8 +21,8 @@ pub data State : Type 0 where
   Placing : Record → List ℕ → List (List ℕ) → List (List ℕ) → Then → State
   Unlocking : Record → List ℕ → List (List ℕ) → Then → State
   Erasing : Record → Then → State
-  -- what was found of a record
-  Clearing : Ending → State
+  -- what a recovery found
+  Clearing : Found → State
   Preparing : State
   Publishing : State
   -- the names that are locked, the edit that is next, and those after it
@@ -82,8 +82,8 @@ locking j ls [] = loading [] (edits_of j)
 locking j ls (e ∷ left) = Locking ls e left
 
 -- once no record stands
-abbrev pub mended : Option (List Edit) → Ending → State
-mended None found = Releasing found
+abbrev pub mended : Option (List Edit) → Found → State
+mended None found = Releasing (Recovered found)
 mended (Some es) found = Preparing
 
 abbrev pub none_stands : Option (List Edit) → State
@@ -94,11 +94,11 @@ none_stands (Some es) = Preparing
 abbrev pub mending : Record → State
 mending r = if is_go r then placing r (names_of r) (names_of r) GoOn else undoing r (names_of r) (names_of r) GoOn
 
-abbrev pub found_of : Record → Ending
+abbrev pub found_of : Record → Found
 found_of r = if is_go r then Finished else RolledBack
 
 abbrev pub record_seen : Option Record → State
-record_seen None = Releasing NotARecord
+record_seen None = Releasing (Refused NotARecord)
 record_seen (Some r) = mending r
 
 abbrev pub looked : Job → Option (List ℕ) → State
@@ -110,7 +110,7 @@ abbrev pub refusing : Job → List (List ℕ) → List (List ℕ) → Ending →
 refusing j ns ls why = undoing (prepare_of j) ns ls (Answer why)
 
 abbrev pub loaded : Job → List Made → Edit → List Edit → Option (List ℕ) → Verdict → State
-loaded j done e left seen (Refuses why) = refusing j [] (all_of j) why
+loaded j done e left seen (Refuses why) = refusing j [] (all_of j) (Refused why)
 loaded j done e left seen (Puts kind content) = loading (record { edit = e; seen = seen; kind = kind; content = content } ∷ done) left
 
 -- the next call; none at the end
@@ -164,13 +164,13 @@ saw j Checking c = Releasing (Failed (passed_by j c))
 saw j s c = Releasing (Failed Before)
 
 abbrev pub too_long : Job → State → ℕ → State
-too_long j Looking n = Releasing (TooLarge (record_name j.actor) n)
-too_long j (Loading done e left) n = refusing j [] (all_of j) (TooLarge e.name n)
+too_long j Looking n = Releasing (Refused (TooLarge (record_name j.actor) n))
+too_long j (Loading done e left) n = refusing j [] (all_of j) (Refused (TooLarge e.name n))
 too_long j s n = Releasing (Failed Before)
 
 abbrev pub went_on : Job → State → Bool → State
 went_on j Seizing true = Looking
-went_on j Seizing false = Ended (Busy (right_name j.actor))
+went_on j Seizing false = Ended (Refused (Busy (right_name j.actor)))
 went_on j (Undoing r n ns ls th) b = undoing r ns ls th
 went_on j (Placing r n ns ls th) b = placing r ns ls th
 went_on j (Unlocking r n ns th) b = unlocking r ns th
@@ -179,13 +179,13 @@ went_on j (Erasing r (Answer why)) b = Releasing why
 went_on j (Clearing found) b = mended j.edits found
 went_on j Preparing b = Publishing
 went_on j Publishing true = locking j [] (edits_of j)
-went_on j Publishing false = Releasing NotARecord
+went_on j Publishing false = Releasing (Refused NotARecord)
 went_on j (Locking ls e left) true = locking j (e.name ∷ ls) left
-went_on j (Locking ls e left) false = refusing j [] ls (Busy e.name)
+went_on j (Locking ls e left) false = refusing j [] ls (Refused (Busy e.name))
 went_on j (Staging ns done x left) b = staging (x.edit.name ∷ ns) done left
 went_on j (Deciding done) b = Committing done
 went_on j (Committing done) true = placing (go_of j done) (all_of j) (all_of j) (Answer Done)
-went_on j (Committing done) false = Releasing NotARecord
+went_on j (Committing done) false = Releasing (Refused NotARecord)
 went_on j (Releasing why) b = Ended why
 went_on j s b = Releasing (Failed Before)
 

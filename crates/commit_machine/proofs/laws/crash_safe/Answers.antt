@@ -1,7 +1,11 @@
+use Rattle.commit_machine.proofs.Inv
+use Rattle.commit_machine.proofs.States
 use Rattle.commit_machine.proofs.Same
 use Rattle.commit_machine.proofs.NameLemmas
 use Rattle.commit_machine.proofs.RecordLemmas
 use Rattle.commit_machine.proofs.Keep
+use Rattle.commit_machine.proofs.Sound
+use Rattle.commit_machine.proofs.Decided
 use Rattle.commit_machine.proofs.laws.crash_safe.Goals as goal
 
 pub returns : goal.returns
