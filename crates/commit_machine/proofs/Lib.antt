@@ -6,3 +6,5 @@ pub mod Sound
 pub mod Decided
 pub mod Inv
 pub mod States
+pub mod LawfulLemmas
+pub mod Others
