@@ -70,18 +70,17 @@ pub record AllClear (j : Job) (d : Disk) : Type 0 where
   pub done : AllDone j d
   pub no_new : d.files (new_name j.actor) ≡ None
 
--- what holds where the answer is settled
+-- what holds once the right is given up
 abbrev pub Over : Ending → Job → Disk → Type 0
-Over Done j d = AllDone j d
-Over (Recovered found) j d = AllClear j d
-Over (Refused why) j d = IsFresh j.actor j.token d
 Over (Failed passed) j d = Unit {0}
-Over NoMemory j d = IsFresh j.actor j.token d
+Over e j d = IsFresh j.actor j.token d
 
+-- what holds where the answer is settled, before the right is given up
 abbrev pub Ends : Ending → Job → Disk → Type 0
 Ends Done j d = AllDone j d × HasRight j.actor d
 Ends (Recovered found) j d = AllClear j d × HasRight j.actor d
-Ends e j d = Over e j d
+Ends (Failed passed) j d = Unit {0}
+Ends e j d = IsFresh j.actor j.token d
 
 pub record Subset (xs ys : List (List ℕ)) : Type 0 where
   pub each : (m : List ℕ) → Mem m xs → Mem m ys

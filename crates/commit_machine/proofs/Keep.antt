@@ -126,8 +126,8 @@ put_in_replace Replace file None h e = absurd (cc)
 put_in_replace Replace file (Some b) h e = refl
 
 -- the staged file of a decided record is put in place
-pub keep_place : (actor : List ℕ) (f : Files) (r : Record) (m n : List ℕ) → record_in (f (record_name actor)) ≡ Some r → is_go r ≡ true → Mem m (names_of r) → m ≢ record_name actor → is_lawful m ≡ true → is_lawful n ≡ true ⊎ (has (names_of r) n ≡ false) → is_some (f (staged_name r.token m)) ≡ true → kind_of r m ≡ Replace → settled actor (renamed f (staged_name r.token m) m) n ≡ settled actor f n
-keep_place actor f r m n e go mem plain law others stands kind = same_settled actor f g n (Some r) e (renamed_other f staged m (record_name actor) (record-staged r.token m actor) (λ p. plain (sym p))) (λ s. put s (same_or_not n m))
+pub keep_place : (actor : List ℕ) (f : Files) (r : Record) (m n : List ℕ) → record_in (f (record_name actor)) ≡ Some r → is_go r ≡ true → Mem m (names_of r) → m ≢ record_name actor → is_lawful m ≡ true → is_some (f (staged_name r.token m)) ≡ true → settled actor (renamed f (staged_name r.token m) m) n ≡ settled actor f n
+keep_place actor f r m n e go mem plain law stands = same_settled actor f g n (Some r) e (renamed_other f staged m (record_name actor) (record-staged r.token m actor) (λ p. plain (sym p))) (λ s. put s (same_or_not n m))
   where
     staged : List ℕ
     staged = staged_name r.token m

@@ -8,3 +8,5 @@ pub mod Inv
 pub mod States
 pub mod LawfulLemmas
 pub mod Others
+pub mod Steps
+pub mod Steps2

@@ -86,3 +86,29 @@ module _ (j : Job) (d d' : Disk) (keep : Keeps j.actor j.token d d') where
   others_ends (Refused why) k = others_fresh k
   others_ends (Failed passed) k = tt
   others_ends NoMemory k = others_fresh k
+
+  others_over : (e : Ending) → Over e j d → Over e j d'
+  others_over Done k = others_fresh k
+  others_over (Recovered found) k = others_fresh k
+  others_over (Refused why) k = others_fresh k
+  others_over (Failed passed) k = tt
+  others_over NoMemory k = others_fresh k
+
+  pub others_knows : (s : State) → Knows j s d → Knows j s d'
+  others_knows Seizing k = others_fresh k
+  others_knows Looking k = others_clean k
+  others_knows (Undoing r n ns ls th) k = (others_closing r (n ∷ ns) ls k.0, k.1, k.2, k.3, others_then r th k.4)
+  others_knows (Placing r n ns ls th) k = (others_placed r (n ∷ ns) ls k.0, others_then r th k.1)
+  others_knows (Unlocking r n ns th) k = (others_closing r [] (n ∷ ns) k.0, k.1, others_then r th k.2)
+  others_knows (Erasing r th) k = (others_closing r [] [] k.0, others_then r th k.1)
+  others_knows (Clearing found) k = others_idle None k
+  others_knows Preparing k = (others_idle None k.0, k.1)
+  others_knows Publishing k = (others_idle (Some (written (prepare_of j))) k.0, k.1)
+  others_knows (Locking ls e left) k = (others_own [] ls [] [] (λ x h. absurd h) k.0, k.1)
+  others_knows (Loading made e left) k = (others_own [] (all_of j) made made (λ x h. names_Mem (edits_of j) x.edit (k.1.each x h).0) k.0, k.1)
+  others_knows (Staging ns made x left) k = (others_own ns (all_of j) made (x ∷ left) (λ y h. names_Mem (edits_of j) y.edit (k.1.each y h).0) k.0, k.1, k.2, k.3)
+  others_knows (Deciding made) k = (others_own (all_of j) (all_of j) made [] (λ x h. names_Mem (edits_of j) x.edit (k.1.each x h).0) k.0, k.1)
+  others_knows (Committing made) k = (others_own (all_of j) (all_of j) made [] (λ x h. names_Mem (edits_of j) x.edit (k.1.each x h).0) k.0, k.1, new_stays k.0.closing.right ∙ k.2)
+  others_knows Checking k = tt
+  others_knows (Releasing e) k = others_ends e k
+  others_knows (Ended e) k = others_over e k

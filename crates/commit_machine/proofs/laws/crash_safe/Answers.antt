@@ -1,3 +1,5 @@
+use Rattle.commit_machine.proofs.Steps2
+use Rattle.commit_machine.proofs.Steps
 use Rattle.commit_machine.proofs.LawfulLemmas
 use Rattle.commit_machine.proofs.Others
 use Rattle.commit_machine.proofs.Inv
