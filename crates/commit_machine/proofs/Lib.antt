@@ -10,3 +10,5 @@ pub mod LawfulLemmas
 pub mod Others
 pub mod Steps
 pub mod Steps2
+pub mod JobLemmas
+pub mod Steps3

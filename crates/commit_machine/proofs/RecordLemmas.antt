@@ -61,3 +61,8 @@ valid-lawful r n h m = all_lawful r.entries n (and_parts _ _ (and_parts _ _ (and
 pub stands-lawful : (c : Option (List ℕ)) (r : Record) (n : List ℕ) → record_in c ≡ Some r → Mem n (names_of r) → is_lawful n ≡ true
 stands-lawful None r n e m = absurd (cc)
 stands-lawful (Some bytes) r n e m = valid-lawful r n (record_of-is bytes r e).valid m
+
+-- a record that stands is valid
+pub stands-valid : (c : Option (List ℕ)) (r : Record) → record_in c ≡ Some r → (is_valid r ≡ true) × (r.token < 2 ^ 64)
+stands-valid None r e = absurd (cc)
+stands-valid (Some bytes) r e = let w = record_of-is bytes r e in (w.valid, w.token_fits)

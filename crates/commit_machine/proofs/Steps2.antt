@@ -136,7 +136,7 @@ module _ (j : Job) (job : IsJob j) (d : Disk) (files : Files) (locks : Locks) (s
   step_erasing r (Answer a) (erases {done = true} {failed = false}) agrees k = record { shows = erase_shows r (Answer a) k false; knows = ends r a k }
 
   -- what is written to the staging of the record
-  new_shows : (e : Event) (c : Option (List ℕ)) → (after d e ≡ record d { files = with_at d.files (new_name j.actor) c }) → ((n : List ℕ) → files_then j e d files n ≡ files n) → Shows j e d files locks
+  pub new_shows : (e : Event) (c : Option (List ℕ)) → (after d e ≡ record d { files = with_at d.files (new_name j.actor) c }) → ((n : List ℕ) → files_then j e d files n ≡ files n) → Shows j e d files locks
   new_shows e c is same = record {
     settles = λ q. ap (λ (z : Disk). settled_files j.actor z q) is ∙ keep_new j.actor d.files c q ∙ settles q ∙ sym (same q);
     locked = λ q. ap (λ (z : Disk). settled_locks j.actor z q) is ∙ lock_same j.actor d.files (with_at d.files (new_name j.actor) c) d.locks q (put_there d.files (new_name j.actor) (record_name j.actor) c (record-new j.actor)) ∙ locked q;

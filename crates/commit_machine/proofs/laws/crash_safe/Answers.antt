@@ -1,3 +1,4 @@
+use Rattle.commit_machine.proofs.Steps3
 use Rattle.commit_machine.proofs.Steps2
 use Rattle.commit_machine.proofs.Steps
 use Rattle.commit_machine.proofs.LawfulLemmas
