@@ -12,3 +12,5 @@ pub mod Steps
 pub mod Steps2
 pub mod JobLemmas
 pub mod Steps3
+pub mod Steps4
+pub mod RunLemmas

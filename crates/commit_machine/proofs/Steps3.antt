@@ -41,7 +41,7 @@ use Rattle.commit_machine.proofs.Steps2.{none_left}
 not_go : (j : Job) (d : Disk) (files : Files) (r : Record) (from to : List ℕ) (failed : Bool) (n : List ℕ) → record_in (d.files (new_name j.actor)) ≡ Some r → is_go r ≡ false → files_then j (event.Publish from to true failed) d files n ≡ files n
 not_go j d files r from to failed n e go = rw (e, go) (elim (cases_Bool (bytes_eq from (new_name j.actor) && bytes_eq to (record_name j.actor))) [ inl y ↦ rw y refl | inr nay ↦ rw nay refl ])
 
-a_decision : (j : Job) (d : Disk) (files : Files) (r : Record) (failed : Bool) (n : List ℕ) → record_in (d.files (new_name j.actor)) ≡ Some r → is_go r ≡ true → r.token ≡ j.token → files_then j (event.Publish (new_name j.actor) (record_name j.actor) true failed) d files n ≡ applied (edits_of j) files n
+pub a_decision : (j : Job) (d : Disk) (files : Files) (r : Record) (failed : Bool) (n : List ℕ) → record_in (d.files (new_name j.actor)) ≡ Some r → is_go r ≡ true → r.token ≡ j.token → files_then j (event.Publish (new_name j.actor) (record_name j.actor) true failed) d files n ≡ applied (edits_of j) files n
 a_decision j d files r failed n e go t =
     let same : (r.token == j.token) ≡ true = rw t (grind (arith, common_steps)) in
     rw (same_refl (new_name j.actor), same_refl (record_name j.actor), e, go, same) refl

@@ -1,0 +1,118 @@
+-- The laws, by induction on the events.
+use Rattle.std.proofs.Common.{◌≡◌, ◌≢◌, ◌⊎◌, ℕ, Bool, true, false, ◌&&◌, ◌==◌, List, [], ◌∷◌, map, length, Option, Some, None, is_some, is_none, if◌then◌else◌, refl, ap, sym, subst, inl, inr, ◌∙◌, arith}
+use Rattle.std.proofs.lemmas.Bool.{cases_Bool, eqb-true, and_parts}
+use Rattle.std.proofs.lemmas.Grind.{common_steps}
+use Rattle.std.specs.Str.{bytes_eq}
+use Rattle.commit_record.specs.Format.{written, IsWritten, is_valid}
+use Rattle.commit_record.specs.Names.{is_lawful}
+use Rattle.commit_record.specs.declared.record.EntryKind.{EntryKind}
+use Rattle.commit_record.specs.declared.record.EntryKind.TheVariants.{Replace}
+use Rattle.commit_record.specs.declared.record.Entry.{Entry}
+use Rattle.commit_record.specs.declared.record.Record.{Record}
+use Rattle.host_port.specs.declared.event.Event.{Event}
+use Rattle.host_port.specs.declared.event.Event.TheVariants as event
+use Rattle.host_port.specs.declared.event.Seen.TheVariants as seen
+use Rattle.host_port.specs.Disk.{Disk, with_at, after, without_own}
+use Rattle.host_port.specs.Ends.{is_owner}
+use Rattle.host_port.specs.Ran.{Agrees}
+use Rattle.commit_machine.specs.Names.{record_name, new_name, right_name, staged_name, is_record_name}
+use Rattle.commit_machine.specs.Records.{record_in, is_go, names_of, kind_of, kind_in}
+use Rattle.commit_machine.specs.Settled.{Files, Locks, Mem, put_in, IsSoundAt}
+use Rattle.commit_machine.specs.Jobs.{Ending, Done, Recovered, Refused, Failed, NoMemory, Found, Refusal, Busy, TooLarge, Verdict, Puts, Refuses, Edit, Job, Made, IsJob, edits_of, all_names, all_of, entries_for, prepare_of, go_of, made_at, kind_made, file_after, outcome_of}
+use Rattle.commit_machine.specs.Machine.{Then, GoOn, Answer, State, Seizing, Looking, Undoing, Placing, Unlocking, Erasing, Clearing, Preparing, Publishing, Locking, Loading, Staging, Deciding, Committing, Checking, Releasing, Ended, Call, ToLoad, ToStage, ToPublish, ToErase, ToLock, ToUnlock, ToSeize, ToRelease, after_reply, undoing, placing, unlocking, locking, loaded, loading, staging, refusing}
+use Rattle.commit_machine.specs.Goes.{IsOf, loads, stages, stage_fails, publishes, erases, locks, unlocks, seizes, releases, reply}
+use Rattle.commit_machine.specs.Lawful.{standing, HasRight, IsSound, IsFresh}
+use Rattle.commit_machine.specs.Due.{settled_files, settled_locks, files_then, is_decision, applied}
+use Rattle.commit_machine.proofs.Inv.{Closing, Rest, Own, Clean, Idle, IsValid, Ours, ThenOk, AllDone, AllClear, Over, Ends, Subset, Covers, LocksLeft, Among, PartPlaced, Knows, IsOwnEnd}
+use Rattle.commit_machine.proofs.Same.{same_refl, same_true, same_false, same_or_not, put_here, put_there, has_Mem, Mem_has}
+use Rattle.commit_machine.proofs.NameLemmas.{record-new, staged-one, staged-record, staged-new, lawful-staged}
+use Rattle.commit_machine.proofs.RecordLemmas.{stands-lawful, record_of-written, record_of-is, valid-lawful}
+use Rattle.commit_machine.proofs.Keep.{keep_new, keep_staged, keep_place, keep_erase, keep_prepare, renamed, renamed_to, renamed_from, renamed_other, record-staged, record_name-not}
+use Rattle.commit_machine.proofs.Sound.{sound_new, sound_staged, sound_erase, sound_place, sound_unlock, sound_lock, lock_same, lock_erase, lock_own, lock_prepare, lock_commit}
+use Rattle.commit_machine.proofs.Decided.{IsDistinct, named, names_Mem, decided}
+use Rattle.commit_machine.proofs.States.{names-entries_for, names-prepare, to_prepare, knows_unlocking, knows_placing, knows_undoing, knows_refusing, knows_staging, knows_loading, knows_locking, knows_looked, knows_wanted, knows_mended}
+use Rattle.host_port.specs.declared.event.ForeignStep.{ForeignStep}
+use Rattle.host_port.specs.Disk.{disk, after_step}
+use Rattle.host_port.specs.Own.{own}
+use Rattle.host_port.specs.Ran.{Honest}
+use Rattle.commit_machine.specs.Machine.{refused, next}
+use Rattle.commit_machine.specs.Goes.{IsNext, Goes}
+use Rattle.commit_machine.specs.Lawful.{IsLawful, OthersAreLawful}
+use Rattle.commit_machine.specs.Due.{files_after, locks_after, locks_then, renewed, same_file, same_lock}
+use Rattle.commit_machine.specs.Laws.{IsRun, IsSettledAs, IsDue, CrashSafe}
+use Rattle.commit_machine.proofs.Steps
+use Rattle.commit_machine.proofs.Steps2
+use Rattle.commit_machine.proofs.Steps3
+use Rattle.commit_machine.proofs.Steps4
+use Rattle.commit_machine.proofs.Steps.{Shows, Kept}
+use Rattle.commit_machine.proofs.LawfulLemmas.{lawful_keeps}
+use Rattle.commit_machine.proofs.Others.{others_knows}
+use Rattle.commit_machine.proofs.States.{knows_refused}
+
+file_true : (a b : Option (List ℕ)) → same_file a b ≡ true → a ≡ b
+file_true None None h = refl
+file_true None (Some b) h = absurd (cc)
+file_true (Some a) None h = absurd (cc)
+file_true (Some a) (Some b) h = ap (λ (x : List ℕ). Some x) (same_true a b h)
+
+lock_true : (a b : Option ℕ) → same_lock a b ≡ true → a ≡ b
+lock_true None None h = refl
+lock_true None (Some b) h = absurd (cc)
+lock_true (Some a) None h = absurd (cc)
+lock_true (Some a) (Some b) h = ap (λ (x : ℕ). Some x) (eqb-true a b h)
+
+renewed_is : {A : Type 0} (same : Option A → Option A → Bool) → ((a b : Option A) → same a b ≡ true → a ≡ b) → (old new value : Option A) → old ≡ value → new ≡ renewed same old new value
+renewed_is same tells old new value e = elim (cases_Bool (same old new)) [ inl y ↦ rw y (sym (tells old new y) ∙ e) | inr nay ↦ rw nay refl ]
+
+module _ (j : Job) (job : IsJob j) where
+  pub own_step : (d : Disk) (files : Files) (owners : Locks) → ((n : List ℕ) → settled_files j.actor d n ≡ files n) → ((n : List ℕ) → settled_locks j.actor d n ≡ owners n) → IsSound j.actor d → (s : State) (e : Event) → IsNext (next j s) e → Agrees d e → Knows j s d → Kept j s e d files owners
+  own_step d files owners settles locked sound Seizing e is agrees k = Steps.step_seizing j job d files owners settles locked sound is k
+  own_step d files owners settles locked sound Looking e is agrees k = Steps.step_looking j job d files owners settles locked sound is agrees k
+  own_step d files owners settles locked sound (Undoing r n ns ls th) e is agrees k = Steps.step_undoing j job d files owners settles locked sound r n ns ls th is agrees k
+  own_step d files owners settles locked sound (Placing r n ns ls th) e is agrees k = Steps.step_placing j job d files owners settles locked sound r n ns ls th is agrees k
+  own_step d files owners settles locked sound (Unlocking r n ns th) e is agrees k = Steps2.step_unlocking j job d files owners settles locked sound r n ns th is agrees k
+  own_step d files owners settles locked sound (Erasing r th) e is agrees k = Steps2.step_erasing j job d files owners settles locked sound r th is agrees k
+  own_step d files owners settles locked sound (Clearing found) e is agrees k = Steps2.step_clearing j job d files owners settles locked sound found is agrees k
+  own_step d files owners settles locked sound Preparing e is agrees k = Steps2.step_preparing j job d files owners settles locked sound is k
+  own_step d files owners settles locked sound Publishing e is agrees k = Steps3.step_publishing j job d files owners settles locked sound is agrees k
+  own_step d files owners settles locked sound (Locking ls x left) e is agrees k = Steps3.step_locking j job d files owners settles locked sound ls x left is agrees k
+  own_step d files owners settles locked sound (Loading made x left) e is agrees k = Steps3.step_loading j job d files owners settles locked sound made x left is agrees k
+  own_step d files owners settles locked sound (Staging ns made x left) e is agrees k = Steps3.step_staging j job d files owners settles locked sound ns made x left is k
+  own_step d files owners settles locked sound (Deciding made) e is agrees k = Steps3.step_deciding j job d files owners settles locked sound made is k
+  own_step d files owners settles locked sound (Committing made) e is agrees k = Steps4.step_committing j job d files owners settles locked sound made is agrees k
+  own_step d files owners settles locked sound Checking e is agrees k = Steps4.step_checking j job d files owners settles locked sound is
+  own_step d files owners settles locked sound (Releasing a) e is agrees k = Steps4.step_releasing j job d files owners settles locked sound a is k
+  own_step d files owners settles locked sound (Ended a) e is agrees k = absurd is
+
+  -- what shows and what is known at the end of events
+  pub record Safe (d : Disk) (files : Files) (owners : Locks) (es : List Event) (last : State) : Type 0 where
+    pub due : IsSettledAs j.actor (disk d es) (files_after j d files es) (locks_after j d owners es)
+    pub knows : Knows j last (disk d es)
+
+  known_now : (d : Disk) (s now : State) → (now ≡ s) ⊎ (now ≡ refused j s) → Knows j s d → Knows j now d
+  known_now d s now (inl p) k = subst (λ (z : State). Knows j z d) (sym p) k
+  known_now d s now (inr p) k = subst (λ (z : State). Knows j z d) (sym p) (knows_refused j d s k)
+
+  pub safe : (es : List Event) (s last : State) (d : Disk) (files : Files) (owners : Locks) → ((n : List ℕ) → settled_files j.actor d n ≡ files n) → ((n : List ℕ) → settled_locks j.actor d n ≡ owners n) → IsSound j.actor d → Knows j s d → Goes j s (own es) last → Honest d es → OthersAreLawful j.actor j.token d es → Safe d files owners es last
+  safe [] s last d files owners settles locked sound k goes honest lawful = record {
+    due = record { same_files = settles; same_locks = locked; sound = sound };
+    knows = known_now d s last (elim goes [ inl p ↦ inl (sym p) | inr p ↦ inr (sym p) ]) k;
+  }
+  safe (event.Foreign f ∷ es) s last d files owners settles locked sound k goes honest lawful =
+      let more = safe es s last (after_step d f) (files_then j (event.Foreign f) d files) (locks_then j (event.Foreign f) d owners)
+          (λ n. renewed_is same_file file_true (settled_files j.actor d n) (settled_files j.actor (after_step d f) n) (files n) (settles n))
+          (λ n. renewed_is same_lock lock_true (settled_locks j.actor d n) (settled_locks j.actor (after_step d f) n) (owners n) (locked n))
+          lawful.1 (others_knows j d (after_step d f) (lawful_keeps j.actor j.token d f lawful.0) s k) goes honest.1 lawful.2 in
+      record { due = more.due; knows = more.knows }
+  safe (e ∷ es) s last d files owners settles locked sound k goes honest lawful =
+      let kept = own_step d files owners settles locked sound goes.0 e goes.2 honest.0 (known_now d s goes.0 goes.1 k) in
+      let more = safe es (after_reply j goes.0 (reply e)) last (after d e) (files_then j e d files) owners kept.shows.settles kept.shows.locked kept.shows.sound kept.knows goes.3 honest.1 lawful in
+      record { due = more.due; knows = more.knows }
+
+pub run_safe : (j : Job) (d : Disk) (es : List Event) (last : State) → IsRun j d es last → IsSettledAs j.actor (disk d es) (files_after j d (settled_files j.actor d) es) (locks_after j d (settled_locks j.actor d) es) × Knows j last (disk d es)
+run_safe j d es last run =
+    let all = safe j run.job es Seizing last d (settled_files j.actor d) (settled_locks j.actor d) (λ n. refl) (λ n. refl) run.sound run.fresh run.goes run.honest run.lawful in
+    (all.due, all.knows)
+
+pub crash_safe : CrashSafe
+crash_safe j d es last run = (run_safe j d es last run).0
