@@ -14,3 +14,4 @@ pub mod JobLemmas
 pub mod Steps3
 pub mod Steps4
 pub mod RunLemmas
+pub mod StopLemmas

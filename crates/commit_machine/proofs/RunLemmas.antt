@@ -39,7 +39,7 @@ use Rattle.commit_machine.specs.Machine.{refused, next}
 use Rattle.commit_machine.specs.Goes.{IsNext, Goes}
 use Rattle.commit_machine.specs.Lawful.{IsLawful, OthersAreLawful}
 use Rattle.commit_machine.specs.Due.{files_after, locks_after, locks_then, renewed, same_file, same_lock}
-use Rattle.commit_machine.specs.Laws.{IsRun, IsSettledAs, IsDue, CrashSafe}
+use Rattle.commit_machine.specs.Laws.{IsRun, IsSettledAs, IsDue, CrashSafe, NothingLeft}
 use Rattle.commit_machine.proofs.Steps
 use Rattle.commit_machine.proofs.Steps2
 use Rattle.commit_machine.proofs.Steps3
@@ -49,19 +49,19 @@ use Rattle.commit_machine.proofs.LawfulLemmas.{lawful_keeps}
 use Rattle.commit_machine.proofs.Others.{others_knows}
 use Rattle.commit_machine.proofs.States.{knows_refused}
 
-file_true : (a b : Option (List ℕ)) → same_file a b ≡ true → a ≡ b
+pub file_true : (a b : Option (List ℕ)) → same_file a b ≡ true → a ≡ b
 file_true None None h = refl
 file_true None (Some b) h = absurd (cc)
 file_true (Some a) None h = absurd (cc)
 file_true (Some a) (Some b) h = ap (λ (x : List ℕ). Some x) (same_true a b h)
 
-lock_true : (a b : Option ℕ) → same_lock a b ≡ true → a ≡ b
+pub lock_true : (a b : Option ℕ) → same_lock a b ≡ true → a ≡ b
 lock_true None None h = refl
 lock_true None (Some b) h = absurd (cc)
 lock_true (Some a) None h = absurd (cc)
 lock_true (Some a) (Some b) h = ap (λ (x : ℕ). Some x) (eqb-true a b h)
 
-renewed_is : {A : Type 0} (same : Option A → Option A → Bool) → ((a b : Option A) → same a b ≡ true → a ≡ b) → (old new value : Option A) → old ≡ value → new ≡ renewed same old new value
+pub renewed_is : {A : Type 0} (same : Option A → Option A → Bool) → ((a b : Option A) → same a b ≡ true → a ≡ b) → (old new value : Option A) → old ≡ value → new ≡ renewed same old new value
 renewed_is same tells old new value e = elim (cases_Bool (same old new)) [ inl y ↦ rw y (sym (tells old new y) ∙ e) | inr nay ↦ rw nay refl ]
 
 module _ (j : Job) (job : IsJob j) where
@@ -89,7 +89,7 @@ module _ (j : Job) (job : IsJob j) where
     pub due : IsSettledAs j.actor (disk d es) (files_after j d files es) (locks_after j d owners es)
     pub knows : Knows j last (disk d es)
 
-  known_now : (d : Disk) (s now : State) → (now ≡ s) ⊎ (now ≡ refused j s) → Knows j s d → Knows j now d
+  pub known_now : (d : Disk) (s now : State) → (now ≡ s) ⊎ (now ≡ refused j s) → Knows j s d → Knows j now d
   known_now d s now (inl p) k = subst (λ (z : State). Knows j z d) (sym p) k
   known_now d s now (inr p) k = subst (λ (z : State). Knows j z d) (sym p) (knows_refused j d s k)
 
@@ -116,3 +116,10 @@ run_safe j d es last run =
 
 pub crash_safe : CrashSafe
 crash_safe j d es last run = (run_safe j d es last run).0
+
+pub nothing_left : NothingLeft
+nothing_left j d es Done no_fault run = (run_safe j d es (Ended Done) run).1
+nothing_left j d es (Recovered found) no_fault run = (run_safe j d es (Ended (Recovered found)) run).1
+nothing_left j d es (Refused why) no_fault run = (run_safe j d es (Ended (Refused why)) run).1
+nothing_left j d es (Failed passed) no_fault run = absurd no_fault
+nothing_left j d es NoMemory no_fault run = (run_safe j d es (Ended NoMemory) run).1

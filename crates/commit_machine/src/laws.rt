@@ -1,6 +1,38 @@
-ghost use Rattle.commit_machine.specs.Laws.{CrashSafe};
+ghost use Rattle.commit_machine.specs.Laws.{CrashSafe, StopSafe, OnlyDecisions, DecisionsApply, NothingLeft, NoRecordStands, RecoverySettles};
 
-/// At every moment of a commit or a recovery, what recovery would make of the disk is what the changes give.
+/// At every moment of a commit or a recovery, whatever others lawfully do meanwhile, what recovery
+/// would make of the files is what the accepted edits give, what it would leave of the locks are those
+/// of others, and the disk is sound.
 pub fn crash_safe()
     ensures { CrashSafe }
+{}
+
+/// The same of each disk that is left where the run stops before or inside an event.
+pub fn stop_safe()
+    ensures { StopSafe }
+{}
+
+/// What is due changes by decisions and by steps of others alone.
+pub fn only_decisions()
+    ensures { OnlyDecisions }
+{}
+
+/// A decision makes all edits of the job.
+pub fn decisions_apply()
+    ensures { DecisionsApply }
+{}
+
+/// At an end without a fault nothing on the disk carries the job's token.
+pub fn nothing_left()
+    ensures { NothingLeft }
+{}
+
+/// When a job that is done gives up its right no record stands.
+pub fn no_record_stands()
+    ensures { NoRecordStands }
+{}
+
+/// When a recovery that is done gives up its right the disk is its own settled disk.
+pub fn recovery_settles()
+    ensures { RecoverySettles }
 {}

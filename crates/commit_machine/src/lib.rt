@@ -3,4 +3,7 @@
 
 mod laws;
 
-pub use laws::crash_safe;
+pub use laws::{
+    crash_safe, decisions_apply, no_record_stands, nothing_left, only_decisions, recovery_settles,
+    stop_safe,
+};
