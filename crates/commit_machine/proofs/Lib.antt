@@ -15,3 +15,4 @@ pub mod Steps3
 pub mod Steps4
 pub mod RunLemmas
 pub mod StopLemmas
+pub mod EndLemmas

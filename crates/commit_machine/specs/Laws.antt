@@ -44,6 +44,10 @@ IsDue j d es now = IsSettledAs j.actor now (files_after j d (settled_files j.act
 abbrev pub CrashSafe : Type 0
 CrashSafe = (j : Job) (d : Disk) (es : List Event) (last : State) → IsRun j d es last → IsDue j d es (disk d es)
 
+-- what stands at the front of a run is a run
+abbrev pub FrontIsRun : Type 0
+FrontIsRun = (j : Job) (d : Disk) (before rest : List Event) (last : State) → IsRun j d (before ++ rest) last → (now : State) × IsRun j d before now
+
 -- the part of an event that an image of a stop inside it holds: a failing form, or the step of another if it was done
 abbrev pub in_flight : Disk → Event → Part → List Event
 in_flight d (Foreign step) part = if is_after part then Foreign step ∷ [] else []

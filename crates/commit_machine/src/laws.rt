@@ -1,10 +1,15 @@
-ghost use Rattle.commit_machine.specs.Laws.{CrashSafe, StopSafe, OnlyDecisions, DecisionsApply, NothingLeft, NoRecordStands, RecoverySettles};
+ghost use Rattle.commit_machine.specs.Laws.{CrashSafe, FrontIsRun, StopSafe, OnlyDecisions, DecisionsApply, NothingLeft, NoRecordStands, RecoverySettles};
 
 /// At every moment of a commit or a recovery, whatever others lawfully do meanwhile, what recovery
 /// would make of the files is what the accepted edits give, what it would leave of the locks are those
 /// of others, and the disk is sound.
 pub fn crash_safe()
     ensures { CrashSafe }
+{}
+
+/// What stands at the front of a run is a run, so what is said of a run holds at each moment of it.
+pub fn front_is_run()
+    ensures { FrontIsRun }
 {}
 
 /// The same of each disk that is left where the run stops before or inside an event.
