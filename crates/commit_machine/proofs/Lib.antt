@@ -16,3 +16,4 @@ pub mod Steps4
 pub mod RunLemmas
 pub mod StopLemmas
 pub mod EndLemmas
+pub mod WorkedLemmas

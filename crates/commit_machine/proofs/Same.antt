@@ -1,5 +1,5 @@
 -- Names that are the same, and lists that have a name.
-use Rattle.std.proofs.Common.{◌≡◌, ◌≢◌, ◌⊎◌, ℕ, Bool, true, false, ◌||◌, List, [], ◌∷◌, Option, if◌then◌else◌, refl, ap, sym, subst, inl, inr, ◌∙◌, arith}
+use Rattle.std.proofs.Common.{◌≡◌, ◌≢◌, ◌⊎◌, ℕ, Bool, true, false, ◌||◌, List, [], ◌∷◌, ◌++◌, Option, if◌then◌else◌, refl, ap, sym, subst, inl, inr, ◌∙◌, arith}
 use Rattle.std.proofs.lemmas.Bool.{or_cases, or_left, or_right}
 use Rattle.std.proofs.lemmas.Slice.Eq.{bytes_eq-Decides}
 use Rattle.std.specs.Str.{bytes_eq}
@@ -38,3 +38,19 @@ pub Mem_has : (ns : List (List ℕ)) (n : List ℕ) → Mem n ns → has ns n �
 Mem_has [] n h = absurd h
 Mem_has (m ∷ ms) n (inl e) = let h : bytes_eq n m ≡ true = (bytes_eq-Decides n m).1 e in or_left (bytes_eq n m) (has ms n) h
 Mem_has (m ∷ ms) n (inr h) = or_right (bytes_eq n m) (has ms n) (Mem_has ms n h)
+
+-- a list with one more at its end
+pub at_end : {A : Type 0} (xs : List A) (x m : A) → m ≡ x → Mem m (xs ++ (x ∷ []))
+at_end [] x m e = inl e
+at_end (y ∷ ys) x m e = inr (at_end ys x m e)
+
+pub before_end : {A : Type 0} (xs : List A) (x m : A) → Mem m xs → Mem m (xs ++ (x ∷ []))
+before_end [] x m h = absurd h
+before_end (y ∷ ys) x m (inl e) = inl e
+before_end (y ∷ ys) x m (inr h) = inr (before_end ys x m h)
+
+pub end_or_before : {A : Type 0} (xs : List A) (x m : A) → Mem m (xs ++ (x ∷ [])) → (m ≡ x) ⊎ Mem m xs
+end_or_before [] x m (inl e) = inl e
+end_or_before [] x m (inr h) = absurd h
+end_or_before (y ∷ ys) x m (inl e) = inr (inl e)
+end_or_before (y ∷ ys) x m (inr h) = elim (end_or_before ys x m h) [ inl e ↦ inl e | inr a ↦ inr (inr a) ]

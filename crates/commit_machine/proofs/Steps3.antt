@@ -24,7 +24,8 @@ use Rattle.commit_machine.specs.Goes.{IsOf, loads, stages, stage_fails, publishe
 use Rattle.commit_machine.specs.Lawful.{standing, HasRight, IsSound, IsFresh}
 use Rattle.commit_machine.specs.Due.{settled_files, settled_locks, files_then, is_decision, applied}
 use Rattle.commit_machine.proofs.Inv.{Closing, Rest, Own, Clean, Idle, IsValid, Ours, ThenOk, AllDone, AllClear, Over, Ends, Subset, Covers, LocksLeft, Among, PartPlaced, Knows, IsOwnEnd}
-use Rattle.commit_machine.proofs.Same.{same_refl, same_true, same_false, same_or_not, put_here, put_there, has_Mem, Mem_has}
+use Rattle.commit_machine.proofs.Same.{same_refl, same_true, same_false, same_or_not, put_here, put_there, has_Mem, Mem_has, at_end, before_end, end_or_before}
+use Rattle.std.proofs.Common.{◌++◌}
 use Rattle.commit_machine.proofs.NameLemmas.{record-new, staged-one, staged-record, staged-new, lawful-staged}
 use Rattle.commit_machine.proofs.RecordLemmas.{stands-lawful, record_of-written, record_of-is, valid-lawful}
 use Rattle.commit_machine.proofs.Keep.{keep_new, keep_staged, keep_place, keep_erase, keep_prepare, renamed, renamed_to, renamed_from, renamed_other, record-staged, record_name-not}
@@ -111,14 +112,14 @@ module _ (j : Job) (job : IsJob j) (d : Disk) (files : Files) (owners : Locks) (
       sound = sound_lock j.actor d.files d.locks (with_at d.locks e.name (Some j.token)) (prepare_of j) k.0.closing.stands refl sound;
     }
 
-    lock_all : (m : List ℕ) → Mem m ls ⊎ ((x : Edit) × Mem x (e ∷ left) × (x.name ≡ m)) → Mem m (e.name ∷ ls) ⊎ ((x : Edit) × Mem x left × (x.name ≡ m))
-    lock_all m (inl h) = inl (inr h)
-    lock_all m (inr (x, inl p, is)) = inl (inl (sym is ∙ ap (λ (z : Edit). z.name) p))
+    lock_all : (m : List ℕ) → Mem m ls ⊎ ((x : Edit) × Mem x (e ∷ left) × (x.name ≡ m)) → Mem m (ls ++ (e.name ∷ [])) ⊎ ((x : Edit) × Mem x left × (x.name ≡ m))
+    lock_all m (inl h) = inl (before_end ls e.name m h)
+    lock_all m (inr (x, inl p, is)) = inl (at_end ls e.name m (sym is ∙ ap (λ (z : Edit). z.name) p))
     lock_all m (inr (x, inr h, is)) = inr (x, h, is)
 
-    lock_free : (m : List ℕ) → ((m ≡ e.name) × (bytes_eq m e.name ≡ true)) ⊎ ((m ≢ e.name) × (bytes_eq m e.name ≡ false)) → Mem m ls ⊎ (d.locks m ≢ Some j.token) → Mem m (e.name ∷ ls) ⊎ (with_at d.locks e.name (Some j.token) m ≢ Some j.token)
-    lock_free m (inl p) h = inl (inl p.0)
-    lock_free m (inr p) (inl a) = inl (inr a)
+    lock_free : (m : List ℕ) → ((m ≡ e.name) × (bytes_eq m e.name ≡ true)) ⊎ ((m ≢ e.name) × (bytes_eq m e.name ≡ false)) → Mem m ls ⊎ (d.locks m ≢ Some j.token) → Mem m (ls ++ (e.name ∷ [])) ⊎ (with_at d.locks e.name (Some j.token) m ≢ Some j.token)
+    lock_free m (inl p) h = inl (at_end ls e.name m p.0)
+    lock_free m (inr p) (inl a) = inl (before_end ls e.name m a)
     lock_free m (inr p) (inr b) = inr (free_after_lock d.locks e.name m j.token j.token p.0 b)
 
     lock_rest : (m : List ℕ) → ((m ≡ e.name) × (bytes_eq m e.name ≡ true)) ⊎ ((m ≢ e.name) × (bytes_eq m e.name ≡ false)) → Mem m (all_of j) ⊎ (d.locks m ≢ Some j.token) → Mem m (all_of j) ⊎ (with_at d.locks e.name (Some j.token) m ≢ Some j.token)
@@ -126,16 +127,17 @@ module _ (j : Job) (job : IsJob j) (d : Disk) (files : Files) (owners : Locks) (
     lock_rest m (inr p) (inl a) = inl a
     lock_rest m (inr p) (inr b) = inr (free_after_lock d.locks e.name m j.token j.token p.0 b)
 
-    lock_held : (m : List ℕ) → Mem m (e.name ∷ ls) → with_at d.locks e.name (Some j.token) m ≡ Some j.token
-    lock_held m (inl p) = ap (with_at d.locks e.name (Some j.token)) p ∙ put_here d.locks e.name (Some j.token)
-    lock_held m (inr h) = lock_stays d.locks e.name m j.token (k.0.locked m h)
+    lock_held : (m : List ℕ) → Mem m (ls ++ (e.name ∷ [])) → with_at d.locks e.name (Some j.token) m ≡ Some j.token
+    lock_held m h = elim (end_or_before ls e.name m h) [
+        inl p ↦ ap (with_at d.locks e.name (Some j.token)) p ∙ put_here d.locks e.name (Some j.token)
+      | inr a ↦ lock_stays d.locks e.name m j.token (k.0.locked m a)
+      ]
 
-    lock_back : (m : List ℕ) → Mem m (e.name ∷ ls) → Mem m (all_of j)
-    lock_back m (inl p) = subst (λ (z : List ℕ). Mem z (all_of j)) (sym p) lock_mem
-    lock_back m (inr h) = k.1.back m h
+    lock_back : (m : List ℕ) → Mem m (ls ++ (e.name ∷ [])) → Mem m (all_of j)
+    lock_back m h = elim (end_or_before ls e.name m h) [ inl p ↦ subst (λ (z : List ℕ). Mem z (all_of j)) (sym p) lock_mem | inr a ↦ k.1.back m a ]
 
-    lock_knows : Knows j (locking j (e.name ∷ ls) left) (after d (event.Lock e.name j.token true false))
-    lock_knows = knows_locking j (after d (event.Lock e.name j.token true false)) (e.name ∷ ls) left
+    lock_knows : Knows j (locking j (ls ++ (e.name ∷ [])) left) (after d (event.Lock e.name j.token true false))
+    lock_knows = knows_locking j (after d (event.Lock e.name j.token true false)) (ls ++ (e.name ∷ [])) left
         (record {
           closing = record { right = k.0.closing.right; stands = k.0.closing.stands; gone = k.0.closing.gone; free = λ m h. lock_free m (same_or_not m e.name) (k.0.closing.free m h) };
           rest = record { staged = k.0.rest.staged; locks = λ m. lock_rest m (same_or_not m e.name) (k.0.rest.locks m) };
@@ -157,17 +159,17 @@ module _ (j : Job) (job : IsJob j) (d : Disk) (files : Files) (owners : Locks) (
   module _ (made : List Made) (x : Edit) (left : List Edit) (k : Knows j (Loading made x left) d) where
     load_knows : (c : Option (List ℕ)) (v : Verdict) → d.files x.name ≡ c → x.by c ≡ v → Knows j (loaded j made x left c v) d
     load_knows c (Refuses why) is e = knows_refusing j d [] (all_of j) (Refused why) made made tt k.0 (record { each = λ m h. absurd h }) (record { each = λ m h. h })
-    load_knows c (Puts kind content) is e = knows_loading j d (record { edit = x; seen = c; kind = kind; content = content } ∷ made) left
+    load_knows c (Puts kind content) is e = knows_loading j d (made ++ (record { edit = x; seen = c; kind = kind; content = content } ∷ [])) left
         (record {
           closing = k.0.closing;
           rest = k.0.rest;
           locked = k.0.locked;
-          seen = λ y h. elim h [ inl p ↦ subst (λ (z : Made). d.files z.edit.name ≡ z.seen) (sym p) is | inr a ↦ k.0.seen y a ];
+          seen = λ y h. elim (end_or_before made (record { edit = x; seen = c; kind = kind; content = content }) y h) [ inl p ↦ subst (λ (z : Made). d.files z.edit.name ≡ z.seen) (sym p) is | inr a ↦ k.0.seen y a ];
           staged = λ y h. inl h;
         })
         (record {
-          each = λ y h. elim h [ inl p ↦ subst (λ (z : Made). Mem z.edit (edits_of j) × (z.edit.by z.seen ≡ Puts z.kind z.content)) (sym p) (k.1.within x (inl refl), e) | inr a ↦ k.1.each y a ];
-          all = λ z m. elim (k.1.all z m) [ inl a ↦ elim a [ inl p ↦ inr (record { edit = x; seen = c; kind = kind; content = content }, inl refl, sym p) | inr q ↦ inl q ] | inr w ↦ inr (w.0, inr w.1, w.2) ];
+          each = λ y h. elim (end_or_before made (record { edit = x; seen = c; kind = kind; content = content }) y h) [ inl p ↦ subst (λ (z : Made). Mem z.edit (edits_of j) × (z.edit.by z.seen ≡ Puts z.kind z.content)) (sym p) (k.1.within x (inl refl), e) | inr a ↦ k.1.each y a ];
+          all = λ z m. elim (k.1.all z m) [ inl a ↦ elim a [ inl p ↦ inr (record { edit = x; seen = c; kind = kind; content = content }, at_end made (record { edit = x; seen = c; kind = kind; content = content }) (record { edit = x; seen = c; kind = kind; content = content }) refl, sym p) | inr q ↦ inl q ] | inr w ↦ inr (w.0, before_end made (record { edit = x; seen = c; kind = kind; content = content }) w.0 w.1, w.2) ];
           within = λ z m. k.1.within z (inr m);
         })
 
@@ -197,9 +199,9 @@ module _ (j : Job) (job : IsJob j) (d : Disk) (files : Files) (owners : Locks) (
     still_there : (m : List ℕ) → m ≢ x.edit.name → with_at d.files (staged_name j.token x.edit.name) (Some x.content) (staged_name j.token m) ≡ d.files (staged_name j.token m)
     still_there m ne = put_there d.files (staged_name j.token x.edit.name) (staged_name j.token m) (Some x.content) (λ e. ne (staged-one j.token m x.edit.name e))
 
-    stage_gone : (m : List ℕ) → ((m ≡ x.edit.name) × (bytes_eq m x.edit.name ≡ true)) ⊎ ((m ≢ x.edit.name) × (bytes_eq m x.edit.name ≡ false)) → Mem m ns ⊎ (d.files (staged_name j.token m) ≡ None) → Mem m (x.edit.name ∷ ns) ⊎ (with_at d.files (staged_name j.token x.edit.name) (Some x.content) (staged_name j.token m) ≡ None)
-    stage_gone m (inl p) h = inl (inl p.0)
-    stage_gone m (inr p) (inl a) = inl (inr a)
+    stage_gone : (m : List ℕ) → ((m ≡ x.edit.name) × (bytes_eq m x.edit.name ≡ true)) ⊎ ((m ≢ x.edit.name) × (bytes_eq m x.edit.name ≡ false)) → Mem m ns ⊎ (d.files (staged_name j.token m) ≡ None) → Mem m (ns ++ (x.edit.name ∷ [])) ⊎ (with_at d.files (staged_name j.token x.edit.name) (Some x.content) (staged_name j.token m) ≡ None)
+    stage_gone m (inl p) h = inl (at_end ns x.edit.name m p.0)
+    stage_gone m (inr p) (inl a) = inl (before_end ns x.edit.name m a)
     stage_gone m (inr p) (inr b) = inr (still_there m p.0 ∙ b)
 
     stage_rest : (m : List ℕ) → ((m ≡ x.edit.name) × (bytes_eq m x.edit.name ≡ true)) ⊎ ((m ≢ x.edit.name) × (bytes_eq m x.edit.name ≡ false)) → Mem m (all_of j) ⊎ (d.files (staged_name j.token m) ≡ None) → Mem m (all_of j) ⊎ (with_at d.files (staged_name j.token x.edit.name) (Some x.content) (staged_name j.token m) ≡ None)
@@ -233,15 +235,14 @@ module _ (j : Job) (job : IsJob j) (d : Disk) (files : Files) (owners : Locks) (
         let law : is_lawful y.edit.name ≡ true = (valid-plain j job (stands-valid (d.files (record_name j.actor)) (prepare_of j) k.0.closing.stands).0 y.edit (k.1.each y h).0).1 in
         put_there d.files (staged_name j.token x.edit.name) y.edit.name (Some x.content) (lawful-staged y.edit.name j.token x.edit.name law) ∙ k.0.seen y h
 
-    stage_sub : (m : List ℕ) → Mem m (x.edit.name ∷ ns) → Mem m (all_of j)
-    stage_sub m (inl p) = subst (λ (z : List ℕ). Mem z (all_of j)) (sym p) staged_mem
-    stage_sub m (inr h) = k.2.each m h
+    stage_sub : (m : List ℕ) → Mem m (ns ++ (x.edit.name ∷ [])) → Mem m (all_of j)
+    stage_sub m h = elim (end_or_before ns x.edit.name m h) [ inl p ↦ subst (λ (z : List ℕ). Mem z (all_of j)) (sym p) staged_mem | inr a ↦ k.2.each m a ]
 
     stage_stands : standing j.actor (after d (event.Stage (staged_name j.token x.edit.name) (Some x.content) false)) ≡ Some (prepare_of j)
     stage_stands = ap record_in (put_there d.files (staged_name j.token x.edit.name) (record_name j.actor) (Some x.content) (record-staged j.token x.edit.name j.actor)) ∙ k.0.closing.stands
 
-    stage_knows : Knows j (staging (x.edit.name ∷ ns) made left) (after d (event.Stage (staged_name j.token x.edit.name) (Some x.content) false))
-    stage_knows = knows_staging j (after d (event.Stage (staged_name j.token x.edit.name) (Some x.content) false)) (x.edit.name ∷ ns) made left
+    stage_knows : Knows j (staging (ns ++ (x.edit.name ∷ [])) made left) (after d (event.Stage (staged_name j.token x.edit.name) (Some x.content) false))
+    stage_knows = knows_staging j (after d (event.Stage (staged_name j.token x.edit.name) (Some x.content) false)) (ns ++ (x.edit.name ∷ [])) made left
         (record {
           closing = record { right = k.0.closing.right; stands = stage_stands; gone = λ m h. stage_gone m (same_or_not m x.edit.name) (k.0.closing.gone m h); free = k.0.closing.free };
           rest = record { staged = λ m. stage_rest m (same_or_not m x.edit.name) (k.0.rest.staged m); locks = k.0.rest.locks };

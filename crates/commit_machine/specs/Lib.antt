@@ -7,3 +7,4 @@ pub mod Goes
 pub mod Lawful
 pub mod Due
 pub mod Laws
+pub mod Worked

@@ -1,5 +1,5 @@
 -- One machine for commit and recovery: the next disk call by the state, and the state after its answer.
-use Rattle.std.specs.Prelude.{ℕ, Bool, true, false, ◌&&◌, ◌==◌, List, [], ◌∷◌, Option, Some, None, if◌then◌else◌}
+use Rattle.std.specs.Prelude.{ℕ, Bool, true, false, ◌&&◌, ◌==◌, List, [], ◌∷◌, ◌++◌, Option, Some, None, if◌then◌else◌}
 use Rattle.commit_record.specs.Format.{written}
 use Rattle.commit_record.specs.declared.record.EntryKind.{EntryKind}
 use Rattle.commit_record.specs.declared.record.EntryKind.TheVariants.{Replace}
@@ -111,7 +111,7 @@ refusing j ns ls why = undoing (prepare_of j) ns ls (Answer why)
 
 abbrev pub loaded : Job → List Made → Edit → List Edit → Option (List ℕ) → Verdict → State
 loaded j done e left seen (Refuses why) = refusing j [] (all_of j) (Refused why)
-loaded j done e left seen (Puts kind content) = loading (record { edit = e; seen = seen; kind = kind; content = content } ∷ done) left
+loaded j done e left seen (Puts kind content) = loading (done ++ (record { edit = e; seen = seen; kind = kind; content = content } ∷ [])) left
 
 -- the next call; none at the end
 abbrev pub next : Job → State → Option Call
@@ -180,9 +180,9 @@ went_on j (Clearing found) b = mended j.edits found
 went_on j Preparing b = Publishing
 went_on j Publishing true = locking j [] (edits_of j)
 went_on j Publishing false = Releasing (Refused NotARecord)
-went_on j (Locking ls e left) true = locking j (e.name ∷ ls) left
+went_on j (Locking ls e left) true = locking j (ls ++ (e.name ∷ [])) left
 went_on j (Locking ls e left) false = refusing j [] ls (Refused (Busy e.name))
-went_on j (Staging ns done x left) b = staging (x.edit.name ∷ ns) done left
+went_on j (Staging ns done x left) b = staging (ns ++ (x.edit.name ∷ [])) done left
 went_on j (Deciding done) b = Committing done
 went_on j (Committing done) true = placing (go_of j done) (all_of j) (all_of j) (Answer Done)
 went_on j (Committing done) false = Releasing (Refused NotARecord)

@@ -1,4 +1,5 @@
 ghost use Rattle.commit_machine.specs.Laws.{CrashSafe, FrontIsRun, StopSafe, OnlyDecisions, DecisionsApply, NothingLeft, NoRecordStands, RecoverySettles};
+ghost use Rattle.commit_machine.specs.Worked.{AloneGoes, WorkedRuns};
 
 /// At every moment of a commit or a recovery, whatever others lawfully do meanwhile, what recovery
 /// would make of the files is what the accepted edits give, what it would leave of the locks are those
@@ -40,4 +41,15 @@ pub fn no_record_stands()
 /// When a recovery that is done gives up its right the disk is its own settled disk.
 pub fn recovery_settles()
     ensures { RecoverySettles }
+{}
+
+/// The events that the machine makes where each call is carried out are a run's.
+pub fn alone_goes()
+    ensures { AloneGoes }
+{}
+
+/// A commit of one file has thirteen events, the ninth the decision, and one of two files eighteen.
+/// A recovery carries out a record that was decided, and undoes one that wasn't.
+pub fn worked_runs()
+    ensures { WorkedRuns }
 {}

@@ -4,6 +4,6 @@
 mod laws;
 
 pub use laws::{
-    crash_safe, decisions_apply, front_is_run, no_record_stands, nothing_left, only_decisions,
-    recovery_settles, stop_safe,
+    alone_goes, crash_safe, decisions_apply, front_is_run, no_record_stands, nothing_left,
+    only_decisions, recovery_settles, stop_safe, worked_runs,
 };
