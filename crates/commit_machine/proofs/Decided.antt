@@ -1,20 +1,19 @@
 -- At the decision the settled files become those of the edits.
-use Rattle.std.proofs.Common.{◌≡◌, ◌≢◌, ◌⊎◌, ℕ, Bool, true, false, ◌&&◌, ◌||◌, List, [], ◌∷◌, map, Option, Some, None, is_some, if◌then◌else◌, refl, ap, sym, subst, inl, inr, ◌∙◌, arith}
-use Rattle.std.proofs.lemmas.Bool.{and_parts, cases_Bool}
+use Rattle.std.proofs.Common.{◌≡◌, ◌≢◌, ℕ, true, false, ◌&&◌, ◌||◌, List, [], ◌∷◌, Option, Some, None, if◌then◌else◌, refl, ap, sym, subst, inl, inr, ◌∙◌, arith}
+use Rattle.std.proofs.lemmas.Bool.{cases_Bool}
 use Rattle.std.proofs.lemmas.Grind.{common_steps}
 use Rattle.std.specs.List.{list_any}
 use Rattle.std.specs.Str.{bytes_eq}
-use Rattle.host_port.specs.Disk.{with_at}
 use Rattle.commit_record.specs.Names.{is_lawful}
 use Rattle.commit_record.specs.declared.record.Record.{Record}
 use Rattle.commit_machine.specs.Names.{record_name, new_name, staged_name, is_record_name}
 use Rattle.commit_machine.specs.Records.{record_in, is_go, names_of, kind_of, has}
-use Rattle.commit_machine.specs.Settled.{Files, Locks, Mem, hides, is_staged_of, placed, put_in, settled}
+use Rattle.commit_machine.specs.Settled.{Files, Mem, hides, is_staged_of, placed, put_in, settled}
 use Rattle.commit_machine.specs.Jobs.{Edit, all_names, outcome_of}
 use Rattle.commit_machine.specs.Due.{applied}
-use Rattle.commit_machine.proofs.Same.{same_refl, same_true, same_false, same_or_not, put_here, put_there, has_Mem, Mem_has}
-use Rattle.commit_machine.proofs.NameLemmas.{record-new, staged-one, staged-record, staged-new, lawful-staged}
-use Rattle.commit_machine.proofs.Keep.{renamed, renamed_to, renamed_from, renamed_other, record-staged, settled_at, any_staged, shown, IsShown, placed-in, placed-out, placed-prepare, record_name-not}
+use Rattle.commit_machine.proofs.Same.{same_refl, same_false, has_Mem, Mem_has}
+use Rattle.commit_machine.proofs.NameLemmas.{staged-record, staged-new, lawful-staged}
+use Rattle.commit_machine.proofs.Keep.{renamed, renamed_to, renamed_other, settled_at, any_staged, shown, placed-in, placed-out, placed-prepare, record_name-not}
 
 -- each name once
 abbrev pub IsDistinct : List Edit → Type 0
@@ -85,6 +84,7 @@ module _ (actor : List ℕ) (f : Files) where
     where
       hidden : hides actor (Some g) n ≡ true → (if hides actor (Some g) n then None else placed (Some g) (renamed f (new_name actor) (record_name actor)) n) ≡ (if hides actor (Some q) n then None else placed (Some q) f n)
       hidden y = let z : hides actor (Some q) n ≡ true = same_hides q g n t ns ∙ y in rw (y, z) refl
+
       seen : hides actor (Some g) n ≡ false → (if hides actor (Some g) n then None else placed (Some g) (renamed f (new_name actor) (record_name actor)) n) ≡ (if hides actor (Some q) n then None else placed (Some q) f n)
       seen nay =
           let z : hides actor (Some q) n ≡ false = same_hides q g n t ns ∙ nay in

@@ -1,36 +1,19 @@
 -- What holds when a job gives up its right.
-use Rattle.std.proofs.Common.{◌≡◌, ◌≢◌, ◌⊎◌, ℕ, Bool, true, false, ◌&&◌, ◌==◌, List, [], ◌∷◌, map, length, Option, Some, None, is_some, is_none, if◌then◌else◌, refl, ap, sym, subst, inl, inr, ◌∙◌, arith}
-use Rattle.std.proofs.lemmas.Bool.{cases_Bool, eqb-true, and_parts}
-use Rattle.std.proofs.lemmas.Grind.{common_steps}
+use Rattle.std.proofs.Common.{◌≡◌, ◌⊎◌, ℕ, Bool, true, false, List, [], ◌∷◌, Option, Some, None, refl, ap, sym, subst, inl, inr, ◌∙◌}
+use Rattle.std.proofs.lemmas.Bool.{cases_Bool}
 use Rattle.std.specs.Str.{bytes_eq}
-use Rattle.commit_record.specs.Format.{written, IsWritten, is_valid}
-use Rattle.commit_record.specs.Names.{is_lawful}
-use Rattle.commit_record.specs.declared.record.EntryKind.{EntryKind}
-use Rattle.commit_record.specs.declared.record.EntryKind.TheVariants.{Replace}
-use Rattle.commit_record.specs.declared.record.Entry.{Entry}
-use Rattle.commit_record.specs.declared.record.Record.{Record}
 use Rattle.host_port.specs.declared.event.Event.{Event}
 use Rattle.host_port.specs.declared.event.Event.TheVariants as event
-use Rattle.host_port.specs.declared.event.Seen.TheVariants as seen
-use Rattle.host_port.specs.Disk.{Disk, with_at, after, without_own}
-use Rattle.host_port.specs.Ends.{is_owner}
-use Rattle.host_port.specs.Ran.{Agrees}
-use Rattle.commit_machine.specs.Names.{record_name, new_name, right_name, staged_name, is_record_name}
-use Rattle.commit_machine.specs.Records.{record_in, is_go, names_of, kind_of, kind_in}
-use Rattle.commit_machine.specs.Settled.{Files, Locks, Mem, put_in, IsSoundAt}
-use Rattle.commit_machine.specs.Jobs.{Ending, Done, Recovered, Refused, Failed, NoMemory, Found, Refusal, Busy, TooLarge, Verdict, Puts, Refuses, Edit, Job, Made, IsJob, edits_of, all_names, all_of, entries_for, prepare_of, go_of, made_at, kind_made, file_after, outcome_of}
-use Rattle.commit_machine.specs.Machine.{Then, GoOn, Answer, State, Seizing, Looking, Undoing, Placing, Unlocking, Erasing, Clearing, Preparing, Publishing, Locking, Loading, Staging, Deciding, Committing, Checking, Releasing, Ended, Call, ToLoad, ToStage, ToPublish, ToErase, ToLock, ToUnlock, ToSeize, ToRelease, after_reply, undoing, placing, unlocking, locking, loaded, loading, staging, refusing}
-use Rattle.commit_machine.specs.Goes.{IsOf, loads, stages, stage_fails, publishes, erases, locks, unlocks, seizes, releases, reply}
-use Rattle.commit_machine.specs.Lawful.{standing, HasRight, IsSound, IsFresh}
-use Rattle.commit_machine.specs.Due.{settled_files, settled_locks, files_then, is_decision, applied}
-use Rattle.commit_machine.proofs.Inv.{Closing, Rest, Own, Clean, Idle, IsValid, Ours, ThenOk, AllDone, AllClear, Over, Ends, Subset, Covers, LocksLeft, Among, PartPlaced, Knows, IsOwnEnd}
-use Rattle.commit_machine.proofs.Same.{same_refl, same_true, same_false, same_or_not, put_here, put_there, has_Mem, Mem_has}
-use Rattle.commit_machine.proofs.NameLemmas.{record-new, staged-one, staged-record, staged-new, lawful-staged}
-use Rattle.commit_machine.proofs.RecordLemmas.{stands-lawful, record_of-written, record_of-is, valid-lawful}
-use Rattle.commit_machine.proofs.Keep.{keep_new, keep_staged, keep_place, keep_erase, keep_prepare, renamed, renamed_to, renamed_from, renamed_other, record-staged, record_name-not}
-use Rattle.commit_machine.proofs.Sound.{sound_new, sound_staged, sound_erase, sound_place, sound_unlock, sound_lock, lock_same, lock_erase, lock_own, lock_prepare, lock_commit}
-use Rattle.commit_machine.proofs.Decided.{IsDistinct, named, names_Mem, decided}
-use Rattle.commit_machine.proofs.States.{names-entries_for, names-prepare, to_prepare, knows_unlocking, knows_placing, knows_undoing, knows_refusing, knows_staging, knows_loading, knows_locking, knows_looked, knows_wanted, knows_mended}
+use Rattle.host_port.specs.Disk.{Disk, after}
+use Rattle.commit_machine.specs.Names.{record_name, new_name, right_name, is_record_name}
+use Rattle.commit_machine.specs.Records.{record_in}
+use Rattle.commit_machine.specs.Settled.{Files, Locks}
+use Rattle.commit_machine.specs.Jobs.{Ending, Done, Recovered, Refused, Failed, NoMemory, Job}
+use Rattle.commit_machine.specs.Machine.{State, Seizing, Releasing, Ended, Call, ToLoad, ToStage, ToPublish, ToErase, ToLock, ToUnlock, ToSeize, ToRelease, after_reply}
+use Rattle.commit_machine.specs.Goes.{IsOf, releases, reply}
+use Rattle.commit_machine.specs.Due.{settled_files, settled_locks}
+use Rattle.commit_machine.proofs.Inv.{Ends, Knows}
+use Rattle.commit_machine.proofs.Same.{same_true}
 use Rattle.std.proofs.Common.{◌++◌}
 use Rattle.host_port.specs.Disk.{disk}
 use Rattle.host_port.specs.Own.{own}
@@ -44,7 +27,6 @@ use Rattle.commit_machine.proofs.Keep.{settled_at}
 use Rattle.commit_machine.proofs.RunLemmas.{run_safe, known_now}
 use Rattle.commit_machine.specs.Settled.{unlocked}
 use Rattle.commit_machine.specs.Machine.{Went}
-use Rattle.std.proofs.Common.{◌||◌}
 use Rattle.std.proofs.lemmas.Bool.{or_cases}
 
 abbrev is_release : Option Call → Bool
@@ -132,9 +114,9 @@ clear_files actor f n none no_new =
   where
     hidden : is_record_name actor n ≡ true → None ≡ f n
     hidden y = elim (or_cases (bytes_eq n (record_name actor)) (bytes_eq n (new_name actor)) y) [
-        inl e ↦ sym (ap f (same_true n (record_name actor) e) ∙ none)
+      | inl e ↦ sym (ap f (same_true n (record_name actor) e) ∙ none)
       | inr e ↦ sym (ap f (same_true n (new_name actor) e) ∙ no_new)
-      ]
+    ]
 
 clear_locks : (actor : List ℕ) (f : Files) (l : Locks) (n : List ℕ) → f (record_name actor) ≡ None → settled_lock actor f l n ≡ l n
 clear_locks actor f l n none = ap (λ (c : Option (List ℕ)). unlocked (record_in c) n (l n)) none

@@ -1,5 +1,5 @@
 -- What a run knows of the disk at each state.
-use Rattle.std.proofs.Common.{◌≡◌, ◌≢◌, ◌⊎◌, ℕ, Bool, true, false, List, [], ◌∷◌, Option, Some, None}
+use Rattle.std.proofs.Common.{◌≡◌, ◌≢◌, ◌⊎◌, ℕ, true, false, List, [], ◌∷◌, Option, Some, None}
 use Rattle.commit_record.specs.Format.{written, IsWritten}
 use Rattle.commit_record.specs.declared.record.Record.{Record}
 use Rattle.host_port.specs.Disk.{Disk}

@@ -1,7 +1,6 @@
 -- What each kind of change keeps of the settled files, name by name.
-use Rattle.std.proofs.Common.{◌≡◌, ◌≢◌, ◌⊎◌, ℕ, Bool, true, false, ◌&&◌, ◌||◌, ◌==◌, List, [], ◌∷◌, Option, Some, None, is_some, if◌then◌else◌, refl, ap, sym, subst, inl, inr, ◌∙◌, arith}
+use Rattle.std.proofs.Common.{◌≡◌, ◌≢◌, ◌⊎◌, ℕ, Bool, true, false, ◌&&◌, ◌||◌, List, [], ◌∷◌, Option, Some, None, is_some, if◌then◌else◌, refl, ap, sym, subst, inl, inr, ◌∙◌}
 use Rattle.std.proofs.lemmas.Bool.{and_parts, cases_Bool, or_left, or_right}
-use Rattle.std.proofs.lemmas.Grind.{common_steps}
 use Rattle.std.specs.List.{list_any}
 use Rattle.std.specs.Str.{bytes_eq}
 use Rattle.host_port.specs.Disk.{with_at}
@@ -11,8 +10,8 @@ use Rattle.commit_record.specs.declared.record.EntryKind.TheVariants.{Replace}
 use Rattle.commit_record.specs.declared.record.Record.{Record}
 use Rattle.commit_machine.specs.Names.{record_name, new_name, staged_name, is_record_name}
 use Rattle.commit_machine.specs.Records.{record_in, is_go, names_of, kind_of, has}
-use Rattle.commit_machine.specs.Settled.{Files, Locks, Mem, hides, is_staged_of, placed, put_in, settled, owned_by, unlocked, settled_lock}
-use Rattle.commit_machine.proofs.Same.{same_refl, same_true, same_false, same_or_not, put_here, put_there, has_Mem, Mem_has}
+use Rattle.commit_machine.specs.Settled.{Files, Mem, hides, is_staged_of, placed, put_in, settled}
+use Rattle.commit_machine.proofs.Same.{same_refl, same_true, same_or_not, put_here, put_there, has_Mem, Mem_has}
 use Rattle.commit_machine.proofs.NameLemmas.{record-new, staged-one, staged-record, staged-new, lawful-staged}
 
 -- a name that isn't left out
@@ -52,10 +51,10 @@ shown actor (Some q) n h =
       not_record = (record_name-not actor n p.0).0;
       not_new = (record_name-not actor n p.0).1;
       not_staged = λ r m e mem is.
-        let same : q ≡ r = cc in
-        let w : is_staged_of r n ≡ true = staged_any r.token n m (names_of r) mem is in
-        let v : is_staged_of r n ≡ false = subst (λ (z : Record). is_staged_of z n ≡ false) same p.1 in
-        absurd (cc);
+          let same : q ≡ r = cc in
+          let w : is_staged_of r n ≡ true = staged_any r.token n m (names_of r) mem is in
+          let v : is_staged_of r n ≡ false = subst (λ (z : Record). is_staged_of z n ≡ false) same p.1 in
+          absurd (cc);
     }
 
 pub settled_at : (actor : List ℕ) (f : Files) (n : List ℕ) (o : Option Record) → record_in (f (record_name actor)) ≡ o → settled actor f n ≡ if hides actor o n then None else placed o f n
@@ -131,8 +130,10 @@ keep_place actor f r m n e go mem plain law stands = same_settled actor f g n (S
   where
     staged : List ℕ
     staged = staged_name r.token m
+
     g : Files
     g = renamed f (staged_name r.token m) m
+
     put : IsShown actor (Some r) n → ((n ≡ m) × (bytes_eq n m ≡ true)) ⊎ ((n ≢ m) × (bytes_eq n m ≡ false)) → placed (Some r) g n ≡ placed (Some r) f n
     put s (inl p) =
         let h : has (names_of r) n ≡ true = Mem_has (names_of r) n (subst (λ (z : List ℕ). Mem z (names_of r)) (sym p.0) mem) in
@@ -146,9 +147,9 @@ keep_place actor f r m n e go mem plain law stands = same_settled actor f g n (S
         ∙ sym (placed-in r f n go h)
     put s (inr p) = placed_same (Some r) f g n (renamed_other f (staged_name r.token m) m n (s.not_staged r m refl mem) p.0)
         (λ q e2 go2 mem2.
-          let same : r ≡ q = cc in
-          subst (λ (z : Record). g (staged_name z.token n) ≡ f (staged_name z.token n)) same
-          (renamed_other f (staged_name r.token m) m (staged_name r.token n) (λ w. p.0 (staged-one r.token n m w)) (λ w. lawful-staged m r.token n law (sym w))))
+        let same : r ≡ q = cc in
+        subst (λ (z : Record). g (staged_name z.token n) ≡ f (staged_name z.token n)) same
+        (renamed_other f (staged_name r.token m) m (staged_name r.token n) (λ w. p.0 (staged-one r.token n m w)) (λ w. lawful-staged m r.token n law (sym w))))
 
 -- the record is erased once nothing is left to do
 pub keep_erase : (actor : List ℕ) (f : Files) (r : Record) (n : List ℕ) → record_in (f (record_name actor)) ≡ Some r → ((m : List ℕ) → Mem m (names_of r) → f (staged_name r.token m) ≡ None) → settled actor (with_at f (record_name actor) None) n ≡ settled actor f n
@@ -159,20 +160,24 @@ keep_erase actor f r n e gone =
   where
     g : Files
     g = with_at f (record_name actor) None
+
     hidden : is_record_name actor n ≡ true → (if is_record_name actor n then None else g n) ≡ (if is_record_name actor n || is_staged_of r n then None else placed (Some r) f n)
     hidden y = rw y refl
+
     still : is_record_name actor n ≡ false → g n ≡ f n
     still nay = put_there f (record_name actor) n None (record_name-not actor n nay).0
+
     placed_gone : placed (Some r) f n ≡ f n
     placed_gone = elim (cases_Bool (is_go r && has (names_of r) n)) [
-        inl y ↦ (let p = and_parts (is_go r) (has (names_of r) n) y in placed-in r f n p.0 p.1 ∙ ap (put_in (kind_of r n) (f n)) (gone n (has_Mem (names_of r) n p.1)))
+      | inl y ↦ (let p = and_parts (is_go r) (has (names_of r) n) y in placed-in r f n p.0 p.1 ∙ ap (put_in (kind_of r n) (f n)) (gone n (has_Mem (names_of r) n p.1)))
       | inr nay ↦ placed-out r f n nay
-      ]
+    ]
+
     seen : is_record_name actor n ≡ false → (if is_record_name actor n then None else g n) ≡ (if is_record_name actor n || is_staged_of r n then None else placed (Some r) f n)
     seen nay = rw nay (elim (cases_Bool (is_staged_of r n)) [
-        inl y ↦ (let w = any_staged r.token n (names_of r) y in rw y (still nay ∙ ap f w.2 ∙ gone w.0 w.1))
+      | inl y ↦ (let w = any_staged r.token n (names_of r) y in rw y (still nay ∙ ap f w.2 ∙ gone w.0 w.1))
       | inr no2 ↦ rw no2 (still nay ∙ sym placed_gone)
-      ])
+    ])
 
 -- a Prepare record takes its place where none stood
 pub keep_prepare : (actor : List ℕ) (f : Files) (r : Record) (n : List ℕ) → record_in (f (record_name actor)) ≡ None → is_go r ≡ false → record_in (f (new_name actor)) ≡ Some r → ((m : List ℕ) → f (staged_name r.token m) ≡ None) → settled actor (renamed f (new_name actor) (record_name actor)) n ≡ settled actor f n
@@ -183,10 +188,12 @@ keep_prepare actor f r n e go new fresh =
   where
     g : Files
     g = renamed f (new_name actor) (record_name actor)
+
     still : is_record_name actor n ≡ false → g n ≡ f n
     still nay = let p = record_name-not actor n nay in renamed_other f (new_name actor) (record_name actor) n p.1 p.0
+
     seen : is_record_name actor n ≡ false → (if is_record_name actor n || is_staged_of r n then None else placed (Some r) g n) ≡ (if is_record_name actor n then None else f n)
     seen nay = rw nay (elim (cases_Bool (is_staged_of r n)) [
-        inl y ↦ (let w = any_staged r.token n (names_of r) y in rw y (sym (ap f w.2 ∙ fresh w.0)))
+      | inl y ↦ (let w = any_staged r.token n (names_of r) y in rw y (sym (ap f w.2 ∙ fresh w.0)))
       | inr no2 ↦ rw no2 (placed-prepare r g n go ∙ still nay)
-      ])
+    ])

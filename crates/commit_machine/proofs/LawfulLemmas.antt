@@ -1,6 +1,5 @@
 -- A lawful step of others keeps what the run knows.
-use Rattle.std.proofs.Common.{◌≡◌, ◌≢◌, ◌⊎◌, ℕ, Bool, true, false, ◌==◌, List, [], ◌∷◌, Option, Some, None, if◌then◌else◌, refl, ap, sym, subst, inl, inr, ◌∙◌, arith}
-use Rattle.std.proofs.lemmas.Grind.{common_steps}
+use Rattle.std.proofs.Common.{◌≡◌, ◌≢◌, ℕ, Bool, true, ◌==◌, List, Option, Some, None, if◌then◌else◌, refl, ap, sym, subst, inl, inr, ◌∙◌}
 use Rattle.std.proofs.lemmas.Bool.{cases_Bool, eqb-true}
 use Rattle.commit_record.specs.declared.record.Record.{Record}
 use Rattle.host_port.specs.declared.event.ForeignStep.{ForeignStep}
@@ -12,13 +11,13 @@ use Rattle.commit_machine.specs.Names.{record_name, right_name, staged_name, is_
 use Rattle.commit_machine.specs.Records.{record_in}
 use Rattle.commit_machine.specs.Lawful.{standing, HasRight, IsGuarded, IsLawful, IsLawfulWrite}
 use Rattle.commit_machine.proofs.Inv.{Keeps}
-use Rattle.commit_machine.proofs.Same.{same_refl, same_true, same_false, same_or_not, put_here, put_there}
+use Rattle.commit_machine.proofs.Same.{same_refl, same_or_not, put_here, put_there}
 
 held_here : (rights : List ℕ → Option Holder) (n m : List ℕ) (v : Option Holder) → rights m ≡ Some Own → (rights n ≡ Some Own → v ≡ Some Own) → with_at rights n v m ≡ Some Own
 held_here rights n m v h stays = elim (same_or_not m n) [
-    inl p ↦ ap (with_at rights n v) p.0 ∙ put_here rights n v ∙ stays (ap rights (sym p.0) ∙ h)
+  | inl p ↦ ap (with_at rights n v) p.0 ∙ put_here rights n v ∙ stays (ap rights (sym p.0) ∙ h)
   | inr p ↦ put_there rights n m v p.0 ∙ h
-  ]
+]
 
 keeps_right : (actor : List ℕ) (d : Disk) (f : ForeignStep) → HasRight actor d → HasRight actor (after_step d f)
 keeps_right actor d (Write n b) h = h
@@ -73,9 +72,9 @@ module _ (actor : List ℕ) (t : ℕ) (d : Disk) where
 
   at_lock : (P : Option ℕ → Type 0) (n m : List ℕ) (v : Option ℕ) → P (d.locks m) → (P (d.locks n) → P v) → P (with_at d.locks n v m)
   at_lock P n m v h stays = elim (same_or_not m n) [
-      inl p ↦ subst P (sym (ap (with_at d.locks n v) p.0 ∙ put_here d.locks n v)) (stays (subst (λ (z : List ℕ). P (d.locks z)) p.0 h))
+    | inl p ↦ subst P (sym (ap (with_at d.locks n v) p.0 ∙ put_here d.locks n v)) (stays (subst (λ (z : List ℕ). P (d.locks z)) p.0 h))
     | inr p ↦ subst P (sym (put_there d.locks n m v p.0)) h
-    ]
+  ]
 
   keeps_lock : (f : ForeignStep) (u : ℕ) (m : List ℕ) → IsLawful actor t d f → IsGuarded actor t d u → d.locks m ≡ Some u → (after_step d f).locks m ≡ Some u
   keeps_lock (Write n b) u m law g h = h
@@ -109,9 +108,9 @@ module _ (actor : List ℕ) (t : ℕ) (d : Disk) where
 
   write_fresh : (n : List ℕ) (c : Option (List ℕ)) (r : Record) → IsLawfulWrite actor t d n c → (standing actor d ≡ Some r → r.token ≢ t) → record_in (with_at d.files n c (record_name actor)) ≡ Some r → r.token ≢ t
   write_fresh n c r law h e = elim (same_or_not (record_name actor) n) [
-      inl p ↦ law.fresh r (subst (λ (z : List ℕ). is_record_name actor z ≡ true) p.0 is_record) (sym (ap record_in (ap (with_at d.files n c) p.0 ∙ put_here d.files n c)) ∙ e)
+    | inl p ↦ law.fresh r (subst (λ (z : List ℕ). is_record_name actor z ≡ true) p.0 is_record) (sym (ap record_in (ap (with_at d.files n c) p.0 ∙ put_here d.files n c)) ∙ e)
     | inr p ↦ h (sym (ap record_in (put_there d.files n (record_name actor) c p.0)) ∙ e)
-    ]
+  ]
 
   -- no step makes a record of this token
   keeps_fresh : (f : ForeignStep) (r : Record) → IsLawful actor t d f → (standing actor d ≡ Some r → r.token ≢ t) → standing actor (after_step d f) ≡ Some r → r.token ≢ t

@@ -1,17 +1,15 @@
 -- Names of records, staged names and names of files are apart.
-use Rattle.std.proofs.Common.{◌≡◌, ◌≢◌, ◌⊎◌, ℕ, ◌+◌, ◌-◌, ◌<◌, ◌/◌, ◌%◌, zero, suc, Bool, true, false, not, ◌&&◌, ◌||◌, ◌==◌, nat_le, List, [], ◌∷◌, ◌++◌, length, take, drop, codes, slice_index, Option, if◌then◌else◌, refl, ap, sym, subst, inl, inr, ◌∙◌, arith, append_assoc, length-append}
+use Rattle.std.proofs.Common.{◌≡◌, ◌≢◌, ℕ, ◌-◌, ◌<◌, ◌/◌, ◌%◌, zero, suc, Bool, true, false, ◌&&◌, List, [], ◌∷◌, ◌++◌, length, drop, codes, slice_index, refl, ap, sym, subst, arith, length-append}
 use Rattle.std.proofs.lemmas.Bool.{and_parts}
 use Rattle.std.proofs.lemmas.Grind.{common_steps}
 use Rattle.std.proofs.lemmas.List.{drop_at}
 use Rattle.std.specs.List.{list_all}
 use Rattle.std.specs.Int.{to_be_bytes, w64, bytes_high_first, byte_at}
-use Rattle.std.specs.Str.{bytes_eq}
 use Rattle.hex.specs.Hex.{encode_with, lower_digits}
 use Rattle.hex.proofs.HexLemmas.{length-encode_with}
 use Rattle.commit_record.specs.Format.{token_digits}
 use Rattle.commit_record.specs.Names.{is_lawful, is_staged_end, is_lower_hex}
-use Rattle.commit_machine.specs.Names.{record_name, new_name, right_name, staged_name, is_record_name}
-use Rattle.commit_machine.proofs.Same.{same_refl, same_true, same_false}
+use Rattle.commit_machine.specs.Names.{record_name, new_name, staged_name}
 
 -- what stands behind two equal fronts is equal, and the other way round
 behind : (a b c : List ℕ) → a ++ b ≡ a ++ c → b ≡ c

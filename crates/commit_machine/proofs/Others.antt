@@ -1,16 +1,16 @@
 -- A change by others keeps what the run knows at each state.
-use Rattle.std.proofs.Common.{◌≡◌, ◌≢◌, ◌⊎◌, ℕ, Bool, true, false, List, [], ◌∷◌, Option, Some, None, refl, ap, sym, subst, inl, inr, ◌∙◌, arith}
+use Rattle.std.proofs.Common.{◌≡◌, ℕ, true, List, [], ◌∷◌, Option, Some, None, refl, ap, inl, inr, ◌∙◌}
 use Rattle.commit_record.specs.Format.{written}
 use Rattle.commit_record.specs.declared.record.Record.{Record}
 use Rattle.host_port.specs.Disk.{Disk}
-use Rattle.commit_machine.specs.Names.{record_name, new_name, staged_name, is_record_name}
-use Rattle.commit_machine.specs.Records.{record_in, is_go, names_of}
+use Rattle.commit_machine.specs.Names.{record_name, new_name, is_record_name}
+use Rattle.commit_machine.specs.Records.{record_in}
 use Rattle.commit_machine.specs.Settled.{Mem}
-use Rattle.commit_machine.specs.Jobs.{Ending, Done, Recovered, Refused, Failed, NoMemory, Edit, Job, Made, edits_of, all_of, prepare_of, go_of}
+use Rattle.commit_machine.specs.Jobs.{Ending, Done, Recovered, Refused, Failed, NoMemory, Job, Made, edits_of, all_of, prepare_of}
 use Rattle.commit_machine.specs.Machine.{Then, GoOn, Answer, State, Seizing, Looking, Undoing, Placing, Unlocking, Erasing, Clearing, Preparing, Publishing, Locking, Loading, Staging, Deciding, Committing, Checking, Releasing, Ended}
-use Rattle.commit_machine.specs.Lawful.{standing, HasRight, IsGuarded, IsFresh}
+use Rattle.commit_machine.specs.Lawful.{HasRight, IsGuarded, IsFresh}
 use Rattle.commit_machine.proofs.Decided.{names_Mem}
-use Rattle.commit_machine.proofs.Inv.{Closing, Rest, Own, Clean, Idle, Ours, ThenOk, AllDone, AllClear, Over, Ends, PartPlaced, Keeps, Knows}
+use Rattle.commit_machine.proofs.Inv.{Closing, Rest, Own, Clean, Idle, ThenOk, AllDone, Over, Ends, PartPlaced, Keeps, Knows}
 use Rattle.commit_machine.proofs.Same.{same_refl}
 use Rattle.std.proofs.lemmas.Bool.{or_left, or_right}
 

@@ -1,17 +1,16 @@
 -- What each kind of change keeps sound, and of the settled locks.
-use Rattle.std.proofs.Common.{◌≡◌, ◌≢◌, ◌⊎◌, ℕ, Bool, true, false, ◌&&◌, ◌||◌, ◌==◌, List, [], ◌∷◌, Option, Some, None, is_some, is_none, if◌then◌else◌, refl, ap, sym, subst, inl, inr, ◌∙◌, arith}
-use Rattle.std.proofs.lemmas.Bool.{and_parts, cases_Bool, or_left, or_right, eqb-true}
+use Rattle.std.proofs.Common.{◌≡◌, ◌≢◌, ◌⊎◌, ℕ, true, false, ◌&&◌, List, Option, Some, None, is_some, if◌then◌else◌, refl, ap, sym, subst, inl, inr, ◌∙◌, arith}
+use Rattle.std.proofs.lemmas.Bool.{and_parts, cases_Bool, eqb-true}
 use Rattle.std.proofs.lemmas.Grind.{common_steps}
-use Rattle.std.specs.Str.{bytes_eq}
 use Rattle.host_port.specs.Disk.{with_at}
 use Rattle.commit_record.specs.Names.{is_lawful}
 use Rattle.commit_record.specs.declared.record.Record.{Record}
-use Rattle.commit_machine.specs.Names.{record_name, new_name, staged_name, is_record_name}
-use Rattle.commit_machine.specs.Records.{record_in, is_go, names_of, kind_of, has}
+use Rattle.commit_machine.specs.Names.{record_name, new_name, staged_name}
+use Rattle.commit_machine.specs.Records.{record_in, is_go, names_of, has}
 use Rattle.commit_machine.specs.Settled.{Files, Locks, Mem, owned_by, unlocked, settled_lock, IsSoundAt}
-use Rattle.commit_machine.proofs.Same.{same_refl, same_true, same_false, same_or_not, put_here, put_there, has_Mem, Mem_has}
-use Rattle.commit_machine.proofs.NameLemmas.{record-new, staged-one, staged-record, staged-new, lawful-staged}
-use Rattle.commit_machine.proofs.Keep.{renamed, renamed_to, renamed_from, renamed_other, record-staged}
+use Rattle.commit_machine.proofs.Same.{same_or_not, put_here, put_there, has_Mem, Mem_has}
+use Rattle.commit_machine.proofs.NameLemmas.{record-new, staged-new, lawful-staged}
+use Rattle.commit_machine.proofs.Keep.{renamed, renamed_to, renamed_other, record-staged}
 
 -- where the record stays, no staged file comes, and the locks of staged files stay
 pub sound_same : (actor : List ℕ) (f g : Files) (l k : Locks) → g (record_name actor) ≡ f (record_name actor)
@@ -43,9 +42,9 @@ sound_erase actor f l =
 
 still_some : (f : Files) (n m : List ℕ) → is_some (with_at f n None m) ≡ true → is_some (f m) ≡ true
 still_some f n m some = elim (same_or_not m n) [
-    inl p ↦ (let w : is_some (with_at f n None n) ≡ true = subst (λ (z : List ℕ). is_some (with_at f n None z) ≡ true) p.0 some in let v : with_at f n None n ≡ None = put_here f n None in absurd (cc))
+  | inl p ↦ (let w : is_some (with_at f n None n) ≡ true = subst (λ (z : List ℕ). is_some (with_at f n None z) ≡ true) p.0 some in let v : with_at f n None n ≡ None = put_here f n None in absurd (cc))
   | inr p ↦ subst (λ (z : Option (List ℕ)). is_some z ≡ true) (put_there f n m None p.0) some
-  ]
+]
 
 renamed_some : (f : Files) (from to m : List ℕ) → m ≢ to → is_some (renamed f from to m) ≡ true → is_some (f m) ≡ true
 renamed_some f from to m ne some = still_some f from m (subst (λ (z : Option (List ℕ)). is_some z ≡ true) (put_there (with_at f from None) to m (f from) ne) some)
@@ -87,9 +86,9 @@ not_owned t l h e = let w = is_owned t l e in absurd (cc)
 -- no lock on a name of the record's has its token
 pub lock_free : (r : Record) (n : List ℕ) (l : Option ℕ) → (Mem n (names_of r) → l ≢ Some r.token) → unlocked (Some r) n l ≡ l
 lock_free r n l h = elim (cases_Bool (has (names_of r) n && owned_by r.token l)) [
-    inl y ↦ (let p = and_parts (has (names_of r) n) (owned_by r.token l) y in absurd (h (has_Mem (names_of r) n p.0) (owned_is r.token l p.1)))
+  | inl y ↦ (let p = and_parts (has (names_of r) n) (owned_by r.token l) y in absurd (h (has_Mem (names_of r) n p.0) (owned_is r.token l p.1)))
   | inr nay ↦ rw nay refl
-  ]
+]
 
 pub lock_erase : (actor : List ℕ) (f : Files) (l : Locks) (r : Record) (n : List ℕ) → record_in (f (record_name actor)) ≡ Some r → ((m : List ℕ) → Mem m (names_of r) → l m ≢ Some r.token) → settled_lock actor (with_at f (record_name actor) None) l n ≡ settled_lock actor f l n
 lock_erase actor f l r n e free =
@@ -124,7 +123,7 @@ no_lock r m l mem (inr e) =
 -- such a lock is put or taken away
 pub lock_own : (actor : List ℕ) (f : Files) (l : Locks) (r : Record) (m n : List ℕ) (v : Option ℕ) → record_in (f (record_name actor)) ≡ Some r → Mem m (names_of r) → (l m ≡ None) ⊎ (l m ≡ Some r.token) → (v ≡ None) ⊎ (v ≡ Some r.token) → settled_lock actor f (with_at l m v) n ≡ settled_lock actor f l n
 lock_own actor f l r m n v e mem old new = elim (same_or_not n m) [
-    inl p ↦ (
+  | inl p ↦ (
       ap (λ (o : Option Record). unlocked o n (with_at l m v n)) e
       ∙ ap (λ (z : List ℕ). unlocked (Some r) z (with_at l m v z)) p.0
       ∙ ap (unlocked (Some r) m) (put_here l m v)
@@ -133,4 +132,4 @@ lock_own actor f l r m n v e mem old new = elim (same_or_not n m) [
       ∙ ap (λ (z : List ℕ). unlocked (Some r) z (l z)) (sym p.0)
       ∙ ap (λ (o : Option Record). unlocked o n (l n)) (sym e))
   | inr p ↦ ap (unlocked (record_in (f (record_name actor))) n) (put_there l m n v p.0)
-  ]
+]

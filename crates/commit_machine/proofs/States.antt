@@ -1,17 +1,16 @@
 -- What is known at the state that a list of names leads to.
-use Rattle.std.proofs.Common.{◌≡◌, ◌≢◌, ◌⊎◌, ℕ, Bool, true, false, List, [], ◌∷◌, map, Option, Some, None, if◌then◌else◌, refl, ap, sym, subst, inl, inr, ◌∙◌, arith}
-use Rattle.commit_record.specs.Format.{written, IsWritten}
+use Rattle.std.proofs.Common.{◌≡◌, ℕ, Bool, true, false, List, [], ◌∷◌, map, Option, Some, None, if◌then◌else◌, refl, ap, sym, subst, inl, inr}
 use Rattle.commit_record.specs.declared.record.EntryKind.{EntryKind}
 use Rattle.commit_record.specs.declared.record.EntryKind.TheVariants.{Replace}
 use Rattle.commit_record.specs.declared.record.Record.{Record}
 use Rattle.host_port.specs.Disk.{Disk}
-use Rattle.commit_machine.specs.Names.{record_name, new_name, staged_name}
+use Rattle.commit_machine.specs.Names.{record_name, new_name}
 use Rattle.commit_machine.specs.Records.{record_in, record_of, is_go, names_of, kind_of}
 use Rattle.commit_machine.specs.Settled.{Mem}
-use Rattle.commit_machine.specs.Jobs.{Ending, Done, Recovered, Refused, Failed, NoMemory, Found, Refusal, Edit, Job, Made, edits_of, all_of, entries_for, prepare_of, go_of, IsJob}
+use Rattle.commit_machine.specs.Jobs.{Ending, NoMemory, Found, Edit, Job, Made, edits_of, all_of, entries_for, prepare_of, IsJob}
 use Rattle.commit_machine.specs.Machine.{Then, GoOn, Answer, State, Seizing, Looking, Undoing, Placing, Unlocking, Erasing, Clearing, Preparing, Publishing, Locking, Loading, Staging, Deciding, Committing, Checking, Releasing, Ended, unlocking, undoing, place_one, placing, staging, loading, locking, mended, none_stands, mending, record_seen, looked, refusing, refused, wanted}
-use Rattle.commit_machine.specs.Lawful.{standing, HasRight, IsFresh}
-use Rattle.commit_machine.proofs.Inv.{Closing, Rest, Own, Clean, Idle, IsValid, IsOwnEnd, Ours, ThenOk, Over, Ends, Subset, Covers, LocksLeft, Among, PartPlaced, Knows}
+use Rattle.commit_machine.specs.Lawful.{standing}
+use Rattle.commit_machine.proofs.Inv.{Closing, Own, Clean, Idle, IsValid, IsOwnEnd, ThenOk, Subset, Covers, LocksLeft, Among, PartPlaced, Knows}
 
 -- the names of entries are those that they were made for
 pub names-entries_for : (kind : List ℕ → EntryKind) (ns : List (List ℕ)) → map (λ e. e.name) (entries_for kind ns) ≡ ns

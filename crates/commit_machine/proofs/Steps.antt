@@ -1,33 +1,28 @@
 -- Each own event keeps what is known: a record that is done with.
-use Rattle.std.proofs.Common.{◌≡◌, ◌≢◌, ◌⊎◌, ℕ, Bool, true, false, ◌==◌, List, [], ◌∷◌, Option, Some, None, is_some, if◌then◌else◌, refl, ap, sym, subst, inl, inr, ◌∙◌, arith}
-use Rattle.std.proofs.lemmas.Bool.{cases_Bool}
-use Rattle.std.proofs.lemmas.Grind.{common_steps}
+use Rattle.std.proofs.Common.{◌≡◌, ◌≢◌, ◌⊎◌, ℕ, Bool, true, false, List, ◌∷◌, Option, Some, None, is_some, refl, ap, sym, inl, inr, ◌∙◌}
 use Rattle.commit_record.specs.Names.{is_lawful}
-use Rattle.commit_record.specs.declared.record.EntryKind.{EntryKind}
-use Rattle.commit_record.specs.declared.record.EntryKind.TheVariants.{Replace}
 use Rattle.commit_record.specs.declared.record.Record.{Record}
 use Rattle.host_port.specs.declared.event.Event.{Event}
 use Rattle.host_port.specs.declared.event.Event.TheVariants as event
 use Rattle.host_port.specs.declared.event.Seen.TheVariants as seen
 use Rattle.host_port.specs.declared.event.Holder.TheVariants.{Own as OwnRight}
-use Rattle.host_port.specs.Disk.{Disk, with_at, after, without_own}
-use Rattle.host_port.specs.Ends.{is_owner}
+use Rattle.host_port.specs.Disk.{Disk, with_at, after}
 use Rattle.host_port.specs.Ran.{Agrees}
 use Rattle.commit_machine.specs.Names.{record_name, new_name, right_name, staged_name}
-use Rattle.commit_machine.specs.Records.{record_in, is_go, names_of, kind_of}
+use Rattle.commit_machine.specs.Records.{record_in, names_of}
 use Rattle.commit_machine.specs.Settled.{Files, Locks, Mem}
-use Rattle.commit_machine.specs.Jobs.{Ending, Done, Recovered, Refused, Failed, NoMemory, Found, Job, IsJob, edits_of, all_of}
-use Rattle.commit_machine.specs.Machine.{Then, GoOn, Answer, State, Seizing, Looking, Undoing, Placing, Unlocking, Erasing, Clearing, Preparing, Releasing, Call, ToLoad, ToStage, ToPublish, ToErase, ToLock, ToUnlock, ToSeize, ToRelease, after_reply, undoing, placing}
-use Rattle.commit_machine.specs.Goes.{IsOf, loads, stages, stage_fails, publishes, erases, locks, unlocks, seizes, releases, reply}
-use Rattle.commit_machine.specs.Lawful.{standing, HasRight, IsSound, IsFresh}
+use Rattle.commit_machine.specs.Jobs.{Job, IsJob}
+use Rattle.commit_machine.specs.Machine.{Then, GoOn, Answer, State, Seizing, Looking, Undoing, Placing, ToLoad, ToPublish, ToErase, ToSeize, after_reply, undoing, placing}
+use Rattle.commit_machine.specs.Goes.{IsOf, loads, publishes, erases, seizes, reply}
+use Rattle.commit_machine.specs.Lawful.{standing, IsSound}
 use Rattle.commit_machine.specs.Due.{settled_files, settled_locks, files_then}
-use Rattle.commit_machine.proofs.Inv.{Closing, Rest, Own, Clean, Idle, Ours, ThenOk, AllDone, AllClear, Over, Ends, Subset, PartPlaced, Knows, IsOwnEnd}
-use Rattle.commit_machine.proofs.Same.{same_refl, same_true, same_false, same_or_not, put_here, put_there}
-use Rattle.commit_machine.proofs.NameLemmas.{record-new, staged-one, staged-record, staged-new, lawful-staged}
+use Rattle.commit_machine.proofs.Inv.{ThenOk, Knows}
+use Rattle.commit_machine.proofs.Same.{same_false, same_or_not, put_here, put_there}
+use Rattle.commit_machine.proofs.NameLemmas.{staged-new, lawful-staged}
 use Rattle.commit_machine.proofs.RecordLemmas.{stands-lawful}
-use Rattle.commit_machine.proofs.Keep.{keep_new, keep_staged, keep_place, keep_erase, renamed, renamed_to, renamed_from, renamed_other, record-staged, record_name-not}
-use Rattle.commit_machine.proofs.Sound.{sound_new, sound_staged, sound_erase, sound_place, sound_unlock, lock_same, lock_erase, lock_own}
-use Rattle.commit_machine.proofs.States.{knows_unlocking, knows_placing, knows_undoing, knows_looked, knows_wanted, knows_mended}
+use Rattle.commit_machine.proofs.Keep.{keep_staged, keep_place, renamed, renamed_from, renamed_other, record-staged, record_name-not}
+use Rattle.commit_machine.proofs.Sound.{sound_staged, sound_place, lock_same}
+use Rattle.commit_machine.proofs.States.{knows_placing, knows_undoing, knows_looked}
 
 -- what shows after an event
 pub record Shows (j : Job) (e : Event) (d : Disk) (files : Files) (locks : Locks) : Type 0 where
@@ -53,9 +48,9 @@ absent_renamed f from to m ne h = put_there (with_at f from None) to m (f from) 
 
 pub other_more : (f : Locks) (n m : List ℕ) (u : ℕ) → f m ≢ Some u → with_at f n None m ≢ Some u
 other_more f n m u h = elim (same_or_not m n) [
-    inl p ↦ (λ e. let w : ◌≡◌ {A = Option ℕ} None (Some u) = sym (ap (with_at f n None) p.0 ∙ put_here f n None) ∙ e in absurd (cc))
+  | inl p ↦ (λ e. let w : ◌≡◌ {A = Option ℕ} None (Some u) = sym (ap (with_at f n None) p.0 ∙ put_here f n None) ∙ e in absurd (cc))
   | inr p ↦ (λ e. h (sym (put_there f n m None p.0) ∙ e))
-  ]
+]
 
 -- a name behind the first is left, or the staged file is gone
 gone_there : (r : Record) (n : List ℕ) (ns : List (List ℕ)) (f : Files) (m : List ℕ) → Mem m (n ∷ ns) ⊎ (f (staged_name r.token m) ≡ None) → f (staged_name r.token n) ≡ None → Mem m ns ⊎ (f (staged_name r.token m) ≡ None)
@@ -76,7 +71,9 @@ module _ (j : Job) (job : IsJob j) (d : Disk) (files : Files) (locks : Locks) (s
     record_other = λ q e. k.record_other q (sym s ∙ e);
   }
   then_moves d' r (Answer a) f l s k = record {
-    token = k.token; names = k.names; own_end = k.own_end;
+    token = k.token;
+    names = k.names;
+    own_end = k.own_end;
     rest = record {
       staged = λ m. elim (k.rest.staged m) [ inl x ↦ inl x | inr b ↦ inr (f m b) ];
       locks = λ m. elim (k.rest.locks m) [ inl x ↦ inl x | inr b ↦ inr (l m b) ];
@@ -160,7 +157,9 @@ module _ (j : Job) (job : IsJob j) (d : Disk) (files : Files) (locks : Locks) (s
     placed_knows = knows_placing j (after d (event.Publish (staged_name r.token n) n true false)) r ns ls th
         (record {
           closing = record { right = k.0.closing.right; stands = ap record_in placed_record ∙ k.0.closing.stands; gone = λ m h. placed_gone m (k.0.closing.gone m h); free = k.0.closing.free };
-          go = k.0.go; within = record { each = λ m h. k.0.within.each m (inr h) }; locks_within = k.0.locks_within;
+          go = k.0.go;
+          within = record { each = λ m h. k.0.within.each m (inr h) };
+          locks_within = k.0.locks_within;
         })
         (then_moves (after d (event.Publish (staged_name r.token n) n true false)) r th (λ m h. absent_renamed d.files (staged_name r.token n) n (staged_name j.token m) (λ w. lawful-staged n j.token m law (sym w)) h) (λ m h. h) (ap record_in placed_record) k.1)
 
@@ -168,7 +167,9 @@ module _ (j : Job) (job : IsJob j) (d : Disk) (files : Files) (locks : Locks) (s
     passed_knows none = knows_placing j d r ns ls th
         (record {
           closing = record { right = k.0.closing.right; stands = k.0.closing.stands; gone = λ m h. gone_there r n ns d.files m (k.0.closing.gone m h) none; free = k.0.closing.free };
-          go = k.0.go; within = record { each = λ m h. k.0.within.each m (inr h) }; locks_within = k.0.locks_within;
+          go = k.0.go;
+          within = record { each = λ m h. k.0.within.each m (inr h) };
+          locks_within = k.0.locks_within;
         }) k.1
 
   pub step_placing : (r : Record) (n : List ℕ) (ns ls : List (List ℕ)) (th : Then) {e : Event} → IsOf (ToPublish (staged_name r.token n) n) e → Agrees d e → Knows j (Placing r n ns ls th) d → Kept j (Placing r n ns ls th) e d files locks

@@ -1,36 +1,28 @@
 -- Each own event keeps what is known: from the unlocking on, and up to the own record.
-use Rattle.std.proofs.Common.{◌≡◌, ◌≢◌, ◌⊎◌, ℕ, Bool, true, false, ◌&&◌, ◌==◌, List, [], ◌∷◌, map, length, Option, Some, None, is_some, is_none, if◌then◌else◌, refl, ap, sym, subst, inl, inr, ◌∙◌, arith}
-use Rattle.std.proofs.lemmas.Bool.{cases_Bool, eqb-true, and_parts}
+use Rattle.std.proofs.Common.{◌≡◌, ◌≢◌, ◌⊎◌, ℕ, Bool, true, false, List, [], ◌∷◌, Option, Some, None, refl, ap, sym, subst, inl, inr, ◌∙◌, arith}
+use Rattle.std.proofs.lemmas.Bool.{eqb-true}
 use Rattle.std.proofs.lemmas.Grind.{common_steps}
-use Rattle.std.specs.Str.{bytes_eq}
-use Rattle.commit_record.specs.Format.{written, IsWritten, is_valid}
-use Rattle.commit_record.specs.Names.{is_lawful}
-use Rattle.commit_record.specs.declared.record.EntryKind.{EntryKind}
-use Rattle.commit_record.specs.declared.record.EntryKind.TheVariants.{Replace}
-use Rattle.commit_record.specs.declared.record.Entry.{Entry}
+use Rattle.commit_record.specs.Format.{written}
 use Rattle.commit_record.specs.declared.record.Record.{Record}
 use Rattle.host_port.specs.declared.event.Event.{Event}
 use Rattle.host_port.specs.declared.event.Event.TheVariants as event
-use Rattle.host_port.specs.declared.event.Seen.TheVariants as seen
-use Rattle.host_port.specs.Disk.{Disk, with_at, after, without_own}
+use Rattle.host_port.specs.Disk.{Disk, with_at, after}
 use Rattle.host_port.specs.Ends.{is_owner}
 use Rattle.host_port.specs.Ran.{Agrees}
-use Rattle.commit_machine.specs.Names.{record_name, new_name, right_name, staged_name, is_record_name}
-use Rattle.commit_machine.specs.Records.{record_in, is_go, names_of, kind_of, kind_in}
-use Rattle.commit_machine.specs.Settled.{Files, Locks, Mem, put_in, IsSoundAt}
-use Rattle.commit_machine.specs.Jobs.{Ending, Done, Recovered, Refused, Failed, NoMemory, Found, Refusal, Busy, TooLarge, Verdict, Puts, Refuses, Edit, Job, Made, IsJob, edits_of, all_names, all_of, entries_for, prepare_of, go_of, made_at, kind_made, file_after, outcome_of}
-use Rattle.commit_machine.specs.Machine.{Then, GoOn, Answer, State, Seizing, Looking, Undoing, Placing, Unlocking, Erasing, Clearing, Preparing, Publishing, Locking, Loading, Staging, Deciding, Committing, Checking, Releasing, Ended, Call, ToLoad, ToStage, ToPublish, ToErase, ToLock, ToUnlock, ToSeize, ToRelease, after_reply, undoing, placing, unlocking, locking, loaded, loading, staging, refusing}
-use Rattle.commit_machine.specs.Goes.{IsOf, loads, stages, stage_fails, publishes, erases, locks, unlocks, seizes, releases, reply}
-use Rattle.commit_machine.specs.Lawful.{standing, HasRight, IsSound, IsFresh}
-use Rattle.commit_machine.specs.Due.{settled_files, settled_locks, files_then, is_decision, applied}
-use Rattle.commit_machine.proofs.Inv.{Closing, Rest, Own, Clean, Idle, IsValid, Ours, ThenOk, AllDone, AllClear, Over, Ends, Subset, Covers, LocksLeft, Among, PartPlaced, Knows, IsOwnEnd}
-use Rattle.commit_machine.proofs.Same.{same_refl, same_true, same_false, same_or_not, put_here, put_there, has_Mem, Mem_has}
-use Rattle.commit_machine.proofs.NameLemmas.{record-new, staged-one, staged-record, staged-new, lawful-staged}
-use Rattle.commit_machine.proofs.RecordLemmas.{stands-lawful, record_of-written, record_of-is, valid-lawful}
-use Rattle.commit_machine.proofs.Keep.{keep_new, keep_staged, keep_place, keep_erase, keep_prepare, renamed, renamed_to, renamed_from, renamed_other, record-staged, record_name-not}
-use Rattle.commit_machine.proofs.Sound.{sound_new, sound_staged, sound_erase, sound_place, sound_unlock, sound_lock, lock_same, lock_erase, lock_own, lock_prepare, lock_commit}
-use Rattle.commit_machine.proofs.Decided.{IsDistinct, named, names_Mem, decided}
-use Rattle.commit_machine.proofs.States.{names-entries_for, names-prepare, to_prepare, knows_unlocking, knows_placing, knows_undoing, knows_refusing, knows_staging, knows_loading, knows_locking, knows_looked, knows_wanted, knows_mended}
+use Rattle.commit_machine.specs.Names.{record_name, new_name, staged_name}
+use Rattle.commit_machine.specs.Records.{record_in}
+use Rattle.commit_machine.specs.Settled.{Files, Locks, Mem}
+use Rattle.commit_machine.specs.Jobs.{Ending, Done, Recovered, Refused, Failed, NoMemory, Found, Job, IsJob, prepare_of}
+use Rattle.commit_machine.specs.Machine.{Then, GoOn, Answer, Unlocking, Erasing, Clearing, Preparing, ToStage, ToErase, ToUnlock, unlocking}
+use Rattle.commit_machine.specs.Goes.{IsOf, stages, stage_fails, erases, unlocks}
+use Rattle.commit_machine.specs.Lawful.{IsSound, IsFresh}
+use Rattle.commit_machine.specs.Due.{settled_files, settled_locks, files_then}
+use Rattle.commit_machine.proofs.Inv.{Closing, Idle, Ours, Ends, Knows}
+use Rattle.commit_machine.proofs.Same.{put_here, put_there}
+use Rattle.commit_machine.proofs.NameLemmas.{record-new, staged-record, staged-new}
+use Rattle.commit_machine.proofs.Keep.{keep_new, keep_erase}
+use Rattle.commit_machine.proofs.Sound.{sound_new, sound_erase, sound_unlock, lock_same, lock_erase, lock_own}
+use Rattle.commit_machine.proofs.States.{knows_unlocking, knows_mended}
 use Rattle.commit_machine.proofs.Steps
 use Rattle.commit_machine.proofs.Steps.{Shows, Kept, none_of, absent_more, other_more, not_decided}
 
@@ -108,13 +100,13 @@ module _ (j : Job) (job : IsJob j) (d : Disk) (files : Files) (locks : Locks) (s
   cleared : (r : Record) (a : Ending) → Closing j.actor r [] [] d → Ours j r a d → IsFresh j.actor j.token (after d (event.Erase (record_name j.actor) true false))
   cleared r a k o = record {
     staged = λ m. erased_staged j.token m ∙ elim (o.rest.staged m) [
-        inl h ↦ subst (λ (u : ℕ). d.files (staged_name u m) ≡ None) o.token (none_left m _ (k.gone m (subst (Mem m) (sym o.names) h)))
+      | inl h ↦ subst (λ (u : ℕ). d.files (staged_name u m) ≡ None) o.token (none_left m _ (k.gone m (subst (Mem m) (sym o.names) h)))
       | inr b ↦ b
-      ];
+    ];
     locks = λ m. elim (o.rest.locks m) [
-        inl h ↦ subst (λ (u : ℕ). d.locks m ≢ Some u) o.token (none_left m _ (k.free m (subst (Mem m) (sym o.names) h)))
+      | inl h ↦ subst (λ (u : ℕ). d.locks m ≢ Some u) o.token (none_left m _ (k.free m (subst (Mem m) (sym o.names) h)))
       | inr b ↦ b
-      ];
+    ];
     record_other = λ q e. absurd (erased_other q e);
   }
 

@@ -1,40 +1,36 @@
 -- Each own event keeps what is known: a commit's own record.
-use Rattle.std.proofs.Common.{◌≡◌, ◌≢◌, ◌⊎◌, ℕ, Bool, true, false, ◌&&◌, ◌==◌, List, [], ◌∷◌, map, length, Option, Some, None, is_some, is_none, if◌then◌else◌, refl, ap, sym, subst, inl, inr, ◌∙◌, arith}
-use Rattle.std.proofs.lemmas.Bool.{cases_Bool, eqb-true, and_parts}
+use Rattle.std.proofs.Common.{◌≡◌, ◌≢◌, ◌⊎◌, ℕ, Bool, true, false, ◌&&◌, ◌==◌, List, [], ◌∷◌, Option, Some, None, is_none, refl, ap, sym, subst, inl, inr, ◌∙◌, arith}
+use Rattle.std.proofs.lemmas.Bool.{cases_Bool}
 use Rattle.std.proofs.lemmas.Grind.{common_steps}
 use Rattle.std.specs.Str.{bytes_eq}
-use Rattle.commit_record.specs.Format.{written, IsWritten, is_valid}
+use Rattle.commit_record.specs.Format.{written}
 use Rattle.commit_record.specs.Names.{is_lawful}
-use Rattle.commit_record.specs.declared.record.EntryKind.{EntryKind}
-use Rattle.commit_record.specs.declared.record.EntryKind.TheVariants.{Replace}
-use Rattle.commit_record.specs.declared.record.Entry.{Entry}
 use Rattle.commit_record.specs.declared.record.Record.{Record}
 use Rattle.host_port.specs.declared.event.Event.{Event}
 use Rattle.host_port.specs.declared.event.Event.TheVariants as event
 use Rattle.host_port.specs.declared.event.Seen.TheVariants as seen
-use Rattle.host_port.specs.Disk.{Disk, with_at, after, without_own}
-use Rattle.host_port.specs.Ends.{is_owner}
+use Rattle.host_port.specs.Disk.{Disk, with_at, after}
 use Rattle.host_port.specs.Ran.{Agrees}
-use Rattle.commit_machine.specs.Names.{record_name, new_name, right_name, staged_name, is_record_name}
-use Rattle.commit_machine.specs.Records.{record_in, is_go, names_of, kind_of, kind_in}
-use Rattle.commit_machine.specs.Settled.{Files, Locks, Mem, put_in, IsSoundAt}
-use Rattle.commit_machine.specs.Jobs.{Ending, Done, Recovered, Refused, Failed, NoMemory, Found, Refusal, Busy, TooLarge, Verdict, Puts, Refuses, Edit, Job, Made, IsJob, edits_of, all_names, all_of, entries_for, prepare_of, go_of, made_at, kind_made, file_after, outcome_of}
-use Rattle.commit_machine.specs.Machine.{Then, GoOn, Answer, State, Seizing, Looking, Undoing, Placing, Unlocking, Erasing, Clearing, Preparing, Publishing, Locking, Loading, Staging, Deciding, Committing, Checking, Releasing, Ended, Call, ToLoad, ToStage, ToPublish, ToErase, ToLock, ToUnlock, ToSeize, ToRelease, after_reply, undoing, placing, unlocking, locking, loaded, loading, staging, refusing}
-use Rattle.commit_machine.specs.Goes.{IsOf, loads, stages, stage_fails, publishes, erases, locks, unlocks, seizes, releases, reply}
-use Rattle.commit_machine.specs.Lawful.{standing, HasRight, IsSound, IsFresh}
-use Rattle.commit_machine.specs.Due.{settled_files, settled_locks, files_then, is_decision, applied}
-use Rattle.commit_machine.proofs.Inv.{Closing, Rest, Own, Clean, Idle, IsValid, Ours, ThenOk, AllDone, AllClear, Over, Ends, Subset, Covers, LocksLeft, Among, PartPlaced, Knows, IsOwnEnd}
-use Rattle.commit_machine.proofs.Same.{same_refl, same_true, same_false, same_or_not, put_here, put_there, has_Mem, Mem_has, at_end, before_end, end_or_before}
+use Rattle.commit_machine.specs.Names.{record_name, new_name, staged_name}
+use Rattle.commit_machine.specs.Records.{record_in, is_go}
+use Rattle.commit_machine.specs.Settled.{Files, Locks, Mem}
+use Rattle.commit_machine.specs.Jobs.{Refused, Busy, TooLarge, Verdict, Puts, Refuses, Edit, Job, Made, IsJob, edits_of, all_of, prepare_of, go_of}
+use Rattle.commit_machine.specs.Machine.{Publishing, Locking, Loading, Staging, Deciding, Committing, ToLoad, ToStage, ToPublish, ToLock, locking, loaded, staging}
+use Rattle.commit_machine.specs.Goes.{IsOf, loads, stages, stage_fails, publishes, locks}
+use Rattle.commit_machine.specs.Lawful.{standing, IsSound}
+use Rattle.commit_machine.specs.Due.{settled_files, settled_locks, files_then, applied}
+use Rattle.commit_machine.proofs.Inv.{Own, Knows}
+use Rattle.commit_machine.proofs.Same.{same_refl, same_or_not, put_here, put_there, at_end, before_end, end_or_before}
 use Rattle.std.proofs.Common.{◌++◌}
 use Rattle.commit_machine.proofs.NameLemmas.{record-new, staged-one, staged-record, staged-new, lawful-staged}
-use Rattle.commit_machine.proofs.RecordLemmas.{stands-lawful, record_of-written, record_of-is, valid-lawful}
-use Rattle.commit_machine.proofs.Keep.{keep_new, keep_staged, keep_place, keep_erase, keep_prepare, renamed, renamed_to, renamed_from, renamed_other, record-staged, record_name-not}
-use Rattle.commit_machine.proofs.Sound.{sound_new, sound_staged, sound_erase, sound_place, sound_unlock, sound_lock, lock_same, lock_erase, lock_own, lock_prepare, lock_commit}
-use Rattle.commit_machine.proofs.Decided.{IsDistinct, named, names_Mem, decided}
-use Rattle.commit_machine.proofs.States.{names-entries_for, names-prepare, to_prepare, knows_unlocking, knows_placing, knows_undoing, knows_refusing, knows_staging, knows_loading, knows_locking, knows_looked, knows_wanted, knows_mended}
+use Rattle.commit_machine.proofs.RecordLemmas.{record_of-written}
+use Rattle.commit_machine.proofs.Keep.{keep_staged, keep_prepare, renamed, renamed_to, renamed_other, record-staged, record_name-not}
+use Rattle.commit_machine.proofs.Sound.{sound_staged, sound_lock, lock_same, lock_own, lock_prepare}
+use Rattle.commit_machine.proofs.Decided.{named, names_Mem}
+use Rattle.commit_machine.proofs.States.{names-prepare, knows_refusing, knows_staging, knows_loading, knows_locking, knows_wanted}
 use Rattle.commit_machine.proofs.RecordLemmas.{stands-valid}
-use Rattle.commit_machine.proofs.JobLemmas.{valid-go, valid-distinct, valid-plain, one_edit, made_first, kind_of_entries}
-use Rattle.commit_machine.proofs.Steps.{Shows, Kept, none_of, absent_more, other_more, not_decided}
+use Rattle.commit_machine.proofs.JobLemmas.{valid-distinct, valid-plain, one_edit}
+use Rattle.commit_machine.proofs.Steps.{Shows, Kept}
 use Rattle.commit_machine.proofs.Steps2
 use Rattle.commit_machine.proofs.Steps2.{none_left}
 
@@ -129,9 +125,9 @@ module _ (j : Job) (job : IsJob j) (d : Disk) (files : Files) (owners : Locks) (
 
     lock_held : (m : List ℕ) → Mem m (ls ++ (e.name ∷ [])) → with_at d.locks e.name (Some j.token) m ≡ Some j.token
     lock_held m h = elim (end_or_before ls e.name m h) [
-        inl p ↦ ap (with_at d.locks e.name (Some j.token)) p ∙ put_here d.locks e.name (Some j.token)
+      | inl p ↦ ap (with_at d.locks e.name (Some j.token)) p ∙ put_here d.locks e.name (Some j.token)
       | inr a ↦ lock_stays d.locks e.name m j.token (k.0.locked m a)
-      ]
+    ]
 
     lock_back : (m : List ℕ) → Mem m (ls ++ (e.name ∷ [])) → Mem m (all_of j)
     lock_back m h = elim (end_or_before ls e.name m h) [ inl p ↦ subst (λ (z : List ℕ). Mem z (all_of j)) (sym p) lock_mem | inr a ↦ k.1.back m a ]

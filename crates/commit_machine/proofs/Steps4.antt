@@ -1,36 +1,28 @@
 -- Each own event keeps what is known: the decision, and the end.
-use Rattle.std.proofs.Common.{◌≡◌, ◌≢◌, ◌⊎◌, ℕ, Bool, true, false, ◌&&◌, ◌==◌, List, [], ◌∷◌, map, length, Option, Some, None, is_some, is_none, if◌then◌else◌, refl, ap, sym, subst, inl, inr, ◌∙◌, arith}
-use Rattle.std.proofs.lemmas.Bool.{cases_Bool, eqb-true, and_parts}
-use Rattle.std.proofs.lemmas.Grind.{common_steps}
-use Rattle.std.specs.Str.{bytes_eq}
-use Rattle.commit_record.specs.Format.{written, IsWritten, is_valid}
-use Rattle.commit_record.specs.Names.{is_lawful}
+use Rattle.std.proofs.Common.{◌≡◌, ℕ, Bool, true, false, List, [], ◌∷◌, Some, is_some, refl, ap, sym, subst, inl, inr, ◌∙◌}
+use Rattle.commit_record.specs.Format.{written, is_valid}
 use Rattle.commit_record.specs.declared.record.EntryKind.{EntryKind}
-use Rattle.commit_record.specs.declared.record.EntryKind.TheVariants.{Replace}
-use Rattle.commit_record.specs.declared.record.Entry.{Entry}
 use Rattle.commit_record.specs.declared.record.Record.{Record}
 use Rattle.host_port.specs.declared.event.Event.{Event}
 use Rattle.host_port.specs.declared.event.Event.TheVariants as event
 use Rattle.host_port.specs.declared.event.Seen.TheVariants as seen
-use Rattle.host_port.specs.Disk.{Disk, with_at, after, without_own}
-use Rattle.host_port.specs.Ends.{is_owner}
+use Rattle.host_port.specs.Disk.{Disk, after}
 use Rattle.host_port.specs.Ran.{Agrees}
 use Rattle.commit_machine.specs.Names.{record_name, new_name, right_name, staged_name, is_record_name}
-use Rattle.commit_machine.specs.Records.{record_in, is_go, names_of, kind_of, kind_in}
+use Rattle.commit_machine.specs.Records.{record_in, names_of, kind_of}
 use Rattle.commit_machine.specs.Settled.{Files, Locks, Mem, put_in, IsSoundAt}
-use Rattle.commit_machine.specs.Jobs.{Ending, Done, Recovered, Refused, Failed, NoMemory, Found, Refusal, Busy, TooLarge, Verdict, Puts, Refuses, Edit, Job, Made, IsJob, edits_of, all_names, all_of, entries_for, prepare_of, go_of, made_at, kind_made, file_after, outcome_of}
-use Rattle.commit_machine.specs.Machine.{Then, GoOn, Answer, State, Seizing, Looking, Undoing, Placing, Unlocking, Erasing, Clearing, Preparing, Publishing, Locking, Loading, Staging, Deciding, Committing, Checking, Releasing, Ended, Call, ToLoad, ToStage, ToPublish, ToErase, ToLock, ToUnlock, ToSeize, ToRelease, after_reply, undoing, placing, unlocking, locking, loaded, loading, staging, refusing}
-use Rattle.commit_machine.specs.Goes.{IsOf, loads, stages, stage_fails, publishes, erases, locks, unlocks, seizes, releases, reply}
-use Rattle.commit_machine.specs.Lawful.{standing, HasRight, IsSound, IsFresh}
-use Rattle.commit_machine.specs.Due.{settled_files, settled_locks, files_then, is_decision, applied}
-use Rattle.commit_machine.proofs.Inv.{Closing, Rest, Own, Clean, Idle, IsValid, Ours, ThenOk, AllDone, AllClear, Over, Ends, Subset, Covers, LocksLeft, Among, PartPlaced, Knows, IsOwnEnd}
-use Rattle.commit_machine.proofs.Same.{same_refl, same_true, same_false, same_or_not, put_here, put_there, has_Mem, Mem_has}
-use Rattle.commit_machine.proofs.NameLemmas.{record-new, staged-one, staged-record, staged-new, lawful-staged}
-use Rattle.commit_machine.proofs.RecordLemmas.{stands-lawful, record_of-written, record_of-is, valid-lawful}
-use Rattle.commit_machine.proofs.Keep.{keep_new, keep_staged, keep_place, keep_erase, keep_prepare, renamed, renamed_to, renamed_from, renamed_other, record-staged, record_name-not}
-use Rattle.commit_machine.proofs.Sound.{sound_new, sound_staged, sound_erase, sound_place, sound_unlock, sound_lock, lock_same, lock_erase, lock_own, lock_prepare, lock_commit}
-use Rattle.commit_machine.proofs.Decided.{IsDistinct, named, names_Mem, decided}
-use Rattle.commit_machine.proofs.States.{names-entries_for, names-prepare, to_prepare, knows_unlocking, knows_placing, knows_undoing, knows_refusing, knows_staging, knows_loading, knows_locking, knows_looked, knows_wanted, knows_mended}
+use Rattle.commit_machine.specs.Jobs.{Ending, Done, Recovered, Refused, Failed, NoMemory, Puts, Edit, Job, Made, IsJob, edits_of, all_of, prepare_of, go_of, made_at, kind_made, file_after, outcome_of}
+use Rattle.commit_machine.specs.Machine.{Answer, Committing, Checking, Releasing, ToLoad, ToPublish, ToRelease, placing}
+use Rattle.commit_machine.specs.Goes.{IsOf, loads, publishes, releases}
+use Rattle.commit_machine.specs.Lawful.{IsSound, IsFresh}
+use Rattle.commit_machine.specs.Due.{settled_files, settled_locks, applied}
+use Rattle.commit_machine.proofs.Inv.{Over, Ends, Subset, Knows}
+use Rattle.commit_machine.proofs.NameLemmas.{staged-record, staged-new}
+use Rattle.commit_machine.proofs.RecordLemmas.{record_of-written}
+use Rattle.commit_machine.proofs.Keep.{renamed, renamed_to, renamed_other}
+use Rattle.commit_machine.proofs.Sound.{lock_commit}
+use Rattle.commit_machine.proofs.Decided.{named, names_Mem, decided}
+use Rattle.commit_machine.proofs.States.{names-entries_for, names-prepare, knows_placing}
 use Rattle.commit_machine.proofs.RecordLemmas.{stands-valid}
 use Rattle.commit_machine.proofs.JobLemmas.{valid-go, valid-distinct, valid-plain, one_edit, made_first, kind_of_entries}
 use Rattle.commit_machine.proofs.Steps.{Shows, Kept}
@@ -54,12 +46,12 @@ module _ (j : Job) (job : IsJob j) (d : Disk) (files : Files) (owners : Locks) (
     -- the first that was made for an edit
     made_for : (e : Edit) → Mem e (edits_of j) → (x : Made) × Mem x made × (x.edit ≡ e) × (made_at made e.name ≡ Some x)
     made_for e m = elim (k.1.all e m) [
-        inl a ↦ absurd a
+      | inl a ↦ absurd a
       | inr w ↦
           let (x, x_in, is, found) = made_first made w.0 w.1 in
           let one : x.edit ≡ e = one_edit (edits_of j) x.edit e (valid-distinct j prepare_valid) (k.1.each x x_in).0 m (is ∙ ap (λ (z : Edit). z.name) w.2) in
           (x, x_in, one, ap (made_at made) (sym (ap (λ (z : Edit). z.name) w.2)) ∙ found)
-      ]
+    ]
 
     outcomes : (e : Edit) → Mem e (edits_of j) → put_in (kind_of (go_of j made) e.name) (d.files e.name) (d.files (staged_name j.token e.name)) ≡ outcome_of e (d.files e.name)
     outcomes e m =
@@ -84,12 +76,12 @@ module _ (j : Job) (job : IsJob j) (d : Disk) (files : Files) (owners : Locks) (
     commit_sound : IsSoundAt j.actor (renamed d.files (new_name j.actor) (record_name j.actor)) d.locks
     commit_sound = record {
       plain = λ r n e g m.
-        let in_all : Mem n (all_of j) = subst (Mem n) names_go (subst (λ (z : Record). Mem n (names_of z)) (is_go_record r e) m) in
-        let (x, x_in, is) = named (edits_of j) n in_all in
-        subst (λ (z : List ℕ). is_record_name j.actor z ≡ false) is (job.plain x x_in);
+          let in_all : Mem n (all_of j) = subst (Mem n) names_go (subst (λ (z : Record). Mem n (names_of z)) (is_go_record r e) m) in
+          let (x, x_in, is) = named (edits_of j) n in_all in
+          subst (λ (z : List ℕ). is_record_name j.actor z ≡ false) is (job.plain x x_in);
       locked = λ r n e g m s.
-        let w = is_go_record r e in
-        k.0.locked n (subst (Mem n) names_go (subst (λ (z : Record). Mem n (names_of z)) w m)) ∙ ap (λ (z : Record). Some z.token) (sym w);
+          let w = is_go_record r e in
+          k.0.locked n (subst (Mem n) names_go (subst (λ (z : Record). Mem n (names_of z)) w m)) ∙ ap (λ (z : Record). Some z.token) (sym w);
     }
 
     commit_shows : (failed : Bool) → Shows j (event.Publish (new_name j.actor) (record_name j.actor) true failed) d files owners
@@ -109,10 +101,14 @@ module _ (j : Job) (job : IsJob j) (d : Disk) (files : Files) (owners : Locks) (
     commit_knows = knows_placing j (after d (event.Publish (new_name j.actor) (record_name j.actor) true false)) (go_of j made) (all_of j) (all_of j) (Answer Done)
         (record {
           closing = record { right = k.0.closing.right; stands = go_stands; gone = λ m h. inl (subst (Mem m) names_go h); free = λ m h. inl (subst (Mem m) names_go h) };
-          go = refl; within = in_go; locks_within = in_go;
+          go = refl;
+          within = in_go;
+          locks_within = in_go;
         })
         (record {
-          token = refl; names = names_go; own_end = tt;
+          token = refl;
+          names = names_go;
+          own_end = tt;
           rest = record { staged = λ m. elim (k.0.rest.staged m) [ inl a ↦ inl a | inr b ↦ inr (commit_staged m ∙ b) ]; locks = k.0.rest.locks };
         })
 

@@ -1,49 +1,29 @@
 -- What holds where a run stops inside an event, and what changes what is due.
-use Rattle.std.proofs.Common.{◌≡◌, ◌≢◌, ◌⊎◌, ℕ, Bool, true, false, ◌&&◌, ◌==◌, List, [], ◌∷◌, map, length, Option, Some, None, is_some, is_none, if◌then◌else◌, refl, ap, sym, subst, inl, inr, ◌∙◌, arith}
-use Rattle.std.proofs.lemmas.Bool.{cases_Bool, eqb-true, and_parts}
-use Rattle.std.proofs.lemmas.Grind.{common_steps}
-use Rattle.std.specs.Str.{bytes_eq}
-use Rattle.commit_record.specs.Format.{written, IsWritten, is_valid}
-use Rattle.commit_record.specs.Names.{is_lawful}
-use Rattle.commit_record.specs.declared.record.EntryKind.{EntryKind}
-use Rattle.commit_record.specs.declared.record.EntryKind.TheVariants.{Replace}
-use Rattle.commit_record.specs.declared.record.Entry.{Entry}
-use Rattle.commit_record.specs.declared.record.Record.{Record}
+use Rattle.std.proofs.Common.{◌≡◌, ℕ, Bool, true, false, List, [], ◌∷◌, Option, Some, None, is_some, is_none, if◌then◌else◌, refl, ◌∙◌}
+use Rattle.std.proofs.lemmas.Bool.{and_parts}
 use Rattle.host_port.specs.declared.event.Event.{Event}
 use Rattle.host_port.specs.declared.event.Event.TheVariants as event
-use Rattle.host_port.specs.declared.event.Seen.TheVariants as seen
-use Rattle.host_port.specs.Disk.{Disk, with_at, after, without_own}
+use Rattle.host_port.specs.Disk.{Disk, after}
 use Rattle.host_port.specs.Ends.{is_owner}
 use Rattle.host_port.specs.Ran.{Agrees}
-use Rattle.commit_machine.specs.Names.{record_name, new_name, right_name, staged_name, is_record_name}
-use Rattle.commit_machine.specs.Records.{record_in, is_go, names_of, kind_of, kind_in}
-use Rattle.commit_machine.specs.Settled.{Files, Locks, Mem, put_in, IsSoundAt}
-use Rattle.commit_machine.specs.Jobs.{Ending, Done, Recovered, Refused, Failed, NoMemory, Found, Refusal, Busy, TooLarge, Verdict, Puts, Refuses, Edit, Job, Made, IsJob, edits_of, all_names, all_of, entries_for, prepare_of, go_of, made_at, kind_made, file_after, outcome_of}
-use Rattle.commit_machine.specs.Machine.{Then, GoOn, Answer, State, Seizing, Looking, Undoing, Placing, Unlocking, Erasing, Clearing, Preparing, Publishing, Locking, Loading, Staging, Deciding, Committing, Checking, Releasing, Ended, Call, ToLoad, ToStage, ToPublish, ToErase, ToLock, ToUnlock, ToSeize, ToRelease, after_reply, undoing, placing, unlocking, locking, loaded, loading, staging, refusing}
+use Rattle.commit_machine.specs.Settled.{Files, Locks}
+use Rattle.commit_machine.specs.Jobs.{Job, IsJob, edits_of}
+use Rattle.commit_machine.specs.Machine.{State, Seizing, Call, ToLoad, ToStage, ToPublish, ToErase, ToLock, ToUnlock, ToSeize, ToRelease, after_reply}
 use Rattle.commit_machine.specs.Goes.{IsOf, loads, stages, stage_fails, publishes, erases, locks, unlocks, seizes, releases, reply}
-use Rattle.commit_machine.specs.Lawful.{standing, HasRight, IsSound, IsFresh}
+use Rattle.commit_machine.specs.Lawful.{IsSound}
 use Rattle.commit_machine.specs.Due.{settled_files, settled_locks, files_then, is_decision, applied}
-use Rattle.commit_machine.proofs.Inv.{Closing, Rest, Own, Clean, Idle, IsValid, Ours, ThenOk, AllDone, AllClear, Over, Ends, Subset, Covers, LocksLeft, Among, PartPlaced, Knows, IsOwnEnd}
-use Rattle.commit_machine.proofs.Same.{same_refl, same_true, same_false, same_or_not, put_here, put_there, has_Mem, Mem_has}
-use Rattle.commit_machine.proofs.NameLemmas.{record-new, staged-one, staged-record, staged-new, lawful-staged}
-use Rattle.commit_machine.proofs.RecordLemmas.{stands-lawful, record_of-written, record_of-is, valid-lawful}
-use Rattle.commit_machine.proofs.Keep.{keep_new, keep_staged, keep_place, keep_erase, keep_prepare, renamed, renamed_to, renamed_from, renamed_other, record-staged, record_name-not}
-use Rattle.commit_machine.proofs.Sound.{sound_new, sound_staged, sound_erase, sound_place, sound_unlock, sound_lock, lock_same, lock_erase, lock_own, lock_prepare, lock_commit}
-use Rattle.commit_machine.proofs.Decided.{IsDistinct, named, names_Mem, decided}
-use Rattle.commit_machine.proofs.States.{names-entries_for, names-prepare, to_prepare, knows_unlocking, knows_placing, knows_undoing, knows_refusing, knows_staging, knows_loading, knows_locking, knows_looked, knows_wanted, knows_mended}
+use Rattle.commit_machine.proofs.Inv.{Knows}
 use Rattle.std.proofs.Common.{◌++◌}
-use Rattle.host_port.specs.declared.event.ForeignStep.{ForeignStep}
 use Rattle.host_port.specs.declared.event.Part.{Part}
 use Rattle.host_port.specs.Disk.{disk, after_step}
 use Rattle.host_port.specs.Ends.{cut_short, stopped, ended, is_after, is_open}
 use Rattle.host_port.specs.Own.{own}
 use Rattle.host_port.specs.Ran.{Honest}
-use Rattle.commit_machine.specs.Machine.{refused, next}
+use Rattle.commit_machine.specs.Machine.{next}
 use Rattle.commit_machine.specs.Goes.{IsNext, Goes}
-use Rattle.commit_machine.specs.Lawful.{IsLawful, OthersAreLawful}
-use Rattle.commit_machine.specs.Due.{files_after, locks_after, locks_then, renewed, same_file, same_lock}
-use Rattle.commit_machine.specs.Laws.{IsRun, IsSettledAs, IsDue, in_flight, is_foreign, StopSafe, OnlyDecisions, DecisionsApply}
-use Rattle.commit_machine.proofs.Steps.{Shows, Kept}
+use Rattle.commit_machine.specs.Lawful.{OthersAreLawful}
+use Rattle.commit_machine.specs.Due.{files_after, locks_after, locks_then, same_file, same_lock}
+use Rattle.commit_machine.specs.Laws.{IsSettledAs, in_flight, is_foreign, StopSafe, OnlyDecisions, DecisionsApply}
 use Rattle.commit_machine.proofs.LawfulLemmas.{lawful_keeps}
 use Rattle.commit_machine.proofs.Others.{others_knows}
 use Rattle.commit_machine.proofs.RunLemmas
@@ -122,9 +102,10 @@ locks_by_own j d (event.Foreign f) owners n own_one = absurd (cc)
 locks_by_own j d e owners n own_one = refl
 
 pub only_decisions : OnlyDecisions
-only_decisions j d before e files owners n own_one nay =
-    (files_at_end j d before e files n ∙ files_by_decision j (disk d before) e (files_after j d files before) n own_one ∙ rw nay refl,
-     locks_at_end j d before e owners n ∙ locks_by_own j (disk d before) e (locks_after j d owners before) n own_one)
+only_decisions j d before e files owners n own_one nay = (
+  files_at_end j d before e files n ∙ files_by_decision j (disk d before) e (files_after j d files before) n own_one ∙ rw nay refl,
+  locks_at_end j d before e owners n ∙ locks_by_own j (disk d before) e (locks_after j d owners before) n own_one,
+)
 
 own_decision : (j : Job) (d : Disk) (e : Event) → is_decision j e d ≡ true → is_foreign e ≡ false
 own_decision j d (event.Foreign f) y = absurd (cc)

@@ -1,6 +1,6 @@
 -- Laws of the machine.
-use Rattle.std.specs.Prelude.{◌≡◌, ◌⊎◌, ℕ, Bool, true, false, List, [], ◌∷◌, ◌++◌, if◌then◌else◌}
-use Rattle.std.specs.declared.option.Option.TheVariants.{Some, None}
+use Rattle.std.specs.Prelude.{◌≡◌, ℕ, Bool, true, false, List, [], ◌∷◌, ◌++◌, if◌then◌else◌}
+use Rattle.std.specs.declared.option.Option.TheVariants.{None}
 use Rattle.host_port.specs.declared.event.Event.{Event}
 use Rattle.host_port.specs.declared.event.Event.TheVariants.{Foreign, Release}
 use Rattle.host_port.specs.declared.event.Part.{Part}

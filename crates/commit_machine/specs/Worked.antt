@@ -1,8 +1,6 @@
 -- Worked runs: the events of a commit and of recoveries on small disks.
-use Rattle.std.specs.Prelude.{◌≡◌, ℕ, zero, suc, Bool, true, false, List, [], ◌∷◌, ◌++◌, codes, take, is_some, if◌then◌else◌}
-use Rattle.std.specs.declared.option.Option.{Option}
+use Rattle.std.specs.Prelude.{◌≡◌, ℕ, zero, suc, true, false, List, [], ◌∷◌, codes, take, is_some}
 use Rattle.std.specs.declared.option.Option.TheVariants.{Some, None}
-use Rattle.std.specs.Str.{bytes_eq}
 use Rattle.commit_record.specs.Format.{written}
 use Rattle.commit_record.specs.declared.record.Phase.{Phase}
 use Rattle.commit_record.specs.declared.record.Phase.TheVariants.{Prepare, Go}
@@ -15,7 +13,7 @@ use Rattle.host_port.specs.Disk.{Disk, after, disk}
 use Rattle.host_port.specs.Ends.{carried_out}
 use Rattle.host_port.specs.Ran.{Honest}
 use Rattle.commit_machine.specs.Names.{record_name, new_name, right_name, staged_name}
-use Rattle.commit_machine.specs.Jobs.{Verdict, Puts, Edit, Job, Made, prepare_of, go_of, entries_for}
+use Rattle.commit_machine.specs.Jobs.{Puts, Edit, Job, entries_for}
 use Rattle.commit_machine.specs.Machine.{State, Seizing, Call, ToLoad, ToStage, ToPublish, ToErase, ToLock, ToUnlock, ToSeize, ToRelease, next, after_reply}
 use Rattle.commit_machine.specs.Goes.{reply, Goes}
 use Rattle.commit_machine.specs.Due.{is_decision}
