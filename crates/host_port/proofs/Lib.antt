@@ -2,3 +2,4 @@ pub mod RanLemmas
 pub mod OwnLemmas
 pub mod NamedLemmas
 pub mod TapeLemmas
+pub mod PlanLemmas

@@ -5,6 +5,7 @@ pub mod Calls
 pub mod Own
 pub mod Ran
 pub mod Views
+pub mod Plans
 pub mod Pairs
 pub mod Tapes
 pub mod Standings

@@ -6,7 +6,9 @@ use Rattle.host_port.specs.declared.event.Event.{Event}
 use Rattle.host_port.specs.declared.memory.MemHost.{MemHost}
 use Rattle.host_port.specs.Disk.{Disk}
 use Rattle.host_port.specs.Calls.{Counts}
+use Rattle.host_port.specs.Plans.{AddsPlanned}
 use Rattle.host_port.specs.Views.{disk_of, part_at, next_call, steps_before, AddsOne}
+use Rattle.host_port.specs.declared.event.Part.{Part}
 use Rattle.std.specs.declared.result.Result.{Result}
 use Rattle.std.specs.declared.result.Result.TheVariants.{Err}
 use Rattle.host_port.specs.declared.event.LoadAnswer.{LoadAnswer}
@@ -43,3 +45,13 @@ pub record IsAsPlanned (old new : MemHost) (failed : Bool) : Type 0 where
   pub plan : new.plan ≡ old.plan
   pub calls : new.calls ≡ next_call old.calls
   pub told : (trace : List Event) → host_told new ≡ Some trace → (failed ≡ fails_next old) × (own : Event) × AddsOne old.tape.trace.items trace (steps_before old.plan.foreign (next_call old.calls)) own
+
+-- The same of a call on the disk, whose own event is as the plan has it: carried out, or failing with this part done.
+pub record IsDoneAsPlanned (old new : MemHost) (whole : Event) (part : Option Part) (failed : Bool) : Type 0 where
+  pub plan : new.plan ≡ old.plan
+  pub calls : new.calls ≡ next_call old.calls
+  pub told : (trace : List Event) → host_told new ≡ Some trace → AddsPlanned (host_start old) old.tape.trace.items trace (steps_before old.plan.foreign (next_call old.calls)) whole part failed
+
+-- the part that the plan has for the next call
+abbrev pub next_part : MemHost → Option Part
+next_part m = part_at m.plan.fails (next_call m.calls)

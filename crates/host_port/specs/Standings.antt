@@ -1,5 +1,4 @@
 -- The disk that a host in memory keeps.
-use Rattle.std.specs.Prelude.{◌≡◌}
 use Rattle.host_port.specs.declared.standing.Standing.{Standing}
 use Rattle.host_port.specs.Disk.{Disk}
 use Rattle.host_port.specs.Tapes.{shown}

@@ -1,10 +1,9 @@
 -- The disk that values by name show.
 use Rattle.std.specs.Prelude.{◌≡◌, ℕ, List}
 use Rattle.std.specs.declared.option.Option.{Option}
-use Rattle.host_port.specs.declared.event.Event.{Event}
 use Rattle.host_port.specs.declared.event.Holder.{Holder}
-use Rattle.host_port.specs.Disk.{Disk, disk}
-use Rattle.host_port.specs.Views.{named, disk_of}
+use Rattle.host_port.specs.Disk.{Disk}
+use Rattle.host_port.specs.Views.{named}
 
 abbrev pub shown : List (List ℕ × Option (List ℕ)) → List (List ℕ × Option ℕ) → List (List ℕ × Option Holder) → Disk
 shown files locks rights = record { files = named files; locks = named locks; rights = named rights }

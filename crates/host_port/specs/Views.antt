@@ -8,10 +8,6 @@ use Rattle.host_port.specs.declared.event.ForeignStep.{ForeignStep}
 use Rattle.host_port.specs.declared.event.Event.{Event}
 use Rattle.host_port.specs.declared.event.Event.TheVariants.{Foreign}
 use Rattle.host_port.specs.declared.event.Part.{Part}
-use Rattle.std.specs.declared.result.Result.{Result}
-use Rattle.host_port.specs.declared.event.LoadAnswer.{LoadAnswer}
-use Rattle.host_port.specs.declared.host.LoadError.{LoadError}
-use Rattle.host_port.specs.Calls.{Loaded}
 use Rattle.host_port.specs.Disk.{Disk, disk}
 
 -- what a list of pairs has for a name
@@ -53,11 +49,11 @@ part_at (p ∷ ps) call = if p.0 == call then Some p.1 else part_at ps call
 abbrev pub next_call : ℕ → ℕ
 next_call calls = min (calls + 1) (2 ^ 64 - 1)
 
--- a trace with the steps of others and one load more, which agrees with the disk at its place
-pub record AddsLoad (start : Disk) (old new : List Event) (steps : List ForeignStep) (name : List ℕ) (r : Result LoadAnswer LoadError) : Type 0 where
+-- a trace with the steps of others and one event more, of which this holds on the disk at its place
+pub record AddsCall (start : Disk) (old new : List Event) (steps : List ForeignStep) (Happened : Disk → Event → Type 0) : Type 0 where
   pub own : Event
   pub is : new ≡ old ++ (map Foreign steps ++ own ∷ [])
-  pub agrees : Loaded name r (disk start (old ++ map Foreign steps)) own
+  pub happened : Happened (disk start (old ++ map Foreign steps)) own
 
 -- the first of two that is there
 abbrev pub or_else : {A : Type 0} → Option A → Option A → Option A

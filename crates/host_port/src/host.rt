@@ -1,7 +1,7 @@
 ghost use Rattle.std.specs.Prelude.{◌≡◌, ◌≤◌, ◌<◌, List, ℕ, Option, length, IfOk, OnErr};
 ghost use Rattle.host_port.specs.Disk.{Disk};
 ghost use Rattle.host_port.specs.Names.{IsFileName};
-ghost use Rattle.host_port.specs.Calls.{Calls, Counts, NeverFall, Rose, Filled, Said, Loaded, LoadCause};
+ghost use Rattle.host_port.specs.Calls.{Calls, Counts, NeverFall, Rose, Filled, Said, Loaded, LoadCause, Staged, Published, Erased, Locked, Unlocked, Seized, Released};
 ghost use Rattle.host_port.specs.declared.event.Event.{Event};
 
 use crate::LoadAnswer;
@@ -71,4 +71,62 @@ pub trait Host {
         ensures call { Calls (start self.old) (told self.old) (told self.new) (Loaded name.now result) }
         ensures counts { NeverFall (counts self.old) (counts self.new) }
         ensures cause { LoadCause (counts self.old).disks (counts self.new).disks result };
+
+    /// Writes a whole file, durably. After Ok it has exactly these bytes.
+    fn stage(&mut self, name: &[u8], bytes: &[u8]) -> Result<(), DiskFault>
+        requires { IsFileName name.now }
+        ensures start { start self.new ≡ start self.old }
+        ensures call { Calls (start self.old) (told self.old) (told self.new) (Staged name.now bytes.now result) }
+        ensures counts { NeverFall (counts self.old) (counts self.new) }
+        ensures cause { OnErr result (Rose (counts self.old).disks (counts self.new).disks) };
+
+    /// Gives a file another name, where it takes the place of what stood there. False exactly where the file is absent,
+    /// and then nothing changes.
+    fn publish(&mut self, from: &[u8], to: &[u8]) -> Result<bool, DiskFault>
+        requires source { IsFileName from.now }
+        requires target { IsFileName to.now }
+        ensures start { start self.new ≡ start self.old }
+        ensures call { Calls (start self.old) (told self.old) (told self.new) (Published from.now to.now result) }
+        ensures counts { NeverFall (counts self.old) (counts self.new) }
+        ensures cause { OnErr result (Rose (counts self.old).disks (counts self.new).disks) };
+
+    /// Takes a file away. An absent file is no fault.
+    fn erase(&mut self, name: &[u8]) -> Result<(), DiskFault>
+        requires { IsFileName name.now }
+        ensures start { start self.new ≡ start self.old }
+        ensures call { Calls (start self.old) (told self.old) (told self.new) (Erased name.now result) }
+        ensures counts { NeverFall (counts self.old) (counts self.new) }
+        ensures cause { OnErr result (Rose (counts self.old).disks (counts self.new).disks) };
+
+    /// Puts a lock on a name. True where it now stands with this token, false exactly where a lock stood.
+    fn lock(&mut self, name: &[u8], token: u64) -> Result<bool, DiskFault>
+        requires { IsFileName name.now }
+        ensures start { start self.new ≡ start self.old }
+        ensures call { Calls (start self.old) (told self.old) (told self.new) (Locked name.now token result) }
+        ensures counts { NeverFall (counts self.old) (counts self.new) }
+        ensures cause { OnErr result (Rose (counts self.old).disks (counts self.new).disks) };
+
+    /// Takes the lock on a name away where its owner is this token; else nothing changes.
+    fn unlock(&mut self, name: &[u8], token: u64) -> Result<(), DiskFault>
+        requires { IsFileName name.now }
+        ensures start { start self.new ≡ start self.old }
+        ensures call { Calls (start self.old) (told self.old) (told self.new) (Unlocked name.now token result) }
+        ensures counts { NeverFall (counts self.old) (counts self.new) }
+        ensures cause { OnErr result (Rose (counts self.old).disks (counts self.new).disks) };
+
+    /// Takes the right of a name. True where the caller has it now, false exactly where another has it. It ends when its
+    /// holder stops.
+    fn seize(&mut self, name: &[u8]) -> Result<bool, DiskFault>
+        requires { IsFileName name.now }
+        ensures start { start self.new ≡ start self.old }
+        ensures call { Calls (start self.old) (told self.old) (told self.new) (Seized name.now result) }
+        ensures counts { NeverFall (counts self.old) (counts self.new) }
+        ensures cause { OnErr result (Rose (counts self.old).disks (counts self.new).disks) };
+
+    /// Gives the right of a name up. Where the caller doesn't have it, nothing changes. It never fails.
+    fn release(&mut self, name: &[u8])
+        requires { IsFileName name.now }
+        ensures start { start self.new ≡ start self.old }
+        ensures call { Calls (start self.old) (told self.old) (told self.new) (Released name.now) }
+        ensures counts { NeverFall (counts self.old) (counts self.new) };
 }

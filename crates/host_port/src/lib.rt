@@ -2,8 +2,14 @@
 //! makes, and a host in memory that tells its trace.
 #![tactic(auto)]
 
+mod calls;
+mod disk_calls;
+#[cfg(test)]
+mod disk_tests;
+mod ending;
 mod event;
 mod host;
+mod images;
 mod memory;
 mod named;
 mod standing;

@@ -1,25 +1,25 @@
 // A host in memory, which tells its trace.
-ghost use Rattle.std.specs.Prelude.{◌≡◌, ◌<◌, ◌≤◌, ◌++◌, [], ◌∷◌, List, ℕ, Option, Some, None, true, false, length, take, OnOk, IfOk, OnErr, is_err, is_some, IsTrue, ◌↔◌};
-ghost use Rattle.std.specs.Option.{option_copied};
-ghost use Rattle.host_port.specs.Disk.{Disk, disk};
+ghost use Rattle.std.specs.Prelude.{◌≡◌, ◌<◌, ◌≤◌, ◌+◌, ◌++◌, ◌∷◌, [], List, ℕ, Option, Some, None, true, false, length, IfOk, OnErr, is_err, IsTrue, ◌↔◌};
+ghost use Rattle.host_port.specs.Disk.{disk};
+ghost use Rattle.host_port.specs.Ends.{stopped};
 ghost use Rattle.host_port.specs.Names.{IsFileName};
-ghost use Rattle.host_port.specs.Calls.{Calls, NeverFall, Rose, Filled, Said, Loaded, LoadCause};
+ghost use Rattle.host_port.specs.Calls.{Calls, NeverFall, Rose, Filled, Said, Loaded, LoadCause, Staged, Published, Erased, Locked, Unlocked, Seized, Released};
 ghost use Rattle.host_port.specs.Tapes.{ShowsSame};
-ghost use Rattle.host_port.specs.Views.{disk_of, lookup, AddsOne, AddsLoad, steps_before, part_at};
+ghost use Rattle.host_port.specs.Views.{disk_of};
 ghost use Rattle.host_port.specs.declared.event.Event.{Event};
 ghost use Rattle.host_port.specs.declared.event.Event.TheVariants as event;
 
+use crate::calls::{failing, tell_failed_load, tell_in, tell_load, tell_out, tell_release};
+use crate::disk_calls::{tell_erase, tell_lock, tell_publish, tell_seize, tell_stage, tell_unlock};
+use crate::images::{image, show};
 use crate::named::Named;
 use crate::standing::Standing;
-use crate::tape::{Tape, add_others, copy_files, copy_locks, show_files, show_locks};
+use crate::tape::{Tape, copy_files, copy_locks};
 use crate::{
-    DiskView, Event, ForeignStep, Host, InFault, LoadAnswer, LoadError, OutFault, Part, Plan, Seen,
+    DiskFault, DiskView, Event, Host, InFault, LoadAnswer, LoadError, OutFault, Part, Plan,
 };
-use mail_text::{Items, Memory, Text};
+use mail_text::{Memory, Text};
 use std::alloc::Global;
-
-/// The most bytes of a file that a load takes.
-const LOAD_LIMIT: usize = 268_435_456;
 
 /// A host in memory. It tells its trace until one of its calls is refused memory; from then on it is lost.
 ///
@@ -37,134 +37,6 @@ pub struct MemHost {
     ins: u64,
     outs: u64,
     disks: u64,
-}
-
-// What a failing call of this number leaves, or None where it doesn't fail.
-fn failing(plan: &[(u64, Part)], call: u64) -> Option<&Part>
-    ensures { option_copied result ≡ part_at plan.now call }
-{
-    for (at, part) in plan {
-        if *at == call {
-            return Some(part);
-        }
-    }
-    None
-}
-
-// The steps of others before the call of this number, and its own event.
-fn tell(
-    alloc: Global,
-    plan: &[(u64, ForeignStep)],
-    call: u64,
-    tape: &mut Tape,
-    event: Event,
-) -> Result<(), Memory>
-    ensures ok { OnOk result (AddsOne tape.old.trace.items tape.new.trace.items (steps_before plan.now call) event) }
-    ensures start { tape.new.start ≡ tape.old.start }
-{
-    add_others(alloc, plan, call, tape)?;
-    tape.add(alloc, event)
-}
-
-fn tell_in(
-    alloc: Global,
-    plan: &[(u64, ForeignStep)],
-    call: u64,
-    tape: &mut Tape,
-    bytes: &[u8],
-    failed: bool,
-) -> Result<(), Memory>
-    ensures ok { OnOk result (AddsOne tape.old.trace.items tape.new.trace.items (steps_before plan.now call) (event.In bytes.now failed)) }
-    ensures start { tape.new.start ≡ tape.old.start }
-{
-    let bytes = Text::copy(alloc, bytes)?;
-    tell(alloc, plan, call, tape, Event::In { bytes, failed })
-}
-
-fn tell_out(
-    alloc: Global,
-    plan: &[(u64, ForeignStep)],
-    call: u64,
-    tape: &mut Tape,
-    bytes: &[u8],
-    failed: bool,
-) -> Result<(), Memory>
-    ensures ok { OnOk result (AddsOne tape.old.trace.items tape.new.trace.items (steps_before plan.now call) (event.Out bytes.now failed)) }
-    ensures start { tape.new.start ≡ tape.old.start }
-{
-    let bytes = Text::copy(alloc, bytes)?;
-    tell(alloc, plan, call, tape, Event::Out { bytes, failed })
-}
-
-fn copy_found(alloc: Global, found: Option<&Text>) -> Result<Option<Text>, Memory>
-    ensures { IfOk result (λ r. r ≡ option_copied found.entry) }
-{
-    match found {
-        None => Ok(None),
-        Some(text) => Ok(Some(Text::copy(alloc, text.bytes())?)),
-    }
-}
-
-// The answer of a load and what it sees, by the disk that the tape shows.
-fn look(
-    alloc: Global,
-    tape: &Tape,
-    name: &[u8],
-) -> Result<(Result<LoadAnswer, LoadError>, Event), Memory>
-    ensures loaded { IfOk result (λ r. Loaded name.now r.0 (disk (disk_of tape.now.start.files tape.now.start.locks) tape.now.trace.items) r.1) }
-    ensures cause { IfOk result (λ r. LoadCause 0 0 r.0) }
-{
-    let held = tape.standing.locks.has(name);
-    let found = tape.standing.files.get(name);
-    let name = Text::copy(alloc, name)?;
-    if let Some(text) = found
-        && text.bytes().len() > LOAD_LIMIT
-    {
-        let length = text.bytes().len() as u64;
-        let seen = Seen::TooLarge { length };
-        return Ok((
-            Err(LoadError::TooLarge { length }),
-            Event::Load { name, seen },
-        ));
-    }
-    let bytes = copy_found(alloc, found)?;
-    let seen = Seen::Bytes {
-        bytes: copy_found(alloc, found)?,
-        held,
-    };
-    Ok((Ok(LoadAnswer { bytes, held }), Event::Load { name, seen }))
-}
-
-fn tell_load(
-    alloc: Global,
-    plan: &[(u64, ForeignStep)],
-    call: u64,
-    tape: &mut Tape,
-    name: &[u8],
-) -> Result<Result<LoadAnswer, LoadError>, Memory>
-    ensures ok { IfOk result (λ r. AddsLoad (disk_of tape.old.start.files tape.old.start.locks) tape.old.trace.items tape.new.trace.items (steps_before plan.now call) name.now r) }
-    ensures cause { IfOk result (λ r. LoadCause 0 0 r) }
-    ensures start { tape.new.start ≡ tape.old.start }
-{
-    add_others(alloc, plan, call, tape)?;
-    let (answer, event) = look(alloc, tape, name)?;
-    tape.add(alloc, event)?;
-    Ok(answer)
-}
-
-fn tell_failed_load(
-    alloc: Global,
-    plan: &[(u64, ForeignStep)],
-    call: u64,
-    tape: &mut Tape,
-    name: &[u8],
-) -> Result<(), Memory>
-    ensures ok { OnOk result (AddsLoad (disk_of tape.old.start.files tape.old.start.locks) tape.old.trace.items tape.new.trace.items (steps_before plan.now call) name.now (Err LoadError.Failed)) }
-    ensures start { tape.new.start ≡ tape.old.start }
-{
-    let name = Text::copy(alloc, name)?;
-    let seen = Seen::Failed;
-    tell(alloc, plan, call, tape, Event::Load { name, seen })
 }
 
 impl MemHost {
@@ -213,9 +85,15 @@ impl MemHost {
     pub fn view(&self) -> Result<DiskView, Memory>
         ensures { IfOk result (λ v. (trace : List Event) → host_told self.now ≡ Some trace → ShowsSame (disk_of v.files v.locks) (disk (host_start self.now) trace)) }
     {
-        let files = show_files(self.alloc, &self.tape.standing.files)?;
-        let locks = show_locks(self.alloc, &self.tape.standing.locks)?;
-        Ok(DiskView { files, locks })
+        show(self.alloc, &self.tape.standing)
+    }
+
+    /// The image of a stop inside the event of this number, counted from 1, of which this part was done: what stands where
+    /// the run ends there. Past the trace's end, and on a lost host, what it gives is open.
+    pub fn stop_at(&self, n: usize, part: &Part) -> Result<DiskView, Memory>
+        ensures { IfOk result (λ v. (before rest : List Event) (e : Event) → host_told self.now ≡ Some (before ++ e ∷ rest) → length before + 1 ≡ n → ShowsSame (disk_of v.files v.locks) (stopped (disk (host_start self.now) before) e part.now)) }
+    {
+        image(self.alloc, &self.tape.start, &self.tape.trace, n, part)
     }
 
     /// Whether a call was refused memory. It takes no memory.
@@ -227,7 +105,7 @@ impl MemHost {
 }
 
 impl Host for MemHost {
-    ghost use Rattle.host_port.specs.MemHosts.{host_told, host_start, host_counts, is_failed_load, IsAsPlanned};
+    ghost use Rattle.host_port.specs.MemHosts.{host_told, host_start, host_counts, is_failed_load, next_part, IsAsPlanned, IsDoneAsPlanned};
 
     ghost start = { host_start };
 
@@ -350,6 +228,171 @@ impl Host for MemHost {
                 self.lost = true;
                 Err(LoadError::Memory)
             }
+        }
+    }
+
+    fn stage(&mut self, name: &[u8], bytes: &[u8]) -> Result<(), DiskFault>
+        requires { IsFileName name.now }
+        ensures start { host_start self.new ≡ host_start self.old }
+        ensures call { Calls (host_start self.old) (host_told self.old) (host_told self.new) (Staged name.now bytes.now result) }
+        ensures counts { NeverFall (host_counts self.old) (host_counts self.new) }
+        ensures cause { OnErr result (Rose (host_counts self.old).disks (host_counts self.new).disks) }
+        ensures planned { IsDoneAsPlanned self.old self.new (event.Stage name.now (Some bytes.now) false) (next_part self.old) (is_err result) }
+    {
+        self.calls = self.calls.saturating_add(1);
+        if !self.lost {
+            match tell_stage(
+                self.alloc,
+                &self.plan,
+                self.calls,
+                &mut self.tape,
+                name,
+                bytes,
+            ) {
+                Ok(Ok(())) => return Ok(()),
+                Ok(Err(_)) => {}
+                Err(_) => self.lost = true,
+            }
+        }
+        self.disks = self.disks.saturating_add(1);
+        Err(DiskFault)
+    }
+
+    fn publish(&mut self, from: &[u8], to: &[u8]) -> Result<bool, DiskFault>
+        requires source { IsFileName from.now }
+        requires target { IsFileName to.now }
+        ensures start { host_start self.new ≡ host_start self.old }
+        ensures call { Calls (host_start self.old) (host_told self.old) (host_told self.new) (Published from.now to.now result) }
+        ensures counts { NeverFall (host_counts self.old) (host_counts self.new) }
+        ensures cause { OnErr result (Rose (host_counts self.old).disks (host_counts self.new).disks) }
+        ensures planned { IsDoneAsPlanned self.old self.new (event.Publish from.now to.now true false) (next_part self.old) (is_err result) }
+    {
+        self.calls = self.calls.saturating_add(1);
+        if !self.lost {
+            match tell_publish(self.alloc, &self.plan, self.calls, &mut self.tape, from, to) {
+                Ok(Ok(answer)) => return Ok(answer),
+                Ok(Err(_)) => {}
+                Err(_) => self.lost = true,
+            }
+        }
+        self.disks = self.disks.saturating_add(1);
+        Err(DiskFault)
+    }
+
+    fn erase(&mut self, name: &[u8]) -> Result<(), DiskFault>
+        requires { IsFileName name.now }
+        ensures start { host_start self.new ≡ host_start self.old }
+        ensures call { Calls (host_start self.old) (host_told self.old) (host_told self.new) (Erased name.now result) }
+        ensures counts { NeverFall (host_counts self.old) (host_counts self.new) }
+        ensures cause { OnErr result (Rose (host_counts self.old).disks (host_counts self.new).disks) }
+        ensures planned { IsDoneAsPlanned self.old self.new (event.Erase name.now true false) (next_part self.old) (is_err result) }
+    {
+        self.calls = self.calls.saturating_add(1);
+        if !self.lost {
+            match tell_erase(self.alloc, &self.plan, self.calls, &mut self.tape, name) {
+                Ok(Ok(())) => return Ok(()),
+                Ok(Err(_)) => {}
+                Err(_) => self.lost = true,
+            }
+        }
+        self.disks = self.disks.saturating_add(1);
+        Err(DiskFault)
+    }
+
+    fn lock(&mut self, name: &[u8], token: u64) -> Result<bool, DiskFault>
+        requires { IsFileName name.now }
+        ensures start { host_start self.new ≡ host_start self.old }
+        ensures call { Calls (host_start self.old) (host_told self.old) (host_told self.new) (Locked name.now token result) }
+        ensures counts { NeverFall (host_counts self.old) (host_counts self.new) }
+        ensures cause { OnErr result (Rose (host_counts self.old).disks (host_counts self.new).disks) }
+        ensures planned { IsDoneAsPlanned self.old self.new (event.Lock name.now token true false) (next_part self.old) (is_err result) }
+    {
+        self.calls = self.calls.saturating_add(1);
+        if !self.lost {
+            match tell_lock(
+                self.alloc,
+                &self.plan,
+                self.calls,
+                &mut self.tape,
+                name,
+                token,
+            ) {
+                Ok(Ok(answer)) => return Ok(answer),
+                Ok(Err(_)) => {}
+                Err(_) => self.lost = true,
+            }
+        }
+        self.disks = self.disks.saturating_add(1);
+        Err(DiskFault)
+    }
+
+    fn unlock(&mut self, name: &[u8], token: u64) -> Result<(), DiskFault>
+        requires { IsFileName name.now }
+        ensures start { host_start self.new ≡ host_start self.old }
+        ensures call { Calls (host_start self.old) (host_told self.old) (host_told self.new) (Unlocked name.now token result) }
+        ensures counts { NeverFall (host_counts self.old) (host_counts self.new) }
+        ensures cause { OnErr result (Rose (host_counts self.old).disks (host_counts self.new).disks) }
+        ensures planned { IsDoneAsPlanned self.old self.new (event.Unlock name.now token true false) (next_part self.old) (is_err result) }
+    {
+        self.calls = self.calls.saturating_add(1);
+        if !self.lost {
+            match tell_unlock(
+                self.alloc,
+                &self.plan,
+                self.calls,
+                &mut self.tape,
+                name,
+                token,
+            ) {
+                Ok(Ok(())) => return Ok(()),
+                Ok(Err(_)) => {}
+                Err(_) => self.lost = true,
+            }
+        }
+        self.disks = self.disks.saturating_add(1);
+        Err(DiskFault)
+    }
+
+    fn seize(&mut self, name: &[u8]) -> Result<bool, DiskFault>
+        requires { IsFileName name.now }
+        ensures start { host_start self.new ≡ host_start self.old }
+        ensures call { Calls (host_start self.old) (host_told self.old) (host_told self.new) (Seized name.now result) }
+        ensures counts { NeverFall (host_counts self.old) (host_counts self.new) }
+        ensures cause { OnErr result (Rose (host_counts self.old).disks (host_counts self.new).disks) }
+        ensures planned { IsDoneAsPlanned self.old self.new (event.Seize name.now true false) (next_part self.old) (is_err result) }
+    {
+        self.calls = self.calls.saturating_add(1);
+        if !self.lost {
+            match tell_seize(self.alloc, &self.plan, self.calls, &mut self.tape, name) {
+                Ok(Ok(answer)) => return Ok(answer),
+                Ok(Err(_)) => {}
+                Err(_) => self.lost = true,
+            }
+        }
+        self.disks = self.disks.saturating_add(1);
+        Err(DiskFault)
+    }
+
+    fn release(&mut self, name: &[u8])
+        requires { IsFileName name.now }
+        ensures start { host_start self.new ≡ host_start self.old }
+        ensures call { Calls (host_start self.old) (host_told self.old) (host_told self.new) (Released name.now) }
+        ensures counts { NeverFall (host_counts self.old) (host_counts self.new) }
+        ensures planned { IsDoneAsPlanned self.old self.new (event.Release name.now) None false }
+    {
+        self.calls = self.calls.saturating_add(1);
+        if self.lost {
+            return;
+        }
+        match tell_release(
+            self.alloc,
+            self.plan.foreign.items(),
+            self.calls,
+            &mut self.tape,
+            name,
+        ) {
+            Ok(()) => {}
+            Err(_) => self.lost = true,
         }
     }
 }

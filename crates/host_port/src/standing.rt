@@ -1,5 +1,5 @@
 // What stands on the disk of a host in memory, and what events make of it.
-ghost use Rattle.std.specs.Prelude.{◌≡◌, List, ℕ, OnOk, OnErr};
+ghost use Rattle.std.specs.Prelude.{◌≡◌, List, ℕ, OnOk, OnErr, IfOk};
 ghost use Rattle.std.specs.Option.{option_copied};
 ghost use Rattle.host_port.specs.Disk.{with_at, after, after_step};
 ghost use Rattle.host_port.specs.Standings.{disk_now};
@@ -19,7 +19,18 @@ pub struct Standing {
     pub rights: Named<Holder>,
 }
 
-fn write(
+/// A copy of what was found.
+pub fn copy_found(alloc: Global, found: Option<&Text>) -> Result<Option<Text>, Memory>
+    ensures { IfOk result (λ r. r ≡ option_copied found.entry) }
+{
+    match found {
+        None => Ok(None),
+        Some(text) => Ok(Some(Text::copy(alloc, text.bytes())?)),
+    }
+}
+
+/// Makes these bytes, or none, what stands at a name.
+pub fn write(
     alloc: Global,
     files: &mut Named<Text>,
     name: &[u8],
@@ -37,7 +48,8 @@ fn write(
     }
 }
 
-fn rename(alloc: Global, files: &mut Named<Text>, from: &[u8], to: &[u8]) -> Result<(), Memory>
+/// Gives a file another name.
+pub fn rename(alloc: Global, files: &mut Named<Text>, from: &[u8], to: &[u8]) -> Result<(), Memory>
     ensures ok { OnOk result ((q : List ℕ) → named files.new q ≡ with_at (with_at (named files.old) from.now None) to.now (named files.old from.now) q) }
     ensures err { OnErr result (files.new ≡ files.old) }
 {
@@ -55,7 +67,8 @@ fn rename(alloc: Global, files: &mut Named<Text>, from: &[u8], to: &[u8]) -> Res
     Ok(())
 }
 
-fn effect_of_step(alloc: Global, disk: &mut Standing, step: &ForeignStep) -> Result<(), Memory>
+/// Carries out a step of another. After want of memory all is as before.
+pub fn effect_of_step(alloc: Global, disk: &mut Standing, step: &ForeignStep) -> Result<(), Memory>
     ensures ok { OnOk result (SameDisk (disk_now disk.new) (after_step (disk_now disk.old) step.now)) }
     ensures err { OnErr result (disk.new ≡ disk.old) }
 {

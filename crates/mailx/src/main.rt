@@ -2,11 +2,10 @@
 #![tactic(auto)]
 
 mod outside;
-mod real;
 
+use host_real::RealHost;
 use mail_text::{Items, Memory};
 use mailx_top::{Environment, run};
-use real::RealHost;
 use std::process::ExitCode;
 use std::random::RandomSource;
 
@@ -24,7 +23,7 @@ fn start(rt: HostRuntime) -> Result<u8, Memory> {
         terminal: false,
         token: u64::from_le_bytes(token),
     };
-    let mut host = RealHost::new(rt);
+    let mut host = RealHost::new(rt, alloc);
     Ok(run(alloc, &words, &env, &mut host).number())
 }
 

@@ -1,7 +1,7 @@
-use Rattle.std.proofs.Common.{◌≡◌, ap, sym, ◌∙◌, List, ℕ, None}
+use Rattle.std.proofs.Common.{ap, sym, ◌∙◌, None}
 use Rattle.host_port.specs.Disk.{with_at}
 use Rattle.host_port.specs.Pairs.{pairs_of}
-use Rattle.host_port.specs.Views.{named, lookup}
+use Rattle.host_port.specs.Views.{named}
 use Rattle.host_port.proofs.NamedLemmas.{named-clear, named-absent, lookup-pairs}
 use Rattle.host_port.proofs.named.Named.clear.Goals as goal
 use Rattle.host_port.proofs.named.Named.clear.Goals.{in-Some+in-Some-1, in-Some+in-None-1, in_default}

@@ -1,0 +1,8 @@
+//! The outside of the real machine: its standard input and output, its files, and locks and rights made of files.
+#![tactic(auto)]
+
+mod files;
+mod locks;
+mod real;
+
+pub use real::RealHost;
