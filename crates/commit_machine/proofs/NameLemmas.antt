@@ -2,14 +2,17 @@
 use Rattle.std.proofs.Common.{◌≡◌, ◌≢◌, ℕ, ◌-◌, ◌<◌, ◌/◌, ◌%◌, zero, suc, Bool, true, false, ◌&&◌, List, [], ◌∷◌, ◌++◌, length, drop, codes, slice_index, refl, ap, sym, subst, arith, length-append}
 use Rattle.std.proofs.lemmas.Bool.{and_parts}
 use Rattle.std.proofs.lemmas.Grind.{common_steps}
-use Rattle.std.proofs.lemmas.List.{drop_at}
+use Rattle.std.proofs.lemmas.List.{drop_at, take_at, take-append-drop}
+use Rattle.commit_machine.proofs.Same.{same_refl, same_true}
+use Rattle.std.specs.Str.{bytes_eq}
+use Rattle.std.proofs.Common.{◌||◌, ◌∙◌, take}
 use Rattle.std.specs.List.{list_all}
 use Rattle.std.specs.Int.{to_be_bytes, w64, bytes_high_first, byte_at}
 use Rattle.hex.specs.Hex.{encode_with, lower_digits}
 use Rattle.hex.proofs.HexLemmas.{length-encode_with}
 use Rattle.commit_record.specs.Format.{token_digits}
 use Rattle.commit_record.specs.Names.{is_lawful, is_staged_end, is_lower_hex}
-use Rattle.commit_machine.specs.Names.{record_name, new_name, staged_name}
+use Rattle.commit_machine.specs.Names.{record_name, new_name, staged_name, is_record_name}
 
 -- what stands behind two equal fronts is equal, and the other way round
 behind : (a b c : List ℕ) → a ++ b ≡ a ++ c → b ≡ c
@@ -121,3 +124,44 @@ staged-record t m actor = not_hex (staged_name t m) (record_name actor) 116 (las
 
 pub staged-new : (t : ℕ) (m actor : List ℕ) → staged_name t m ≢ new_name actor
 staged-new t m actor = not_hex (staged_name t m) (new_name actor) 119 (last-staged t m) (last-new actor) refl
+
+same_tests : (a b : Bool) → (a ≡ true → b ≡ true) → (b ≡ true → a ≡ true) → a ≡ b
+same_tests true b f g = sym (f refl)
+same_tests false true f g = absurd (let w = g refl in cc)
+same_tests false false f g = refl
+
+-- a name is an actor's with an end where its front is the actor and its back the end
+pub name_parts : (actor end n : List ℕ) → bytes_eq n (actor ++ end) ≡ (bytes_eq (take (length actor) n) actor && bytes_eq (drop (length actor) n) end)
+name_parts actor end n = same_tests (bytes_eq n (actor ++ end)) (bytes_eq (take (length actor) n) actor && bytes_eq (drop (length actor) n) end) there back
+  where
+    there : bytes_eq n (actor ++ end) ≡ true → (bytes_eq (take (length actor) n) actor && bytes_eq (drop (length actor) n) end) ≡ true
+    there y =
+        let is : n ≡ actor ++ end = same_true n (actor ++ end) y in
+        let front : take (length actor) n ≡ actor = ap (take (length actor)) is ∙ take_at actor end (length actor) refl in
+        let rest : drop (length actor) n ≡ end = ap (drop (length actor)) is ∙ drop_at actor end (length actor) refl in
+        let f : bytes_eq (take (length actor) n) actor ≡ true = subst (λ (z : List ℕ). bytes_eq z actor ≡ true) (sym front) (same_refl actor) in
+        let r : bytes_eq (drop (length actor) n) end ≡ true = subst (λ (z : List ℕ). bytes_eq z end ≡ true) (sym rest) (same_refl end) in
+        and_both _ _ f r
+
+    back : (bytes_eq (take (length actor) n) actor && bytes_eq (drop (length actor) n) end) ≡ true → bytes_eq n (actor ++ end) ≡ true
+    back y =
+        let p = and_parts (bytes_eq (take (length actor) n) actor) (bytes_eq (drop (length actor) n) end) y in
+        let front : take (length actor) n ≡ actor = same_true _ _ p.0 in
+        let rest : drop (length actor) n ≡ end = same_true _ _ p.1 in
+        let is : n ≡ actor ++ end = sym (take-append-drop (length actor) n) ∙ ap (λ (z : List ℕ). z ++ drop (length actor) n) front ∙ ap (λ (z : List ℕ). actor ++ z) rest in
+        subst (λ (z : List ℕ). bytes_eq z (actor ++ end) ≡ true) (sym is) (same_refl (actor ++ end))
+
+-- the test for record names by the front of a name
+pub by_front : (actor n end : List ℕ) → bytes_eq (take (length actor) n) actor ≡ true → end ≡ drop (length actor) n → (bytes_eq end (codes ".commit") || bytes_eq end (codes ".commit.new")) ≡ is_record_name actor n
+unfolding record_name new_name
+by_front actor n end front rest =
+    let a : bytes_eq n (actor ++ codes ".commit") ≡ bytes_eq end (codes ".commit") = name_parts actor (codes ".commit") n ∙ ap (λ (b : Bool). b && bytes_eq (drop (length actor) n) (codes ".commit")) front ∙ ap (λ (z : List ℕ). bytes_eq z (codes ".commit")) (sym rest) in
+    let b : bytes_eq n (actor ++ codes ".commit.new") ≡ bytes_eq end (codes ".commit.new") = name_parts actor (codes ".commit.new") n ∙ ap (λ (b : Bool). b && bytes_eq (drop (length actor) n) (codes ".commit.new")) front ∙ ap (λ (z : List ℕ). bytes_eq z (codes ".commit.new")) (sym rest) in
+    ap (λ (x : Bool). x || bytes_eq end (codes ".commit.new")) (sym a) ∙ ap (λ (y : Bool). bytes_eq n (actor ++ codes ".commit") || y) (sym b)
+
+pub other_front : (actor n : List ℕ) → bytes_eq (take (length actor) n) actor ≡ false → false ≡ is_record_name actor n
+unfolding record_name new_name
+other_front actor n front =
+    let a : bytes_eq n (actor ++ codes ".commit") ≡ false = name_parts actor (codes ".commit") n ∙ ap (λ (b : Bool). b && bytes_eq (drop (length actor) n) (codes ".commit")) front in
+    let b : bytes_eq n (actor ++ codes ".commit.new") ≡ false = name_parts actor (codes ".commit.new") n ∙ ap (λ (b : Bool). b && bytes_eq (drop (length actor) n) (codes ".commit.new")) front in
+    ap (λ (x : Bool). x || false) (sym a) ∙ ap (λ (y : Bool). bytes_eq n (actor ++ codes ".commit") || y) (sym b)
