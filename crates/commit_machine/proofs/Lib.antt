@@ -17,3 +17,4 @@ pub mod RunLemmas
 pub mod StopLemmas
 pub mod EndLemmas
 pub mod WorkedLemmas
+pub mod ToldLemmas

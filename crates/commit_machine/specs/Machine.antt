@@ -133,15 +133,23 @@ next j Checking = Some (ToLoad (record_name j.actor))
 next j (Releasing why) = Some (ToRelease (right_name j.actor))
 next j (Ended why) = None
 
--- whether the decision was passed at a state where a call failed
+-- whether the decision was passed at a state where a call fails
+abbrev pub passed_ending : Ending → Passed
+passed_ending Done = After
+passed_ending (Failed passed) = passed
+passed_ending e = Before
+
 abbrev pub passed_then : Then → Passed
-passed_then (Answer Done) = After
-passed_then th = Before
+passed_then GoOn = Before
+passed_then (Answer e) = passed_ending e
 
 abbrev pub passed_at : State → Passed
+passed_at (Undoing r n ns ls th) = passed_then th
 passed_at (Placing r n ns ls th) = passed_then th
 passed_at (Unlocking r n ns th) = passed_then th
 passed_at (Erasing r th) = passed_then th
+passed_at (Releasing e) = passed_ending e
+passed_at (Ended e) = passed_ending e
 passed_at Checking = Unknown
 passed_at s = Before
 
@@ -161,12 +169,12 @@ abbrev pub saw : Job → State → Option (List ℕ) → State
 saw j Looking c = looked j c
 saw j (Loading done e left) c = loaded j done e left c (e.by c)
 saw j Checking c = Releasing (Failed (passed_by j c))
-saw j s c = Releasing (Failed Before)
+saw j s c = Releasing (Failed (passed_at s))
 
 abbrev pub too_long : Job → State → ℕ → State
 too_long j Looking n = Releasing (Refused (TooLarge (record_name j.actor) n))
 too_long j (Loading done e left) n = refusing j [] (all_of j) (Refused (TooLarge e.name n))
-too_long j s n = Releasing (Failed Before)
+too_long j s n = Releasing (Failed (passed_at s))
 
 abbrev pub went_on : Job → State → Bool → State
 went_on j Seizing true = Looking
@@ -187,7 +195,7 @@ went_on j (Deciding done) b = Committing done
 went_on j (Committing done) true = placing (go_of j done) (all_of j) (all_of j) (Answer Done)
 went_on j (Committing done) false = Releasing (Refused NotARecord)
 went_on j (Releasing why) b = Ended why
-went_on j s b = Releasing (Failed Before)
+went_on j s b = Releasing (Failed (passed_at s))
 
 -- Want of memory in place of the next call: the clean-up. Where a record is closed by an own decision or a clean-up, no memory is taken.
 abbrev pub refused : Job → State → State

@@ -1,4 +1,4 @@
-ghost use Rattle.commit_machine.specs.Laws.{CrashSafe, FrontIsRun, StopSafe, OnlyDecisions, DecisionsApply, NothingLeft, NoRecordStands, RecoverySettles};
+ghost use Rattle.commit_machine.specs.Laws.{CrashSafe, FrontIsRun, StopSafe, OnlyDecisions, DecisionsApply, NothingLeft, NoRecordStands, RecoverySettles, DecisionsAreTold};
 ghost use Rattle.commit_machine.specs.Worked.{AloneGoes, WorkedRuns};
 
 /// At every moment of a commit or a recovery, whatever others lawfully do meanwhile, what recovery
@@ -41,6 +41,12 @@ pub fn no_record_stands()
 /// When a recovery that is done gives up its right the disk is its own settled disk.
 pub fn recovery_settles()
     ensures { RecoverySettles }
+{}
+
+/// A job that ends as done was decided once, in its events; one that is refused, wants memory or
+/// recovers was never decided. One that failed says whether it was, or that it doesn't know.
+pub fn decisions_are_told()
+    ensures { DecisionsAreTold }
 {}
 
 /// The events that the machine makes where each call is carried out are a run's.
