@@ -4,5 +4,7 @@
 mod files;
 mod locks;
 mod real;
+#[cfg(test)]
+mod tests;
 
 pub use real::RealHost;

@@ -21,7 +21,7 @@ pub struct RealHost<R: Input> {
     rights: Vec<(Text, File)>,
     ins: u64,
     outs: u64,
-    disks: u64,
+    pub(crate) disks: u64,
 }
 
 impl<R: Files<File = File> + Input + Print + Drop> RealHost<R> {
