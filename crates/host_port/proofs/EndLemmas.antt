@@ -1,14 +1,10 @@
 -- What the events of calls on the disk say is so, whether the calls were carried out or failed.
 use Rattle.std.proofs.Common.{◌≡◌, ℕ, List, Bool, true, false, refl, sym, subst, ◌&&◌}
-use Rattle.std.specs.declared.option.Option.{Option}
-use Rattle.std.specs.declared.option.Option.TheVariants.{Some, None}
 use Rattle.std.specs.declared.result.Result.{Result}
 use Rattle.std.specs.declared.result.Result.TheVariants.{Ok, Err}
 use Rattle.std.specs.Prelude.{is_some, is_none}
 use Rattle.host_port.specs.declared.event.Event.{Event}
 use Rattle.host_port.specs.declared.event.Event.TheVariants.{In, Out, Load, Stage, Publish, Erase, Lock, Unlock, Seize, Release, Foreign}
-use Rattle.host_port.specs.declared.event.Holder.{Holder}
-use Rattle.host_port.specs.declared.event.Holder.TheVariants.{Own, Other}
 use Rattle.host_port.specs.declared.event.Part.{Part}
 use Rattle.host_port.specs.declared.host.DiskFault.{DiskFault}
 use Rattle.host_port.specs.Calls.{Staged, Published, Erased, Locked, Unlocked, Seized, Released}

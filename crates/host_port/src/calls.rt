@@ -1,16 +1,14 @@
 // What the calls of a host in memory add to its tape.
-ghost use Rattle.std.specs.Prelude.{◌≡◌, [], ◌∷◌, ◌++◌, List, ℕ, Option, Some, None, true, false, map, OnOk, IfOk, is_err};
+ghost use Rattle.std.specs.Prelude.{◌≡◌, Option, Some, None, OnOk, IfOk};
 ghost use Rattle.std.specs.Option.{option_copied};
 ghost use Rattle.host_port.specs.Disk.{disk};
-ghost use Rattle.host_port.specs.Calls.{Loaded, LoadCause, Staged, Published, Erased, Locked, Unlocked, Seized, Released};
-ghost use Rattle.host_port.specs.Plans.{Ended, AddsPlanned};
+ghost use Rattle.host_port.specs.Calls.{Loaded, LoadCause};
 ghost use Rattle.host_port.specs.Views.{disk_of, AddsOne, AddsCall, steps_before, part_at};
 ghost use Rattle.host_port.specs.declared.event.Event.TheVariants as event;
 
-use crate::ending::{answer, settle};
 use crate::standing::copy_found;
 use crate::tape::{Tape, add_others};
-use crate::{DiskFault, Event, ForeignStep, LoadAnswer, LoadError, Part, Plan, Seen};
+use crate::{Event, ForeignStep, LoadAnswer, LoadError, Part, Seen};
 use mail_text::{Memory, Text};
 use std::alloc::Global;
 
@@ -44,6 +42,7 @@ fn tell(
     tape.add(alloc, event)
 }
 
+/// Tells that input was taken.
 pub fn tell_in(
     alloc: Global,
     plan: &[(u64, ForeignStep)],
@@ -59,6 +58,7 @@ pub fn tell_in(
     tell(alloc, plan, call, tape, Event::In { bytes, failed })
 }
 
+/// Tells that output went out.
 pub fn tell_out(
     alloc: Global,
     plan: &[(u64, ForeignStep)],
@@ -104,6 +104,7 @@ fn look(
     Ok((Ok(LoadAnswer { bytes, held }), Event::Load { name, seen }))
 }
 
+/// Tells a load, and gives its answer.
 pub fn tell_load(
     alloc: Global,
     plan: &[(u64, ForeignStep)],
@@ -121,6 +122,7 @@ pub fn tell_load(
     Ok(answer)
 }
 
+/// Tells a load that failed.
 pub fn tell_failed_load(
     alloc: Global,
     plan: &[(u64, ForeignStep)],
@@ -136,6 +138,7 @@ pub fn tell_failed_load(
     tell(alloc, plan, call, tape, Event::Load { name, seen })
 }
 
+/// Tells that a right was given up.
 pub fn tell_release(
     alloc: Global,
     plan: &[(u64, ForeignStep)],

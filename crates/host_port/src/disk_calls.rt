@@ -1,17 +1,16 @@
 // What the calls on the disk of a host in memory add to its tape.
-ghost use Rattle.std.specs.Prelude.{◌≡◌, [], ◌∷◌, ◌++◌, List, ℕ, Option, Some, None, true, false, map, OnOk, IfOk, is_err};
-ghost use Rattle.std.specs.Option.{option_copied};
+ghost use Rattle.std.specs.Prelude.{◌≡◌, Some, None, true, false, IfOk, is_err};
 ghost use Rattle.host_port.specs.Disk.{disk};
-ghost use Rattle.host_port.specs.Calls.{Loaded, LoadCause, Staged, Published, Erased, Locked, Unlocked, Seized, Released};
+ghost use Rattle.host_port.specs.Calls.{Staged, Published, Erased, Locked, Unlocked, Seized};
 ghost use Rattle.host_port.specs.Plans.{Ended, AddsPlanned};
-ghost use Rattle.host_port.specs.Views.{disk_of, AddsOne, AddsCall, steps_before, part_at};
+ghost use Rattle.host_port.specs.Views.{disk_of, AddsCall, steps_before, part_at};
 ghost use Rattle.host_port.specs.declared.event.Event.TheVariants as event;
 
 use crate::calls::failing;
 use crate::ending::{answer, settle};
 use crate::standing::copy_found;
 use crate::tape::{Tape, add_others};
-use crate::{DiskFault, Event, ForeignStep, LoadAnswer, LoadError, Part, Plan, Seen};
+use crate::{DiskFault, Event, Plan};
 use mail_text::{Memory, Text};
 use std::alloc::Global;
 
@@ -39,6 +38,7 @@ pub fn tell_disk(
     }
 }
 
+/// Tells that a file was written whole, or what a failing call left.
 pub fn tell_stage(
     alloc: Global,
     plan: &Plan,
@@ -65,6 +65,7 @@ pub fn tell_stage(
     }
 }
 
+/// Tells that a file was given another name, or that the call failed.
 pub fn tell_publish(
     alloc: Global,
     plan: &Plan,
@@ -88,6 +89,7 @@ pub fn tell_publish(
     tell_disk(alloc, plan, call, tape, event)
 }
 
+/// Tells that a file was taken away, or that the call failed.
 pub fn tell_erase(
     alloc: Global,
     plan: &Plan,
@@ -112,6 +114,7 @@ pub fn tell_erase(
     }
 }
 
+/// Tells that a lock was put, or that the call failed.
 pub fn tell_lock(
     alloc: Global,
     plan: &Plan,
@@ -134,6 +137,7 @@ pub fn tell_lock(
     tell_disk(alloc, plan, call, tape, event)
 }
 
+/// Tells that a lock was taken away, or that the call failed.
 pub fn tell_unlock(
     alloc: Global,
     plan: &Plan,
@@ -160,6 +164,7 @@ pub fn tell_unlock(
     }
 }
 
+/// Tells that a right was taken, or that the call failed.
 pub fn tell_seize(
     alloc: Global,
     plan: &Plan,

@@ -1,5 +1,5 @@
 // A host in memory, which tells its trace.
-ghost use Rattle.std.specs.Prelude.{◌≡◌, ◌<◌, ◌≤◌, ◌+◌, ◌++◌, ◌∷◌, [], List, ℕ, Option, Some, None, true, false, length, IfOk, OnErr, is_err, IsTrue, ◌↔◌};
+ghost use Rattle.std.specs.Prelude.{◌≡◌, ◌<◌, ◌≤◌, ◌+◌, ◌++◌, ◌∷◌, [], List, Some, None, true, false, length, IfOk, OnErr, is_err, IsTrue, ◌↔◌};
 ghost use Rattle.host_port.specs.Disk.{disk};
 ghost use Rattle.host_port.specs.Ends.{stopped};
 ghost use Rattle.host_port.specs.Names.{IsFileName};

@@ -1,7 +1,6 @@
 // Values by name.
 ghost use Rattle.std.specs.Prelude.{◌≡◌, [], List, ℕ, Option, OnOk, OnErr, is_some, length, slice_get, option_map};
 ghost use Rattle.std.specs.Option.{option_copied};
-ghost use Rattle.std.specs.Str.{bytes_eq};
 ghost use Rattle.host_port.specs.Disk.{with_at};
 ghost use Rattle.host_port.specs.Views.{named, names_of};
 

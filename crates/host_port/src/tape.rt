@@ -1,6 +1,5 @@
 // The trace of a host in memory, and the disk that it makes.
-ghost use Rattle.std.specs.Prelude.{◌≡◌, ◌++◌, [], ◌∷◌, List, ℕ, OnOk, OnErr, IfOk, map, Some, None, true, is_some, slice_get};
-ghost use Rattle.std.specs.Option.{option_copied};
+ghost use Rattle.std.specs.Prelude.{◌≡◌, ◌++◌, [], ◌∷◌, List, ℕ, OnOk, OnErr, IfOk, map, Some, slice_get};
 ghost use Rattle.host_port.specs.Disk.{disk};
 ghost use Rattle.host_port.specs.Standings.{disk_now};
 ghost use Rattle.host_port.specs.Tapes.{SameDisk};
