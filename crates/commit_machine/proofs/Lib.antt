@@ -18,3 +18,4 @@ pub mod StopLemmas
 pub mod EndLemmas
 pub mod WorkedLemmas
 pub mod ToldLemmas
+pub mod GoesLemmas

@@ -29,7 +29,7 @@ use Rattle.host_port.specs.Disk.{disk, after_step}
 use Rattle.host_port.specs.Own.{own}
 use Rattle.host_port.specs.Ran.{Honest}
 use Rattle.commit_machine.specs.Jobs.{Before, After}
-use Rattle.commit_machine.specs.Machine.{Reply, Went, Saw, Long, Short, Fault, refused, wanted, next, faulted, saw, too_long, went_on, passed_at, passed_then, passed_ending, place_one, mended, none_stands, record_seen, looked, is_own_go, passed_by}
+use Rattle.commit_machine.specs.Machine.{Reply, Went, Saw, Long, Short, Fault, refused, short_of, wanted, next, faulted, saw, too_long, went_on, passed_at, passed_then, passed_ending, place_one, mended, none_stands, record_seen, looked, is_own_go, passed_by}
 use Rattle.commit_machine.specs.Records.{record_of}
 use Rattle.commit_machine.specs.Goes.{IsNext, Goes}
 use Rattle.commit_machine.specs.Lawful.{IsLawful, OthersAreLawful}
@@ -67,6 +67,13 @@ tells_passed (Recovered found) n t = t
 tells_passed (Refused why) n t = t
 tells_passed (Failed passed) n t = t
 tells_passed NoMemory n t = t
+
+tells_short : (e : Ending) (n : ℕ) → TellsDecisions e n → TellsDecisions (short_of e) n
+tells_short Done n t = t
+tells_short (Recovered found) n t = t
+tells_short (Refused why) n t = t
+tells_short (Failed passed) n t = t
+tells_short NoMemory n t = t
 
 then_passed : (th : Then) (n : ℕ) → told_then th n → TellsDecisions (Failed (passed_then th)) n
 then_passed GoOn n t = t
@@ -141,18 +148,19 @@ module _ (j : Job) (d : Disk) (n : ℕ) where
 
   told_refused : (s : State) → Told j s d n → Told j (refused j s) d n
   told_refused (Undoing r m ns ls GoOn) t = t
-  told_refused (Undoing r m ns ls (Answer a)) t = t
+  told_refused (Undoing r m ns ls (Answer a)) t = tells_short a n t
   told_refused (Placing r m ns ls GoOn) t = t
-  told_refused (Placing r m ns ls (Answer a)) t = t
+  told_refused (Placing r m ns ls (Answer a)) t = tells_short a n t
   told_refused (Unlocking r m ns GoOn) t = t
-  told_refused (Unlocking r m ns (Answer a)) t = t
+  told_refused (Unlocking r m ns (Answer a)) t = tells_short a n t
   told_refused (Erasing r GoOn) t = t
-  told_refused (Erasing r (Answer a)) t = t
+  told_refused (Erasing r (Answer a)) t = tells_short a n t
   told_refused (Locking ls e left) t = told_undoing (prepare_of j) [] ls (Answer NoMemory) t
   told_refused (Loading made e left) t = told_undoing (prepare_of j) [] (all_of j) (Answer NoMemory) t
   told_refused (Staging ns made x left) t = told_undoing (prepare_of j) ns (all_of j) (Answer NoMemory) t
   told_refused (Deciding made) t = told_undoing (prepare_of j) (all_of j) (all_of j) (Answer NoMemory) t
   told_refused (Committing made) t = told_undoing (prepare_of j) (all_of j) (all_of j) (Answer NoMemory) t
+  told_refused (Releasing a) t = tells_short a n t
   told_refused s t = t
 
   told_wanted : (s : State) → IsPlain s → Told j s d n → Told j (wanted j s) d n

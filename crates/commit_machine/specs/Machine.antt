@@ -197,14 +197,23 @@ went_on j (Committing done) false = Releasing (Refused NotARecord)
 went_on j (Releasing why) b = Ended why
 went_on j s b = Releasing (Failed (passed_at s))
 
--- Want of memory in place of the next call: the clean-up. Where a record is closed by an own decision or a clean-up, no memory is taken.
+-- want of memory takes the place of a refusal, and of no other answer
+abbrev pub short_of : Ending → Ending
+short_of (Refused why) = NoMemory
+short_of e = e
+
+-- Want of memory in place of the next call: the clean-up. One that has begun goes on, and so does what follows a decision.
 abbrev pub refused : Job → State → State
 refused j Seizing = Ended NoMemory
 refused j Looking = Releasing NoMemory
 refused j (Undoing r n ns ls GoOn) = Releasing NoMemory
+refused j (Undoing r n ns ls (Answer e)) = Undoing r n ns ls (Answer (short_of e))
 refused j (Placing r n ns ls GoOn) = Releasing NoMemory
+refused j (Placing r n ns ls (Answer e)) = Placing r n ns ls (Answer (short_of e))
 refused j (Unlocking r n ns GoOn) = Releasing NoMemory
+refused j (Unlocking r n ns (Answer e)) = Unlocking r n ns (Answer (short_of e))
 refused j (Erasing r GoOn) = Releasing NoMemory
+refused j (Erasing r (Answer e)) = Erasing r (Answer (short_of e))
 refused j (Clearing found) = Releasing NoMemory
 refused j Preparing = Releasing NoMemory
 refused j Publishing = Releasing NoMemory
@@ -213,6 +222,7 @@ refused j (Loading done e left) = refusing j [] (all_of j) NoMemory
 refused j (Staging ns done x left) = refusing j ns (all_of j) NoMemory
 refused j (Deciding done) = refusing j (all_of j) (all_of j) NoMemory
 refused j (Committing done) = refusing j (all_of j) (all_of j) NoMemory
+refused j (Releasing e) = Releasing (short_of e)
 refused j s = s
 
 -- a load that wants memory: that of a decision in flight counts as a failed one
