@@ -1,9 +1,9 @@
 -- Stretches of a machine's events, one after the other.
-use Rattle.std.proofs.Common.{◌≡◌, ◌⊎◌, ℕ, Bool, true, false, List, [], ◌∷◌, ◌++◌, Option, Some, None, refl, ap, sym, subst, inl, inr, ◌∙◌}
+use Rattle.std.proofs.Common.{◌≡◌, ℕ, List, [], ◌∷◌, ◌++◌, refl, ap, sym, subst, inl, inr, ◌∙◌}
 use Rattle.commit_record.specs.declared.record.Record.{Record}
 use Rattle.host_port.specs.declared.event.Event.{Event}
 use Rattle.commit_machine.specs.Jobs.{Ending, Done, Recovered, Refused, Failed, NoMemory, Job, all_of, prepare_of}
-use Rattle.commit_machine.specs.Machine.{Then, GoOn, Answer, State, Seizing, Looking, Undoing, Placing, Unlocking, Erasing, Clearing, Preparing, Publishing, Locking, Loading, Staging, Deciding, Committing, Checking, Releasing, Ended, unlocking, undoing, refusing, refused, short_of, next, after_reply}
+use Rattle.commit_machine.specs.Machine.{GoOn, Answer, State, Seizing, Looking, Undoing, Placing, Unlocking, Erasing, Clearing, Preparing, Publishing, Locking, Loading, Staging, Deciding, Committing, Checking, Releasing, Ended, unlocking, undoing, refused, short_of, next, after_reply}
 use Rattle.commit_machine.specs.Goes.{IsNext, Goes, reply}
 
 short_twice : (e : Ending) → short_of (short_of e) ≡ short_of e

@@ -19,3 +19,4 @@ pub mod EndLemmas
 pub mod WorkedLemmas
 pub mod ToldLemmas
 pub mod GoesLemmas
+pub mod EditLemmas

@@ -14,8 +14,8 @@ use Rattle.host_port.specs.Disk.{Disk, after}
 use Rattle.host_port.specs.Ran.{Agrees}
 use Rattle.commit_machine.specs.Names.{record_name, new_name, staged_name}
 use Rattle.commit_machine.specs.Records.{record_in, is_go, names_of, kind_of}
-use Rattle.commit_machine.specs.Jobs.{Ending, Done, Recovered, Refused, Failed, NoMemory, Found, Busy, TooLarge, Verdict, Puts, Refuses, Edit, Job, Made, IsJob, edits_of, all_of, prepare_of, go_of}
-use Rattle.commit_machine.specs.Machine.{Then, GoOn, Answer, State, Seizing, Looking, Undoing, Placing, Unlocking, Erasing, Clearing, Preparing, Publishing, Locking, Loading, Staging, Deciding, Committing, Checking, Releasing, Ended, ToLoad, ToPublish, after_reply, undoing, placing, unlocking, locking, loaded, loading, staging}
+use Rattle.commit_machine.specs.Jobs.{Ending, Done, Recovered, Refused, Failed, NoMemory, Found, Busy, TooLarge, Outcome, Puts, Edit, Job, Made, IsJob, edits_of, all_of, prepare_of, go_of}
+use Rattle.commit_machine.specs.Machine.{Then, GoOn, Answer, State, Seizing, Looking, Undoing, Placing, Unlocking, Erasing, Clearing, Preparing, Publishing, Locking, Loading, Staging, Deciding, Committing, Checking, Releasing, Ended, ToLoad, ToPublish, after_reply, undoing, placing, unlocking, locking, loaded, loading, judged, staging}
 use Rattle.commit_machine.specs.Goes.{IsOf, loads, stages, stage_fails, publishes, erases, locks, unlocks, seizes, releases, reply}
 use Rattle.commit_machine.specs.Lawful.{standing, HasRight, IsSound}
 use Rattle.commit_machine.specs.Due.{settled_files, settled_locks, is_decision}
@@ -28,7 +28,7 @@ use Rattle.host_port.specs.declared.event.ForeignStep.{ForeignStep}
 use Rattle.host_port.specs.Disk.{disk, after_step}
 use Rattle.host_port.specs.Own.{own}
 use Rattle.host_port.specs.Ran.{Honest}
-use Rattle.commit_machine.specs.Jobs.{Before, After}
+use Rattle.commit_machine.specs.Jobs.{Before, After, Refusal, seen_files}
 use Rattle.commit_machine.specs.Machine.{Reply, Went, Saw, Long, Short, Fault, refused, short_of, wanted, next, faulted, saw, too_long, went_on, passed_at, passed_then, passed_ending, place_one, mended, none_stands, record_seen, looked, is_own_go, passed_by}
 use Rattle.commit_machine.specs.Records.{record_of}
 use Rattle.commit_machine.specs.Goes.{IsNext, Goes}
@@ -114,8 +114,12 @@ module _ (j : Job) (d : Disk) (n : ℕ) where
   told_staging ns made [] t = t
   told_staging ns made (x ∷ left) t = t
 
-  told_loading : (made : List Made) (left : List Edit) → n ≡ 0 → Told j (loading made left) d n
-  told_loading made [] t = told_staging [] made made t
+  told_judged : (made : List Made) (o : Option Refusal) → n ≡ 0 → Told j (judged j made o) d n
+  told_judged made None t = told_staging [] made made t
+  told_judged made (Some why) t = told_undoing (prepare_of j) [] (all_of j) (Answer (Refused why)) t
+
+  told_loading : (made : List Made) (left : List Edit) → n ≡ 0 → Told j (loading j made left) d n
+  told_loading made [] t = told_judged made (j.refusal (seen_files made)) t
   told_loading made (e ∷ left) t = t
 
   told_locking : (ls : List (List ℕ)) (left : List Edit) → n ≡ 0 → Told j (locking j ls left) d n
@@ -142,8 +146,7 @@ module _ (j : Job) (d : Disk) (n : ℕ) where
   told_looked None t = told_none j.edits t
   told_looked (Some bytes) t = told_record (record_of bytes) t
 
-  told_loaded : (made : List Made) (x : Edit) (left : List Edit) (c : Option (List ℕ)) (v : Verdict) → n ≡ 0 → Told j (loaded j made x left c v) d n
-  told_loaded made x left c (Refuses why) t = told_undoing (prepare_of j) [] (all_of j) (Answer (Refused why)) t
+  told_loaded : (made : List Made) (x : Edit) (left : List Edit) (c : Option (List ℕ)) (v : Outcome) → n ≡ 0 → Told j (loaded j made x left c v) d n
   told_loaded made x left c (Puts kind content) t = told_loading _ left t
 
   told_refused : (s : State) → Told j s d n → Told j (refused j s) d n

@@ -6,7 +6,7 @@ use Rattle.commit_record.specs.declared.record.EntryKind.TheVariants.{Replace}
 use Rattle.commit_record.specs.declared.record.Record.{Record}
 use Rattle.commit_machine.specs.Names.{record_name, new_name, right_name, staged_name}
 use Rattle.commit_machine.specs.Records.{record_in, record_of, is_go, names_of, kind_of}
-use Rattle.commit_machine.specs.Jobs.{Passed, Before, After, Unknown, Found, Nothing, RolledBack, Finished, Busy, NotARecord, TooLarge, Ending, Done, Recovered, Refused, Failed, NoMemory, Verdict, Puts, Refuses, Edit, Job, Made, edits_of, all_of, prepare_of, go_of}
+use Rattle.commit_machine.specs.Jobs.{Passed, Before, After, Unknown, Found, Nothing, RolledBack, Finished, Busy, NotARecord, TooLarge, Ending, Done, Recovered, Refused, Failed, NoMemory, Refusal, Outcome, Puts, Edit, Job, Made, edits_of, all_of, seen_files, prepare_of, go_of}
 
 -- what follows when a record is done with: the rest of the job, or the end
 pub data Then : Type 0 where
@@ -73,14 +73,6 @@ abbrev pub staging : List (List ℕ) → List Made → List Made → State
 staging ns done [] = Deciding done
 staging ns done (x ∷ left) = Staging ns done x left
 
-abbrev pub loading : List Made → List Edit → State
-loading done [] = staging [] done done
-loading done (e ∷ left) = Loading done e left
-
-abbrev pub locking : Job → List (List ℕ) → List Edit → State
-locking j ls [] = loading [] (edits_of j)
-locking j ls (e ∷ left) = Locking ls e left
-
 -- once no record stands
 abbrev pub mended : Option (List Edit) → Found → State
 mended None found = Releasing (Recovered found)
@@ -109,9 +101,21 @@ looked j (Some bytes) = record_seen (record_of bytes)
 abbrev pub refusing : Job → List (List ℕ) → List (List ℕ) → Ending → State
 refusing j ns ls why = undoing (prepare_of j) ns ls (Answer why)
 
-abbrev pub loaded : Job → List Made → Edit → List Edit → Option (List ℕ) → Verdict → State
-loaded j done e left seen (Refuses why) = refusing j [] (all_of j) (Refused why)
-loaded j done e left seen (Puts kind content) = loading (done ++ (record { edit = e; seen = seen; kind = kind; content = content } ∷ [])) left
+-- once all files are loaded: the job is refused, or the outcomes are staged
+abbrev pub judged : Job → List Made → Option Refusal → State
+judged j done None = staging [] done done
+judged j done (Some why) = refusing j [] (all_of j) (Refused why)
+
+abbrev pub loading : Job → List Made → List Edit → State
+loading j done [] = judged j done (j.refusal (seen_files done))
+loading j done (e ∷ left) = Loading done e left
+
+abbrev pub locking : Job → List (List ℕ) → List Edit → State
+locking j ls [] = loading j [] (edits_of j)
+locking j ls (e ∷ left) = Locking ls e left
+
+abbrev pub loaded : Job → List Made → Edit → List Edit → Option (List ℕ) → Outcome → State
+loaded j done e left seen (Puts kind content) = loading j (done ++ (record { edit = e; seen = seen; kind = kind; content = content } ∷ [])) left
 
 -- the next call; none at the end
 abbrev pub next : Job → State → Option Call
