@@ -5,6 +5,7 @@ use Rattle.host_port.specs.declared.event.Event.{Event}
 use Rattle.commit_machine.specs.Jobs.{Ending, Done, Recovered, Refused, Failed, NoMemory, Job, all_of, prepare_of}
 use Rattle.commit_machine.specs.Machine.{GoOn, Answer, State, Seizing, Looking, Undoing, Placing, Unlocking, Erasing, Clearing, Preparing, Publishing, Locking, Loading, Staging, Deciding, Committing, Checking, Releasing, Ended, unlocking, undoing, refused, short_of, next, after_reply}
 use Rattle.commit_machine.specs.Goes.{IsNext, Goes, reply}
+use Rattle.commit_machine.specs.Laws.{StretchesJoin}
 
 short_twice : (e : Ending) → short_of (short_of e) ≡ short_of e
 short_twice Done = refl
@@ -68,3 +69,6 @@ module _ (j : Job) where
 
   pub goes_short : (s : State) → Goes j s [] (refused j s)
   goes_short s = inr refl
+
+pub stretches_join : StretchesJoin
+stretches_join j first mid last xs ys x y = goes_then j xs ys first mid last x y

@@ -1,4 +1,4 @@
-ghost use Rattle.commit_machine.specs.Laws.{CrashSafe, FrontIsRun, StopSafe, OnlyDecisions, DecisionsApply, NothingLeft, NoRecordStands, RecoverySettles, DecisionsAreTold};
+ghost use Rattle.commit_machine.specs.Laws.{CrashSafe, FrontIsRun, StretchesJoin, StopSafe, OnlyDecisions, DecisionsApply, NothingLeft, NoRecordStands, RecoverySettles, DecisionsAreTold};
 ghost use Rattle.commit_machine.specs.Edits.{EditsAreChanges};
 ghost use Rattle.commit_machine.specs.Worked.{AloneGoes, WorkedRuns};
 
@@ -12,6 +12,11 @@ pub fn crash_safe()
 /// What stands at the front of a run is a run, so what is said of a run holds at each moment of it.
 pub fn front_is_run()
     ensures { FrontIsRun }
+{}
+
+/// Stretches of the machine's events, one after the other, are a stretch.
+pub fn stretches_join()
+    ensures { StretchesJoin }
 {}
 
 /// The same of each disk that is left where the run stops before or inside an event.
