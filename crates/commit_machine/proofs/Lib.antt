@@ -18,3 +18,5 @@ pub mod StopLemmas
 pub mod EndLemmas
 pub mod WorkedLemmas
 pub mod ToldLemmas
+pub mod GoesLemmas
+pub mod EditLemmas

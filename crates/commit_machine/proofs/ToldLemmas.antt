@@ -14,8 +14,8 @@ use Rattle.host_port.specs.Disk.{Disk, after}
 use Rattle.host_port.specs.Ran.{Agrees}
 use Rattle.commit_machine.specs.Names.{record_name, new_name, staged_name}
 use Rattle.commit_machine.specs.Records.{record_in, is_go, names_of, kind_of}
-use Rattle.commit_machine.specs.Jobs.{Ending, Done, Recovered, Refused, Failed, NoMemory, Found, Busy, TooLarge, Verdict, Puts, Refuses, Edit, Job, Made, IsJob, edits_of, all_of, prepare_of, go_of}
-use Rattle.commit_machine.specs.Machine.{Then, GoOn, Answer, State, Seizing, Looking, Undoing, Placing, Unlocking, Erasing, Clearing, Preparing, Publishing, Locking, Loading, Staging, Deciding, Committing, Checking, Releasing, Ended, ToLoad, ToPublish, after_reply, undoing, placing, unlocking, locking, loaded, loading, staging}
+use Rattle.commit_machine.specs.Jobs.{Ending, Done, Recovered, Refused, Failed, NoMemory, Found, Busy, TooLarge, Outcome, Puts, Edit, Job, Made, IsJob, edits_of, all_of, prepare_of, go_of}
+use Rattle.commit_machine.specs.Machine.{Then, GoOn, Answer, State, Seizing, Looking, Undoing, Placing, Unlocking, Erasing, Clearing, Preparing, Publishing, Locking, Loading, Staging, Deciding, Committing, Checking, Releasing, Ended, ToLoad, ToPublish, after_reply, undoing, placing, unlocking, locking, loaded, loading, judged, staging}
 use Rattle.commit_machine.specs.Goes.{IsOf, loads, stages, stage_fails, publishes, erases, locks, unlocks, seizes, releases, reply}
 use Rattle.commit_machine.specs.Lawful.{standing, HasRight, IsSound}
 use Rattle.commit_machine.specs.Due.{settled_files, settled_locks, is_decision}
@@ -28,8 +28,8 @@ use Rattle.host_port.specs.declared.event.ForeignStep.{ForeignStep}
 use Rattle.host_port.specs.Disk.{disk, after_step}
 use Rattle.host_port.specs.Own.{own}
 use Rattle.host_port.specs.Ran.{Honest}
-use Rattle.commit_machine.specs.Jobs.{Before, After}
-use Rattle.commit_machine.specs.Machine.{Reply, Went, Saw, Long, Short, Fault, refused, wanted, next, faulted, saw, too_long, went_on, passed_at, passed_then, passed_ending, place_one, mended, none_stands, record_seen, looked, is_own_go, passed_by}
+use Rattle.commit_machine.specs.Jobs.{Before, After, Refusal, seen_files}
+use Rattle.commit_machine.specs.Machine.{Reply, Went, Saw, Long, Short, Fault, refused, short_of, wanted, next, faulted, saw, too_long, went_on, passed_at, passed_then, passed_ending, place_one, mended, none_stands, record_seen, looked, is_own_go, passed_by}
 use Rattle.commit_machine.specs.Records.{record_of}
 use Rattle.commit_machine.specs.Goes.{IsNext, Goes}
 use Rattle.commit_machine.specs.Lawful.{IsLawful, OthersAreLawful}
@@ -67,6 +67,13 @@ tells_passed (Recovered found) n t = t
 tells_passed (Refused why) n t = t
 tells_passed (Failed passed) n t = t
 tells_passed NoMemory n t = t
+
+tells_short : (e : Ending) (n : ℕ) → TellsDecisions e n → TellsDecisions (short_of e) n
+tells_short Done n t = t
+tells_short (Recovered found) n t = t
+tells_short (Refused why) n t = t
+tells_short (Failed passed) n t = t
+tells_short NoMemory n t = t
 
 then_passed : (th : Then) (n : ℕ) → told_then th n → TellsDecisions (Failed (passed_then th)) n
 then_passed GoOn n t = t
@@ -107,8 +114,12 @@ module _ (j : Job) (d : Disk) (n : ℕ) where
   told_staging ns made [] t = t
   told_staging ns made (x ∷ left) t = t
 
-  told_loading : (made : List Made) (left : List Edit) → n ≡ 0 → Told j (loading made left) d n
-  told_loading made [] t = told_staging [] made made t
+  told_judged : (made : List Made) (o : Option Refusal) → n ≡ 0 → Told j (judged j made o) d n
+  told_judged made None t = told_staging [] made made t
+  told_judged made (Some why) t = told_undoing (prepare_of j) [] (all_of j) (Answer (Refused why)) t
+
+  told_loading : (made : List Made) (left : List Edit) → n ≡ 0 → Told j (loading j made left) d n
+  told_loading made [] t = told_judged made (j.refusal (seen_files made)) t
   told_loading made (e ∷ left) t = t
 
   told_locking : (ls : List (List ℕ)) (left : List Edit) → n ≡ 0 → Told j (locking j ls left) d n
@@ -135,24 +146,24 @@ module _ (j : Job) (d : Disk) (n : ℕ) where
   told_looked None t = told_none j.edits t
   told_looked (Some bytes) t = told_record (record_of bytes) t
 
-  told_loaded : (made : List Made) (x : Edit) (left : List Edit) (c : Option (List ℕ)) (v : Verdict) → n ≡ 0 → Told j (loaded j made x left c v) d n
-  told_loaded made x left c (Refuses why) t = told_undoing (prepare_of j) [] (all_of j) (Answer (Refused why)) t
+  told_loaded : (made : List Made) (x : Edit) (left : List Edit) (c : Option (List ℕ)) (v : Outcome) → n ≡ 0 → Told j (loaded j made x left c v) d n
   told_loaded made x left c (Puts kind content) t = told_loading _ left t
 
   told_refused : (s : State) → Told j s d n → Told j (refused j s) d n
   told_refused (Undoing r m ns ls GoOn) t = t
-  told_refused (Undoing r m ns ls (Answer a)) t = t
+  told_refused (Undoing r m ns ls (Answer a)) t = tells_short a n t
   told_refused (Placing r m ns ls GoOn) t = t
-  told_refused (Placing r m ns ls (Answer a)) t = t
+  told_refused (Placing r m ns ls (Answer a)) t = tells_short a n t
   told_refused (Unlocking r m ns GoOn) t = t
-  told_refused (Unlocking r m ns (Answer a)) t = t
+  told_refused (Unlocking r m ns (Answer a)) t = tells_short a n t
   told_refused (Erasing r GoOn) t = t
-  told_refused (Erasing r (Answer a)) t = t
+  told_refused (Erasing r (Answer a)) t = tells_short a n t
   told_refused (Locking ls e left) t = told_undoing (prepare_of j) [] ls (Answer NoMemory) t
   told_refused (Loading made e left) t = told_undoing (prepare_of j) [] (all_of j) (Answer NoMemory) t
   told_refused (Staging ns made x left) t = told_undoing (prepare_of j) ns (all_of j) (Answer NoMemory) t
   told_refused (Deciding made) t = told_undoing (prepare_of j) (all_of j) (all_of j) (Answer NoMemory) t
   told_refused (Committing made) t = told_undoing (prepare_of j) (all_of j) (all_of j) (Answer NoMemory) t
+  told_refused (Releasing a) t = tells_short a n t
   told_refused s t = t
 
   told_wanted : (s : State) → IsPlain s → Told j s d n → Told j (wanted j s) d n

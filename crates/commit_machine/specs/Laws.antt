@@ -48,6 +48,10 @@ CrashSafe = (j : Job) (d : Disk) (es : List Event) (last : State) → IsRun j d 
 abbrev pub FrontIsRun : Type 0
 FrontIsRun = (j : Job) (d : Disk) (before rest : List Event) (last : State) → IsRun j d (before ++ rest) last → (now : State) × IsRun j d before now
 
+-- stretches of the machine's events, one after the other, are a stretch
+abbrev pub StretchesJoin : Type 0
+StretchesJoin = (j : Job) (first mid last : State) (xs ys : List Event) → Goes j first xs mid → Goes j mid ys last → Goes j first (xs ++ ys) last
+
 -- the part of an event that an image of a stop inside it holds: a failing form, or the step of another if it was done
 abbrev pub in_flight : Disk → Event → Part → List Event
 in_flight d (Foreign step) part = if is_after part then Foreign step ∷ [] else []

@@ -6,7 +6,7 @@ use Rattle.commit_record.specs.declared.record.EntryKind.TheVariants.{Replace}
 use Rattle.commit_record.specs.declared.record.Record.{Record}
 use Rattle.commit_machine.specs.Names.{record_name, new_name, right_name, staged_name}
 use Rattle.commit_machine.specs.Records.{record_in, record_of, is_go, names_of, kind_of}
-use Rattle.commit_machine.specs.Jobs.{Passed, Before, After, Unknown, Found, Nothing, RolledBack, Finished, Busy, NotARecord, TooLarge, Ending, Done, Recovered, Refused, Failed, NoMemory, Verdict, Puts, Refuses, Edit, Job, Made, edits_of, all_of, prepare_of, go_of}
+use Rattle.commit_machine.specs.Jobs.{Passed, Before, After, Unknown, Found, Nothing, RolledBack, Finished, Busy, NotARecord, TooLarge, Ending, Done, Recovered, Refused, Failed, NoMemory, Refusal, Outcome, Puts, Edit, Job, Made, edits_of, all_of, seen_files, prepare_of, go_of}
 
 -- what follows when a record is done with: the rest of the job, or the end
 pub data Then : Type 0 where
@@ -73,14 +73,6 @@ abbrev pub staging : List (List ℕ) → List Made → List Made → State
 staging ns done [] = Deciding done
 staging ns done (x ∷ left) = Staging ns done x left
 
-abbrev pub loading : List Made → List Edit → State
-loading done [] = staging [] done done
-loading done (e ∷ left) = Loading done e left
-
-abbrev pub locking : Job → List (List ℕ) → List Edit → State
-locking j ls [] = loading [] (edits_of j)
-locking j ls (e ∷ left) = Locking ls e left
-
 -- once no record stands
 abbrev pub mended : Option (List Edit) → Found → State
 mended None found = Releasing (Recovered found)
@@ -109,9 +101,21 @@ looked j (Some bytes) = record_seen (record_of bytes)
 abbrev pub refusing : Job → List (List ℕ) → List (List ℕ) → Ending → State
 refusing j ns ls why = undoing (prepare_of j) ns ls (Answer why)
 
-abbrev pub loaded : Job → List Made → Edit → List Edit → Option (List ℕ) → Verdict → State
-loaded j done e left seen (Refuses why) = refusing j [] (all_of j) (Refused why)
-loaded j done e left seen (Puts kind content) = loading (done ++ (record { edit = e; seen = seen; kind = kind; content = content } ∷ [])) left
+-- once all files are loaded: the job is refused, or the outcomes are staged
+abbrev pub judged : Job → List Made → Option Refusal → State
+judged j done None = staging [] done done
+judged j done (Some why) = refusing j [] (all_of j) (Refused why)
+
+abbrev pub loading : Job → List Made → List Edit → State
+loading j done [] = judged j done (j.refusal (seen_files done))
+loading j done (e ∷ left) = Loading done e left
+
+abbrev pub locking : Job → List (List ℕ) → List Edit → State
+locking j ls [] = loading j [] (edits_of j)
+locking j ls (e ∷ left) = Locking ls e left
+
+abbrev pub loaded : Job → List Made → Edit → List Edit → Option (List ℕ) → Outcome → State
+loaded j done e left seen (Puts kind content) = loading j (done ++ (record { edit = e; seen = seen; kind = kind; content = content } ∷ [])) left
 
 -- the next call; none at the end
 abbrev pub next : Job → State → Option Call
@@ -197,14 +201,23 @@ went_on j (Committing done) false = Releasing (Refused NotARecord)
 went_on j (Releasing why) b = Ended why
 went_on j s b = Releasing (Failed (passed_at s))
 
--- Want of memory in place of the next call: the clean-up. Where a record is closed by an own decision or a clean-up, no memory is taken.
+-- want of memory takes the place of a refusal, and of no other answer
+abbrev pub short_of : Ending → Ending
+short_of (Refused why) = NoMemory
+short_of e = e
+
+-- Want of memory in place of the next call: the clean-up. One that has begun goes on, and so does what follows a decision.
 abbrev pub refused : Job → State → State
 refused j Seizing = Ended NoMemory
 refused j Looking = Releasing NoMemory
 refused j (Undoing r n ns ls GoOn) = Releasing NoMemory
+refused j (Undoing r n ns ls (Answer e)) = Undoing r n ns ls (Answer (short_of e))
 refused j (Placing r n ns ls GoOn) = Releasing NoMemory
+refused j (Placing r n ns ls (Answer e)) = Placing r n ns ls (Answer (short_of e))
 refused j (Unlocking r n ns GoOn) = Releasing NoMemory
+refused j (Unlocking r n ns (Answer e)) = Unlocking r n ns (Answer (short_of e))
 refused j (Erasing r GoOn) = Releasing NoMemory
+refused j (Erasing r (Answer e)) = Erasing r (Answer (short_of e))
 refused j (Clearing found) = Releasing NoMemory
 refused j Preparing = Releasing NoMemory
 refused j Publishing = Releasing NoMemory
@@ -213,6 +226,7 @@ refused j (Loading done e left) = refusing j [] (all_of j) NoMemory
 refused j (Staging ns done x left) = refusing j ns (all_of j) NoMemory
 refused j (Deciding done) = refusing j (all_of j) (all_of j) NoMemory
 refused j (Committing done) = refusing j (all_of j) (all_of j) NoMemory
+refused j (Releasing e) = Releasing (short_of e)
 refused j s = s
 
 -- a load that wants memory: that of a decision in flight counts as a failed one
