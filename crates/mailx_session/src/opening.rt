@@ -13,7 +13,7 @@ use mail_text::{Items, Memory, Text};
 use mailx_vars::{Places, Vars};
 use mbox_scan::Folder;
 use message_show::FieldSets;
-use message_state::{Mark, Row, Shown, State, row_of};
+use message_state::{Mark, Order, Row, RowList, Shown, State, row_of};
 use read_commands::{Desk, Open, Refusal, page_of, page_size};
 use std::alloc::Global;
 
@@ -34,8 +34,8 @@ pub(crate) fn first_desk(alloc: Global, places: Places) -> Result<Desk, Memory>
             marks: Items::new(alloc),
         },
         shown: Shown {
-            rows: Items::new(alloc),
-            order: Items::new(alloc),
+            rows: RowList::new(alloc),
+            order: Order::new(alloc),
             depth: Items::new(alloc),
             current: 0,
         },
@@ -83,17 +83,6 @@ pub(crate) fn marks_of(alloc: Global, rows: &[Row]) -> Result<Items<Mark>, Memor
     Ok(marks)
 }
 
-// The numbers from 1 on.
-fn numbers(alloc: Global, count: u32) -> Result<Items<u32>, Memory>
-    ensures { IfOk result (λ order. order ≡ range_with_len 1 count) }
-{
-    let mut order = Items::new(alloc);
-    for k in 0..count {
-        order.push(k + 1)?;
-    }
-    Ok(order)
-}
-
 // So many depths of messages that stand under no other.
 fn no_depths(alloc: Global, count: u32) -> Result<Items<u32>, Memory>
     ensures { IfOk result (λ depth. depth ≡ replicate count 0) }
@@ -136,9 +125,9 @@ pub(crate) fn plain_view(alloc: Global, rows: Items<Row>) -> Result<Shown, Memor
     let count = rows.items().len() as u32;
     let current = first_current(rows.items());
     Ok(Shown {
-        order: numbers(alloc, count)?,
+        order: Order::by_number(alloc, count)?,
         depth: no_depths(alloc, count)?,
-        rows,
+        rows: RowList::of(alloc, rows)?,
         current,
     })
 }

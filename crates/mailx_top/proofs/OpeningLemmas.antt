@@ -37,9 +37,7 @@ saw-append test (event.Load name s ∷ es) fs h = go (test s) h (saw-append test
     go : (b : Bool) → (b || some_load_saw test es) ≡ false → (some_load_saw test es ≡ false → some_load_saw test (es ++ fs) ≡ some_load_saw test fs) → (b || some_load_saw test (es ++ fs)) ≡ some_load_saw test fs
     go true h more = absurd (cc h)
     go false h more = more h
-saw-append test (event.In bytes failed ∷ es) fs h = saw-append test es fs h
-saw-append test (event.Out bytes failed ∷ es) fs h = saw-append test es fs h
-saw-append test (event.Foreign step ∷ es) fs h = saw-append test es fs h
+saw-append test (e ∷ es) fs h = saw-append test es fs h
 
 abbrev Quiet : (Seen → Bool) → List Event → Type 0
 Quiet test es = some_load_saw test es ≡ false
@@ -61,9 +59,7 @@ quiet-part : (test : Seen → Bool) (bytes : List ℕ) (es : List Event) → Say
 quiet-part test bytes [] s = refl
 quiet-part test bytes (event.Out front false ∷ es) s = quiet-part test s.0 es s.2
 quiet-part test bytes (event.Out front true ∷ es) s = subst (λ (es : List Event). some_load_saw test es ≡ false) (sym s.2) refl
-quiet-part test bytes (event.In front failed ∷ es) never = absurd never
-quiet-part test bytes (event.Load name s ∷ es) never = absurd never
-quiet-part test bytes (event.Foreign step ∷ es) never = absurd never
+quiet-part test bytes (e ∷ es) never = absurd never
 
 quiet-line : (test : Seen → Bool) (cause : Stop) (i : Input) (es : List Event) → Partly cause (Line i) es → Quiet test es
 quiet-line test stop.Input i es (front, j, reads, none, is) = subst (Quiet test) (sym is) (quiet-then test front _ (quiet-reads test front i j reads) refl)

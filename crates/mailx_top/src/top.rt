@@ -104,9 +104,9 @@ pub fn run<H: Host>(alloc: Global, words: &[Text], env: &Environment, host: &mut
     // The usage is answered exactly where the words or the environment are refused.
     ensures usage_only { result ≡ Status.Usage → start_of words.now env.now.pairs ≡ None }
     ensures usage_always { start_of words.now env.now.pairs ≡ None → IsUsageStatus result }
-    // At every prefix of the trace the disk is the start's with the steps of others.
-    ensures prefixes { (trace front rest : List Event) → H.told host.new ≡ Some trace → trace ≡ front ++ rest
-        → disk (H.start host.new) front ≡ disk (H.start host.new) (of_others front) }
+    // At every moment of the run the disk is the one at its start with the steps of others.
+    ensures prefixes { (before front rest : List Event) → H.told host.old ≡ Some before → H.told host.new ≡ Some (before ++ (front ++ rest))
+        → disk (H.start host.new) (before ++ front) ≡ disk (H.start host.new) (before ++ of_others front) }
 {
     match play(alloc, host, words, env) {
         Ok(end) => end_status(end),

@@ -7,3 +7,4 @@ pub mod NamingLemmas
 pub mod WordLemmas
 pub mod MarkLemmas
 pub mod SelectionLemmas
+pub mod ByNumberLemmas

@@ -2,11 +2,10 @@
 use Rattle.std.specs.Prelude.{ℕ, ◌+◌, ◌-◌, Bool, true, false, not, ◌==◌, List, [], reverse, take, drop, slice_get, position, Option, None, if◌then◌else◌}
 use Rattle.std.specs.Option.{option_map_or}
 use Rattle.std.specs.List.{find}
-use Rattle.message_state.specs.declared.mark.State.TheVariants.{Deleted}
 use Rattle.message_state.specs.declared.mark.Mark.{Mark}
 use Rattle.message_state.specs.declared.row.Row.{Row}
 use Rattle.message_state.specs.declared.shown.Shown.{Shown}
-use Rattle.message_state.specs.States.{place}
+use Rattle.message_state.specs.LiveRows.{is_live}
 use Rattle.message_list.specs.declared.list.Purpose.{Purpose}
 use Rattle.message_list.specs.declared.list.Purpose.TheVariants.{Live, Dead, Any}
 
@@ -17,10 +16,6 @@ row_at shown n = if n == 0 then None else slice_get shown.rows (n - 1)
 -- there is a message n, and its row passes
 abbrev pub row_passes : (Row → Bool) → Shown → ℕ → Bool
 row_passes test shown n = option_map_or test (row_at shown n) false
-
--- the message isn't deleted
-abbrev pub is_live : Mark → Bool
-is_live mark = not (place mark.state == place Deleted)
 
 -- what a list selects from: the messages that aren't deleted, the deleted ones, or all
 abbrev pub is_for : Purpose → Mark → Bool

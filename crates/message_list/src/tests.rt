@@ -6,7 +6,7 @@ ghost use Rattle.message_state.specs.ShownRows.{IsShown};
 
 use super::*;
 use mail_text::{Items, Memory, Text};
-use message_state::{Ids, Mark, Row, Shown, State};
+use message_state::{Ids, Mark, Order, Row, RowList, Shown, State};
 use std::alloc::Global;
 use std::test::Fail;
 
@@ -197,8 +197,8 @@ fn shown_of(
     let order = order_of(alloc, count as u32, turns)?;
     let depth = vec![in alloc; 0; order.len()]?;
     Ok(Shown {
-        rows,
-        order: Items::of(order),
+        rows: RowList::of(alloc, rows)?,
+        order: Order::of(Items::of(order)),
         depth: Items::of(depth),
         current: current.min(count as u32),
     })

@@ -1,9 +1,11 @@
 ghost use Rattle.std.specs.Prelude.{◌≡◌, ◌<◌, ◌≤◌, ◌+◌, ◌-◌, ◌==◌, length, reverse, position, IfSome};
 ghost use Rattle.std.specs.Option.{option_copied};
 ghost use Rattle.std.specs.List.{find};
+ghost use Rattle.message_state.specs.LiveRows.{is_live};
 ghost use Rattle.message_state.specs.ShownRows.{IsShown};
+ghost use Rattle.std.specs.List.{range_with_len};
 ghost use Rattle.message_list.specs.declared.list.Purpose.TheVariants.{Live};
-ghost use Rattle.message_list.specs.Places.{row_at, is_live, is_for, in_base, place_of, after_message, before_message, back_from, first_of, last_of, next_of, previous_of};
+ghost use Rattle.message_list.specs.Places.{row_at, is_for, in_base, place_of, after_message, before_message, back_from, first_of, last_of, next_of, previous_of};
 
 use crate::list::Purpose;
 use message_state::{Mark, Row, Shown, State};
@@ -30,12 +32,35 @@ pub fn first_live(shown: &Shown) -> Option<u32>
     first_of(shown, Purpose::Live)
 }
 
-/// The next message after message `k` in the view that isn't deleted. None also where `k` is no message.
+/// The next message after message `k` in the view that isn't deleted. None also where `k` is no message. In a view by number it is
+/// found without a walk over deleted messages.
 pub fn next_live(shown: &Shown, k: u32) -> Option<u32>
     requires { IsShown shown.now }
     ensures { result ≡ next_of shown.now Live k }
 {
-    next_of(shown, Purpose::Live, k)
+    if shown.order.is_by_number() {
+        next_by_number(shown, k)
+    } else {
+        next_of(shown, Purpose::Live, k)
+    }
+}
+
+// The same in the view by number, without a walk over deleted messages.
+fn next_by_number(shown: &Shown, k: u32) -> Option<u32>
+    requires shown { IsShown shown.now }
+    requires by_number { shown.now.order ≡ range_with_len 1 (length shown.now.order) }
+    ensures { result ≡ next_of shown.now Live k }
+{
+    if k == 0 {
+        return None;
+    }
+    if k as usize > shown.rows.items().len() {
+        return None;
+    }
+    match shown.rows.next_live(k as usize) {
+        Some(row) => Some(row as u32 + 1),
+        None => None,
+    }
 }
 
 /// The nearest message before message `k` in the view that isn't deleted. None also where `k` is no message.

@@ -5,7 +5,7 @@ ghost use Rattle.message_state.specs.ShownRows.{IsShown};
 use super::*;
 use mail_text::{Items, Memory, Text, lines};
 use mbox_scan::Folder;
-use message_state::{Row, Shown, State, row_of};
+use message_state::{Order, Row, RowList, Shown, State, row_of};
 use std::alloc::Global;
 use std::test::Fail;
 
@@ -61,8 +61,8 @@ fn two(
     let order = Items::of(Vec::from_array(alloc, places(turned))?);
     let depth = Items::of(Vec::from_array(alloc, [depth, 0])?);
     Ok(Shown {
-        rows,
-        order,
+        rows: RowList::of(alloc, rows)?,
+        order: Order::of(order),
         depth,
         current,
     })

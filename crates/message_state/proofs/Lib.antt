@@ -5,3 +5,5 @@ pub mod RowLemmas
 pub mod StampLemmas
 pub mod StampLawLemmas
 pub mod TextLines
+pub mod LiveLemmas
+pub mod OrderLemmas

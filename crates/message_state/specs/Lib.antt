@@ -5,6 +5,7 @@ pub mod Stamp
 pub mod Ids
 pub mod Fields
 pub mod Rows
+pub mod LiveRows
 pub mod ShownRows
 pub mod StampLaws
 pub mod RowLaws

@@ -5,14 +5,18 @@ mod fields;
 mod ids;
 mod laws;
 mod mark;
+mod order;
 mod row;
+mod row_list;
 mod shown;
 mod stamp;
 mod status;
 
 pub use laws::{a_text_has_one_row, acts_by_the_table, stamps_read_back};
 pub use mark::{Act, Mark, State, after};
+pub use order::Order;
 pub use row::{Ids, Row, row_of};
+pub use row_list::RowList;
 pub use shown::Shown;
 pub use stamp::stamped;
 pub use status::mark_of;

@@ -1,4 +1,4 @@
-use crate::Row;
+use crate::{Order, RowList};
 use mail_text::Items;
 
 /// The messages of a folder as a session shows them. Messages are numbered from 1. Calls that take such a value ask for a valid
@@ -7,9 +7,9 @@ use mail_text::Items;
 #[derive(Drop)]
 pub struct Shown {
     /// What is known of each message, by number.
-    pub rows: Items<Row>,
+    pub rows: RowList,
     /// The numbers in the order of the view.
-    pub order: Items<u32>,
+    pub order: Order,
     /// How deep the message at each place of the order stands under others.
     pub depth: Items<u32>,
     /// The number of the current message, or 0.

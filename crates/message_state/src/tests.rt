@@ -283,3 +283,62 @@ fn rows_of_messages(rt: HostRuntime) -> Result<(), Fail> {
     a_text_has_one_row();
     Ok(())
 }
+
+// Rows of so many messages, of which these aren't deleted.
+fn rows_with(alloc: Global, count: usize, live: &[usize]) -> Result<RowList, Memory> {
+    let mut rows = Items::new(alloc);
+    for _ in 0..count {
+        rows.push(row_of(alloc, b"From a@x")?)?;
+    }
+    let mut list = RowList::of(alloc, rows)?;
+    for k in 0..count {
+        if !live.contains(&k) {
+            list.set_mark(
+                k,
+                Mark {
+                    state: State::Deleted,
+                    seen: false,
+                },
+            );
+        }
+    }
+    Ok(list)
+}
+
+#[test]
+fn live_rows_are_found(rt: HostRuntime) -> Result<(), Fail> {
+    let cases: [(&[usize], usize, Option<usize>, Option<usize>); 9] = [
+        (&[], 0, None, None),
+        (&[], 700, None, None),
+        (&[0], 0, Some(0), None),
+        (&[0], 1, None, Some(0)),
+        (&[3, 699], 4, Some(699), Some(3)),
+        (&[3, 699], 700, None, Some(699)),
+        (&[255, 256], 256, Some(256), Some(255)),
+        (&[512], 100, Some(512), None),
+        (&[511], 9_000, None, Some(511)),
+    ];
+    for (live, from, next, previous) in cases {
+        let list = rows_with(rt.alloc(), 700, live)?;
+        assert_eq!(rt; list.next_live(from), next, "from {from} of {live:?}");
+        assert_eq!(rt;
+            list.previous_live(from),
+            previous,
+            "before {from} of {live:?}"
+        );
+    }
+    assert_eq!(rt; RowList::new(rt.alloc()).next_live(0), None);
+    Ok(())
+}
+
+#[test]
+fn orders_know_the_one_by_number(rt: HostRuntime) -> Result<(), Fail> {
+    let order = Order::by_number(rt.alloc(), 3)?;
+    assert_eq!(rt; order.items(), [1, 2, 3].as_slice());
+    assert!(rt; order.is_by_number());
+    let given = Items::of(Vec::from_array(rt.alloc(), [2, 1])?);
+    let other = Order::of(given);
+    assert!(rt; !other.is_by_number());
+    assert_eq!(rt; Order::new(rt.alloc()).items().len(), 0);
+    Ok(())
+}

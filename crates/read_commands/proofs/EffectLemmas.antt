@@ -1,5 +1,5 @@
 -- A desk stays valid.
-use Rattle.std.proofs.Common.{◌≡◌, ◌≤◌, ℕ, zero, suc, List, [], ◌∷◌, length, refl, sym, ap, ◌∙◌, subst, arith}
+use Rattle.std.proofs.Common.{◌≡◌, ◌≤◌, ℕ, zero, suc, List, [], ◌∷◌, length, map, refl, sym, ap, ◌∙◌, subst, arith}
 use Rattle.std.specs.Prelude.{All, IfSome, slice_get, slice_set}
 use Rattle.std.specs.List.{range_with_len}
 use Rattle.std.specs.List.Sorted.{IsPermutation}
@@ -11,6 +11,8 @@ use Rattle.mail_dates.specs.Clock.{IsInYears}
 use Rattle.mbox_scan.specs.Mailbox.{texts_of}
 use Rattle.message_state.specs.declared.mark.Act.{Act}
 use Rattle.message_state.specs.declared.row.Row.{Row}
+use Rattle.message_state.specs.declared.mark.Mark.{Mark}
+use Rattle.message_state.specs.LiveRows.{marked}
 use Rattle.read_commands.specs.declared.desk.Desk.{Desk}
 use Rattle.read_commands.specs.declared.effects.Marking.{Marking}
 use Rattle.read_commands.specs.declared.effects.Effects.{Effects}
@@ -78,3 +80,16 @@ desk-after desk effects d within =
       marks = refl;
       width = d.width;
     }
+
+marked-on : (r : Row) (rs : List Row) (k : ℕ) (mark : Mark) → marked (r ∷ rs) (suc k) mark ≡ r ∷ marked rs k mark
+marked-on r rs k mark = pick (slice_get rs k)
+  where
+    pick : (o : Option Row) → option_map_or (λ row. slice_set (r ∷ rs) (suc k) (record row { mark = mark })) o (r ∷ rs) ≡ r ∷ option_map_or (λ row. slice_set rs k (record row { mark = mark })) o rs
+    pick None = refl
+    pick (Some row) = refl
+
+-- the marks of rows of which one was given another
+pub marked-marks : (rows : List Row) (k : ℕ) (mark : Mark) → slice_set (map (λ (row : Row). row.mark) rows) k mark ≡ map (λ (row : Row). row.mark) (marked rows k mark)
+marked-marks [] k mark = refl
+marked-marks (r ∷ rs) zero mark = refl
+marked-marks (r ∷ rs) (suc k) mark = ap (λ (l : List Mark). r.mark ∷ l) (marked-marks rs k mark) ∙ sym (ap (map (λ (row : Row). row.mark)) (marked-on r rs k mark))

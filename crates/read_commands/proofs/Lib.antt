@@ -4,3 +4,4 @@ pub mod FlagLemmas
 pub mod DeskLemmas
 pub mod EffectLemmas
 pub mod ChosenLemmas
+pub mod NumberLemmas

@@ -1,6 +1,6 @@
 // Commands that delete messages and give them back.
 ghost use Rattle.std.specs.Prelude.{◌≡◌, ◌≤◌, ◌<◌, ◌∷◌, ◌++◌, [], false, reverse, Some, All, IfOk, IfSome, length};
-ghost use Rattle.std.specs.List.{find};
+ghost use Rattle.std.specs.List.{find, range_with_len};
 ghost use Rattle.message_state.specs.ShownRows.{IsShown};
 ghost use Rattle.message_state.specs.declared.mark.Act.TheVariants as act;
 ghost use Rattle.message_list.specs.Places.{before_message};
@@ -51,9 +51,13 @@ fn last_left(
 ) -> Result<Option<u32>, Memory>
     requires shown { IsShown shown.now }
     requires messages { All (IsMessageOf shown.now) numbers.now }
+    requires last { IsMessageOf shown.now last }
     ensures { IfOk result (λ n. n ≡ find (is_left shown.now numbers.now) (before_message shown.now last)) }
 {
     let among = Among::of(alloc, numbers, shown.rows.items().len())?;
+    if shown.order.is_by_number() {
+        return Ok(left_by_number(shown, &among, last));
+    }
     match place_of(shown, last) {
         Some(p) => {
             let (before, _) = shown.order.items().split_at(p);
@@ -61,6 +65,24 @@ fn last_left(
         }
         None => Ok(None),
     }
+}
+
+// The same in the view by number, without a walk over deleted messages.
+fn left_by_number(shown: &Shown, among: &Among<'_>, last: u32) -> Option<u32>
+    requires shown { IsShown shown.now }
+    requires by_number { shown.now.order ≡ range_with_len 1 (length shown.now.order) }
+    requires message { IsMessageOf shown.now last }
+    ensures { result ≡ find (is_left shown.now among.now) (before_message shown.now last) }
+{
+    let mut end = last as usize - 1;
+    while let Some(row) = shown.rows.previous_live(end) {
+        let n = row as u32 + 1;
+        if !among.has(n) {
+            return Some(n);
+        }
+        end = row;
+    }
+    None
 }
 
 /// The message that is current once these were deleted, or None where no message is live.

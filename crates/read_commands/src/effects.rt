@@ -7,7 +7,7 @@ ghost use Rattle.read_commands.specs.Effects.{acted, effect, unchanged, moved, m
 use crate::Desk;
 use mail_text::{Items, Memory};
 use mailx_vars::Vars;
-use message_state::{Act, Mark, Row, after};
+use message_state::{Act, Mark, RowList, after};
 use std::alloc::Global;
 
 /// An act on a message.
@@ -34,14 +34,14 @@ pub struct Effects {
 }
 
 // Marks a row of the messages and the mark beside it.
-fn mark_row(rows: &mut Items<Row>, marks: &mut Items<Mark>, marking: Marking)
+fn mark_row(rows: &mut RowList, marks: &mut Items<Mark>, marking: Marking)
     requires { marks.old ≡ map (λ (row : Row). row.mark) rows.old }
     ensures rows { rows.new ≡ acted rows.old marking }
     ensures marks { marks.new ≡ map (λ (row : Row). row.mark) rows.new }
 {
     if marking.row < rows.items().len() {
         let mark = after(rows.items()[marking.row].mark, marking.act);
-        rows.get_mut(marking.row).mark = mark;
+        rows.set_mark(marking.row, mark);
         *marks.get_mut(marking.row) = mark;
     }
 }

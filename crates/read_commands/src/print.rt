@@ -1,6 +1,7 @@
 // Commands that print messages, or of messages.
-ghost use Rattle.std.specs.Prelude.{◌≡◌, ◌≤◌, ◌<◌, ◌++◌, ◌∷◌, All, IfOk, OnOk, IfSome, length};
-ghost use Rattle.std.specs.List.{flat_map, join_with_byte};
+ghost use Rattle.std.specs.Prelude.{◌≡◌, ◌≤◌, ◌<◌, ◌++◌, ◌∷◌, true, All, IfOk, OnOk, IfSome, length, nat_lt};
+ghost use Rattle.std.specs.List.{flat_map, join_with_byte, range_with_len};
+ghost use Rattle.std.specs.Option.{option_map_or};
 ghost use Rattle.mail_text.specs.Lines.{with_feed};
 ghost use Rattle.read_commands.specs.Answers.{Means};
 ghost use Rattle.read_commands.specs.Desks.{IsDesk, IsMessageOf, IsWithin, message_text};
@@ -226,6 +227,36 @@ fn following(desk: &Desk) -> Option<u32>
     next_live(&desk.shown, current)
 }
 
+// The same in the view by number.
+fn least_above(desk: &Desk, numbers: &[u32]) -> Option<u32>
+    requires desk { IsDesk desk.now }
+    requires by_number { desk.now.shown.order ≡ range_with_len 1 (length desk.now.shown.order) }
+    requires messages { All (IsMessageOf desk.now.shown) numbers.now }
+    ensures { result ≡ following_of desk.now numbers.now }
+{
+    let current = desk.shown.current;
+    if current == 0 {
+        return None;
+    }
+    let mut least = None;
+    for n in numbers {
+        if *n > current && is_less(*n, least) {
+            least = Some(*n);
+        }
+    }
+    least
+}
+
+// Whether a number is less than one that may not be there.
+fn is_less(n: u32, other: Option<u32>) -> bool
+    ensures { result ≡ option_map_or (λ m. nat_lt n m) other true }
+{
+    match other {
+        Some(m) => n < m,
+        None => true,
+    }
+}
+
 // The first of some messages that stands after the current one in the view.
 fn following_of(alloc: Global, desk: &Desk, numbers: &[u32]) -> Result<Option<u32>, Memory>
     requires desk { IsDesk desk.now }
@@ -233,6 +264,9 @@ fn following_of(alloc: Global, desk: &Desk, numbers: &[u32]) -> Result<Option<u3
     ensures { IfOk result (λ n. n ≡ following_of desk.now numbers.now) }
 {
     let shown = &desk.shown;
+    if shown.order.is_by_number() {
+        return Ok(least_above(desk, numbers));
+    }
     let among = Among::of(alloc, numbers, shown.rows.items().len())?;
     match place_of(shown, shown.current) {
         Some(place) => {

@@ -3,7 +3,7 @@ ghost use Rattle.std.specs.Prelude.{◌≡◌, ◌≤◌, ◌<◌, All, IfOk, le
 ghost use Rattle.message_state.specs.ShownRows.{IsShown};
 ghost use Rattle.read_commands.specs.Answers.{Means};
 ghost use Rattle.read_commands.specs.Desks.{IsMessageOf};
-ghost use Rattle.read_commands.specs.Selecting.{chosen, single, last_message, is_among, IsListRefusal, AreFlags};
+ghost use Rattle.read_commands.specs.Selecting.{chosen, single, last_message, is_among, flag_of, IsListRefusal, AreFlags};
 ghost use Rattle.read_commands.specs.Faults.{bad_arguments};
 
 use crate::Refusal;
@@ -66,22 +66,27 @@ pub(crate) fn last_message(numbers: &[u32]) -> u32
     numbers[numbers.len() - 1]
 }
 
-/// Messages, and for each number whether it is one of them. Contracts see them as the list of the messages.
+// So many messages are looked through one by one.
+const FEW: usize = 16;
+
+/// Messages, and where they are more than a few a flag for each number, which says whether it is one of them. Contracts see them as
+/// the list of the messages.
 #[derive(Drop)]
 pub(crate) struct Among<'a> {
     numbers: &'a [u32],
-    flags: Vec<bool>,
+    flags: Option<Vec<bool>>,
 }
 
 impl<'a> Model for Among<'a> {
     ghost use Rattle.std.specs.Prelude.{ℕ, List};
+    ghost use Rattle.std.specs.Prelude.{IfSome};
     ghost use Rattle.read_commands.specs.Selecting.{AreFlags};
 
     ghost Value = { List ℕ };
 
     ghost view = { λ a. a.numbers.now };
 
-    ghost invariant = { λ a. AreFlags a.flags.items a.numbers.now };
+    ghost invariant = { λ a. IfSome a.flags (λ flags. AreFlags flags.items a.numbers.now) };
 }
 
 // A flag for each number up to the count, which says whether it is one of these.
@@ -97,6 +102,16 @@ fn flags_of(alloc: Global, numbers: &[u32], count: usize) -> Result<Vec<bool>, M
     Ok(flags)
 }
 
+// The flag of a number, false where there is none.
+fn flag_of(flags: &[bool], n: usize) -> bool
+    ensures { result ≡ flag_of flags.now n }
+{
+    match flags.get(n) {
+        Some(flag) => *flag,
+        None => false,
+    }
+}
+
 impl<'a> Among<'a> {
     /// The messages of a list, where there are so many messages in all.
     pub(crate) fn of(alloc: Global, numbers: &'a [u32], count: usize) -> Result<Among<'a>, Memory>
@@ -104,17 +119,26 @@ impl<'a> Among<'a> {
         requires within { All (λ n. n ≤ count) numbers.now }
         ensures { IfOk result (λ among. among ≡ numbers.now) }
     {
+        if numbers.len() <= FEW {
+            return Ok(Among {
+                numbers,
+                flags: None,
+            });
+        }
         let flags = flags_of(alloc, numbers, count)?;
-        Ok(Among { numbers, flags })
+        Ok(Among {
+            numbers,
+            flags: Some(flags),
+        })
     }
 
     /// Whether message n is among them.
     pub(crate) fn has(&self, n: u32) -> bool
         ensures { result ≡ is_among self.now n }
     {
-        match self.flags.get(n as usize) {
-            Some(flag) => *flag,
-            None => false,
+        match &self.flags {
+            Some(flags) => flag_of(flags, n as usize),
+            None => self.numbers.iter().any(|m| *m == n),
         }
     }
 }

@@ -50,34 +50,23 @@ in-append : (es fs : List Event) → some_in_failed es ≡ false → some_in_fai
 in-append [] fs h = refl
 in-append (event.In bytes true ∷ es) fs h = absurd (cc)
 in-append (event.In bytes false ∷ es) fs h = in-append es fs h
-in-append (event.Out bytes failed ∷ es) fs h = in-append es fs h
-in-append (event.Load name s ∷ es) fs h = in-append es fs h
-in-append (event.Foreign step ∷ es) fs h = in-append es fs h
+in-append (e ∷ es) fs h = in-append es fs h
 
 out-append : (es fs : List Event) → some_out_failed es ≡ false → some_out_failed (es ++ fs) ≡ some_out_failed fs
 out-append [] fs h = refl
 out-append (event.Out bytes true ∷ es) fs h = absurd (cc)
 out-append (event.Out bytes false ∷ es) fs h = out-append es fs h
-out-append (event.In bytes failed ∷ es) fs h = out-append es fs h
-out-append (event.Load name s ∷ es) fs h = out-append es fs h
-out-append (event.Foreign step ∷ es) fs h = out-append es fs h
+out-append (e ∷ es) fs h = out-append es fs h
 
 load-append : (es fs : List Event) → some_load_failed es ≡ false → some_load_failed (es ++ fs) ≡ some_load_failed fs
 load-append [] fs h = refl
 load-append (event.Load name seen.Failed ∷ es) fs h = absurd (cc)
-load-append (event.Load name (seen.Bytes bytes held) ∷ es) fs h = load-append es fs h
-load-append (event.Load name (seen.TooLarge n) ∷ es) fs h = load-append es fs h
-load-append (event.Load name seen.Memory ∷ es) fs h = load-append es fs h
-load-append (event.In bytes failed ∷ es) fs h = load-append es fs h
-load-append (event.Out bytes failed ∷ es) fs h = load-append es fs h
-load-append (event.Foreign step ∷ es) fs h = load-append es fs h
+load-append (e ∷ es) fs h = load-append es fs h
 
 bytes-append : (es fs : List Event) → bytes_in (es ++ fs) ≡ bytes_in es + bytes_in fs
 bytes-append [] fs = omega arith
 bytes-append (event.In bytes failed ∷ es) fs = omega (arith, bytes-append es fs)
-bytes-append (event.Out bytes failed ∷ es) fs = bytes-append es fs
-bytes-append (event.Load name s ∷ es) fs = bytes-append es fs
-bytes-append (event.Foreign step ∷ es) fs = bytes-append es fs
+bytes-append (e ∷ es) fs = bytes-append es fs
 
 clean-then : (es fs : List Event) (i j k : Input) → IsClean es i j → IsClean fs j k → IsClean (es ++ fs) i k
 clean-then es fs i j k x y = record {
@@ -148,9 +137,7 @@ say-part-cut bytes (event.Out front false ∷ es) i le (rest, is, more) =
     record { in_is = c.in_is; out_is = c.out_is; load_is = c.load_is; amount = c.amount }
 say-part-cut bytes (event.Out front true ∷ es) i le (rest, is, none) =
     subst (λ (es : List Event). IsCutBy stop.Output (event.Out front true ∷ es) i) (sym none) (record { in_is = refl; out_is = refl; load_is = refl; amount = omega arith })
-say-part-cut bytes (event.In front failed ∷ es) i le never = absurd never
-say-part-cut bytes (event.Load name s ∷ es) i le never = absurd never
-say-part-cut bytes (event.Foreign step ∷ es) i le never = absurd never
+say-part-cut bytes (e ∷ es) i le never = absurd never
 
 say-cut-by : (cause : Stop) (bytes : List ℕ) (es : List Event) (i : Input) → i.taken ≤ input_limit → Partly cause (Say bytes) es → IsCutBy cause es i
 say-cut-by stop.Output bytes es i le part = say-part-cut bytes es i le part

@@ -4,3 +4,4 @@ pub mod InputLemmas
 pub mod LoopLemmas
 pub mod LineLemmas
 pub mod CauseLemmas
+pub mod LooksLemmas

@@ -1,9 +1,11 @@
 use Rattle.std.proofs.Common.{refl, sym, Ok, Err, []}
 use Rattle.std.proofs.lemmas.List.{append-nil}
 use Rattle.host_port.proofs.RanLemmas.{Ran-then, Ran-map}
-use Rattle.host_port.proofs.OwnLemmas.{disk-of_others}
 use Rattle.session_play.proofs.CauseLemmas.{loop-explained}
+use Rattle.session_play.proofs.LooksLemmas.{loop-looks, looked, looks-both}
 use Rattle.mailx_top.specs.Meaning.{round, input_of}
+use Rattle.host_port.specs.Own.{OnlyLooks}
+use Rattle.mailx_top.proofs.EndLemmas.{last-looks}
 use Rattle.mailx_top.proofs.OpeningLemmas.{opening-explained}
 use Rattle.mailx_top.proofs.RoundLemmas.{threads-round}
 use Rattle.mailx_top.proofs.top.run.Goals as goal
@@ -17,7 +19,7 @@ returns-in-Ok-clause-run g c =
     }) c.in-Ok.ensures.ran
 
 pub returns-in-Ok-clause-prefixes : goal.returns-in-Ok-clause-prefixes
-returns-in-Ok-clause-prefixes g c = λ trace front rest told is. disk-of_others _ front
+returns-in-Ok-clause-prefixes g c = λ before front rest. looked (λ es loop. loop-looks loop) c.in-Ok.ensures.ran before front rest
 
 pub returns-in-Err-clause-run : goal.returns-in-Err-clause-run
 returns-in-Err-clause-run g c =
@@ -28,4 +30,6 @@ returns-in-Err-clause-run g c =
     }) c.in-Err.ensures.ran c.say_cut.ensures
 
 pub returns-in-Err-clause-prefixes : goal.returns-in-Err-clause-prefixes
-returns-in-Err-clause-prefixes g c = λ trace front rest told is. disk-of_others _ front
+returns-in-Err-clause-prefixes g c = λ before front rest.
+    looked {P = OnlyLooks} (λ es looks. looks)
+    (Ran-then (λ front rest loop said. looks-both front rest (loop-looks loop) (last-looks _ _ rest said)) c.in-Err.ensures.ran c.say_cut.ensures) before front rest

@@ -1,7 +1,7 @@
 use Rattle.std.proofs.Common.{◌≡◌, ◌+◌, ◌++◌, ◌∷◌, [], ℕ, List, sym, ap, ◌∙◌, arith, add-one}
 use Rattle.std.specs.List.{range_with_len}
-use Rattle.mailx_session.proofs.OpeningLemmas.{range-more}
-use Rattle.mailx_session.proofs.opening.numbers.Goals as goal
+use Rattle.message_state.proofs.OrderLemmas.{range-more}
+use Rattle.message_state.proofs.order.numbers.Goals as goal
 
 pub loop-k-preserved : goal.loop-k-preserved
 loop-k-preserved c =

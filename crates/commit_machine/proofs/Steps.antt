@@ -1,0 +1,179 @@
+-- Each own event keeps what is known: a record that is done with.
+use Rattle.std.proofs.Common.{◌≡◌, ◌≢◌, ◌⊎◌, ℕ, Bool, true, false, List, ◌∷◌, Option, Some, None, is_some, refl, ap, sym, inl, inr, ◌∙◌}
+use Rattle.commit_record.specs.Names.{is_lawful}
+use Rattle.commit_record.specs.declared.record.Record.{Record}
+use Rattle.host_port.specs.declared.event.Event.{Event}
+use Rattle.host_port.specs.declared.event.Event.TheVariants as event
+use Rattle.host_port.specs.declared.event.Seen.TheVariants as seen
+use Rattle.host_port.specs.declared.event.Holder.TheVariants.{Own as OwnRight}
+use Rattle.host_port.specs.Disk.{Disk, with_at, after}
+use Rattle.host_port.specs.Ran.{Agrees}
+use Rattle.commit_machine.specs.Names.{record_name, new_name, right_name, staged_name}
+use Rattle.commit_machine.specs.Records.{record_in, names_of}
+use Rattle.commit_machine.specs.Settled.{Files, Locks, Mem}
+use Rattle.commit_machine.specs.Jobs.{Job, IsJob}
+use Rattle.commit_machine.specs.Machine.{Then, GoOn, Answer, State, Seizing, Looking, Undoing, Placing, ToLoad, ToPublish, ToErase, ToSeize, after_reply, undoing, placing}
+use Rattle.commit_machine.specs.Goes.{IsOf, loads, publishes, erases, seizes, reply}
+use Rattle.commit_machine.specs.Lawful.{standing, IsSound}
+use Rattle.commit_machine.specs.Due.{settled_files, settled_locks, files_then}
+use Rattle.commit_machine.proofs.Inv.{ThenOk, Knows}
+use Rattle.commit_machine.proofs.Same.{same_false, same_or_not, put_here, put_there}
+use Rattle.commit_machine.proofs.NameLemmas.{staged-new, lawful-staged}
+use Rattle.commit_machine.proofs.RecordLemmas.{stands-lawful}
+use Rattle.commit_machine.proofs.Keep.{keep_staged, keep_place, renamed, renamed_from, renamed_other, record-staged, record_name-not}
+use Rattle.commit_machine.proofs.Sound.{sound_staged, sound_place, lock_same}
+use Rattle.commit_machine.proofs.States.{knows_placing, knows_undoing, knows_looked}
+
+-- what shows after an event
+pub record Shows (j : Job) (e : Event) (d : Disk) (files : Files) (locks : Locks) : Type 0 where
+  pub settles : (n : List ℕ) → settled_files j.actor (after d e) n ≡ files_then j e d files n
+  pub locked : (n : List ℕ) → settled_locks j.actor (after d e) n ≡ locks n
+  pub sound : IsSound j.actor (after d e)
+
+-- what holds after an event
+pub record Kept (j : Job) (s : State) (e : Event) (d : Disk) (files : Files) (locks : Locks) : Type 0 where
+  pub shows : Shows j e d files locks
+  pub knows : Knows j (after_reply j s (reply e)) (after d e)
+
+pub none_of : {A : Type 0} (c : Option A) → is_some c ≡ false → c ≡ None
+none_of None s = refl
+none_of (Some c) s = absurd (cc)
+
+-- a place that is empty stays so where nothing is put
+pub absent_more : {A : Type 0} (f : List ℕ → Option A) (n m : List ℕ) → f m ≡ None → with_at f n None m ≡ None
+absent_more f n m h = elim (same_or_not m n) [ inl p ↦ ap (with_at f n None) p.0 ∙ put_here f n None | inr p ↦ put_there f n m None p.0 ∙ h ]
+
+pub absent_renamed : (f : Files) (from to m : List ℕ) → m ≢ to → f m ≡ None → renamed f from to m ≡ None
+absent_renamed f from to m ne h = put_there (with_at f from None) to m (f from) ne ∙ absent_more f from m h
+
+pub other_more : (f : Locks) (n m : List ℕ) (u : ℕ) → f m ≢ Some u → with_at f n None m ≢ Some u
+other_more f n m u h = elim (same_or_not m n) [
+  | inl p ↦ (λ e. let w : ◌≡◌ {A = Option ℕ} None (Some u) = sym (ap (with_at f n None) p.0 ∙ put_here f n None) ∙ e in absurd (cc))
+  | inr p ↦ (λ e. h (sym (put_there f n m None p.0) ∙ e))
+]
+
+-- a name behind the first is left, or the staged file is gone
+gone_there : (r : Record) (n : List ℕ) (ns : List (List ℕ)) (f : Files) (m : List ℕ) → Mem m (n ∷ ns) ⊎ (f (staged_name r.token m) ≡ None) → f (staged_name r.token n) ≡ None → Mem m ns ⊎ (f (staged_name r.token m) ≡ None)
+gone_there r n ns f m (inl (inl e)) h = inr (ap (λ (z : List ℕ). f (staged_name r.token z)) e ∙ h)
+gone_there r n ns f m (inl (inr a)) h = inl a
+gone_there r n ns f m (inr b) h = inr b
+
+-- a publication from another name is no decision
+pub not_decided : (j : Job) (d : Disk) (files : Files) (from to : List ℕ) (failed : Bool) (n : List ℕ) → from ≢ new_name j.actor → files_then j (event.Publish from to true failed) d files n ≡ files n
+not_decided j d files from to failed n ne = rw (same_false from (new_name j.actor) ne) refl
+
+module _ (j : Job) (job : IsJob j) (d : Disk) (files : Files) (locks : Locks) (settles : (n : List ℕ) → settled_files j.actor d n ≡ files n) (locked : (n : List ℕ) → settled_locks j.actor d n ≡ locks n) (sound : IsSound j.actor d) where
+  -- what is known of the own token outlasts a change that puts nothing under it
+  pub then_moves : (d' : Disk) (r : Record) (th : Then) → ((m : List ℕ) → d.files (staged_name j.token m) ≡ None → d'.files (staged_name j.token m) ≡ None) → ((m : List ℕ) → d.locks m ≢ Some j.token → d'.locks m ≢ Some j.token) → standing j.actor d' ≡ standing j.actor d → ThenOk j r th d → ThenOk j r th d'
+  then_moves d' r GoOn f l s k = record {
+    staged = λ m. f m (k.staged m);
+    locks = λ m. l m (k.locks m);
+    record_other = λ q e. k.record_other q (sym s ∙ e);
+  }
+  then_moves d' r (Answer a) f l s k = record {
+    token = k.token;
+    names = k.names;
+    own_end = k.own_end;
+    rest = record {
+      staged = λ m. elim (k.rest.staged m) [ inl x ↦ inl x | inr b ↦ inr (f m b) ];
+      locks = λ m. elim (k.rest.locks m) [ inl x ↦ inl x | inr b ↦ inr (l m b) ];
+    };
+  }
+
+  pub step_seizing : {e : Event} → IsOf (ToSeize (right_name j.actor)) e → Knows j Seizing d → Kept j Seizing e d files locks
+  step_seizing (seizes {got = true} {failed = true}) k = record { shows = record { settles = settles; locked = locked; sound = sound }; knows = tt }
+  step_seizing (seizes {got = false} {failed = true}) k = record { shows = record { settles = settles; locked = locked; sound = sound }; knows = tt }
+  step_seizing (seizes {got = true} {failed = false}) k = record {
+    shows = record { settles = settles; locked = locked; sound = sound };
+    knows = record { right = put_here d.rights (right_name j.actor) (Some OwnRight); fresh = record { staged = k.staged; locks = k.locks; record_other = k.record_other } };
+  }
+  step_seizing (seizes {got = false} {failed = false}) k = record { shows = record { settles = settles; locked = locked; sound = sound }; knows = k }
+
+  pub step_looking : {e : Event} → IsOf (ToLoad (record_name j.actor)) e → Agrees d e → Knows j Looking d → Kept j Looking e d files locks
+  step_looking (loads {s = seen.Bytes c held}) agrees k = record { shows = record { settles = settles; locked = locked; sound = sound }; knows = knows_looked j d job c k (sym agrees.0) }
+  step_looking (loads {s = seen.TooLarge m}) agrees k = record { shows = record { settles = settles; locked = locked; sound = sound }; knows = k.fresh }
+  step_looking (loads {s = seen.Failed}) agrees k = record { shows = record { settles = settles; locked = locked; sound = sound }; knows = tt }
+  step_looking (loads {s = seen.Memory}) agrees k = record { shows = record { settles = settles; locked = locked; sound = sound }; knows = k.fresh }
+
+  -- a staged file of an undecided record is erased
+  module _ (r : Record) (n : List ℕ) (ns ls : List (List ℕ)) (th : Then) (k : Knows j (Undoing r n ns ls th) d) where
+    undone : (failed : Bool) → Shows j (event.Erase (staged_name r.token n) true failed) d files locks
+    undone failed = record {
+      settles = λ q. keep_staged j.actor d.files r None n q k.0.stands k.1 (k.2.each n (inl refl)) ∙ settles q;
+      locked = λ q. lock_same j.actor d.files (with_at d.files (staged_name r.token n) None) d.locks q (put_there d.files (staged_name r.token n) (record_name j.actor) None (record-staged r.token n j.actor)) ∙ locked q;
+      sound = sound_staged j.actor d.files d.locks r None n k.0.stands k.1 sound;
+    }
+
+    undone_stands : standing j.actor (after d (event.Erase (staged_name r.token n) true false)) ≡ standing j.actor d
+    undone_stands = ap record_in (put_there d.files (staged_name r.token n) (record_name j.actor) None (record-staged r.token n j.actor))
+
+    undone_gone : (m : List ℕ) → Mem m (n ∷ ns) ⊎ (d.files (staged_name r.token m) ≡ None) → Mem m ns ⊎ (with_at d.files (staged_name r.token n) None (staged_name r.token m) ≡ None)
+    undone_gone m (inl (inl e)) = inr (ap (λ (z : List ℕ). with_at d.files (staged_name r.token n) None (staged_name r.token z)) e ∙ put_here d.files (staged_name r.token n) None)
+    undone_gone m (inl (inr h)) = inl h
+    undone_gone m (inr h) = inr (absent_more d.files (staged_name r.token n) (staged_name r.token m) h)
+
+    undone_knows : Knows j (undoing r ns ls th) (after d (event.Erase (staged_name r.token n) true false))
+    undone_knows = knows_undoing j (after d (event.Erase (staged_name r.token n) true false)) r ns ls th
+        (record { right = k.0.right; stands = undone_stands ∙ k.0.stands; gone = λ m h. undone_gone m (k.0.gone m h); free = k.0.free })
+        k.1 (record { each = λ m h. k.2.each m (inr h) }) k.3
+        (then_moves (after d (event.Erase (staged_name r.token n) true false)) r th (λ m h. absent_more d.files (staged_name r.token n) (staged_name j.token m) h) (λ m h. h) undone_stands k.4)
+
+  pub step_undoing : (r : Record) (n : List ℕ) (ns ls : List (List ℕ)) (th : Then) {e : Event} → IsOf (ToErase (staged_name r.token n)) e → Agrees d e → Knows j (Undoing r n ns ls th) d → Kept j (Undoing r n ns ls th) e d files locks
+  step_undoing r n ns ls th (erases {done = true} {failed = true}) agrees k = record { shows = undone r n ns ls th k true; knows = tt }
+  step_undoing r n ns ls th (erases {done = false} {failed = true}) agrees k = record { shows = record { settles = settles; locked = locked; sound = sound }; knows = tt }
+  step_undoing r n ns ls th (erases {done = false} {failed = false}) agrees k = absurd (cc)
+  step_undoing r n ns ls th (erases {done = true} {failed = false}) agrees k = record { shows = undone r n ns ls th k false; knows = undone_knows r n ns ls th k }
+
+  -- a staged file of a decided record is put in place
+  module _ (r : Record) (n : List ℕ) (ns ls : List (List ℕ)) (th : Then) (k : Knows j (Placing r n ns ls th) d) where
+    mem : Mem n (names_of r)
+    mem = k.0.within.each n (inl refl)
+
+    law : is_lawful n ≡ true
+    law = stands-lawful (d.files (record_name j.actor)) r n k.0.closing.stands (k.0.within.each n (inl refl))
+
+    plain : n ≢ record_name j.actor
+    plain = (record_name-not j.actor n (sound.plain r n k.0.closing.stands k.0.go (k.0.within.each n (inl refl)))).0
+
+    placed_files : Files
+    placed_files = renamed d.files (staged_name r.token n) n
+
+    placed_record : renamed d.files (staged_name r.token n) n (record_name j.actor) ≡ d.files (record_name j.actor)
+    placed_record = renamed_other d.files (staged_name r.token n) n (record_name j.actor) (record-staged r.token n j.actor) (λ e. plain (sym e))
+
+    placed_shows : (failed : Bool) → is_some (d.files (staged_name r.token n)) ≡ true → Shows j (event.Publish (staged_name r.token n) n true failed) d files locks
+    placed_shows failed stands = record {
+      settles = λ q. keep_place j.actor d.files r n q k.0.closing.stands k.0.go mem plain law stands ∙ settles q ∙ sym (not_decided j d files (staged_name r.token n) n failed q (staged-new r.token n j.actor));
+      locked = λ q. lock_same j.actor d.files (renamed d.files (staged_name r.token n) n) d.locks q placed_record ∙ locked q;
+      sound = sound_place j.actor d.files d.locks r.token n plain law sound;
+    }
+
+    placed_gone : (m : List ℕ) → Mem m (n ∷ ns) ⊎ (d.files (staged_name r.token m) ≡ None) → Mem m ns ⊎ (renamed d.files (staged_name r.token n) n (staged_name r.token m) ≡ None)
+    placed_gone m (inl (inl e)) = inr (ap (λ (z : List ℕ). renamed d.files (staged_name r.token n) n (staged_name r.token z)) e ∙ renamed_from d.files (staged_name r.token n) n (λ w. lawful-staged n r.token n law (sym w)))
+    placed_gone m (inl (inr h)) = inl h
+    placed_gone m (inr h) = inr (absent_renamed d.files (staged_name r.token n) n (staged_name r.token m) (λ w. lawful-staged n r.token m law (sym w)) h)
+
+    placed_knows : Knows j (placing r ns ls th) (after d (event.Publish (staged_name r.token n) n true false))
+    placed_knows = knows_placing j (after d (event.Publish (staged_name r.token n) n true false)) r ns ls th
+        (record {
+          closing = record { right = k.0.closing.right; stands = ap record_in placed_record ∙ k.0.closing.stands; gone = λ m h. placed_gone m (k.0.closing.gone m h); free = k.0.closing.free };
+          go = k.0.go;
+          within = record { each = λ m h. k.0.within.each m (inr h) };
+          locks_within = k.0.locks_within;
+        })
+        (then_moves (after d (event.Publish (staged_name r.token n) n true false)) r th (λ m h. absent_renamed d.files (staged_name r.token n) n (staged_name j.token m) (λ w. lawful-staged n j.token m law (sym w)) h) (λ m h. h) (ap record_in placed_record) k.1)
+
+    passed_knows : d.files (staged_name r.token n) ≡ None → Knows j (placing r ns ls th) d
+    passed_knows none = knows_placing j d r ns ls th
+        (record {
+          closing = record { right = k.0.closing.right; stands = k.0.closing.stands; gone = λ m h. gone_there r n ns d.files m (k.0.closing.gone m h) none; free = k.0.closing.free };
+          go = k.0.go;
+          within = record { each = λ m h. k.0.within.each m (inr h) };
+          locks_within = k.0.locks_within;
+        }) k.1
+
+  pub step_placing : (r : Record) (n : List ℕ) (ns ls : List (List ℕ)) (th : Then) {e : Event} → IsOf (ToPublish (staged_name r.token n) n) e → Agrees d e → Knows j (Placing r n ns ls th) d → Kept j (Placing r n ns ls th) e d files locks
+  step_placing r n ns ls th (publishes {done = true} {failed = true}) agrees k = record { shows = placed_shows r n ns ls th k true (agrees refl); knows = tt }
+  step_placing r n ns ls th (publishes {done = false} {failed = true}) agrees k = record { shows = record { settles = settles; locked = locked; sound = sound }; knows = tt }
+  step_placing r n ns ls th (publishes {done = false} {failed = false}) agrees k = record { shows = record { settles = settles; locked = locked; sound = sound }; knows = passed_knows r n ns ls th k (none_of (d.files (staged_name r.token n)) (sym agrees)) }
+  step_placing r n ns ls th (publishes {done = true} {failed = false}) agrees k = record { shows = placed_shows r n ns ls th k false (sym agrees); knows = placed_knows r n ns ls th k }

@@ -1,0 +1,5 @@
+use Rattle.commit_machine.proofs.WorkedLemmas.{alone_goes}
+use Rattle.commit_machine.proofs.laws.alone_goes.Goals as goal
+
+pub returns : goal.returns
+returns c = alone_goes

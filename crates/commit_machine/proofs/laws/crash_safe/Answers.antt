@@ -1,0 +1,5 @@
+use Rattle.commit_machine.proofs.RunLemmas.{crash_safe}
+use Rattle.commit_machine.proofs.laws.crash_safe.Goals as goal
+
+pub returns : goal.returns
+returns c = crash_safe

@@ -1,0 +1,5 @@
+use Rattle.commit_machine.proofs.StopLemmas.{decisions_apply}
+use Rattle.commit_machine.proofs.laws.decisions_apply.Goals as goal
+
+pub returns : goal.returns
+returns c = decisions_apply

@@ -1,0 +1,5 @@
+use Rattle.commit_machine.proofs.EndLemmas.{front_is_run}
+use Rattle.commit_machine.proofs.laws.front_is_run.Goals as goal
+
+pub returns : goal.returns
+returns c = front_is_run

@@ -1,0 +1,5 @@
+use Rattle.commit_machine.proofs.EndLemmas.{recovery_settles}
+use Rattle.commit_machine.proofs.laws.recovery_settles.Goals as goal
+
+pub returns : goal.returns
+returns c = recovery_settles

@@ -1,0 +1,5 @@
+use Rattle.commit_machine.proofs.StopLemmas.{stop_safe}
+use Rattle.commit_machine.proofs.laws.stop_safe.Goals as goal
+
+pub returns : goal.returns
+returns c = stop_safe

@@ -1,0 +1,5 @@
+use Rattle.commit_machine.proofs.WorkedLemmas.{worked_runs}
+use Rattle.commit_machine.proofs.laws.worked_runs.Goals as goal
+
+pub returns : goal.returns
+returns c = worked_runs

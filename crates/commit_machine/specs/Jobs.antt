@@ -1,0 +1,117 @@
+-- What a commit or a recovery is to do, and how it may end.
+use Rattle.std.specs.Prelude.{◌≡◌, ◌<◌, ◌^◌, ℕ, true, false, List, [], ◌∷◌, map, Option, Some, None, if◌then◌else◌}
+use Rattle.std.specs.Str.{bytes_eq}
+use Rattle.commit_record.specs.Format.{is_valid}
+use Rattle.commit_record.specs.declared.record.Phase.TheVariants.{Prepare, Go}
+use Rattle.commit_record.specs.declared.record.EntryKind.{EntryKind}
+use Rattle.commit_record.specs.declared.record.EntryKind.TheVariants.{Replace}
+use Rattle.commit_record.specs.declared.record.Entry.{Entry}
+use Rattle.commit_record.specs.declared.record.Record.{Record}
+use Rattle.commit_machine.specs.Names.{is_record_name}
+use Rattle.commit_machine.specs.Settled.{Files, Mem, put_in}
+
+-- whether the decision was passed when a call failed
+pub data Passed : Type 0 where
+  Before : Passed
+  After : Passed
+  Unknown : Passed
+
+-- what a recovery finds: no record, one that it undoes, one that it carries out
+pub data Found : Type 0 where
+  Nothing : Found
+  RolledBack : Found
+  Finished : Found
+
+-- why a job isn't done
+pub data Refusal : Type 0 where
+  -- another has the right of this name, or a lock stands on this file
+  Busy : List ℕ → Refusal
+  -- what stands as the record is none
+  NotARecord : Refusal
+  -- the file of this name is or would be so long
+  TooLarge : List ℕ → ℕ → Refusal
+  -- the file of this name has changed at this message
+  Changed : List ℕ → ℕ → Refusal
+
+pub data Ending : Type 0 where
+  -- a commit was decided and carried out
+  Done : Ending
+  Recovered : Found → Ending
+  Refused : Refusal → Ending
+  -- a call failed
+  Failed : Passed → Ending
+  NoMemory : Ending
+
+-- what becomes of a file that was loaded: how it is done, and what is staged for it
+pub data Outcome : Type 0 where
+  Puts : EntryKind → List ℕ → Outcome
+
+-- an edit of one file
+pub record Edit : Type 0 where
+  pub name : List ℕ
+  pub by : Option (List ℕ) → Outcome
+
+-- A commit has edits, a recovery has none. Why a commit is refused depends on the files that it loaded.
+pub record Job : Type 0 where
+  pub actor : List ℕ
+  pub token : ℕ
+  pub edits : Option (List Edit)
+  pub refusal : Files → Option Refusal
+
+-- an edit of which the file was loaded
+pub record Made : Type 0 where
+  pub edit : Edit
+  pub seen : Option (List ℕ)
+  pub kind : EntryKind
+  pub content : List ℕ
+
+abbrev pub edits_of : Job → List Edit
+edits_of j = elim j.edits [ None ↦ [] | Some es ↦ es ]
+
+abbrev pub all_names : List Edit → List (List ℕ)
+all_names es = map (λ e. e.name) es
+
+-- the names of the job's files, in order
+abbrev pub all_of : Job → List (List ℕ)
+all_of j = all_names (edits_of j)
+
+abbrev pub entries_for : (List ℕ → EntryKind) → List (List ℕ) → List Entry
+entries_for kind names = map (λ n. record { kind = kind n; name = n }) names
+
+-- the record before the decision
+abbrev pub prepare_of : Job → Record
+prepare_of j = record { phase = Prepare; token = j.token; entries = entries_for (λ n. Replace) (all_of j) }
+
+-- what was made for a name
+abbrev pub made_at : List Made → List ℕ → Option Made
+made_at [] n = None
+made_at (x ∷ xs) n = if bytes_eq n x.edit.name then Some x else made_at xs n
+
+abbrev pub kind_made : Option Made → EntryKind
+kind_made None = Replace
+kind_made (Some x) = x.kind
+
+abbrev pub seen_of : Option Made → Option (List ℕ)
+seen_of None = None
+seen_of (Some x) = x.seen
+
+-- the files that were loaded
+abbrev pub seen_files : List Made → Files
+seen_files made n = seen_of (made_at made n)
+
+-- the record of the decision
+abbrev pub go_of : Job → List Made → Record
+go_of j made = record { phase = Go; token = j.token; entries = entries_for (λ n. kind_made (made_at made n)) (all_of j) }
+
+abbrev pub file_after : Option (List ℕ) → Outcome → Option (List ℕ)
+file_after seen (Puts kind content) = put_in kind seen (Some content)
+
+-- what an edit makes of a file
+abbrev pub outcome_of : Edit → Option (List ℕ) → Option (List ℕ)
+outcome_of e seen = file_after seen (e.by seen)
+
+-- The record before the decision is valid, so there are 1 to 16 files of distinct lawful names, and none is a record name.
+pub record IsJob (j : Job) : Type 0 where
+  pub token_fits : j.token < 2 ^ 64
+  pub valid : (es : List Edit) → j.edits ≡ Some es → is_valid (prepare_of j) ≡ true
+  pub plain : (e : Edit) → Mem e (edits_of j) → is_record_name j.actor e.name ≡ false

@@ -1,0 +1,11 @@
+pub mod Names
+pub mod Records
+pub mod Settled
+pub mod Jobs
+pub mod Machine
+pub mod Goes
+pub mod Lawful
+pub mod Due
+pub mod Edits
+pub mod Laws
+pub mod Worked

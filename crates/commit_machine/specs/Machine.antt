@@ -1,0 +1,242 @@
+-- One machine for commit and recovery: the next disk call by the state, and the state after its answer.
+use Rattle.std.specs.Prelude.{ℕ, Bool, true, false, ◌&&◌, ◌==◌, List, [], ◌∷◌, ◌++◌, Option, Some, None, if◌then◌else◌}
+use Rattle.commit_record.specs.Format.{written}
+use Rattle.commit_record.specs.declared.record.EntryKind.{EntryKind}
+use Rattle.commit_record.specs.declared.record.EntryKind.TheVariants.{Replace}
+use Rattle.commit_record.specs.declared.record.Record.{Record}
+use Rattle.commit_machine.specs.Names.{record_name, new_name, right_name, staged_name}
+use Rattle.commit_machine.specs.Records.{record_in, record_of, is_go, names_of, kind_of}
+use Rattle.commit_machine.specs.Jobs.{Passed, Before, After, Unknown, Found, Nothing, RolledBack, Finished, Busy, NotARecord, TooLarge, Ending, Done, Recovered, Refused, Failed, NoMemory, Refusal, Outcome, Puts, Edit, Job, Made, edits_of, all_of, seen_files, prepare_of, go_of}
+
+-- what follows when a record is done with: the rest of the job, or the end
+pub data Then : Type 0 where
+  GoOn : Then
+  Answer : Ending → Then
+
+pub data State : Type 0 where
+  Seizing : State
+  Looking : State
+  -- a record, the name that is next, the names after it, and the names to unlock then
+  Undoing : Record → List ℕ → List (List ℕ) → List (List ℕ) → Then → State
+  Placing : Record → List ℕ → List (List ℕ) → List (List ℕ) → Then → State
+  Unlocking : Record → List ℕ → List (List ℕ) → Then → State
+  Erasing : Record → Then → State
+  -- what a recovery found
+  Clearing : Found → State
+  Preparing : State
+  Publishing : State
+  -- the names that are locked, the edit that is next, and those after it
+  Locking : List (List ℕ) → Edit → List Edit → State
+  Loading : List Made → Edit → List Edit → State
+  -- the names that are staged, all that was made, what is staged next, and what after it
+  Staging : List (List ℕ) → List Made → Made → List Made → State
+  Deciding : List Made → State
+  Committing : List Made → State
+  Checking : State
+  Releasing : Ending → State
+  Ended : Ending → State
+
+pub data Call : Type 0 where
+  ToLoad : List ℕ → Call
+  ToStage : List ℕ → List ℕ → Call
+  ToPublish : List ℕ → List ℕ → Call
+  ToErase : List ℕ → Call
+  ToLock : List ℕ → ℕ → Call
+  ToUnlock : List ℕ → ℕ → Call
+  ToSeize : List ℕ → Call
+  ToRelease : List ℕ → Call
+
+pub data Reply : Type 0 where
+  Went : Bool → Reply
+  Saw : Option (List ℕ) → Reply
+  Long : ℕ → Reply
+  Short : Reply
+  Fault : Reply
+
+-- the states that a list of names leads to
+abbrev pub unlocking : Record → List (List ℕ) → Then → State
+unlocking r [] th = Erasing r th
+unlocking r (n ∷ ns) th = Unlocking r n ns th
+
+abbrev pub undoing : Record → List (List ℕ) → List (List ℕ) → Then → State
+undoing r [] ls th = unlocking r ls th
+undoing r (n ∷ ns) ls th = Undoing r n ns ls th
+
+abbrev pub place_one : EntryKind → Record → List ℕ → List (List ℕ) → List (List ℕ) → Then → State
+place_one Replace r n ns ls th = Placing r n ns ls th
+
+abbrev pub placing : Record → List (List ℕ) → List (List ℕ) → Then → State
+placing r [] ls th = unlocking r ls th
+placing r (n ∷ ns) ls th = place_one (kind_of r n) r n ns ls th
+
+abbrev pub staging : List (List ℕ) → List Made → List Made → State
+staging ns done [] = Deciding done
+staging ns done (x ∷ left) = Staging ns done x left
+
+-- once no record stands
+abbrev pub mended : Option (List Edit) → Found → State
+mended None found = Releasing (Recovered found)
+mended (Some es) found = Preparing
+
+abbrev pub none_stands : Option (List Edit) → State
+none_stands None = Clearing Nothing
+none_stands (Some es) = Preparing
+
+-- a record stands
+abbrev pub mending : Record → State
+mending r = if is_go r then placing r (names_of r) (names_of r) GoOn else undoing r (names_of r) (names_of r) GoOn
+
+abbrev pub found_of : Record → Found
+found_of r = if is_go r then Finished else RolledBack
+
+abbrev pub record_seen : Option Record → State
+record_seen None = Releasing (Refused NotARecord)
+record_seen (Some r) = mending r
+
+abbrev pub looked : Job → Option (List ℕ) → State
+looked j None = none_stands j.edits
+looked j (Some bytes) = record_seen (record_of bytes)
+
+-- the clean-up of the own record before a refusal: what is staged, what is locked
+abbrev pub refusing : Job → List (List ℕ) → List (List ℕ) → Ending → State
+refusing j ns ls why = undoing (prepare_of j) ns ls (Answer why)
+
+-- once all files are loaded: the job is refused, or the outcomes are staged
+abbrev pub judged : Job → List Made → Option Refusal → State
+judged j done None = staging [] done done
+judged j done (Some why) = refusing j [] (all_of j) (Refused why)
+
+abbrev pub loading : Job → List Made → List Edit → State
+loading j done [] = judged j done (j.refusal (seen_files done))
+loading j done (e ∷ left) = Loading done e left
+
+abbrev pub locking : Job → List (List ℕ) → List Edit → State
+locking j ls [] = loading j [] (edits_of j)
+locking j ls (e ∷ left) = Locking ls e left
+
+abbrev pub loaded : Job → List Made → Edit → List Edit → Option (List ℕ) → Outcome → State
+loaded j done e left seen (Puts kind content) = loading j (done ++ (record { edit = e; seen = seen; kind = kind; content = content } ∷ [])) left
+
+-- the next call; none at the end
+abbrev pub next : Job → State → Option Call
+next j Seizing = Some (ToSeize (right_name j.actor))
+next j Looking = Some (ToLoad (record_name j.actor))
+next j (Undoing r n ns ls th) = Some (ToErase (staged_name r.token n))
+next j (Placing r n ns ls th) = Some (ToPublish (staged_name r.token n) n)
+next j (Unlocking r n ns th) = Some (ToUnlock n r.token)
+next j (Erasing r th) = Some (ToErase (record_name j.actor))
+next j (Clearing found) = Some (ToErase (new_name j.actor))
+next j Preparing = Some (ToStage (new_name j.actor) (written (prepare_of j)))
+next j Publishing = Some (ToPublish (new_name j.actor) (record_name j.actor))
+next j (Locking ls e left) = Some (ToLock e.name j.token)
+next j (Loading done e left) = Some (ToLoad e.name)
+next j (Staging ns done x left) = Some (ToStage (staged_name j.token x.edit.name) x.content)
+next j (Deciding done) = Some (ToStage (new_name j.actor) (written (go_of j done)))
+next j (Committing done) = Some (ToPublish (new_name j.actor) (record_name j.actor))
+next j Checking = Some (ToLoad (record_name j.actor))
+next j (Releasing why) = Some (ToRelease (right_name j.actor))
+next j (Ended why) = None
+
+-- whether the decision was passed at a state where a call fails
+abbrev pub passed_ending : Ending → Passed
+passed_ending Done = After
+passed_ending (Failed passed) = passed
+passed_ending e = Before
+
+abbrev pub passed_then : Then → Passed
+passed_then GoOn = Before
+passed_then (Answer e) = passed_ending e
+
+abbrev pub passed_at : State → Passed
+passed_at (Undoing r n ns ls th) = passed_then th
+passed_at (Placing r n ns ls th) = passed_then th
+passed_at (Unlocking r n ns th) = passed_then th
+passed_at (Erasing r th) = passed_then th
+passed_at (Releasing e) = passed_ending e
+passed_at (Ended e) = passed_ending e
+passed_at Checking = Unknown
+passed_at s = Before
+
+-- after a failed call nothing more is done but the release; where the decision was in flight, the record is looked at first
+abbrev pub faulted : State → State
+faulted (Committing done) = Checking
+faulted s = Releasing (Failed (passed_at s))
+
+abbrev pub is_own_go : Job → Option Record → Bool
+is_own_go j None = false
+is_own_go j (Some r) = is_go r && (r.token == j.token)
+
+abbrev pub passed_by : Job → Option (List ℕ) → Passed
+passed_by j c = if is_own_go j (record_in c) then After else Before
+
+abbrev pub saw : Job → State → Option (List ℕ) → State
+saw j Looking c = looked j c
+saw j (Loading done e left) c = loaded j done e left c (e.by c)
+saw j Checking c = Releasing (Failed (passed_by j c))
+saw j s c = Releasing (Failed (passed_at s))
+
+abbrev pub too_long : Job → State → ℕ → State
+too_long j Looking n = Releasing (Refused (TooLarge (record_name j.actor) n))
+too_long j (Loading done e left) n = refusing j [] (all_of j) (Refused (TooLarge e.name n))
+too_long j s n = Releasing (Failed (passed_at s))
+
+abbrev pub went_on : Job → State → Bool → State
+went_on j Seizing true = Looking
+went_on j Seizing false = Ended (Refused (Busy (right_name j.actor)))
+went_on j (Undoing r n ns ls th) b = undoing r ns ls th
+went_on j (Placing r n ns ls th) b = placing r ns ls th
+went_on j (Unlocking r n ns th) b = unlocking r ns th
+went_on j (Erasing r GoOn) b = Clearing (found_of r)
+went_on j (Erasing r (Answer why)) b = Releasing why
+went_on j (Clearing found) b = mended j.edits found
+went_on j Preparing b = Publishing
+went_on j Publishing true = locking j [] (edits_of j)
+went_on j Publishing false = Releasing (Refused NotARecord)
+went_on j (Locking ls e left) true = locking j (ls ++ (e.name ∷ [])) left
+went_on j (Locking ls e left) false = refusing j [] ls (Refused (Busy e.name))
+went_on j (Staging ns done x left) b = staging (ns ++ (x.edit.name ∷ [])) done left
+went_on j (Deciding done) b = Committing done
+went_on j (Committing done) true = placing (go_of j done) (all_of j) (all_of j) (Answer Done)
+went_on j (Committing done) false = Releasing (Refused NotARecord)
+went_on j (Releasing why) b = Ended why
+went_on j s b = Releasing (Failed (passed_at s))
+
+-- want of memory takes the place of a refusal, and of no other answer
+abbrev pub short_of : Ending → Ending
+short_of (Refused why) = NoMemory
+short_of e = e
+
+-- Want of memory in place of the next call: the clean-up. One that has begun goes on, and so does what follows a decision.
+abbrev pub refused : Job → State → State
+refused j Seizing = Ended NoMemory
+refused j Looking = Releasing NoMemory
+refused j (Undoing r n ns ls GoOn) = Releasing NoMemory
+refused j (Undoing r n ns ls (Answer e)) = Undoing r n ns ls (Answer (short_of e))
+refused j (Placing r n ns ls GoOn) = Releasing NoMemory
+refused j (Placing r n ns ls (Answer e)) = Placing r n ns ls (Answer (short_of e))
+refused j (Unlocking r n ns GoOn) = Releasing NoMemory
+refused j (Unlocking r n ns (Answer e)) = Unlocking r n ns (Answer (short_of e))
+refused j (Erasing r GoOn) = Releasing NoMemory
+refused j (Erasing r (Answer e)) = Erasing r (Answer (short_of e))
+refused j (Clearing found) = Releasing NoMemory
+refused j Preparing = Releasing NoMemory
+refused j Publishing = Releasing NoMemory
+refused j (Locking ls e left) = refusing j [] ls NoMemory
+refused j (Loading done e left) = refusing j [] (all_of j) NoMemory
+refused j (Staging ns done x left) = refusing j ns (all_of j) NoMemory
+refused j (Deciding done) = refusing j (all_of j) (all_of j) NoMemory
+refused j (Committing done) = refusing j (all_of j) (all_of j) NoMemory
+refused j (Releasing e) = Releasing (short_of e)
+refused j s = s
+
+-- a load that wants memory: that of a decision in flight counts as a failed one
+abbrev pub wanted : Job → State → State
+wanted j Checking = Releasing (Failed Unknown)
+wanted j s = refused j s
+
+abbrev pub after_reply : Job → State → Reply → State
+after_reply j s (Went b) = went_on j s b
+after_reply j s (Saw c) = saw j s c
+after_reply j s (Long n) = too_long j s n
+after_reply j s Short = wanted j s
+after_reply j s Fault = faulted s

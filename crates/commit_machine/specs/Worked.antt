@@ -1,0 +1,158 @@
+-- Worked runs: the events of a commit and of recoveries on small disks.
+use Rattle.std.specs.Prelude.{◌≡◌, ℕ, zero, suc, true, false, List, [], ◌∷◌, codes, take, is_some}
+use Rattle.std.specs.declared.option.Option.TheVariants.{Some, None}
+use Rattle.commit_record.specs.Format.{written}
+use Rattle.commit_record.specs.declared.record.Phase.{Phase}
+use Rattle.commit_record.specs.declared.record.Phase.TheVariants.{Prepare, Go}
+use Rattle.commit_record.specs.declared.record.EntryKind.TheVariants.{Replace}
+use Rattle.commit_record.specs.declared.record.Record.{Record}
+use Rattle.host_port.specs.declared.event.Event.{Event}
+use Rattle.host_port.specs.declared.event.Event.TheVariants.{Load, Stage, Publish, Erase, Lock, Unlock, Seize, Release}
+use Rattle.host_port.specs.declared.event.Seen.TheVariants.{Bytes}
+use Rattle.host_port.specs.Disk.{Disk, after, disk}
+use Rattle.host_port.specs.Ends.{carried_out}
+use Rattle.host_port.specs.Ran.{Honest}
+use Rattle.commit_machine.specs.Names.{record_name, new_name, right_name, staged_name}
+use Rattle.commit_machine.specs.Jobs.{Puts, Edit, Job, entries_for}
+use Rattle.commit_machine.specs.Machine.{State, Seizing, Call, ToLoad, ToStage, ToPublish, ToErase, ToLock, ToUnlock, ToSeize, ToRelease, next, after_reply}
+use Rattle.commit_machine.specs.Goes.{reply, Goes}
+use Rattle.commit_machine.specs.Due.{is_decision}
+
+-- the event of a call that is carried out on a disk
+abbrev pub carried : Disk → Call → Event
+carried d (ToLoad n) = Load n (Bytes (d.files n) (is_some (d.locks n)))
+carried d (ToStage n c) = carried_out d (Stage n (Some c) false)
+carried d (ToPublish from to) = carried_out d (Publish from to true false)
+carried d (ToErase n) = carried_out d (Erase n true false)
+carried d (ToLock n t) = carried_out d (Lock n t true false)
+carried d (ToUnlock n t) = carried_out d (Unlock n t true false)
+carried d (ToSeize n) = carried_out d (Seize n true false)
+carried d (ToRelease n) = Release n
+
+-- the machine's events from a state, where each call is carried out: at most so many
+abbrev pub alone : ℕ → Job → State → Disk → List Event
+alone zero j s d = []
+alone (suc k) j s d = elim (next j s) [ None ↦ [] | Some c ↦ carried d c ∷ alone k j (after_reply j s (reply (carried d c))) (after d (carried d c)) ]
+
+-- such events are a run's: the machine's next calls, each saying what is so
+abbrev pub AloneGoes : Type 0
+AloneGoes = (k : ℕ) (j : Job) (s : State) (d : Disk) → (last : State) × Goes j s (alone k j s d) last × Honest d (alone k j s d)
+
+abbrev pub home : List ℕ
+home = codes "/h/.mailx"
+
+abbrev pub out : List ℕ
+out = codes "/h/out"
+
+abbrev pub mbox : List ℕ
+mbox = codes "/h/mbox"
+
+abbrev pub nothing : Disk
+nothing = record { files = λ n. None; locks = λ n. None; rights = λ n. None }
+
+-- the file becomes these bytes
+abbrev pub becomes : List ℕ → List ℕ → Edit
+becomes name bytes = record { name = name; by = λ seen. Puts Replace bytes }
+
+abbrev pub one_file : Job
+one_file = record { actor = home; token = 1; edits = Some (becomes out (codes "x") ∷ []); refusal = λ files. None }
+
+abbrev pub two_files : Job
+two_files = record { actor = home; token = 1; edits = Some (becomes mbox (codes "x") ∷ becomes out (codes "y") ∷ []); refusal = λ files. None }
+
+abbrev pub recovery : Job
+recovery = record { actor = home; token = 2; edits = None; refusal = λ files. None }
+
+abbrev pub record_for : Phase → List (List ℕ) → Record
+record_for phase names = record { phase = phase; token = 1; entries = entries_for (λ n. Replace) names }
+
+-- a commit of one file has thirteen events, the ninth the decision
+abbrev pub commit_of_one : List Event
+commit_of_one =
+    Seize (right_name home) true false
+    ∷ Load (record_name home) (Bytes None false)
+    ∷ Stage (new_name home) (Some (written (record_for Prepare (out ∷ [])))) false
+    ∷ Publish (new_name home) (record_name home) true false
+    ∷ Lock out 1 true false
+    ∷ Load out (Bytes None true)
+    ∷ Stage (staged_name 1 out) (Some (codes "x")) false
+    ∷ Stage (new_name home) (Some (written (record_for Go (out ∷ [])))) false
+    ∷ Publish (new_name home) (record_name home) true false
+    ∷ Publish (staged_name 1 out) out true false
+    ∷ Unlock out 1 true false
+    ∷ Erase (record_name home) true false
+    ∷ Release (right_name home)
+    ∷ []
+
+-- a commit of two files has eighteen
+abbrev pub commit_of_two : List Event
+commit_of_two =
+    Seize (right_name home) true false
+    ∷ Load (record_name home) (Bytes None false)
+    ∷ Stage (new_name home) (Some (written (record_for Prepare (mbox ∷ out ∷ [])))) false
+    ∷ Publish (new_name home) (record_name home) true false
+    ∷ Lock mbox 1 true false
+    ∷ Lock out 1 true false
+    ∷ Load mbox (Bytes None true)
+    ∷ Load out (Bytes None true)
+    ∷ Stage (staged_name 1 mbox) (Some (codes "x")) false
+    ∷ Stage (staged_name 1 out) (Some (codes "y")) false
+    ∷ Stage (new_name home) (Some (written (record_for Go (mbox ∷ out ∷ [])))) false
+    ∷ Publish (new_name home) (record_name home) true false
+    ∷ Publish (staged_name 1 mbox) mbox true false
+    ∷ Publish (staged_name 1 out) out true false
+    ∷ Unlock mbox 1 true false
+    ∷ Unlock out 1 true false
+    ∷ Erase (record_name home) true false
+    ∷ Release (right_name home)
+    ∷ []
+
+-- a recovery where no record stands has four
+abbrev pub recovery_of_none : List Event
+recovery_of_none =
+    Seize (right_name home) true false
+    ∷ Load (record_name home) (Bytes None false)
+    ∷ Erase (new_name home) true false
+    ∷ Release (right_name home)
+    ∷ []
+
+-- the disk that a commit of two files leaves where it stops before the event of this number, from 0
+abbrev pub stopped_at : ℕ → Disk
+stopped_at n = disk nothing (take n commit_of_two)
+
+-- A record that was decided is carried out; this one after its first file was put in place.
+abbrev pub recovery_of_decided : List Event
+recovery_of_decided =
+    Seize (right_name home) true false
+    ∷ Load (record_name home) (Bytes (Some (written (record_for Go (mbox ∷ out ∷ [])))) false)
+    ∷ Publish (staged_name 1 mbox) mbox false false
+    ∷ Publish (staged_name 1 out) out true false
+    ∷ Unlock mbox 1 true false
+    ∷ Unlock out 1 true false
+    ∷ Erase (record_name home) true false
+    ∷ Erase (new_name home) true false
+    ∷ Release (right_name home)
+    ∷ []
+
+-- a record before its decision is undone
+abbrev pub recovery_of_undecided : List Event
+recovery_of_undecided =
+    Seize (right_name home) true false
+    ∷ Load (record_name home) (Bytes (Some (written (record_for Prepare (mbox ∷ out ∷ [])))) false)
+    ∷ Erase (staged_name 1 mbox) true false
+    ∷ Erase (staged_name 1 out) true false
+    ∷ Unlock mbox 1 true false
+    ∷ Unlock out 1 true false
+    ∷ Erase (record_name home) true false
+    ∷ Erase (new_name home) true false
+    ∷ Release (right_name home)
+    ∷ []
+
+-- the worked runs are those that the machine makes
+pub record WorkedRuns : Type 0 where
+  pub one : alone 20 one_file Seizing nothing ≡ commit_of_one
+  pub ninth : is_decision one_file (Publish (new_name home) (record_name home) true false) (disk nothing (take 8 commit_of_one)) ≡ true
+  pub two : alone 20 two_files Seizing nothing ≡ commit_of_two
+  pub none : alone 20 recovery Seizing nothing ≡ recovery_of_none
+  pub decided : alone 20 recovery Seizing (stopped_at 13) ≡ recovery_of_decided
+  pub undecided : alone 20 recovery Seizing (stopped_at 11) ≡ recovery_of_undecided
