@@ -5,3 +5,4 @@ pub mod CountLemmas
 pub mod FileLemmas
 pub mod MendLemmas
 pub mod RecoverLemmas
+pub mod SafeLemmas
