@@ -21,7 +21,8 @@ use Rattle.folder_recovery.specs.declared.recovery.Recovered.TheVariants as reco
 use Rattle.folder_recovery.specs.declared.error.MendError.{MendError}
 use Rattle.folder_recovery.specs.declared.error.MendError.TheVariants as mend
 use Rattle.folder_recovery.specs.Recovering.{found, ReadsAs, Stops, Looks, MendsFound, all_closed}
-use Rattle.folder_recovery.proofs.GoesLemmas.{goes_call, goes_then, placing_cons, refused_twice}
+use Rattle.folder_recovery.proofs.GoesLemmas.{goes_call, goes_then, placing_cons}
+use Rattle.commit_machine.proofs.GoesLemmas.{refused_twice}
 
 -- want of memory in place of the next call
 pub goes_refused : (j : Job) (s mid last : State) (es : List Event) → refused j mid ≡ last → Goes j s es mid → Goes j s es last

@@ -11,6 +11,7 @@ use Rattle.host_port.specs.Calls.{Counts}
 use Rattle.host_port.specs.Own.{own}
 use Rattle.host_port.specs.Ran.{Honest, Stretch, Ran}
 use Rattle.host_port.proofs.RanLemmas.{own-append}
+use Rattle.commit_machine.specs.Edits.{recovery_for}
 use Rattle.commit_machine.specs.Names.{record_name, right_name}
 use Rattle.commit_machine.specs.Jobs.{Before, Ending, Refused, Failed, NoMemory, Edit, Job, IsJob}
 use Rattle.commit_machine.specs.Jobs as jobs
@@ -23,10 +24,10 @@ use Rattle.commit_machine.proofs.EndLemmas.{front_is_run, no_record_stands, reco
 use Rattle.folder_recovery.specs.declared.recovery.Recovered.{Recovered}
 use Rattle.folder_recovery.specs.declared.error.RecoverError.{RecoverError}
 use Rattle.folder_recovery.specs.declared.error.RecoverError.TheVariants as error
-use Rattle.folder_recovery.specs.Recovering.{found, Recovers, GoesTo, recovery}
+use Rattle.folder_recovery.specs.Recovering.{found, Recovers, GoesTo}
 use Rattle.folder_recovery.specs.Safe.{MayRecover, IsSettled, RecoversSafely}
 
-recovery-is-job : (actor : List ℕ) (token : ℕ) → token < 2 ^ 64 → IsJob (recovery actor token)
+recovery-is-job : (actor : List ℕ) (token : ℕ) → token < 2 ^ 64 → IsJob (recovery_for actor token)
 recovery-is-job actor token fits = record { token_fits = fits; valid = λ es is. absurd (cc); plain = λ e m. absurd m }
 
 -- a recovery ends somewhere
@@ -40,7 +41,7 @@ ends-somewhere j es (Err error.Memory) (inl h) = (NoMemory, h)
 ends-somewhere j es (Err error.Memory) (inr h) = (Refused jobs.NotARecord, h)
 
 module _ (actor : List ℕ) (token : ℕ) (d : Disk) where
-  run-of : (es : List Event) (end : Ending) → MayRecover actor token d es → Honest d es → GoesTo (recovery actor token) (own es) end → IsRun (recovery actor token) d es (Ended end)
+  run-of : (es : List Event) (end : Ending) → MayRecover actor token d es → Honest d es → GoesTo (recovery_for actor token) (own es) end → IsRun (recovery_for actor token) d es (Ended end)
   run-of es end may honest goes = record {
     job = recovery-is-job actor token may.token_fits;
     fresh = may.fresh;
@@ -51,19 +52,19 @@ module _ (actor : List ℕ) (token : ℕ) (d : Disk) where
   }
 
   -- the run up to its release, behind which nothing of its own comes
-  run-to : (front rest : List Event) (e : Event) (end : Ending) → own rest ≡ [] → IsRun (recovery actor token) d (front ++ e ∷ rest) (Ended end) → IsRun (recovery actor token) d (front ++ e ∷ []) (Ended end)
+  run-to : (front rest : List Event) (e : Event) (end : Ending) → own rest ≡ [] → IsRun (recovery_for actor token) d (front ++ e ∷ rest) (Ended end) → IsRun (recovery_for actor token) d (front ++ e ∷ []) (Ended end)
   run-to front rest e end none run =
       let split : front ++ e ∷ rest ≡ (front ++ e ∷ []) ++ rest = sym (append_assoc front (e ∷ []) rest) in
-      let G : List Event → Type 0 = λ es. IsRun (recovery actor token) d es (Ended end) in
+      let G : List Event → Type 0 = λ es. IsRun (recovery_for actor token) d es (Ended end) in
       let run' = subst G split run in
-      let w = front_is_run (recovery actor token) d (front ++ e ∷ []) rest (Ended end) run' in
+      let w = front_is_run (recovery_for actor token) d (front ++ e ∷ []) rest (Ended end) run' in
       let same : own ((front ++ e ∷ []) ++ rest) ≡ own (front ++ e ∷ []) = own-append (front ++ e ∷ []) rest ∙ ap (λ r. own (front ++ e ∷ []) ++ r) none ∙ append-nil (own (front ++ e ∷ [])) in
-      let P : List Event → Type 0 = λ es. Goes (recovery actor token) Seizing es (Ended end) in
+      let P : List Event → Type 0 = λ es. Goes (recovery_for actor token) Seizing es (Ended end) in
       record { job = w.1.job; fresh = w.1.fresh; sound = w.1.sound; goes = subst P same run'.goes; honest = w.1.honest; lawful = w.1.lawful }
 
-  settled-at : (front rest : List Event) (f : Recovered) → own rest ≡ [] → IsRun (recovery actor token) d (front ++ Release (right_name actor) ∷ rest) (Ended (jobs.Recovered (found f))) → IsSettled actor (disk d (front ++ Release (right_name actor) ∷ []))
+  settled-at : (front rest : List Event) (f : Recovered) → own rest ≡ [] → IsRun (recovery_for actor token) d (front ++ Release (right_name actor) ∷ rest) (Ended (jobs.Recovered (found f))) → IsSettled actor (disk d (front ++ Release (right_name actor) ∷ []))
   settled-at front rest f none run =
-      let j = recovery actor token in
+      let j = recovery_for actor token in
       let run' = run-to front rest (Release (right_name actor)) (jobs.Recovered (found f)) none run in
       record {
         none = no_record_stands j d front (jobs.Recovered (found f)) tt run';
@@ -71,9 +72,9 @@ module _ (actor : List ℕ) (token : ℕ) (d : Disk) where
         locks = λ n. (recovery_settles j d front (found f) n run').1;
       }
 
-  pub safely : (es : List Event) (result : Result Recovered RecoverError) → MayRecover actor token d es → Honest d es → Recovers (recovery actor token) (own es) result → RecoversSafely actor token d es result
+  pub safely : (es : List Event) (result : Result Recovered RecoverError) → MayRecover actor token d es → Honest d es → Recovers (recovery_for actor token) (own es) result → RecoversSafely actor token d es result
   safely es result may honest h =
-      let j = recovery actor token in
+      let j = recovery_for actor token in
       let w = ends-somewhere j (own es) result h in
       let run = run-of es w.0 may honest w.1 in
       let G : List Event → Type 0 = λ es. IsRun j d es (Ended w.0) in
@@ -89,7 +90,7 @@ module _ (actor : List ℕ) (token : ℕ) (d : Disk) where
 
 -- of a host that tells its trace
 pub ran-safely : {H : Type 0} {start : H → Disk} {told : H → Option (List Event)} {counts : H → Counts} {old new : H} (actor : List ℕ) (token : ℕ) (result : Result Recovered RecoverError) (before es : List Event)
-    → Ran start told counts old new (λ own_ones. Recovers (recovery actor token) own_ones result)
+    → Ran start told counts old new (λ own_ones. Recovers (recovery_for actor token) own_ones result)
     → told old ≡ Some before → told new ≡ Some (before ++ es) → MayRecover actor token (disk (start old) before) es → RecoversSafely actor token (disk (start old) before) es result
 ran-safely {start = start} {told = told} {old = old} actor token result before es ran at to may =
     let t = ran.told_is (before ++ es) to in
@@ -98,5 +99,5 @@ ran-safely {start = start} {told = told} {old = old} actor token result before e
     let added : es ≡ t.2.added = append_cancel_left before es t.2.added (t.2.is ∙ ap (λ (r : List Event). r ++ t.2.added) (sym first)) in
     let D : Disk → Type 0 = λ d. Honest d t.2.added in
     let E : List Event → Type 0 = λ xs. Honest (disk (start old) before) xs in
-    let P : List Event → Type 0 = λ xs. Recovers (recovery actor token) (own xs) result in
+    let P : List Event → Type 0 = λ xs. Recovers (recovery_for actor token) (own xs) result in
     safely actor token (disk (start old) before) es result may (subst E (sym added) (subst D (ap (disk (start old)) (sym first)) t.2.honest)) (subst P (sym added) t.2.own_ones)

@@ -19,10 +19,6 @@ use Rattle.folder_recovery.specs.declared.error.MendError.TheVariants as mend
 use Rattle.folder_recovery.specs.declared.error.RecoverError.{RecoverError}
 use Rattle.folder_recovery.specs.declared.error.RecoverError.TheVariants as error
 
--- the job of a recovery by an actor; of its token no event speaks
-abbrev pub recovery : List ℕ → ℕ → Job
-recovery actor token = record { actor = actor; token = token; edits = None }
-
 -- what was found, as the machine has it
 abbrev pub found : Recovered → Found
 found Nothing = jobs.Nothing

@@ -3,12 +3,13 @@ ghost use Rattle.std.specs.Prelude.{◌≡◌, ◌≤◌, ◌++◌, ℕ, List, S
 ghost use Rattle.host_port.specs.Calls.{NeverFall};
 ghost use Rattle.host_port.specs.Names.{IsFileName, has_no_zero};
 ghost use Rattle.host_port.specs.Ran.{Ran};
+ghost use Rattle.commit_machine.specs.Edits.{recovery_for};
 ghost use Rattle.commit_machine.specs.Names.{record_name, new_name};
 ghost use Rattle.commit_machine.specs.Jobs.{Job};
 ghost use Rattle.host_port.specs.Disk.{disk};
 ghost use Rattle.host_port.specs.declared.event.Event.{Event};
 ghost use Rattle.folder_recovery.specs.Safe.{MayRecover, RecoversSafely};
-ghost use Rattle.folder_recovery.specs.Recovering.{Settles, MendCause, Recovers, RecoverCause, recovery, answer_of};
+ghost use Rattle.folder_recovery.specs.Recovering.{Settles, MendCause, Recovers, RecoverCause, answer_of};
 
 use crate::calls::{erase, release, seize};
 use crate::mend::mend;
@@ -73,7 +74,7 @@ fn run<H: Host>(
 ) -> Result<Recovered, RecoverError>
     requires short { length actor.now ≤ 4021 }
     requires no_zero { has_no_zero actor.now ≡ true }
-    ensures ran { (token : ℕ) → Ran H.start H.told H.counts host.old host.new (λ es. Recovers (recovery actor.now token) es result) }
+    ensures ran { (token : ℕ) → Ran H.start H.told H.counts host.old host.new (λ es. Recovers (recovery_for actor.now token) es result) }
     ensures cause { RecoverCause (H.counts host.old) (H.counts host.new) result }
 {
     let name = record_name(alloc, actor)?;
@@ -106,7 +107,7 @@ pub fn recover<H: Host>(
 ) -> Result<Recovered, RecoverError>
     requires short { length actor.now ≤ 4021 }
     requires no_zero { has_no_zero actor.now ≡ true }
-    ensures ran { (token : ℕ) → Ran H.start H.told H.counts host.old host.new (λ es. Recovers (recovery actor.now token) es result) }
+    ensures ran { (token : ℕ) → Ran H.start H.told H.counts host.old host.new (λ es. Recovers (recovery_for actor.now token) es result) }
     ensures safe { (token : ℕ) (before es : List Event) → H.told host.old ≡ Some before → H.told host.new ≡ Some (before ++ es) → MayRecover actor.now token (disk (H.start host.old) before) es → RecoversSafely actor.now token (disk (H.start host.old) before) es result }
     ensures cause { RecoverCause (H.counts host.old) (H.counts host.new) result }
 {

@@ -4,11 +4,12 @@ use Rattle.std.specs.Prelude.{true, false}
 use Rattle.host_port.specs.declared.event.Event.{Event}
 use Rattle.host_port.specs.Names.{IsFileName}
 use Rattle.host_port.proofs.RanLemmas.{Ran-then, Ran-map}
+use Rattle.commit_machine.specs.Edits.{recovery_for}
 use Rattle.commit_machine.specs.Machine.{ToSeize, ToRelease, Went, Fault}
 use Rattle.folder_recovery.specs.declared.recovery.Recovered.{Recovered}
 use Rattle.folder_recovery.specs.declared.error.RecoverError.{RecoverError}
 use Rattle.folder_recovery.specs.Did.{Did}
-use Rattle.folder_recovery.specs.Recovering.{Recovers, recovery}
+use Rattle.folder_recovery.specs.Recovering.{Recovers}
 use Rattle.folder_recovery.proofs.FileLemmas.{record-file, new-file, right-file}
 use Rattle.folder_recovery.proofs.RecoverLemmas.{held, released, busy, no-right}
 use Rattle.folder_recovery.proofs.recovery.run.Goals as goal
@@ -30,7 +31,7 @@ release-requires-in-Err g c = subst IsFileName (sym (c.bytes-in-Err.ensures ∙ 
 
 pub returns-in-Ok-true-clause-ran : goal.returns-in-Ok-true-clause-ran
 returns-in-Ok-true-clause-ran g c = λ token.
-    let j = recovery c.args.actor.now token in
+    let j = recovery_for c.args.actor.now token in
     let name = c.bytes-in-Ok-true.ensures ∙ c.in_ok-name.ensures in
     let new = c.bytes-in-Ok-true-2.ensures ∙ c.in_ok-new.ensures in
     let P : List Event → Result Recovered RecoverError → Type 0 = λ es r. Recovers j es r in
@@ -41,13 +42,13 @@ returns-in-Ok-true-clause-ran g c = λ token.
 
 pub returns-in-Ok-false-clause-ran : goal.returns-in-Ok-false-clause-ran
 returns-in-Ok-false-clause-ran g c = λ token.
-    let j = recovery c.args.actor.now token in
+    let j = recovery_for c.args.actor.now token in
     let S : List Event → List ℕ → Type 0 = λ es z. Did (ToSeize z) (Went false) es in
     Ran-map (λ es h. busy j c.in_ok-right.right c.in_ok-right.ensures es (subst (S es) c.bytes.ensures h)) (rw c.in-Ok-false.field-0-test at c.in-Ok-false.ensures.ran)
 
 pub returns-in-Err-clause-ran : goal.returns-in-Err-clause-ran
 returns-in-Err-clause-ran g c = λ token.
-    let j = recovery c.args.actor.now token in
+    let j = recovery_for c.args.actor.now token in
     let S : List Event → List ℕ → Type 0 = λ es z. Did (ToSeize z) Fault es in
     let R : List Event → List ℕ → Type 0 = λ es z. Did (ToRelease z) (Went true) es in
     Ran-then (λ front more p q. no-right j c.in_ok-right.right c.in_ok-right.ensures front more (subst (S front) c.bytes.ensures p) (subst (R more) c.bytes-in-Err.ensures q)) c.in-Err.ensures.ran c.release-in-Err.ensures.ran
