@@ -8,6 +8,7 @@ ghost use Rattle.commit_machine.specs.Names.{record_name, new_name};
 ghost use Rattle.commit_machine.specs.Jobs.{Job};
 ghost use Rattle.host_port.specs.Disk.{disk};
 ghost use Rattle.host_port.specs.declared.event.Event.{Event};
+ghost use Rattle.folder_recovery.specs.Told.{IsTold};
 ghost use Rattle.folder_recovery.specs.Safe.{MayRecover, RecoversSafely};
 ghost use Rattle.folder_recovery.specs.Recovering.{Settles, MendCause, Recovers, RecoverCause, answer_of};
 
@@ -108,6 +109,7 @@ pub fn recover<H: Host>(
     requires short { length actor.now ≤ 4021 }
     requires no_zero { has_no_zero actor.now ≡ true }
     ensures ran { (token : ℕ) → Ran H.start H.told H.counts host.old host.new (λ es. Recovers (recovery_for actor.now token) es result) }
+    ensures told { Ran H.start H.told H.counts host.old host.new (λ es. IsTold actor.now es result) }
     ensures safe { (token : ℕ) (before es : List Event) → H.told host.old ≡ Some before → H.told host.new ≡ Some (before ++ es) → MayRecover actor.now token (disk (H.start host.old) before) es → RecoversSafely actor.now token (disk (H.start host.old) before) es result }
     ensures cause { RecoverCause (H.counts host.old) (H.counts host.new) result }
 {
