@@ -68,11 +68,7 @@ fn answer(settled: Result<Recovered, MendError>, name: Text) -> Result<Recovered
 }
 
 // The whole of it, as a run of the machine.
-fn run<H: Host>(
-    alloc: Global,
-    actor: &[u8],
-    host: &mut H,
-) -> Result<Recovered, RecoverError>
+fn run<H: Host>(alloc: Global, actor: &[u8], host: &mut H) -> Result<Recovered, RecoverError>
     requires short { length actor.now ≤ 4021 }
     requires no_zero { has_no_zero actor.now ≡ true }
     ensures ran { (token : ℕ) → Ran H.start H.told H.counts host.old host.new (λ es. Recovers (recovery_for actor.now token) es result) }
