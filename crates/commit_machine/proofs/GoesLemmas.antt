@@ -1,18 +1,11 @@
 -- Stretches of a machine's events, one after the other.
-use Rattle.std.proofs.Common.{◌≡◌, ℕ, List, [], ◌∷◌, ◌++◌, refl, ap, sym, subst, inl, inr, ◌∙◌}
+use Rattle.std.proofs.Common.{◌≡◌, ℕ, List, [], ◌∷◌, ◌++◌, refl, sym, subst, inl, inr, ◌∙◌}
 use Rattle.commit_record.specs.declared.record.Record.{Record}
 use Rattle.host_port.specs.declared.event.Event.{Event}
-use Rattle.commit_machine.specs.Jobs.{Ending, Done, Recovered, Refused, Failed, NoMemory, Job, all_of, prepare_of}
-use Rattle.commit_machine.specs.Machine.{GoOn, Answer, State, Seizing, Looking, Undoing, Placing, Unlocking, Erasing, Clearing, Preparing, Publishing, Locking, Loading, Staging, Deciding, Committing, Checking, Releasing, Ended, unlocking, undoing, refused, short_of, next, after_reply}
+use Rattle.commit_machine.specs.Jobs.{NoMemory, Job, all_of, prepare_of}
+use Rattle.commit_machine.specs.Machine.{GoOn, Answer, State, Seizing, Looking, Undoing, Placing, Unlocking, Erasing, Clearing, Preparing, Publishing, Locking, Loading, Staging, Deciding, Committing, Checking, Releasing, Ended, unlocking, undoing, refused, next, after_reply}
 use Rattle.commit_machine.specs.Goes.{IsNext, Goes, reply}
 use Rattle.commit_machine.specs.Laws.{StretchesJoin}
-
-short_twice : (e : Ending) → short_of (short_of e) ≡ short_of e
-short_twice Done = refl
-short_twice (Recovered found) = refl
-short_twice (Refused why) = refl
-short_twice (Failed passed) = refl
-short_twice NoMemory = refl
 
 module _ (j : Job) where
   unlocking_twice : (r : Record) (ls : List (List ℕ)) → refused j (unlocking r ls (Answer NoMemory)) ≡ unlocking r ls (Answer NoMemory)
@@ -24,17 +17,17 @@ module _ (j : Job) where
   undoing_twice r (n ∷ ns) ls = refl
 
   -- want of memory met twice is met once
-  refused_twice : (s : State) → refused j (refused j s) ≡ refused j s
+  pub refused_twice : (s : State) → refused j (refused j s) ≡ refused j s
   refused_twice Seizing = refl
   refused_twice Looking = refl
   refused_twice (Undoing r n ns ls GoOn) = refl
-  refused_twice (Undoing r n ns ls (Answer e)) = ap (λ (a : Ending). Undoing r n ns ls (Answer a)) (short_twice e)
+  refused_twice (Undoing r n ns ls (Answer e)) = refl
   refused_twice (Placing r n ns ls GoOn) = refl
-  refused_twice (Placing r n ns ls (Answer e)) = ap (λ (a : Ending). Placing r n ns ls (Answer a)) (short_twice e)
+  refused_twice (Placing r n ns ls (Answer e)) = refl
   refused_twice (Unlocking r n ns GoOn) = refl
-  refused_twice (Unlocking r n ns (Answer e)) = ap (λ (a : Ending). Unlocking r n ns (Answer a)) (short_twice e)
+  refused_twice (Unlocking r n ns (Answer e)) = refl
   refused_twice (Erasing r GoOn) = refl
-  refused_twice (Erasing r (Answer e)) = ap (λ (a : Ending). Erasing r (Answer a)) (short_twice e)
+  refused_twice (Erasing r (Answer e)) = refl
   refused_twice (Clearing found) = refl
   refused_twice Preparing = refl
   refused_twice Publishing = refl
@@ -44,7 +37,7 @@ module _ (j : Job) where
   refused_twice (Deciding done) = undoing_twice (prepare_of j) (all_of j) (all_of j)
   refused_twice (Committing done) = undoing_twice (prepare_of j) (all_of j) (all_of j)
   refused_twice Checking = refl
-  refused_twice (Releasing e) = ap (λ (a : Ending). Releasing a) (short_twice e)
+  refused_twice (Releasing e) = refl
   refused_twice (Ended e) = refl
 
   -- what goes on from where want of memory was met goes on from before it

@@ -7,10 +7,10 @@ use Rattle.host_port.specs.Disk.{Disk}
 use Rattle.commit_machine.specs.Names.{record_name, new_name}
 use Rattle.commit_machine.specs.Records.{record_in, record_of, is_go, names_of, kind_of}
 use Rattle.commit_machine.specs.Settled.{Mem}
-use Rattle.commit_machine.specs.Jobs.{Ending, Done, Recovered, Refused, Failed, NoMemory, Found, Refusal, seen_files, Edit, Job, Made, edits_of, all_of, entries_for, prepare_of, IsJob}
-use Rattle.commit_machine.specs.Machine.{Then, GoOn, Answer, State, Seizing, Looking, Undoing, Placing, Unlocking, Erasing, Clearing, Preparing, Publishing, Locking, Loading, Staging, Deciding, Committing, Checking, Releasing, Ended, unlocking, undoing, place_one, placing, staging, judged, loading, locking, mended, none_stands, mending, record_seen, looked, refusing, refused, short_of, wanted}
+use Rattle.commit_machine.specs.Jobs.{Ending, Refused, NoMemory, Found, Refusal, seen_files, Edit, Job, Made, edits_of, all_of, entries_for, prepare_of, IsJob}
+use Rattle.commit_machine.specs.Machine.{Then, GoOn, Answer, State, Seizing, Looking, Undoing, Placing, Unlocking, Erasing, Clearing, Preparing, Publishing, Locking, Loading, Staging, Deciding, Committing, Checking, Releasing, Ended, unlocking, undoing, place_one, placing, staging, judged, loading, locking, mended, none_stands, mending, record_seen, looked, refusing, refused, wanted}
 use Rattle.commit_machine.specs.Lawful.{standing}
-use Rattle.commit_machine.proofs.Inv.{Closing, Own, Clean, Idle, IsValid, IsOwnEnd, ThenOk, Ends, Subset, Covers, LocksLeft, Among, PartPlaced, Knows}
+use Rattle.commit_machine.proofs.Inv.{Closing, Own, Clean, Idle, IsValid, IsOwnEnd, ThenOk, Subset, Covers, LocksLeft, Among, PartPlaced, Knows}
 
 -- the names of entries are those that they were made for
 pub names-entries_for : (kind : List ℕ → EntryKind) (ns : List (List ℕ)) → map (λ e. e.name) (entries_for kind ns) ≡ ns
@@ -119,33 +119,18 @@ module _ (j : Job) (d : Disk) where
   none_set : Subset [] (all_of j)
   none_set = record { each = λ m h. absurd h }
 
-  -- want of memory in place of a refusal
-  short_then : (r : Record) (a : Ending) → ThenOk j r (Answer a) d → ThenOk j r (Answer (short_of a)) d
-  short_then r Done k = k
-  short_then r (Recovered found) k = k
-  short_then r (Refused why) k = record { token = k.token; names = k.names; rest = k.rest; own_end = tt }
-  short_then r (Failed passed) k = k
-  short_then r NoMemory k = k
-
-  short_ends : (a : Ending) → Ends a j d → Ends (short_of a) j d
-  short_ends Done k = k
-  short_ends (Recovered found) k = k
-  short_ends (Refused why) k = k
-  short_ends (Failed passed) k = k
-  short_ends NoMemory k = k
-
   -- what is known where want of memory is met
   pub knows_refused : (s : State) → Knows j s d → Knows j (refused j s) d
   knows_refused Seizing k = k
   knows_refused Looking k = k.fresh
   knows_refused (Undoing r n ns ls GoOn) k = k.4
-  knows_refused (Undoing r n ns ls (Answer a)) k = (k.0, k.1, k.2, k.3, short_then r a k.4)
+  knows_refused (Undoing r n ns ls (Answer a)) k = k
   knows_refused (Placing r n ns ls GoOn) k = k.1
-  knows_refused (Placing r n ns ls (Answer a)) k = (k.0, short_then r a k.1)
+  knows_refused (Placing r n ns ls (Answer a)) k = k
   knows_refused (Unlocking r n ns GoOn) k = k.2
-  knows_refused (Unlocking r n ns (Answer a)) k = (k.0, k.1, short_then r a k.2)
+  knows_refused (Unlocking r n ns (Answer a)) k = k
   knows_refused (Erasing r GoOn) k = k.1
-  knows_refused (Erasing r (Answer a)) k = (k.0, short_then r a k.1)
+  knows_refused (Erasing r (Answer a)) k = k
   knows_refused (Clearing found) k = k.clean.fresh
   knows_refused Preparing k = k.0.clean.fresh
   knows_refused Publishing k = k.0.clean.fresh
@@ -155,7 +140,7 @@ module _ (j : Job) (d : Disk) where
   knows_refused (Deciding made) k = knows_refusing (all_of j) (all_of j) NoMemory made [] tt k.0 whole_set whole_set
   knows_refused (Committing made) k = knows_refusing (all_of j) (all_of j) NoMemory made [] tt k.0 whole_set whole_set
   knows_refused Checking k = k
-  knows_refused (Releasing a) k = short_ends a k
+  knows_refused (Releasing a) k = k
   knows_refused (Ended a) k = k
 
   pub knows_wanted : (s : State) → Knows j s d → Knows j (wanted j s) d

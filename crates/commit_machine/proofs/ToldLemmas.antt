@@ -29,7 +29,7 @@ use Rattle.host_port.specs.Disk.{disk, after_step}
 use Rattle.host_port.specs.Own.{own}
 use Rattle.host_port.specs.Ran.{Honest}
 use Rattle.commit_machine.specs.Jobs.{Before, After, Refusal, seen_files}
-use Rattle.commit_machine.specs.Machine.{Reply, Went, Saw, Long, Short, Fault, refused, short_of, wanted, next, faulted, saw, too_long, went_on, passed_at, passed_then, passed_ending, place_one, mended, none_stands, record_seen, looked, is_own_go, passed_by}
+use Rattle.commit_machine.specs.Machine.{Reply, Went, Saw, Long, Short, Fault, refused, wanted, next, faulted, saw, too_long, went_on, passed_at, passed_then, passed_ending, place_one, mended, none_stands, record_seen, looked, is_own_go, passed_by}
 use Rattle.commit_machine.specs.Records.{record_of}
 use Rattle.commit_machine.specs.Goes.{IsNext, Goes}
 use Rattle.commit_machine.specs.Lawful.{IsLawful, OthersAreLawful}
@@ -46,7 +46,7 @@ told_then GoOn n = n ≡ 0
 told_then (Answer e) n = TellsDecisions e n
 
 abbrev pub Told : Job → State → Disk → ℕ → Type 0
-Told j (Undoing r m ns ls th) d n = told_then th n
+Told j (Undoing r m ns ls th) d n = (n ≡ 0) × told_then th n
 Told j (Placing r m ns ls th) d n = told_then th n
 Told j (Unlocking r m ns th) d n = told_then th n
 Told j (Erasing r th) d n = told_then th n
@@ -68,20 +68,13 @@ tells_passed (Refused why) n t = t
 tells_passed (Failed passed) n t = t
 tells_passed NoMemory n t = t
 
-tells_short : (e : Ending) (n : ℕ) → TellsDecisions e n → TellsDecisions (short_of e) n
-tells_short Done n t = t
-tells_short (Recovered found) n t = t
-tells_short (Refused why) n t = t
-tells_short (Failed passed) n t = t
-tells_short NoMemory n t = t
-
 then_passed : (th : Then) (n : ℕ) → told_then th n → TellsDecisions (Failed (passed_then th)) n
 then_passed GoOn n t = t
 then_passed (Answer e) n t = tells_passed e n t
 
 module _ (j : Job) (d : Disk) (n : ℕ) where
   told_fault : (s : State) → IsPlain s → Told j s d n → TellsDecisions (Failed (passed_at s)) n
-  told_fault (Undoing r m ns ls th) plain t = then_passed th n t
+  told_fault (Undoing r m ns ls th) plain t = t.0
   told_fault (Placing r m ns ls th) plain t = then_passed th n t
   told_fault (Unlocking r m ns th) plain t = then_passed th n t
   told_fault (Erasing r th) plain t = then_passed th n t
@@ -99,9 +92,9 @@ module _ (j : Job) (d : Disk) (n : ℕ) where
   told_unlocking r [] th t = t
   told_unlocking r (m ∷ ms) th t = t
 
-  told_undoing : (r : Record) (ns ls : List (List ℕ)) (th : Then) → told_then th n → Told j (undoing r ns ls th) d n
-  told_undoing r [] ls th t = told_unlocking r ls th t
-  told_undoing r (m ∷ ns) ls th t = t
+  told_undoing : (r : Record) (ns ls : List (List ℕ)) (th : Then) → n ≡ 0 → told_then th n → Told j (undoing r ns ls th) d n
+  told_undoing r [] ls th z t = told_unlocking r ls th t
+  told_undoing r (m ∷ ns) ls th z t = (z, t)
 
   told_place_one : (kind : EntryKind) (r : Record) (m : List ℕ) (ns ls : List (List ℕ)) (th : Then) → told_then th n → Told j (place_one kind r m ns ls th) d n
   told_place_one Replace r m ns ls th t = t
@@ -116,7 +109,7 @@ module _ (j : Job) (d : Disk) (n : ℕ) where
 
   told_judged : (made : List Made) (o : Option Refusal) → n ≡ 0 → Told j (judged j made o) d n
   told_judged made None t = told_staging [] made made t
-  told_judged made (Some why) t = told_undoing (prepare_of j) [] (all_of j) (Answer (Refused why)) t
+  told_judged made (Some why) t = told_undoing (prepare_of j) [] (all_of j) (Answer (Refused why)) t t
 
   told_loading : (made : List Made) (left : List Edit) → n ≡ 0 → Told j (loading j made left) d n
   told_loading made [] t = told_judged made (j.refusal (seen_files made)) t
@@ -128,7 +121,7 @@ module _ (j : Job) (d : Disk) (n : ℕ) where
 
   told_mending : (r : Record) (b : Bool) → n ≡ 0 → Told j (if b then placing r (names_of r) (names_of r) GoOn else undoing r (names_of r) (names_of r) GoOn) d n
   told_mending r true t = told_placing r (names_of r) (names_of r) GoOn t
-  told_mending r false t = told_undoing r (names_of r) (names_of r) GoOn t
+  told_mending r false t = told_undoing r (names_of r) (names_of r) GoOn t t
 
   told_record : (o : Option Record) → n ≡ 0 → Told j (record_seen o) d n
   told_record None t = t
@@ -150,20 +143,20 @@ module _ (j : Job) (d : Disk) (n : ℕ) where
   told_loaded made x left c (Puts kind content) t = told_loading _ left t
 
   told_refused : (s : State) → Told j s d n → Told j (refused j s) d n
-  told_refused (Undoing r m ns ls GoOn) t = t
-  told_refused (Undoing r m ns ls (Answer a)) t = tells_short a n t
+  told_refused (Undoing r m ns ls GoOn) t = t.0
+  told_refused (Undoing r m ns ls (Answer a)) t = t
   told_refused (Placing r m ns ls GoOn) t = t
-  told_refused (Placing r m ns ls (Answer a)) t = tells_short a n t
+  told_refused (Placing r m ns ls (Answer a)) t = t
   told_refused (Unlocking r m ns GoOn) t = t
-  told_refused (Unlocking r m ns (Answer a)) t = tells_short a n t
+  told_refused (Unlocking r m ns (Answer a)) t = t
   told_refused (Erasing r GoOn) t = t
-  told_refused (Erasing r (Answer a)) t = tells_short a n t
-  told_refused (Locking ls e left) t = told_undoing (prepare_of j) [] ls (Answer NoMemory) t
-  told_refused (Loading made e left) t = told_undoing (prepare_of j) [] (all_of j) (Answer NoMemory) t
-  told_refused (Staging ns made x left) t = told_undoing (prepare_of j) ns (all_of j) (Answer NoMemory) t
-  told_refused (Deciding made) t = told_undoing (prepare_of j) (all_of j) (all_of j) (Answer NoMemory) t
-  told_refused (Committing made) t = told_undoing (prepare_of j) (all_of j) (all_of j) (Answer NoMemory) t
-  told_refused (Releasing a) t = tells_short a n t
+  told_refused (Erasing r (Answer a)) t = t
+  told_refused (Locking ls e left) t = told_undoing (prepare_of j) [] ls (Answer NoMemory) t t
+  told_refused (Loading made e left) t = told_undoing (prepare_of j) [] (all_of j) (Answer NoMemory) t t
+  told_refused (Staging ns made x left) t = told_undoing (prepare_of j) ns (all_of j) (Answer NoMemory) t t
+  told_refused (Deciding made) t = told_undoing (prepare_of j) (all_of j) (all_of j) (Answer NoMemory) t t
+  told_refused (Committing made) t = told_undoing (prepare_of j) (all_of j) (all_of j) (Answer NoMemory) t t
+  told_refused (Releasing a) t = t
   told_refused s t = t
 
   told_wanted : (s : State) → IsPlain s → Told j s d n → Told j (wanted j s) d n
@@ -178,13 +171,13 @@ module _ (j : Job) (d : Disk) (n : ℕ) where
 
   told_long : (s : State) (m : ℕ) → IsPlain s → Told j s d n → Told j (too_long j s m) d n
   told_long Looking m plain t = t
-  told_long (Loading made x left) m plain t = told_undoing (prepare_of j) [] (all_of j) (Answer (Refused (TooLarge x.name m))) t
+  told_long (Loading made x left) m plain t = told_undoing (prepare_of j) [] (all_of j) (Answer (Refused (TooLarge x.name m))) t t
   told_long s m plain t = told_fault s plain t
 
   told_went : (s : State) (b : Bool) → IsPlain s → Told j s d n → Told j (went_on j s b) d n
   told_went Seizing true plain t = t
   told_went Seizing false plain t = t
-  told_went (Undoing r m ns ls th) b plain t = told_undoing r ns ls th t
+  told_went (Undoing r m ns ls th) b plain t = told_undoing r ns ls th t.0 t.1
   told_went (Placing r m ns ls th) b plain t = told_placing r ns ls th t
   told_went (Unlocking r m ns th) b plain t = told_unlocking r ns th t
   told_went (Erasing r GoOn) b plain t = t
@@ -194,7 +187,7 @@ module _ (j : Job) (d : Disk) (n : ℕ) where
   told_went Publishing true plain t = told_locking [] (edits_of j) t
   told_went Publishing false plain t = t
   told_went (Locking ls e left) true plain t = told_locking (ls ++ (e.name ∷ [])) left t
-  told_went (Locking ls e left) false plain t = told_undoing (prepare_of j) [] ls (Answer (Refused (Busy e.name))) t
+  told_went (Locking ls e left) false plain t = told_undoing (prepare_of j) [] ls (Answer (Refused (Busy e.name))) t t
   told_went (Staging ns made x left) b plain t = told_staging (ns ++ (x.edit.name ∷ [])) made left t
   told_went (Deciding made) b plain t = t
   told_went (Committing made) b plain t = absurd plain

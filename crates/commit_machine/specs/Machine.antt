@@ -148,7 +148,6 @@ passed_then GoOn = Before
 passed_then (Answer e) = passed_ending e
 
 abbrev pub passed_at : State → Passed
-passed_at (Undoing r n ns ls th) = passed_then th
 passed_at (Placing r n ns ls th) = passed_then th
 passed_at (Unlocking r n ns th) = passed_then th
 passed_at (Erasing r th) = passed_then th
@@ -201,23 +200,14 @@ went_on j (Committing done) false = Releasing (Refused NotARecord)
 went_on j (Releasing why) b = Ended why
 went_on j s b = Releasing (Failed (passed_at s))
 
--- want of memory takes the place of a refusal, and of no other answer
-abbrev pub short_of : Ending → Ending
-short_of (Refused why) = NoMemory
-short_of e = e
-
--- Want of memory in place of the next call: the clean-up. One that has begun goes on, and so does what follows a decision.
+-- Want of memory in place of the next call: the clean-up. A clean-up that has begun takes no memory, nor does what follows a decision.
 abbrev pub refused : Job → State → State
 refused j Seizing = Ended NoMemory
 refused j Looking = Releasing NoMemory
 refused j (Undoing r n ns ls GoOn) = Releasing NoMemory
-refused j (Undoing r n ns ls (Answer e)) = Undoing r n ns ls (Answer (short_of e))
 refused j (Placing r n ns ls GoOn) = Releasing NoMemory
-refused j (Placing r n ns ls (Answer e)) = Placing r n ns ls (Answer (short_of e))
 refused j (Unlocking r n ns GoOn) = Releasing NoMemory
-refused j (Unlocking r n ns (Answer e)) = Unlocking r n ns (Answer (short_of e))
 refused j (Erasing r GoOn) = Releasing NoMemory
-refused j (Erasing r (Answer e)) = Erasing r (Answer (short_of e))
 refused j (Clearing found) = Releasing NoMemory
 refused j Preparing = Releasing NoMemory
 refused j Publishing = Releasing NoMemory
@@ -226,7 +216,6 @@ refused j (Loading done e left) = refusing j [] (all_of j) NoMemory
 refused j (Staging ns done x left) = refusing j ns (all_of j) NoMemory
 refused j (Deciding done) = refusing j (all_of j) (all_of j) NoMemory
 refused j (Committing done) = refusing j (all_of j) (all_of j) NoMemory
-refused j (Releasing e) = Releasing (short_of e)
 refused j s = s
 
 -- a load that wants memory: that of a decision in flight counts as a failed one

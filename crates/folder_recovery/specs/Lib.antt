@@ -1,0 +1,5 @@
+pub mod Did
+pub mod Closing
+pub mod Recovering
+pub mod Safe
+pub mod Told
