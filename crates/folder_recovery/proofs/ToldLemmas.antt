@@ -1,5 +1,5 @@
 -- A recovery answers as its own events give it.
-use Rattle.std.proofs.Common.{◌≡◌, ◌⊎◌, ℕ, Bool, true, false, List, [], ◌∷◌, if◌then◌else◌, ◌||◌, refl, ap, sym, subst, inl, inr, ◌∙◌}
+use Rattle.std.proofs.Common.{◌≡◌, ◌⊎◌, ℕ, Bool, true, false, List, [], ◌∷◌, if◌then◌else◌, ◌||◌, refl, sym, subst, inl, inr, ◌∙◌}
 use Rattle.std.specs.declared.option.Option.{Option}
 use Rattle.std.specs.declared.option.Option.TheVariants.{Some, None}
 use Rattle.std.specs.declared.result.Result.{Result}
@@ -15,13 +15,13 @@ use Rattle.commit_machine.specs.Names.{record_name, new_name, right_name, staged
 use Rattle.commit_machine.specs.Records.{record_of, is_go, names_of}
 use Rattle.commit_machine.specs.Jobs.{Before, Found, Nothing, Busy, NotARecord, TooLarge, Ending, Recovered, Refused, Failed, NoMemory, Job}
 use Rattle.commit_machine.specs.Edits.{recovery_for}
-use Rattle.commit_machine.specs.Machine.{State, Seizing, Looking, Undoing, Placing, Unlocking, Erasing, Clearing, Releasing, Ended, GoOn, Answer, ToLoad, ToErase, ToPublish, ToUnlock, ToSeize, ToRelease, unlocking, undoing, placing, mending, looked, record_seen, found_of, next, refused, after_reply}
+use Rattle.commit_machine.specs.Machine.{State, Seizing, Looking, Undoing, Placing, Unlocking, Erasing, Clearing, Releasing, Ended, GoOn, Answer, ToLoad, ToErase, ToPublish, ToUnlock, ToSeize, ToRelease, unlocking, undoing, placing, mending, record_seen, found_of, next, refused, after_reply}
 use Rattle.commit_machine.specs.Goes.{IsOf, loads, publishes, erases, unlocks, seizes, releases, IsNext, reply, Goes}
 use Rattle.folder_recovery.specs.declared.recovery.Recovered.{Recovered as Found_answer}
 use Rattle.folder_recovery.specs.declared.error.RecoverError.{RecoverError}
 use Rattle.folder_recovery.specs.declared.error.RecoverError.TheVariants as error
 use Rattle.folder_recovery.specs.Recovering.{found, GoesTo, Recovers}
-use Rattle.folder_recovery.specs.Told.{is_failed, unless_failed, end_read, end_found, end_seen, end_by, told_end, IsTold}
+use Rattle.folder_recovery.specs.Told.{is_failed, unless_failed, end_read, told_end, IsTold}
 use Rattle.folder_recovery.proofs.GoesLemmas.{placing_cons}
 
 -- an end that is this one, or want of memory

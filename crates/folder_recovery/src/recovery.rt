@@ -10,7 +10,7 @@ ghost use Rattle.host_port.specs.Disk.{disk};
 ghost use Rattle.host_port.specs.declared.event.Event.{Event};
 ghost use Rattle.folder_recovery.specs.Told.{IsTold};
 ghost use Rattle.folder_recovery.specs.Safe.{MayRecover, RecoversSafely};
-ghost use Rattle.folder_recovery.specs.Recovering.{Settles, MendCause, Recovers, RecoverCause, answer_of};
+ghost use Rattle.folder_recovery.specs.Recovering.{Settles, MendCause, Recovers, RecoverCause, IsNamed, answer_of};
 
 use crate::calls::{erase, release, seize};
 use crate::mend::mend;
@@ -72,6 +72,7 @@ fn run<H: Host>(alloc: Global, actor: &[u8], host: &mut H) -> Result<Recovered, 
     requires short { length actor.now ≤ 4021 }
     requires no_zero { has_no_zero actor.now ≡ true }
     ensures ran { (token : ℕ) → Ran H.start H.told H.counts host.old host.new (λ es. Recovers (recovery_for actor.now token) es result) }
+    ensures named { IsNamed actor.now result }
     ensures cause { RecoverCause (H.counts host.old) (H.counts host.new) result }
 {
     let name = record_name(alloc, actor)?;
@@ -107,6 +108,7 @@ pub fn recover<H: Host>(
     ensures ran { (token : ℕ) → Ran H.start H.told H.counts host.old host.new (λ es. Recovers (recovery_for actor.now token) es result) }
     ensures told { Ran H.start H.told H.counts host.old host.new (λ es. IsTold actor.now es result) }
     ensures safe { (token : ℕ) (before es : List Event) → H.told host.old ≡ Some before → H.told host.new ≡ Some (before ++ es) → MayRecover actor.now token (disk (H.start host.old) before) es → RecoversSafely actor.now token (disk (H.start host.old) before) es result }
+    ensures named { IsNamed actor.now result }
     ensures cause { RecoverCause (H.counts host.old) (H.counts host.new) result }
 {
     run(alloc, actor, host)

@@ -262,30 +262,64 @@ fn recovered(alloc: Global, host: &mut MemHost) -> u8 {
     letter(&answer)
 }
 
-// What stands where the recovery of the disk of a stop is stopped there, and then recovered again.
+// A host over this disk, after a recovery.
+fn recovered_host(alloc: Global, image: DiskView) -> Result<MemHost, Memory> {
+    let mut host = host_over(alloc, image)?;
+    recovered(alloc, &mut host);
+    Ok(host)
+}
+
+fn shows_now(alloc: Global, host: &MemHost, want: &[u8]) -> Result<bool, Memory> {
+    let view = host.view()?;
+    let text = shown(alloc, &view)?;
+    Ok(text.bytes() == want)
+}
+
+// Whether a stop inside the event of this number shows this once it is recovered, where so much was done.
+fn shows_after(
+    alloc: Global,
+    host: &MemHost,
+    at: usize,
+    done: Done,
+    want: &[u8],
+) -> Result<bool, Memory> {
+    let part = part(alloc, done)?;
+    let again = recovered_host(alloc, host.stop_at(at, &part)?)?;
+    shows_now(alloc, &again, want)
+}
+
+// Whether a stop inside the event of this number shows this once it is recovered, whatever part was done.
 fn shows_again(alloc: Global, host: &MemHost, at: usize, want: &[u8]) -> Result<bool, Memory> {
     let mut same = true;
     for done in WAYS {
-        let image = host.stop_at(at, &part(alloc, done)?)?;
-        let mut again = host_over(alloc, image)?;
-        recovered(alloc, &mut again);
-        let shown = shown(alloc, &again.view()?)?;
-        same = same && shown.bytes() == want;
+        let shows = shows_after(alloc, host, at, done, want)?;
+        same = same && shows;
+    }
+    Ok(same)
+}
+
+// Whether this is shown now, and after a stop inside any event once it is recovered.
+fn shows_wherever(alloc: Global, host: &MemHost, want: &[u8]) -> Result<bool, Memory> {
+    let mut same = shows_now(alloc, host, want)?;
+    for at in 0..host.trace().len() {
+        let shows = shows_again(alloc, host, at.saturating_add(1), want)?;
+        same = same && shows;
     }
     Ok(same)
 }
 
 // Whether the disk of a stop shows this once it is recovered, and also where that recovery is stopped anywhere and the disk is
 // recovered again.
-fn shows(alloc: Global, image: DiskView, want: &[u8]) -> Result<bool, Memory> {
-    let mut host = host_over(alloc, image)?;
-    recovered(alloc, &mut host);
-    let shown = shown(alloc, &host.view()?)?;
-    let mut same = shown.bytes() == want;
-    for at in 1..=host.trace().len() {
-        same = same && shows_again(alloc, &host, at, want)?;
-    }
-    Ok(same)
+fn shows(
+    alloc: Global,
+    host: &MemHost,
+    at: usize,
+    done: Done,
+    want: &[u8],
+) -> Result<bool, Memory> {
+    let part = part(alloc, done)?;
+    let again = recovered_host(alloc, host.stop_at(at, &part)?)?;
+    shows_wherever(alloc, &again, want)
 }
 
 const OLD_ONE: &[u8] = b"/h/a=old a;/h/note=note;/h/note#9;2";
@@ -294,38 +328,68 @@ const NEW_ONE: &[u8] = b"/h/a=new a;/h/note=note;/h/note#9;2";
 
 const NEW_THREE: &[u8] = b"/h/a=new a;/h/b=new b;/h/c=new c;/h/note=note;/h/note#9;4";
 
-// The event of the decision, and what stands before it and after it.
-fn stops_are_recovered(
+/// The number of the event of the decision, and what stands before it and after it.
+#[derive(Clone, Copy)]
+struct Decision {
+    at: usize,
+    old: &'static [u8],
+    new: &'static [u8],
+}
+
+// Whether stops inside the event of this number are recovered so.
+fn is_recovered(
     alloc: Global,
-    calls: &[Call],
-    decision: usize,
-    old: &[u8],
-    new: &[u8],
-) -> Result<usize, Memory> {
-    let host = performed(alloc, calls)?;
-    for at in 1..=host.trace().len() {
-        for done in WAYS {
-            let decided = at > decision || at == decision && matches!(done, Done::After);
-            let image = host.stop_at(at, &part(alloc, done)?)?;
-            if !shows(alloc, image, if decided { new } else { old })? {
-                return Ok(at);
-            }
-        }
+    host: &MemHost,
+    at: usize,
+    decision: Decision,
+) -> Result<bool, Memory> {
+    let mut same = true;
+    for done in WAYS {
+        let decided = at > decision.at || at == decision.at && matches!(done, Done::After);
+        let want = if decided { decision.new } else { decision.old };
+        let shows = shows(alloc, host, at, done, want)?;
+        same = same && shows;
     }
-    Ok(0)
+    Ok(same)
+}
+
+// How many of the events of these calls are recovered so.
+fn recovered_so(alloc: Global, host: &MemHost, decision: Decision) -> Result<usize, Memory> {
+    let mut count: usize = 0;
+    for at in 0..host.trace().len() {
+        let good = is_recovered(alloc, host, at.saturating_add(1), decision)?;
+        count = if good { count.saturating_add(1) } else { count };
+    }
+    Ok(count)
+}
+
+// How many of the events of a commit are recovered so.
+fn commit_recovered(alloc: Global, calls: &[Call], decision: Decision) -> Result<usize, Memory> {
+    let host = performed(alloc, calls)?;
+    recovered_so(alloc, &host, decision)
 }
 
 #[test]
 fn a_commit_of_one_name_stops_anywhere(rt: HostRuntime) -> Result<(), Fail> {
-    let at = stops_are_recovered(rt.alloc(), &ONE, 9, OLD_ONE, NEW_ONE)?;
-    assert_eq!(rt; at, 0);
+    let decision = Decision {
+        at: 9,
+        old: OLD_ONE,
+        new: NEW_ONE,
+    };
+    let count = commit_recovered(rt.alloc(), &ONE, decision)?;
+    assert_eq!(rt; count, 13);
     Ok(())
 }
 
 #[test]
 fn a_commit_of_three_names_stops_anywhere(rt: HostRuntime) -> Result<(), Fail> {
-    let at = stops_are_recovered(rt.alloc(), &THREE, 15, OLD_ONE, NEW_THREE)?;
-    assert_eq!(rt; at, 0);
+    let decision = Decision {
+        at: 15,
+        old: OLD_ONE,
+        new: NEW_THREE,
+    };
+    let count = commit_recovered(rt.alloc(), &THREE, decision)?;
+    assert_eq!(rt; count, 23);
     Ok(())
 }
 
@@ -403,29 +467,52 @@ fn host_after(alloc: Global, count: usize, call: u64, done: Done) -> Result<MemH
     MemHost::new(alloc, view, Text::new(alloc), plan)
 }
 
+fn seen(alloc: Global, host: &MemHost) -> Result<Text, Memory> {
+    let view = host.view()?;
+    shown(alloc, &view)
+}
+
+// The letter of the answer, how many events there are, and what stands.
+fn answered(alloc: Global, mut host: MemHost) -> Result<(u8, usize, Text), Memory> {
+    let letter = recovered(alloc, &mut host);
+    let events = host.trace().len();
+    let text = seen(alloc, &host)?;
+    Ok((letter, events, text))
+}
+
 #[test]
 fn recoveries_answer_so(rt: HostRuntime) -> Result<(), Fail> {
     let alloc = rt.alloc();
     for (count, call, done, want, events, left) in ANSWERS {
-        let mut host = host_after(alloc, count, call, done)?;
-        assert_eq!(rt; recovered(alloc, &mut host), want);
-        assert_eq!(rt; host.trace().len(), events);
+        let answer = answered(alloc, host_after(alloc, count, call, done)?)?;
+        assert_eq!(rt; answer.0, want);
+        assert_eq!(rt; answer.1, events);
         if !left.is_empty() {
-            let shown = shown(alloc, &host.view()?)?;
-            assert_eq!(rt; shown.bytes(), left.as_bytes());
+            assert_eq!(rt; answer.2.bytes(), left.as_bytes());
         }
     }
     Ok(())
 }
 
+// What a recovery answers where another has the right.
+fn held(alloc: Global) -> Result<u8, Memory> {
+    let plan = plan(alloc, &[], true)?;
+    let mut host = MemHost::new(alloc, start(alloc)?, Text::new(alloc), plan)?;
+    Ok(recovered(alloc, &mut host))
+}
+
+// What a recovery answers where the record is none, and how many events there are then.
+fn bad(alloc: Global) -> Result<(u8, usize), Memory> {
+    let mut host = performed(alloc, &[Call::Stage(Name::Record, "mailx-commit 2\n")])?;
+    let letter = recovered(alloc, &mut host);
+    Ok((letter, host.trace().len()))
+}
+
 #[test]
 fn a_held_right_and_a_bad_record_are_refused(rt: HostRuntime) -> Result<(), Fail> {
-    let alloc = rt.alloc();
-    let held = plan(alloc, &[], true)?;
-    let mut host = MemHost::new(alloc, start(alloc)?, Text::new(alloc), held)?;
-    assert_eq!(rt; recovered(alloc, &mut host), b'B');
-    let mut bad = performed(alloc, &[Call::Stage(Name::Record, "mailx-commit 2\n")])?;
-    assert_eq!(rt; recovered(alloc, &mut bad), b'R');
-    assert_eq!(rt; bad.trace().len(), 4);
+    assert_eq!(rt; held(rt.alloc())?, b'B');
+    let (letter, events) = bad(rt.alloc())?;
+    assert_eq!(rt; letter, b'R');
+    assert_eq!(rt; events, 4);
     Ok(())
 }
