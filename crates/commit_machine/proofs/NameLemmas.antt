@@ -67,10 +67,10 @@ all_hex zero n = refl
 all_hex (suc k) n =
     and_both _ _ (high_is_hex (byte_at k n) (byte_at-below k n)) (and_both _ _ (low_is_hex (byte_at k n)) (all_hex k n))
 
-token_digits-hex : (t : ℕ) → list_all is_lower_hex (token_digits t) ≡ true
+pub token_digits-hex : (t : ℕ) → list_all is_lower_hex (token_digits t) ≡ true
 token_digits-hex t = all_hex 8 t
 
-token_digits-long : (t : ℕ) → length (token_digits t) ≡ 16
+pub token_digits-long : (t : ℕ) → length (token_digits t) ≡ 16
 token_digits-long t = length-encode_with lower_digits (to_be_bytes w64 t)
 
 staged_end : (t : ℕ) → is_staged_end (codes ".mx" ++ token_digits t) ≡ true
