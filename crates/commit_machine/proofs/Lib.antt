@@ -17,3 +17,6 @@ pub mod RunLemmas
 pub mod StopLemmas
 pub mod EndLemmas
 pub mod WorkedLemmas
+pub mod ToldLemmas
+pub mod GoesLemmas
+pub mod EditLemmas

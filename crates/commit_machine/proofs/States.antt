@@ -7,8 +7,8 @@ use Rattle.host_port.specs.Disk.{Disk}
 use Rattle.commit_machine.specs.Names.{record_name, new_name}
 use Rattle.commit_machine.specs.Records.{record_in, record_of, is_go, names_of, kind_of}
 use Rattle.commit_machine.specs.Settled.{Mem}
-use Rattle.commit_machine.specs.Jobs.{Ending, NoMemory, Found, Edit, Job, Made, edits_of, all_of, entries_for, prepare_of, IsJob}
-use Rattle.commit_machine.specs.Machine.{Then, GoOn, Answer, State, Seizing, Looking, Undoing, Placing, Unlocking, Erasing, Clearing, Preparing, Publishing, Locking, Loading, Staging, Deciding, Committing, Checking, Releasing, Ended, unlocking, undoing, place_one, placing, staging, loading, locking, mended, none_stands, mending, record_seen, looked, refusing, refused, wanted}
+use Rattle.commit_machine.specs.Jobs.{Ending, Refused, NoMemory, Found, Refusal, seen_files, Edit, Job, Made, edits_of, all_of, entries_for, prepare_of, IsJob}
+use Rattle.commit_machine.specs.Machine.{Then, GoOn, Answer, State, Seizing, Looking, Undoing, Placing, Unlocking, Erasing, Clearing, Preparing, Publishing, Locking, Loading, Staging, Deciding, Committing, Checking, Releasing, Ended, unlocking, undoing, place_one, placing, staging, judged, loading, locking, mended, none_stands, mending, record_seen, looked, refusing, refused, wanted}
 use Rattle.commit_machine.specs.Lawful.{standing}
 use Rattle.commit_machine.proofs.Inv.{Closing, Own, Clean, Idle, IsValid, IsOwnEnd, ThenOk, Subset, Covers, LocksLeft, Among, PartPlaced, Knows}
 
@@ -57,8 +57,12 @@ module _ (j : Job) (d : Disk) where
   )
   knows_staging ns made (x ∷ left) k c sub part = (k, c, sub, part)
 
-  pub knows_loading : (made : List Made) (left : List Edit) → Own j [] (all_of j) made made d → Covers j made left → Knows j (loading made left) d
-  knows_loading made [] k c = knows_staging [] made made k c (record { each = λ m h. absurd h }) (record { each = λ x h. h })
+  knows_judged : (made : List Made) (o : Option Refusal) → Own j [] (all_of j) made made d → Covers j made [] → Knows j (judged j made o) d
+  knows_judged made None k c = knows_staging [] made made k c (record { each = λ m h. absurd h }) (record { each = λ x h. h })
+  knows_judged made (Some why) k c = knows_refusing [] (all_of j) (Refused why) made made tt k (record { each = λ m h. absurd h }) (record { each = λ m h. h })
+
+  pub knows_loading : (made : List Made) (left : List Edit) → Own j [] (all_of j) made made d → Covers j made left → Knows j (loading j made left) d
+  knows_loading made [] k c = knows_judged made (j.refusal (seen_files made)) k c
   knows_loading made (x ∷ left) k c = (k, c)
 
   pub knows_locking : (ls : List (List ℕ)) (left : List Edit) → Own j [] ls [] [] d → LocksLeft j ls left → Knows j (locking j ls left) d

@@ -14,7 +14,7 @@ use Rattle.host_port.specs.Ran.{Agrees}
 use Rattle.commit_machine.specs.Names.{record_name, new_name, staged_name}
 use Rattle.commit_machine.specs.Records.{record_in, is_go}
 use Rattle.commit_machine.specs.Settled.{Files, Locks, Mem}
-use Rattle.commit_machine.specs.Jobs.{Refused, Busy, TooLarge, Verdict, Puts, Refuses, Edit, Job, Made, IsJob, edits_of, all_of, prepare_of, go_of}
+use Rattle.commit_machine.specs.Jobs.{Refused, Busy, TooLarge, Outcome, Puts, Edit, Job, Made, IsJob, edits_of, all_of, prepare_of, go_of}
 use Rattle.commit_machine.specs.Machine.{Publishing, Locking, Loading, Staging, Deciding, Committing, ToLoad, ToStage, ToPublish, ToLock, locking, loaded, staging}
 use Rattle.commit_machine.specs.Goes.{IsOf, loads, stages, stage_fails, publishes, locks}
 use Rattle.commit_machine.specs.Lawful.{standing, IsSound}
@@ -153,8 +153,7 @@ module _ (j : Job) (job : IsJob j) (d : Disk) (files : Files) (owners : Locks) (
   step_locking ls x left (locks {got = true} {failed = false}) agrees k = record { shows = lock_shows ls x left k false (sym agrees); knows = lock_knows ls x left k }
 
   module _ (made : List Made) (x : Edit) (left : List Edit) (k : Knows j (Loading made x left) d) where
-    load_knows : (c : Option (List ℕ)) (v : Verdict) → d.files x.name ≡ c → x.by c ≡ v → Knows j (loaded j made x left c v) d
-    load_knows c (Refuses why) is e = knows_refusing j d [] (all_of j) (Refused why) made made tt k.0 (record { each = λ m h. absurd h }) (record { each = λ m h. h })
+    load_knows : (c : Option (List ℕ)) (v : Outcome) → d.files x.name ≡ c → x.by c ≡ v → Knows j (loaded j made x left c v) d
     load_knows c (Puts kind content) is e = knows_loading j d (made ++ (record { edit = x; seen = c; kind = kind; content = content } ∷ [])) left
         (record {
           closing = k.0.closing;
@@ -205,9 +204,8 @@ module _ (j : Job) (job : IsJob j) (d : Disk) (files : Files) (owners : Locks) (
     stage_rest m (inr p) (inl a) = inl a
     stage_rest m (inr p) (inr b) = inr (still_there m p.0 ∙ b)
 
-    content_of : Verdict → Option (List ℕ)
+    content_of : Outcome → Option (List ℕ)
     content_of (Puts kind content) = Some content
-    content_of (Refuses why) = None
 
     stage_stays : (y : Made) → Mem y made → d.files (staged_name j.token y.edit.name) ≡ Some y.content → ((y.edit.name ≡ x.edit.name) × (bytes_eq y.edit.name x.edit.name ≡ true)) ⊎ ((y.edit.name ≢ x.edit.name) × (bytes_eq y.edit.name x.edit.name ≡ false)) → with_at d.files (staged_name j.token x.edit.name) (Some x.content) (staged_name j.token y.edit.name) ≡ Some y.content
     unfolding content_of

@@ -37,10 +37,10 @@ module _ (j : Job) (job : IsJob j) (d : Disk) (files : Files) (owners : Locks) (
     names_go : names_of (go_of j made) ≡ all_of j
     names_go = names-entries_for (λ n. kind_made (made_at made n)) (all_of j)
 
-    new_go : record_in (d.files (new_name j.actor)) ≡ Some (go_of j made)
+    pub new_go : record_in (d.files (new_name j.actor)) ≡ Some (go_of j made)
     new_go = ap record_in k.2 ∙ record_of-written (written (go_of j made)) (go_of j made) (record { valid = valid-go j made (stands-valid (d.files (record_name j.actor)) (prepare_of j) k.0.closing.stands).0; token_fits = job.token_fits; is = refl })
 
-    go_stands : record_in (renamed d.files (new_name j.actor) (record_name j.actor) (record_name j.actor)) ≡ Some (go_of j made)
+    pub go_stands : record_in (renamed d.files (new_name j.actor) (record_name j.actor) (record_name j.actor)) ≡ Some (go_of j made)
     go_stands = ap record_in (renamed_to d.files (new_name j.actor) (record_name j.actor)) ∙ new_go
 
     -- the first that was made for an edit

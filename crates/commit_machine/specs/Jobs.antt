@@ -8,7 +8,7 @@ use Rattle.commit_record.specs.declared.record.EntryKind.TheVariants.{Replace}
 use Rattle.commit_record.specs.declared.record.Entry.{Entry}
 use Rattle.commit_record.specs.declared.record.Record.{Record}
 use Rattle.commit_machine.specs.Names.{is_record_name}
-use Rattle.commit_machine.specs.Settled.{Mem, put_in}
+use Rattle.commit_machine.specs.Settled.{Files, Mem, put_in}
 
 -- whether the decision was passed when a call failed
 pub data Passed : Type 0 where
@@ -42,21 +42,21 @@ pub data Ending : Type 0 where
   Failed : Passed → Ending
   NoMemory : Ending
 
--- what becomes of a file that was loaded: how it is done and what is staged for it, or why it can't be done
-pub data Verdict : Type 0 where
-  Puts : EntryKind → List ℕ → Verdict
-  Refuses : Refusal → Verdict
+-- what becomes of a file that was loaded: how it is done, and what is staged for it
+pub data Outcome : Type 0 where
+  Puts : EntryKind → List ℕ → Outcome
 
 -- an edit of one file
 pub record Edit : Type 0 where
   pub name : List ℕ
-  pub by : Option (List ℕ) → Verdict
+  pub by : Option (List ℕ) → Outcome
 
--- A commit has edits, a recovery has none.
+-- A commit has edits, a recovery has none. Why a commit is refused depends on the files that it loaded.
 pub record Job : Type 0 where
   pub actor : List ℕ
   pub token : ℕ
   pub edits : Option (List Edit)
+  pub refusal : Files → Option Refusal
 
 -- an edit of which the file was loaded
 pub record Made : Type 0 where
@@ -91,14 +91,20 @@ abbrev pub kind_made : Option Made → EntryKind
 kind_made None = Replace
 kind_made (Some x) = x.kind
 
+abbrev pub seen_of : Option Made → Option (List ℕ)
+seen_of None = None
+seen_of (Some x) = x.seen
+
+-- the files that were loaded
+abbrev pub seen_files : List Made → Files
+seen_files made n = seen_of (made_at made n)
+
 -- the record of the decision
 abbrev pub go_of : Job → List Made → Record
 go_of j made = record { phase = Go; token = j.token; entries = entries_for (λ n. kind_made (made_at made n)) (all_of j) }
 
--- the file after a verdict
-abbrev pub file_after : Option (List ℕ) → Verdict → Option (List ℕ)
+abbrev pub file_after : Option (List ℕ) → Outcome → Option (List ℕ)
 file_after seen (Puts kind content) = put_in kind seen (Some content)
-file_after seen (Refuses why) = seen
 
 -- what an edit makes of a file
 abbrev pub outcome_of : Edit → Option (List ℕ) → Option (List ℕ)

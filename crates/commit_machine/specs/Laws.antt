@@ -1,16 +1,16 @@
 -- Laws of the machine.
-use Rattle.std.specs.Prelude.{◌≡◌, ℕ, Bool, true, false, List, [], ◌∷◌, ◌++◌, if◌then◌else◌}
+use Rattle.std.specs.Prelude.{◌≡◌, ◌⊎◌, ℕ, suc, Bool, true, false, List, [], ◌∷◌, ◌++◌, if◌then◌else◌}
 use Rattle.std.specs.declared.option.Option.TheVariants.{None}
 use Rattle.host_port.specs.declared.event.Event.{Event}
 use Rattle.host_port.specs.declared.event.Event.TheVariants.{Foreign, Release}
 use Rattle.host_port.specs.declared.event.Part.{Part}
-use Rattle.host_port.specs.Disk.{Disk, disk}
+use Rattle.host_port.specs.Disk.{Disk, disk, after}
 use Rattle.host_port.specs.Ends.{cut_short, stopped, is_after}
 use Rattle.host_port.specs.Own.{own}
 use Rattle.host_port.specs.Ran.{Honest}
 use Rattle.commit_machine.specs.Names.{record_name, right_name}
 use Rattle.commit_machine.specs.Settled.{Files, Locks}
-use Rattle.commit_machine.specs.Jobs.{Found, Ending, Done, Recovered, Failed, Job, IsJob, edits_of}
+use Rattle.commit_machine.specs.Jobs.{After, Unknown, Found, Ending, Done, Recovered, Failed, Job, IsJob, edits_of}
 use Rattle.commit_machine.specs.Machine.{State, Seizing, Ended}
 use Rattle.commit_machine.specs.Goes.{Goes}
 use Rattle.commit_machine.specs.Lawful.{IsSound, IsFresh, OthersAreLawful}
@@ -47,6 +47,10 @@ CrashSafe = (j : Job) (d : Disk) (es : List Event) (last : State) → IsRun j d 
 -- what stands at the front of a run is a run
 abbrev pub FrontIsRun : Type 0
 FrontIsRun = (j : Job) (d : Disk) (before rest : List Event) (last : State) → IsRun j d (before ++ rest) last → (now : State) × IsRun j d before now
+
+-- stretches of the machine's events, one after the other, are a stretch
+abbrev pub StretchesJoin : Type 0
+StretchesJoin = (j : Job) (first mid last : State) (xs ys : List Event) → Goes j first xs mid → Goes j mid ys last → Goes j first (xs ++ ys) last
 
 -- the part of an event that an image of a stop inside it holds: a failing form, or the step of another if it was done
 abbrev pub in_flight : Disk → Event → Part → List Event
@@ -97,3 +101,20 @@ abbrev pub RecoverySettles : Type 0
 RecoverySettles = (j : Job) (d : Disk) (es : List Event) (found : Found) (n : List ℕ) → IsRun j d (es ++ Release (right_name j.actor) ∷ []) (Ended (Recovered found))
     → (settled_files j.actor (disk d (es ++ Release (right_name j.actor) ∷ [])) n ≡ (disk d (es ++ Release (right_name j.actor) ∷ [])).files n)
     × (settled_locks j.actor (disk d (es ++ Release (right_name j.actor) ∷ [])) n ≡ (disk d (es ++ Release (right_name j.actor) ∷ [])).locks n)
+
+-- how many decisions events hold, after so many
+abbrev pub decisions : Job → Disk → ℕ → List Event → ℕ
+decisions j d n [] = n
+decisions j d n (e ∷ es) = decisions j (after d e) (if is_decision j e d then suc n else n) es
+
+-- what an end says of the decisions in its run
+abbrev pub TellsDecisions : Ending → ℕ → Type 0
+TellsDecisions Done n = n ≡ 1
+TellsDecisions (Failed After) n = n ≡ 1
+TellsDecisions (Failed Unknown) n = (n ≡ 0) ⊎ (n ≡ 1)
+TellsDecisions e n = n ≡ 0
+
+-- A run that ends as done was decided once; one that is refused, meets want of memory or recovers was never decided; and one that fails says
+-- whether it was, or that it doesn't know.
+abbrev pub DecisionsAreTold : Type 0
+DecisionsAreTold = (j : Job) (d : Disk) (es : List Event) (end : Ending) → IsRun j d es (Ended end) → TellsDecisions end (decisions j d 0 es)

@@ -6,5 +6,6 @@ pub mod Machine
 pub mod Goes
 pub mod Lawful
 pub mod Due
+pub mod Edits
 pub mod Laws
 pub mod Worked

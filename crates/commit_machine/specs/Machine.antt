@@ -6,7 +6,7 @@ use Rattle.commit_record.specs.declared.record.EntryKind.TheVariants.{Replace}
 use Rattle.commit_record.specs.declared.record.Record.{Record}
 use Rattle.commit_machine.specs.Names.{record_name, new_name, right_name, staged_name}
 use Rattle.commit_machine.specs.Records.{record_in, record_of, is_go, names_of, kind_of}
-use Rattle.commit_machine.specs.Jobs.{Passed, Before, After, Unknown, Found, Nothing, RolledBack, Finished, Busy, NotARecord, TooLarge, Ending, Done, Recovered, Refused, Failed, NoMemory, Verdict, Puts, Refuses, Edit, Job, Made, edits_of, all_of, prepare_of, go_of}
+use Rattle.commit_machine.specs.Jobs.{Passed, Before, After, Unknown, Found, Nothing, RolledBack, Finished, Busy, NotARecord, TooLarge, Ending, Done, Recovered, Refused, Failed, NoMemory, Refusal, Outcome, Puts, Edit, Job, Made, edits_of, all_of, seen_files, prepare_of, go_of}
 
 -- what follows when a record is done with: the rest of the job, or the end
 pub data Then : Type 0 where
@@ -73,14 +73,6 @@ abbrev pub staging : List (List ℕ) → List Made → List Made → State
 staging ns done [] = Deciding done
 staging ns done (x ∷ left) = Staging ns done x left
 
-abbrev pub loading : List Made → List Edit → State
-loading done [] = staging [] done done
-loading done (e ∷ left) = Loading done e left
-
-abbrev pub locking : Job → List (List ℕ) → List Edit → State
-locking j ls [] = loading [] (edits_of j)
-locking j ls (e ∷ left) = Locking ls e left
-
 -- once no record stands
 abbrev pub mended : Option (List Edit) → Found → State
 mended None found = Releasing (Recovered found)
@@ -109,9 +101,21 @@ looked j (Some bytes) = record_seen (record_of bytes)
 abbrev pub refusing : Job → List (List ℕ) → List (List ℕ) → Ending → State
 refusing j ns ls why = undoing (prepare_of j) ns ls (Answer why)
 
-abbrev pub loaded : Job → List Made → Edit → List Edit → Option (List ℕ) → Verdict → State
-loaded j done e left seen (Refuses why) = refusing j [] (all_of j) (Refused why)
-loaded j done e left seen (Puts kind content) = loading (done ++ (record { edit = e; seen = seen; kind = kind; content = content } ∷ [])) left
+-- once all files are loaded: the job is refused, or the outcomes are staged
+abbrev pub judged : Job → List Made → Option Refusal → State
+judged j done None = staging [] done done
+judged j done (Some why) = refusing j [] (all_of j) (Refused why)
+
+abbrev pub loading : Job → List Made → List Edit → State
+loading j done [] = judged j done (j.refusal (seen_files done))
+loading j done (e ∷ left) = Loading done e left
+
+abbrev pub locking : Job → List (List ℕ) → List Edit → State
+locking j ls [] = loading j [] (edits_of j)
+locking j ls (e ∷ left) = Locking ls e left
+
+abbrev pub loaded : Job → List Made → Edit → List Edit → Option (List ℕ) → Outcome → State
+loaded j done e left seen (Puts kind content) = loading j (done ++ (record { edit = e; seen = seen; kind = kind; content = content } ∷ [])) left
 
 -- the next call; none at the end
 abbrev pub next : Job → State → Option Call
@@ -133,15 +137,22 @@ next j Checking = Some (ToLoad (record_name j.actor))
 next j (Releasing why) = Some (ToRelease (right_name j.actor))
 next j (Ended why) = None
 
--- whether the decision was passed at a state where a call failed
+-- whether the decision was passed at a state where a call fails
+abbrev pub passed_ending : Ending → Passed
+passed_ending Done = After
+passed_ending (Failed passed) = passed
+passed_ending e = Before
+
 abbrev pub passed_then : Then → Passed
-passed_then (Answer Done) = After
-passed_then th = Before
+passed_then GoOn = Before
+passed_then (Answer e) = passed_ending e
 
 abbrev pub passed_at : State → Passed
 passed_at (Placing r n ns ls th) = passed_then th
 passed_at (Unlocking r n ns th) = passed_then th
 passed_at (Erasing r th) = passed_then th
+passed_at (Releasing e) = passed_ending e
+passed_at (Ended e) = passed_ending e
 passed_at Checking = Unknown
 passed_at s = Before
 
@@ -161,12 +172,12 @@ abbrev pub saw : Job → State → Option (List ℕ) → State
 saw j Looking c = looked j c
 saw j (Loading done e left) c = loaded j done e left c (e.by c)
 saw j Checking c = Releasing (Failed (passed_by j c))
-saw j s c = Releasing (Failed Before)
+saw j s c = Releasing (Failed (passed_at s))
 
 abbrev pub too_long : Job → State → ℕ → State
 too_long j Looking n = Releasing (Refused (TooLarge (record_name j.actor) n))
 too_long j (Loading done e left) n = refusing j [] (all_of j) (Refused (TooLarge e.name n))
-too_long j s n = Releasing (Failed Before)
+too_long j s n = Releasing (Failed (passed_at s))
 
 abbrev pub went_on : Job → State → Bool → State
 went_on j Seizing true = Looking
@@ -187,9 +198,9 @@ went_on j (Deciding done) b = Committing done
 went_on j (Committing done) true = placing (go_of j done) (all_of j) (all_of j) (Answer Done)
 went_on j (Committing done) false = Releasing (Refused NotARecord)
 went_on j (Releasing why) b = Ended why
-went_on j s b = Releasing (Failed Before)
+went_on j s b = Releasing (Failed (passed_at s))
 
--- Want of memory in place of the next call: the clean-up. Where a record is closed by an own decision or a clean-up, no memory is taken.
+-- Want of memory in place of the next call: the clean-up. A clean-up that has begun takes no memory, nor does what follows a decision.
 abbrev pub refused : Job → State → State
 refused j Seizing = Ended NoMemory
 refused j Looking = Releasing NoMemory

@@ -55,13 +55,13 @@ abbrev pub becomes : List ℕ → List ℕ → Edit
 becomes name bytes = record { name = name; by = λ seen. Puts Replace bytes }
 
 abbrev pub one_file : Job
-one_file = record { actor = home; token = 1; edits = Some (becomes out (codes "x") ∷ []) }
+one_file = record { actor = home; token = 1; edits = Some (becomes out (codes "x") ∷ []); refusal = λ files. None }
 
 abbrev pub two_files : Job
-two_files = record { actor = home; token = 1; edits = Some (becomes mbox (codes "x") ∷ becomes out (codes "y") ∷ []) }
+two_files = record { actor = home; token = 1; edits = Some (becomes mbox (codes "x") ∷ becomes out (codes "y") ∷ []); refusal = λ files. None }
 
 abbrev pub recovery : Job
-recovery = record { actor = home; token = 2; edits = None }
+recovery = record { actor = home; token = 2; edits = None; refusal = λ files. None }
 
 abbrev pub record_for : Phase → List (List ℕ) → Record
 record_for phase names = record { phase = phase; token = 1; entries = entries_for (λ n. Replace) names }

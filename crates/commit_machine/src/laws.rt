@@ -1,4 +1,5 @@
-ghost use Rattle.commit_machine.specs.Laws.{CrashSafe, FrontIsRun, StopSafe, OnlyDecisions, DecisionsApply, NothingLeft, NoRecordStands, RecoverySettles};
+ghost use Rattle.commit_machine.specs.Laws.{CrashSafe, FrontIsRun, StretchesJoin, StopSafe, OnlyDecisions, DecisionsApply, NothingLeft, NoRecordStands, RecoverySettles, DecisionsAreTold};
+ghost use Rattle.commit_machine.specs.Edits.{EditsAreChanges};
 ghost use Rattle.commit_machine.specs.Worked.{AloneGoes, WorkedRuns};
 
 /// At every moment of a commit or a recovery, whatever others lawfully do meanwhile, what recovery
@@ -11,6 +12,11 @@ pub fn crash_safe()
 /// What stands at the front of a run is a run, so what is said of a run holds at each moment of it.
 pub fn front_is_run()
     ensures { FrontIsRun }
+{}
+
+/// Stretches of the machine's events, one after the other, are a stretch.
+pub fn stretches_join()
+    ensures { StretchesJoin }
 {}
 
 /// The same of each disk that is left where the run stops before or inside an event.
@@ -41,6 +47,18 @@ pub fn no_record_stands()
 /// When a recovery that is done gives up its right the disk is its own settled disk.
 pub fn recovery_settles()
     ensures { RecoverySettles }
+{}
+
+/// A job that ends as done was decided once, in its events; one that is refused, wants memory or
+/// recovers was never decided. One that failed says whether it was, or that it doesn't know.
+pub fn decisions_are_told()
+    ensures { DecisionsAreTold }
+{}
+
+/// The edits of changes make of files what the changes, one after the other, make of them, where each
+/// file that they name stands afterwards.
+pub fn edits_are_changes()
+    ensures { EditsAreChanges }
 {}
 
 /// The events that the machine makes where each call is carried out are a run's.

@@ -5,8 +5,9 @@ mod laws;
 mod names;
 
 pub use laws::{
-    alone_goes, crash_safe, decisions_apply, front_is_run, no_record_stands, nothing_left,
-    only_decisions, recovery_settles, stop_safe, worked_runs,
+    alone_goes, crash_safe, decisions_apply, decisions_are_told, edits_are_changes, front_is_run,
+    no_record_stands, nothing_left, only_decisions, recovery_settles, stop_safe, stretches_join,
+    worked_runs,
 };
 pub use names::{is_record_name, new_name, record_name, right_name, staged_name};
 

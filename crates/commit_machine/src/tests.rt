@@ -1,7 +1,7 @@
 use crate::{
-    alone_goes, crash_safe, decisions_apply, front_is_run, is_record_name, new_name,
-    no_record_stands, nothing_left, only_decisions, record_name, recovery_settles, right_name,
-    staged_name, stop_safe, worked_runs,
+    alone_goes, crash_safe, decisions_apply, decisions_are_told, edits_are_changes, front_is_run,
+    is_record_name, new_name, no_record_stands, nothing_left, only_decisions, record_name,
+    recovery_settles, right_name, staged_name, stop_safe, stretches_join, worked_runs,
 };
 use std::test::Fail;
 
@@ -43,8 +43,11 @@ fn laws_are_called() {
     crash_safe();
     front_is_run();
     stop_safe();
+    stretches_join();
     only_decisions();
     decisions_apply();
+    decisions_are_told();
+    edits_are_changes();
     nothing_left();
     no_record_stands();
     recovery_settles();

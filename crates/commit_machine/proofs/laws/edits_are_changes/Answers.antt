@@ -1,0 +1,5 @@
+use Rattle.commit_machine.proofs.EditLemmas.{edits_are_changes}
+use Rattle.commit_machine.proofs.laws.edits_are_changes.Goals as goal
+
+pub returns : goal.returns
+returns c = edits_are_changes

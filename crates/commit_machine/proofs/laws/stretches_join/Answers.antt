@@ -1,0 +1,5 @@
+use Rattle.commit_machine.proofs.GoesLemmas.{stretches_join}
+use Rattle.commit_machine.proofs.laws.stretches_join.Goals as goal
+
+pub returns : goal.returns
+returns c = stretches_join
