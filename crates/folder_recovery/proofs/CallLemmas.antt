@@ -1,7 +1,6 @@
 -- One call of a host is one call of the machine.
 use Rattle.std.proofs.Common.{◌≡◌, ℕ, Bool, true, false, ◌&&◌, List, [], ◌∷◌, is_some, is_none, refl, sym, subst}
-use Rattle.std.specs.declared.option.Option.{Option}
-use Rattle.std.specs.declared.option.Option.TheVariants.{Some, None}
+use Rattle.std.specs.declared.option.Option.TheVariants.{Some}
 use Rattle.std.specs.declared.result.Result.{Result}
 use Rattle.std.specs.declared.result.Result.TheVariants.{Ok, Err}
 use Rattle.std.proofs.lemmas.Bool.{and_parts}
@@ -17,7 +16,7 @@ use Rattle.host_port.specs.Ends.{is_after, is_owner, is_open, cut_short}
 use Rattle.host_port.specs.Calls.{Loaded, Staged, Published, Erased, Locked, Unlocked, Seized, Released}
 use Rattle.host_port.specs.Ran.{Agrees}
 use Rattle.host_port.specs.Own.{own}
-use Rattle.commit_machine.specs.Machine.{Call, ToLoad, ToStage, ToPublish, ToErase, ToLock, ToUnlock, ToSeize, ToRelease, Reply, Went, Fault}
+use Rattle.commit_machine.specs.Machine.{Call, ToLoad, ToStage, ToPublish, ToErase, ToLock, ToUnlock, ToSeize, ToRelease, Went, Fault}
 use Rattle.commit_machine.specs.Goes.{IsOf, loads, stages, stage_fails, publishes, erases, locks, unlocks, seizes, releases, reply}
 use Rattle.folder_recovery.specs.Did.{Did, DidUnlock, told_reply, done_reply, load_reply}
 

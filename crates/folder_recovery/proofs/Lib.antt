@@ -4,3 +4,5 @@ pub mod ClosingLemmas
 pub mod CountLemmas
 pub mod FileLemmas
 pub mod MendLemmas
+pub mod RecoverLemmas
+pub mod SafeLemmas

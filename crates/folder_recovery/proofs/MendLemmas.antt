@@ -1,5 +1,5 @@
 -- The record that stands is done with.
-use Rattle.std.proofs.Common.{◌≡◌, ◌⊎◌, ℕ, Bool, true, false, List, [], ◌∷◌, ◌++◌, Option, Some, None, refl, ap, sym, subst, inl, inr, ◌∙◌}
+use Rattle.std.proofs.Common.{◌≡◌, ℕ, true, false, List, [], ◌∷◌, ◌++◌, Option, Some, None, refl, ap, sym, subst, inl, inr, ◌∙◌}
 use Rattle.std.proofs.lemmas.Bool.{cases_Bool}
 use Rattle.std.specs.declared.result.Result.{Result}
 use Rattle.std.specs.declared.result.Result.TheVariants.{Ok, Err}
@@ -11,7 +11,7 @@ use Rattle.commit_machine.specs.Names.{record_name, new_name}
 use Rattle.commit_machine.specs.Records.{record_of, is_go, names_of}
 use Rattle.commit_machine.specs.Jobs.{Before, Refused, Failed, NoMemory, Found, Edit, Job}
 use Rattle.commit_machine.specs.Jobs as jobs
-use Rattle.commit_machine.specs.Machine.{State, Looking, Undoing, Placing, Clearing, Releasing, GoOn, ToLoad, ToErase, Reply, Went, Saw, Long, Short, Fault, undoing, placing, unlocking, refused, mending, mended, none_stands, looked, record_seen, found_of, after_reply}
+use Rattle.commit_machine.specs.Machine.{State, Looking, Clearing, Releasing, GoOn, ToLoad, ToErase, Reply, Went, Saw, Long, Short, Fault, undoing, placing, unlocking, refused, mending, mended, none_stands, looked, record_seen, found_of, after_reply}
 use Rattle.commit_machine.specs.Goes.{Goes, reply}
 use Rattle.commit_machine.proofs.RecordLemmas.{record_of-written, record_of-is}
 use Rattle.folder_recovery.specs.Did.{Did}
@@ -20,8 +20,9 @@ use Rattle.folder_recovery.specs.declared.recovery.Recovered.{Recovered}
 use Rattle.folder_recovery.specs.declared.recovery.Recovered.TheVariants as recovered
 use Rattle.folder_recovery.specs.declared.error.MendError.{MendError}
 use Rattle.folder_recovery.specs.declared.error.MendError.TheVariants as mend
-use Rattle.folder_recovery.specs.Recovering.{found, ReadsAs, Stops, Looks, Mends, MendsFound, Closes, Settles, all_closed}
-use Rattle.folder_recovery.proofs.GoesLemmas.{goes_call, goes_then, placing_cons, refused_twice}
+use Rattle.folder_recovery.specs.Recovering.{found, ReadsAs, Stops, Looks, MendsFound, all_closed}
+use Rattle.folder_recovery.proofs.GoesLemmas.{goes_call, goes_then, placing_cons}
+use Rattle.commit_machine.proofs.GoesLemmas.{refused_twice}
 
 -- want of memory in place of the next call
 pub goes_refused : (j : Job) (s mid last : State) (es : List Event) → refused j mid ≡ last → Goes j s es mid → Goes j s es last

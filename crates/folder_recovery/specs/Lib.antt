@@ -1,3 +1,4 @@
 pub mod Did
 pub mod Closing
 pub mod Recovering
+pub mod Safe

@@ -1,5 +1,5 @@
 -- What a recovery answers, and the state that its events lead to.
-use Rattle.std.specs.Prelude.{◌≡◌, ◌⊎◌, ℕ, true, List, [], ◌∷◌, Option, Some, None}
+use Rattle.std.specs.Prelude.{◌≡◌, ◌⊎◌, ℕ, true, List, Option, Some, None}
 use Rattle.std.specs.declared.result.Result.{Result}
 use Rattle.std.specs.declared.result.Result.TheVariants.{Ok, Err}
 use Rattle.host_port.specs.declared.event.Event.{Event}
@@ -18,10 +18,6 @@ use Rattle.folder_recovery.specs.declared.error.MendError.{MendError}
 use Rattle.folder_recovery.specs.declared.error.MendError.TheVariants as mend
 use Rattle.folder_recovery.specs.declared.error.RecoverError.{RecoverError}
 use Rattle.folder_recovery.specs.declared.error.RecoverError.TheVariants as error
-
--- the job of a recovery by an actor; of its token no event speaks
-abbrev pub recovery : List ℕ → ℕ → Job
-recovery actor token = record { actor = actor; token = token; edits = None }
 
 -- what was found, as the machine has it
 abbrev pub found : Recovered → Found

@@ -69,12 +69,7 @@ pub fn unlock_all<H: Host>(host: &mut H, token: u64, entries: &[Entry]) -> Resul
 }
 
 /// Takes the locks away and erases the record of this name.
-fn close<H: Host>(
-    host: &mut H,
-    name: &[u8],
-    token: u64,
-    entries: &[Entry],
-) -> Result<(), DiskFault>
+fn close<H: Host>(host: &mut H, name: &[u8], token: u64, entries: &[Entry]) -> Result<(), DiskFault>
     requires own { IsFileName name.now }
     requires names { All (λ e. IsFileName e.name) entries.now }
     ensures ran { (j : Job) (r : Record) (th : Then) → name.now ≡ record_name j.actor → r.token ≡ token → Ran H.start H.told H.counts host.old host.new (λ es. Goes j (unlocking r (map (λ e. e.name) entries.now) th) es (closed j r th result)) }

@@ -47,11 +47,7 @@ fn read_found(alloc: Global, found: Option<&Text>) -> Result<Option<Record>, Men
 }
 
 // Loads the record of this name and reads it.
-fn look<H: Host>(
-    alloc: Global,
-    host: &mut H,
-    name: &[u8],
-) -> Result<Option<Record>, MendError>
+fn look<H: Host>(alloc: Global, host: &mut H, name: &[u8]) -> Result<Option<Record>, MendError>
     requires { IsFileName name.now }
     ensures ran { (j : Job) → name.now ≡ record_name j.actor → Ran H.start H.told H.counts host.old host.new (λ es. Looks j es result) }
     ensures counts { NeverFall (H.counts host.old) (H.counts host.new) }

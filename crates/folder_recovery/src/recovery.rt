@@ -1,11 +1,15 @@
 // Recovery.
-ghost use Rattle.std.specs.Prelude.{◌≡◌, ◌≤◌, ℕ, true, None, length};
+ghost use Rattle.std.specs.Prelude.{◌≡◌, ◌≤◌, ◌++◌, ℕ, List, Some, None, true, length};
 ghost use Rattle.host_port.specs.Calls.{NeverFall};
 ghost use Rattle.host_port.specs.Names.{IsFileName, has_no_zero};
 ghost use Rattle.host_port.specs.Ran.{Ran};
+ghost use Rattle.commit_machine.specs.Edits.{recovery_for};
 ghost use Rattle.commit_machine.specs.Names.{record_name, new_name};
 ghost use Rattle.commit_machine.specs.Jobs.{Job};
-ghost use Rattle.folder_recovery.specs.Recovering.{Settles, MendCause, Recovers, RecoverCause, recovery, answer_of};
+ghost use Rattle.host_port.specs.Disk.{disk};
+ghost use Rattle.host_port.specs.declared.event.Event.{Event};
+ghost use Rattle.folder_recovery.specs.Safe.{MayRecover, RecoversSafely};
+ghost use Rattle.folder_recovery.specs.Recovering.{Settles, MendCause, Recovers, RecoverCause, answer_of};
 
 use crate::calls::{erase, release, seize};
 use crate::mend::mend;
@@ -62,20 +66,15 @@ fn answer(settled: Result<Recovered, MendError>, name: Text) -> Result<Recovered
     }
 }
 
-/// Recovers what a stopped commit of the actor has left. A commit that was decided is carried out: its staged files are put in
-/// place, its locks are taken away, and its record is erased. One that wasn't decided is undone. It takes the actor's right
-/// first and gives it up at the end.
-///
-/// `Busy` comes where another has the right, `NotARecord` where what stands as the record is none, `TooLarge` where it is too
-/// large to load, and `Disk` where a call failed; then nothing more is done but that the right is given up.
-pub fn recover<H: Host>(
+// The whole of it, as a run of the machine.
+fn run<H: Host>(
     alloc: Global,
     actor: &[u8],
     host: &mut H,
 ) -> Result<Recovered, RecoverError>
     requires short { length actor.now ≤ 4021 }
     requires no_zero { has_no_zero actor.now ≡ true }
-    ensures ran { (token : ℕ) → Ran H.start H.told H.counts host.old host.new (λ es. Recovers (recovery actor.now token) es result) }
+    ensures ran { (token : ℕ) → Ran H.start H.told H.counts host.old host.new (λ es. Recovers (recovery_for actor.now token) es result) }
     ensures cause { RecoverCause (H.counts host.old) (H.counts host.new) result }
 {
     let name = record_name(alloc, actor)?;
@@ -93,4 +92,24 @@ pub fn recover<H: Host>(
             Err(RecoverError::Disk)
         }
     }
+}
+
+/// Recovers what a stopped commit of the actor has left. A commit that was decided is carried out: its staged files are put in
+/// place, its locks are taken away, and its record is erased. One that wasn't decided is undone. It takes the actor's right
+/// first and gives it up at the end.
+///
+/// `Busy` comes where another has the right, `NotARecord` where what stands as the record is none, `TooLarge` where it is too
+/// large to load, and `Disk` where a call failed; then nothing more is done but that the right is given up.
+pub fn recover<H: Host>(
+    alloc: Global,
+    actor: &[u8],
+    host: &mut H,
+) -> Result<Recovered, RecoverError>
+    requires short { length actor.now ≤ 4021 }
+    requires no_zero { has_no_zero actor.now ≡ true }
+    ensures ran { (token : ℕ) → Ran H.start H.told H.counts host.old host.new (λ es. Recovers (recovery_for actor.now token) es result) }
+    ensures safe { (token : ℕ) (before es : List Event) → H.told host.old ≡ Some before → H.told host.new ≡ Some (before ++ es) → MayRecover actor.now token (disk (H.start host.old) before) es → RecoversSafely actor.now token (disk (H.start host.old) before) es result }
+    ensures cause { RecoverCause (H.counts host.old) (H.counts host.new) result }
+{
+    run(alloc, actor, host)
 }

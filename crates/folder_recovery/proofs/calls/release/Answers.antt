@@ -3,4 +3,4 @@ use Rattle.folder_recovery.proofs.CallLemmas.{released}
 use Rattle.folder_recovery.proofs.calls.release.Goals as goal
 
 pub returns : goal.returns
-returns g c = called (released c.args.name.now) c.release.ensures.start c.release.ensures.counts c.release.ensures.call
+returns g c = record { ran = called (released c.args.name.now) c.release.ensures.start c.release.ensures.counts c.release.ensures.call }

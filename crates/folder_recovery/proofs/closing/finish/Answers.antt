@@ -1,4 +1,4 @@
-use Rattle.std.proofs.Common.{◌≡◌, refl, ap, subst, sym, ◌∙◌, List, ℕ}
+use Rattle.std.proofs.Common.{refl, ap, subst, sym, ◌∙◌, List}
 use Rattle.host_port.specs.Ran.{Ran}
 use Rattle.host_port.proofs.RanLemmas.{Ran-then}
 use Rattle.commit_record.specs.declared.record.Entry.{Entry}

@@ -1,4 +1,4 @@
-use Rattle.std.proofs.Common.{◌≡◌, refl, ap, subst, sym, ◌∙◌, List, ℕ}
+use Rattle.std.proofs.Common.{refl, ap, subst, sym, ◌∙◌, List}
 use Rattle.std.specs.Prelude.{All}
 use Rattle.host_port.specs.Names.{IsFileName}
 use Rattle.host_port.specs.Ran.{Ran}
