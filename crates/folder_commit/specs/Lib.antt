@@ -1,0 +1,5 @@
+pub mod Names
+pub mod Ends
+pub mod Plans
+pub mod Judging
+pub mod Steps
