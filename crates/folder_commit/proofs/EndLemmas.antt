@@ -51,8 +51,8 @@ use Rattle.folder_commit.specs.Steps.{Checks, TurnsOut, judged_one, job_of, stop
 -- a call, and what it ends in
 pub ends-call : (j : Job) (name : List ℕ) (s : State) (c : Call) (r : Reply) (end : Ending) (result : Result Unit Stop) (es : List Event)
     → next j s ≡ Some c → after_reply j s r ≡ Releasing end → EndsAs j.actor name result end → Did c r es → Ends j name s es result
-ends-call j name s c r end result es call after as did =
-    record { end = end; is_as = as; goes = subst (λ (z : State). Goes j s es z) after (goes_call j s c r es call did) }
+ends-call j name s c r end result es call after says did =
+    record { end = end; is_as = says; goes = subst (λ (z : State). Goes j s es z) after (goes_call j s c r es call did) }
 
 -- a call, and what ends from there
 pub ends-then : (j : Job) (name : List ℕ) (s mid : State) (c : Call) (r : Reply) (result : Result Unit Stop) (front more : List Event)
@@ -87,7 +87,7 @@ to-lock a x t u p q = cc
 -- the clean-up before a refusal
 pub refused-done : (j : Job) (file : List ℕ) (ls : List (List ℕ)) (why : Stop) (end : Ending) (es : List Event) → StopsAs j.actor file why end
     → Goes j (undoing (prepare_of j) [] ls (Answer end)) es (closed j (prepare_of j) (Answer end) (Ok tt)) → Ends j file (undoing (prepare_of j) [] ls (Answer end)) es (Err why)
-refused-done j file ls why end es as goes = record { end = end; is_as = as; goes = goes }
+refused-done j file ls why end es says goes = record { end = end; is_as = says; goes = goes }
 
 pub refused-fault : (j : Job) (file : List ℕ) (ls : List (List ℕ)) (end : Ending) (f : DiskFault) (es : List Event) → passed_ending end ≡ jobs.Before
     → Goes j (undoing (prepare_of j) [] ls (Answer end)) es (closed j (prepare_of j) (Answer end) (Err f)) → Ends j file (undoing (prepare_of j) [] ls (Answer end)) es (Err (stop.Disk passed.Before))
@@ -95,7 +95,7 @@ refused-fault j file ls end f es before goes = record { end = Failed (passed_end
 
 -- the look at the record
 pub checked-saw : (j : Job) (name : List ℕ) (c : Option (List ℕ)) (p : Passed) (es : List Event) → name ≡ record_name j.actor → FailedAs p (Failed (passed_by j c)) → Did (ToLoad name) (Saw c) es → Checks j es p
-checked-saw j name c p es is as did = record { end = Failed (passed_by j c); is_as = as; goes = goes_call j Checking (ToLoad name) (Saw c) es (to-load (record_name j.actor) name is) did }
+checked-saw j name c p es is says did = record { end = Failed (passed_by j c); is_as = says; goes = goes_call j Checking (ToLoad name) (Saw c) es (to-load (record_name j.actor) name is) did }
 
 pub checked-not : (j : Job) (name : List ℕ) (e : LoadError) (es : List Event) → name ≡ record_name j.actor → Did (ToLoad name) (load_reply (Err e)) es → Checks j es passed.Unknown
 checked-not j name (load.TooLarge n) es is did =
@@ -107,7 +107,7 @@ checked-not j name load.Memory es is did =
 
 -- what the record says
 pub own-go : (j : Job) (bytes : List ℕ) (r : Record) (p : Passed) → IsWritten bytes r → FailedAs p (Failed (if is_own_go j (Some r) then jobs.After else jobs.Before)) → FailedAs p (Failed (passed_by j (Some bytes)))
-own-go j bytes r p is as = subst (λ (o : Option Record). FailedAs p (Failed (if is_own_go j o then jobs.After else jobs.Before))) (sym (record_of-written bytes r is)) as
+own-go j bytes r p is says = subst (λ (o : Option Record). FailedAs p (Failed (if is_own_go j o then jobs.After else jobs.Before))) (sym (record_of-written bytes r is)) says
 
 pub no-record : (j : Job) (bytes : List ℕ) → ((r : Record) → IsWritten bytes r → ⊥) → Failed (passed_by j (Some bytes)) ≡ Failed jobs.Before
 no-record j bytes none = go (record_of bytes) refl
@@ -162,3 +162,91 @@ module _ (actor : List ℕ) (token : ℕ) (e : Edit) (refusal : Files → Option
   unsure made p new to front more q r did h =
       ends-then job e.name (Committing made) Checking (ToPublish new to) Fault (Err (stop.Disk p)) front more (to-publish (new_name actor) (record_name actor) new to q r) refl did
       (record { end = h.end; is_as = h.is_as; goes = h.goes })
+
+  pub go-text : (made : List Made) (texts : Texts) → IsTexts token e.name texts → texts.go ≡ written (go_of job made)
+  go-text made texts is = is.go_is ∙ ap written (sym (go-is made))
+
+-- why a file that turned out so is refused, and the clean-up from there
+pub record Turned (actor : List ℕ) (token : ℕ) (x : Made) (refusal : Files → Option Refusal) (why : Stop) : Type 0 where
+  pub end : Ending
+  pub is_as : StopsAs actor x.edit.name why end
+  pub before : passed_ending end ≡ jobs.Before
+  pub from : (last : State) (es : List Event) → Goes (one_job actor token x.edit refusal) (undoing (prepare_of (one_job actor token x.edit refusal)) [] (x.edit.name ∷ []) (Answer end)) es last → Goes (one_job actor token x.edit refusal) (judged_one actor token x refusal) es last
+
+module _ (actor : List ℕ) (token : ℕ) (x : Made) (refusal : Files → Option Refusal) where
+  abbrev one : Job
+  one = one_job actor token x.edit refusal
+
+  abbrev told : State → List Event → Option Refusal → Type 0
+  told last es o = Goes one (judged one (x ∷ []) o) es last
+
+  says-refused : (why : Stop) (w : Refusal) → refusal (seen_files (x ∷ [])) ≡ Some w → StopsAs actor x.edit.name why (Refused w) → Turned actor token x refusal why
+  says-refused why w is says = record { end = Refused w; is_as = says; before = refl; from = λ last es h. subst (told last es) (sym is) h }
+
+  pub turned : (why : Stop) → TurnsOut refusal x (Err why) → Turned actor token x refusal why
+  turned (stop.Changed at) h = says-refused (stop.Changed at) (jobs.Changed x.edit.name at) h refl
+  turned (stop.TooLarge n) h = says-refused (stop.TooLarge n) (jobs.TooLarge x.edit.name n) h refl
+  turned stop.Memory h = go (refusal (seen_files (x ∷ []))) refl
+    where
+      go : (o : Option Refusal) → refusal (seen_files (x ∷ [])) ≡ o → Turned actor token x refusal stop.Memory
+      go None is = record { end = NoMemory; is_as = inl refl; before = refl; from = λ last es h. subst (told last es) (sym is) (from-short one (Staging [] (x ∷ []) x []) last es h) }
+      go (Some w) is = says-refused stop.Memory w is (inr (w, refl))
+  turned stop.Busy h = absurd h
+  turned stop.Record h = absurd h
+  turned (stop.LongRecord n) h = absurd h
+  turned (stop.Disk p) h = absurd h
+
+  pub staged-next : (last : State) (es : List Event) → refusal (seen_files (x ∷ [])) ≡ None → Goes one (Staging [] (x ∷ []) x []) es last → Goes one (judged_one actor token x refusal) es last
+  staged-next last es is h = subst (told last es) (sym is) h
+
+-- what was loaded for changes
+abbrev pub made_of : List Change → List (List ℕ) → List ℕ → Option (List ℕ) → Made
+made_of changes base name seen = record { edit = edit_for changes base name; seen = seen; kind = Replace; content = bytes_of (apply changes base (λ n. seen) name) }
+
+module _ (actor : List ℕ) (token : ℕ) (changes : List Change) (base : List (List ℕ)) (name : List ℕ) where
+  abbrev job_one : Job
+  job_one = job_of actor token changes base name
+
+  abbrev edit_one : Edit
+  edit_one = edit_for changes base name
+
+  abbrev refusal_one : Files → Option Refusal
+  refusal_one = λ files. option_map cause_of (first_refusal changes base files)
+
+  pub loaded-one : (c : Option (List ℕ)) → loaded job_one [] edit_one [] c (edit_one.by c) ≡ judged_one actor token (made_of changes base name c) refusal_one
+  loaded-one c = go (apply changes base (λ n. c) name)
+    where
+      with_one : Option (List ℕ) → Made
+      with_one o = record { edit = edit_one; seen = c; kind = Replace; content = bytes_of o }
+      go : (o : Option (List ℕ)) → loaded job_one [] edit_one [] c (outcome_for o) ≡ judged job_one (with_one o ∷ []) (refusal_one (seen_files (with_one o ∷ [])))
+      go None = refl
+      go (Some b) = refl
+
+  seen-here : (c : Option (List ℕ)) → seen_files (made_of changes base name c ∷ []) name ≡ c
+  seen-here c = ap seen_of (cond-true _ _ _ ((bytes_eq-Decides name name).1 refl))
+
+  pub turns-out : (c : Option (List ℕ)) (result : Result (Option (List ℕ)) Stop) → AllOf name changes
+      → ((files : Files) (n : List ℕ) → AllOf n changes → files n ≡ c → Judges changes base files n result) → TurnsOut refusal_one (made_of changes base name c) result
+  turns-out c result all h = go result (h (seen_files (made_of changes base name c ∷ [])) name all (seen-here c)) (h (λ n. c) name all refl)
+    where
+      go : (r : Result (Option (List ℕ)) Stop) → Judges changes base (seen_files (made_of changes base name c ∷ [])) name r → Judges changes base (λ n. c) name r → TurnsOut refusal_one (made_of changes base name c) r
+      go (Ok file) p q = (ap (option_map cause_of) p.0, ap bytes_of q.1)
+      go (Err (stop.Changed at)) p q = ap (option_map cause_of) p
+      go (Err (stop.TooLarge n)) p q = ap (option_map cause_of) p
+      go (Err stop.Memory) p q = tt
+      go (Err stop.Busy) p q = absurd p
+      go (Err stop.Record) p q = absurd p
+      go (Err (stop.LongRecord n)) p q = absurd p
+      go (Err (stop.Disk w)) p q = absurd p
+
+-- the record that stood is done with
+pub mended-so : (actor : List ℕ) (token : ℕ) (e : Edit) (refusal : Files → Option Refusal) (es : List Event) (found : Option Recovered) → Mends (one_job actor token e refusal) es (Ok found) → Goes (one_job actor token e refusal) Looking es Preparing
+mended-so actor token e refusal es None h = h
+mended-so actor token e refusal es (Some f) h = h
+
+pub unmended-so : (j : Job) (name : List ℕ) (es : List Event) (why : MendError) → Stops j es why → Ends j name Looking es (Err (stop_of why))
+unmended-so j name es mend.NotARecord h = record { end = Refused jobs.NotARecord; is_as = refl; goes = h }
+unmended-so j name es (mend.TooLarge n) h = record { end = Refused (jobs.TooLarge (record_name j.actor) n); is_as = refl; goes = h }
+unmended-so j name es mend.Disk h = record { end = Failed jobs.Before; is_as = refl; goes = h }
+unmended-so j name es mend.Memory (inl h) = record { end = NoMemory; is_as = inl refl; goes = h }
+unmended-so j name es mend.Memory (inr h) = record { end = Refused jobs.NotARecord; is_as = inr (jobs.NotARecord, refl); goes = h }
