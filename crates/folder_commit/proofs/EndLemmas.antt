@@ -54,6 +54,10 @@ pub ends-call : (j : Job) (name : List ℕ) (s : State) (c : Call) (r : Reply) (
 ends-call j name s c r end result es call after says did =
     record { end = end; is_as = says; goes = subst (λ (z : State). Goes j s es z) after (goes_call j s c r es call did) }
 
+-- a stretch, and what ends from there
+pub ends-on : (j : Job) (name : List ℕ) (s mid : State) (result : Result Unit Stop) (front more : List Event) → Goes j s front mid → Ends j name mid more result → Ends j name s (front ++ more) result
+ends-on j name s mid result front more go h = record { end = h.end; is_as = h.is_as; goes = goes_then j s mid (Releasing h.end) front more go h.goes }
+
 -- a call, and what ends from there
 pub ends-then : (j : Job) (name : List ℕ) (s mid : State) (c : Call) (r : Reply) (result : Result Unit Stop) (front more : List Event)
     → next j s ≡ Some c → after_reply j s r ≡ mid → Did c r front → Ends j name mid more result → Ends j name s (front ++ more) result
@@ -210,7 +214,7 @@ module _ (actor : List ℕ) (token : ℕ) (changes : List Change) (base : List (
   abbrev edit_one : Edit
   edit_one = edit_for changes base name
 
-  abbrev refusal_one : Files → Option Refusal
+  abbrev pub refusal_one : Files → Option Refusal
   refusal_one = λ files. option_map cause_of (first_refusal changes base files)
 
   pub loaded-one : (c : Option (List ℕ)) → loaded job_one [] edit_one [] c (edit_one.by c) ≡ judged_one actor token (made_of changes base name c) refusal_one

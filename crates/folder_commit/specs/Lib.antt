@@ -3,3 +3,4 @@ pub mod Ends
 pub mod Plans
 pub mod Judging
 pub mod Steps
+pub mod Commits

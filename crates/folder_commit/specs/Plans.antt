@@ -6,7 +6,7 @@ use Rattle.commit_record.specs.declared.record.Phase.{Phase}
 use Rattle.commit_record.specs.declared.record.Phase.TheVariants.{Prepare, Go}
 use Rattle.commit_record.specs.declared.record.EntryKind.TheVariants.{Replace}
 use Rattle.commit_record.specs.declared.record.Record.{Record}
-use Rattle.commit_machine.specs.Names.{record_name, new_name, right_name, staged_name}
+use Rattle.commit_machine.specs.Names.{record_name, new_name, staged_name}
 use Rattle.folder_commit.specs.declared.plan.Names.{Names}
 use Rattle.folder_commit.specs.declared.plan.Texts.{Texts}
 
@@ -18,7 +18,6 @@ one_record phase token name = record { phase = phase; token = token; entries = r
 pub record IsNames (actor : List ℕ) (names : Names) : Type 0 where
   pub record_is : names.record ≡ record_name actor
   pub new_is : names.new ≡ new_name actor
-  pub right_is : names.right ≡ right_name actor
 
 -- the texts of a commit of one file
 pub record IsTexts (token : ℕ) (name : List ℕ) (texts : Texts) : Type 0 where

@@ -5,7 +5,9 @@ mod error;
 mod judge;
 mod names;
 mod plan;
+mod run;
 mod steps;
 
 pub use error::{CommitError, Passed};
 pub use names::is_file_name;
+pub use run::commit;

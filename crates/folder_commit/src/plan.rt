@@ -5,20 +5,18 @@ ghost use Rattle.commit_record.specs.Format.{written};
 ghost use Rattle.commit_record.specs.Names.{is_lawful};
 ghost use Rattle.folder_commit.specs.Plans.{IsNames, IsTexts, one_record};
 
-use commit_machine::{new_name, record_name, right_name, staged_name};
+use commit_machine::{new_name, record_name, staged_name};
 use commit_record::{Entry, EntryKind, Phase, Record, write};
 use mail_text::{Items, Memory, Text};
 use std::alloc::Global;
 
-/// The names of an actor.
+/// The names where an actor's record stands and is made.
 #[derive(Drop)]
 pub struct Names {
     /// The name of its record.
     pub record: Text,
     /// The name where a record is made.
     pub new: Text,
-    /// The name of its right.
-    pub right: Text,
 }
 
 /// The texts of a commit of one file.
@@ -38,14 +36,13 @@ pub struct Texts {
     pub staged: Items<Text>,
 }
 
-/// The names of an actor.
+/// The names where an actor's record stands and is made.
 pub fn names_of(alloc: Global, actor: &[u8]) -> Result<Names, Memory>
     ensures { IfOk result (λ n. IsNames actor.now n) }
 {
     let record = record_name(alloc, actor)?;
     let new = new_name(alloc, actor)?;
-    let right = right_name(alloc, actor)?;
-    Ok(Names { record, new, right })
+    Ok(Names { record, new })
 }
 
 // The record of a commit of one file.

@@ -1,0 +1,40 @@
+use Rattle.std.proofs.Common.{◌∙◌, ◌≡◌, List, ℕ, Option, true, false, [], ◌∷◌, Ok, Err, map, refl, sym, subst, ap}
+use Rattle.std.specs.Prelude.{option_copied}
+use Rattle.std.specs.Option.{option_map}
+use Rattle.host_port.specs.Ran.{Ran}
+use Rattle.host_port.proofs.RanLemmas.{Ran-then, Ran-map}
+use Rattle.commit_record.specs.Format.{written}
+use Rattle.commit_record.specs.declared.record.Entry.{Entry}
+use Rattle.folder_change.specs.Outcomes.{base_list}
+use Rattle.folder_change.specs.Apply.{first_refusal}
+use Rattle.commit_machine.specs.Names.{new_name, record_name}
+use Rattle.commit_machine.specs.Jobs.{Refused, Failed, NoMemory, Before, Ending, prepare_of}
+use Rattle.commit_machine.specs.Jobs as jobs
+use Rattle.commit_machine.specs.Edits.{edit_for, cause_of}
+use Rattle.commit_machine.specs.Machine.{Answer, Looking, Preparing, Publishing, Locking, Loading, ToLoad, ToLock, ToStage, ToPublish, Went, Saw, Long, Short, Fault, undoing}
+use Rattle.folder_commit.specs.declared.error.Passed.TheVariants as passed
+use Rattle.folder_commit.specs.declared.error.Stop.TheVariants as stop
+use Rattle.host_port.specs.declared.event.Event.{Event}
+use Rattle.folder_commit.specs.declared.error.Stop.{Stop}
+use Rattle.folder_commit.specs.Ends.{Ends}
+use Rattle.folder_commit.specs.Steps.{job_of, judged_one}
+use Rattle.folder_commit.proofs.EndLemmas.{ends-on, ends-then, ends-call, to-stage, to-publish, to-load, to-lock, made_of, loaded-one, turns-out, names-ok, token-ok, mended-so, unmended-so, refusal_one}
+use Rattle.folder_commit.proofs.steps.change.Goals as goal
+
+pub returns-in-Ok-clause-ran : goal.returns-in-Ok-clause-ran
+returns-in-Ok-clause-ran g c = λ actor token name ready all.
+    let base = base_list (option_copied c.args.base) in
+    let j = job_of actor token c.args.changes.now base name in
+    let e = edit_for c.args.changes.now base name in
+    let refusal = refusal_one actor token c.args.changes.now base name in
+    Ran-then (λ front more p q. ends-on j name Looking Preparing c.prepare.result front more (mended-so actor token e refusal front c.in-Ok.field-0 p) q)
+    (c.in-Ok.ensures.ran j (c.bytes.ensures ∙ ready.0.record_is) (c.bytes-2.ensures ∙ ready.0.new_is)) (c.prepare.ensures.ran actor token name ready all)
+
+pub returns-in-Err-clause-ran : goal.returns-in-Err-clause-ran
+returns-in-Err-clause-ran g c = λ actor token name ready all.
+    let base = base_list (option_copied c.args.base) in
+    let j = job_of actor token c.args.changes.now base name in
+    let e = edit_for c.args.changes.now base name in
+    let S : List Event → Stop → Type 0 = λ es w. Ends j name Looking es (Err w) in
+    Ran-map (λ es h. subst (S es) (sym c.unmended.ensures) (unmended-so j name es c.in-Err.why h))
+    (c.in-Err.ensures.ran j (c.bytes.ensures ∙ ready.0.record_is) (c.bytes-2.ensures ∙ ready.0.new_is))
