@@ -1,32 +1,29 @@
 -- How the steps of a commit end.
-use Rattle.std.proofs.Common.{◌≡◌, ℕ, Bool, true, false, List, [], ◌∷◌, ◌++◌, map, Option, Some, None, refl, ap, sym, subst, inl, inr, ◌∙◌, if◌then◌else◌}
+use Rattle.std.proofs.Common.{◌≡◌, ℕ, true, false, List, [], ◌∷◌, ◌++◌, map, Option, Some, None, refl, ap, sym, subst, inl, inr, ◌∙◌, if◌then◌else◌}
 use Rattle.std.proofs.lemmas.Bool.{cond-true}
 use Rattle.std.proofs.lemmas.Slice.Eq.{bytes_eq-Decides}
 use Rattle.std.specs.Option.{option_map}
-use Rattle.std.specs.Str.{bytes_eq}
 use Rattle.std.specs.declared.result.Result.{Result}
 use Rattle.std.specs.declared.result.Result.TheVariants.{Ok, Err}
 use Rattle.host_port.specs.declared.event.Event.{Event}
-use Rattle.host_port.specs.declared.event.LoadAnswer.{LoadAnswer}
 use Rattle.host_port.specs.declared.host.DiskFault.{DiskFault}
 use Rattle.host_port.specs.declared.host.LoadError.{LoadError}
 use Rattle.host_port.specs.declared.host.LoadError.TheVariants as load
 use Rattle.commit_record.specs.Format.{written, IsWritten}
-use Rattle.commit_record.specs.declared.record.Phase.TheVariants.{Prepare, Go}
+use Rattle.commit_record.specs.declared.record.Phase.TheVariants.{Go}
 use Rattle.commit_record.specs.declared.record.EntryKind.{EntryKind}
 use Rattle.commit_record.specs.declared.record.EntryKind.TheVariants.{Replace}
 use Rattle.commit_record.specs.declared.record.Record.{Record}
 use Rattle.folder_change.specs.declared.change.Change.{Change}
 use Rattle.folder_change.specs.Outcomes.{bytes_of}
 use Rattle.folder_change.specs.Apply.{apply, first_refusal}
-use Rattle.folder_change.specs.Apply as changes
 use Rattle.commit_machine.specs.Names.{record_name, new_name, staged_name}
 use Rattle.commit_machine.specs.Records.{names_of, record_of}
 use Rattle.commit_machine.specs.Settled.{Files}
 use Rattle.commit_machine.specs.Jobs.{Refusal, Ending, Done, Refused, Failed, NoMemory, Edit, Job, Made, Outcome, Puts, seen_files, seen_of, made_at, kind_made, go_of, prepare_of}
 use Rattle.commit_machine.specs.Jobs as jobs
 use Rattle.commit_machine.specs.Edits.{edit_for, outcome_for, cause_of}
-use Rattle.commit_machine.specs.Machine.{State, Looking, Undoing, Preparing, Publishing, Locking, Loading, Staging, Deciding, Committing, Checking, Releasing, Then, Answer, Call, ToLoad, ToStage, ToPublish, ToLock, Reply, Went, Saw, Long, Short, Fault, undoing, placing, loaded, judged, refused, next, after_reply, passed_ending, passed_by, is_own_go}
+use Rattle.commit_machine.specs.Machine.{State, Looking, Preparing, Staging, Committing, Checking, Releasing, Answer, Call, ToLoad, ToStage, ToPublish, ToLock, Reply, Went, Saw, Long, Short, Fault, undoing, placing, loaded, judged, refused, next, after_reply, passed_ending, passed_by, is_own_go}
 use Rattle.commit_machine.specs.Goes.{Goes}
 use Rattle.commit_machine.proofs.GoesLemmas.{goes_short}
 use Rattle.commit_machine.proofs.RecordLemmas.{record_of-written, record_of-is}
@@ -37,14 +34,13 @@ use Rattle.folder_recovery.specs.declared.recovery.Recovered.{Recovered}
 use Rattle.folder_recovery.specs.declared.error.MendError.{MendError}
 use Rattle.folder_recovery.specs.declared.error.MendError.TheVariants as mend
 use Rattle.folder_recovery.proofs.GoesLemmas.{goes_call, goes_then}
-use Rattle.folder_commit.specs.declared.plan.Names.{Names}
 use Rattle.folder_commit.specs.declared.plan.Texts.{Texts}
 use Rattle.folder_commit.specs.declared.error.Passed.{Passed}
 use Rattle.folder_commit.specs.declared.error.Passed.TheVariants as passed
 use Rattle.folder_commit.specs.declared.error.Stop.{Stop}
 use Rattle.folder_commit.specs.declared.error.Stop.TheVariants as stop
 use Rattle.folder_commit.specs.Judging.{AllOf, Judges}
-use Rattle.folder_commit.specs.Plans.{IsTexts, AreReady, one_record}
+use Rattle.folder_commit.specs.Plans.{IsTexts, one_record}
 use Rattle.folder_commit.specs.Ends.{FailedAs, StopsAs, EndsAs, Ends, one_job}
 use Rattle.folder_commit.specs.Steps.{Checks, TurnsOut, judged_one, job_of, stop_of}
 
@@ -222,6 +218,7 @@ module _ (actor : List ℕ) (token : ℕ) (changes : List Change) (base : List (
     where
       with_one : Option (List ℕ) → Made
       with_one o = record { edit = edit_one; seen = c; kind = Replace; content = bytes_of o }
+
       go : (o : Option (List ℕ)) → loaded job_one [] edit_one [] c (outcome_for o) ≡ judged job_one (with_one o ∷ []) (refusal_one (seen_files (with_one o ∷ [])))
       go None = refl
       go (Some b) = refl

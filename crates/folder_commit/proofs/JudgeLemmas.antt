@@ -1,12 +1,9 @@
 -- Changes of one file, one after the other.
-use Rattle.std.proofs.Common.{◌≡◌, ℕ, Bool, true, false, List, [], ◌∷◌, Option, Some, None, Result, Ok, Err, length, take, drop, get_or, ◌-◌, ◌≤◌, ◌<◌, arith, refl, ap, sym, subst, inl, inr, ◌∙◌}
-use Rattle.std.proofs.lemmas.Bool.{cases_Bool}
+use Rattle.std.proofs.Common.{◌≡◌, ℕ, Bool, true, false, List, [], ◌∷◌, Option, Some, None, Result, Ok, Err, length, take, drop, get_or, ◌-◌, ◌≤◌, ◌<◌, arith, refl, ap, sym, subst, ◌∙◌}
 use Rattle.std.proofs.lemmas.List.{take_all}
 use Rattle.std.proofs.lemmas.List.Elements.{All-head, All-tail}
 use Rattle.std.specs.Prelude.{nat_le, if◌then◌else◌, All}
 use Rattle.folder_change.specs.declared.change.Change.{Change}
-use Rattle.folder_change.specs.declared.error.ChangeError.{ChangeError}
-use Rattle.folder_change.specs.declared.error.ChangeError.TheVariants as change
 use Rattle.folder_change.specs.Changes.{name_of}
 use Rattle.folder_change.specs.Outcomes.{outcome_of}
 use Rattle.folder_change.specs.Apply.{Files, Refusal, ChangedAt, TooLong, after, apply, first_refusal, refusal_of, or_else, outcome_on, most_bytes}

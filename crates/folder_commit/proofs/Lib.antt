@@ -1,3 +1,4 @@
 pub mod NameLemmas
 pub mod JudgeLemmas
 pub mod EndLemmas
+pub mod RunLemmas

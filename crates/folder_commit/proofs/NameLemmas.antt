@@ -1,5 +1,5 @@
 -- The name of a right begins with its actor's.
-use Rattle.std.proofs.Common.{◌≡◌, ℕ, true, false, List, ◌++◌, length, take, drop, codes, refl, ap, sym, ◌∙◌}
+use Rattle.std.proofs.Common.{◌≡◌, ℕ, true, false, List, length, take, drop, codes, refl}
 use Rattle.std.specs.Str.{bytes_eq}
 use Rattle.commit_machine.specs.Names.{right_name}
 use Rattle.commit_machine.proofs.NameLemmas.{name_parts}

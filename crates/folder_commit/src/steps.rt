@@ -73,13 +73,7 @@ fn check<H: Host>(alloc: Global, host: &mut H, name: &[u8], token: u64) -> Passe
 }
 
 // The clean-up before a refusal: the locks on these entries' names are taken away, and the record of this name is erased.
-fn refuse<H: Host>(
-    host: &mut H,
-    name: &[u8],
-    token: u64,
-    locked: &[Entry],
-    why: Stop,
-) -> Stop
+fn refuse<H: Host>(host: &mut H, name: &[u8], token: u64, locked: &[Entry], why: Stop) -> Stop
     requires own { IsFileName name.now }
     requires names { All (λ e. IsFileName e.name) locked.now }
     ensures ran { (j : Job) (file : List ℕ) (end : Ending) → name.now ≡ record_name j.actor → j.token ≡ token → StopsAs j.actor file why end → passed_ending end ≡ Before → Ran H.start H.told H.counts host.old host.new (λ es. Ends j file (undoing (prepare_of j) [] (map (λ e. e.name) locked.now) (Answer end)) es (Err result)) }
@@ -95,12 +89,7 @@ fn refuse<H: Host>(
 }
 
 // The decision, and what follows it.
-fn decide<H: Host>(
-    alloc: Global,
-    host: &mut H,
-    names: &Names,
-    texts: &Texts,
-) -> Result<(), Stop>
+fn decide<H: Host>(alloc: Global, host: &mut H, names: &Names, texts: &Texts) -> Result<(), Stop>
     requires { AreSafe names.now texts.now }
     ensures ran { (actor : List ℕ) (token : ℕ) (e : Edit) (refusal : Files → Option Refusal) (made : List Made) → AreReady actor token e.name names.now texts.now → Ran H.start H.told H.counts host.old host.new (λ es. Ends (one_job actor token e refusal) e.name (Committing made) es result) }
     ensures counts { NeverFall (H.counts host.old) (H.counts host.new) }
@@ -122,12 +111,7 @@ fn decide<H: Host>(
 }
 
 // Stages the record of the decision.
-fn stage_go<H: Host>(
-    alloc: Global,
-    host: &mut H,
-    names: &Names,
-    texts: &Texts,
-) -> Result<(), Stop>
+fn stage_go<H: Host>(alloc: Global, host: &mut H, names: &Names, texts: &Texts) -> Result<(), Stop>
     requires { AreSafe names.now texts.now }
     ensures ran { (actor : List ℕ) (token : ℕ) (e : Edit) (refusal : Files → Option Refusal) (made : List Made) → AreReady actor token e.name names.now texts.now → Ran H.start H.told H.counts host.old host.new (λ es. Ends (one_job actor token e refusal) e.name (Deciding made) es result) }
     ensures counts { NeverFall (H.counts host.old) (H.counts host.new) }

@@ -1,4 +1,4 @@
-use Rattle.std.proofs.Common.{◌∙◌, ◌≡◌, List, ℕ, Option, [], ◌∷◌, Ok, Err, map, refl, sym, subst, ap}
+use Rattle.std.proofs.Common.{◌∙◌, List, ℕ, Option, [], ◌∷◌, Err, map, sym, subst, ap}
 use Rattle.std.specs.declared.result.Result.{Result}
 use Rattle.host_port.specs.Ran.{Ran}
 use Rattle.host_port.proofs.RanLemmas.{Ran-map}

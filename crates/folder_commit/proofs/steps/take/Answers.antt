@@ -1,22 +1,18 @@
-use Rattle.std.proofs.Common.{◌∙◌, ◌≡◌, List, ℕ, Option, true, false, [], ◌∷◌, Ok, Err, map, refl, sym, subst, ap, inl}
+use Rattle.std.proofs.Common.{◌∙◌, List, ℕ, [], ◌∷◌, Err, map, refl, sym, subst, ap, inl}
 use Rattle.std.specs.Prelude.{option_copied}
-use Rattle.std.specs.Option.{option_map}
 use Rattle.host_port.specs.Ran.{Ran}
 use Rattle.host_port.proofs.RanLemmas.{Ran-then, Ran-map}
-use Rattle.commit_record.specs.Format.{written}
 use Rattle.commit_record.specs.declared.record.Entry.{Entry}
 use Rattle.folder_change.specs.Outcomes.{base_list}
-use Rattle.folder_change.specs.Apply.{first_refusal}
-use Rattle.commit_machine.specs.Names.{new_name, record_name}
 use Rattle.commit_machine.specs.Jobs.{Refused, Failed, NoMemory, Before, Ending, prepare_of}
 use Rattle.commit_machine.specs.Jobs as jobs
-use Rattle.commit_machine.specs.Edits.{edit_for, cause_of}
-use Rattle.commit_machine.specs.Machine.{Answer, Looking, Preparing, Publishing, Locking, Loading, ToLoad, ToLock, ToStage, ToPublish, Went, Saw, Long, Short, Fault, undoing}
+use Rattle.commit_machine.specs.Edits.{edit_for}
+use Rattle.commit_machine.specs.Machine.{Answer, Loading, ToLoad, Saw, Long, Short, Fault, undoing}
 use Rattle.folder_commit.specs.declared.error.Passed.TheVariants as passed
 use Rattle.folder_commit.specs.declared.error.Stop.TheVariants as stop
 use Rattle.folder_commit.specs.Ends.{Ends}
 use Rattle.folder_commit.specs.Steps.{job_of, judged_one}
-use Rattle.folder_commit.proofs.EndLemmas.{ends-then, ends-call, to-stage, to-publish, to-load, to-lock, made_of, loaded-one, turns-out, names-ok, token-ok, mended-so, unmended-so, refusal_one}
+use Rattle.folder_commit.proofs.EndLemmas.{ends-then, ends-call, to-load, made_of, loaded-one, turns-out, names-ok, token-ok, refusal_one}
 use Rattle.folder_commit.proofs.steps.take.Goals as goal
 
 pub returns-in-Ok-clause-ran : goal.returns-in-Ok-clause-ran
