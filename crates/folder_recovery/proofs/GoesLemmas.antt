@@ -1,13 +1,13 @@
 -- Stretches of the machine's calls go on from one another.
-use Rattle.std.proofs.Common.{◌≡◌, ℕ, List, [], ◌∷◌, ◌++◌, Option, Some, refl, ap, sym, subst, inl, inr, ◌∙◌}
+use Rattle.std.proofs.Common.{◌≡◌, ℕ, List, ◌∷◌, ◌++◌, Option, Some, refl, ap, sym, subst, inl}
 use Rattle.host_port.specs.declared.event.Event.{Event}
 use Rattle.commit_record.specs.declared.record.EntryKind.{EntryKind}
 use Rattle.commit_record.specs.declared.record.EntryKind.TheVariants.{Replace}
 use Rattle.commit_record.specs.declared.record.Record.{Record}
 use Rattle.commit_machine.specs.Records.{kind_of}
-use Rattle.commit_machine.specs.Jobs.{Ending, NoMemory, Job, all_of, prepare_of}
-use Rattle.commit_machine.specs.Machine.{State, Seizing, Looking, Undoing, Placing, Unlocking, Erasing, Clearing, Preparing, Publishing, Locking, Loading, Staging, Deciding, Committing, Checking, Releasing, Ended, Then, GoOn, Answer, Call, Reply, undoing, placing, place_one, next, refused, after_reply}
-use Rattle.commit_machine.specs.Goes.{IsNext, reply, Goes}
+use Rattle.commit_machine.specs.Jobs.{Job}
+use Rattle.commit_machine.specs.Machine.{State, Placing, Then, Call, Reply, placing, place_one, next, after_reply}
+use Rattle.commit_machine.specs.Goes.{IsNext, Goes}
 use Rattle.commit_machine.proofs.GoesLemmas.{stretches_join}
 use Rattle.folder_recovery.specs.Did.{Did}
 

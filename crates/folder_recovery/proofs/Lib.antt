@@ -6,3 +6,4 @@ pub mod FileLemmas
 pub mod MendLemmas
 pub mod RecoverLemmas
 pub mod SafeLemmas
+pub mod ToldLemmas

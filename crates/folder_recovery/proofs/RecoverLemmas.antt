@@ -13,7 +13,7 @@ use Rattle.folder_recovery.specs.declared.recovery.Recovered.{Recovered}
 use Rattle.folder_recovery.specs.declared.error.MendError.{MendError}
 use Rattle.folder_recovery.specs.declared.error.MendError.TheVariants as mend
 use Rattle.folder_recovery.specs.declared.error.RecoverError.TheVariants as error
-use Rattle.folder_recovery.specs.Recovering.{found, Settles, GoesTo, Recovers, answer_of}
+use Rattle.folder_recovery.specs.Recovering.{IsNamed, found, Settles, GoesTo, Recovers, answer_of}
 use Rattle.folder_recovery.proofs.GoesLemmas.{goes_call, goes_then}
 
 -- what holds before the release
@@ -56,3 +56,10 @@ module _ (j : Job) (right : List ℕ) (right_is : right ≡ right_name j.actor) 
 
   pub no-right : (front more : List Event) → Did (ToSeize right) Fault front → Did (ToRelease right) (Went true) more → Recovers j (front ++ more) (Err error.Disk)
   no-right front more did h = ended (Failed Before) front more (seize-call Fault front did) h
+
+pub answer-named : (actor : List ℕ) (result : Result Recovered MendError) (name : List ℕ) → name ≡ record_name actor → IsNamed actor (answer_of result name)
+answer-named actor (Ok f) name is = tt
+answer-named actor (Err mend.NotARecord) name is = tt
+answer-named actor (Err (mend.TooLarge n)) name is = is
+answer-named actor (Err mend.Disk) name is = tt
+answer-named actor (Err mend.Memory) name is = tt

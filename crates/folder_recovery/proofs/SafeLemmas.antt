@@ -1,21 +1,20 @@
 -- The laws of the machine, of a recovery.
-use Rattle.std.proofs.Common.{◌≡◌, ◌⊎◌, ◌<◌, ◌^◌, ℕ, List, [], ◌∷◌, ◌++◌, Option, Some, None, refl, ap, sym, subst, inl, inr, ◌∙◌, append_assoc}
+use Rattle.std.proofs.Common.{◌≡◌, ◌<◌, ◌^◌, ℕ, List, [], ◌∷◌, ◌++◌, Option, Some, ap, sym, subst, inl, inr, ◌∙◌, append_assoc}
 use Rattle.std.proofs.lemmas.List.{append_cancel_left, append-nil}
 use Rattle.std.specs.declared.result.Result.{Result}
 use Rattle.std.specs.declared.result.Result.TheVariants.{Ok, Err}
 use Rattle.host_port.specs.declared.event.Event.{Event}
 use Rattle.host_port.specs.declared.event.Event.TheVariants.{Release}
-use Rattle.host_port.specs.declared.event.Part.{Part}
 use Rattle.host_port.specs.Disk.{Disk, disk}
 use Rattle.host_port.specs.Calls.{Counts}
 use Rattle.host_port.specs.Own.{own}
-use Rattle.host_port.specs.Ran.{Honest, Stretch, Ran}
+use Rattle.host_port.specs.Ran.{Honest, Ran}
 use Rattle.host_port.proofs.RanLemmas.{own-append}
 use Rattle.commit_machine.specs.Edits.{recovery_for}
-use Rattle.commit_machine.specs.Names.{record_name, right_name}
+use Rattle.commit_machine.specs.Names.{right_name}
 use Rattle.commit_machine.specs.Jobs.{Before, Ending, Refused, Failed, NoMemory, Edit, Job, IsJob}
 use Rattle.commit_machine.specs.Jobs as jobs
-use Rattle.commit_machine.specs.Machine.{State, Seizing, Ended}
+use Rattle.commit_machine.specs.Machine.{Seizing, Ended}
 use Rattle.commit_machine.specs.Goes.{Goes}
 use Rattle.commit_machine.specs.Laws.{IsRun}
 use Rattle.commit_machine.proofs.RunLemmas.{crash_safe}

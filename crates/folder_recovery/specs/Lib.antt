@@ -2,3 +2,4 @@ pub mod Did
 pub mod Closing
 pub mod Recovering
 pub mod Safe
+pub mod Told

@@ -1,9 +1,9 @@
 -- What a recovery answers, and the state that its events lead to.
-use Rattle.std.specs.Prelude.{◌≡◌, ◌⊎◌, ℕ, true, List, Option, Some, None}
+use Rattle.std.specs.Prelude.{◌≡◌, ◌⊎◌, ◌<◌, ℕ, true, List, Option, Some, None}
 use Rattle.std.specs.declared.result.Result.{Result}
 use Rattle.std.specs.declared.result.Result.TheVariants.{Ok, Err}
 use Rattle.host_port.specs.declared.event.Event.{Event}
-use Rattle.host_port.specs.Calls.{Counts, Rose}
+use Rattle.host_port.specs.Calls.{Counts, Rose, load_limit}
 use Rattle.host_port.specs.declared.host.DiskFault.{DiskFault}
 use Rattle.commit_record.specs.Format.{is_valid, IsWritten}
 use Rattle.commit_record.specs.declared.record.Record.{Record}
@@ -64,13 +64,15 @@ abbrev pub Settles : Job → List Event → Result Recovered MendError → Type 
 Settles j es (Ok f) = Goes j Looking es (Releasing (jobs.Recovered (found f)))
 Settles j es (Err why) = Stops j es why
 
--- the disk is answered only where its count rose
+-- the disk is answered only where its count rose, and too many bytes only past the limit
 abbrev pub MendCause : {A : Type 0} → Counts → Counts → Result A MendError → Type 0
 MendCause before now (Err mend.Disk) = Rose before.disks now.disks
+MendCause before now (Err (mend.TooLarge n)) = load_limit < n
 MendCause before now r = Unit {0}
 
 abbrev pub RecoverCause : Counts → Counts → Result Recovered RecoverError → Type 0
 RecoverCause before now (Err error.Disk) = Rose before.disks now.disks
+RecoverCause before now (Err (error.TooLarge name n)) = load_limit < n
 RecoverCause before now r = Unit {0}
 
 -- the events carry the machine of a job from its start to its end
@@ -110,3 +112,9 @@ answer_of (Err mend.NotARecord) name = Err error.NotARecord
 answer_of (Err (mend.TooLarge n)) name = Err (error.TooLarge name n)
 answer_of (Err mend.Disk) name = Err error.Disk
 answer_of (Err mend.Memory) name = Err error.Memory
+
+-- the names in an answer: the right's, and the record's
+abbrev pub IsNamed : List ℕ → Result Recovered RecoverError → Type 0
+IsNamed actor (Err (error.Busy name)) = name ≡ right_name actor
+IsNamed actor (Err (error.TooLarge name n)) = name ≡ record_name actor
+IsNamed actor r = Unit {0}

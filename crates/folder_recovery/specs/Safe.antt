@@ -1,5 +1,5 @@
 -- What a recovery leaves, whatever others lawfully do meanwhile and wherever it stops.
-use Rattle.std.specs.Prelude.{◌≡◌, ◌<◌, ◌^◌, ℕ, List, [], ◌∷◌, ◌++◌, Some, None}
+use Rattle.std.specs.Prelude.{◌≡◌, ◌<◌, ◌^◌, ℕ, List, [], ◌∷◌, ◌++◌, None}
 use Rattle.std.specs.declared.result.Result.{Result}
 use Rattle.std.specs.declared.result.Result.TheVariants.{Ok}
 use Rattle.host_port.specs.declared.event.Event.{Event}
@@ -15,7 +15,6 @@ use Rattle.commit_machine.specs.Due.{settled_files, settled_locks}
 use Rattle.commit_machine.specs.Laws.{IsDue, in_flight}
 use Rattle.folder_recovery.specs.declared.recovery.Recovered.{Recovered}
 use Rattle.folder_recovery.specs.declared.error.RecoverError.{RecoverError}
-use Rattle.folder_recovery.specs.Recovering.{}
 
 -- A recovery begins on a disk that is sound, and others do only what is lawful. Some token is nobody's: of such a one the lawful
 -- steps speak, and a recovery itself has none.

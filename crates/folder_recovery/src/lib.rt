@@ -9,3 +9,6 @@ mod recovery;
 
 pub use error::{MendError, RecoverError};
 pub use recovery::{Recovered, recover};
+
+#[cfg(test)]
+mod tests;

@@ -8,8 +8,9 @@ ghost use Rattle.commit_machine.specs.Names.{record_name, new_name};
 ghost use Rattle.commit_machine.specs.Jobs.{Job};
 ghost use Rattle.host_port.specs.Disk.{disk};
 ghost use Rattle.host_port.specs.declared.event.Event.{Event};
+ghost use Rattle.folder_recovery.specs.Told.{IsTold};
 ghost use Rattle.folder_recovery.specs.Safe.{MayRecover, RecoversSafely};
-ghost use Rattle.folder_recovery.specs.Recovering.{Settles, MendCause, Recovers, RecoverCause, answer_of};
+ghost use Rattle.folder_recovery.specs.Recovering.{Settles, MendCause, Recovers, RecoverCause, IsNamed, answer_of};
 
 use crate::calls::{erase, release, seize};
 use crate::mend::mend;
@@ -67,14 +68,11 @@ fn answer(settled: Result<Recovered, MendError>, name: Text) -> Result<Recovered
 }
 
 // The whole of it, as a run of the machine.
-fn run<H: Host>(
-    alloc: Global,
-    actor: &[u8],
-    host: &mut H,
-) -> Result<Recovered, RecoverError>
+fn run<H: Host>(alloc: Global, actor: &[u8], host: &mut H) -> Result<Recovered, RecoverError>
     requires short { length actor.now ≤ 4021 }
     requires no_zero { has_no_zero actor.now ≡ true }
     ensures ran { (token : ℕ) → Ran H.start H.told H.counts host.old host.new (λ es. Recovers (recovery_for actor.now token) es result) }
+    ensures named { IsNamed actor.now result }
     ensures cause { RecoverCause (H.counts host.old) (H.counts host.new) result }
 {
     let name = record_name(alloc, actor)?;
@@ -108,7 +106,9 @@ pub fn recover<H: Host>(
     requires short { length actor.now ≤ 4021 }
     requires no_zero { has_no_zero actor.now ≡ true }
     ensures ran { (token : ℕ) → Ran H.start H.told H.counts host.old host.new (λ es. Recovers (recovery_for actor.now token) es result) }
+    ensures told { Ran H.start H.told H.counts host.old host.new (λ es. IsTold actor.now es result) }
     ensures safe { (token : ℕ) (before es : List Event) → H.told host.old ≡ Some before → H.told host.new ≡ Some (before ++ es) → MayRecover actor.now token (disk (H.start host.old) before) es → RecoversSafely actor.now token (disk (H.start host.old) before) es result }
+    ensures named { IsNamed actor.now result }
     ensures cause { RecoverCause (H.counts host.old) (H.counts host.new) result }
 {
     run(alloc, actor, host)

@@ -9,9 +9,9 @@ use Rattle.commit_machine.specs.Machine.{ToSeize, ToRelease, Went, Fault}
 use Rattle.folder_recovery.specs.declared.recovery.Recovered.{Recovered}
 use Rattle.folder_recovery.specs.declared.error.RecoverError.{RecoverError}
 use Rattle.folder_recovery.specs.Did.{Did}
-use Rattle.folder_recovery.specs.Recovering.{Recovers}
+use Rattle.folder_recovery.specs.Recovering.{Recovers, IsNamed}
 use Rattle.folder_recovery.proofs.FileLemmas.{record-file, new-file, right-file}
-use Rattle.folder_recovery.proofs.RecoverLemmas.{held, released, busy, no-right}
+use Rattle.folder_recovery.proofs.RecoverLemmas.{answer-named, held, released, busy, no-right}
 use Rattle.folder_recovery.proofs.recovery.run.Goals as goal
 
 pub seize-requires : goal.seize-requires
@@ -52,3 +52,8 @@ returns-in-Err-clause-ran g c = λ token.
     let S : List Event → List ℕ → Type 0 = λ es z. Did (ToSeize z) Fault es in
     let R : List Event → List ℕ → Type 0 = λ es z. Did (ToRelease z) (Went true) es in
     Ran-then (λ front more p q. no-right j c.in_ok-right.right c.in_ok-right.ensures front more (subst (S front) c.bytes.ensures p) (subst (R more) c.bytes-in-Err.ensures q)) c.in-Err.ensures.ran c.release-in-Err.ensures.ran
+
+pub returns-in-Ok-true-clause-named : goal.returns-in-Ok-true-clause-named
+returns-in-Ok-true-clause-named g c =
+    let P : Result Recovered RecoverError → Type 0 = λ r. IsNamed c.args.actor.now r in
+    subst P (sym c.answer.ensures) (answer-named c.args.actor.now c.settle-settled.result c.in_ok-name.name c.in_ok-name.ensures)

@@ -1,0 +1,74 @@
+-- The answer of a recovery as its own events give it.
+use Rattle.std.specs.Prelude.{◌≡◌, ℕ, Bool, true, false, List, ◌∷◌, if◌then◌else◌}
+use Rattle.std.specs.List.{list_any}
+use Rattle.std.specs.declared.option.Option.{Option}
+use Rattle.std.specs.declared.option.Option.TheVariants.{Some, None}
+use Rattle.std.specs.declared.result.Result.{Result}
+use Rattle.std.specs.declared.result.Result.TheVariants.{Ok, Err}
+use Rattle.host_port.specs.declared.event.Event.{Event}
+use Rattle.host_port.specs.declared.event.Event.TheVariants.{Load, Stage, Publish, Erase, Lock, Unlock, Seize}
+use Rattle.host_port.specs.declared.event.Seen.{Seen}
+use Rattle.host_port.specs.declared.event.Seen.TheVariants as seen
+use Rattle.commit_record.specs.declared.record.Record.{Record}
+use Rattle.commit_machine.specs.Names.{record_name, right_name}
+use Rattle.commit_machine.specs.Records.{record_of}
+use Rattle.commit_machine.specs.Jobs.{Before, Nothing, Busy, NotARecord, TooLarge, Ending, Recovered, Refused, Failed, NoMemory}
+use Rattle.commit_machine.specs.Machine.{found_of}
+use Rattle.folder_recovery.specs.declared.recovery.Recovered.{Recovered as Answer}
+use Rattle.folder_recovery.specs.declared.error.RecoverError.{RecoverError}
+use Rattle.folder_recovery.specs.declared.error.RecoverError.TheVariants as error
+use Rattle.folder_recovery.specs.Recovering.{found}
+
+-- a load that failed
+abbrev pub is_failed_load : Seen → Bool
+is_failed_load seen.Failed = true
+is_failed_load s = false
+
+-- the event of a call that failed
+abbrev pub is_failed : Event → Bool
+is_failed (Load n s) = is_failed_load s
+is_failed (Stage n c failed) = failed
+is_failed (Publish from to done failed) = failed
+is_failed (Erase n done failed) = failed
+is_failed (Lock n t got failed) = failed
+is_failed (Unlock n t done failed) = failed
+is_failed (Seize n got failed) = failed
+is_failed e = false
+
+-- a failure among the events comes before all else
+abbrev pub unless_failed : List Event → Ending → Ending
+unless_failed es end = if list_any is_failed es then Failed Before else end
+
+-- the end by the record that was read
+abbrev pub end_read : Option Record → Ending
+end_read None = Refused NotARecord
+end_read (Some r) = Recovered (found_of r)
+
+-- the end by what stood as the record
+abbrev pub end_found : Option (List ℕ) → Ending
+end_found None = Recovered Nothing
+end_found (Some bytes) = end_read (record_of bytes)
+
+-- the end by what the load of the record saw
+abbrev pub end_seen : List ℕ → Seen → Ending
+end_seen actor (seen.Bytes c held) = end_found c
+end_seen actor (seen.TooLarge n) = Refused (TooLarge (record_name actor) n)
+end_seen actor s = NoMemory
+
+-- the end by the seizure and the load
+abbrev pub end_by : List ℕ → List Event → Ending
+end_by actor (Seize n false failed ∷ es) = Refused (Busy (right_name actor))
+end_by actor (Seize n true failed ∷ Load m s ∷ es) = end_seen actor s
+end_by actor es = NoMemory
+
+abbrev pub told_end : List ℕ → List Event → Ending
+told_end actor es = unless_failed es (end_by actor es)
+
+-- But for want of memory, the answer is as the own events give it.
+abbrev pub IsTold : List ℕ → List Event → Result Answer RecoverError → Type 0
+IsTold actor es (Ok f) = told_end actor es ≡ Recovered (found f)
+IsTold actor es (Err (error.Busy name)) = told_end actor es ≡ Refused (Busy name)
+IsTold actor es (Err error.NotARecord) = told_end actor es ≡ Refused NotARecord
+IsTold actor es (Err (error.TooLarge name n)) = told_end actor es ≡ Refused (TooLarge name n)
+IsTold actor es (Err error.Disk) = told_end actor es ≡ Failed Before
+IsTold actor es (Err error.Memory) = Unit {0}
