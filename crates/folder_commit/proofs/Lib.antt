@@ -2,3 +2,4 @@ pub mod NameLemmas
 pub mod JudgeLemmas
 pub mod EndLemmas
 pub mod RunLemmas
+pub mod SafeLemmas

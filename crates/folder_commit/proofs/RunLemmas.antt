@@ -84,7 +84,7 @@ module _ (j : Job) (right : List ℕ) (right_is : right ≡ right_name j.actor) 
   no-right front more h did = record { end = Failed Before; is_as = refl; goes = ended (Failed Before) front more h did }
 
 -- the names of a commit of one file
-one-valid : (phase : Phase) (token : ℕ) (name : List ℕ) → is_lawful name ≡ true → is_valid (one_record phase token name) ≡ true
+pub one-valid : (phase : Phase) (token : ℕ) (name : List ℕ) → is_lawful name ≡ true → is_valid (one_record phase token name) ≡ true
 one-valid phase token name h = rw h refl
 
 pub is-lawful : (actor name : List ℕ) → is_file_name actor name ≡ true → is_lawful name ≡ true
@@ -112,7 +112,7 @@ none-left name (c ∷ cs) all =
     let P : List ℕ → Type 0 = λ n. without name (n ∷ without n (first_names cs)) ≡ [] in
     subst P (sym same) (cond-true _ _ _ ((bytes_eq-Decides name name).1 refl) ∙ ap (without name) later)
 
-named-once : (c : Change) (cs : List Change) → AllOf (name_of c) (c ∷ cs) → first_names (c ∷ cs) ≡ name_of c ∷ []
+pub named-once : (c : Change) (cs : List Change) → AllOf (name_of c) (c ∷ cs) → first_names (c ∷ cs) ≡ name_of c ∷ []
 named-once c cs all = ap (λ (ns : List (List ℕ)). name_of c ∷ ns) (none-left (name_of c) cs (All-tail (λ (x : Change). name_of x ≡ name_of c) c cs all))
 
 module _ (changes : List Change) (first : Change) (some : 1 ≤ length changes) (is : first ≡ get_or changes 0 first) where

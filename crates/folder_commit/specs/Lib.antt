@@ -4,3 +4,4 @@ pub mod Plans
 pub mod Judging
 pub mod Steps
 pub mod Commits
+pub mod Safe

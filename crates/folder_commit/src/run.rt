@@ -1,7 +1,9 @@
 // A commit, with its right.
-ghost use Rattle.std.specs.Prelude.{◌≡◌, ◌≤◌, ℕ, List, true, length, All, IsTrue, IsSome, option_copied};
+ghost use Rattle.std.specs.Prelude.{◌≡◌, ◌≤◌, ◌++◌, ℕ, List, Some, true, length, All, IsTrue, IsSome, option_copied};
 ghost use Rattle.host_port.specs.Names.{has_no_zero};
 ghost use Rattle.host_port.specs.Ran.{Ran};
+ghost use Rattle.host_port.specs.Disk.{disk};
+ghost use Rattle.host_port.specs.declared.event.Event.{Event};
 ghost use Rattle.folder_change.specs.Changes.{is_rewrite};
 ghost use Rattle.folder_change.specs.Outcomes.{base_list};
 ghost use Rattle.folder_commit.specs.Names.{is_file_name};
@@ -9,6 +11,7 @@ ghost use Rattle.folder_commit.specs.Judging.{AllOf};
 ghost use Rattle.folder_commit.specs.Ends.{Commits, CommitCause};
 ghost use Rattle.folder_commit.specs.Plans.{AreReady, AreSafe};
 ghost use Rattle.folder_commit.specs.Steps.{job_of};
+ghost use Rattle.folder_commit.specs.Safe.{MayCommit, IsSafe};
 ghost use Rattle.folder_commit.specs.Commits.{IsOfOne, AreFiles, IsCommit, answer_of};
 
 use crate::error::{CommitError, Passed, Stop};
@@ -96,6 +99,29 @@ fn commit_one<H: Host>(
     bracket(alloc, actor, &names, &texts, changes, base, host)
 }
 
+// The whole of it, as a run of the machine.
+fn whole<H: Host>(
+    alloc: Global,
+    actor: &[u8],
+    token: u64,
+    changes: &[Change],
+    base: Option<&Folder>,
+    host: &mut H,
+) -> Result<(), CommitError>
+    requires short { length actor.now ≤ 4021 }
+    requires no_zero { has_no_zero actor.now ≡ true }
+    requires files { AreFiles actor.now changes.now }
+    requires one { IsOfOne changes.now }
+    requires based { All (λ c. IsTrue (is_rewrite c) → IsSome base) changes.now }
+    ensures ran { Ran H.start H.told H.counts host.old host.new (λ es. IsCommit actor.now token changes.now (base_list (option_copied base.entry)) es result) }
+    ensures cause { CommitCause (H.counts host.old) (H.counts host.new) result }
+{
+    match changes {
+        [] => Ok(()),
+        [first, ..] => commit_one(alloc, actor, token, change_name(first), changes, base, host),
+    }
+}
+
 /// Makes changes of a file as one commit: stopped at any moment, a recovery leaves all of them or none. The actor's right is
 /// taken first and given up at the end, and a commit that was stopped before is recovered. `token` is a number that no other
 /// run has. `base` is the folder for which a rewrite among the changes was made. Without a change nothing is done.
@@ -118,10 +144,8 @@ pub fn commit<H: Host>(
     requires one { IsOfOne changes.now }
     requires based { All (λ c. IsTrue (is_rewrite c) → IsSome base) changes.now }
     ensures ran { Ran H.start H.told H.counts host.old host.new (λ es. IsCommit actor.now token changes.now (base_list (option_copied base.entry)) es result) }
+    ensures safe { (before es : List Event) → H.told host.old ≡ Some before → H.told host.new ≡ Some (before ++ es) → MayCommit actor.now token (disk (H.start host.old) before) es → IsSafe actor.now token changes.now (base_list (option_copied base.entry)) (disk (H.start host.old) before) es result }
     ensures cause { CommitCause (H.counts host.old) (H.counts host.new) result }
 {
-    match changes {
-        [] => Ok(()),
-        [first, ..] => commit_one(alloc, actor, token, change_name(first), changes, base, host),
-    }
+    whole(alloc, actor, token, changes, base, host)
 }
