@@ -223,7 +223,7 @@ module _ (actor : List ℕ) (token : ℕ) (changes : List Change) (base : List (
       go None = refl
       go (Some b) = refl
 
-  seen-here : (c : Option (List ℕ)) → seen_files (made_of changes base name c ∷ []) name ≡ c
+  pub seen-here : (c : Option (List ℕ)) → seen_files (made_of changes base name c ∷ []) name ≡ c
   seen-here c = ap seen_of (cond-true _ _ _ ((bytes_eq-Decides name name).1 refl))
 
   pub turns-out : (c : Option (List ℕ)) (result : Result (Option (List ℕ)) Stop) → AllOf name changes

@@ -3,3 +3,4 @@ pub mod JudgeLemmas
 pub mod EndLemmas
 pub mod RunLemmas
 pub mod SafeLemmas
+pub mod ToldLemmas

@@ -5,3 +5,4 @@ pub mod Judging
 pub mod Steps
 pub mod Commits
 pub mod Safe
+pub mod Told

@@ -11,6 +11,7 @@ ghost use Rattle.folder_commit.specs.Judging.{AllOf};
 ghost use Rattle.folder_commit.specs.Ends.{Commits, CommitCause};
 ghost use Rattle.folder_commit.specs.Plans.{AreReady, AreSafe};
 ghost use Rattle.folder_commit.specs.Steps.{job_of};
+ghost use Rattle.folder_commit.specs.Told.{IsTold};
 ghost use Rattle.folder_commit.specs.Safe.{MayCommit, IsSafe};
 ghost use Rattle.folder_commit.specs.Commits.{IsOfOne, AreFiles, IsCommit, answer_of};
 
@@ -144,6 +145,7 @@ pub fn commit<H: Host>(
     requires one { IsOfOne changes.now }
     requires based { All (λ c. IsTrue (is_rewrite c) → IsSome base) changes.now }
     ensures ran { Ran H.start H.told H.counts host.old host.new (λ es. IsCommit actor.now token changes.now (base_list (option_copied base.entry)) es result) }
+    ensures told { Ran H.start H.told H.counts host.old host.new (λ es. IsTold actor.now changes.now (base_list (option_copied base.entry)) es result) }
     ensures safe { (before es : List Event) → H.told host.old ≡ Some before → H.told host.new ≡ Some (before ++ es) → MayCommit actor.now token (disk (H.start host.old) before) es → IsSafe actor.now token changes.now (base_list (option_copied base.entry)) (disk (H.start host.old) before) es result }
     ensures cause { CommitCause (H.counts host.old) (H.counts host.new) result }
 {
