@@ -1,7 +1,6 @@
 -- A commit answers as its own events give it.
-use Rattle.std.proofs.Common.{◌≡◌, ◌≢◌, ◌⊎◌, ℕ, Bool, true, false, List, [], ◌∷◌, map, Option, Some, None, if◌then◌else◌, ◌||◌, refl, ap, sym, subst, inl, inr, ◌∙◌}
+use Rattle.std.proofs.Common.{◌≡◌, ◌⊎◌, ℕ, Bool, true, false, List, [], ◌∷◌, map, Option, Some, None, ◌||◌, refl, ap, sym, subst, inl, inr, ◌∙◌}
 use Rattle.std.specs.List.{list_any}
-use Rattle.std.specs.Str.{bytes_eq}
 use Rattle.std.specs.Option.{option_map}
 use Rattle.std.specs.declared.result.Result.{Result}
 use Rattle.std.specs.declared.result.Result.TheVariants.{Ok, Err}
@@ -13,12 +12,11 @@ use Rattle.host_port.specs.declared.event.Event.TheVariants as event
 use Rattle.host_port.specs.declared.event.Seen.{Seen}
 use Rattle.host_port.specs.declared.event.Seen.TheVariants as seen
 use Rattle.commit_record.specs.Format.{written}
-use Rattle.commit_record.specs.declared.record.EntryKind.{EntryKind}
 use Rattle.commit_record.specs.declared.record.Record.{Record}
 use Rattle.commit_machine.specs.Names.{record_name, new_name, right_name, staged_name}
 use Rattle.commit_machine.specs.Records.{record_of, is_go, names_of}
 use Rattle.commit_machine.specs.Settled.{Files}
-use Rattle.commit_machine.specs.Jobs.{Before, Found, Refusal, Busy, NotARecord, TooLarge, Ending, Done, Recovered, Refused, Failed, NoMemory, Outcome, Puts, Edit, Job, Made, all_of, edits_of, prepare_of, go_of, seen_files}
+use Rattle.commit_machine.specs.Jobs.{Found, Refusal, Busy, TooLarge, Ending, Done, Refused, Failed, NoMemory, Outcome, Puts, Edit, Job, Made, all_of, edits_of, prepare_of, go_of, seen_files}
 use Rattle.commit_machine.specs.Machine.{State, Seizing, Looking, Undoing, Placing, Unlocking, Erasing, Clearing, Preparing, Publishing, Locking, Loading, Staging, Deciding, Committing, Checking, Releasing, Ended, Then, GoOn, Answer, ToLoad, ToStage, ToErase, ToPublish, ToLock, ToUnlock, ToSeize, ToRelease, unlocking, undoing, placing, staging, mended, none_stands, mending, record_seen, refusing, judged, loading, locking, loaded, next, refused, after_reply}
 use Rattle.commit_machine.specs.Goes.{IsOf, loads, stages, stage_fails, publishes, erases, locks, unlocks, seizes, releases, IsNext, reply, Goes}
 use Rattle.folder_change.specs.declared.change.Change.{Change}

@@ -12,7 +12,7 @@ use Rattle.folder_commit.specs.declared.error.CommitError.{CommitError}
 use Rattle.folder_commit.specs.declared.error.CommitError.TheVariants as error
 use Rattle.folder_commit.specs.Names.{is_file_name}
 use Rattle.folder_commit.specs.Judging.{AllOf}
-use Rattle.folder_commit.specs.Ends.{Commits}
+use Rattle.folder_commit.specs.Ends.{Commits, AreNamed}
 
 -- the changes are all of one file
 abbrev pub IsOfOne : List Change → Type 0
@@ -28,6 +28,11 @@ AreFiles actor changes = All (λ c. is_file_name actor (name_of c) ≡ true) cha
 abbrev pub IsCommit : List ℕ → ℕ → List Change → List (List ℕ) → List Event → Result Unit CommitError → Type 0
 IsCommit actor token [] base es result = (es ≡ []) × (result ≡ Ok tt)
 IsCommit actor token (c ∷ cs) base es result = Commits (job_for actor token (c ∷ cs) base) es result
+
+-- the names in an answer
+abbrev pub IsNamed : List ℕ → List Change → Result Unit CommitError → Type 0
+IsNamed actor [] result = result ≡ Ok tt
+IsNamed actor (c ∷ cs) result = AreNamed actor (name_of c) result
 
 -- the answer where the commit of the file of this name stopped so; the other name is the record's
 abbrev pub answer_of : Result Unit Stop → List ℕ → List ℕ → Result Unit CommitError

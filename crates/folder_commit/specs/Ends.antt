@@ -1,10 +1,10 @@
 -- How a commit ends, and the machine with it.
-use Rattle.std.specs.Prelude.{◌≡◌, ◌⊎◌, ℕ, List, [], ◌∷◌, Option, Some}
+use Rattle.std.specs.Prelude.{◌≡◌, ◌⊎◌, ◌<◌, ℕ, List, [], ◌∷◌, Option, Some}
 use Rattle.std.specs.declared.result.Result.{Result}
 use Rattle.std.specs.declared.result.Result.TheVariants.{Ok, Err}
 use Rattle.host_port.specs.declared.event.Event.{Event}
-use Rattle.host_port.specs.Calls.{Counts, Rose}
-use Rattle.commit_machine.specs.Names.{record_name}
+use Rattle.host_port.specs.Calls.{Counts, Rose, load_limit}
+use Rattle.commit_machine.specs.Names.{record_name, right_name}
 use Rattle.commit_machine.specs.Settled.{Files}
 use Rattle.commit_machine.specs.Jobs.{Refusal, Ending, Done, Refused, Failed, NoMemory, Edit, Job}
 use Rattle.commit_machine.specs.Jobs as jobs
@@ -68,20 +68,33 @@ pub record Commits (j : Job) (es : List Event) (result : Result Unit CommitError
   pub is_as : AnswersAs result end
   pub goes : Goes j Seizing es (Ended end)
 
--- the disk is answered only where its count rose
-abbrev pub StopCause : {A : Type 0} → Counts → Counts → Result A Stop → Type 0
-StopCause before now (Err (stop.Disk passed)) = Rose before.disks now.disks
-StopCause before now result = Unit {0}
-
+-- the disk is told only where its count rose, and too many bytes only past the limit
 abbrev pub FaultCause : Counts → Counts → Stop → Type 0
 FaultCause before now (stop.Disk passed) = Rose before.disks now.disks
+FaultCause before now (stop.LongRecord length) = load_limit < length
+FaultCause before now (stop.TooLarge length) = load_limit < length
 FaultCause before now why = Unit {0}
 
--- it is no fault of the disk
+abbrev pub StopCause : {A : Type 0} → Counts → Counts → Result A Stop → Type 0
+StopCause before now (Ok x) = Unit {0}
+StopCause before now (Err why) = FaultCause before now why
+
+-- the same without the disk
 abbrev pub IsNoFault : Stop → Type 0
 IsNoFault (stop.Disk passed) = ⊥
+IsNoFault (stop.LongRecord length) = load_limit < length
+IsNoFault (stop.TooLarge length) = load_limit < length
 IsNoFault why = Unit {0}
 
 abbrev pub CommitCause : Counts → Counts → Result Unit CommitError → Type 0
 CommitCause before now (Err (error.Disk passed)) = Rose before.disks now.disks
+CommitCause before now (Err (error.TooLarge name length)) = load_limit < length
 CommitCause before now result = Unit {0}
+
+-- the names in an answer: the right's or the file's, the file's, the record's or the file's
+abbrev pub AreNamed : List ℕ → List ℕ → Result Unit CommitError → Type 0
+AreNamed actor file (Err (error.Busy name)) = (name ≡ right_name actor) ⊎ (name ≡ file)
+AreNamed actor file (Err (error.Changed name at)) = name ≡ file
+AreNamed actor file (Err (error.TooLarge name length)) = (name ≡ record_name actor) ⊎ (name ≡ file)
+AreNamed actor file (Err (error.TooManyNames count)) = ⊥
+AreNamed actor file result = Unit {0}

@@ -8,6 +8,7 @@ use Rattle.folder_change.specs.Changes.{name_of}
 use Rattle.folder_change.specs.Apply.{Files, ChangedAt, TooLong, apply, first_refusal, most_bytes}
 use Rattle.folder_commit.specs.declared.error.Stop.{Stop}
 use Rattle.folder_commit.specs.declared.error.Stop.TheVariants as stop
+use Rattle.folder_commit.specs.Ends.{IsNoFault}
 
 -- all changes are of the file of this name
 abbrev pub AllOf : List ℕ → List Change → Type 0
@@ -28,5 +29,5 @@ Judges changes base files name (Err why) = ⊥
 
 -- a file is judged without the disk
 abbrev pub IsJudged : Result (Option (List ℕ)) Stop → Type 0
-IsJudged (Err (stop.Disk passed)) = ⊥
-IsJudged judged = Unit {0}
+IsJudged (Ok file) = Unit {0}
+IsJudged (Err why) = IsNoFault why

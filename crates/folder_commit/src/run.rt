@@ -8,12 +8,12 @@ ghost use Rattle.folder_change.specs.Changes.{is_rewrite};
 ghost use Rattle.folder_change.specs.Outcomes.{base_list};
 ghost use Rattle.folder_commit.specs.Names.{is_file_name};
 ghost use Rattle.folder_commit.specs.Judging.{AllOf};
-ghost use Rattle.folder_commit.specs.Ends.{Commits, CommitCause};
+ghost use Rattle.folder_commit.specs.Ends.{Commits, CommitCause, AreNamed};
 ghost use Rattle.folder_commit.specs.Plans.{AreReady, AreSafe};
 ghost use Rattle.folder_commit.specs.Steps.{job_of};
 ghost use Rattle.folder_commit.specs.Told.{IsTold};
 ghost use Rattle.folder_commit.specs.Safe.{MayCommit, IsSafe};
-ghost use Rattle.folder_commit.specs.Commits.{IsOfOne, AreFiles, IsCommit, answer_of};
+ghost use Rattle.folder_commit.specs.Commits.{IsOfOne, AreFiles, IsCommit, IsNamed, answer_of};
 
 use crate::error::{CommitError, Passed, Stop};
 use crate::plan::{Names, Texts, names_of, texts_for};
@@ -58,6 +58,7 @@ fn bracket<H: Host>(
     requires based { All (λ c. IsTrue (is_rewrite c) → IsSome base) changes.now }
     ensures ran { (token : ℕ) (name : List ℕ) → AreReady actor.now token name names.now texts.now → AllOf name changes.now → Ran H.start H.told H.counts host.old host.new (λ es. Commits (job_of actor.now token changes.now (base_list (option_copied base.entry)) name) es result) }
     ensures cause { CommitCause (H.counts host.old) (H.counts host.new) result }
+    ensures named { AreNamed actor.now texts.now.file result }
 {
     let name = record_name(alloc, actor)?;
     let right = right_name(alloc, actor)?;
@@ -94,6 +95,7 @@ fn commit_one<H: Host>(
     requires based { All (λ c. IsTrue (is_rewrite c) → IsSome base) changes.now }
     ensures ran { AllOf name.now changes.now → Ran H.start H.told H.counts host.old host.new (λ es. Commits (job_of actor.now token changes.now (base_list (option_copied base.entry)) name.now) es result) }
     ensures cause { CommitCause (H.counts host.old) (H.counts host.new) result }
+    ensures named { AreNamed actor.now name.now result }
 {
     let names = names_of(alloc, actor)?;
     let texts = texts_for(alloc, token, name)?;
@@ -116,6 +118,7 @@ fn whole<H: Host>(
     requires based { All (λ c. IsTrue (is_rewrite c) → IsSome base) changes.now }
     ensures ran { Ran H.start H.told H.counts host.old host.new (λ es. IsCommit actor.now token changes.now (base_list (option_copied base.entry)) es result) }
     ensures cause { CommitCause (H.counts host.old) (H.counts host.new) result }
+    ensures named { IsNamed actor.now changes.now result }
 {
     match changes {
         [] => Ok(()),
@@ -148,6 +151,7 @@ pub fn commit<H: Host>(
     ensures told { Ran H.start H.told H.counts host.old host.new (λ es. IsTold actor.now changes.now (base_list (option_copied base.entry)) es result) }
     ensures safe { (before es : List Event) → H.told host.old ≡ Some before → H.told host.new ≡ Some (before ++ es) → MayCommit actor.now token (disk (H.start host.old) before) es → IsSafe actor.now token changes.now (base_list (option_copied base.entry)) (disk (H.start host.old) before) es result }
     ensures cause { CommitCause (H.counts host.old) (H.counts host.new) result }
+    ensures named { IsNamed actor.now changes.now result }
 {
     whole(alloc, actor, token, changes, base, host)
 }
