@@ -1,0 +1,6 @@
+pub mod NameLemmas
+pub mod JudgeLemmas
+pub mod EndLemmas
+pub mod RunLemmas
+pub mod SafeLemmas
+pub mod ToldLemmas

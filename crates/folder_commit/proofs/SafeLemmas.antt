@@ -1,0 +1,120 @@
+-- The laws of the machine, of a commit.
+use Rattle.std.proofs.Common.{◌≡◌, ◌⊎◌, ◌<◌, ◌^◌, ℕ, true, false, List, [], ◌∷◌, ◌++◌, map, Option, Some, ap, sym, subst, inl, inr, ◌∙◌}
+use Rattle.std.specs.Prelude.{not}
+use Rattle.std.proofs.lemmas.Bool.{and_parts, not-true}
+use Rattle.std.proofs.lemmas.List.{append_cancel_left}
+use Rattle.std.proofs.lemmas.List.Elements.{All-head}
+use Rattle.std.specs.declared.result.Result.{Result}
+use Rattle.std.specs.declared.result.Result.TheVariants.{Ok, Err}
+use Rattle.host_port.specs.declared.event.Event.{Event}
+use Rattle.host_port.specs.Disk.{Disk, disk}
+use Rattle.host_port.specs.Calls.{Counts}
+use Rattle.host_port.specs.Own.{own}
+use Rattle.host_port.specs.Ran.{Honest, Ran}
+use Rattle.commit_record.specs.Names.{is_lawful}
+use Rattle.commit_record.specs.declared.record.Phase.TheVariants.{Prepare}
+use Rattle.folder_change.specs.declared.change.Change.{Change}
+use Rattle.folder_change.specs.Changes.{name_of}
+use Rattle.commit_machine.specs.Names.{is_record_name}
+use Rattle.commit_machine.specs.Settled.{Mem}
+use Rattle.commit_machine.specs.Jobs.{Ending, Done, Refused, Failed, NoMemory, Edit, Job, IsJob, prepare_of, edits_of}
+use Rattle.commit_machine.specs.Jobs as jobs
+use Rattle.commit_machine.specs.Edits.{edit_for, job_for}
+use Rattle.commit_machine.specs.Machine.{Ended}
+use Rattle.commit_machine.specs.Laws.{IsRun, TellsDecisions}
+use Rattle.commit_machine.specs.Laws as laws
+use Rattle.commit_machine.proofs.RunLemmas.{crash_safe, nothing_left}
+use Rattle.commit_machine.proofs.StopLemmas.{stop_safe}
+use Rattle.commit_machine.proofs.EndLemmas.{front_is_run}
+use Rattle.commit_machine.proofs.ToldLemmas.{decisions_are_told}
+use Rattle.folder_commit.specs.declared.error.Passed.TheVariants as passed
+use Rattle.folder_commit.specs.declared.error.CommitError.{CommitError}
+use Rattle.folder_commit.specs.declared.error.CommitError.TheVariants as error
+use Rattle.folder_commit.specs.Names.{is_file_name}
+use Rattle.folder_commit.specs.Ends.{AnswersAs, Commits}
+use Rattle.folder_commit.specs.Steps.{job_of}
+use Rattle.folder_commit.specs.Commits.{IsOfOne, AreFiles, IsCommit}
+use Rattle.folder_commit.specs.Safe.{MayCommit, DecidedSo, MetNoFault, CommitsSafely, IsSafe}
+use Rattle.folder_commit.proofs.RunLemmas.{named-once, one-valid, is-lawful}
+
+-- a commit of one file is a job
+plain-name : (actor name : List ℕ) → is_file_name actor name ≡ true → is_record_name actor name ≡ false
+plain-name actor name h = not-true (is_record_name actor name) (and_parts (not (is_record_name actor name)) _ (and_parts (is_lawful name) _ h).1).0
+
+one-job : (actor : List ℕ) (token : ℕ) (changes : List Change) (base : List (List ℕ)) (name : List ℕ) → token < 2 ^ 64 → is_file_name actor name ≡ true → IsJob (job_of actor token changes base name)
+one-job actor token changes base name fits file = record {
+  token_fits = fits;
+  valid = λ es is. one-valid Prepare token name (is-lawful actor name file);
+  plain = λ e m. plain e m;
+}
+  where
+    plain : (e : Edit) → Mem e (edits_of (job_of actor token changes base name)) → is_record_name actor e.name ≡ false
+    plain e (inl is) = ap (λ (x : Edit). is_record_name actor x.name) is ∙ plain-name actor name file
+    plain e (inr other) = absurd other
+
+is-job : (actor : List ℕ) (token : ℕ) (c : Change) (cs : List Change) (base : List (List ℕ)) → token < 2 ^ 64 → AreFiles actor (c ∷ cs) → IsOfOne (c ∷ cs) → IsJob (job_for actor token (c ∷ cs) base)
+is-job actor token c cs base fits files one =
+    let j = job_for actor token (c ∷ cs) base in
+    let file : is_file_name actor (name_of c) ≡ true = All-head (λ (x : Change). is_file_name actor (name_of x) ≡ true) c cs files in
+    let P : List (List ℕ) → Type 0 = λ ns. IsJob (record { actor = actor; token = token; edits = Some (map (edit_for (c ∷ cs) base) ns); refusal = j.refusal }) in
+    subst P (sym (named-once c cs one)) (one-job actor token (c ∷ cs) base (name_of c) fits file)
+
+-- the answer says how often there was a decision
+passed-so : (n : ℕ) (p : jobs.Passed) (end : Ending) → end ≡ Failed p → TellsDecisions end n → (n ≡ 0) ⊎ (n ≡ 1)
+passed-so n jobs.Before end is told = inl (rw is at told)
+passed-so n jobs.After end is told = inr (rw is at told)
+passed-so n jobs.Unknown end is told = rw is at told
+
+decided-so : (result : Result Unit CommitError) (end : Ending) (n : ℕ) → AnswersAs result end → TellsDecisions end n → DecidedSo result n
+decided-so (Ok u) end n is told = rw is at told
+decided-so (Err (error.Busy name)) end n is told = rw is at told
+decided-so (Err error.Record) end n is told = rw is at told
+decided-so (Err (error.Changed name at)) end n is told = rw is at told
+decided-so (Err (error.TooLarge name k)) end n is told = rw is at told
+decided-so (Err (error.Disk passed.Before)) end n is told = rw is at told
+decided-so (Err (error.Disk passed.After)) end n is told = rw is at told
+decided-so (Err (error.Disk passed.Unknown)) end n is told = passed-so n is.0 end is.1 told
+decided-so (Err error.Memory) end n (inl is) told = rw is at told
+decided-so (Err error.Memory) end n (inr is) told = let e = is.1 in rw e at told
+decided-so (Err (error.TooManyNames k)) end n is told = absurd is
+
+no-fault : (result : Result Unit CommitError) (end : Ending) → AnswersAs result end → MetNoFault result → laws.MetNoFault end
+no-fault (Ok u) end is m = subst laws.MetNoFault (sym is) tt
+no-fault (Err (error.Busy name)) end is m = subst laws.MetNoFault (sym is) tt
+no-fault (Err error.Record) end is m = subst laws.MetNoFault (sym is) tt
+no-fault (Err (error.Changed name at)) end is m = subst laws.MetNoFault (sym is) tt
+no-fault (Err (error.TooLarge name k)) end is m = subst laws.MetNoFault (sym is) tt
+no-fault (Err (error.Disk p)) end is m = absurd m
+no-fault (Err error.Memory) end (inl is) m = subst laws.MetNoFault (sym is) tt
+no-fault (Err error.Memory) end (inr is) m = subst laws.MetNoFault (sym is.1) tt
+no-fault (Err (error.TooManyNames k)) end is m = absurd is
+
+safely : (j : Job) (d : Disk) (es : List Event) (result : Result Unit CommitError) → IsJob j → MayCommit j.actor j.token d es → Honest d es → Commits j (own es) result → CommitsSafely j d es result
+safely j d es result job may honest h =
+    let run : IsRun j d es (Ended h.end) = record { job = job; fresh = may.fresh; sound = may.sound; goes = h.goes; honest = honest; lawful = may.lawful } in
+    let G : List Event → Type 0 = λ es. IsRun j d es (Ended h.end) in
+    record {
+      moments = λ front rest is. let x = front_is_run j d front rest (Ended h.end) (subst G is run) in crash_safe j d front x.0 x.1;
+      stops = λ front rest e part is. stop_safe j d front e rest (Ended h.end) part (subst G is run);
+      decided = decided-so result h.end _ h.is_as (decisions_are_told j d es h.end run);
+      nothing_left = λ m. nothing_left j d es h.end (no-fault result h.end h.is_as m) run;
+    }
+
+is-safe : (actor : List ℕ) (token : ℕ) (changes : List Change) (base : List (List ℕ)) (d : Disk) (es : List Event) (result : Result Unit CommitError) → token < 2 ^ 64 → AreFiles actor changes → IsOfOne changes
+    → MayCommit actor token d es → Honest d es → IsCommit actor token changes base (own es) result → IsSafe actor token changes base d es result
+is-safe actor token [] base d es result fits files one may honest h = tt
+is-safe actor token (c ∷ cs) base d es result fits files one may honest h = safely (job_for actor token (c ∷ cs) base) d es result (is-job actor token c cs base fits files one) may honest h
+
+-- of a host that tells its trace
+pub ran-safely : {H : Type 0} {start : H → Disk} {told : H → Option (List Event)} {counts : H → Counts} {old new : H} (actor : List ℕ) (token : ℕ) (changes : List Change) (base : List (List ℕ)) (result : Result Unit CommitError) (before es : List Event)
+    → token < 2 ^ 64 → AreFiles actor changes → IsOfOne changes → Ran start told counts old new (λ own_ones. IsCommit actor token changes base own_ones result)
+    → told old ≡ Some before → told new ≡ Some (before ++ es) → MayCommit actor token (disk (start old) before) es → IsSafe actor token changes base (disk (start old) before) es result
+ran-safely {start = start} {told = told} {old = old} actor token changes base result before es fits files one ran at to may =
+    let t = ran.told_is (before ++ es) to in
+    let same : Some before ≡ Some t.0 = sym at ∙ t.1 in
+    let first : before ≡ t.0 = cc in
+    let added : es ≡ t.2.added = append_cancel_left before es t.2.added (t.2.is ∙ ap (λ (r : List Event). r ++ t.2.added) (sym first)) in
+    let D : Disk → Type 0 = λ d. Honest d t.2.added in
+    let E : List Event → Type 0 = λ xs. Honest (disk (start old) before) xs in
+    let P : List Event → Type 0 = λ xs. IsCommit actor token changes base (own xs) result in
+    is-safe actor token changes base (disk (start old) before) es result fits files one may (subst E (sym added) (subst D (ap (disk (start old)) (sym first)) t.2.honest)) (subst P (sym added) t.2.own_ones)

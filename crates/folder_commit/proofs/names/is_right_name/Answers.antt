@@ -1,0 +1,9 @@
+use Rattle.std.proofs.Common.{◌∙◌}
+use Rattle.folder_commit.proofs.NameLemmas.{by_front, other_front}
+use Rattle.folder_commit.proofs.names.is_right_name.Goals as goal
+
+pub returns-in-Some : goal.returns-in-Some
+returns-in-Some c = c.is_right_end.ensures ∙ by_front c.args.actor.now c.args.name.now c.in-Some.end.now c.in-Some.ensures.cases.0 c.in-Some.ensures.cases.1
+
+pub returns-in-None : goal.returns-in-None
+returns-in-None c = other_front c.args.actor.now c.args.name.now c.in-None.ensures.cases

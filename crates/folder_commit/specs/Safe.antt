@@ -1,0 +1,54 @@
+-- What a commit leaves, whatever others lawfully do meanwhile and wherever it stops.
+use Rattle.std.specs.Prelude.{◌≡◌, ◌⊎◌, ℕ, List, [], ◌∷◌, ◌++◌}
+use Rattle.std.specs.declared.result.Result.{Result}
+use Rattle.std.specs.declared.result.Result.TheVariants.{Ok, Err}
+use Rattle.host_port.specs.declared.event.Event.{Event}
+use Rattle.host_port.specs.declared.event.Part.{Part}
+use Rattle.host_port.specs.Disk.{Disk, disk}
+use Rattle.host_port.specs.Ends.{stopped}
+use Rattle.folder_change.specs.declared.change.Change.{Change}
+use Rattle.commit_machine.specs.Jobs.{Job}
+use Rattle.commit_machine.specs.Edits.{job_for}
+use Rattle.commit_machine.specs.Lawful.{IsSound, IsFresh, OthersAreLawful}
+use Rattle.commit_machine.specs.Laws.{IsDue, in_flight, decisions}
+use Rattle.folder_commit.specs.declared.error.Passed.{Passed}
+use Rattle.folder_commit.specs.declared.error.Passed.TheVariants.{Before, After, Unknown}
+use Rattle.folder_commit.specs.declared.error.CommitError.{CommitError}
+use Rattle.folder_commit.specs.declared.error.CommitError.TheVariants as error
+
+-- A commit begins on a disk that is sound and carries nothing of its token, and others do only what is lawful.
+pub record MayCommit (actor : List ℕ) (token : ℕ) (d : Disk) (es : List Event) : Type 0 where
+  pub fresh : IsFresh actor token d
+  pub sound : IsSound actor d
+  pub lawful : OthersAreLawful actor token d es
+
+-- how often a commit was decided where a call failed
+abbrev pub PassedSo : Passed → ℕ → Type 0
+PassedSo Before n = n ≡ 0
+PassedSo After n = n ≡ 1
+PassedSo Unknown n = (n ≡ 0) ⊎ (n ≡ 1)
+
+-- how often a commit with this answer was decided
+abbrev pub DecidedSo : Result Unit CommitError → ℕ → Type 0
+DecidedSo (Ok u) n = n ≡ 1
+DecidedSo (Err (error.Disk passed)) n = PassedSo passed n
+DecidedSo (Err why) n = n ≡ 0
+
+-- no call failed
+abbrev pub MetNoFault : Result Unit CommitError → Type 0
+MetNoFault (Err (error.Disk passed)) = ⊥
+MetNoFault result = Unit {0}
+
+-- At every moment, and at every image of a stop, the settled files are those that the changes, from the decision on, and others make, the
+-- settled locks are those of others, and the disk is sound. The answer says whether there was a decision. Where no call failed, nothing of
+-- the token is left in the end.
+pub record CommitsSafely (j : Job) (d : Disk) (es : List Event) (result : Result Unit CommitError) : Type 0 where
+  pub moments : (front rest : List Event) → es ≡ front ++ rest → IsDue j d front (disk d front)
+  pub stops : (front rest : List Event) (e : Event) (part : Part) → es ≡ front ++ e ∷ rest → IsDue j d (front ++ in_flight (disk d front) e part) (stopped (disk d front) e part)
+  pub decided : DecidedSo result (decisions j d 0 es)
+  pub nothing_left : MetNoFault result → IsFresh j.actor j.token (disk d es)
+
+-- the same of a commit of changes; without a change there is none
+abbrev pub IsSafe : List ℕ → ℕ → List Change → List (List ℕ) → Disk → List Event → Result Unit CommitError → Type 0
+IsSafe actor token [] base d es result = Unit {0}
+IsSafe actor token (c ∷ cs) base d es result = CommitsSafely (job_for actor token (c ∷ cs) base) d es result
