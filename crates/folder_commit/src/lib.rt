@@ -11,3 +11,6 @@ mod steps;
 pub use error::{CommitError, Passed};
 pub use names::is_file_name;
 pub use run::commit;
+
+#[cfg(test)]
+mod tests;
