@@ -68,7 +68,3 @@ ended d = record d { rights = λ q. without_own (d.rights q) }
 abbrev pub stopped : Disk → Event → Part → Disk
 stopped d (Foreign step) part = ended (if is_after part then after_step d step else d)
 stopped d e part = ended (after d (cut_short d e part))
-
--- the images of a stop before or inside an event
-abbrev pub IsImage : Disk → Event → Disk → Type 0
-IsImage d e image = (part : Part) × (image ≡ stopped d e part)

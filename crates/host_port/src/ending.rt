@@ -43,6 +43,15 @@ fn may_seize(disk: &Standing, name: &[u8]) -> bool
     }
 }
 
+// Marks a call as done or not, and as failed or not.
+fn mark(done: &mut bool, failed: &mut bool, is_done: bool, is_failed: bool)
+    ensures done { done.new ≡ is_done }
+    ensures failed { failed.new ≡ is_failed }
+{
+    *done = is_done;
+    *failed = is_failed;
+}
+
 /// Makes an event of a call what it is where the call is carried out on this disk.
 pub fn carry_out(disk: &Standing, event: &mut Event)
     ensures { event.new ≡ carried_out (disk_now disk.now) event.old }
@@ -54,41 +63,24 @@ pub fn carry_out(disk: &Standing, event: &mut Event)
             done,
             failed,
             ..
-        } => {
-            *done = disk.files.has(from.bytes());
-            *failed = false;
-        }
-        Event::Erase { done, failed, .. } => {
-            *done = true;
-            *failed = false;
-        }
+        } => mark(done, failed, disk.files.has(from.bytes()), false),
+        Event::Erase { done, failed, .. } => mark(done, failed, true, false),
         Event::Lock {
             name,
             got,
             failed,
             ..
-        } => {
-            *got = !disk.locks.has(name.bytes());
-            *failed = false;
-        }
+        } => mark(got, failed, !disk.locks.has(name.bytes()), false),
         Event::Unlock {
             name,
             token,
             done,
             failed,
-        } => {
-            *done = owns(disk, name.bytes(), *token);
-            *failed = false;
-        }
+        } => mark(done, failed, owns(disk, name.bytes(), *token), false),
         Event::Seize { name, got, failed } => {
-            *got = may_seize(disk, name.bytes());
-            *failed = false;
+            mark(got, failed, may_seize(disk, name.bytes()), false)
         }
-        Event::In { .. } => {}
-        Event::Out { .. } => {}
-        Event::Load { .. } => {}
-        Event::Release { .. } => {}
-        Event::Foreign { .. } => {}
+        _ => {}
     }
 }
 
@@ -134,41 +126,29 @@ pub fn cut(alloc: Global, disk: &Standing, event: &mut Event, part: &Part) -> Re
             done,
             failed,
             ..
-        } => {
-            *done = whole && disk.files.has(from.bytes());
-            *failed = true;
-        }
-        Event::Erase { done, failed, .. } => {
-            *done = whole;
-            *failed = true;
-        }
+        } => mark(done, failed, whole && disk.files.has(from.bytes()), true),
+        Event::Erase { done, failed, .. } => mark(done, failed, whole, true),
         Event::Lock {
             name,
             got,
             failed,
             ..
-        } => {
-            *got = whole && !disk.locks.has(name.bytes());
-            *failed = true;
-        }
+        } => mark(got, failed, whole && !disk.locks.has(name.bytes()), true),
         Event::Unlock {
             name,
             token,
             done,
             failed,
-        } => {
-            *done = whole && owns(disk, name.bytes(), *token);
-            *failed = true;
-        }
+        } => mark(
+            done,
+            failed,
+            whole && owns(disk, name.bytes(), *token),
+            true,
+        ),
         Event::Seize { name, got, failed } => {
-            *got = whole && may_seize(disk, name.bytes());
-            *failed = true;
+            mark(got, failed, whole && may_seize(disk, name.bytes()), true)
         }
-        Event::In { .. } => {}
-        Event::Out { .. } => {}
-        Event::Load { .. } => {}
-        Event::Release { .. } => {}
-        Event::Foreign { .. } => {}
+        _ => {}
     }
     Ok(())
 }

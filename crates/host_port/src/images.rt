@@ -41,41 +41,18 @@ fn stop(alloc: Global, disk: &mut Standing, event: &Event, part: &Part) -> Resul
             leave(alloc, disk, name.bytes(), &mut bytes, part)?;
             write(alloc, &mut disk.files, name.bytes(), bytes.as_ref())
         }
-        Event::Publish { from, to, .. } => {
-            if !whole || !disk.files.has(from.bytes()) {
-                return Ok(());
-            }
+        Event::Publish { from, to, .. } if whole && disk.files.has(from.bytes()) => {
             rename(alloc, &mut disk.files, from.bytes(), to.bytes())
         }
-        Event::Erase { name, .. } => {
-            if !whole {
-                return Ok(());
-            }
-            disk.files.put(alloc, name.bytes(), None)
-        }
-        Event::Lock { name, token, .. } => {
-            if !whole || disk.locks.has(name.bytes()) {
-                return Ok(());
-            }
+        Event::Erase { name, .. } if whole => disk.files.put(alloc, name.bytes(), None),
+        Event::Lock { name, token, .. } if whole && !disk.locks.has(name.bytes()) => {
             disk.locks.put(alloc, name.bytes(), Some(*token))
         }
-        Event::Unlock { name, token, .. } => {
-            if !whole || !owns(disk, name.bytes(), *token) {
-                return Ok(());
-            }
+        Event::Unlock { name, token, .. } if whole && owns(disk, name.bytes(), *token) => {
             disk.locks.put(alloc, name.bytes(), None)
         }
-        Event::Foreign { step } => {
-            if !whole {
-                return Ok(());
-            }
-            effect_of_step(alloc, disk, step)
-        }
-        Event::In { .. } => Ok(()),
-        Event::Out { .. } => Ok(()),
-        Event::Load { .. } => Ok(()),
-        Event::Seize { .. } => Ok(()),
-        Event::Release { .. } => Ok(()),
+        Event::Foreign { step } if whole => effect_of_step(alloc, disk, step),
+        _ => Ok(()),
     }
 }
 

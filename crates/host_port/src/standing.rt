@@ -110,53 +110,40 @@ pub fn effect(alloc: Global, disk: &mut Standing, event: &Event) -> Result<(), M
     ensures err { OnErr result (disk.new ≡ disk.old) }
 {
     match event {
-        Event::In { .. } => Ok(()),
-        Event::Out { .. } => Ok(()),
-        Event::Load { .. } => Ok(()),
         Event::Stage { name, bytes, .. } => {
             write(alloc, &mut disk.files, name.bytes(), bytes.as_ref())
         }
-        Event::Publish { from, to, done, .. } => {
-            if !*done {
-                return Ok(());
-            }
-            rename(alloc, &mut disk.files, from.bytes(), to.bytes())
-        }
-        Event::Erase { name, done, .. } => {
-            if !*done {
-                return Ok(());
-            }
-            disk.files.put(alloc, name.bytes(), None)
-        }
+        Event::Publish {
+            from,
+            to,
+            done: true,
+            ..
+        } => rename(alloc, &mut disk.files, from.bytes(), to.bytes()),
+        Event::Erase {
+            name,
+            done: true,
+            ..
+        } => disk.files.put(alloc, name.bytes(), None),
         Event::Lock {
             name,
             token,
-            got,
+            got: true,
             ..
-        } => {
-            if !*got {
-                return Ok(());
-            }
-            disk.locks.put(alloc, name.bytes(), Some(*token))
-        }
-        Event::Unlock { name, done, .. } => {
-            if !*done {
-                return Ok(());
-            }
-            disk.locks.put(alloc, name.bytes(), None)
-        }
-        Event::Seize { name, got, .. } => {
-            if !*got {
-                return Ok(());
-            }
-            disk.rights.put(alloc, name.bytes(), Some(Holder::Own))
-        }
-        Event::Release { name } => {
-            if disk.rights.get(name.bytes()) != Some(&Holder::Own) {
-                return Ok(());
-            }
+        } => disk.locks.put(alloc, name.bytes(), Some(*token)),
+        Event::Unlock {
+            name,
+            done: true,
+            ..
+        } => disk.locks.put(alloc, name.bytes(), None),
+        Event::Seize {
+            name,
+            got: true,
+            ..
+        } => disk.rights.put(alloc, name.bytes(), Some(Holder::Own)),
+        Event::Release { name } if disk.rights.get(name.bytes()) == Some(&Holder::Own) => {
             disk.rights.put(alloc, name.bytes(), None)
         }
         Event::Foreign { step } => effect_of_step(alloc, disk, step),
+        _ => Ok(()),
     }
 }

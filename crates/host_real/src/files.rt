@@ -94,29 +94,34 @@ pub fn write_file<R: Files>(rt: &R, path: &str, bytes: &[u8]) -> Result<(), File
     Ok(sync_folder(rt, path)?)
 }
 
-/// Writes a file that isn't there yet. False where one is there, and then nothing changes. What was made is removed
-/// again where it could not be written whole.
-pub fn write_new<R: Files>(rt: &R, path: &str, bytes: &[u8]) -> Result<bool, FileError> {
-    let mut file = match File::create_new(rt, path) {
-        Ok(file) => file,
-        Err(error) if error.kind() == ErrorKind::AlreadyExists => return Ok(false),
-        Err(error) => return Err(FileError::from(error)),
-    };
-    match write_synced(&mut file, bytes) {
-        Ok(()) => {
-            sync_folder(rt, path)?;
-            Ok(true)
-        }
-        Err(error) => {
-            let _ = rt.remove_file(path);
-            Err(FileError::from(error))
-        }
+/// Makes a file that isn't there yet, whole from its first moment: it is written under another name and then linked into place. False
+/// where one is there, and then nothing changes. The other name is taken away again.
+pub fn write_new<R: Files>(
+    rt: &R,
+    path: &str,
+    aside: &str,
+    bytes: &[u8],
+) -> Result<bool, FileError> {
+    let made = linked(rt, path, aside, bytes);
+    let _ = rt.remove_file(aside);
+    if made? {
+        sync_folder(rt, path)?;
+        Ok(true)
+    } else {
+        Ok(false)
     }
 }
 
-fn write_synced<F: Write + OpenFile>(file: &mut F, bytes: &[u8]) -> Result<(), Error> {
+// Writes a file under one name, and gives it another too. False where one of that name is there.
+fn linked<R: Files>(rt: &R, path: &str, aside: &str, bytes: &[u8]) -> Result<bool, FileError> {
+    let mut file = File::create(rt, aside)?;
     file.write_all(bytes)?;
-    file.sync_all()
+    file.sync_all()?;
+    match rt.hard_link(aside, path) {
+        Ok(()) => Ok(true),
+        Err(error) if error.kind() == ErrorKind::AlreadyExists => Ok(false),
+        Err(error) => Err(FileError::from(error)),
+    }
 }
 
 /// Gives a file another name, in the place of what stood there. False where the file is absent.

@@ -27,11 +27,18 @@ pub fn look<R: Files>(rt: &R, alloc: Global, name: &[u8]) -> Result<LoadAnswer, 
     Ok(LoadAnswer { bytes, held })
 }
 
+// The name under which a lock is written before it is linked into place. No mailbox has such a name.
+fn aside_path(alloc: Global, path: &str, token: u64) -> Result<String, AllocError> {
+    format!(in alloc; "{path}.lock.mx{token:016x}")
+}
+
 /// Puts a lock on a name. False where one stands.
 pub fn lock<R: Files>(rt: &R, alloc: Global, name: &[u8], token: u64) -> Result<bool, FileError> {
-    let lock = lock_path(alloc, path_of(name)?)?;
+    let path = path_of(name)?;
+    let lock = lock_path(alloc, path)?;
+    let aside = aside_path(alloc, path, token)?;
     let text = token_text(alloc, token)?;
-    write_new(rt, lock.as_str(), text.as_bytes())
+    write_new(rt, lock.as_str(), aside.as_str(), text.as_bytes())
 }
 
 /// Takes the lock on a name away where it holds this token.
