@@ -73,6 +73,6 @@ passed-before j (Some bytes) is =
     let p = prepare-front j in
     let g = go-front j.token in
     cond-false _ _ _ (
-      ap (λ (bs : List ℕ). starts_with nat_eq bs (go_front j.token)) ((record_of-is bytes (prepare_of j) is).is ∙ p.1)
-      ∙ ap (starts_with nat_eq (codes "mailx-commit 1\nphase p" ++ p.0)) g.1
-      ∙ other_phase p.0 g.0)
+    ap (λ (bs : List ℕ). starts_with nat_eq bs (go_front j.token)) ((record_of-is bytes (prepare_of j) is).is ∙ p.1)
+    ∙ ap (starts_with nat_eq (codes "mailx-commit 1\nphase p" ++ p.0)) g.1
+    ∙ other_phase p.0 g.0)

@@ -21,7 +21,7 @@ use Rattle.folder_commit.specs.declared.error.CommitError.{CommitError}
 use Rattle.folder_commit.specs.declared.error.CommitError.TheVariants as error
 use Rattle.folder_commit.specs.Ends.{AnswersAs, Commits}
 use Rattle.folder_commit.specs.Commits.{IsOfOne, IsCommit}
-use Rattle.folder_commit.specs.Told.{saw_none, look_failed, is_unknown, TellsFaults, TellsUnknown, IsTold}
+use Rattle.folder_commit.specs.Told.{load_failed, look_failed, is_unknown, TellsFaults, TellsUnknown, IsTold}
 use Rattle.folder_commit.proofs.RunLemmas.{named-once}
 use Rattle.folder_commit.proofs.ToldLemmas.{load-is, publish-is, release-is, is_failed_end, is_bad, CleanThen, Clean, AsBad, refused_bad, step-bad, committing-bad, tells-faults, tells-end}
 
@@ -32,7 +32,7 @@ is_unknown_end a = false
 
 -- whether it comes to that, by the events that are left
 abbrev unknown_from : State → List Event → Bool
-unknown_from Checking es = saw_none es
+unknown_from Checking es = load_failed es
 unknown_from (Releasing a) es = is_unknown_end a
 unknown_from (Ended a) es = is_unknown_end a
 unknown_from s es = look_failed es
@@ -84,7 +84,7 @@ goes-by : (e : Event) (es : List Event) → is_failed e ≡ false → look_faile
 goes-by (event.Publish from to done true) es h = absurd (cc)
 goes-by e es h = refl
 
-after-fault : (e : Event) (es : List Event) → saw_none es ≡ false → look_failed es ≡ false → look_failed (e ∷ es) ≡ false
+after-fault : (e : Event) (es : List Event) → load_failed es ≡ false → look_failed es ≡ false → look_failed (e ∷ es) ≡ false
 after-fault (event.Publish from to done true) es p q = p
 after-fault e es p q = q
 
@@ -95,14 +95,14 @@ module _ (j : Job) where
   over a (e ∷ es) end (now, inl p, is, more) = absurd (subst (λ (s : State). IsNext (next j s) e) p is)
   over a (e ∷ es) end (now, inr p, is, more) = absurd (subst (λ (s : State). IsNext (next j s) e) p is)
 
-  release-alone : (a : Ending) (es : List Event) (end : Ending) → Goes j (Releasing a) es (Ended end) → (saw_none es ≡ false) × (look_failed es ≡ false)
+  release-alone : (a : Ending) (es : List Event) (end : Ending) → Goes j (Releasing a) es (Ended end) → (load_failed es ≡ false) × (look_failed es ≡ false)
   release-alone a [] end goes = (refl, refl)
   release-alone a (e ∷ es) end (now, from, is, more) =
       let at : now ≡ Releasing a = elim from [ inl p ↦ p | inr p ↦ p ] in
       let given : e ≡ event.Release (right_name j.actor) = release-is (right_name j.actor) e (subst (λ (s : State). IsNext (next j s) e) at is) in
       let there : Goes j (after_reply j (Releasing a) (reply e)) es (Ended end) = subst (λ (s : State). Goes j (after_reply j s (reply e)) es (Ended end)) at more in
       let none = over a es end (subst (λ (x : Event). Goes j (after_reply j (Releasing a) (reply x)) es (Ended end)) given there) in
-      (ap (λ (x : Event). saw_none (x ∷ es)) given, ap (λ (x : Event). look_failed (x ∷ es)) given ∙ ap look_failed none)
+      (ap (λ (x : Event). load_failed (x ∷ es)) given, ap (λ (x : Event). look_failed (x ∷ es)) given ∙ ap look_failed none)
 
   -- a state where no call has failed
   as-looks : (s : State) → is_bad s ≡ false → (es : List Event) (end : Ending) → Goes j s es (Ended end) → unknown_from s es ≡ look_failed es
@@ -126,7 +126,7 @@ module _ (j : Job) where
       go true = refl
       go false = refl
 
-  checking-looks : (m : List ℕ) (s : Seen) (es : List Event) → saw_none (event.Load m s ∷ es) ≡ unknown_from (after_reply j Checking (reply (event.Load m s))) es
+  checking-looks : (m : List ℕ) (s : Seen) (es : List Event) → load_failed (event.Load m s ∷ es) ≡ unknown_from (after_reply j Checking (reply (event.Load m s))) es
   checking-looks m (seen.Bytes c held) es = sym (seen-known c)
   checking-looks m (seen.TooLarge n) es = refl
   checking-looks m seen.Failed es = refl

@@ -75,16 +75,16 @@ is_fault result = false
 abbrev pub TellsFaults : List Event → Result Unit CommitError → Type 0
 TellsFaults es result = list_any is_failed es ≡ is_fault result
 
--- what follows at once is a load that saw no bytes
-abbrev pub saw_none : List Event → Bool
-saw_none (Load n (seen.Bytes c held) ∷ es) = false
-saw_none (Load n s ∷ es) = true
-saw_none es = false
+-- what follows at once is a load that didn't see what stands: it failed, wanted memory, or met too many bytes
+abbrev pub load_failed : List Event → Bool
+load_failed (Load n (seen.Bytes c held) ∷ es) = false
+load_failed (Load n s ∷ es) = true
+load_failed es = false
 
--- a publication failed, and the load that followed saw no bytes; no publication but the decision's is followed by a load where it fails
+-- a publication failed, and so did the load that followed; no publication but the decision's is followed by a load where it fails
 abbrev pub look_failed : List Event → Bool
 look_failed [] = false
-look_failed (Publish from to done true ∷ es) = saw_none es
+look_failed (Publish from to done true ∷ es) = load_failed es
 look_failed (e ∷ es) = look_failed es
 
 -- the answer says that it isn't known whether the decision was passed

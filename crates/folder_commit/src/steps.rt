@@ -29,7 +29,7 @@ use mail_text::Text;
 use mbox_scan::Folder;
 use std::alloc::Global;
 
-/// The bytes of the first three lines of a record, which tell its phase and its token.
+/// The bytes of the first three lines of a decision's text, which tell phase and token.
 const FRONT: usize = 47;
 
 // Whether what stands as the record is that of the decision, by the front of the decision's text.
