@@ -22,7 +22,7 @@ marked rows k mark = option_map_or (λ row. slice_set rows k (record row { mark 
 
 -- how many rows a block has
 abbrev pub block_size : ℕ
-block_size = 256
+block_size = 1024
 
 -- the flag of a block, false where there is none
 abbrev pub flag_at : List Bool → ℕ → Bool

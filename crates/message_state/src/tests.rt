@@ -309,17 +309,17 @@ fn rows_with(alloc: Global, count: usize, live: &[usize]) -> Result<RowList, Mem
 fn live_rows_are_found(rt: HostRuntime) -> Result<(), Fail> {
     let cases: [(&[usize], usize, Option<usize>, Option<usize>); 9] = [
         (&[], 0, None, None),
-        (&[], 700, None, None),
+        (&[], 2_100, None, None),
         (&[0], 0, Some(0), None),
         (&[0], 1, None, Some(0)),
-        (&[3, 699], 4, Some(699), Some(3)),
-        (&[3, 699], 700, None, Some(699)),
-        (&[255, 256], 256, Some(256), Some(255)),
-        (&[512], 100, Some(512), None),
-        (&[511], 9_000, None, Some(511)),
+        (&[3, 2_099], 4, Some(2_099), Some(3)),
+        (&[3, 2_099], 2_100, None, Some(2_099)),
+        (&[1_023, 1_024], 1_024, Some(1_024), Some(1_023)),
+        (&[2_048], 100, Some(2_048), None),
+        (&[2_047], 9_000, None, Some(2_047)),
     ];
     for (live, from, next, previous) in cases {
-        let list = rows_with(rt.alloc(), 700, live)?;
+        let list = rows_with(rt.alloc(), 2_100, live)?;
         assert_eq!(rt; list.next_live(from), next, "from {from} of {live:?}");
         assert_eq!(rt;
             list.previous_live(from),
