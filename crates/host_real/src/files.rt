@@ -99,11 +99,14 @@ pub fn write_file<R: Files>(rt: &R, path: &str, bytes: &[u8]) -> Result<(), File
 pub fn write_new<R: Files>(
     rt: &R,
     path: &str,
-    aside: &str,
+    beside: &str,
     bytes: &[u8],
 ) -> Result<bool, FileError> {
-    let made = linked(rt, path, aside, bytes);
-    let _ = rt.remove_file(aside);
+    // What a stopped run left there may be linked already, so that it isn't written over.
+    let _ = rt.remove_file(beside);
+    let mut file = File::create_new(rt, beside)?;
+    let made = linked(rt, &mut file, beside, path, bytes);
+    let _ = rt.remove_file(beside);
     if made? {
         sync_folder(rt, path)?;
         Ok(true)
@@ -112,15 +115,20 @@ pub fn write_new<R: Files>(
     }
 }
 
-// Writes a file under one name, and gives it another too. False where one of that name is there.
-fn linked<R: Files>(rt: &R, path: &str, aside: &str, bytes: &[u8]) -> Result<bool, FileError> {
-    let mut file = File::create(rt, aside)?;
+// Writes a new file, and gives it another name too. False where a file of that name is there.
+fn linked<R: Files, F: Write + OpenFile>(
+    rt: &R,
+    file: &mut F,
+    beside: &str,
+    path: &str,
+    bytes: &[u8],
+) -> Result<bool, Error> {
     file.write_all(bytes)?;
     file.sync_all()?;
-    match rt.hard_link(aside, path) {
+    match rt.hard_link(beside, path) {
         Ok(()) => Ok(true),
         Err(error) if error.kind() == ErrorKind::AlreadyExists => Ok(false),
-        Err(error) => Err(FileError::from(error)),
+        Err(error) => Err(error),
     }
 }
 

@@ -28,7 +28,7 @@ pub fn look<R: Files>(rt: &R, alloc: Global, name: &[u8]) -> Result<LoadAnswer, 
 }
 
 // The name under which a lock is written before it is linked into place. No mailbox has such a name.
-fn aside_path(alloc: Global, path: &str, token: u64) -> Result<String, AllocError> {
+fn beside_path(alloc: Global, path: &str, token: u64) -> Result<String, AllocError> {
     format!(in alloc; "{path}.lock.mx{token:016x}")
 }
 
@@ -36,9 +36,9 @@ fn aside_path(alloc: Global, path: &str, token: u64) -> Result<String, AllocErro
 pub fn lock<R: Files>(rt: &R, alloc: Global, name: &[u8], token: u64) -> Result<bool, FileError> {
     let path = path_of(name)?;
     let lock = lock_path(alloc, path)?;
-    let aside = aside_path(alloc, path, token)?;
+    let beside = beside_path(alloc, path, token)?;
     let text = token_text(alloc, token)?;
-    write_new(rt, lock.as_str(), aside.as_str(), text.as_bytes())
+    write_new(rt, lock.as_str(), beside.as_str(), text.as_bytes())
 }
 
 /// Takes the lock on a name away where it holds this token.
