@@ -20,3 +20,4 @@ pub mod WorkedLemmas
 pub mod ToldLemmas
 pub mod GoesLemmas
 pub mod EditLemmas
+mod RestraintLemmas

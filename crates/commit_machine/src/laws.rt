@@ -1,5 +1,6 @@
 ghost use Rattle.commit_machine.specs.Laws.{CrashSafe, FrontIsRun, StretchesJoin, StopSafe, OnlyDecisions, DecisionsApply, NothingLeft, NoRecordStands, RecoverySettles, DecisionsAreTold};
 ghost use Rattle.commit_machine.specs.Edits.{EditsAreChanges};
+ghost use Rattle.commit_machine.specs.Restraints.{RightIsGivenUp};
 ghost use Rattle.commit_machine.specs.Worked.{AloneGoes, WorkedRuns};
 
 /// At every moment of a commit or a recovery, whatever others lawfully do meanwhile, what recovery
@@ -53,6 +54,11 @@ pub fn recovery_settles()
 /// recovers was never decided. One that failed says whether it was, or that it doesn't know.
 pub fn decisions_are_told()
     ensures { DecisionsAreTold }
+{}
+
+/// A run that ends has given up its right.
+pub fn right_is_given_up()
+    ensures { RightIsGivenUp }
 {}
 
 /// The edits of changes make of files what the changes, one after the other, make of them, where each
