@@ -21,3 +21,5 @@ pub mod ToldLemmas
 pub mod GoesLemmas
 pub mod EditLemmas
 mod RestraintLemmas
+mod FaultLemmas
+mod RefusalLemmas

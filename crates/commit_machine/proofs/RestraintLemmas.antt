@@ -109,7 +109,7 @@ module _ (Q : Disk → Type 0) (j : Job) (d : Disk) where
   fair_refused (Committing made) k = fair_undoing (prepare_of j) (all_of j) (all_of j) (Answer NoMemory)
   fair_refused s k = k
 
-  fair_now : (s now : State) → (now ≡ s) ⊎ (now ≡ refused j s) → Fair Q j s d → Fair Q j now d
+  pub fair_now : (s now : State) → (now ≡ s) ⊎ (now ≡ refused j s) → Fair Q j s d → Fair Q j now d
   fair_now s now (inl p) k = subst (λ (z : State). Fair Q j z d) (sym p) k
   fair_now s now (inr p) k = subst (λ (z : State). Fair Q j z d) (sym p) (fair_refused s k)
 

@@ -1,6 +1,6 @@
 ghost use Rattle.commit_machine.specs.Laws.{CrashSafe, FrontIsRun, StretchesJoin, StopSafe, OnlyDecisions, DecisionsApply, NothingLeft, NoRecordStands, RecoverySettles, DecisionsAreTold};
 ghost use Rattle.commit_machine.specs.Edits.{EditsAreChanges};
-ghost use Rattle.commit_machine.specs.Restraints.{RightIsGivenUp};
+ghost use Rattle.commit_machine.specs.Restraints.{RightIsGivenUp, NothingAfterAFault, NoRefusedIsDecided};
 ghost use Rattle.commit_machine.specs.Worked.{AloneGoes, WorkedRuns};
 
 /// At every moment of a commit or a recovery, whatever others lawfully do meanwhile, what recovery
@@ -59,6 +59,17 @@ pub fn decisions_are_told()
 /// A run that ends has given up its right.
 pub fn right_is_given_up()
     ensures { RightIsGivenUp }
+{}
+
+/// After a failed call a run changes no file and no lock, and takes no right.
+pub fn nothing_after_a_fault()
+    ensures { NothingAfterAFault }
+{}
+
+/// A job is decided only where it isn't refused, judged on its files as they are due just before the
+/// decision.
+pub fn no_refused_is_decided()
+    ensures { NoRefusedIsDecided }
 {}
 
 /// The edits of changes make of files what the changes, one after the other, make of them, where each
