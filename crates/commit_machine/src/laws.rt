@@ -84,7 +84,9 @@ pub fn alone_goes()
 {}
 
 /// A commit of one file has thirteen events, the ninth the decision, and one of two files eighteen.
-/// A recovery carries out a record that was decided, and undoes one that wasn't.
+/// A recovery carries out a record that was decided, and undoes one that wasn't. A commit does the same
+/// first where a record stands; where it finds its second file busy, it undoes what it did. Others may
+/// work meanwhile: there is a run among lawful steps.
 pub fn worked_runs()
     ensures { WorkedRuns }
 {}
