@@ -67,7 +67,7 @@ module _ (actor : List ℕ) (f : Files) where
       ∙ ap (λ (z : Option (List ℕ)). put_in (kind_of g n) z (renamed f (new_name actor) (record_name actor) (staged_name g.token n))) (moved_file n plain)
       ∙ ap (put_in (kind_of g n) (f n)) (moved_staged g.token n)
 
-  commit_before : (q : Record) (n : List ℕ) → record_in (f (record_name actor)) ≡ Some q → is_go q ≡ false → is_record_name actor n ≡ false → is_lawful n ≡ true → settled actor f n ≡ f n
+  pub commit_before : (q : Record) (n : List ℕ) → record_in (f (record_name actor)) ≡ Some q → is_go q ≡ false → is_record_name actor n ≡ false → is_lawful n ≡ true → settled actor f n ≡ f n
   commit_before q n e go plain law =
       settled_at actor f n (Some q) e ∙ rw (not_hidden actor q n plain law) refl ∙ placed-prepare q f n go
 

@@ -9,3 +9,4 @@ pub mod Due
 pub mod Edits
 pub mod Laws
 pub mod Worked
+pub mod Restraints

@@ -7,16 +7,18 @@ use Rattle.commit_record.specs.declared.record.Phase.TheVariants.{Prepare, Go}
 use Rattle.commit_record.specs.declared.record.EntryKind.TheVariants.{Replace}
 use Rattle.commit_record.specs.declared.record.Record.{Record}
 use Rattle.host_port.specs.declared.event.Event.{Event}
-use Rattle.host_port.specs.declared.event.Event.TheVariants.{Load, Stage, Publish, Erase, Lock, Unlock, Seize, Release}
+use Rattle.host_port.specs.declared.event.Event.TheVariants.{Load, Stage, Publish, Erase, Lock, Unlock, Seize, Release, Foreign}
+use Rattle.host_port.specs.declared.event.ForeignStep.TheVariants as step
 use Rattle.host_port.specs.declared.event.Seen.TheVariants.{Bytes}
-use Rattle.host_port.specs.Disk.{Disk, after, disk}
+use Rattle.host_port.specs.Disk.{Disk, after, after_step, disk}
 use Rattle.host_port.specs.Ends.{carried_out}
 use Rattle.host_port.specs.Ran.{Honest}
 use Rattle.commit_machine.specs.Names.{record_name, new_name, right_name, staged_name}
-use Rattle.commit_machine.specs.Jobs.{Puts, Edit, Job, entries_for}
-use Rattle.commit_machine.specs.Machine.{State, Seizing, Call, ToLoad, ToStage, ToPublish, ToErase, ToLock, ToUnlock, ToSeize, ToRelease, next, after_reply}
+use Rattle.commit_machine.specs.Jobs.{Nothing, RolledBack, Finished, Busy, Ending, Done, Recovered, Refused, Puts, Edit, Job, entries_for}
+use Rattle.commit_machine.specs.Machine.{State, Seizing, Ended, Call, ToLoad, ToStage, ToPublish, ToErase, ToLock, ToUnlock, ToSeize, ToRelease, next, after_reply}
 use Rattle.commit_machine.specs.Goes.{reply, Goes}
 use Rattle.commit_machine.specs.Due.{is_decision}
+use Rattle.commit_machine.specs.Laws.{IsRun}
 
 -- the event of a call that is carried out on a disk
 abbrev pub carried : Disk → Call → Event
@@ -34,9 +36,18 @@ abbrev pub alone : ℕ → Job → State → Disk → List Event
 alone zero j s d = []
 alone (suc k) j s d = elim (next j s) [ None ↦ [] | Some c ↦ carried d c ∷ alone k j (after_reply j s (reply (carried d c))) (after d (carried d c)) ]
 
+-- the state that those events lead to
+abbrev pub alone_last : ℕ → Job → State → Disk → State
+alone_last zero j s d = s
+alone_last (suc k) j s d = elim (next j s) [ None ↦ s | Some c ↦ alone_last k j (after_reply j s (reply (carried d c))) (after d (carried d c)) ]
+
 -- such events are a run's: the machine's next calls, each saying what is so
 abbrev pub AloneGoes : Type 0
-AloneGoes = (k : ℕ) (j : Job) (s : State) (d : Disk) → (last : State) × Goes j s (alone k j s d) last × Honest d (alone k j s d)
+AloneGoes = (k : ℕ) (j : Job) (s : State) (d : Disk) → Goes j s (alone k j s d) (alone_last k j s d) × Honest d (alone k j s d)
+
+-- alone on a disk, a job makes these events and ends so
+abbrev pub Makes : Job → Disk → List Event → Ending → Type 0
+Makes j d es end = (alone 30 j Seizing d ≡ es) × (alone_last 30 j Seizing d ≡ Ended end)
 
 abbrev pub home : List ℕ
 home = codes "/h/.mailx"
@@ -148,11 +159,98 @@ recovery_of_undecided =
     ∷ Release (right_name home)
     ∷ []
 
+-- the lock of another stands on the second file
+abbrev pub busy_second : Disk
+busy_second = after_step nothing (step.Lock out 9)
+
+-- a commit of two files that finds the second busy undoes what it did to the first
+abbrev pub commit_of_busy : List Event
+commit_of_busy =
+    Seize (right_name home) true false
+    ∷ Load (record_name home) (Bytes None false)
+    ∷ Stage (new_name home) (Some (written (record_for Prepare (mbox ∷ out ∷ [])))) false
+    ∷ Publish (new_name home) (record_name home) true false
+    ∷ Lock mbox 1 true false
+    ∷ Lock out 1 false false
+    ∷ Unlock mbox 1 true false
+    ∷ Erase (record_name home) true false
+    ∷ Release (right_name home)
+    ∷ []
+
+abbrev pub later : Job
+later = record { actor = home; token = 2; edits = Some (becomes out (codes "z") ∷ []); refusal = λ files. None }
+
+abbrev pub later_record : Phase → Record
+later_record phase = record { phase = phase; token = 2; entries = entries_for (λ n. Replace) (out ∷ []) }
+
+-- a commit over a record that was decided carries that one out first
+abbrev pub commit_over_decided : List Event
+commit_over_decided =
+    Seize (right_name home) true false
+    ∷ Load (record_name home) (Bytes (Some (written (record_for Go (mbox ∷ out ∷ [])))) false)
+    ∷ Publish (staged_name 1 mbox) mbox false false
+    ∷ Publish (staged_name 1 out) out true false
+    ∷ Unlock mbox 1 true false
+    ∷ Unlock out 1 true false
+    ∷ Erase (record_name home) true false
+    ∷ Erase (new_name home) true false
+    ∷ Stage (new_name home) (Some (written (later_record Prepare))) false
+    ∷ Publish (new_name home) (record_name home) true false
+    ∷ Lock out 2 true false
+    ∷ Load out (Bytes (Some (codes "y")) true)
+    ∷ Stage (staged_name 2 out) (Some (codes "z")) false
+    ∷ Stage (new_name home) (Some (written (later_record Go))) false
+    ∷ Publish (new_name home) (record_name home) true false
+    ∷ Publish (staged_name 2 out) out true false
+    ∷ Unlock out 2 true false
+    ∷ Erase (record_name home) true false
+    ∷ Release (right_name home)
+    ∷ []
+
+abbrev pub box : List ℕ
+box = codes "/h/box"
+
+-- the right of another actor
+abbrev pub other_right : List ℕ
+other_right = codes "/g/.mailx.right"
+
+-- the commit of two files, while another takes and gives up its own right, and locks, writes, appends to and unlocks a file
+abbrev pub commit_among_others : List Event
+commit_among_others =
+    Seize (right_name home) true false
+    ∷ Foreign (step.Seize other_right)
+    ∷ Load (record_name home) (Bytes None false)
+    ∷ Stage (new_name home) (Some (written (record_for Prepare (mbox ∷ out ∷ [])))) false
+    ∷ Publish (new_name home) (record_name home) true false
+    ∷ Foreign (step.Lock box 7)
+    ∷ Lock mbox 1 true false
+    ∷ Lock out 1 true false
+    ∷ Foreign (step.Write box (codes "a"))
+    ∷ Load mbox (Bytes None true)
+    ∷ Load out (Bytes None true)
+    ∷ Stage (staged_name 1 mbox) (Some (codes "x")) false
+    ∷ Stage (staged_name 1 out) (Some (codes "y")) false
+    ∷ Stage (new_name home) (Some (written (record_for Go (mbox ∷ out ∷ [])))) false
+    ∷ Publish (new_name home) (record_name home) true false
+    ∷ Foreign (step.Write box (codes "ab"))
+    ∷ Publish (staged_name 1 mbox) mbox true false
+    ∷ Foreign (step.Unlock box 7)
+    ∷ Publish (staged_name 1 out) out true false
+    ∷ Foreign (step.Release other_right)
+    ∷ Unlock mbox 1 true false
+    ∷ Unlock out 1 true false
+    ∷ Erase (record_name home) true false
+    ∷ Release (right_name home)
+    ∷ []
+
 -- the worked runs are those that the machine makes
 pub record WorkedRuns : Type 0 where
-  pub one : alone 20 one_file Seizing nothing ≡ commit_of_one
+  pub one : Makes one_file nothing commit_of_one Done
   pub ninth : is_decision one_file (Publish (new_name home) (record_name home) true false) (disk nothing (take 8 commit_of_one)) ≡ true
-  pub two : alone 20 two_files Seizing nothing ≡ commit_of_two
-  pub none : alone 20 recovery Seizing nothing ≡ recovery_of_none
-  pub decided : alone 20 recovery Seizing (stopped_at 13) ≡ recovery_of_decided
-  pub undecided : alone 20 recovery Seizing (stopped_at 11) ≡ recovery_of_undecided
+  pub two : Makes two_files nothing commit_of_two Done
+  pub none : Makes recovery nothing recovery_of_none (Recovered Nothing)
+  pub decided : Makes recovery (stopped_at 13) recovery_of_decided (Recovered Finished)
+  pub undecided : Makes recovery (stopped_at 11) recovery_of_undecided (Recovered RolledBack)
+  pub busy : Makes two_files busy_second commit_of_busy (Refused (Busy out))
+  pub over_decided : Makes later (stopped_at 13) commit_over_decided Done
+  pub among_others : IsRun two_files nothing commit_among_others (Ended Done)

@@ -1,5 +1,6 @@
 ghost use Rattle.commit_machine.specs.Laws.{CrashSafe, FrontIsRun, StretchesJoin, StopSafe, OnlyDecisions, DecisionsApply, NothingLeft, NoRecordStands, RecoverySettles, DecisionsAreTold};
 ghost use Rattle.commit_machine.specs.Edits.{EditsAreChanges};
+ghost use Rattle.commit_machine.specs.Restraints.{RightIsGivenUp, NothingAfterAFault, NoRefusedIsDecided};
 ghost use Rattle.commit_machine.specs.Worked.{AloneGoes, WorkedRuns};
 
 /// At every moment of a commit or a recovery, whatever others lawfully do meanwhile, what recovery
@@ -55,6 +56,22 @@ pub fn decisions_are_told()
     ensures { DecisionsAreTold }
 {}
 
+/// A run that ends has given up its right.
+pub fn right_is_given_up()
+    ensures { RightIsGivenUp }
+{}
+
+/// After a failed call a run changes no file and no lock, and takes no right.
+pub fn nothing_after_a_fault()
+    ensures { NothingAfterAFault }
+{}
+
+/// A job is decided only where it isn't refused, judged on its files as they are due just before the
+/// decision.
+pub fn no_refused_is_decided()
+    ensures { NoRefusedIsDecided }
+{}
+
 /// The edits of changes make of files what the changes, one after the other, make of them, where each
 /// file that they name stands afterwards.
 pub fn edits_are_changes()
@@ -67,7 +84,9 @@ pub fn alone_goes()
 {}
 
 /// A commit of one file has thirteen events, the ninth the decision, and one of two files eighteen.
-/// A recovery carries out a record that was decided, and undoes one that wasn't.
+/// A recovery carries out a record that was decided, and undoes one that wasn't. A commit does the same
+/// first where a record stands; where it finds its second file busy, it undoes what it did. Others may
+/// work meanwhile: there is a run among lawful steps.
 pub fn worked_runs()
     ensures { WorkedRuns }
 {}

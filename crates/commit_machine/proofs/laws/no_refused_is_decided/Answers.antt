@@ -1,0 +1,5 @@
+use Rattle.commit_machine.proofs.RefusalLemmas.{no_refused_is_decided}
+use Rattle.commit_machine.proofs.laws.no_refused_is_decided.Goals as goal
+
+pub returns : goal.returns
+returns c = no_refused_is_decided

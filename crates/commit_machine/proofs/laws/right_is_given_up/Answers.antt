@@ -1,0 +1,5 @@
+use Rattle.commit_machine.proofs.RestraintLemmas.{right_is_given_up}
+use Rattle.commit_machine.proofs.laws.right_is_given_up.Goals as goal
+
+pub returns : goal.returns
+returns c = right_is_given_up
