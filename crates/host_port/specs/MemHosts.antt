@@ -1,14 +1,17 @@
 -- What a host in memory means.
-use Rattle.std.specs.Prelude.{◌≡◌, Bool, true, false, List, is_some}
+use Rattle.std.specs.Prelude.{◌≡◌, ℕ, Bool, true, false, List, [], is_some, min, take, drop}
 use Rattle.std.specs.declared.option.Option.{Option}
 use Rattle.std.specs.declared.option.Option.TheVariants.{Some, None}
 use Rattle.host_port.specs.declared.event.Event.{Event}
+use Rattle.host_port.specs.declared.event.Event.TheVariants.{Out}
+use Rattle.host_port.specs.declared.event.Plan.{Plan}
 use Rattle.host_port.specs.declared.memory.MemHost.{MemHost}
 use Rattle.host_port.specs.Disk.{Disk}
 use Rattle.host_port.specs.Calls.{Counts}
 use Rattle.host_port.specs.Plans.{AddsPlanned}
 use Rattle.host_port.specs.Views.{disk_of, part_at, next_call, steps_before, AddsOne}
 use Rattle.host_port.specs.declared.event.Part.{Part}
+use Rattle.host_port.specs.declared.event.Part.TheVariants.{Before, After, Bytes, Nothing}
 use Rattle.std.specs.declared.result.Result.{Result}
 use Rattle.std.specs.declared.result.Result.TheVariants.{Err}
 use Rattle.host_port.specs.declared.event.LoadAnswer.{LoadAnswer}
@@ -55,3 +58,45 @@ pub record IsDoneAsPlanned (old new : MemHost) (whole : Event) (part : Option Pa
 -- the part that the plan has for the next call
 abbrev pub next_part : MemHost → Option Part
 next_part m = part_at m.plan.fails (next_call m.calls)
+
+-- what is left of the input
+abbrev pub input_left : MemHost → List ℕ
+input_left m = drop m.at m.input
+
+-- the next bytes of the input, for which a buffer of so many bytes and one chunk have room
+abbrev pub next_input : MemHost → ℕ → List ℕ
+next_input m room = take (min room m.plan.chunk) (input_left m)
+
+-- a host that was called by nobody yet
+pub record IsUncalled (input : List ℕ) (plan : Plan) (m : MemHost) : Type 0 where
+  pub plan_is : m.plan ≡ plan
+  pub calls : m.calls ≡ 0
+  pub input_is : input_left m ≡ input
+  pub counts : host_counts m ≡ record { ins = 0; outs = 0; disks = 0; children = 0 }
+
+-- what goes out of an output: all of it, or where it fails what the plan says, all or nothing
+abbrev pub sent : Option Part → List ℕ → List ℕ
+sent None bytes = bytes
+sent (Some After) bytes = bytes
+sent (Some Before) bytes = []
+sent (Some Nothing) bytes = []
+sent (Some (Bytes left)) bytes = []
+
+-- While the host tells its trace after an output, its own event says what went out by the plan.
+abbrev pub SaysAsPlanned : MemHost → MemHost → List ℕ → Bool → Type 0
+SaysAsPlanned old new bytes failed = (trace : List Event) → host_told new ≡ Some trace → AddsOne old.tape.trace.items trace (steps_before old.plan.foreign (next_call old.calls)) (Out (sent (next_part old) bytes) failed)
+
+-- a count after a call: greater exactly where the call failed
+abbrev pub counted : Bool → ℕ → ℕ
+counted true n = next_call n
+counted false n = n
+
+-- the counts after a call of each kind
+abbrev pub after_input : Bool → Counts → Counts
+after_input failed c = record c { ins = counted failed c.ins }
+
+abbrev pub after_output : Bool → Counts → Counts
+after_output failed c = record c { outs = counted failed c.outs }
+
+abbrev pub after_disk : Bool → Counts → Counts
+after_disk failed c = record c { disks = counted failed c.disks }

@@ -1,5 +1,5 @@
 // A host in memory, which tells its trace.
-ghost use Rattle.std.specs.Prelude.{◌≡◌, ◌<◌, ◌≤◌, ◌+◌, ◌++◌, ◌∷◌, [], List, Some, None, true, false, length, IfOk, OnErr, is_err, IsTrue, ◌↔◌};
+ghost use Rattle.std.specs.Prelude.{◌≡◌, ◌<◌, ◌≤◌, ◌+◌, ◌++◌, ◌∷◌, [], List, Some, None, true, false, length, take, drop, IfOk, OnErr, is_err, IsTrue, ◌↔◌};
 ghost use Rattle.host_port.specs.Disk.{disk};
 ghost use Rattle.host_port.specs.Ends.{stopped};
 ghost use Rattle.host_port.specs.Names.{IsFileName};
@@ -40,13 +40,14 @@ pub struct MemHost {
 }
 
 impl MemHost {
-    ghost use Rattle.host_port.specs.MemHosts.{host_told, host_start};
+    ghost use Rattle.host_port.specs.MemHosts.{host_told, host_start, IsUncalled};
 
     /// A host whose disk is the view, with no event so far.
     pub fn new(alloc: Global, view: DiskView, input: Text, plan: Plan) -> Result<MemHost, Memory>
         requires { 1 ≤ plan.chunk }
         ensures told { IfOk result (λ m. host_told m ≡ Some []) }
         ensures start { IfOk result (λ m. host_start m ≡ disk_of view.files view.locks) }
+        ensures uncalled { IfOk result (IsUncalled input plan) }
     {
         let files = copy_files(alloc, view.files.items())?;
         let locks = copy_locks(alloc, view.locks.items())?;
@@ -105,7 +106,7 @@ impl MemHost {
 }
 
 impl Host for MemHost {
-    ghost use Rattle.host_port.specs.MemHosts.{host_told, host_start, host_counts, is_failed_load, next_part, IsAsPlanned, IsDoneAsPlanned};
+    ghost use Rattle.host_port.specs.MemHosts.{host_told, host_start, host_counts, is_failed_load, next_part, input_left, next_input, after_input, after_output, after_disk, IsAsPlanned, IsDoneAsPlanned, SaysAsPlanned};
 
     ghost start = { host_start };
 
@@ -121,6 +122,10 @@ impl Host for MemHost {
         ensures counts { NeverFall (host_counts self.old) (host_counts self.new) }
         ensures cause { OnErr result (Rose (host_counts self.old).ins (host_counts self.new).ins) }
         ensures planned { IsAsPlanned self.old self.new (is_err result) }
+        ensures given { IfOk result (λ n. take n buf.new ≡ next_input self.old (length buf.old)) }
+        ensures left { IfOk result (λ n. input_left self.new ≡ drop n (input_left self.old)) }
+        ensures kept { OnErr result (input_left self.new ≡ input_left self.old) }
+        ensures counted { host_counts self.new ≡ after_input (is_err result) (host_counts self.old) }
     {
         self.calls = self.calls.saturating_add(1);
         let fails = failing(self.plan.fails.items(), self.calls).is_some();
@@ -157,6 +162,9 @@ impl Host for MemHost {
         ensures counts { NeverFall (host_counts self.old) (host_counts self.new) }
         ensures cause { OnErr result (Rose (host_counts self.old).outs (host_counts self.new).outs) }
         ensures planned { IsAsPlanned self.old self.new (is_err result) }
+        ensures sent { SaysAsPlanned self.old self.new bytes.now (is_err result) }
+        ensures kept { input_left self.new ≡ input_left self.old }
+        ensures counted { host_counts self.new ≡ after_output (is_err result) (host_counts self.old) }
     {
         self.calls = self.calls.saturating_add(1);
         let part = failing(self.plan.fails.items(), self.calls);
@@ -193,6 +201,8 @@ impl Host for MemHost {
         ensures counts { NeverFall (host_counts self.old) (host_counts self.new) }
         ensures cause { LoadCause (host_counts self.old).disks (host_counts self.new).disks result }
         ensures planned { IsAsPlanned self.old self.new (is_failed_load result) }
+        ensures kept { input_left self.new ≡ input_left self.old }
+        ensures counted { host_counts self.new ≡ after_disk (is_failed_load result) (host_counts self.old) }
     {
         self.calls = self.calls.saturating_add(1);
         if self.lost {
@@ -238,6 +248,8 @@ impl Host for MemHost {
         ensures counts { NeverFall (host_counts self.old) (host_counts self.new) }
         ensures cause { OnErr result (Rose (host_counts self.old).disks (host_counts self.new).disks) }
         ensures planned { IsDoneAsPlanned self.old self.new (event.Stage name.now (Some bytes.now) false) (next_part self.old) (is_err result) }
+        ensures kept { input_left self.new ≡ input_left self.old }
+        ensures counted { host_counts self.new ≡ after_disk (is_err result) (host_counts self.old) }
     {
         self.calls = self.calls.saturating_add(1);
         if !self.lost {
@@ -266,6 +278,8 @@ impl Host for MemHost {
         ensures counts { NeverFall (host_counts self.old) (host_counts self.new) }
         ensures cause { OnErr result (Rose (host_counts self.old).disks (host_counts self.new).disks) }
         ensures planned { IsDoneAsPlanned self.old self.new (event.Publish from.now to.now true false) (next_part self.old) (is_err result) }
+        ensures kept { input_left self.new ≡ input_left self.old }
+        ensures counted { host_counts self.new ≡ after_disk (is_err result) (host_counts self.old) }
     {
         self.calls = self.calls.saturating_add(1);
         if !self.lost {
@@ -286,6 +300,8 @@ impl Host for MemHost {
         ensures counts { NeverFall (host_counts self.old) (host_counts self.new) }
         ensures cause { OnErr result (Rose (host_counts self.old).disks (host_counts self.new).disks) }
         ensures planned { IsDoneAsPlanned self.old self.new (event.Erase name.now true false) (next_part self.old) (is_err result) }
+        ensures kept { input_left self.new ≡ input_left self.old }
+        ensures counted { host_counts self.new ≡ after_disk (is_err result) (host_counts self.old) }
     {
         self.calls = self.calls.saturating_add(1);
         if !self.lost {
@@ -306,6 +322,8 @@ impl Host for MemHost {
         ensures counts { NeverFall (host_counts self.old) (host_counts self.new) }
         ensures cause { OnErr result (Rose (host_counts self.old).disks (host_counts self.new).disks) }
         ensures planned { IsDoneAsPlanned self.old self.new (event.Lock name.now token true false) (next_part self.old) (is_err result) }
+        ensures kept { input_left self.new ≡ input_left self.old }
+        ensures counted { host_counts self.new ≡ after_disk (is_err result) (host_counts self.old) }
     {
         self.calls = self.calls.saturating_add(1);
         if !self.lost {
@@ -333,6 +351,8 @@ impl Host for MemHost {
         ensures counts { NeverFall (host_counts self.old) (host_counts self.new) }
         ensures cause { OnErr result (Rose (host_counts self.old).disks (host_counts self.new).disks) }
         ensures planned { IsDoneAsPlanned self.old self.new (event.Unlock name.now token true false) (next_part self.old) (is_err result) }
+        ensures kept { input_left self.new ≡ input_left self.old }
+        ensures counted { host_counts self.new ≡ after_disk (is_err result) (host_counts self.old) }
     {
         self.calls = self.calls.saturating_add(1);
         if !self.lost {
@@ -360,6 +380,8 @@ impl Host for MemHost {
         ensures counts { NeverFall (host_counts self.old) (host_counts self.new) }
         ensures cause { OnErr result (Rose (host_counts self.old).disks (host_counts self.new).disks) }
         ensures planned { IsDoneAsPlanned self.old self.new (event.Seize name.now true false) (next_part self.old) (is_err result) }
+        ensures kept { input_left self.new ≡ input_left self.old }
+        ensures counted { host_counts self.new ≡ after_disk (is_err result) (host_counts self.old) }
     {
         self.calls = self.calls.saturating_add(1);
         if !self.lost {
@@ -379,6 +401,8 @@ impl Host for MemHost {
         ensures call { Calls (host_start self.old) (host_told self.old) (host_told self.new) (Released name.now) }
         ensures counts { NeverFall (host_counts self.old) (host_counts self.new) }
         ensures planned { IsDoneAsPlanned self.old self.new (event.Release name.now) None false }
+        ensures kept { input_left self.new ≡ input_left self.old }
+        ensures counted { host_counts self.new ≡ host_counts self.old }
     {
         self.calls = self.calls.saturating_add(1);
         if self.lost {

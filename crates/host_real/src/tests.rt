@@ -17,6 +17,11 @@ enum Name {
     Right,
     Claim,
     InNoFolder,
+    Letter,
+    LetterLock,
+    LetterBeside,
+    First,
+    Second,
 }
 
 /// A call on the disk.
@@ -24,6 +29,8 @@ enum Name {
 enum Call {
     Load(Name),
     Stage(Name),
+    StageLong(Name),
+    StageEmpty(Name),
     Publish(Name, Name),
     Erase(Name),
     Lock(Name, u64),
@@ -42,6 +49,11 @@ fn path(name: Name) -> &'static [u8]
         Name::Right => b"right",
         Name::Claim => b"claim",
         Name::InNoFolder => b"none/box",
+        Name::Letter => b"letter",
+        Name::LetterLock => b"letter.lock",
+        Name::LetterBeside => b"letter.lock.mx00000000000000ab",
+        Name::First => b"first",
+        Name::Second => b"second",
     }
 }
 
@@ -60,7 +72,7 @@ fn done<E: Drop>(answer: Result<(), E>) -> u8 {
     }
 }
 
-// What a load saw: a lock, no file, the text that is staged here, the token of a lock, or another text.
+// What a load saw: a lock, no file, an empty one, the text that is staged here, the token of a lock, or another text.
 fn seen(answer: Result<LoadAnswer, LoadError>) -> u8 {
     match answer {
         Err(_) => b'!',
@@ -68,6 +80,7 @@ fn seen(answer: Result<LoadAnswer, LoadError>) -> u8 {
             (true, _) => b'h',
             (false, None) => b'a',
             (false, Some(bytes)) => match bytes.bytes() {
+                b"" => b'e',
                 b"mail" => b'm',
                 b"00000000000000ab" => b't',
                 _ => b'?',
@@ -80,6 +93,8 @@ fn called(alloc: Global, host: &mut RealHost<HostRuntime>, call: Call) -> u8 {
     match call {
         Call::Load(name) => seen(host.load(alloc, path(name))),
         Call::Stage(name) => done(host.stage(path(name), b"mail")),
+        Call::StageLong(name) => done(host.stage(path(name), b"longer mail")),
+        Call::StageEmpty(name) => done(host.stage(path(name), b"")),
         Call::Publish(from, to) => answer(host.publish(path(from), path(to))),
         Call::Erase(name) => done(host.erase(path(name))),
         Call::Lock(name, token) => answer(host.lock(path(name), token)),
@@ -167,5 +182,61 @@ fn a_right_ends_with_its_holder(rt: HostRuntime) -> Result<(), Fail> {
     let calls = [Call::Seize(Name::Claim), Call::Erase(Name::Claim)];
     let got = answers(alloc, &mut host, &calls)?;
     assert_eq!(rt; got.bytes(), b"y.".as_slice());
+    Ok(())
+}
+
+// A shorter file over a longer one, an empty one, a target in no folder; a lock of other contents, and what a stopped lock
+// has left.
+const ODD: [Call; 16] = [
+    Call::StageLong(Name::Letter),
+    Call::Stage(Name::Letter),
+    Call::Load(Name::Letter),
+    Call::StageEmpty(Name::Letter),
+    Call::Load(Name::Letter),
+    Call::Publish(Name::Letter, Name::InNoFolder),
+    Call::Stage(Name::LetterLock),
+    Call::Unlock(Name::Letter, 0xab),
+    Call::Load(Name::Letter),
+    Call::Erase(Name::LetterLock),
+    Call::Stage(Name::LetterBeside),
+    Call::Lock(Name::Letter, 0xab),
+    Call::Load(Name::LetterLock),
+    Call::Load(Name::LetterBeside),
+    Call::Unlock(Name::Letter, 0xab),
+    Call::Erase(Name::Letter),
+];
+
+#[test]
+fn odd_files_and_locks(rt: HostRuntime) -> Result<(), Fail> {
+    let alloc = rt.alloc();
+    let mut host = RealHost::new(rt, alloc);
+    let got = answers(alloc, &mut host, &ODD)?;
+    assert_eq!(rt; got.bytes(), b"..m.e!..h..yta..".as_slice());
+    Ok(())
+}
+
+const TWO_RIGHTS: [Call; 4] = [
+    Call::Seize(Name::First),
+    Call::Seize(Name::Second),
+    Call::Release(Name::Box),
+    Call::Release(Name::Second),
+];
+
+const RIGHTS_OF_ANOTHER: [Call; 4] = [
+    Call::Seize(Name::First),
+    Call::Seize(Name::Second),
+    Call::Erase(Name::First),
+    Call::Erase(Name::Second),
+];
+
+#[test]
+fn one_of_two_rights_is_given_up(rt: HostRuntime) -> Result<(), Fail> {
+    let alloc = rt.alloc();
+    let mut host = RealHost::new(rt, alloc);
+    let own = answers(alloc, &mut host, &TWO_RIGHTS)?;
+    assert_eq!(rt; own.bytes(), b"yy..".as_slice());
+    let mut another = RealHost::new(rt, alloc);
+    let of_another = answers(alloc, &mut another, &RIGHTS_OF_ANOTHER)?;
+    assert_eq!(rt; of_another.bytes(), b"ny..".as_slice());
     Ok(())
 }
