@@ -23,3 +23,4 @@ pub mod EditLemmas
 mod RestraintLemmas
 mod FaultLemmas
 mod RefusalLemmas
+mod TroubleLemmas
