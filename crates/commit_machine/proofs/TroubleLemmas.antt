@@ -1,5 +1,5 @@
 -- The runs that meet trouble, by computing.
-use Rattle.std.proofs.Common.{ℕ, true, false, List, [], ◌∷◌, ◌++◌, refl, inl}
+use Rattle.std.proofs.Common.{ℕ, true, false, List, ◌∷◌, ◌++◌, refl, inl}
 use Rattle.hex.specs.Hex.{encode_with}
 use Rattle.host_port.specs.declared.event.Event.{Event}
 use Rattle.host_port.specs.declared.event.Event.TheVariants as event
