@@ -202,13 +202,27 @@ so_far n = disk nothing (take n commit_among_others)
 
 lawful_among : OthersAreLawful home 1 nothing commit_among_others
 unfolding record_name new_name right_name staged_name encode_with
-lawful_among =
-    (tt, sound_none (so_far 2) refl,
-    (not_seven (so_far 5) (record_for Prepare (mbox ∷ out ∷ [])) reads_prepare refl, sound_prepare (so_far 6) (record_for Prepare (mbox ∷ out ∷ [])) reads_prepare refl refl,
-    (box_write (so_far 8) (record_for Prepare (mbox ∷ out ∷ [])) reads_prepare refl (Some (codes "a")) refl, sound_prepare (so_far 9) (record_for Prepare (mbox ∷ out ∷ [])) reads_prepare refl refl,
-    (box_write (so_far 15) the_go reads_go refl (Some (codes "ab")) refl, sound_go (so_far 16) reads_go refl refl,
-    (not_seven (so_far 17) the_go reads_go refl, sound_go (so_far 18) reads_go refl refl,
-    (tt, sound_go (so_far 20) reads_go refl refl, tt))))))
+lawful_among = (
+  tt,
+  sound_none (so_far 2) refl,
+  (
+    not_seven (so_far 5) (record_for Prepare (mbox ∷ out ∷ [])) reads_prepare refl,
+    sound_prepare (so_far 6) (record_for Prepare (mbox ∷ out ∷ [])) reads_prepare refl refl,
+    (
+      box_write (so_far 8) (record_for Prepare (mbox ∷ out ∷ [])) reads_prepare refl (Some (codes "a")) refl,
+      sound_prepare (so_far 9) (record_for Prepare (mbox ∷ out ∷ [])) reads_prepare refl refl,
+      (
+        box_write (so_far 15) the_go reads_go refl (Some (codes "ab")) refl,
+        sound_go (so_far 16) reads_go refl refl,
+        (
+          not_seven (so_far 17) the_go reads_go refl,
+          sound_go (so_far 18) reads_go refl refl,
+          (tt, sound_go (so_far 20) reads_go refl refl, tt),
+        ),
+      ),
+    ),
+  ),
+)
 
 among_others : IsRun two_files nothing commit_among_others (Ended Done)
 among_others = record { job = two_job; fresh = nothing_fresh; sound = sound_none nothing refl; goes = two_goes; honest = honest_among; lawful = lawful_among }
