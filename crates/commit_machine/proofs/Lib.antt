@@ -24,3 +24,4 @@ pub mod EditLemmas
 mod RestraintLemmas
 mod FaultLemmas
 mod RefusalLemmas
+mod TroubleLemmas

@@ -1,5 +1,5 @@
 -- A job is decided only where it isn't refused.
-use Rattle.std.proofs.Common.{◌≡◌, ◌≢◌, ◌⊎◌, ℕ, Bool, true, false, ◌&&◌, List, [], ◌∷◌, ◌++◌, Some, None, refl, ap, sym, subst, inl, inr, ◌∙◌, if◌then◌else◌}
+use Rattle.std.proofs.Common.{◌≡◌, ◌≢◌, ◌⊎◌, ℕ, Bool, true, false, ◌&&◌, List, ◌∷◌, Some, None, refl, ap, sym, subst, inl, inr, ◌∙◌}
 use Rattle.std.specs.Str.{bytes_eq}
 use Rattle.commit_record.specs.Format.{written, is_valid}
 use Rattle.host_port.specs.declared.event.Event.{Event}
@@ -7,7 +7,7 @@ use Rattle.host_port.specs.declared.event.Event.TheVariants as event
 use Rattle.host_port.specs.Disk.{Disk, disk}
 use Rattle.host_port.specs.Own.{own}
 use Rattle.commit_machine.specs.Names.{record_name, new_name, staged_name}
-use Rattle.commit_machine.specs.Records.{record_in, is_go}
+use Rattle.commit_machine.specs.Records.{record_in}
 use Rattle.commit_machine.specs.Settled.{Files, Mem}
 use Rattle.commit_machine.specs.Jobs.{Edit, Job, Made, IsJob, edits_of, all_of, seen_files, seen_of, made_at, prepare_of}
 use Rattle.commit_machine.specs.Machine.{State, Seizing, Looking, Undoing, Placing, Unlocking, Erasing, Clearing, Preparing, Publishing, Locking, Loading, Staging, Deciding, Committing, Checking, Releasing, Ended, next, refused}

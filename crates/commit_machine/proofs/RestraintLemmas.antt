@@ -1,12 +1,10 @@
 -- What a run never does, by its states.
-use Rattle.std.proofs.Common.{◌≡◌, ◌≢◌, ◌⊎◌, ℕ, Bool, true, false, ◌||◌, List, [], ◌∷◌, ◌++◌, Option, Some, None, if◌then◌else◌, refl, ap, sym, subst, inl, inr, ◌∙◌}
-use Rattle.std.specs.List.{list_any}
+use Rattle.std.proofs.Common.{◌≡◌, ◌≢◌, ◌⊎◌, ℕ, Bool, true, false, List, [], ◌∷◌, ◌++◌, Option, Some, None, if◌then◌else◌, refl, ap, sym, subst, inl, inr, ◌∙◌}
 use Rattle.commit_record.specs.declared.record.EntryKind.{EntryKind}
 use Rattle.commit_record.specs.declared.record.EntryKind.TheVariants.{Replace}
 use Rattle.commit_record.specs.declared.record.Record.{Record}
 use Rattle.host_port.specs.declared.event.Event.{Event}
 use Rattle.host_port.specs.declared.event.Event.TheVariants as event
-use Rattle.host_port.specs.declared.event.Seen.TheVariants as seen
 use Rattle.host_port.specs.declared.event.ForeignStep.{ForeignStep}
 use Rattle.host_port.specs.declared.event.ForeignStep.TheVariants.{Write, Remove, Lock, Unlock, Seize, Release}
 use Rattle.host_port.specs.declared.event.Holder.{Holder}
@@ -15,8 +13,8 @@ use Rattle.host_port.specs.Disk.{Disk, disk, after, after_step, with_at, taken, 
 use Rattle.host_port.specs.Own.{own}
 use Rattle.commit_machine.specs.Names.{right_name}
 use Rattle.commit_machine.specs.Records.{record_of, is_go, names_of, kind_of}
-use Rattle.commit_machine.specs.Jobs.{Ending, Refused, Failed, NoMemory, Found, Busy, TooLarge, Refusal, Outcome, Puts, Edit, Job, Made, edits_of, all_of, seen_files, prepare_of, go_of, Done}
-use Rattle.commit_machine.specs.Machine.{Then, GoOn, Answer, State, Seizing, Looking, Undoing, Placing, Unlocking, Erasing, Clearing, Preparing, Publishing, Locking, Loading, Staging, Deciding, Committing, Checking, Releasing, Ended, Call, ToSeize, ToRelease, Reply, Went, Saw, Long, Short, Fault, next, after_reply, unlocking, undoing, place_one, placing, staging, judged, loading, locking, loaded, mended, none_stands, record_seen, looked, faulted, saw, too_long, went_on, refused, wanted}
+use Rattle.commit_machine.specs.Jobs.{Ending, Refused, NoMemory, Found, Busy, TooLarge, Refusal, Outcome, Puts, Edit, Job, Made, edits_of, all_of, seen_files, prepare_of, go_of, Done}
+use Rattle.commit_machine.specs.Machine.{Then, GoOn, Answer, State, Seizing, Looking, Undoing, Placing, Unlocking, Erasing, Clearing, Preparing, Publishing, Locking, Loading, Staging, Deciding, Committing, Checking, Releasing, Ended, ToSeize, ToRelease, Reply, Went, Saw, Long, Short, Fault, next, after_reply, unlocking, undoing, place_one, placing, staging, judged, loading, locking, loaded, mended, none_stands, record_seen, looked, faulted, saw, too_long, went_on, refused, wanted}
 use Rattle.commit_machine.specs.Goes.{IsOf, IsNext, Goes, seizes, releases, reply}
 use Rattle.commit_machine.specs.Lawful.{HasRight}
 use Rattle.commit_machine.specs.Restraints.{RightIsGivenUp}

@@ -1,6 +1,7 @@
 -- The worked runs, by computing.
 use Rattle.std.proofs.Common.{◌≡◌, ℕ, zero, suc, ◌<◌, ◌^◌, true, false, List, [], ◌∷◌, take, codes, Option, Some, None, refl, ap, sym, subst, inl, inr, lit<, ◌∙◌}
 use Rattle.commit_record.specs.Format.{written, is_valid}
+use Rattle.commit_record.specs.Reading.{record_at, head_at, after as text_after}
 use Rattle.commit_record.specs.declared.record.Phase.TheVariants.{Prepare, Go}
 use Rattle.commit_record.specs.declared.record.Record.{Record}
 use Rattle.hex.specs.Hex.{encode_with}
@@ -11,14 +12,14 @@ use Rattle.host_port.specs.Disk.{Disk, after, disk}
 use Rattle.host_port.specs.Ran.{Honest, Agrees}
 use Rattle.commit_machine.specs.Names.{record_name, new_name, right_name, staged_name, is_record_name}
 use Rattle.commit_machine.specs.Records.{record_of, is_go, names_of}
-use Rattle.commit_machine.specs.Jobs.{Nothing, RolledBack, Finished, Busy, Done, Recovered, Refused, Edit, Job, IsJob, edits_of}
+use Rattle.commit_machine.specs.Jobs.{Nothing, RolledBack, Finished, Busy, NotARecord, Done, Recovered, Refused, Edit, Job, IsJob, edits_of}
 use Rattle.commit_machine.specs.Machine.{State, Seizing, Ended, Call, ToLoad, ToStage, ToPublish, ToErase, ToLock, ToUnlock, ToSeize, ToRelease, next, after_reply, record_seen, is_own_go}
 use Rattle.commit_machine.specs.Goes.{reply, Goes, IsOf, IsNext, loads, stages, publishes, erases, locks, unlocks, seizes, releases}
 use Rattle.commit_machine.specs.Due.{is_decision}
 use Rattle.commit_machine.specs.Settled.{Mem}
 use Rattle.commit_machine.specs.Lawful.{standing, IsSound, IsGuarded, IsFresh, IsLawfulWrite, OthersAreLawful}
 use Rattle.commit_machine.specs.Laws.{IsRun}
-use Rattle.commit_machine.specs.Worked.{carried, alone, alone_last, AloneGoes, Makes, busy_second, commit_of_busy, later, later_record, commit_over_decided, box, other_right, commit_among_others, home, out, mbox, nothing, one_file, two_files, recovery, record_for, commit_of_one, commit_of_two, recovery_of_none, stopped_at, recovery_of_decided, recovery_of_undecided, WorkedRuns}
+use Rattle.commit_machine.specs.Worked.{carried, alone, alone_last, AloneGoes, Makes, busy_second, commit_of_busy, bad_record, commit_over_bad, later, commit_over_decided, box, commit_among_others, home, out, mbox, nothing, one_file, two_files, recovery, record_for, commit_of_one, commit_of_two, recovery_of_none, stopped_at, recovery_of_decided, recovery_of_undecided, WorkedRuns}
 use Rattle.commit_machine.proofs.NameLemmas.{lawful-staged}
 use Rattle.commit_machine.proofs.RecordLemmas.{record_of-written}
 
@@ -37,6 +38,10 @@ two = (refl, refl)
 busy : Makes two_files busy_second commit_of_busy (Refused (Busy out))
 unfolding record_name new_name right_name staged_name encode_with
 busy = (refl, refl)
+
+not_a_record : Makes one_file bad_record commit_over_bad (Refused NotARecord)
+unfolding record_name new_name right_name staged_name encode_with record_of record_at head_at text_after
+not_a_record = (refl, refl)
 
 -- the records of the worked runs read
 reads : (r : Record) → is_valid r ≡ true → r.token ≡ 1 → record_of (written r) ≡ Some r
@@ -197,16 +202,30 @@ so_far n = disk nothing (take n commit_among_others)
 
 lawful_among : OthersAreLawful home 1 nothing commit_among_others
 unfolding record_name new_name right_name staged_name encode_with
-lawful_among =
-    (tt, sound_none (so_far 2) refl,
-    (not_seven (so_far 5) (record_for Prepare (mbox ∷ out ∷ [])) reads_prepare refl, sound_prepare (so_far 6) (record_for Prepare (mbox ∷ out ∷ [])) reads_prepare refl refl,
-    (box_write (so_far 8) (record_for Prepare (mbox ∷ out ∷ [])) reads_prepare refl (Some (codes "a")) refl, sound_prepare (so_far 9) (record_for Prepare (mbox ∷ out ∷ [])) reads_prepare refl refl,
-    (box_write (so_far 15) the_go reads_go refl (Some (codes "ab")) refl, sound_go (so_far 16) reads_go refl refl,
-    (not_seven (so_far 17) the_go reads_go refl, sound_go (so_far 18) reads_go refl refl,
-    (tt, sound_go (so_far 20) reads_go refl refl, tt))))))
+lawful_among = (
+  tt,
+  sound_none (so_far 2) refl,
+  (
+    not_seven (so_far 5) (record_for Prepare (mbox ∷ out ∷ [])) reads_prepare refl,
+    sound_prepare (so_far 6) (record_for Prepare (mbox ∷ out ∷ [])) reads_prepare refl refl,
+    (
+      box_write (so_far 8) (record_for Prepare (mbox ∷ out ∷ [])) reads_prepare refl (Some (codes "a")) refl,
+      sound_prepare (so_far 9) (record_for Prepare (mbox ∷ out ∷ [])) reads_prepare refl refl,
+      (
+        box_write (so_far 15) the_go reads_go refl (Some (codes "ab")) refl,
+        sound_go (so_far 16) reads_go refl refl,
+        (
+          not_seven (so_far 17) the_go reads_go refl,
+          sound_go (so_far 18) reads_go refl refl,
+          (tt, sound_go (so_far 20) reads_go refl refl, tt),
+        ),
+      ),
+    ),
+  ),
+)
 
 among_others : IsRun two_files nothing commit_among_others (Ended Done)
 among_others = record { job = two_job; fresh = nothing_fresh; sound = sound_none nothing refl; goes = two_goes; honest = honest_among; lawful = lawful_among }
 
 pub worked_runs : WorkedRuns
-worked_runs = record { one = one; ninth = ninth; two = two; none = none; decided = decided; undecided = undecided; busy = busy; over_decided = over_decided; among_others = among_others }
+worked_runs = record { one = one; ninth = ninth; two = two; none = none; decided = decided; undecided = undecided; busy = busy; over_decided = over_decided; not_a_record = not_a_record; among_others = among_others }

@@ -10,3 +10,4 @@ pub mod Edits
 pub mod Laws
 pub mod Worked
 pub mod Restraints
+pub mod Troubles

@@ -10,11 +10,11 @@ use Rattle.host_port.specs.declared.event.Event.{Event}
 use Rattle.host_port.specs.declared.event.Event.TheVariants.{Load, Stage, Publish, Erase, Lock, Unlock, Seize, Release, Foreign}
 use Rattle.host_port.specs.declared.event.ForeignStep.TheVariants as step
 use Rattle.host_port.specs.declared.event.Seen.TheVariants.{Bytes}
-use Rattle.host_port.specs.Disk.{Disk, after, after_step, disk}
+use Rattle.host_port.specs.Disk.{Disk, with_at, after, after_step, disk}
 use Rattle.host_port.specs.Ends.{carried_out}
 use Rattle.host_port.specs.Ran.{Honest}
 use Rattle.commit_machine.specs.Names.{record_name, new_name, right_name, staged_name}
-use Rattle.commit_machine.specs.Jobs.{Nothing, RolledBack, Finished, Busy, Ending, Done, Recovered, Refused, Puts, Edit, Job, entries_for}
+use Rattle.commit_machine.specs.Jobs.{Nothing, RolledBack, Finished, Busy, NotARecord, Ending, Done, Recovered, Refused, Puts, Edit, Job, entries_for}
 use Rattle.commit_machine.specs.Machine.{State, Seizing, Ended, Call, ToLoad, ToStage, ToPublish, ToErase, ToLock, ToUnlock, ToSeize, ToRelease, next, after_reply}
 use Rattle.commit_machine.specs.Goes.{reply, Goes}
 use Rattle.commit_machine.specs.Due.{is_decision}
@@ -177,6 +177,18 @@ commit_of_busy =
     ∷ Release (right_name home)
     ∷ []
 
+-- what stands as the record is none
+abbrev pub bad_record : Disk
+bad_record = record nothing { files = with_at nothing.files (record_name home) (Some (codes "x")) }
+
+-- there a commit does nothing
+abbrev pub commit_over_bad : List Event
+commit_over_bad =
+    Seize (right_name home) true false
+    ∷ Load (record_name home) (Bytes (Some (codes "x")) false)
+    ∷ Release (right_name home)
+    ∷ []
+
 abbrev pub later : Job
 later = record { actor = home; token = 2; edits = Some (becomes out (codes "z") ∷ []); refusal = λ files. None }
 
@@ -252,5 +264,6 @@ pub record WorkedRuns : Type 0 where
   pub decided : Makes recovery (stopped_at 13) recovery_of_decided (Recovered Finished)
   pub undecided : Makes recovery (stopped_at 11) recovery_of_undecided (Recovered RolledBack)
   pub busy : Makes two_files busy_second commit_of_busy (Refused (Busy out))
+  pub not_a_record : Makes one_file bad_record commit_over_bad (Refused NotARecord)
   pub over_decided : Makes later (stopped_at 13) commit_over_decided Done
   pub among_others : IsRun two_files nothing commit_among_others (Ended Done)

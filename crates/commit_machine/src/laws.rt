@@ -1,6 +1,7 @@
 ghost use Rattle.commit_machine.specs.Laws.{CrashSafe, FrontIsRun, StretchesJoin, StopSafe, OnlyDecisions, DecisionsApply, NothingLeft, NoRecordStands, RecoverySettles, DecisionsAreTold};
 ghost use Rattle.commit_machine.specs.Edits.{EditsAreChanges};
 ghost use Rattle.commit_machine.specs.Restraints.{RightIsGivenUp, NothingAfterAFault, NoRefusedIsDecided};
+ghost use Rattle.commit_machine.specs.Troubles.{TroubledRuns};
 ghost use Rattle.commit_machine.specs.Worked.{AloneGoes, WorkedRuns};
 
 /// At every moment of a commit or a recovery, whatever others lawfully do meanwhile, what recovery
@@ -89,4 +90,10 @@ pub fn alone_goes()
 /// work meanwhile: there is a run among lawful steps.
 pub fn worked_runs()
     ensures { WorkedRuns }
+{}
+
+/// How a commit of one file may end where the record or the file is too long, where memory is wanting, and
+/// where a call fails before its decision, at it and behind it.
+pub fn troubled_runs()
+    ensures { TroubledRuns }
 {}

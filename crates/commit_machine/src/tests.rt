@@ -1,7 +1,8 @@
 use crate::{
     alone_goes, crash_safe, decisions_apply, decisions_are_told, edits_are_changes, front_is_run,
     is_record_name, new_name, no_record_stands, no_refused_is_decided, nothing_after_a_fault,
-    nothing_left, only_decisions, record_name, recovery_settles, right_is_given_up, right_name, staged_name, stop_safe, stretches_join, worked_runs,
+    nothing_left, only_decisions, record_name, recovery_settles, right_is_given_up, right_name,
+    staged_name, stop_safe, stretches_join, troubled_runs, worked_runs,
 };
 use std::test::Fail;
 
@@ -56,4 +57,5 @@ fn laws_are_called() {
     no_refused_is_decided();
     alone_goes();
     worked_runs();
+    troubled_runs();
 }

@@ -1,0 +1,5 @@
+use Rattle.commit_machine.proofs.TroubleLemmas.{troubled_runs}
+use Rattle.commit_machine.proofs.laws.troubled_runs.Goals as goal
+
+pub returns : goal.returns
+returns c = troubled_runs
