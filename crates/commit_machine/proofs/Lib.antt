@@ -21,7 +21,7 @@ pub mod WorkedLemmas
 pub mod ToldLemmas
 pub mod GoesLemmas
 pub mod EditLemmas
-mod RestraintLemmas
-mod FaultLemmas
-mod RefusalLemmas
+pub mod RestraintLemmas
+pub mod FaultLemmas
+pub mod RefusalLemmas
 mod TroubleLemmas

@@ -1,6 +1,7 @@
 -- The laws of the machine, of a commit.
-use Rattle.std.proofs.Common.{◌≡◌, ◌<◌, ◌^◌, ℕ, true, false, List, [], ◌∷◌, ◌++◌, map, Option, Some, ap, sym, subst, inl, inr, ◌∙◌}
+use Rattle.std.proofs.Common.{◌≡◌, ◌<◌, ◌^◌, ℕ, true, false, List, [], ◌∷◌, ◌++◌, map, Option, Some, None, refl, ap, sym, subst, inl, inr, ◌∙◌}
 use Rattle.std.specs.Prelude.{not}
+use Rattle.std.specs.Option.{option_map}
 use Rattle.std.proofs.lemmas.Bool.{and_parts, not-true}
 use Rattle.std.proofs.lemmas.List.{append_cancel_left}
 use Rattle.std.proofs.lemmas.List.Elements.{All-head}
@@ -15,10 +16,12 @@ use Rattle.commit_record.specs.Names.{is_lawful}
 use Rattle.commit_record.specs.declared.record.Phase.TheVariants.{Prepare}
 use Rattle.folder_change.specs.declared.change.Change.{Change}
 use Rattle.folder_change.specs.Changes.{name_of}
+use Rattle.folder_change.specs.Apply.{Refusal as ChangeRefusal, first_refusal}
 use Rattle.commit_machine.specs.Names.{is_record_name}
 use Rattle.commit_machine.specs.Settled.{Mem}
-use Rattle.commit_machine.specs.Jobs.{Ending, Edit, Job, IsJob, edits_of}
-use Rattle.commit_machine.specs.Edits.{edit_for, job_for}
+use Rattle.commit_machine.specs.Jobs.{Ending, Edit, Job, IsJob, edits_of, all_of}
+use Rattle.commit_machine.specs.Due.{settled_files, files_after}
+use Rattle.commit_machine.specs.Edits.{cause_of, edit_for, job_for}
 use Rattle.commit_machine.specs.Machine.{Ended}
 use Rattle.commit_machine.specs.Laws.{IsRun, TellsDecisions}
 use Rattle.commit_machine.specs.Laws as laws
@@ -26,6 +29,9 @@ use Rattle.commit_machine.proofs.RunLemmas.{crash_safe, nothing_left}
 use Rattle.commit_machine.proofs.StopLemmas.{stop_safe}
 use Rattle.commit_machine.proofs.EndLemmas.{front_is_run}
 use Rattle.commit_machine.proofs.ToldLemmas.{decisions_are_told}
+use Rattle.commit_machine.proofs.FaultLemmas.{nothing_after_a_fault}
+use Rattle.commit_machine.proofs.RefusalLemmas.{no_refused_is_decided}
+use Rattle.commit_machine.proofs.RestraintLemmas.{right_is_given_up}
 use Rattle.folder_commit.specs.declared.error.Passed.TheVariants as passed
 use Rattle.folder_commit.specs.declared.error.CommitError.{CommitError}
 use Rattle.folder_commit.specs.declared.error.CommitError.TheVariants as error
@@ -35,6 +41,7 @@ use Rattle.folder_commit.specs.Steps.{job_of}
 use Rattle.folder_commit.specs.Commits.{IsOfOne, AreFiles, IsCommit}
 use Rattle.folder_commit.specs.Safe.{MayCommit, DecidedSo, MetNoFault, CommitsSafely, IsSafe}
 use Rattle.folder_commit.proofs.RunLemmas.{named-once, one-valid, is-lawful}
+use Rattle.folder_commit.proofs.ToldLemmas.{alone}
 
 -- a commit of one file is a job
 plain-name : (actor name : List ℕ) → is_file_name actor name ≡ true → is_record_name actor name ≡ false
@@ -83,21 +90,38 @@ no-fault (Err error.Memory) end (inl is) m = subst laws.MetNoFault (sym is) tt
 no-fault (Err error.Memory) end (inr is) m = subst laws.MetNoFault (sym is.1) tt
 no-fault (Err (error.TooManyNames k)) end is m = absurd is
 
-safely : (j : Job) (d : Disk) (es : List Event) (result : Result Unit CommitError) → IsJob j → MayCommit j.actor j.token d es → Honest d es → Commits j (own es) result → CommitsSafely j d es result
-safely j d es result job may honest h =
+-- no change is refused
+no-cause : (o : Option ChangeRefusal) → option_map cause_of o ≡ None → o ≡ None
+no-cause None h = refl
+no-cause (Some why) h = absurd (cc)
+
+-- a file of the changes is the job's
+named : (actor : List ℕ) (token : ℕ) (c : Change) (cs : List Change) (base : List (List ℕ)) → Mem (name_of c) (all_of (job_for actor token (c ∷ cs) base))
+named actor token c cs base = inl refl
+
+safely : (actor : List ℕ) (token : ℕ) (c : Change) (cs : List Change) (base : List (List ℕ)) (d : Disk) (es : List Event) (result : Result Unit CommitError) → IsJob (job_for actor token (c ∷ cs) base) → IsOfOne (c ∷ cs)
+    → MayCommit actor token d es → Honest d es → Commits (job_for actor token (c ∷ cs) base) (own es) result → CommitsSafely (job_for actor token (c ∷ cs) base) (c ∷ cs) base d es result
+safely actor token c cs base d es result job one may honest h =
+    let j = job_for actor token (c ∷ cs) base in
     let run : IsRun j d es (Ended h.end) = record { job = job; fresh = may.fresh; sound = may.sound; goes = h.goes; honest = honest; lawful = may.lawful } in
     let G : List Event → Type 0 = λ es. IsRun j d es (Ended h.end) in
     record {
       moments = λ front rest is. let x = front_is_run j d front rest (Ended h.end) (subst G is run) in crash_safe j d front x.0 x.1;
       stops = λ front rest e part is. stop_safe j d front e rest (Ended h.end) part (subst G is run);
       decided = decided-so result h.end _ h.is_as (decisions_are_told j d es h.end run);
+      fits = λ front rest e is at.
+          let (files, due, none) = no_refused_is_decided j d front e rest (Ended h.end) (subst G is run) at in
+          let now = files_after j d (settled_files j.actor d) front in
+          alone (c ∷ cs) base now files (name_of c) one (sym (due (name_of c) (named actor token c cs base))) ∙ no-cause (first_refusal (c ∷ cs) base files) none;
       nothing_left = λ m. nothing_left j d es h.end (no-fault result h.end h.is_as m) run;
+      right_given_up = right_is_given_up j d es h.end run;
+      nothing_after_a_fault = λ front rest e is. nothing_after_a_fault j d front e rest (Ended h.end) (subst G is run);
     }
 
 is-safe : (actor : List ℕ) (token : ℕ) (changes : List Change) (base : List (List ℕ)) (d : Disk) (es : List Event) (result : Result Unit CommitError) → token < 2 ^ 64 → AreFiles actor changes → IsOfOne changes
     → MayCommit actor token d es → Honest d es → IsCommit actor token changes base (own es) result → IsSafe actor token changes base d es result
 is-safe actor token [] base d es result fits files one may honest h = tt
-is-safe actor token (c ∷ cs) base d es result fits files one may honest h = safely (job_for actor token (c ∷ cs) base) d es result (is-job actor token c cs base fits files one) may honest h
+is-safe actor token (c ∷ cs) base d es result fits files one may honest h = safely actor token c cs base d es result (is-job actor token c cs base fits files one) one may honest h
 
 -- of a host that tells its trace
 pub ran-safely : {H : Type 0} {start : H → Disk} {told : H → Option (List Event)} {counts : H → Counts} {old new : H} (actor : List ℕ) (token : ℕ) (changes : List Change) (base : List (List ℕ)) (result : Result Unit CommitError) (before es : List Event)

@@ -310,7 +310,7 @@ pub tells-faults : (j : Job) (es : List Event) (result : Result Unit CommitError
 tells-faults j es result h = sym (failed-told j es h.end h.goes) ∙ fault-so result h.end h.is_as
 
 -- what changes of one file are refused for depends on that file alone
-alone : (changes : List Change) (base : List (List ℕ)) (files others : Files) (name : List ℕ) → AllOf name changes → files name ≡ others name → first_refusal changes base files ≡ first_refusal changes base others
+pub alone : (changes : List Change) (base : List (List ℕ)) (files others : Files) (name : List ℕ) → AllOf name changes → files name ≡ others name → first_refusal changes base files ≡ first_refusal changes base others
 unfolding first_refusal apply
 alone [] base files others name all e = refl
 alone (c ∷ cs) base files others name all e =

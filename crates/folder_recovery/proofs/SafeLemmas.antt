@@ -20,6 +20,8 @@ use Rattle.commit_machine.specs.Laws.{IsRun}
 use Rattle.commit_machine.proofs.RunLemmas.{crash_safe}
 use Rattle.commit_machine.proofs.StopLemmas.{stop_safe}
 use Rattle.commit_machine.proofs.EndLemmas.{front_is_run, no_record_stands, recovery_settles}
+use Rattle.commit_machine.proofs.FaultLemmas.{nothing_after_a_fault}
+use Rattle.commit_machine.proofs.RestraintLemmas.{right_is_given_up}
 use Rattle.folder_recovery.specs.declared.recovery.Recovered.{Recovered}
 use Rattle.folder_recovery.specs.declared.error.RecoverError.{RecoverError}
 use Rattle.folder_recovery.specs.declared.error.RecoverError.TheVariants as error
@@ -85,6 +87,8 @@ module _ (actor : List ℕ) (token : ℕ) (d : Disk) where
             let goes = subst R done h in
             let D : List Event → Type 0 = λ es. IsRun j d es (Ended (jobs.Recovered (found f))) in
             settled-at front rest f none (subst D is (run-of es (jobs.Recovered (found f)) may honest goes));
+        right_given_up = right_is_given_up j d es w.0 run;
+        nothing_after_a_fault = λ front rest e is. nothing_after_a_fault j d front e rest (Ended w.0) (subst G is run);
       }
 
 -- of a host that tells its trace

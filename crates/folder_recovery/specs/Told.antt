@@ -11,9 +11,8 @@ use Rattle.host_port.specs.declared.event.Seen.{Seen}
 use Rattle.host_port.specs.declared.event.Seen.TheVariants as seen
 use Rattle.commit_record.specs.declared.record.Record.{Record}
 use Rattle.commit_machine.specs.Names.{record_name, right_name}
-use Rattle.commit_machine.specs.Records.{record_of}
-use Rattle.commit_machine.specs.Jobs.{Before, Nothing, Busy, NotARecord, TooLarge, Ending, Recovered, Refused, Failed, NoMemory}
-use Rattle.commit_machine.specs.Machine.{found_of}
+use Rattle.commit_machine.specs.Records.{record_of, is_go}
+use Rattle.commit_machine.specs.Jobs.{Before, Nothing, RolledBack, Finished, Busy, NotARecord, TooLarge, Ending, Recovered, Refused, Failed, NoMemory}
 use Rattle.folder_recovery.specs.declared.recovery.Recovered.{Recovered as Answer}
 use Rattle.folder_recovery.specs.declared.error.RecoverError.{RecoverError}
 use Rattle.folder_recovery.specs.declared.error.RecoverError.TheVariants as error
@@ -42,7 +41,7 @@ unless_failed es end = if list_any is_failed es then Failed Before else end
 -- the end by the record that was read
 abbrev pub end_read : Option Record → Ending
 end_read None = Refused NotARecord
-end_read (Some r) = Recovered (found_of r)
+end_read (Some r) = Recovered (if is_go r then Finished else RolledBack)
 
 -- the end by what stood as the record
 abbrev pub end_found : Option (List ℕ) → Ending
