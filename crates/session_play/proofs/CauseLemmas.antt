@@ -91,7 +91,7 @@ clean-none i le = record { in_ok = refl; out_ok = refl; load_ok = refl; bytes = 
 -- takings of input are clean
 reads-clean : (es : List Event) (i j : Input) → i.taken ≤ input_limit → Reads i es j → IsClean es i j
 reads-clean [] i j le same = subst (λ (k : Input). IsClean [] i k) same (clean-none i le)
-reads-clean (event.In bytes false ∷ es) i j le (none, within, more) =
+reads-clean (event.In bytes false ∷ es) i j le (none, (fits, within), more) =
     let rest = reads-clean es (took i bytes) j within more in
     record { in_ok = rest.in_ok; out_ok = rest.out_ok; load_ok = rest.load_ok; bytes = omega (arith, rest.bytes); within = rest.within }
 reads-clean (e ∷ es) i j le never = absurd never
@@ -123,7 +123,7 @@ line-cut-by : (cause : Stop) (es : List Event) (i : Input) → i.taken ≤ input
 line-cut-by stop.Input es i le (front, j, reads, none, is) =
     subst (λ (es : List Event). IsCutBy stop.Input es i) (sym is) (let c = reads-clean front i j le reads in let w = c.within in
     cut-then stop.Input front (event.In [] true ∷ []) i j c (record { in_is = refl; out_is = refl; load_is = refl; amount = omega arith }))
-line-cut-by stop.TooMuch es i le (front, j, bytes, reads, none, large, is) =
+line-cut-by stop.TooMuch es i le (front, j, bytes, reads, none, (fits, large), is) =
     subst (λ (es : List Event). IsCutBy stop.TooMuch es i) (sym is)
     (cut-then stop.TooMuch front (event.In bytes false ∷ []) i j (reads-clean front i j le reads) (record { in_is = refl; out_is = refl; load_is = refl; amount = omega arith }))
 line-cut-by stop.Memory es i le (j, reads) = clean-memory es i j (reads-clean es i j le reads)

@@ -12,7 +12,7 @@ use Rattle.host_port.specs.Ran.{Agrees}
 use Rattle.host_port.specs.Own.{own}
 use Rattle.session_play.specs.declared.stop.Stop.{Stop}
 use Rattle.session_play.specs.declared.stop.Stop.TheVariants as stop
-use Rattle.session_play.specs.Input.{Input, input_limit, first_line, next_line, next_of, took, is_empty, Reads}
+use Rattle.session_play.specs.Input.{Input, input_limit, buffer_size, first_line, next_line, next_of, took, is_empty, Reads}
 use Rattle.session_play.specs.Play.{Ask, Ret, Line, Goes, Partly, TookSome, with_input}
 
 -- where nothing can be handed out, the end was not seen
@@ -25,8 +25,8 @@ still_open i none = go (first_line i.rest) i.ended none
     go None false e = refl
 
 -- an event that takes bytes
-reads-one : (i j : Input) (bytes : List ℕ) → next_line i ≡ None → i.taken + length bytes ≤ input_limit → took i bytes ≡ j → Reads i (event.In bytes false ∷ []) j
-reads-one i j bytes none within is = (none, within, is)
+reads-one : (i j : Input) (bytes : List ℕ) → next_line i ≡ None → length bytes ≤ buffer_size → i.taken + length bytes ≤ input_limit → took i bytes ≡ j → Reads i (event.In bytes false ∷ []) j
+reads-one i j bytes none fits within is = (none, (fits, within), is)
 
 abbrev made : List ℕ → Bool → ℕ → Input
 made r b m = record { rest = r; ended = b; taken = m }
@@ -48,7 +48,7 @@ pub filled-end : (i : Input) (n taken : ℕ) (buf rest : List ℕ) → next_line
 filled-end i n taken buf rest none within zero_is rest_is taken_is d e is =
     let J : Input = record { rest = rest; ended = true; taken = taken } in
     at-event [] false (Ok tt) i J d e
-    (reads-one i J [] none (omega arith) (same-input (append-nil i.rest ∙ sym rest_is) refl (add-zero i.taken ∙ sym taken_is)))
+    (reads-one i J [] none (omega arith) (omega arith) (same-input (append-nil i.rest ∙ sym rest_is) refl (add-zero i.taken ∙ sym taken_is)))
     (is ∙ ap (λ (n : ℕ). event.In (take n buf) false) zero_is ∙ nothing buf)
   where
     nothing : (b : List ℕ) → event.In (take 0 b) false ≡ event.In [] false
@@ -60,24 +60,24 @@ not-empty zero buf ne le = absurd (ne refl)
 not-empty (suc n) [] ne le = absurd (omega arith)
 not-empty (suc n) (b ∷ buf) ne le = refl
 
-pub filled-some : (i : Input) (n taken : ℕ) (buf rest : List ℕ) (ended : Bool) → next_line i ≡ None → i.taken + n ≤ input_limit → (n ≡ 0 → ⊥) → n ≤ length buf → rest ≡ i.rest ++ take n buf → ended ≡ i.ended → taken ≡ i.taken + n → (d : Disk) (e : Event) → e ≡ event.In (take n buf) false
+pub filled-some : (i : Input) (n taken : ℕ) (buf rest : List ℕ) (ended : Bool) → next_line i ≡ None → i.taken + n ≤ input_limit → (n ≡ 0 → ⊥) → n ≤ length buf → length buf ≤ buffer_size → rest ≡ i.rest ++ take n buf → ended ≡ i.ended → taken ≡ i.taken + n → (d : Disk) (e : Event) → e ≡ event.In (take n buf) false
     → Agrees d e × TookSome (Ok tt) i (record { rest = rest; ended = ended; taken = taken }) (own (e ∷ []))
-filled-some i n taken buf rest ended none within ne le rest_is ended_is taken_is d e is =
+filled-some i n taken buf rest ended none within ne le fits rest_is ended_is taken_is d e is =
     let J : Input = record { rest = rest; ended = ended; taken = taken } in
     at-event (take n buf) false (Ok tt) i J d e
-    (reads-one i J (take n buf) none (let l = length-take-le n buf le in omega arith)
+    (reads-one i J (take n buf) none (let l = length-take-le n buf le in omega arith) (let l = length-take-le n buf le in omega arith)
     (same-input (sym rest_is) (not-empty n buf ne le ∙ sym (ended_is ∙ still_open i none)) (ap (λ (m : ℕ). i.taken + m) (length-take-le n buf le) ∙ sym taken_is)))
     is
 
-pub filled-large : (i : Input) (n taken : ℕ) (buf : List ℕ) (j : Input) → next_line i ≡ None → n ≤ length buf → taken ≡ i.taken → input_limit - taken < n → (d : Disk) (e : Event) → e ≡ event.In (take n buf) false
+pub filled-large : (i : Input) (n taken : ℕ) (buf : List ℕ) (j : Input) → next_line i ≡ None → n ≤ length buf → length buf ≤ buffer_size → taken ≡ i.taken → input_limit - taken < n → (d : Disk) (e : Event) → e ≡ event.In (take n buf) false
     → Agrees d e × TookSome (Err stop.TooMuch) i j (own (e ∷ []))
-filled-large i n taken buf j none le taken_is more d e is =
+filled-large i n taken buf j none le fits taken_is more d e is =
     at-event (take n buf) false (Err stop.TooMuch) i j d e
-    ([], i, take n buf, refl, none, (let l = length-take-le n buf le in omega arith), refl) is
+    ([], i, take n buf, refl, none, ((let l = length-take-le n buf le in omega arith), (let l = length-take-le n buf le in omega arith)), refl) is
 
-pub filled-memory : (i : Input) (n : ℕ) (buf : List ℕ) (j : Input) → next_line i ≡ None → i.taken + n ≤ input_limit → n ≤ length buf → (d : Disk) (e : Event) → e ≡ event.In (take n buf) false → Agrees d e × TookSome (Err stop.Memory) i j (own (e ∷ []))
-filled-memory i n buf j none within le d e is =
-    at-event (take n buf) false (Err stop.Memory) i j d e (took i (take n buf), reads-one i _ (take n buf) none (let l = length-take-le n buf le in omega arith) refl) is
+pub filled-memory : (i : Input) (n : ℕ) (buf : List ℕ) (j : Input) → next_line i ≡ None → i.taken + n ≤ input_limit → n ≤ length buf → length buf ≤ buffer_size → (d : Disk) (e : Event) → e ≡ event.In (take n buf) false → Agrees d e × TookSome (Err stop.Memory) i j (own (e ∷ []))
+filled-memory i n buf j none within le fits d e is =
+    at-event (take n buf) false (Err stop.Memory) i j d e (took i (take n buf), reads-one i _ (take n buf) none (let l = length-take-le n buf le in omega arith) (let l = length-take-le n buf le in omega arith) refl) is
 
 -- takings go on from one another
 pub reads-more : (es fs : List Event) (i j k : Input) → Reads i es j → Reads j fs k → Reads i (es ++ fs) k

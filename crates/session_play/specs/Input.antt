@@ -9,6 +9,10 @@ use Rattle.host_port.specs.declared.event.Event.TheVariants as event
 abbrev pub input_limit : ℕ
 input_limit = 67108864
 
+-- the most bytes that one taking of input gives
+abbrev pub buffer_size : ℕ
+buffer_size = 65536
+
 -- the input that was taken and not yet used, whether its end was seen, and how much was taken in all
 pub record Input : Type 0 where
   pub rest : List ℕ
@@ -47,10 +51,14 @@ is_empty (b ∷ bs) = false
 abbrev pub took : Input → List ℕ → Input
 took i bytes = record { rest = i.rest ++ bytes; ended = is_empty bytes; taken = i.taken + length bytes }
 
--- These events take input from i to j, within the limit. Each stands only where no line and no end can be handed out without it.
+-- bytes that fit the buffer and the limit
+abbrev pub MayTake : Input → List ℕ → Type 0
+MayTake i bytes = (length bytes ≤ buffer_size) × (i.taken + length bytes ≤ input_limit)
+
+-- These events take input from i to j, each what fits the buffer and the limit. Each stands only where no line and no end can be handed out without it.
 abbrev pub Reads : Input → List Event → Input → Type 0
 Reads i [] j = i ≡ j
-Reads i (event.In bytes false ∷ es) j = (next_line i ≡ None) × (i.taken + length bytes ≤ input_limit) × Reads (took i bytes) es j
+Reads i (event.In bytes false ∷ es) j = (next_line i ≡ None) × MayTake i bytes × Reads (took i bytes) es j
 Reads i (e ∷ es) j = ⊥
 
 -- what can be handed out is, and else nothing changes

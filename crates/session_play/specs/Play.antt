@@ -1,5 +1,5 @@
 -- What a run does, act by act, and which events carry out which act.
-use Rattle.std.specs.Prelude.{◌≡◌, ◌⊎◌, ◌+◌, ◌<◌, ℕ, true, false, List, [], ◌∷◌, ◌++◌, length}
+use Rattle.std.specs.Prelude.{◌≡◌, ◌⊎◌, ◌+◌, ◌<◌, ◌≤◌, ℕ, true, false, List, [], ◌∷◌, ◌++◌, length}
 use Rattle.std.specs.declared.option.Option.{Option}
 use Rattle.std.specs.declared.option.Option.TheVariants.{Some, None}
 use Rattle.std.specs.declared.result.Result.{Result}
@@ -15,7 +15,7 @@ use Rattle.session_play.specs.declared.act.Found.{Found}
 use Rattle.session_play.specs.declared.act.Found.TheVariants as found
 use Rattle.session_play.specs.declared.stop.Stop.{Stop}
 use Rattle.session_play.specs.declared.stop.Stop.TheVariants as stop
-use Rattle.session_play.specs.Input.{Input, input_limit, next_line, Reads}
+use Rattle.session_play.specs.Input.{Input, input_limit, buffer_size, next_line, Reads}
 
 -- what a run asks: the next line of its input, to say bytes, to load a file; and the rows of some texts, which it finds without the outside
 pub data Act : Type 0 where
@@ -66,10 +66,14 @@ Did (Say bytes) u es = Says bytes es
 Did (Read name) f es = es ≡ event.Load name (seen_of f) ∷ []
 Did (Know texts) rows es = (es ≡ []) × AreRows texts rows
 
+-- bytes that fit the buffer and pass the limit
+abbrev pub IsTooMuch : Input → List ℕ → Type 0
+IsTooMuch i bytes = (length bytes ≤ buffer_size) × (input_limit < i.taken + length bytes)
+
 -- the own events of an act that is cut off, and why it was
 abbrev pub Partly : Stop → Act → List Event → Type 0
 Partly stop.Input (Line i) es = (front : List Event) × (j : Input) × Reads i front j × (next_line j ≡ None) × (es ≡ front ++ event.In [] true ∷ [])
-Partly stop.TooMuch (Line i) es = (front : List Event) × (j : Input) × (bytes : List ℕ) × Reads i front j × (next_line j ≡ None) × (input_limit < j.taken + length bytes) × (es ≡ front ++ event.In bytes false ∷ [])
+Partly stop.TooMuch (Line i) es = (front : List Event) × (j : Input) × (bytes : List ℕ) × Reads i front j × (next_line j ≡ None) × IsTooMuch j bytes × (es ≡ front ++ event.In bytes false ∷ [])
 Partly stop.Memory (Line i) es = (j : Input) × Reads i es j
 Partly stop.Output (Say bytes) es = SaysInPart bytes es
 Partly stop.Disk (Read name) es = es ≡ event.Load name seen.Failed ∷ []
