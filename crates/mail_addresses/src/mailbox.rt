@@ -11,6 +11,9 @@ use crate::token::Token;
 use mail_text::{Memory, Text};
 use std::alloc::Global;
 
+/// How many bytes most specs have at most.
+const SHORT_SPEC: usize = 32;
+
 /// The address of this name whose spec the tokens are, if they are one.
 fn spec_address(alloc: Global, name: Text, tokens: &[Token]) -> Result<Option<Address>, Memory>
     ensures { IfOk result (λ address. MatchOption address
@@ -26,7 +29,7 @@ fn spec_address(alloc: Global, name: Text, tokens: &[Token]) -> Result<Option<Ad
     match count {
         None => Ok(None),
         Some(count) => {
-            let mut spec = Text::new(alloc);
+            let mut spec = Text::of(Vec::with_capacity(alloc, SHORT_SPEC)?);
             push_texts(&run[..count], &mut spec)?;
             let local = spec.bytes().len();
             push_texts(&run[count..], &mut spec)?;

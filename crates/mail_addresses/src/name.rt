@@ -5,11 +5,14 @@ use crate::token::Token;
 use mail_text::{Memory, Text};
 use std::alloc::Global;
 
+/// How many bytes most names have at most.
+const SHORT_NAME: usize = 32;
+
 /// The display name that the tokens give, if they give one.
 pub(crate) fn display_name(alloc: Global, tokens: &[Token]) -> Result<Option<Text>, Memory>
     ensures { IfOk result (Finds (IsDisplayName tokens.now)) }
 {
-    let mut name = Text::new(alloc);
+    let mut name = Text::of(Vec::with_capacity(alloc, SHORT_NAME)?);
     let mut begun = false;
     let mut apart = false;
     for token in tokens {

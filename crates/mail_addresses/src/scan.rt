@@ -9,6 +9,9 @@ use mail_text::{Memory, Text};
 use memchr::memchr;
 use std::alloc::Global;
 
+/// How many tokens a short list has, such as one of a name and an address.
+const FEW_TOKENS: usize = 16;
+
 /// Whether the byte is a space or a tab.
 #[tactic(auto, unfolding(crate::specs::Lexical::is_blank_byte))]
 fn is_blank_byte(b: u8) -> bool
@@ -188,7 +191,7 @@ fn first_token<'a>(bytes: &'a [u8]) -> Option<(Token<'a>, &'a [u8])>
 pub(crate) fn tokens<'a>(alloc: Global, value: &'a [u8]) -> Result<Vec<Token<'a>>, Memory>
     ensures { IfOk result (λ v. AreTokens value.now v.items) }
 {
-    let mut found = Vec::new(alloc);
+    let mut found = Vec::with_capacity(alloc, FEW_TOKENS)?;
     let mut rest = value;
     while let Some((token, after)) = first_token(rest) {
         found.push(token)?;

@@ -19,7 +19,7 @@ pub returns-in_ok-push_texts-in-Some-2 : goal.returns-in_ok-push_texts-in-Some-2
 returns-in_ok-push_texts-in-Some-2 c =
     let cut = is_cut c.args.tokens.now _ _ c.split_at_gap.result.0.now c.split_at_gap.result.1.now c.split_after_gaps.ensures.cut c.split_at_gap.ensures.cut c.split_after_gaps.ensures.gaps c.split_after_gaps.ensures.ends c.split_at_gap.ensures.solid c.split_at_gap.ensures.ends in
     let run = c.split_at_gap.result.0.now in
-    let put = texts_put run c.in-Some.count c.new-spec.result c.push_texts.new.out c.push_texts-in-Some.new.out c.new-spec.ensures c.in_ok-push_texts-in-Some.ensures c.in_ok-push_texts-in-Some-2.ensures in
+    let put = texts_put run c.in-Some.count c.of-spec.result c.push_texts.new.out c.push_texts-in-Some.new.out (c.of-spec.ensures ∙ c.in_ok-with_capacity-in-Some.ensures.items) c.in_ok-push_texts-in-Some.ensures c.in_ok-push_texts-in-Some-2.ensures in
     let count : length (texts (take c.in-Some.count run)) ≡ length c.bytes-local.result.now = ap (λ (xs : List ℕ). length xs) (sym put.0 ∙ sym c.bytes-local.ensures) in (
       run_is_spec c.args.tokens.now _ run c.split_at_gap.result.1.now _ cut record {
         gaps_after = sym c.are_gaps.ensures ∙ c.if-not-are_gaps.false;

@@ -7,8 +7,8 @@ use Rattle.mail_addresses.proofs.scan.tokens.Goals as goal
 pub loop-token-init : goal.loop-token-init
 unfolding texts
 loop-token-init c = record {
-  joined = ap (λ (ts : List Lexeme). texts ts ++ c.args.value.now) c.new-found.ensures.items;
-  stand = subst (λ (ts : List Lexeme). StandBefore ts c.args.value.now) (sym c.new-found.ensures.items) tt;
+  joined = ap (λ (ts : List Lexeme). texts ts ++ c.args.value.now) c.in_ok-found.ensures.items;
+  stand = subst (λ (ts : List Lexeme). StandBefore ts c.args.value.now) (sym c.in_ok-found.ensures.items) tt;
 }
 
 pub loop-token-preserved : goal.loop-token-preserved
