@@ -1,6 +1,7 @@
 pub mod Same
 pub mod NameLemmas
 pub mod RecordLemmas
+pub mod FrontLemmas
 pub mod Keep
 pub mod Sound
 pub mod Decided

@@ -17,7 +17,7 @@ use Rattle.commit_machine.specs.Records.{record_in, is_go, names_of, kind_of}
 use Rattle.commit_machine.specs.Jobs.{Ending, Done, Recovered, Refused, Failed, NoMemory, Found, Busy, TooLarge, Outcome, Puts, Edit, Job, Made, IsJob, edits_of, all_of, prepare_of, go_of}
 use Rattle.commit_machine.specs.Machine.{Then, GoOn, Answer, State, Seizing, Looking, Undoing, Placing, Unlocking, Erasing, Clearing, Preparing, Publishing, Locking, Loading, Staging, Deciding, Committing, Checking, Releasing, Ended, ToLoad, ToPublish, after_reply, undoing, placing, unlocking, locking, loaded, loading, judged, staging}
 use Rattle.commit_machine.specs.Goes.{IsOf, loads, stages, stage_fails, publishes, erases, locks, unlocks, seizes, releases, reply}
-use Rattle.commit_machine.specs.Lawful.{standing, HasRight, IsSound}
+use Rattle.commit_machine.specs.Lawful.{HasRight, IsSound}
 use Rattle.commit_machine.specs.Due.{settled_files, settled_locks, is_decision}
 use Rattle.commit_machine.proofs.Inv.{Knows}
 use Rattle.commit_machine.proofs.Same.{same_refl, same_false}
@@ -28,7 +28,7 @@ use Rattle.host_port.specs.declared.event.ForeignStep.{ForeignStep}
 use Rattle.host_port.specs.Disk.{disk, after_step}
 use Rattle.host_port.specs.Own.{own}
 use Rattle.host_port.specs.Ran.{Honest}
-use Rattle.commit_machine.specs.Jobs.{Before, After, Refusal, seen_files}
+use Rattle.commit_machine.specs.Jobs.{Passed, Before, After, Refusal, seen_files}
 use Rattle.commit_machine.specs.Machine.{Reply, Went, Saw, Long, Short, Fault, refused, wanted, next, faulted, saw, too_long, went_on, passed_at, passed_then, passed_ending, place_one, mended, none_stands, record_seen, looked, is_own_go, passed_by}
 use Rattle.commit_machine.specs.Records.{record_of}
 use Rattle.commit_machine.specs.Goes.{IsNext, Goes}
@@ -37,7 +37,9 @@ use Rattle.commit_machine.specs.Laws.{TellsDecisions, decisions, DecisionsAreTol
 use Rattle.commit_machine.proofs.LawfulLemmas.{lawful_keeps}
 use Rattle.commit_machine.proofs.Others.{others_knows}
 use Rattle.commit_machine.proofs.RunLemmas
-use Rattle.commit_machine.proofs.Steps4.{new_go, go_stands}
+use Rattle.commit_machine.proofs.Steps4.{new_go}
+use Rattle.commit_machine.proofs.Keep.{renamed_to}
+use Rattle.commit_machine.proofs.FrontLemmas.{passed-after, passed-before}
 use Rattle.std.proofs.Common.{◌++◌}
 use Rattle.std.proofs.lemmas.Bool.{or_left}
 
@@ -45,12 +47,16 @@ abbrev pub told_then : Then → ℕ → Type 0
 told_then GoOn n = n ≡ 0
 told_then (Answer e) n = TellsDecisions e n
 
+-- what stands as the record says how many decisions there were
+abbrev pub Looks : Job → Disk → ℕ → Type 0
+Looks j d n = ((n ≡ 1) × (passed_by j (d.files (record_name j.actor)) ≡ After)) ⊎ ((n ≡ 0) × (passed_by j (d.files (record_name j.actor)) ≡ Before))
+
 abbrev pub Told : Job → State → Disk → ℕ → Type 0
 Told j (Undoing r m ns ls th) d n = (n ≡ 0) × told_then th n
 Told j (Placing r m ns ls th) d n = told_then th n
 Told j (Unlocking r m ns th) d n = told_then th n
 Told j (Erasing r th) d n = told_then th n
-Told j Checking d n = HasRight j.actor d × (((n ≡ 1) × (is_own_go j (standing j.actor d) ≡ true)) ⊎ ((n ≡ 0) × (is_own_go j (standing j.actor d) ≡ false)))
+Told j Checking d n = HasRight j.actor d × Looks j d n
 Told j (Releasing e) d n = TellsDecisions e n
 Told j (Ended e) d n = TellsDecisions e n
 Told j s d n = n ≡ 0
@@ -268,18 +274,18 @@ module _ (j : Job) (job : IsJob j) (d : Disk) (n : ℕ) (sound : IsSound j.actor
   committing_told : (made : List Made) {e : Event} → IsOf (ToPublish (new_name j.actor) (record_name j.actor)) e → Knows j (Committing made) d → n ≡ 0 → Told j (after_reply j (Committing made) (reply e)) (after d e) (if is_decision j e d then suc n else n)
   committing_told made (publishes {done = true} {failed = true}) k t =
       let one : (if is_decision j (event.Publish (new_name j.actor) (record_name j.actor) true true) d then suc n else n) ≡ 1 = ap (λ (b : Bool). if b then suc n else n) (of_go j d (go_of j made) true (new_go j job d (settled_files j.actor d) (settled_locks j.actor d) (λ m. refl) (λ m. refl) sound made k) refl refl) ∙ ap suc t in
-      (k.0.closing.right, inl (one, ap (is_own_go j) (go_stands j job d (settled_files j.actor d) (settled_locks j.actor d) (λ m. refl) (λ m. refl) sound made k) ∙ own_go j (go_of j made) refl refl))
-  committing_told made (publishes {done = false} {failed = true}) k t = (k.0.closing.right, inr (t, ap (is_own_go j) k.0.closing.stands))
+      (k.0.closing.right, inl (one, passed-after j made _ (renamed_to d.files (new_name j.actor) (record_name j.actor) ∙ k.2)))
+  committing_told made (publishes {done = false} {failed = true}) k t = (k.0.closing.right, inr (t, passed-before j (d.files (record_name j.actor)) k.0.closing.stands))
   committing_told made (publishes {done = false} {failed = false}) k t = t
   committing_told made (publishes {done = true} {failed = false}) k t =
       let one : (if is_decision j (event.Publish (new_name j.actor) (record_name j.actor) true false) d then suc n else n) ≡ 1 = ap (λ (b : Bool). if b then suc n else n) (of_go j d (go_of j made) false (new_go j job d (settled_files j.actor d) (settled_locks j.actor d) (λ m. refl) (λ m. refl) sound made k) refl refl) ∙ ap suc t in
       told_placing j (after d (event.Publish (new_name j.actor) (record_name j.actor) true false)) (if is_decision j (event.Publish (new_name j.actor) (record_name j.actor) true false) d then suc n else n) (go_of j made) (all_of j) (all_of j) (Answer Done) one
 
-  by_record : (c : Option (List ℕ)) → c ≡ d.files (record_name j.actor) → ((n ≡ 1) × (is_own_go j (standing j.actor d) ≡ true)) ⊎ ((n ≡ 0) × (is_own_go j (standing j.actor d) ≡ false)) → TellsDecisions (Failed (passed_by j c)) n
-  by_record c is (inl p) = let w : is_own_go j (record_in c) ≡ true = ap (λ (z : Option (List ℕ)). is_own_go j (record_in z)) is ∙ p.1 in subst (λ (b : Bool). TellsDecisions (Failed (if b then After else Before)) n) (sym w) p.0
-  by_record c is (inr p) = let w : is_own_go j (record_in c) ≡ false = ap (λ (z : Option (List ℕ)). is_own_go j (record_in z)) is ∙ p.1 in subst (λ (b : Bool). TellsDecisions (Failed (if b then After else Before)) n) (sym w) p.0
+  by_record : (c : Option (List ℕ)) → c ≡ d.files (record_name j.actor) → Looks j d n → TellsDecisions (Failed (passed_by j c)) n
+  by_record c is (inl p) = subst (λ (w : Passed). TellsDecisions (Failed w) n) (sym (ap (passed_by j) is ∙ p.1)) p.0
+  by_record c is (inr p) = subst (λ (w : Passed). TellsDecisions (Failed w) n) (sym (ap (passed_by j) is ∙ p.1)) p.0
 
-  unknown : ((n ≡ 1) × (is_own_go j (standing j.actor d) ≡ true)) ⊎ ((n ≡ 0) × (is_own_go j (standing j.actor d) ≡ false)) → (n ≡ 0) ⊎ (n ≡ 1)
+  unknown : Looks j d n → (n ≡ 0) ⊎ (n ≡ 1)
   unknown (inl p) = inr p.0
   unknown (inr p) = inl p.0
 
@@ -298,7 +304,7 @@ module _ (j : Job) (job : IsJob j) (d : Disk) (n : ℕ) (sound : IsSound j.actor
   others_told f law Checking t =
       let keep = lawful_keeps j.actor j.token d f law in
       let same : (after_step d f).files (record_name j.actor) ≡ d.files (record_name j.actor) = keep.records (record_name j.actor) t.0 (or_left _ _ (same_refl (record_name j.actor))) in
-      let w : is_own_go j (standing j.actor (after_step d f)) ≡ is_own_go j (standing j.actor d) = ap (λ (z : Option (List ℕ)). is_own_go j (record_in z)) same in
+      let w : passed_by j ((after_step d f).files (record_name j.actor)) ≡ passed_by j (d.files (record_name j.actor)) = ap (passed_by j) same in
       (keep.right t.0, elim t.1 [ inl p ↦ inl (p.0, w ∙ p.1) | inr p ↦ inr (p.0, w ∙ p.1) ])
   others_told f law (Committing made) t = t
   others_told f law s t = told_any j d (after_step d f) n s tt t

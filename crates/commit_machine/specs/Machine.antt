@@ -1,11 +1,13 @@
 -- One machine for commit and recovery: the next disk call by the state, and the state after its answer.
-use Rattle.std.specs.Prelude.{ℕ, Bool, true, false, ◌&&◌, ◌==◌, List, [], ◌∷◌, ◌++◌, Option, Some, None, if◌then◌else◌}
-use Rattle.commit_record.specs.Format.{written}
+use Rattle.std.specs.Prelude.{ℕ, Bool, true, false, ◌&&◌, ◌==◌, nat_eq, List, [], ◌∷◌, ◌++◌, codes, Option, Some, None, if◌then◌else◌}
+use Rattle.std.specs.List.{starts_with}
+use Rattle.commit_record.specs.Format.{line, phase_word, token_digits, written}
+use Rattle.commit_record.specs.declared.record.Phase.TheVariants.{Go}
 use Rattle.commit_record.specs.declared.record.EntryKind.{EntryKind}
 use Rattle.commit_record.specs.declared.record.EntryKind.TheVariants.{Replace}
 use Rattle.commit_record.specs.declared.record.Record.{Record}
 use Rattle.commit_machine.specs.Names.{record_name, new_name, right_name, staged_name}
-use Rattle.commit_machine.specs.Records.{record_in, record_of, is_go, names_of, kind_of}
+use Rattle.commit_machine.specs.Records.{record_of, is_go, names_of, kind_of}
 use Rattle.commit_machine.specs.Jobs.{Passed, Before, After, Unknown, Found, Nothing, RolledBack, Finished, Busy, NotARecord, TooLarge, Ending, Done, Recovered, Refused, Failed, NoMemory, Refusal, Outcome, Puts, Edit, Job, Made, edits_of, all_of, seen_files, prepare_of, go_of}
 
 -- what follows when a record is done with: the rest of the job, or the end
@@ -165,8 +167,14 @@ abbrev pub is_own_go : Job → Option Record → Bool
 is_own_go j None = false
 is_own_go j (Some r) = is_go r && (r.token == j.token)
 
+-- the first three lines of the record of a token's decision
+unfoldable pub go_front : ℕ → List ℕ
+go_front token = line (codes "mailx-commit 1") ++ line (codes "phase " ++ phase_word Go) ++ line (codes "token " ++ token_digits token)
+
+-- the decision was passed where what was loaded as the record begins with these lines
 abbrev pub passed_by : Job → Option (List ℕ) → Passed
-passed_by j c = if is_own_go j (record_in c) then After else Before
+passed_by j None = Before
+passed_by j (Some bytes) = if starts_with nat_eq bytes (go_front j.token) then After else Before
 
 abbrev pub saw : Job → State → Option (List ℕ) → State
 saw j Looking c = looked j c

@@ -1,6 +1,8 @@
 -- How the steps of a commit end.
-use Rattle.std.proofs.Common.{◌≡◌, ℕ, true, false, List, [], ◌∷◌, ◌++◌, map, Option, Some, None, refl, ap, sym, subst, inl, inr, ◌∙◌, if◌then◌else◌}
-use Rattle.std.proofs.lemmas.Bool.{cond-true}
+use Rattle.std.proofs.Common.{◌≡◌, ℕ, min, Bool, true, false, if◌then◌else◌, nat_eq, arith, List, [], ◌∷◌, ◌++◌, length, map, take, Option, Some, None, refl, ap, sym, subst, inl, inr, ◌∙◌}
+use Rattle.std.proofs.lemmas.Bool.{cond-true, cases_lt}
+use Rattle.std.proofs.lemmas.List.{take_all}
+use Rattle.std.specs.List.{starts_with}
 use Rattle.std.proofs.lemmas.Slice.Eq.{bytes_eq-Decides}
 use Rattle.std.specs.Option.{option_map}
 use Rattle.std.specs.declared.result.Result.{Result}
@@ -9,7 +11,7 @@ use Rattle.host_port.specs.declared.event.Event.{Event}
 use Rattle.host_port.specs.declared.host.DiskFault.{DiskFault}
 use Rattle.host_port.specs.declared.host.LoadError.{LoadError}
 use Rattle.host_port.specs.declared.host.LoadError.TheVariants as load
-use Rattle.commit_record.specs.Format.{written, IsWritten}
+use Rattle.commit_record.specs.Format.{written}
 use Rattle.commit_record.specs.declared.record.Phase.TheVariants.{Go}
 use Rattle.commit_record.specs.declared.record.EntryKind.{EntryKind}
 use Rattle.commit_record.specs.declared.record.EntryKind.TheVariants.{Replace}
@@ -18,15 +20,15 @@ use Rattle.folder_change.specs.declared.change.Change.{Change}
 use Rattle.folder_change.specs.Outcomes.{bytes_of}
 use Rattle.folder_change.specs.Apply.{apply, first_refusal}
 use Rattle.commit_machine.specs.Names.{record_name, new_name, staged_name}
-use Rattle.commit_machine.specs.Records.{names_of, record_of}
+use Rattle.commit_machine.specs.Records.{names_of}
 use Rattle.commit_machine.specs.Settled.{Files}
 use Rattle.commit_machine.specs.Jobs.{Refusal, Ending, Done, Refused, Failed, NoMemory, Edit, Job, Made, Outcome, Puts, seen_files, seen_of, made_at, kind_made, go_of, prepare_of}
 use Rattle.commit_machine.specs.Jobs as jobs
 use Rattle.commit_machine.specs.Edits.{edit_for, outcome_for, cause_of}
-use Rattle.commit_machine.specs.Machine.{State, Looking, Preparing, Staging, Committing, Checking, Releasing, Answer, Call, ToLoad, ToStage, ToPublish, ToLock, Reply, Went, Saw, Long, Short, Fault, undoing, placing, loaded, judged, refused, next, after_reply, passed_ending, passed_by, is_own_go}
+use Rattle.commit_machine.specs.Machine.{State, Looking, Preparing, Staging, Committing, Checking, Releasing, Answer, Call, ToLoad, ToStage, ToPublish, ToLock, Reply, Went, Saw, Long, Short, Fault, undoing, placing, loaded, judged, refused, next, after_reply, passed_ending, passed_by, go_front}
 use Rattle.commit_machine.specs.Goes.{Goes}
 use Rattle.commit_machine.proofs.GoesLemmas.{goes_short}
-use Rattle.commit_machine.proofs.RecordLemmas.{record_of-written, record_of-is}
+use Rattle.commit_machine.proofs.FrontLemmas.{front-taken}
 use Rattle.folder_recovery.specs.Did.{Did, load_reply}
 use Rattle.folder_recovery.specs.Closing.{closed}
 use Rattle.folder_recovery.specs.Recovering.{Mends, Stops}
@@ -99,22 +101,23 @@ checked-saw j name c p es is says did = record { end = Failed (passed_by j c); i
 
 pub checked-not : (j : Job) (name : List ℕ) (e : LoadError) (es : List Event) → name ≡ record_name j.actor → Did (ToLoad name) (load_reply (Err e)) es → Checks j es passed.Unknown
 checked-not j name (load.TooLarge n) es is did =
-    record { end = Failed jobs.Unknown; is_as = (jobs.Unknown, refl); goes = goes_call j Checking (ToLoad name) (Long n) es (to-load (record_name j.actor) name is) did }
+    record { end = Failed jobs.Unknown; is_as = refl; goes = goes_call j Checking (ToLoad name) (Long n) es (to-load (record_name j.actor) name is) did }
 checked-not j name load.Failed es is did =
-    record { end = Failed jobs.Unknown; is_as = (jobs.Unknown, refl); goes = goes_call j Checking (ToLoad name) Fault es (to-load (record_name j.actor) name is) did }
+    record { end = Failed jobs.Unknown; is_as = refl; goes = goes_call j Checking (ToLoad name) Fault es (to-load (record_name j.actor) name is) did }
 checked-not j name load.Memory es is did =
-    record { end = Failed jobs.Unknown; is_as = (jobs.Unknown, refl); goes = goes_call j Checking (ToLoad name) Short es (to-load (record_name j.actor) name is) did }
+    record { end = Failed jobs.Unknown; is_as = refl; goes = goes_call j Checking (ToLoad name) Short es (to-load (record_name j.actor) name is) did }
 
--- what the record says
-pub own-go : (j : Job) (bytes : List ℕ) (r : Record) (p : Passed) → IsWritten bytes r → FailedAs p (Failed (if is_own_go j (Some r) then jobs.After else jobs.Before)) → FailedAs p (Failed (passed_by j (Some bytes)))
-own-go j bytes r p is says = subst (λ (o : Option Record). FailedAs p (Failed (if is_own_go j o then jobs.After else jobs.Before))) (sym (record_of-written bytes r is)) says
+-- the front of the text of a decision, as it is cut off
+front-cut : (j : Job) (go front : List ℕ) (m : ℕ) → m ≡ min (length go) 47 → front ≡ take m go → take 47 go ≡ go_front j.token → front ≡ go_front j.token
+front-cut j go front m is cut h = elim (cases_lt 47 (length go)) [
+  | inl long ↦ let e : m ≡ 47 = omega (arith, is, long) in cut ∙ ap (λ (n : ℕ). take n go) e ∙ h
+  | inr short ↦ let e : m ≡ length go = omega (arith, is, short) in cut ∙ ap (λ (n : ℕ). take n go) e ∙ take_all (length go) go (omega arith) ∙ sym (take_all 47 go short) ∙ h
+]
 
-pub no-record : (j : Job) (bytes : List ℕ) → ((r : Record) → IsWritten bytes r → ⊥) → Failed (passed_by j (Some bytes)) ≡ Failed jobs.Before
-no-record j bytes none = go (record_of bytes) refl
-  where
-    go : (o : Option Record) → record_of bytes ≡ o → Failed (if is_own_go j (record_of bytes) then jobs.After else jobs.Before) ≡ Failed jobs.Before
-    go None is = ap (λ (o : Option Record). Failed (if is_own_go j o then jobs.After else jobs.Before)) is
-    go (Some r) is = absurd (none r (record_of-is bytes r is))
+-- what stands begins so, or doesn't
+pub passed-so : (j : Job) (bytes front go : List ℕ) (m : ℕ) (b : Bool) → m ≡ min (length go) 47 → front ≡ take m go → starts_with nat_eq bytes front ≡ b → take 47 go ≡ go_front j.token → passed_by j (Some bytes) ≡ (if b then jobs.After else jobs.Before)
+passed-so j bytes front go m b is cut begins h =
+    ap (λ (x : Bool). if x then jobs.After else jobs.Before) (ap (starts_with nat_eq bytes) (sym (front-cut j go front m is cut h)) ∙ begins)
 
 kind-one : (k : EntryKind) → k ≡ Replace
 kind-one Replace = refl
@@ -128,6 +131,10 @@ names-ok token name texts is = ap (λ (v : Record). map (λ e. e.name) v.entries
 
 pub token-ok : (token : ℕ) (name : List ℕ) (texts : Texts) → IsTexts token name texts → texts.value.token ≡ token
 token-ok token name texts is = ap (λ (v : Record). v.token) is.value_is
+
+-- the front of the text of the decision
+pub front-ok : (token : ℕ) (name : List ℕ) (texts : Texts) → IsTexts token name texts → take 47 texts.go ≡ go_front token
+front-ok token name texts is = ap (take 47) is.go_is ∙ front-taken token (one_record Go token name).entries
 
 module _ (actor : List ℕ) (token : ℕ) (e : Edit) (refusal : Files → Option Refusal) where
   abbrev job : Job

@@ -4,3 +4,4 @@ pub mod EndLemmas
 pub mod RunLemmas
 pub mod SafeLemmas
 pub mod ToldLemmas
+pub mod LookLemmas

@@ -1,5 +1,5 @@
 -- The laws of the machine, of a commit.
-use Rattle.std.proofs.Common.{◌≡◌, ◌⊎◌, ◌<◌, ◌^◌, ℕ, true, false, List, [], ◌∷◌, ◌++◌, map, Option, Some, ap, sym, subst, inl, inr, ◌∙◌}
+use Rattle.std.proofs.Common.{◌≡◌, ◌<◌, ◌^◌, ℕ, true, false, List, [], ◌∷◌, ◌++◌, map, Option, Some, ap, sym, subst, inl, inr, ◌∙◌}
 use Rattle.std.specs.Prelude.{not}
 use Rattle.std.proofs.lemmas.Bool.{and_parts, not-true}
 use Rattle.std.proofs.lemmas.List.{append_cancel_left}
@@ -17,8 +17,7 @@ use Rattle.folder_change.specs.declared.change.Change.{Change}
 use Rattle.folder_change.specs.Changes.{name_of}
 use Rattle.commit_machine.specs.Names.{is_record_name}
 use Rattle.commit_machine.specs.Settled.{Mem}
-use Rattle.commit_machine.specs.Jobs.{Ending, Done, Refused, Failed, NoMemory, Edit, Job, IsJob, prepare_of, edits_of}
-use Rattle.commit_machine.specs.Jobs as jobs
+use Rattle.commit_machine.specs.Jobs.{Ending, Edit, Job, IsJob, edits_of}
 use Rattle.commit_machine.specs.Edits.{edit_for, job_for}
 use Rattle.commit_machine.specs.Machine.{Ended}
 use Rattle.commit_machine.specs.Laws.{IsRun, TellsDecisions}
@@ -60,11 +59,6 @@ is-job actor token c cs base fits files one =
     subst P (sym (named-once c cs one)) (one-job actor token (c ∷ cs) base (name_of c) fits file)
 
 -- the answer says how often there was a decision
-passed-so : (n : ℕ) (p : jobs.Passed) (end : Ending) → end ≡ Failed p → TellsDecisions end n → (n ≡ 0) ⊎ (n ≡ 1)
-passed-so n jobs.Before end is told = inl (rw is at told)
-passed-so n jobs.After end is told = inr (rw is at told)
-passed-so n jobs.Unknown end is told = rw is at told
-
 decided-so : (result : Result Unit CommitError) (end : Ending) (n : ℕ) → AnswersAs result end → TellsDecisions end n → DecidedSo result n
 decided-so (Ok u) end n is told = rw is at told
 decided-so (Err (error.Busy name)) end n is told = rw is at told
@@ -73,7 +67,7 @@ decided-so (Err (error.Changed name at)) end n is told = rw is at told
 decided-so (Err (error.TooLarge name k)) end n is told = rw is at told
 decided-so (Err (error.Disk passed.Before)) end n is told = rw is at told
 decided-so (Err (error.Disk passed.After)) end n is told = rw is at told
-decided-so (Err (error.Disk passed.Unknown)) end n is told = passed-so n is.0 end is.1 told
+decided-so (Err (error.Disk passed.Unknown)) end n is told = rw is at told
 decided-so (Err error.Memory) end n (inl is) told = rw is at told
 decided-so (Err error.Memory) end n (inr is) told = let e = is.1 in rw e at told
 decided-so (Err (error.TooManyNames k)) end n is told = absurd is

@@ -1,5 +1,5 @@
 -- A commit answers as its own events give it.
-use Rattle.std.proofs.Common.{◌≡◌, ◌⊎◌, ℕ, Bool, true, false, List, [], ◌∷◌, map, Option, Some, None, ◌||◌, refl, ap, sym, subst, inl, inr, ◌∙◌}
+use Rattle.std.proofs.Common.{◌≡◌, ◌⊎◌, ℕ, Bool, true, false, List, [], ◌∷◌, Option, Some, None, ◌||◌, refl, ap, sym, subst, inl, inr, ◌∙◌}
 use Rattle.std.specs.List.{list_any}
 use Rattle.std.specs.Option.{option_map}
 use Rattle.std.specs.declared.result.Result.{Result}
@@ -24,19 +24,17 @@ use Rattle.folder_change.specs.Changes.{name_of}
 use Rattle.folder_change.specs.Outcomes.{outcome_of}
 use Rattle.folder_change.specs.Apply.{Refusal as ChangeRefusal, apply, after, first_refusal, refusal_of, or_else}
 use Rattle.folder_change.proofs.ApplyLemmas.{apply-alone}
-use Rattle.commit_machine.specs.Edits.{job_for, edit_for, cause_of}
+use Rattle.commit_machine.specs.Edits.{edit_for, cause_of}
 use Rattle.folder_recovery.specs.Told.{is_failed}
 use Rattle.folder_recovery.proofs.GoesLemmas.{placing_cons}
 use Rattle.folder_commit.specs.declared.error.Passed.TheVariants as passed
 use Rattle.folder_commit.specs.declared.error.CommitError.{CommitError}
 use Rattle.folder_commit.specs.declared.error.CommitError.TheVariants as error
 use Rattle.folder_commit.specs.Ends.{AnswersAs, Commits}
-use Rattle.folder_commit.specs.Commits.{IsOfOne, IsCommit}
-use Rattle.folder_commit.specs.Told.{by_decision, by_changes, by_load, by_lock, by_standing, by_record, by_right, is_fault, TellsFaults, TellsEnd, IsTold}
+use Rattle.folder_commit.specs.Told.{by_decision, by_changes, by_load, by_lock, by_standing, by_record, by_right, is_fault, TellsFaults, TellsEnd}
 use Rattle.folder_commit.specs.Judging.{AllOf}
 use Rattle.folder_commit.specs.Steps.{job_of}
 use Rattle.folder_commit.proofs.EndLemmas.{made_of, loaded-one, seen-here}
-use Rattle.folder_commit.proofs.RunLemmas.{named-once}
 use Rattle.commit_machine.proofs.NameLemmas.{staged-new}
 
 pub erase-is : (n : List ℕ) (e : Event) → IsOf (ToErase n) e → (done : Bool) × (failed : Bool) × (e ≡ event.Erase n done failed)
@@ -143,10 +141,10 @@ module _ (j : Job) where
   good_loaded done e left c (Puts kind content) = good_loading _ left
 
   -- want of memory is no failure
-  abbrev AsBad : State → State → Type 0
+  abbrev pub AsBad : State → State → Type 0
   AsBad s t = Clean t × (is_bad t ≡ is_bad s)
 
-  refused_bad : (s : State) → Clean s → AsBad s (refused j s)
+  pub refused_bad : (s : State) → Clean s → AsBad s (refused j s)
   refused_bad Seizing h = (tt, refl)
   refused_bad Looking h = (tt, refl)
   refused_bad (Undoing r n ns ls GoOn) h = (tt, refl)
@@ -170,7 +168,7 @@ module _ (j : Job) where
   refused_bad (Ended e) h = (tt, refl)
 
   -- after an event a call has failed if one had before, or if this one did
-  abbrev Steps : State → Event → Type 0
+  abbrev pub Steps : State → Event → Type 0
   Steps s e = Clean (after_reply j s (reply e)) × (is_bad (after_reply j s (reply e)) ≡ (is_bad s || is_failed e))
 
   undoing-bad : (r : Record) (n : List ℕ) (ns ls : List (List ℕ)) (th : Then) → CleanThen th → (m : List ℕ) (done failed : Bool) → Steps (Undoing r n ns ls th) (event.Erase m done failed)
@@ -240,7 +238,7 @@ module _ (j : Job) where
   deciding-bad done m c true = (tt, refl)
   deciding-bad done m c false = (tt, refl)
 
-  committing-bad : (made : List Made) (from to : List ℕ) (done failed : Bool) → Steps (Committing made) (event.Publish from to done failed)
+  pub committing-bad : (made : List Made) (from to : List ℕ) (done failed : Bool) → Steps (Committing made) (event.Publish from to done failed)
   committing-bad made from to done true = (tt, refl)
   committing-bad made from to true false = good_placing (go_of j made) (all_of j) (all_of j) (Answer Done) refl
   committing-bad made from to false false = (tt, refl)
@@ -252,7 +250,7 @@ module _ (j : Job) where
       go true = refl
       go false = refl
 
-  step-bad : (s : State) (e : Event) → Clean s → IsNext (next j s) e → Steps s e
+  pub step-bad : (s : State) (e : Event) → Clean s → IsNext (next j s) e → Steps s e
   step-bad Seizing e h is = let w = seize-is (right_name j.actor) e is in subst (Steps Seizing) (sym w.2) (seizing-bad (right_name j.actor) w.0 w.1)
   step-bad Looking e h is = let w = load-is (record_name j.actor) e is in subst (Steps Looking) (sym w.1) (looking-bad (record_name j.actor) w.0)
   step-bad (Undoing r n ns ls th) e h is = let w = erase-is (staged_name r.token n) e is in subst (Steps (Undoing r n ns ls th)) (sym w.2) (undoing-bad r n ns ls th h (staged_name r.token n) w.0 w.1)
@@ -303,12 +301,12 @@ fault-so (Err (error.Changed name at)) end is = ap is_failed_end is
 fault-so (Err (error.TooLarge name n)) end is = ap is_failed_end is
 fault-so (Err (error.Disk passed.Before)) end is = ap is_failed_end is
 fault-so (Err (error.Disk passed.After)) end is = ap is_failed_end is
-fault-so (Err (error.Disk passed.Unknown)) end is = ap is_failed_end is.1
+fault-so (Err (error.Disk passed.Unknown)) end is = ap is_failed_end is
 fault-so (Err error.Memory) end (inl is) = ap is_failed_end is
 fault-so (Err error.Memory) end (inr is) = ap is_failed_end is.1
 fault-so (Err (error.TooManyNames n)) end is = absurd is
 
-tells-faults : (j : Job) (es : List Event) (result : Result Unit CommitError) → Commits j es result → TellsFaults es result
+pub tells-faults : (j : Job) (es : List Event) (result : Result Unit CommitError) → Commits j es result → TellsFaults es result
 tells-faults j es result h = sym (failed-told j es h.end h.goes) ∙ fault-so result h.end h.is_as
 
 -- what changes of one file are refused for depends on that file alone
@@ -588,7 +586,7 @@ module _ (actor : List ℕ) (token : ℕ) (changes : List Change) (base : List (
   not-short x end (inl p) other = sym p
   not-short x end (inr p) other = absurd (other p)
 
-  tells-end : (es : List Event) (result : Result Unit CommitError) (end : Ending) → AnswersAs result end → Goes job Seizing es (Ended end) → TellsFaults es result → TellsEnd (by_right actor changes base name es) result
+  pub tells-end : (es : List Event) (result : Result Unit CommitError) (end : Ending) → AnswersAs result end → Goes job Seizing es (Ended end) → TellsFaults es result → TellsEnd (by_right actor changes base name es) result
   tells-end es (Ok u) end is goes f = not-short _ end (walk es Seizing end f goes tt) (λ p. absurd (cc)) ∙ is
   tells-end es (Err (error.Busy n)) end is goes f = not-short _ end (walk es Seizing end f goes tt) (λ p. absurd (cc)) ∙ is
   tells-end es (Err error.Record) end is goes f = not-short _ end (walk es Seizing end f goes tt) (λ p. absurd (cc)) ∙ is
@@ -597,14 +595,3 @@ module _ (actor : List ℕ) (token : ℕ) (changes : List Change) (base : List (
   tells-end es (Err (error.Disk p)) end is goes f = tt
   tells-end es (Err error.Memory) end is goes f = tt
   tells-end es (Err (error.TooManyNames n)) end is goes f = absurd is
-
-pub is-told : (actor : List ℕ) (token : ℕ) (changes : List Change) (base : List (List ℕ)) (es : List Event) (result : Result Unit CommitError) → IsOfOne changes → IsCommit actor token changes base es result → IsTold actor changes base es result
-is-told actor token [] base es result one h =
-    let T : List Event → Result Unit CommitError → Type 0 = λ es r. TellsFaults es r in
-    subst (λ (z : List Event). T z result) (sym h.0) (subst (T []) (sym h.1) refl)
-is-told actor token (c ∷ cs) base es result one h =
-    let j = job_for actor token (c ∷ cs) base in
-    let faults = tells-faults j es result h in
-    let P : List (List ℕ) → Type 0 = λ ns. Commits (record { actor = actor; token = token; edits = Some (map (edit_for (c ∷ cs) base) ns); refusal = j.refusal }) es result in
-    let k = subst P (named-once c cs one) h in
-    (faults, tells-end actor token (c ∷ cs) base (name_of c) one es result k.end k.is_as k.goes faults)

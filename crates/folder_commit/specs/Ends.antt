@@ -17,11 +17,11 @@ use Rattle.folder_commit.specs.declared.error.Stop.TheVariants as stop
 use Rattle.folder_commit.specs.declared.error.CommitError.{CommitError}
 use Rattle.folder_commit.specs.declared.error.CommitError.TheVariants as error
 
--- a call failed; where it isn't known whether the decision was passed, nothing is said of it
+-- a call failed: before the decision, after it, or where it isn't known which
 abbrev pub FailedAs : Passed → Ending → Type 0
 FailedAs Before end = end ≡ Failed jobs.Before
 FailedAs After end = end ≡ Failed jobs.After
-FailedAs Unknown end = (passed : jobs.Passed) × (end ≡ Failed passed)
+FailedAs Unknown end = end ≡ Failed jobs.Unknown
 
 -- memory was wanting, which may hide a refusal
 abbrev pub WantedAs : Ending → Type 0

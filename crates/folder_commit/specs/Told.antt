@@ -18,6 +18,7 @@ use Rattle.commit_machine.specs.Records.{record_of}
 use Rattle.commit_machine.specs.Jobs.{Busy, NotARecord, TooLarge, Changed, Ending, Done, Refused, NoMemory}
 use Rattle.commit_machine.specs.Edits.{cause_of}
 use Rattle.folder_recovery.specs.Told.{is_failed}
+use Rattle.folder_commit.specs.declared.error.Passed.TheVariants.{Unknown}
 use Rattle.folder_commit.specs.declared.error.CommitError.{CommitError}
 use Rattle.folder_commit.specs.declared.error.CommitError.TheVariants as error
 
@@ -74,6 +75,27 @@ is_fault result = false
 abbrev pub TellsFaults : List Event → Result Unit CommitError → Type 0
 TellsFaults es result = list_any is_failed es ≡ is_fault result
 
+-- what follows at once is a load that didn't see what stands: it failed, wanted memory, or met too many bytes
+abbrev pub load_failed : List Event → Bool
+load_failed (Load n (seen.Bytes c held) ∷ es) = false
+load_failed (Load n s ∷ es) = true
+load_failed es = false
+
+-- a publication failed, and so did the load that followed; no publication but the decision's is followed by a load where it fails
+abbrev pub look_failed : List Event → Bool
+look_failed [] = false
+look_failed (Publish from to done true ∷ es) = load_failed es
+look_failed (e ∷ es) = look_failed es
+
+-- the answer says that it isn't known whether the decision was passed
+abbrev pub is_unknown : Result Unit CommitError → Bool
+is_unknown (Err (error.Disk Unknown)) = true
+is_unknown result = false
+
+-- it says so exactly where the publication of the decision failed, and so did the load that followed
+abbrev pub TellsUnknown : List Event → Result Unit CommitError → Type 0
+TellsUnknown es result = look_failed es ≡ is_unknown result
+
 -- without a fault, and but for want of memory, the answer is this end
 abbrev pub TellsEnd : Ending → Result Unit CommitError → Type 0
 TellsEnd end (Ok u) = end ≡ Done
@@ -85,8 +107,8 @@ TellsEnd end (Err (error.Disk passed)) = Unit {0}
 TellsEnd end (Err error.Memory) = Unit {0}
 TellsEnd end (Err (error.TooManyNames count)) = ⊥
 
--- The answer is as the own events give it, in this order: a call failed; the right or the record that stands refused it; the file's lock, its load
--- and the changes of it did; or it was decided.
+-- The answer is as the own events give it, in this order: a call failed, where it says too whether anything is known of the decision; the right or the
+-- record that stands refused it; the file's lock, its load and the changes of it did; or it was decided.
 abbrev pub IsTold : List ℕ → List Change → List (List ℕ) → List Event → Result Unit CommitError → Type 0
-IsTold actor [] base es result = TellsFaults es result
-IsTold actor (c ∷ cs) base es result = TellsFaults es result × TellsEnd (by_right actor (c ∷ cs) base (name_of c) es) result
+IsTold actor [] base es result = TellsFaults es result × TellsUnknown es result
+IsTold actor (c ∷ cs) base es result = TellsFaults es result × TellsUnknown es result × TellsEnd (by_right actor (c ∷ cs) base (name_of c) es) result

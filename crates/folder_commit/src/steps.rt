@@ -1,5 +1,5 @@
 // A commit of one file, while its right is held.
-ghost use Rattle.std.specs.Prelude.{◌≡◌, List, ℕ, [], ◌∷◌, map, Option, Some, Err, All, IsTrue, IsSome, option_copied, if◌then◌else◌};
+ghost use Rattle.std.specs.Prelude.{◌≡◌, List, ℕ, [], ◌∷◌, map, take, Option, Err, All, IsTrue, IsSome, option_copied};
 ghost use Rattle.host_port.specs.Calls.{NeverFall};
 ghost use Rattle.host_port.specs.Names.{IsFileName};
 ghost use Rattle.host_port.specs.Ran.{Ran};
@@ -8,9 +8,8 @@ ghost use Rattle.folder_change.specs.Outcomes.{base_list, bytes_of};
 ghost use Rattle.commit_machine.specs.Names.{record_name};
 ghost use Rattle.commit_machine.specs.Settled.{Files};
 ghost use Rattle.commit_machine.specs.Jobs.{Refusal, Ending, Failed, Before, Job, Edit, Made, prepare_of};
-ghost use Rattle.commit_machine.specs.Jobs as jobs;
 ghost use Rattle.commit_machine.specs.Edits.{edit_for};
-ghost use Rattle.commit_machine.specs.Machine.{Answer, Looking, Preparing, Publishing, Locking, Loading, Staging, Deciding, Committing, undoing, passed_ending, passed_by, is_own_go};
+ghost use Rattle.commit_machine.specs.Machine.{Answer, Looking, Preparing, Publishing, Locking, Loading, Staging, Deciding, Committing, undoing, passed_ending, passed_by, go_front};
 ghost use Rattle.folder_commit.specs.Judging.{AllOf, IsJudged};
 ghost use Rattle.folder_commit.specs.Ends.{FailedAs, StopsAs, Ends, StopCause, FaultCause, IsNoFault, one_job};
 ghost use Rattle.folder_commit.specs.Plans.{AreReady, AreSafe};
@@ -19,7 +18,7 @@ ghost use Rattle.folder_commit.specs.Steps.{Checks, TurnsOut, judged_one, job_of
 use crate::error::{Passed, Stop};
 use crate::judge::judge;
 use crate::plan::{Names, Texts};
-use commit_record::{Entry, Phase, Record, RecordError, read};
+use commit_record::Entry;
 use folder_change::Change;
 use folder_recovery::MendError;
 use folder_recovery::calls::{load, lock, publish, stage};
@@ -30,14 +29,18 @@ use mail_text::Text;
 use mbox_scan::Folder;
 use std::alloc::Global;
 
-// Whether a record is that of this token's decision.
-fn is_passed(value: &Record, token: u64) -> Passed
-    ensures { (j : Job) → j.token ≡ token → FailedAs result (Failed (if is_own_go j (Some value.now) then jobs.After else Before)) }
+/// The bytes of the first three lines of a decision's text, which tell phase and token.
+const FRONT: usize = 47;
+
+// Whether what stands as the record is that of the decision, by the front of the decision's text.
+fn passed_by(go: &[u8], found: Option<&Text>) -> Passed
+    ensures { (j : Job) → take 47 go.now ≡ go_front j.token → FailedAs result (Failed (passed_by j (option_copied found.entry))) }
 {
-    match value.phase {
-        Phase::Prepare => Passed::Before,
-        Phase::Go => {
-            if value.token == token {
+    let (front, _) = go.split_at(go.len().min(FRONT));
+    match found {
+        None => Passed::Before,
+        Some(text) => {
+            if text.bytes().starts_with(front) {
                 Passed::After
             } else {
                 Passed::Before
@@ -46,28 +49,14 @@ fn is_passed(value: &Record, token: u64) -> Passed
     }
 }
 
-// The same of what stands as the record.
-fn passed_by(alloc: Global, token: u64, found: Option<&Text>) -> Passed
-    ensures { (j : Job) → j.token ≡ token → FailedAs result (Failed (passed_by j (option_copied found.entry))) }
-{
-    match found {
-        None => Passed::Before,
-        Some(text) => match read(alloc, text.bytes()) {
-            Ok(value) => is_passed(&value, token),
-            Err(RecordError::NotARecord) => Passed::Before,
-            Err(RecordError::Memory) => Passed::Unknown,
-        },
-    }
-}
-
-// Looks at the record after its publication failed.
-fn check<H: Host>(alloc: Global, host: &mut H, name: &[u8], token: u64) -> Passed
+// Looks at the record after its publication failed; the other text is that of the decision.
+fn check<H: Host>(alloc: Global, host: &mut H, name: &[u8], go: &[u8]) -> Passed
     requires { IsFileName name.now }
-    ensures ran { (j : Job) → name.now ≡ record_name j.actor → j.token ≡ token → Ran H.start H.told H.counts host.old host.new (λ es. Checks j es result) }
+    ensures ran { (j : Job) → name.now ≡ record_name j.actor → take 47 go.now ≡ go_front j.token → Ran H.start H.told H.counts host.old host.new (λ es. Checks j es result) }
     ensures counts { NeverFall (H.counts host.old) (H.counts host.new) }
 {
     match load(alloc, host, name) {
-        Ok(answer) => passed_by(alloc, token, answer.bytes.as_ref()),
+        Ok(answer) => passed_by(go, answer.bytes.as_ref()),
         Err(_) => Passed::Unknown,
     }
 }
@@ -105,7 +94,7 @@ fn decide<H: Host>(alloc: Global, host: &mut H, names: &Names, texts: &Texts) ->
         },
         Ok(false) => Err(Stop::Record),
         Err(DiskFault) => Err(Stop::Disk {
-            passed: check(alloc, host, name, texts.value.token),
+            passed: check(alloc, host, name, texts.go.bytes()),
         }),
     }
 }

@@ -262,6 +262,33 @@ fn commits_answer_so(rt: HostRuntime) -> Result<(), Fail> {
     Ok(())
 }
 
+/// What a decision that fails leaves, which call fails beside it (the tenth is the look), and what comes: the letter of the answer, and
+/// what stands.
+const LOOKS: [(Done, u64, u8, &str); 4] = [
+    (Done::Before, 0, b'-', "old 41"),
+    (Done::After, 0, b'+', "old 31"),
+    (Done::Before, 10, b'?', "old 41"),
+    (Done::After, 10, b'?', "old 31"),
+];
+
+// A host where the decision fails, and the call of this number too.
+fn host_unsure(alloc: Global, done: Done, call: u64) -> Result<MemHost, Memory> {
+    let plan = plan(alloc, &[(9, done), (call, Done::Before)], Other::Nobody)?;
+    MemHost::new(alloc, start(alloc)?, Text::new(alloc), plan)
+}
+
+#[test]
+fn a_decision_that_failed_is_looked_at(rt: HostRuntime) -> Result<(), Fail> {
+    let alloc = rt.alloc();
+    for (done, call, want, left) in LOOKS {
+        let answer = answered(alloc, host_unsure(alloc, done, call)?)?;
+        assert_eq!(rt; answer.0, want);
+        assert_eq!(rt; answer.1, 11);
+        assert_eq!(rt; answer.2.bytes(), left.as_bytes());
+    }
+    Ok(())
+}
+
 #[test]
 fn names_of_files_are_told(rt: HostRuntime) -> Result<(), Fail> {
     let rows: [(&[u8], bool); 9] = [

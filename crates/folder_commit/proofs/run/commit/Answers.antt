@@ -1,7 +1,7 @@
 use Rattle.std.specs.Prelude.{option_copied}
 use Rattle.folder_change.specs.Outcomes.{base_list}
 use Rattle.host_port.proofs.RanLemmas.{Ran-map}
-use Rattle.folder_commit.proofs.ToldLemmas.{is-told}
+use Rattle.folder_commit.proofs.LookLemmas.{is-told}
 use Rattle.folder_commit.proofs.SafeLemmas.{ran-safely}
 use Rattle.folder_commit.proofs.run.commit.Goals as goal
 

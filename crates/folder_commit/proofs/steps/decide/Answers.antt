@@ -1,9 +1,9 @@
-use Rattle.std.proofs.Common.{◌∙◌, sym}
+use Rattle.std.proofs.Common.{◌∙◌, ap, take}
 use Rattle.host_port.proofs.RanLemmas.{Ran-then, Ran-map}
 use Rattle.commit_machine.specs.Jobs.{Done}
 use Rattle.commit_machine.specs.Machine.{Answer}
 use Rattle.folder_commit.specs.Ends.{one_job}
-use Rattle.folder_commit.proofs.EndLemmas.{decided, decided-fault, undecided, unsure, staged-ok, token-ok}
+use Rattle.folder_commit.proofs.EndLemmas.{decided, decided-fault, undecided, unsure, staged-ok, front-ok}
 use Rattle.folder_commit.proofs.steps.decide.Goals as goal
 
 pub returns-in-Ok-clause-ran : goal.returns-in-Ok-clause-ran
@@ -32,4 +32,4 @@ returns-in-Err-clause-ran g c = λ actor token e refusal made ready.
     let name = c.bytes-name.ensures ∙ ready.0.record_is in
     Ran-then (λ front more p q. unsure actor token e refusal made c.check.result c.bytes.result.now c.bytes-name.result.now front more (c.bytes.ensures ∙ ready.0.new_is) name p q)
     c.in-Err.ensures.ran
-    (c.check.ensures.ran (one_job actor token e refusal) name (sym (token-ok token e.name c.args.texts.now ready.1)))
+    (c.check.ensures.ran (one_job actor token e refusal) name (ap (take 47) c.bytes-in-Err.ensures ∙ front-ok token e.name c.args.texts.now ready.1))

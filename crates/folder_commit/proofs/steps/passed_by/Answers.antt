@@ -1,13 +1,17 @@
-use Rattle.std.proofs.Common.{List, ℕ, subst, sym, ap, Err}
-use Rattle.commit_record.specs.Format.{IsWritten}
-use Rattle.folder_commit.proofs.EndLemmas.{own-go, no-record}
+use Rattle.std.proofs.Common.{List, ℕ, true, false, nat_eq, ap, sym, ◌∙◌}
+use Rattle.std.specs.List.{starts_with}
+use Rattle.commit_machine.specs.Jobs.{Failed}
+use Rattle.folder_commit.proofs.EndLemmas.{passed-so}
 use Rattle.folder_commit.proofs.steps.passed_by.Goals as goal
 
-pub returns-in-Ok : goal.returns-in-Ok
-returns-in-Ok c = λ j is.
-    let W : List ℕ → Type 0 = λ b. IsWritten b c.in-Ok.value in
-    rw c.in-Some.is (own-go j c.in-Some.text.now c.in-Ok.value c.is_passed.result (subst W c.bytes.ensures c.in-Ok.ensures.ok) (c.is_passed.ensures j is))
+pub returns-then-starts_with : goal.returns-then-starts_with
+returns-then-starts_with c = λ j h.
+    let front = c.split_at.result.0.now in
+    let begins = ap (λ (bytes : List ℕ). starts_with nat_eq bytes front) (sym c.bytes.ensures) ∙ sym c.starts_with.ensures.value ∙ c.if-starts_with.true in
+    rw c.in-Some.is (ap Failed (passed-so j c.in-Some.text.now front c.args.go.now c.min.result true c.min.ensures c.split_at.ensures.front begins h))
 
-pub returns-in-Err-NotARecord : goal.returns-in-Err-NotARecord
-returns-in-Err-NotARecord c = λ j is.
-    rw c.in-Some.is (no-record j c.in-Some.text.now (let none = c.in-Err-NotARecord.ensures.not_a_record (ap Err c.in-Err-NotARecord.field-0-is) in λ r w. none r (subst (λ (b : List ℕ). IsWritten b r) (sym c.bytes.ensures) w)))
+pub returns-else-starts_with : goal.returns-else-starts_with
+returns-else-starts_with c = λ j h.
+    let front = c.split_at.result.0.now in
+    let begins = ap (λ (bytes : List ℕ). starts_with nat_eq bytes front) (sym c.bytes.ensures) ∙ sym c.starts_with.ensures.value ∙ c.if-starts_with.false in
+    rw c.in-Some.is (ap Failed (passed-so j c.in-Some.text.now front c.args.go.now c.min.result false c.min.ensures c.split_at.ensures.front begins h))
