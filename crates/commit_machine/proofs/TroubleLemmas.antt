@@ -1,15 +1,17 @@
 -- The runs that meet trouble, by computing.
-use Rattle.std.proofs.Common.{ℕ, true, false, List, ◌∷◌, ◌++◌, refl, inl}
+use Rattle.std.proofs.Common.{[], ℕ, true, false, List, ◌∷◌, ◌++◌, refl, inl, Some}
 use Rattle.hex.specs.Hex.{encode_with}
+use Rattle.commit_record.specs.Format.{written}
+use Rattle.commit_record.specs.declared.record.Phase.TheVariants.{Prepare, Go}
 use Rattle.host_port.specs.declared.event.Event.{Event}
 use Rattle.host_port.specs.declared.event.Event.TheVariants as event
 use Rattle.host_port.specs.declared.event.Seen.TheVariants as seen
 use Rattle.commit_machine.specs.Names.{record_name, new_name, right_name, staged_name}
 use Rattle.commit_machine.specs.Jobs.{Before, After, Unknown, TooLarge, Refused, Failed, NoMemory}
-use Rattle.commit_machine.specs.Machine.{State, Seizing, Ended}
+use Rattle.commit_machine.specs.Machine.{State, Seizing, Ended, go_front}
 use Rattle.commit_machine.specs.Goes.{Goes, loads, publishes, erases, locks, unlocks, releases}
-use Rattle.commit_machine.specs.Worked.{alone, alone_last, home, out, nothing, one_file}
-use Rattle.commit_machine.specs.Troubles.{MayEnd, release, clean_up, record_too_long, file_too_long, no_memory, failed_before, failed_unknown, failed_after, TroubledRuns}
+use Rattle.commit_machine.specs.Worked.{alone, alone_last, home, out, nothing, one_file, record_for}
+use Rattle.commit_machine.specs.Troubles.{MayEnd, release, clean_up, record_too_long, file_too_long, no_memory, failed_before, failed_unknown, looked_before, looked_after, failed_after, TroubledRuns}
 use Rattle.commit_machine.proofs.GoesLemmas.{goes_then}
 use Rattle.commit_machine.proofs.WorkedLemmas.{alone_goes}
 
@@ -37,9 +39,17 @@ unknown : MayEnd failed_unknown (Failed Unknown)
 unfolding record_name new_name right_name staged_name encode_with
 unknown = behind 8 (event.Publish (new_name home) (record_name home) true true ∷ event.Load (record_name home) seen.Failed ∷ release) (Ended (Failed Unknown)) (_, inl refl, publishes, (_, inl refl, loads, (_, inl refl, releases, inl refl)))
 
+looked_old : MayEnd looked_before (Failed Before)
+unfolding record_name new_name right_name staged_name encode_with go_front written
+looked_old = behind 8 (event.Publish (new_name home) (record_name home) false true ∷ event.Load (record_name home) (seen.Bytes (Some (written (record_for Prepare (out ∷ [])))) false) ∷ release) (Ended (Failed Before)) (_, inl refl, publishes, (_, inl refl, loads, (_, inl refl, releases, inl refl)))
+
+looked_new : MayEnd looked_after (Failed After)
+unfolding record_name new_name right_name staged_name encode_with go_front written
+looked_new = behind 8 (event.Publish (new_name home) (record_name home) true true ∷ event.Load (record_name home) (seen.Bytes (Some (written (record_for Go (out ∷ [])))) false) ∷ release) (Ended (Failed After)) (_, inl refl, publishes, (_, inl refl, loads, (_, inl refl, releases, inl refl)))
+
 after_it : MayEnd failed_after (Failed After)
 unfolding record_name new_name right_name staged_name encode_with
 after_it = behind 9 (event.Publish (staged_name 1 out) out false true ∷ release) (Ended (Failed After)) (_, inl refl, publishes, (_, inl refl, releases, inl refl))
 
 pub troubled_runs : TroubledRuns
-troubled_runs = record { record_too_long = long_record; file_too_long = long_file; no_memory = short; failed_before = before; failed_unknown = unknown; failed_after = after_it }
+troubled_runs = record { record_too_long = long_record; file_too_long = long_file; no_memory = short; failed_before = before; failed_unknown = unknown; looked_before = looked_old; looked_after = looked_new; failed_after = after_it }

@@ -15,7 +15,7 @@ use Rattle.commit_machine.specs.Jobs.{Before, After, Unknown, Ending, Done, Fail
 use Rattle.commit_machine.specs.Machine.{State, Seizing, Placing, Unlocking, Erasing, Committing, Checking, Releasing, Ended, Then, GoOn, Answer, Fault, next, refused, after_reply, faulted, passed_at, passed_then, passed_ending, passed_by, go_front}
 use Rattle.commit_machine.specs.Goes.{IsNext, Goes, reply}
 use Rattle.commit_machine.specs.Edits.{job_for, edit_for}
-use Rattle.folder_recovery.specs.Told.{is_failed}
+use Rattle.commit_machine.specs.Restraints.{is_failed}
 use Rattle.folder_commit.specs.declared.error.Passed.TheVariants as passed
 use Rattle.folder_commit.specs.declared.error.CommitError.{CommitError}
 use Rattle.folder_commit.specs.declared.error.CommitError.TheVariants as error

@@ -25,7 +25,7 @@ use Rattle.folder_change.specs.Outcomes.{outcome_of}
 use Rattle.folder_change.specs.Apply.{Refusal as ChangeRefusal, apply, after, first_refusal, refusal_of, or_else}
 use Rattle.folder_change.proofs.ApplyLemmas.{apply-alone}
 use Rattle.commit_machine.specs.Edits.{edit_for, cause_of}
-use Rattle.folder_recovery.specs.Told.{is_failed}
+use Rattle.commit_machine.specs.Restraints.{is_failed}
 use Rattle.folder_recovery.proofs.GoesLemmas.{placing_cons}
 use Rattle.folder_commit.specs.declared.error.Passed.TheVariants as passed
 use Rattle.folder_commit.specs.declared.error.CommitError.{CommitError}

@@ -17,7 +17,7 @@ use Rattle.commit_machine.specs.Names.{record_name, new_name, right_name}
 use Rattle.commit_machine.specs.Records.{record_of}
 use Rattle.commit_machine.specs.Jobs.{Busy, NotARecord, TooLarge, Changed, Ending, Done, Refused, NoMemory}
 use Rattle.commit_machine.specs.Edits.{cause_of}
-use Rattle.folder_recovery.specs.Told.{is_failed}
+use Rattle.commit_machine.specs.Restraints.{is_failed}
 use Rattle.folder_commit.specs.declared.error.Passed.TheVariants.{Unknown}
 use Rattle.folder_commit.specs.declared.error.CommitError.{CommitError}
 use Rattle.folder_commit.specs.declared.error.CommitError.TheVariants as error

@@ -21,7 +21,8 @@ use Rattle.folder_recovery.specs.declared.recovery.Recovered.{Recovered as Found
 use Rattle.folder_recovery.specs.declared.error.RecoverError.{RecoverError}
 use Rattle.folder_recovery.specs.declared.error.RecoverError.TheVariants as error
 use Rattle.folder_recovery.specs.Recovering.{found, GoesTo, Recovers}
-use Rattle.folder_recovery.specs.Told.{is_failed, unless_failed, end_read, told_end, IsTold}
+use Rattle.commit_machine.specs.Restraints.{is_failed}
+use Rattle.folder_recovery.specs.Told.{unless_failed, end_read, told_end, IsTold}
 use Rattle.folder_recovery.proofs.GoesLemmas.{placing_cons}
 
 -- an end that is this one, or want of memory

@@ -1,38 +1,23 @@
 -- The answer of a recovery as its own events give it.
-use Rattle.std.specs.Prelude.{◌≡◌, ℕ, Bool, true, false, List, ◌∷◌, if◌then◌else◌}
+use Rattle.std.specs.Prelude.{◌≡◌, ℕ, true, false, List, ◌∷◌, if◌then◌else◌}
 use Rattle.std.specs.List.{list_any}
 use Rattle.std.specs.declared.option.Option.{Option}
 use Rattle.std.specs.declared.option.Option.TheVariants.{Some, None}
 use Rattle.std.specs.declared.result.Result.{Result}
 use Rattle.std.specs.declared.result.Result.TheVariants.{Ok, Err}
 use Rattle.host_port.specs.declared.event.Event.{Event}
-use Rattle.host_port.specs.declared.event.Event.TheVariants.{Load, Stage, Publish, Erase, Lock, Unlock, Seize}
+use Rattle.host_port.specs.declared.event.Event.TheVariants.{Load, Seize}
 use Rattle.host_port.specs.declared.event.Seen.{Seen}
 use Rattle.host_port.specs.declared.event.Seen.TheVariants as seen
 use Rattle.commit_record.specs.declared.record.Record.{Record}
 use Rattle.commit_machine.specs.Names.{record_name, right_name}
 use Rattle.commit_machine.specs.Records.{record_of, is_go}
 use Rattle.commit_machine.specs.Jobs.{Before, Nothing, RolledBack, Finished, Busy, NotARecord, TooLarge, Ending, Recovered, Refused, Failed, NoMemory}
+use Rattle.commit_machine.specs.Restraints.{is_failed}
 use Rattle.folder_recovery.specs.declared.recovery.Recovered.{Recovered as Answer}
 use Rattle.folder_recovery.specs.declared.error.RecoverError.{RecoverError}
 use Rattle.folder_recovery.specs.declared.error.RecoverError.TheVariants as error
 use Rattle.folder_recovery.specs.Recovering.{found}
-
--- a load that failed
-abbrev pub is_failed_load : Seen → Bool
-is_failed_load seen.Failed = true
-is_failed_load s = false
-
--- the event of a call that failed
-abbrev pub is_failed : Event → Bool
-is_failed (Load n s) = is_failed_load s
-is_failed (Stage n c failed) = failed
-is_failed (Publish from to done failed) = failed
-is_failed (Erase n done failed) = failed
-is_failed (Lock n t got failed) = failed
-is_failed (Unlock n t done failed) = failed
-is_failed (Seize n got failed) = failed
-is_failed e = false
 
 -- a failure among the events comes before all else
 abbrev pub unless_failed : List Event → Ending → Ending
