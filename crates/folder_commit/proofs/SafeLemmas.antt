@@ -19,7 +19,7 @@ use Rattle.folder_change.specs.Changes.{name_of}
 use Rattle.folder_change.specs.Apply.{Refusal as ChangeRefusal, first_refusal}
 use Rattle.commit_machine.specs.Names.{is_record_name}
 use Rattle.commit_machine.specs.Settled.{Mem}
-use Rattle.commit_machine.specs.Jobs.{Ending, Edit, Job, IsJob, edits_of, all_of}
+use Rattle.commit_machine.specs.Jobs.{Ending, Edit, IsJob, edits_of, all_of}
 use Rattle.commit_machine.specs.Due.{settled_files, files_after}
 use Rattle.commit_machine.specs.Edits.{cause_of, edit_for, job_for}
 use Rattle.commit_machine.specs.Machine.{Ended}
