@@ -1,4 +1,5 @@
-ghost use Rattle.std.specs.Prelude.{◌≡◌, ◌↔◌, ℤ, pos, Err, IsOk, IfOk};
+ghost use Rattle.std.specs.Prelude.{◌≡◌, ◌↔◌, ℤ, pos, None, Err, IsOk, IfOk, codes};
+ghost use Rattle.jiff_tz.specs.Abbreviation.{abbreviation_text};
 ghost use Rattle.mail_dates.specs.Clock.{IsPrintable};
 ghost use Rattle.mail_dates.specs.Zones.{IsRule, HasRule, zone_offset, within_years};
 
@@ -52,9 +53,11 @@ pub fn zone_of(_alloc: Global, tz: &[u8]) -> Result<Zone, ZoneError>
     }
 }
 
-/// The zone whose clocks show UTC.
+/// The zone whose clocks show UTC, and which goes by that name.
 pub fn utc() -> Zone
-    ensures { (seconds : ℤ) → zone_offset result seconds ≡ pos 0 }
+    ensures offset { (seconds : ℤ) → zone_offset result seconds ≡ pos 0 }
+    ensures name { abbreviation_text result.rule.std_abbrev ≡ codes "UTC" }
+    ensures summer { result.rule.dst ≡ None }
 {
     Zone {
         rule: TimeZone {

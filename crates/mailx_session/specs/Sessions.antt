@@ -53,3 +53,8 @@ next_of desk (flow.End e) = Last e
 abbrev pub next_desk : Desk → Result Flow Stop → Result (Next Desk End) Stop
 next_desk desk (Ok f) = Ok (next_of desk f)
 next_desk desk (Err cause) = Err cause
+
+-- where the run ends, the desk stays
+abbrev pub StaysAtEnd : Desk → Desk → Flow → Type 0
+StaysAtEnd old new flow.Go = Unit {0}
+StaysAtEnd old new (flow.End e) = new ≡ old

@@ -5,7 +5,7 @@ ghost use Rattle.session_play.specs.Play.{Play, Ask, Ret, Say, Goes, Caused};
 ghost use Rattle.mailx_vars.specs.Environment.{knows_user};
 ghost use Rattle.read_commands.specs.Desks.{IsDesk};
 ghost use Rattle.read_commands.specs.Effects.{effect};
-ghost use Rattle.mailx_session.specs.Sessions.{asked_for, settled, carried_out, line_play, next_of, next_desk, EndsDone};
+ghost use Rattle.mailx_session.specs.Sessions.{asked_for, settled, carried_out, line_play, next_of, next_desk, EndsDone, StaysAtEnd};
 ghost use Rattle.mailx_session.specs.Openings.{first_desk, greeting, Opens};
 
 use crate::flow::{End, Flow};
@@ -109,6 +109,8 @@ impl Session {
         requires { IsDesk (effect self.old steps.effects) }
         ensures ran { Ran H.start H.told H.counts host.old host.new (λ es. Goes (carried_out self.old (Ok steps)) es (next_desk self.new result)) }
         ensures done { IfOk result EndsDone }
+        ensures end { IfOk result (StaysAtEnd self.old self.new) }
+        ensures err { OnErr result (self.new ≡ self.old) }
         ensures cause { Caused (H.counts host.old) (H.counts host.new) result }
     {
         let Steps { asks, effects } = steps;
@@ -121,6 +123,7 @@ impl Session {
         requires { IsDesk (effect self.old effects) }
         ensures settled { settled self.old effects ended ≡ Ret (next_of self.new result) }
         ensures done { IfSome ended (λ e. e ≡ End.Done) → EndsDone result }
+        ensures end { StaysAtEnd self.old self.new result }
     {
         match ended {
             Some(end) => Flow::End(end),
@@ -131,10 +134,12 @@ impl Session {
         }
     }
 
-    /// Takes one input line, without its line feed.
+    /// Takes one input line, without its line feed. The desk changes only where the run goes on.
     pub fn step<H: Host>(&mut self, line: &[u8], host: &mut H) -> Result<Flow, Stop>
         ensures ran { Ran H.start H.told H.counts host.old host.new (λ es. Goes (line_play self.old line.now) es (next_desk self.new result)) }
         ensures done { IfOk result EndsDone }
+        ensures end { IfOk result (StaysAtEnd self.old self.new) }
+        ensures err { OnErr result (self.new ≡ self.old) }
         ensures cause { Caused (H.counts host.old) (H.counts host.new) result }
     {
         match perform_line(self.alloc, line, &self.desk) {

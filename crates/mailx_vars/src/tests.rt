@@ -113,31 +113,58 @@ fn odd_call<'a>(alloc: Global, vars: &mut Vars, calls: &'a str) -> Result<Option
     Ok(None)
 }
 
+// Whether these are the variables, in order.
+fn are_listed(alloc: Global, vars: &Vars, want: &str) -> Result<bool, Fail> {
+    let list = listing(alloc, vars)?;
+    Ok(list.bytes() == want.as_bytes())
+}
+
+// Whether a copy has these variables, also when one of them was unset.
+fn copies(alloc: Global, vars: &mut Vars, want: &str) -> Result<bool, Fail> {
+    let copy = vars.copy()?;
+    let unset = vars.unset(b"folder");
+    Ok(unset && are_listed(alloc, &copy, want)?)
+}
+
 #[test]
 fn sets_and_unsets(rt: HostRuntime) -> Result<(), Fail> {
     let mut vars = Vars::new(rt.alloc())?;
-    assert_eq!(rt; listing(rt.alloc(), &vars)?.bytes(), DEFAULTS.as_bytes());
-    assert_eq!(rt; odd_call(rt.alloc(), &mut vars, CALLS)?, None);
-    assert!(rt; vars.flag(b"keep") && !vars.flag(b"asksub"));
-    let copy = vars.copy()?;
-    assert!(rt; vars.unset(b"folder"));
-    assert_eq!(rt; listing(rt.alloc(), &copy)?.bytes(), AFTERWARDS.as_bytes());
+    let first = are_listed(rt.alloc(), &vars, DEFAULTS)?;
+    let odd = odd_call(rt.alloc(), &mut vars, CALLS)?;
+    let flags = vars.flag(b"keep") && !vars.flag(b"asksub");
+    let copied = copies(rt.alloc(), &mut vars, AFTERWARDS)?;
+    assert_eq!(rt; odd, None);
+    assert!(rt; first && flags && copied);
     variables_are_kept();
     Ok(())
+}
+
+// Sets so many variables, and says whether it could.
+fn fill(alloc: Global, vars: &mut Vars, count: u32) -> Result<bool, Fail> {
+    for n in 0..count {
+        let name = format!(in alloc; "v{n}")?;
+        if vars.set(name.as_bytes(), b"").is_err() {
+            return Ok(false);
+        }
+    }
+    Ok(true)
+}
+
+// Whether there are a thousand, of which this is the last.
+fn ends_a_thousand(vars: &Vars, last: &[u8]) -> bool {
+    vars.count() == 1_000
+        && vars.name(999) == Some(last)
+        && vars.name(1_000) == None
+        && vars.value(1_000) == None
 }
 
 #[test]
 fn holds_a_thousand(rt: HostRuntime) -> Result<(), Fail> {
     let mut vars = Vars::new(rt.alloc())?;
-    for n in 0..991 {
-        let name = format!(in rt.alloc(); "v{n}")?;
-        assert!(rt; vars.set(name.as_bytes(), b"").is_ok());
-    }
-    assert_eq!(rt; odd_call(rt.alloc(), &mut vars, FULL)?, None);
-    assert_eq!(rt; vars.count(), 1_000);
-    assert_eq!(rt; vars.name(999), Some(b"new".as_slice()));
-    assert_eq!(rt; vars.name(1_000), None);
-    assert_eq!(rt; vars.value(1_000), None);
+    let filled = fill(rt.alloc(), &mut vars, 991)?;
+    let odd = odd_call(rt.alloc(), &mut vars, FULL)?;
+    assert_eq!(rt; odd, None);
+    assert!(rt; filled && ends_a_thousand(&vars, b"new"));
     Ok(())
 }
 
@@ -209,23 +236,29 @@ fn read(alloc: Global, text: &str) -> Result<Text, Fail> {
     }
 }
 
+// Whether an environment makes these places, and is known to have a user where there are any.
+fn makes(alloc: Global, text: &str, want: &str) -> Result<bool, Fail> {
+    let got = read(alloc, text)?;
+    let pairs = environment(alloc, text)?;
+    Ok(got.bytes() == want.as_bytes() && knows_user(&pairs) != want.is_empty())
+}
+
+// Whether a value of COLUMNS makes this width.
+fn is_width(alloc: Global, columns: &str, want: &str) -> Result<bool, Fail> {
+    let text = format!(in alloc; "HOME=/h;LOGNAME=u;COLUMNS={columns}")?;
+    let got = read(alloc, &text)?;
+    Ok(got.bytes().ends_with(want.as_bytes()))
+}
+
 #[test]
 fn reads_the_environment(rt: HostRuntime) -> Result<(), Fail> {
     for line in ENVIRONMENTS.lines() {
         let (text, want) = cut(line);
-        assert_eq!(rt;
-            read(rt.alloc(), text)?.bytes(),
-            want.as_bytes(),
-            "of {text}"
-        );
-        let pairs = environment(rt.alloc(), text)?;
-        assert_eq!(rt; knows_user(&pairs), !want.is_empty(), "of {text}");
+        assert!(rt; makes(rt.alloc(), text, want)?, "of {text}");
     }
     for line in WIDTHS.lines() {
         let (columns, want) = cut(line);
-        let text = format!(in rt.alloc(); "HOME=/h;LOGNAME=u;COLUMNS={columns}")?;
-        let got = read(rt.alloc(), &text)?;
-        assert!(rt; got.bytes().ends_with(want.as_bytes()), "of {columns}");
+        assert!(rt; is_width(rt.alloc(), columns, want)?, "of {columns}");
     }
     Ok(())
 }
@@ -298,24 +331,61 @@ fn expanded(
     }
 }
 
-#[test]
-fn expands_names(rt: HostRuntime) -> Result<(), Fail> {
-    let pairs = environment(rt.alloc(), "HOME=/h;LOGNAME=u;MAIL=/v/u")?;
-    let mut vars = Vars::new(rt.alloc())?;
-    if let Some(places) = Places::read(rt.alloc(), &pairs)? {
-        for line in NAMES.lines() {
-            let (name, rest) = cut(line);
-            let (previous, want) = cut(rest);
-            let got = expanded(rt.alloc(), name, &places, &vars, previous)?;
-            assert_eq!(rt; got.bytes(), want.as_bytes(), "of {line}");
-        }
-        for line in FOLDERS.lines() {
-            let (folder, rest) = cut(line);
-            let (name, want) = cut(rest);
-            assert!(rt; vars.set(b"folder", folder.as_bytes()).is_ok());
-            let got = expanded(rt.alloc(), name, &places, &vars, "")?;
-            assert_eq!(rt; got.bytes(), want.as_bytes(), "of {line}");
+// The same, where the variable `folder` is set so.
+fn expanded_in(alloc: Global, folder: &str, name: &str, places: &Places) -> Result<Text, Fail> {
+    let mut vars = Vars::new(alloc)?;
+    match vars.set(b"folder", folder.as_bytes()) {
+        Ok(()) => expanded(alloc, name, places, &vars, ""),
+        Err(_) => Ok(Text::new(alloc)),
+    }
+}
+
+// The first line of NAMES that a name doesn't meet.
+fn odd_name(alloc: Global, places: &Places, vars: &Vars) -> Result<Option<&'static str>, Fail> {
+    for line in NAMES.lines() {
+        let (name, rest) = cut(line);
+        let (previous, want) = cut(rest);
+        let got = expanded(alloc, name, places, vars, previous)?;
+        if got.bytes() != want.as_bytes() {
+            return Ok(Some(line));
         }
     }
+    Ok(None)
+}
+
+// The first line of FOLDERS that a name doesn't meet.
+fn odd_folder(alloc: Global, places: &Places) -> Result<Option<&'static str>, Fail> {
+    for line in FOLDERS.lines() {
+        let (folder, rest) = cut(line);
+        let (name, want) = cut(rest);
+        let got = expanded_in(alloc, folder, name, places)?;
+        if got.bytes() != want.as_bytes() {
+            return Ok(Some(line));
+        }
+    }
+    Ok(None)
+}
+
+// The first line that isn't met in these places.
+fn odd_expansion(alloc: Global, places: &Places) -> Result<Option<&'static str>, Fail> {
+    let vars = Vars::new(alloc)?;
+    match odd_name(alloc, places, &vars)? {
+        Some(line) => Ok(Some(line)),
+        None => odd_folder(alloc, places),
+    }
+}
+
+fn places_in(alloc: Global, text: &str) -> Result<Option<Places>, Fail> {
+    let pairs = environment(alloc, text)?;
+    Ok(Places::read(alloc, &pairs)?)
+}
+
+#[test]
+fn expands_names(rt: HostRuntime) -> Result<(), Fail> {
+    let odd = match places_in(rt.alloc(), "HOME=/h;LOGNAME=u;MAIL=/v/u")? {
+        Some(places) => odd_expansion(rt.alloc(), &places)?,
+        None => Some("no places"),
+    };
+    assert_eq!(rt; odd, None);
     Ok(())
 }
