@@ -5,6 +5,7 @@ use crate::RealHost;
 use host_port::{Host, LoadAnswer, LoadError};
 use mail_text::{Memory, Text};
 use std::alloc::Global;
+use std::fs::Files;
 use std::rt::HostRuntime;
 use std::test::Fail;
 
@@ -22,6 +23,8 @@ enum Name {
     LetterBeside,
     First,
     Second,
+    Deep,
+    Moved,
 }
 
 /// A call on the disk.
@@ -54,6 +57,8 @@ fn path(name: Name) -> &'static [u8]
         Name::LetterBeside => b"letter.lock.mx00000000000000ab",
         Name::First => b"first",
         Name::Second => b"second",
+        Name::Deep => b"deep/letter",
+        Name::Moved => b"moved",
     }
 }
 
@@ -179,15 +184,20 @@ fn a_right_ends_with_its_holder(rt: HostRuntime) -> Result<(), Fail> {
         assert_eq!(rt; got.bytes(), b"y".as_slice());
     }
     let mut host = RealHost::new(rt, alloc);
-    let calls = [Call::Seize(Name::Claim), Call::Erase(Name::Claim)];
+    let calls = [
+        Call::Stage(Name::Claim),
+        Call::Seize(Name::Claim),
+        Call::Load(Name::Claim),
+        Call::Erase(Name::Claim),
+    ];
     let got = answers(alloc, &mut host, &calls)?;
-    assert_eq!(rt; got.bytes(), b"y.".as_slice());
+    assert_eq!(rt; got.bytes(), b".ym.".as_slice());
     Ok(())
 }
 
-// A shorter file over a longer one, an empty one, a target in no folder; a lock of other contents, and what a stopped lock
-// has left.
-const ODD: [Call; 16] = [
+// A shorter file over a longer one, an empty one, a target in no folder; a lock of other contents, an empty one, and what a
+// stopped lock has left.
+const ODD: [Call; 19] = [
     Call::StageLong(Name::Letter),
     Call::Stage(Name::Letter),
     Call::Load(Name::Letter),
@@ -195,6 +205,9 @@ const ODD: [Call; 16] = [
     Call::Load(Name::Letter),
     Call::Publish(Name::Letter, Name::InNoFolder),
     Call::Stage(Name::LetterLock),
+    Call::Unlock(Name::Letter, 0xab),
+    Call::Load(Name::Letter),
+    Call::StageEmpty(Name::LetterLock),
     Call::Unlock(Name::Letter, 0xab),
     Call::Load(Name::Letter),
     Call::Erase(Name::LetterLock),
@@ -211,32 +224,61 @@ fn odd_files_and_locks(rt: HostRuntime) -> Result<(), Fail> {
     let alloc = rt.alloc();
     let mut host = RealHost::new(rt, alloc);
     let got = answers(alloc, &mut host, &ODD)?;
-    assert_eq!(rt; got.bytes(), b"..m.e!..h..yta..".as_slice());
+    assert_eq!(rt; got.bytes(), b"..m.e!..h..h..yta..".as_slice());
     Ok(())
 }
 
-const TWO_RIGHTS: [Call; 4] = [
-    Call::Seize(Name::First),
-    Call::Seize(Name::Second),
-    Call::Release(Name::Box),
-    Call::Release(Name::Second),
-];
+// Whether the calls are answered so.
+fn gives(
+    alloc: Global,
+    host: &mut RealHost<HostRuntime>,
+    calls: &[Call],
+    want: &[u8],
+) -> Result<bool, Memory> {
+    let got = answers(alloc, host, calls)?;
+    Ok(got.bytes() == want)
+}
 
-const RIGHTS_OF_ANOTHER: [Call; 4] = [
-    Call::Seize(Name::First),
-    Call::Seize(Name::Second),
-    Call::Erase(Name::First),
-    Call::Erase(Name::Second),
-];
+const BOTH: [Call; 2] = [Call::Seize(Name::First), Call::Seize(Name::Second)];
+
+const GIVE_UP: [Call; 2] = [Call::Release(Name::Box), Call::Release(Name::Second)];
+
+const ERASE_BOTH: [Call; 2] = [Call::Erase(Name::First), Call::Erase(Name::Second)];
+
+// Whether one host has both rights and then gives up the second alone, as the answers to another tell.
+fn gives_up_one(
+    alloc: Global,
+    host: &mut RealHost<HostRuntime>,
+    another: &mut RealHost<HostRuntime>,
+) -> Result<bool, Memory> {
+    let taken = gives(alloc, host, &BOTH, b"yy")? && gives(alloc, another, &BOTH, b"nn")?;
+    let given = gives(alloc, host, &GIVE_UP, b"..")? && gives(alloc, another, &BOTH, b"ny")?;
+    Ok(taken && given && gives(alloc, another, &ERASE_BOTH, b"..")?)
+}
 
 #[test]
 fn one_of_two_rights_is_given_up(rt: HostRuntime) -> Result<(), Fail> {
     let alloc = rt.alloc();
     let mut host = RealHost::new(rt, alloc);
-    let own = answers(alloc, &mut host, &TWO_RIGHTS)?;
-    assert_eq!(rt; own.bytes(), b"yy..".as_slice());
     let mut another = RealHost::new(rt, alloc);
-    let of_another = answers(alloc, &mut another, &RIGHTS_OF_ANOTHER)?;
-    assert_eq!(rt; of_another.bytes(), b"ny..".as_slice());
+    assert!(rt; gives_up_one(alloc, &mut host, &mut another)?);
+    Ok(())
+}
+
+const ACROSS: [Call; 5] = [
+    Call::Stage(Name::Deep),
+    Call::Publish(Name::Deep, Name::Moved),
+    Call::Load(Name::Deep),
+    Call::Load(Name::Moved),
+    Call::Erase(Name::Moved),
+];
+
+#[test]
+fn a_file_moves_to_another_folder(rt: HostRuntime) -> Result<(), Fail> {
+    let alloc = rt.alloc();
+    let made = rt.create_dir("deep").is_ok();
+    let mut host = RealHost::new(rt, alloc);
+    let moved = gives(alloc, &mut host, &ACROSS, b".yam.")?;
+    assert!(rt; made && moved && rt.remove_dir("deep").is_ok());
     Ok(())
 }
