@@ -285,21 +285,39 @@ fn said(alloc: Global, host: &MemHost) -> Result<Text, Memory> {
     Ok(said)
 }
 
-// Whether the run says and answers so, and leaves its one file as it was.
-fn is_so(alloc: Global, unlike: Unlike, out: &[u8], status: u8) -> Result<bool, Memory> {
-    let mut host = host(alloc, unlike)?;
+// The number of the status that the run answers.
+fn ended(alloc: Global, unlike: Unlike, host: &mut MemHost) -> Result<u8, Memory> {
     let words = words(alloc, unlike)?;
     let env = environment(alloc, unlike)?;
-    let ended = run(alloc, &words, &env, &mut host).number();
-    let said = said(alloc, &host)?;
-    let before = view(alloc, unlike)?;
-    let after = host.view()?;
-    let same = match (before.files.items(), after.files.items()) {
+    Ok(run(alloc, &words, &env, host).number())
+}
+
+fn says(alloc: Global, host: &MemHost, out: &[u8]) -> Result<bool, Memory> {
+    let said = said(alloc, host)?;
+    Ok(said.bytes() == out)
+}
+
+// Whether two views have the same one file, or none.
+fn are_same(before: &DiskView, after: &DiskView) -> bool {
+    match (before.files.items(), after.files.items()) {
         ([], []) => true,
         ([(_, old)], [(_, new)]) => old.bytes() == new.bytes(),
         _ => false,
-    };
-    Ok(ended == status && said.bytes() == out && same && !host.lost())
+    }
+}
+
+fn leaves_the_file(alloc: Global, unlike: Unlike, host: &MemHost) -> Result<bool, Memory> {
+    let before = view(alloc, unlike)?;
+    let after = host.view()?;
+    Ok(are_same(&before, &after))
+}
+
+// Whether the run says and answers so, and leaves its one file as it was.
+fn is_so(alloc: Global, unlike: Unlike, out: &[u8], status: u8) -> Result<bool, Memory> {
+    let mut host = host(alloc, unlike)?;
+    let ended = ended(alloc, unlike, &mut host)?;
+    let so = says(alloc, &host, out)? && leaves_the_file(alloc, unlike, &host)?;
+    Ok(so && ended == status && !host.lost())
 }
 
 #[test]

@@ -4,7 +4,7 @@ ghost use Rattle.message_state.specs.ShownRows.{IsShown};
 
 use super::*;
 use mail_text::{Items, Memory, Text, lines};
-use mbox_scan::Folder;
+use mbox_scan::{Folder, MessageRef};
 use message_state::{Order, Row, RowList, Shown, State, row_of};
 use std::alloc::Global;
 use std::test::Fail;
@@ -137,13 +137,10 @@ fn letters_of_states_and_wide_sizes(rt: HostRuntime) -> Result<(), Fail> {
     Ok(())
 }
 
-#[test]
-fn pages_and_lists_of_a_view(rt: HostRuntime) -> Result<(), Fail> {
-    let alloc = rt.alloc();
-    let first = row_of(alloc, ONE)?;
-    let second = row_of(alloc, TWO)?;
-    let shown = two(alloc, first, second, true, 1, 2)?;
-    let mut said = Text::new(alloc);
+// Puts some pages of a view of two at the end, each ended by a dot.
+fn put_pages(alloc: Global, said: &mut Text, shown: &Shown) -> Result<(), Memory>
+    requires { IsShown shown.now }
+{
     for (start, count) in [
         (0, 0),
         (0, 1),
@@ -152,14 +149,38 @@ fn pages_and_lists_of_a_view(rt: HostRuntime) -> Result<(), Fail> {
         (2, 5),
         (usize::MAX, usize::MAX),
     ] {
-        said.push(page(alloc, &shown, start, count, 11)?.bytes())?;
+        said.push(page(alloc, shown, start, count, 11)?.bytes())?;
         said.push(b".")?;
     }
-    assert!(rt; said.bytes() == PAGES);
-    let mut said = summary_lines(alloc, &shown, &[1, 2, 2, 1, 1], 11)?;
-    said.push(summary_lines(alloc, &shown, &[], 11)?.bytes())?;
-    said.push(b".")?;
-    assert!(rt; said.bytes() == LISTS);
+    Ok(())
+}
+
+// Puts the summary lines of some numbers of a view of two at the end, and of none.
+fn put_lists(alloc: Global, said: &mut Text, shown: &Shown) -> Result<(), Memory>
+    requires valid { IsShown shown.now }
+    requires rows { length shown.now.rows ≡ 2 }
+{
+    said.push(summary_lines(alloc, shown, &[1, 2, 2, 1, 1], 11)?.bytes())?;
+    said.push(summary_lines(alloc, shown, &[], 11)?.bytes())?;
+    said.push(b".")
+}
+
+// The pages and the lists of a turned view of two.
+fn pages_and_lists(alloc: Global) -> Result<(Text, Text), Memory> {
+    let first = row_of(alloc, ONE)?;
+    let second = row_of(alloc, TWO)?;
+    let shown = two(alloc, first, second, true, 1, 2)?;
+    let mut pages = Text::new(alloc);
+    put_pages(alloc, &mut pages, &shown)?;
+    let mut lists = Text::new(alloc);
+    put_lists(alloc, &mut lists, &shown)?;
+    Ok((pages, lists))
+}
+
+#[test]
+fn pages_and_lists_of_a_view(rt: HostRuntime) -> Result<(), Fail> {
+    let (pages, lists) = pages_and_lists(rt.alloc())?;
+    assert!(rt; pages.bytes() == PAGES && lists.bytes() == LISTS);
     Ok(())
 }
 
@@ -226,14 +247,18 @@ fn repeated(alloc: Global, byte: u8, count: usize) -> Result<Text, Memory> {
     Ok(text)
 }
 
+// Whether a name of so many bytes `x` is kept.
+fn keeps_repeated(alloc: Global, sets: &FieldSets, count: usize) -> Result<bool, Memory> {
+    let name = repeated(alloc, b'x', count)?;
+    Ok(sets.keeps(name.bytes()))
+}
+
 // Whether an ignored name of 1,000 bytes is found in another case, and shorter ones are not.
 fn long_names_are_found(alloc: Global) -> Result<bool, Memory> {
     let name = repeated(alloc, b'X', 1000)?;
     let long = sets(alloc, name.bytes(), b"", b"")?;
-    let same = repeated(alloc, b'x', 1000)?;
-    let shorter = repeated(alloc, b'x', 999)?;
-    let short = repeated(alloc, b'x', 998)?;
-    Ok(!long.keeps(same.bytes()) && long.keeps(shorter.bytes()) && long.keeps(short.bytes()))
+    let found = !keeps_repeated(alloc, &long, 1000)?;
+    Ok(found && keeps_repeated(alloc, &long, 999)? && keeps_repeated(alloc, &long, 998)?)
 }
 
 #[test]
@@ -263,18 +288,27 @@ const LONG: &[u8] = b"From a@x\nA: b\n c\nX: y\nno field\na: d\n\nbody\n\nmore";
 
 const SHORT: &[u8] = b"From a@x\n folded\nA: b\n c";
 
-// Puts the shown text, its first four lines and the whole text of each message of a folder at the end, with a bar after each.
+// Puts the shown text, its first four lines and the whole text of a message at the end, with a bar after each.
+fn put_message(
+    alloc: Global,
+    said: &mut Text,
+    message: &MessageRef,
+    sets: &FieldSets,
+) -> Result<(), Memory> {
+    said.push(shown_text(alloc, message, sets, How::Kept)?.bytes())?;
+    said.push(b"|")?;
+    said.push(top(alloc, message, sets, 4)?.bytes())?;
+    said.push(top(alloc, message, sets, 0)?.bytes())?;
+    said.push(b"|")?;
+    said.push(shown_text(alloc, message, sets, How::All)?.bytes())?;
+    said.push(b"|")
+}
+
+// The same for each message of a folder.
 fn put_shown(alloc: Global, said: &mut Text, text: &[u8], sets: &FieldSets) -> Result<(), Fail> {
     let folder = Folder::open(alloc, Text::copy(alloc, text)?)?;
     for k in 0..folder.count() {
-        let message = folder.message(k);
-        said.push(shown_text(alloc, &message, sets, How::Kept)?.bytes())?;
-        said.push(b"|")?;
-        said.push(top(alloc, &message, sets, 4)?.bytes())?;
-        said.push(top(alloc, &message, sets, 0)?.bytes())?;
-        said.push(b"|")?;
-        said.push(shown_text(alloc, &message, sets, How::All)?.bytes())?;
-        said.push(b"|")?;
+        put_message(alloc, said, &folder.message(k), sets)?;
     }
     Ok(())
 }
