@@ -1,5 +1,5 @@
 -- The worked runs, by computing.
-use Rattle.std.proofs.Common.{◌≡◌, ℕ, zero, suc, ◌<◌, ◌^◌, true, false, List, [], ◌∷◌, take, codes, Option, Some, None, refl, ap, sym, subst, inl, inr, lit<, ◌∙◌}
+use Rattle.std.proofs.Common.{◌≡◌, ◌≢◌, ℕ, zero, suc, ◌<◌, ◌^◌, true, false, List, [], ◌∷◌, ◌++◌, reverse, slice_index, take, codes, Option, Some, None, refl, ap, sym, subst, inl, inr, lit<, ◌∙◌}
 use Rattle.commit_record.specs.Format.{written, is_valid}
 use Rattle.commit_record.specs.Reading.{record_at, head_at, after as text_after}
 use Rattle.commit_record.specs.declared.record.Phase.TheVariants.{Prepare, Go}
@@ -12,14 +12,15 @@ use Rattle.host_port.specs.Disk.{Disk, after, disk}
 use Rattle.host_port.specs.Ran.{Honest, Agrees}
 use Rattle.commit_machine.specs.Names.{record_name, new_name, right_name, staged_name, is_record_name}
 use Rattle.commit_machine.specs.Records.{record_of, is_go, names_of}
-use Rattle.commit_machine.specs.Jobs.{Nothing, RolledBack, Finished, Busy, NotARecord, Done, Recovered, Refused, Edit, Job, IsJob, edits_of}
+use Rattle.commit_machine.specs.Jobs.{Nothing, RolledBack, Finished, Busy, NotARecord, Changed, Done, Recovered, Refused, Edit, Job, IsJob, edits_of}
 use Rattle.commit_machine.specs.Machine.{State, Seizing, Ended, Call, ToLoad, ToStage, ToPublish, ToErase, ToLock, ToUnlock, ToSeize, ToRelease, next, after_reply, record_seen, is_own_go}
 use Rattle.commit_machine.specs.Goes.{reply, Goes, IsOf, IsNext, loads, stages, publishes, erases, locks, unlocks, seizes, releases}
 use Rattle.commit_machine.specs.Due.{is_decision}
 use Rattle.commit_machine.specs.Settled.{Mem}
 use Rattle.commit_machine.specs.Lawful.{standing, IsSound, IsGuarded, IsFresh, IsLawfulWrite, OthersAreLawful}
 use Rattle.commit_machine.specs.Laws.{IsRun}
-use Rattle.commit_machine.specs.Worked.{carried, alone, alone_last, AloneGoes, Makes, busy_second, commit_of_busy, bad_record, commit_over_bad, later, commit_over_decided, box, commit_among_others, home, out, mbox, nothing, one_file, two_files, recovery, record_for, commit_of_one, commit_of_two, recovery_of_none, stopped_at, recovery_of_decided, recovery_of_undecided, WorkedRuns}
+use Rattle.commit_machine.specs.Worked.{carried, alone, alone_last, AloneGoes, Makes, busy_second, commit_of_busy, held_right, run_kept_out, changed_file, commit_of_changed, bad_record, commit_over_bad, later, commit_over_decided, box, commit_among_others, home, out, mbox, nothing, one_file, two_files, recovery, record_for, commit_of_one, commit_of_two, recovery_of_none, stopped_at, recovery_of_decided, recovery_of_undecided, WorkedRuns}
+use Rattle.std.proofs.lemmas.List.{reverse-append}
 use Rattle.commit_machine.proofs.NameLemmas.{lawful-staged}
 use Rattle.commit_machine.proofs.RecordLemmas.{record_of-written}
 
@@ -38,6 +39,18 @@ two = (refl, refl)
 busy : Makes two_files busy_second commit_of_busy (Refused (Busy out))
 unfolding record_name new_name right_name staged_name encode_with
 busy = (refl, refl)
+
+kept_out : Makes one_file held_right run_kept_out (Refused (Busy (right_name home)))
+unfolding record_name new_name right_name staged_name encode_with
+kept_out = (refl, refl)
+
+recovery_kept_out : Makes recovery held_right run_kept_out (Refused (Busy (right_name home)))
+unfolding record_name new_name right_name staged_name encode_with
+recovery_kept_out = (refl, refl)
+
+changed : Makes changed_file nothing commit_of_changed (Refused (Changed out 0))
+unfolding record_name new_name right_name staged_name encode_with
+changed = (refl, refl)
 
 not_a_record : Makes one_file bad_record commit_over_bad (Refused NotARecord)
 unfolding record_name new_name right_name staged_name encode_with record_of record_at head_at text_after
@@ -126,6 +139,16 @@ alone_goes k j s d = alone_runs j k s d
 other_number : (n : ℕ) → n ≡ 7 → n ≡ 1 → ⊥
 other_number n a b = absurd (cc)
 
+other_digit : (n : ℕ) → n ≡ 55 → n ≡ 49 → ⊥
+other_digit n a b = absurd (cc)
+
+-- a staged name of token 7 is none of token 1: their last bytes differ
+other_token : (m : List ℕ) → staged_name 7 box ≢ staged_name 1 m
+unfolding staged_name encode_with
+other_token m e =
+    let w : reverse (codes ".mx0000000000000007") ++ reverse box ≡ reverse (codes ".mx0000000000000001") ++ reverse m = sym (reverse-append box (codes ".mx0000000000000007")) ∙ (ap reverse e ∙ reverse-append m (codes ".mx0000000000000001")) in
+    other_digit 55 refl (ap (λ (z : List ℕ). slice_index z 0) w)
+
 -- no token but 1 is guarded while a record of that token stands
 module _ (d : Disk) (r : Record) (stands : standing home d ≡ Some r) (one : r.token ≡ 1) where
   guarded_one : (u : ℕ) → IsGuarded home 1 d u → u ≡ 1
@@ -141,6 +164,17 @@ module _ (d : Disk) (r : Record) (stands : standing home d ≡ Some r) (one : r.
   box_write c lock = record {
     unlocked = λ u g e. let p : 7 ≡ u = (let q : Some 7 ≡ Some u = sym lock ∙ e in cc) in not_seven (subst (IsGuarded home 1 d) (sym p) g);
     unstaged = λ u m g. lawful-staged box u m refl;
+    no_right = λ e h. absurd (cc);
+    no_record = λ e. absurd (cc);
+    fresh = λ q e h. absurd (cc);
+  }
+
+  -- a file may be staged for another token
+  staged_write : (c : Option (List ℕ)) → d.locks (staged_name 7 box) ≡ None → IsLawfulWrite home 1 d (staged_name 7 box) c
+  unfolding record_name new_name staged_name encode_with
+  staged_write c free = record {
+    unlocked = λ u g e. let w : None ≡ Some u = sym free ∙ e in absurd (cc);
+    unstaged = λ u m g. subst (λ (t : ℕ). staged_name 7 box ≢ staged_name t m) (sym (guarded_one u g)) (other_token m);
     no_right = λ e h. absurd (cc);
     no_record = λ e. absurd (cc);
     fresh = λ q e h. absurd (cc);
@@ -195,29 +229,52 @@ two_goes = subst (Goes two_files Seizing commit_of_two) two.1 (subst (λ (es : L
 
 honest_among : Honest nothing commit_among_others
 unfolding record_name new_name right_name staged_name encode_with
-honest_among = (refl, (tt, ((refl, refl), (tt, (refl, (tt, (refl, (refl, (tt, ((refl, refl), ((refl, refl), (tt, (tt, (tt, (refl, (tt, (refl, (tt, (refl, (tt, (refl, (refl, (refl, (tt, tt))))))))))))))))))))))))
+honest_among = (tt, (tt, (refl, (tt, ((refl, refl), (tt, (refl, (tt, (refl, (refl, (tt, (tt, ((refl, refl), ((refl, refl), (tt, (tt, (tt, (refl, (tt, (refl, (tt, (tt, (refl, (tt, (refl, (refl, (refl, (tt, tt))))))))))))))))))))))))))))
 
 abbrev so_far : ℕ → Disk
 so_far n = disk nothing (take n commit_among_others)
+
+abbrev the_prepare : Record
+the_prepare = record_for Prepare (mbox ∷ out ∷ [])
 
 lawful_among : OthersAreLawful home 1 nothing commit_among_others
 unfolding record_name new_name right_name staged_name encode_with
 lawful_among = (
   tt,
-  sound_none (so_far 2) refl,
+  sound_none (so_far 1) refl,
   (
-    not_seven (so_far 5) (record_for Prepare (mbox ∷ out ∷ [])) reads_prepare refl,
-    sound_prepare (so_far 6) (record_for Prepare (mbox ∷ out ∷ [])) reads_prepare refl refl,
+    tt,
+    sound_none (so_far 2) refl,
     (
-      box_write (so_far 8) (record_for Prepare (mbox ∷ out ∷ [])) reads_prepare refl (Some (codes "a")) refl,
-      sound_prepare (so_far 9) (record_for Prepare (mbox ∷ out ∷ [])) reads_prepare refl refl,
+      tt,
+      sound_none (so_far 4) refl,
       (
-        box_write (so_far 15) the_go reads_go refl (Some (codes "ab")) refl,
-        sound_go (so_far 16) reads_go refl refl,
+        not_seven (so_far 7) the_prepare reads_prepare refl,
+        sound_prepare (so_far 8) the_prepare reads_prepare refl refl,
         (
-          not_seven (so_far 17) the_go reads_go refl,
-          sound_go (so_far 18) reads_go refl refl,
-          (tt, sound_go (so_far 20) reads_go refl refl, tt),
+          staged_write (so_far 10) the_prepare reads_prepare refl (Some (codes "a")) refl,
+          sound_prepare (so_far 11) the_prepare reads_prepare refl refl,
+          (
+            box_write (so_far 11) the_prepare reads_prepare refl (Some (codes "a")) refl,
+            sound_prepare (so_far 12) the_prepare reads_prepare refl refl,
+            (
+              box_write (so_far 18) the_go reads_go refl (Some (codes "ab")) refl,
+              sound_go (so_far 19) reads_go refl refl,
+              (
+                box_write (so_far 20) the_go reads_go refl None refl,
+                sound_go (so_far 21) reads_go refl refl,
+                (
+                  not_seven (so_far 21) the_go reads_go refl,
+                  sound_go (so_far 22) reads_go refl refl,
+                  (
+                    tt,
+                    sound_go (so_far 24) reads_go refl refl,
+                    tt,
+                  ),
+                ),
+              ),
+            ),
+          ),
         ),
       ),
     ),
@@ -228,4 +285,4 @@ among_others : IsRun two_files nothing commit_among_others (Ended Done)
 among_others = record { job = two_job; fresh = nothing_fresh; sound = sound_none nothing refl; goes = two_goes; honest = honest_among; lawful = lawful_among }
 
 pub worked_runs : WorkedRuns
-worked_runs = record { one = one; ninth = ninth; two = two; none = none; decided = decided; undecided = undecided; busy = busy; over_decided = over_decided; not_a_record = not_a_record; among_others = among_others }
+worked_runs = record { one = one; ninth = ninth; two = two; none = none; decided = decided; undecided = undecided; busy = busy; kept_out = kept_out; recovery_kept_out = recovery_kept_out; changed = changed; over_decided = over_decided; not_a_record = not_a_record; among_others = among_others }

@@ -1,10 +1,10 @@
 -- Worked runs of a commit of one file that meets trouble.
-use Rattle.std.specs.Prelude.{true, false, List, [], ◌∷◌, ◌++◌, take}
+use Rattle.std.specs.Prelude.{true, false, List, [], ◌∷◌, ◌++◌, codes, take}
 use Rattle.std.specs.declared.option.Option.TheVariants.{Some}
 use Rattle.commit_record.specs.Format.{written}
 use Rattle.commit_record.specs.declared.record.Phase.TheVariants.{Prepare, Go}
 use Rattle.host_port.specs.declared.event.Event.{Event}
-use Rattle.host_port.specs.declared.event.Event.TheVariants.{Load, Publish, Erase, Lock, Unlock, Release}
+use Rattle.host_port.specs.declared.event.Event.TheVariants.{Load, Stage, Publish, Erase, Lock, Unlock, Seize, Release}
 use Rattle.host_port.specs.declared.event.Seen.TheVariants as seen
 use Rattle.commit_machine.specs.Names.{record_name, new_name, right_name, staged_name}
 use Rattle.commit_machine.specs.Jobs.{Before, After, Unknown, TooLarge, Ending, Refused, Failed, NoMemory}
@@ -32,13 +32,29 @@ file_too_long = take 5 commit_of_one ++ Load out (seen.TooLarge 5) ∷ clean_up
 abbrev pub no_memory : List Event
 no_memory = take 5 commit_of_one ++ Load out seen.Memory ∷ clean_up
 
+-- memory is wanting where the file would be staged
+abbrev pub no_memory_to_stage : List Event
+no_memory_to_stage = take 6 commit_of_one ++ clean_up
+
+-- the first call fails
+abbrev pub failed_seizure : List Event
+failed_seizure = Seize (right_name home) false true ∷ release
+
 -- the lock fails
 abbrev pub failed_before : List Event
 failed_before = take 4 commit_of_one ++ Lock out 1 false true ∷ release
 
+-- the staging fails, and leaves a part of the file
+abbrev pub failed_staging : List Event
+failed_staging = take 6 commit_of_one ++ Stage (staged_name 1 out) (Some (codes "")) true ∷ release
+
 -- the decision fails, and so does the look at the record
 abbrev pub failed_unknown : List Event
 failed_unknown = take 8 commit_of_one ++ Publish (new_name home) (record_name home) true true ∷ Load (record_name home) seen.Failed ∷ release
+
+-- the decision fails, and the look at the record wants memory
+abbrev pub no_memory_to_look : List Event
+no_memory_to_look = take 8 commit_of_one ++ Publish (new_name home) (record_name home) true true ∷ Load (record_name home) seen.Memory ∷ release
 
 -- the decision fails; the record before it stands
 abbrev pub looked_before : List Event
@@ -60,12 +76,26 @@ looked_after =
 abbrev pub failed_after : List Event
 failed_after = take 9 commit_of_one ++ Publish (staged_name 1 out) out false true ∷ release
 
+-- what was put in place stays locked
+abbrev pub failed_unlock : List Event
+failed_unlock = take 10 commit_of_one ++ Unlock out 1 false true ∷ release
+
+-- the record stays
+abbrev pub failed_erasure : List Event
+failed_erasure = take 11 commit_of_one ++ Erase (record_name home) false true ∷ release
+
 pub record TroubledRuns : Type 0 where
   pub record_too_long : MayEnd record_too_long (Refused (TooLarge (record_name home) 5))
   pub file_too_long : MayEnd file_too_long (Refused (TooLarge out 5))
   pub no_memory : MayEnd no_memory NoMemory
+  pub no_memory_to_stage : MayEnd no_memory_to_stage NoMemory
+  pub failed_seizure : MayEnd failed_seizure (Failed Before)
   pub failed_before : MayEnd failed_before (Failed Before)
+  pub failed_staging : MayEnd failed_staging (Failed Before)
   pub failed_unknown : MayEnd failed_unknown (Failed Unknown)
+  pub no_memory_to_look : MayEnd no_memory_to_look (Failed Unknown)
   pub looked_before : MayEnd looked_before (Failed Before)
   pub looked_after : MayEnd looked_after (Failed After)
   pub failed_after : MayEnd failed_after (Failed After)
+  pub failed_unlock : MayEnd failed_unlock (Failed After)
+  pub failed_erasure : MayEnd failed_erasure (Failed After)

@@ -1,5 +1,5 @@
 -- Worked runs: the events of a commit and of recoveries on small disks.
-use Rattle.std.specs.Prelude.{◌≡◌, ℕ, zero, suc, true, false, List, [], ◌∷◌, codes, take, is_some}
+use Rattle.std.specs.Prelude.{◌≡◌, ℕ, zero, suc, true, false, List, [], ◌∷◌, ◌++◌, codes, take, is_some}
 use Rattle.std.specs.declared.option.Option.TheVariants.{Some, None}
 use Rattle.commit_record.specs.Format.{written}
 use Rattle.commit_record.specs.declared.record.Phase.{Phase}
@@ -14,7 +14,7 @@ use Rattle.host_port.specs.Disk.{Disk, with_at, after, after_step, disk}
 use Rattle.host_port.specs.Ends.{carried_out}
 use Rattle.host_port.specs.Ran.{Honest}
 use Rattle.commit_machine.specs.Names.{record_name, new_name, right_name, staged_name}
-use Rattle.commit_machine.specs.Jobs.{Nothing, RolledBack, Finished, Busy, NotARecord, Ending, Done, Recovered, Refused, Puts, Edit, Job, entries_for}
+use Rattle.commit_machine.specs.Jobs.{Nothing, RolledBack, Finished, Busy, NotARecord, Changed, Ending, Done, Recovered, Refused, Puts, Edit, Job, entries_for}
 use Rattle.commit_machine.specs.Machine.{State, Seizing, Ended, Call, ToLoad, ToStage, ToPublish, ToErase, ToLock, ToUnlock, ToSeize, ToRelease, next, after_reply}
 use Rattle.commit_machine.specs.Goes.{reply, Goes}
 use Rattle.commit_machine.specs.Due.{is_decision}
@@ -177,6 +177,22 @@ commit_of_busy =
     ∷ Release (right_name home)
     ∷ []
 
+-- another has the right at the start
+abbrev pub held_right : Disk
+held_right = after_step nothing (step.Seize (right_name home))
+
+-- there a commit and a recovery do nothing
+abbrev pub run_kept_out : List Event
+run_kept_out = Seize (right_name home) false false ∷ []
+
+-- the file has changed at its first message
+abbrev pub changed_file : Job
+changed_file = record one_file { refusal = λ files. Some (Changed out 0) }
+
+-- a commit that is refused once its file is loaded undoes what it did
+abbrev pub commit_of_changed : List Event
+commit_of_changed = take 6 commit_of_one ++ Unlock out 1 true false ∷ Erase (record_name home) true false ∷ Release (right_name home) ∷ []
+
 -- what stands as the record is none
 abbrev pub bad_record : Disk
 bad_record = record nothing { files = with_at nothing.files (record_name home) (Some (codes "x")) }
@@ -226,10 +242,13 @@ box = codes "/h/box"
 abbrev pub other_right : List ℕ
 other_right = codes "/g/.mailx.right"
 
--- the commit of two files, while another takes and gives up its own right, and locks, writes, appends to and unlocks a file
+-- The commit of two files, while another takes and gives up the actor's right before it and its own right meanwhile, stages a file, and
+-- locks, writes, appends to, removes and unlocks one.
 abbrev pub commit_among_others : List Event
 commit_among_others =
-    Seize (right_name home) true false
+    Foreign (step.Seize (right_name home))
+    ∷ Foreign (step.Release (right_name home))
+    ∷ Seize (right_name home) true false
     ∷ Foreign (step.Seize other_right)
     ∷ Load (record_name home) (Bytes None false)
     ∷ Stage (new_name home) (Some (written (record_for Prepare (mbox ∷ out ∷ [])))) false
@@ -237,6 +256,7 @@ commit_among_others =
     ∷ Foreign (step.Lock box 7)
     ∷ Lock mbox 1 true false
     ∷ Lock out 1 true false
+    ∷ Foreign (step.Write (staged_name 7 box) (codes "a"))
     ∷ Foreign (step.Write box (codes "a"))
     ∷ Load mbox (Bytes None true)
     ∷ Load out (Bytes None true)
@@ -246,6 +266,7 @@ commit_among_others =
     ∷ Publish (new_name home) (record_name home) true false
     ∷ Foreign (step.Write box (codes "ab"))
     ∷ Publish (staged_name 1 mbox) mbox true false
+    ∷ Foreign (step.Remove box)
     ∷ Foreign (step.Unlock box 7)
     ∷ Publish (staged_name 1 out) out true false
     ∷ Foreign (step.Release other_right)
@@ -264,6 +285,9 @@ pub record WorkedRuns : Type 0 where
   pub decided : Makes recovery (stopped_at 13) recovery_of_decided (Recovered Finished)
   pub undecided : Makes recovery (stopped_at 11) recovery_of_undecided (Recovered RolledBack)
   pub busy : Makes two_files busy_second commit_of_busy (Refused (Busy out))
+  pub kept_out : Makes one_file held_right run_kept_out (Refused (Busy (right_name home)))
+  pub recovery_kept_out : Makes recovery held_right run_kept_out (Refused (Busy (right_name home)))
+  pub changed : Makes changed_file nothing commit_of_changed (Refused (Changed out 0))
   pub not_a_record : Makes one_file bad_record commit_over_bad (Refused NotARecord)
   pub over_decided : Makes later (stopped_at 13) commit_over_decided Done
   pub among_others : IsRun two_files nothing commit_among_others (Ended Done)
