@@ -2,7 +2,9 @@
 use Rattle.std.proofs.Common.{◌≡◌, ℕ, min, Bool, true, false, if◌then◌else◌, nat_eq, arith, List, [], ◌∷◌, ◌++◌, length, map, take, Option, Some, None, refl, ap, sym, subst, inl, inr, ◌∙◌}
 use Rattle.std.proofs.lemmas.Bool.{cond-true, cases_lt}
 use Rattle.std.proofs.lemmas.List.{take_all}
+use Rattle.std.proofs.lemmas.List.Elements.{All-head, All-tail}
 use Rattle.std.specs.List.{starts_with}
+use Rattle.std.specs.Prelude.{nat_le}
 use Rattle.std.proofs.lemmas.Slice.Eq.{bytes_eq-Decides}
 use Rattle.std.specs.Option.{option_map}
 use Rattle.std.specs.declared.result.Result.{Result}
@@ -18,7 +20,8 @@ use Rattle.commit_record.specs.declared.record.EntryKind.TheVariants.{Replace}
 use Rattle.commit_record.specs.declared.record.Record.{Record}
 use Rattle.folder_change.specs.declared.change.Change.{Change}
 use Rattle.folder_change.specs.Outcomes.{bytes_of}
-use Rattle.folder_change.specs.Apply.{apply, first_refusal}
+use Rattle.folder_change.specs.Changes.{name_of}
+use Rattle.folder_change.specs.Apply.{Refusal as ChangeRefusal, TooLong, apply, after, first_refusal, refusal_of, or_else, outcome_on, most_bytes}
 use Rattle.commit_machine.specs.Names.{record_name, new_name, staged_name}
 use Rattle.commit_machine.specs.Records.{names_of}
 use Rattle.commit_machine.specs.Settled.{Files}
@@ -43,7 +46,7 @@ use Rattle.folder_commit.specs.declared.error.Stop.{Stop}
 use Rattle.folder_commit.specs.declared.error.Stop.TheVariants as stop
 use Rattle.folder_commit.specs.Judging.{AllOf, Judges}
 use Rattle.folder_commit.specs.Plans.{IsTexts, one_record}
-use Rattle.folder_commit.specs.Ends.{FailedAs, StopsAs, EndsAs, Ends, one_job}
+use Rattle.folder_commit.specs.Ends.{FailedAs, MayHide, StopsAs, EndsAs, Ends, one_job}
 use Rattle.folder_commit.specs.Steps.{Checks, TurnsOut, judged_one, job_of, stop_of}
 
 -- a call, and what it ends in
@@ -197,7 +200,7 @@ module _ (actor : List ℕ) (token : ℕ) (x : Made) (refusal : Files → Option
     where
       go : (o : Option Refusal) → refusal (seen_files (x ∷ [])) ≡ o → Turned actor token x refusal stop.Memory
       go None is = record { end = NoMemory; is_as = inl refl; before = refl; from = λ last es h. subst (told last es) (sym is) (from-short one (Staging [] (x ∷ []) x []) last es h) }
-      go (Some w) is = says-refused stop.Memory w is (inr (w, refl))
+      go (Some w) is = says-refused stop.Memory w is (inr (w, h w is, refl))
   turned stop.Busy h = absurd h
   turned stop.Record h = absurd h
   turned (stop.LongRecord n) h = absurd h
@@ -205,6 +208,27 @@ module _ (actor : List ℕ) (token : ℕ) (x : Made) (refusal : Files → Option
 
   pub staged-next : (last : State) (es : List Event) → refusal (seen_files (x ∷ [])) ≡ None → Goes one (Staging [] (x ∷ []) x []) es last → Goes one (judged_one actor token x refusal) es last
   staged-next last es is h = subst (told last es) (sym is) h
+
+-- changes of one file are refused for that file
+named-so : (name : List ℕ) (o : Result (Option (List ℕ)) ℕ) (later : Option ChangeRefusal) (why : Refusal) → ((w : Refusal) → option_map cause_of later ≡ Some w → MayHide (name ∷ []) w)
+    → option_map cause_of (or_else (refusal_of name o) later) ≡ Some why → MayHide (name ∷ []) why
+named-so name (Ok None) later why h is = h why is
+named-so name (Ok (Some b)) later why h is = go (nat_le (length b) most_bytes) is
+  where
+    go : (t : Bool) → option_map cause_of (or_else (if t then None else Some (TooLong name (length b))) later) ≡ Some why → MayHide (name ∷ []) why
+    go true is = h why is
+    go false is = let same : jobs.TooLarge name (length b) ≡ why = cc in subst (λ (w : Refusal). MayHide (name ∷ []) w) same (inl refl)
+named-so name (Err at) later why h is = let same : jobs.Changed name at ≡ why = cc in subst (λ (w : Refusal). MayHide (name ∷ []) w) same (inl refl)
+
+refusal-of : (changes : List Change) (base : List (List ℕ)) (files : Files) (name : List ℕ) → AllOf name changes → (why : Refusal) → option_map cause_of (first_refusal changes base files) ≡ Some why → MayHide (name ∷ []) why
+unfolding first_refusal
+refusal-of [] base files name all why is = absurd (cc is)
+refusal-of (c ∷ cs) base files name all why is =
+    let of : name_of c ≡ name = All-head (λ (x : Change). name_of x ≡ name) c cs all in
+    let later = refusal-of cs base (after files c base) name (All-tail (λ (x : Change). name_of x ≡ name) c cs all) in
+    let P : List ℕ → Type 0 = λ n. MayHide (n ∷ []) why in
+    let Q : List ℕ → Type 0 = λ n. (w : Refusal) → option_map cause_of (first_refusal cs base (after files c base)) ≡ Some w → MayHide (n ∷ []) w in
+    subst P of (named-so (name_of c) (outcome_on files c base) (first_refusal cs base (after files c base)) why (subst Q (sym of) later) is)
 
 -- what was loaded for changes
 abbrev pub made_of : List Change → List (List ℕ) → List ℕ → Option (List ℕ) → Made
@@ -241,7 +265,7 @@ module _ (actor : List ℕ) (token : ℕ) (changes : List Change) (base : List (
       go (Ok file) p q = (ap (option_map cause_of) p.0, ap bytes_of q.1)
       go (Err (stop.Changed at)) p q = ap (option_map cause_of) p
       go (Err (stop.TooLarge n)) p q = ap (option_map cause_of) p
-      go (Err stop.Memory) p q = tt
+      go (Err stop.Memory) p q = λ why is. refusal-of changes base (seen_files (made_of changes base name c ∷ [])) name all why is
       go (Err stop.Busy) p q = absurd p
       go (Err stop.Record) p q = absurd p
       go (Err (stop.LongRecord n)) p q = absurd p
@@ -257,4 +281,4 @@ unmended-so j name es mend.NotARecord h = record { end = Refused jobs.NotARecord
 unmended-so j name es (mend.TooLarge n) h = record { end = Refused (jobs.TooLarge (record_name j.actor) n); is_as = refl; goes = h }
 unmended-so j name es mend.Disk h = record { end = Failed jobs.Before; is_as = refl; goes = h }
 unmended-so j name es mend.Memory (inl h) = record { end = NoMemory; is_as = inl refl; goes = h }
-unmended-so j name es mend.Memory (inr h) = record { end = Refused jobs.NotARecord; is_as = inr (jobs.NotARecord, refl); goes = h }
+unmended-so j name es mend.Memory (inr h) = record { end = Refused jobs.NotARecord; is_as = inr (jobs.NotARecord, tt, refl); goes = h }

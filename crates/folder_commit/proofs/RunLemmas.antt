@@ -17,7 +17,7 @@ use Rattle.commit_record.specs.declared.record.Record.{Record}
 use Rattle.folder_change.specs.declared.change.Change.{Change}
 use Rattle.folder_change.specs.Changes.{name_of}
 use Rattle.commit_machine.specs.Names.{record_name, right_name}
-use Rattle.commit_machine.specs.Jobs.{Ending, Done, Refused, Failed, NoMemory, Before, Job}
+use Rattle.commit_machine.specs.Jobs.{Ending, Done, Refused, Failed, NoMemory, Before, Job, all_of}
 use Rattle.commit_machine.specs.Jobs as jobs
 use Rattle.commit_machine.specs.Edits.{first_names, without, edit_for, job_for}
 use Rattle.commit_machine.specs.Machine.{Seizing, Looking, Releasing, Ended, ToSeize, ToRelease, Went, Fault}
@@ -46,7 +46,7 @@ not-begun j r h =
     let C : Result Unit CommitError → Type 0 = λ z. Commits j [] z in
     subst C (sym (h.1 ∙ ap Err h.2)) (record { end = NoMemory; is_as = inl refl; goes = inr refl })
 
-answers : (actor name file rec : List ℕ) (result : Result Unit Stop) (end : Ending) → file ≡ name → rec ≡ record_name actor → EndsAs actor name result end → AnswersAs (answer_of result file rec) end
+answers : (actor name file rec : List ℕ) (result : Result Unit Stop) (end : Ending) → file ≡ name → rec ≡ record_name actor → EndsAs actor name result end → AnswersAs (name ∷ []) (answer_of result file rec) end
 answers actor name file rec (Ok u) end p q h = h
 answers actor name file rec (Err stop.Busy) end p q h = h ∙ ap (λ (z : List ℕ). Refused (jobs.Busy z)) (sym p)
 answers actor name file rec (Err stop.Record) end p q h = h
@@ -66,9 +66,11 @@ module _ (j : Job) (right : List ℕ) (right_is : right ≡ right_name j.actor) 
   ended : (end : Ending) (front more : List Event) → Goes j Seizing front (Releasing end) → Did (ToRelease right) (Went true) more → Goes j Seizing (front ++ more) (Ended end)
   ended end front more h did = goes_then j Seizing (Releasing end) (Ended end) front more h (goes_call j (Releasing end) (ToRelease right) (Went true) more (ap (λ (z : List ℕ). Some (ToRelease z)) (sym right_is)) did)
 
-  pub released : (name file rec : List ℕ) (result : Result Unit Stop) → file ≡ name → rec ≡ record_name j.actor → (front more : List Event) → Ends j name Seizing front result → Did (ToRelease right) (Went true) more
+  pub released : (name file rec : List ℕ) (result : Result Unit Stop) → file ≡ name → rec ≡ record_name j.actor → all_of j ≡ name ∷ [] → (front more : List Event) → Ends j name Seizing front result → Did (ToRelease right) (Went true) more
       → Commits j (front ++ more) (answer_of result file rec)
-  released name file rec result p q front more h did = record { end = h.end; is_as = answers j.actor name file rec result h.end p q h.is_as; goes = ended h.end front more h.goes did }
+  released name file rec result p q one front more h did =
+      let P : List (List ℕ) → Type 0 = λ files. AnswersAs files (answer_of result file rec) h.end in
+      record { end = h.end; is_as = subst P (sym one) (answers j.actor name file rec result h.end p q h.is_as); goes = ended h.end front more h.goes did }
 
   pub busy : (es : List Event) → Did (ToSeize right) (Went false) es → Commits j es (Err (error.Busy right))
   busy es did = record {
