@@ -23,7 +23,8 @@ use Rattle.folder_commit.specs.Ends.{AnswersAs, Commits}
 use Rattle.folder_commit.specs.Commits.{IsOfOne, IsCommit}
 use Rattle.folder_commit.specs.Told.{load_failed, look_failed, is_unknown, TellsFaults, TellsUnknown, IsTold}
 use Rattle.folder_commit.proofs.RunLemmas.{named-once}
-use Rattle.folder_commit.proofs.ToldLemmas.{load-is, publish-is, release-is, is_failed_end, is_bad, CleanThen, Clean, AsBad, refused_bad, step-bad, committing-bad, tells-faults, tells-end}
+use Rattle.folder_commit.proofs.CleanLemmas.{load-is, publish-is, release-is}
+use Rattle.folder_commit.proofs.ToldLemmas.{is_failed_end, is_bad, CleanThen, Clean, AsBad, refused_bad, step-bad, committing-bad, tells-faults, tells-end}
 
 -- the end where it isn't known whether the decision was passed
 abbrev is_unknown_end : Ending → Bool

@@ -17,8 +17,8 @@ use Rattle.commit_machine.specs.Names.{record_name, new_name, right_name, staged
 use Rattle.commit_machine.specs.Records.{record_of, is_go, names_of}
 use Rattle.commit_machine.specs.Settled.{Files}
 use Rattle.commit_machine.specs.Jobs.{Found, Refusal, Busy, TooLarge, Ending, Done, Refused, Failed, NoMemory, Outcome, Puts, Edit, Job, Made, all_of, edits_of, prepare_of, go_of, seen_files}
-use Rattle.commit_machine.specs.Machine.{State, Seizing, Looking, Undoing, Placing, Unlocking, Erasing, Clearing, Preparing, Publishing, Locking, Loading, Staging, Deciding, Committing, Checking, Releasing, Ended, Then, GoOn, Answer, ToLoad, ToStage, ToErase, ToPublish, ToLock, ToUnlock, ToSeize, ToRelease, unlocking, undoing, placing, staging, mended, none_stands, mending, record_seen, refusing, judged, loading, locking, loaded, next, refused, after_reply}
-use Rattle.commit_machine.specs.Goes.{IsOf, loads, stages, stage_fails, publishes, erases, locks, unlocks, seizes, releases, IsNext, reply, Goes}
+use Rattle.commit_machine.specs.Machine.{State, Seizing, Looking, Undoing, Placing, Unlocking, Erasing, Clearing, Preparing, Publishing, Locking, Loading, Staging, Deciding, Committing, Checking, Releasing, Ended, Then, GoOn, Answer, unlocking, undoing, placing, staging, mended, none_stands, mending, record_seen, refusing, judged, loading, locking, loaded, next, refused, after_reply}
+use Rattle.commit_machine.specs.Goes.{IsNext, reply, Goes}
 use Rattle.folder_change.specs.declared.change.Change.{Change}
 use Rattle.folder_change.specs.Changes.{name_of}
 use Rattle.folder_change.specs.Outcomes.{outcome_of}
@@ -35,32 +35,8 @@ use Rattle.folder_commit.specs.Told.{by_decision, by_changes, by_load, by_lock, 
 use Rattle.folder_commit.specs.Judging.{AllOf}
 use Rattle.folder_commit.specs.Steps.{job_of}
 use Rattle.folder_commit.proofs.EndLemmas.{made_of, loaded-one, seen-here}
+use Rattle.folder_commit.proofs.CleanLemmas.{erase-is, publish-is, lock-is, unlock-is, seize-is, load-is, release-is, stage-is, AllQuiet, cleans-refusing, all-quiet}
 use Rattle.commit_machine.proofs.NameLemmas.{staged-new}
-
-pub erase-is : (n : List ℕ) (e : Event) → IsOf (ToErase n) e → (done : Bool) × (failed : Bool) × (e ≡ event.Erase n done failed)
-erase-is n e (erases {done = done} {failed = failed}) = (done, failed, refl)
-
-pub publish-is : (from to : List ℕ) (e : Event) → IsOf (ToPublish from to) e → (done : Bool) × (failed : Bool) × (e ≡ event.Publish from to done failed)
-publish-is from to e (publishes {done = done} {failed = failed}) = (done, failed, refl)
-
-pub lock-is : (n : List ℕ) (t : ℕ) (e : Event) → IsOf (ToLock n t) e → (got : Bool) × (failed : Bool) × (e ≡ event.Lock n t got failed)
-lock-is n t e (locks {got = got} {failed = failed}) = (got, failed, refl)
-
-pub unlock-is : (n : List ℕ) (t : ℕ) (e : Event) → IsOf (ToUnlock n t) e → (done : Bool) × (failed : Bool) × (e ≡ event.Unlock n t done failed)
-unlock-is n t e (unlocks {done = done} {failed = failed}) = (done, failed, refl)
-
-pub seize-is : (n : List ℕ) (e : Event) → IsOf (ToSeize n) e → (got : Bool) × (failed : Bool) × (e ≡ event.Seize n got failed)
-seize-is n e (seizes {got = got} {failed = failed}) = (got, failed, refl)
-
-pub load-is : (n : List ℕ) (e : Event) → IsOf (ToLoad n) e → (s : Seen) × (e ≡ event.Load n s)
-load-is n e (loads {s = s}) = (s, refl)
-
-pub release-is : (n : List ℕ) (e : Event) → IsOf (ToRelease n) e → e ≡ event.Release n
-release-is n e releases = refl
-
-pub stage-is : (n c : List ℕ) (e : Event) → IsOf (ToStage n c) e → (left : Option (List ℕ)) × (failed : Bool) × (e ≡ event.Stage n left failed)
-stage-is n c e stages = (Some c, false, refl)
-stage-is n c e (stage_fails {left = left}) = (left, true, refl)
 
 -- the end of a call that failed
 abbrev pub is_failed_end : Ending → Bool
@@ -521,76 +497,6 @@ module _ (actor : List ℕ) (token : ℕ) (changes : List Change) (base : List (
   walks (Releasing a) e k is h = subst (Walks (Releasing a)) (sym (release-is (right_name actor) e is)) (tt, λ es. refl)
   walks (Ended a) e k is h = absurd is
 
-  -- an event of a clean-up, and of a release
-  abbrev is_quiet : Event → Bool
-  is_quiet (event.Erase m d f) = true
-  is_quiet (event.Unlock m t d f) = true
-  is_quiet (event.Release m) = true
-  is_quiet e = false
-
-  abbrev AllQuiet : List Event → Type 0
-  AllQuiet [] = Unit {0}
-  AllQuiet (e ∷ es) = (is_quiet e ≡ true) × AllQuiet es
-
-  -- the states of a clean-up before an end
-  abbrev Cleans : State → Type 0
-  Cleans (Undoing r n ns ls (Answer a)) = Unit {0}
-  Cleans (Unlocking r n ns (Answer a)) = Unit {0}
-  Cleans (Erasing r (Answer a)) = Unit {0}
-  Cleans (Releasing a) = Unit {0}
-  Cleans (Ended a) = Unit {0}
-  Cleans s = ⊥
-
-  cleans-unlocking : (r : Record) (ls : List (List ℕ)) (a : Ending) → Cleans (unlocking r ls (Answer a))
-  cleans-unlocking r [] a = tt
-  cleans-unlocking r (l ∷ ls) a = tt
-
-  cleans-undoing : (r : Record) (ns ls : List (List ℕ)) (a : Ending) → Cleans (undoing r ns ls (Answer a))
-  cleans-undoing r [] ls a = cleans-unlocking r ls a
-  cleans-undoing r (n ∷ ns) ls a = tt
-
-  cleans-refusing : (ns ls : List (List ℕ)) (a : Ending) → Cleans (refusing job ns ls a)
-  cleans-refusing ns ls a = cleans-undoing (prepare_of job) ns ls a
-
-  -- a clean-up takes no memory
-  goes-on : (s : State) → Cleans s → refused job s ≡ s
-  goes-on (Undoing r n ns ls (Answer a)) c = refl
-  goes-on (Unlocking r n ns (Answer a)) c = refl
-  goes-on (Erasing r (Answer a)) c = refl
-  goes-on (Releasing a) c = refl
-  goes-on (Ended a) c = refl
-  goes-on s c = absurd c
-
-  abbrev Cleaned : State → Event → Type 0
-  Cleaned s e = (is_quiet e ≡ true) × Cleans (after_reply job s (reply e))
-
-  q-undoing : (r : Record) (n : List ℕ) (ns ls : List (List ℕ)) (a : Ending) (m : List ℕ) (d f : Bool) → Cleaned (Undoing r n ns ls (Answer a)) (event.Erase m d f)
-  q-undoing r n ns ls a m d true = (refl, tt)
-  q-undoing r n ns ls a m d false = (refl, cleans-undoing r ns ls a)
-
-  q-unlocking : (r : Record) (n : List ℕ) (ns : List (List ℕ)) (a : Ending) (m : List ℕ) (t : ℕ) (d f : Bool) → Cleaned (Unlocking r n ns (Answer a)) (event.Unlock m t d f)
-  q-unlocking r n ns a m t d true = (refl, tt)
-  q-unlocking r n ns a m t d false = (refl, cleans-unlocking r ns a)
-
-  q-erasing : (r : Record) (a : Ending) (m : List ℕ) (d f : Bool) → Cleaned (Erasing r (Answer a)) (event.Erase m d f)
-  q-erasing r a m d true = (refl, tt)
-  q-erasing r a m d false = (refl, tt)
-
-  cleaned : (s : State) (e : Event) → Cleans s → IsNext (next job s) e → Cleaned s e
-  cleaned (Undoing r n ns ls (Answer a)) e c is = let w = erase-is (staged_name r.token n) e is in subst (Cleaned (Undoing r n ns ls (Answer a))) (sym w.2) (q-undoing r n ns ls a (staged_name r.token n) w.0 w.1)
-  cleaned (Unlocking r n ns (Answer a)) e c is = let w = unlock-is n r.token e is in subst (Cleaned (Unlocking r n ns (Answer a))) (sym w.2) (q-unlocking r n ns a n r.token w.0 w.1)
-  cleaned (Erasing r (Answer a)) e c is = let w = erase-is (record_name actor) e is in subst (Cleaned (Erasing r (Answer a))) (sym w.2) (q-erasing r a (record_name actor) w.0 w.1)
-  cleaned (Releasing a) e c is = subst (Cleaned (Releasing a)) (sym (release-is (right_name actor) e is)) (refl, tt)
-  cleaned (Ended a) e c is = absurd is
-  cleaned s e c is = absurd c
-
-  all-quiet : (es : List Event) (s : State) (end : Ending) → Cleans s → Goes job s es (Ended end) → AllQuiet es
-  all-quiet [] s end c goes = tt
-  all-quiet (e ∷ es) s end c (now, from, is, more) =
-      let at : now ≡ s = elim from [ inl p ↦ p | inr p ↦ p ∙ goes-on s c ] in
-      let q = cleaned now e (subst Cleans (sym at) c) is in
-      (q.0, all-quiet es (after_reply job now (reply e)) end q.1 more)
-
   -- a clean-up is told of as want of memory, wherever it begins
   quiet-decision : (es : List Event) → AllQuiet es → by_decision es ≡ NoMemory
   quiet-decision [] q = refl
@@ -630,14 +536,14 @@ module _ (actor : List ℕ) (token : ℕ) (changes : List Change) (base : List (
   wants-clean s ns ls is quiet =
       let W : State → Type 0 = λ t. Shape t × ((es : List Event) (end : Ending) → Goes job t es (Ended end) → end_from s es ≡ end_from t es) in
       let so = so_refusing ns ls NoMemory in
-      subst W (sym is) (so.0, λ es end goes. quiet es (all-quiet es (refusing job ns ls NoMemory) end (cleans-refusing ns ls NoMemory) goes) ∙ sym (so.1 es))
+      subst W (sym is) (so.0, λ es end goes. quiet es (all-quiet job es (refusing job ns ls NoMemory) (Ended end) (cleans-refusing job ns ls NoMemory) goes) ∙ sym (so.1 es))
 
   wants-end : (es : List Event) (end : Ending) → Goes job (Releasing NoMemory) es (Ended end) → locks_from es ≡ NoMemory
-  wants-end es end goes = quiet-lock es (all-quiet es (Releasing NoMemory) end tt goes)
+  wants-end es end goes = quiet-lock es (all-quiet job es (Releasing NoMemory) (Ended end) tt goes)
 
   wants : (s : State) → Shape s → Wants s
-  wants Seizing k = (tt, λ es end goes. quiet-right es (all-quiet es (Ended NoMemory) end tt goes))
-  wants Looking k = (tt, λ es end goes. quiet-record es (all-quiet es (Releasing NoMemory) end tt goes))
+  wants Seizing k = (tt, λ es end goes. quiet-right es (all-quiet job es (Ended NoMemory) (Ended end) tt goes))
+  wants Looking k = (tt, λ es end goes. quiet-record es (all-quiet job es (Releasing NoMemory) (Ended end) tt goes))
   wants (Undoing r n ns ls GoOn) k = (tt, wants-end)
   wants (Undoing r n ns ls (Answer a)) k = (tt, λ es end goes. refl)
   wants (Placing r n ns ls GoOn) k = (tt, wants-end)
