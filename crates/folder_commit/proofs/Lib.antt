@@ -1,5 +1,6 @@
 pub mod NameLemmas
 pub mod JudgeLemmas
+pub mod CleanLemmas
 pub mod EndLemmas
 pub mod RunLemmas
 pub mod SafeLemmas

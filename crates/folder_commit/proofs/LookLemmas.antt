@@ -11,7 +11,7 @@ use Rattle.host_port.specs.declared.event.Seen.TheVariants as seen
 use Rattle.folder_change.specs.declared.change.Change.{Change}
 use Rattle.folder_change.specs.Changes.{name_of}
 use Rattle.commit_machine.specs.Names.{record_name, new_name, right_name}
-use Rattle.commit_machine.specs.Jobs.{Before, After, Unknown, Ending, Done, Failed, Job, Made}
+use Rattle.commit_machine.specs.Jobs.{Before, After, Unknown, Ending, Done, Failed, Job, Made, all_of}
 use Rattle.commit_machine.specs.Machine.{State, Seizing, Placing, Unlocking, Erasing, Committing, Checking, Releasing, Ended, Then, GoOn, Answer, Fault, next, refused, after_reply, faulted, passed_at, passed_then, passed_ending, passed_by, go_front}
 use Rattle.commit_machine.specs.Goes.{IsNext, Goes, reply}
 use Rattle.commit_machine.specs.Edits.{job_for, edit_for}
@@ -23,7 +23,8 @@ use Rattle.folder_commit.specs.Ends.{AnswersAs, Commits}
 use Rattle.folder_commit.specs.Commits.{IsOfOne, IsCommit}
 use Rattle.folder_commit.specs.Told.{load_failed, look_failed, is_unknown, TellsFaults, TellsUnknown, IsTold}
 use Rattle.folder_commit.proofs.RunLemmas.{named-once}
-use Rattle.folder_commit.proofs.ToldLemmas.{load-is, publish-is, release-is, is_failed_end, is_bad, CleanThen, Clean, AsBad, refused_bad, step-bad, committing-bad, tells-faults, tells-end}
+use Rattle.folder_commit.proofs.CleanLemmas.{load-is, publish-is, release-is}
+use Rattle.folder_commit.proofs.ToldLemmas.{is_failed_end, is_bad, CleanThen, Clean, AsBad, refused_bad, step-bad, committing-bad, tells-faults, tells-end}
 
 -- the end where it isn't known whether the decision was passed
 abbrev is_unknown_end : Ending → Bool
@@ -181,21 +182,21 @@ module _ (j : Job) where
       same (inl p) = sym (ap (λ (t : State). unknown_from t (e ∷ es)) p)
       same (inr p) = refused-looks s h (e ∷ es) end (now, inl p, is, more) ∙ sym (ap (λ (t : State). unknown_from t (e ∷ es)) p)
 
-unknown-so : (result : Result Unit CommitError) (end : Ending) → AnswersAs result end → is_unknown_end end ≡ is_unknown result
-unknown-so (Ok u) end is = ap is_unknown_end is
-unknown-so (Err (error.Busy name)) end is = ap is_unknown_end is
-unknown-so (Err error.Record) end is = ap is_unknown_end is
-unknown-so (Err (error.Changed name at)) end is = ap is_unknown_end is
-unknown-so (Err (error.TooLarge name n)) end is = ap is_unknown_end is
-unknown-so (Err (error.Disk passed.Before)) end is = ap is_unknown_end is
-unknown-so (Err (error.Disk passed.After)) end is = ap is_unknown_end is
-unknown-so (Err (error.Disk passed.Unknown)) end is = ap is_unknown_end is
-unknown-so (Err error.Memory) end (inl is) = ap is_unknown_end is
-unknown-so (Err error.Memory) end (inr is) = ap is_unknown_end is.1
-unknown-so (Err (error.TooManyNames n)) end is = absurd is
+unknown-so : (files : List (List ℕ)) (result : Result Unit CommitError) (end : Ending) → AnswersAs files result end → is_unknown_end end ≡ is_unknown result
+unknown-so files (Ok u) end is = ap is_unknown_end is
+unknown-so files (Err (error.Busy name)) end is = ap is_unknown_end is
+unknown-so files (Err error.Record) end is = ap is_unknown_end is
+unknown-so files (Err (error.Changed name at)) end is = ap is_unknown_end is
+unknown-so files (Err (error.TooLarge name n)) end is = ap is_unknown_end is
+unknown-so files (Err (error.Disk passed.Before)) end is = ap is_unknown_end is
+unknown-so files (Err (error.Disk passed.After)) end is = ap is_unknown_end is
+unknown-so files (Err (error.Disk passed.Unknown)) end is = ap is_unknown_end is
+unknown-so files (Err error.Memory) end (inl is) = ap is_unknown_end is
+unknown-so files (Err error.Memory) end (inr is) = ap is_unknown_end is.2
+unknown-so files (Err (error.TooManyNames n)) end is = absurd is
 
 tells-unknown : (j : Job) (es : List Event) (result : Result Unit CommitError) → Commits j es result → TellsUnknown es result
-tells-unknown j es result h = sym (look-told j es Seizing h.end tt h.goes) ∙ unknown-so result h.end h.is_as
+tells-unknown j es result h = sym (look-told j es Seizing h.end tt h.goes) ∙ unknown-so (all_of j) result h.end h.is_as
 
 pub is-told : (actor : List ℕ) (token : ℕ) (changes : List Change) (base : List (List ℕ)) (es : List Event) (result : Result Unit CommitError) → IsOfOne changes → IsCommit actor token changes base es result → IsTold actor changes base es result
 is-told actor token [] base es result one h =

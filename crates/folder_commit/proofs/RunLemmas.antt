@@ -1,6 +1,8 @@
 -- A commit from its seizure to its release.
-use Rattle.std.proofs.Common.{◌≡◌, ℕ, true, false, List, [], ◌∷◌, ◌++◌, ◌≤◌, length, map, get_or, arith, Some, refl, ap, sym, subst, inl, inr, ◌∙◌}
+use Rattle.std.proofs.Common.{◌≡◌, ℕ, Bool, true, false, ◌||◌, List, [], ◌∷◌, ◌++◌, ◌≤◌, length, map, get_or, arith, Some, refl, ap, sym, subst, inl, inr, ◌∙◌}
 use Rattle.std.specs.Prelude.{All}
+use Rattle.std.specs.List.{list_any}
+use Rattle.std.proofs.lemmas.List.Folds.{list_any-append}
 use Rattle.std.proofs.lemmas.Bool.{and_parts, cond-true}
 use Rattle.std.proofs.lemmas.List.Elements.{All-head, All-tail}
 use Rattle.std.proofs.lemmas.Slice.Eq.{bytes_eq-Decides}
@@ -17,7 +19,7 @@ use Rattle.commit_record.specs.declared.record.Record.{Record}
 use Rattle.folder_change.specs.declared.change.Change.{Change}
 use Rattle.folder_change.specs.Changes.{name_of}
 use Rattle.commit_machine.specs.Names.{record_name, right_name}
-use Rattle.commit_machine.specs.Jobs.{Ending, Done, Refused, Failed, NoMemory, Before, Job}
+use Rattle.commit_machine.specs.Jobs.{Ending, Done, Refused, Failed, NoMemory, Before, Job, all_of}
 use Rattle.commit_machine.specs.Jobs as jobs
 use Rattle.commit_machine.specs.Edits.{first_names, without, edit_for, job_for}
 use Rattle.commit_machine.specs.Machine.{Seizing, Looking, Releasing, Ended, ToSeize, ToRelease, Went, Fault}
@@ -35,18 +37,19 @@ use Rattle.folder_commit.specs.declared.error.CommitError.TheVariants as error
 use Rattle.folder_commit.specs.Names.{is_file_name}
 use Rattle.folder_commit.specs.Judging.{AllOf}
 use Rattle.folder_commit.specs.Plans.{IsNames, IsTexts, AreSafe, one_record}
-use Rattle.folder_commit.specs.Ends.{EndsAs, Ends, AnswersAs, Commits}
+use Rattle.folder_commit.specs.Ends.{EndsAs, is_past_limit, StopsWithin, Ends, AnswersAs, AnswersWithin, Commits}
 use Rattle.folder_commit.specs.Steps.{job_of}
 use Rattle.folder_commit.specs.Commits.{IsOfOne, IsCommit, answer_of}
 use Rattle.folder_commit.proofs.EndLemmas.{ends-then}
+use Rattle.folder_commit.proofs.CleanLemmas.{did-within}
 
 -- memory was wanting before the right was taken
 pub not-begun : (j : Job) (r : Result Unit CommitError) → (y : CommitError) × (r ≡ Err y) × (y ≡ error.Memory) → Commits j [] r
 not-begun j r h =
     let C : Result Unit CommitError → Type 0 = λ z. Commits j [] z in
-    subst C (sym (h.1 ∙ ap Err h.2)) (record { end = NoMemory; is_as = inl refl; goes = inr refl })
+    subst C (sym (h.1 ∙ ap Err h.2)) (record { end = NoMemory; is_as = inl refl; within = refl; goes = inr refl })
 
-answers : (actor name file rec : List ℕ) (result : Result Unit Stop) (end : Ending) → file ≡ name → rec ≡ record_name actor → EndsAs actor name result end → AnswersAs (answer_of result file rec) end
+answers : (actor name file rec : List ℕ) (result : Result Unit Stop) (end : Ending) → file ≡ name → rec ≡ record_name actor → EndsAs actor name result end → AnswersAs (name ∷ []) (answer_of result file rec) end
 answers actor name file rec (Ok u) end p q h = h
 answers actor name file rec (Err stop.Busy) end p q h = h ∙ ap (λ (z : List ℕ). Refused (jobs.Busy z)) (sym p)
 answers actor name file rec (Err stop.Record) end p q h = h
@@ -56,24 +59,37 @@ answers actor name file rec (Err (stop.TooLarge n)) end p q h = h ∙ ap (λ (z 
 answers actor name file rec (Err (stop.Disk w)) end p q h = h
 answers actor name file rec (Err stop.Memory) end p q h = h
 
+answers-within : (file rec : List ℕ) (result : Result Unit Stop) (front more : List Event) → StopsWithin front result → list_any is_past_limit more ≡ false → AnswersWithin (front ++ more) (answer_of result file rec)
+answers-within file rec (Ok u) front more h g = tt
+answers-within file rec (Err stop.Busy) front more h g = tt
+answers-within file rec (Err stop.Record) front more h g = tt
+answers-within file rec (Err (stop.Changed at)) front more h g = tt
+answers-within file rec (Err (stop.LongRecord n)) front more h g = tt
+answers-within file rec (Err (stop.TooLarge n)) front more h g = tt
+answers-within file rec (Err (stop.Disk p)) front more h g = tt
+answers-within file rec (Err stop.Memory) front more h g = list_any-append is_past_limit front more ∙ ap (λ (b : Bool). b || list_any is_past_limit more) h ∙ g
+
 module _ (j : Job) (right : List ℕ) (right_is : right ≡ right_name j.actor) where
   to-seize : Some (ToSeize (right_name j.actor)) ≡ Some (ToSeize right)
   to-seize = ap (λ (z : List ℕ). Some (ToSeize z)) (sym right_is)
 
   pub held : (name : List ℕ) (result : Result Unit Stop) (front more : List Event) → Did (ToSeize right) (Went true) front → Ends j name Looking more result → Ends j name Seizing (front ++ more) result
-  held name result front more did h = ends-then j name Seizing Looking (ToSeize right) (Went true) result front more to-seize refl did h
+  held name result front more did h = ends-then j name Seizing Looking (ToSeize right) (Went true) result front more to-seize refl (inl refl) did h
 
   ended : (end : Ending) (front more : List Event) → Goes j Seizing front (Releasing end) → Did (ToRelease right) (Went true) more → Goes j Seizing (front ++ more) (Ended end)
   ended end front more h did = goes_then j Seizing (Releasing end) (Ended end) front more h (goes_call j (Releasing end) (ToRelease right) (Went true) more (ap (λ (z : List ℕ). Some (ToRelease z)) (sym right_is)) did)
 
-  pub released : (name file rec : List ℕ) (result : Result Unit Stop) → file ≡ name → rec ≡ record_name j.actor → (front more : List Event) → Ends j name Seizing front result → Did (ToRelease right) (Went true) more
+  pub released : (name file rec : List ℕ) (result : Result Unit Stop) → file ≡ name → rec ≡ record_name j.actor → all_of j ≡ name ∷ [] → (front more : List Event) → Ends j name Seizing front result → Did (ToRelease right) (Went true) more
       → Commits j (front ++ more) (answer_of result file rec)
-  released name file rec result p q front more h did = record { end = h.end; is_as = answers j.actor name file rec result h.end p q h.is_as; goes = ended h.end front more h.goes did }
+  released name file rec result p q one front more h did =
+      let P : List (List ℕ) → Type 0 = λ files. AnswersAs files (answer_of result file rec) h.end in
+      record { end = h.end; is_as = subst P (sym one) (answers j.actor name file rec result h.end p q h.is_as); within = answers-within file rec result front more h.within (did-within (ToRelease right) (Went true) more did); goes = ended h.end front more h.goes did }
 
   pub busy : (es : List Event) → Did (ToSeize right) (Went false) es → Commits j es (Err (error.Busy right))
   busy es did = record {
     end = Refused (jobs.Busy (right_name j.actor));
     is_as = ap (λ (z : List ℕ). Refused (jobs.Busy z)) (sym right_is);
+    within = tt;
     goes = goes_call j Seizing (ToSeize right) (Went false) es to-seize did;
   }
 
@@ -81,7 +97,7 @@ module _ (j : Job) (right : List ℕ) (right_is : right ≡ right_name j.actor) 
   seize-failed es did = goes_call j Seizing (ToSeize right) Fault es to-seize did
 
   pub no-right : (front more : List Event) → Goes j Seizing front (Releasing (Failed Before)) → Did (ToRelease right) (Went true) more → Commits j (front ++ more) (Err (error.Disk passed.Before))
-  no-right front more h did = record { end = Failed Before; is_as = refl; goes = ended (Failed Before) front more h did }
+  no-right front more h did = record { end = Failed Before; is_as = refl; within = tt; goes = ended (Failed Before) front more h did }
 
 -- the names of a commit of one file
 pub one-valid : (phase : Phase) (token : ℕ) (name : List ℕ) → is_lawful name ≡ true → is_valid (one_record phase token name) ≡ true

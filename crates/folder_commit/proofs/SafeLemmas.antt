@@ -66,29 +66,29 @@ is-job actor token c cs base fits files one =
     subst P (sym (named-once c cs one)) (one-job actor token (c ∷ cs) base (name_of c) fits file)
 
 -- the answer says how often there was a decision
-decided-so : (result : Result Unit CommitError) (end : Ending) (n : ℕ) → AnswersAs result end → TellsDecisions end n → DecidedSo result n
-decided-so (Ok u) end n is told = rw is at told
-decided-so (Err (error.Busy name)) end n is told = rw is at told
-decided-so (Err error.Record) end n is told = rw is at told
-decided-so (Err (error.Changed name at)) end n is told = rw is at told
-decided-so (Err (error.TooLarge name k)) end n is told = rw is at told
-decided-so (Err (error.Disk passed.Before)) end n is told = rw is at told
-decided-so (Err (error.Disk passed.After)) end n is told = rw is at told
-decided-so (Err (error.Disk passed.Unknown)) end n is told = rw is at told
-decided-so (Err error.Memory) end n (inl is) told = rw is at told
-decided-so (Err error.Memory) end n (inr is) told = let e = is.1 in rw e at told
-decided-so (Err (error.TooManyNames k)) end n is told = absurd is
+decided-so : (files : List (List ℕ)) (result : Result Unit CommitError) (end : Ending) (n : ℕ) → AnswersAs files result end → TellsDecisions end n → DecidedSo result n
+decided-so files (Ok u) end n is told = rw is at told
+decided-so files (Err (error.Busy name)) end n is told = rw is at told
+decided-so files (Err error.Record) end n is told = rw is at told
+decided-so files (Err (error.Changed name at)) end n is told = rw is at told
+decided-so files (Err (error.TooLarge name k)) end n is told = rw is at told
+decided-so files (Err (error.Disk passed.Before)) end n is told = rw is at told
+decided-so files (Err (error.Disk passed.After)) end n is told = rw is at told
+decided-so files (Err (error.Disk passed.Unknown)) end n is told = rw is at told
+decided-so files (Err error.Memory) end n (inl is) told = rw is at told
+decided-so files (Err error.Memory) end n (inr is) told = let e = is.2 in rw e at told
+decided-so files (Err (error.TooManyNames k)) end n is told = absurd is
 
-no-fault : (result : Result Unit CommitError) (end : Ending) → AnswersAs result end → MetNoFault result → laws.MetNoFault end
-no-fault (Ok u) end is m = subst laws.MetNoFault (sym is) tt
-no-fault (Err (error.Busy name)) end is m = subst laws.MetNoFault (sym is) tt
-no-fault (Err error.Record) end is m = subst laws.MetNoFault (sym is) tt
-no-fault (Err (error.Changed name at)) end is m = subst laws.MetNoFault (sym is) tt
-no-fault (Err (error.TooLarge name k)) end is m = subst laws.MetNoFault (sym is) tt
-no-fault (Err (error.Disk p)) end is m = absurd m
-no-fault (Err error.Memory) end (inl is) m = subst laws.MetNoFault (sym is) tt
-no-fault (Err error.Memory) end (inr is) m = subst laws.MetNoFault (sym is.1) tt
-no-fault (Err (error.TooManyNames k)) end is m = absurd is
+no-fault : (files : List (List ℕ)) (result : Result Unit CommitError) (end : Ending) → AnswersAs files result end → MetNoFault result → laws.MetNoFault end
+no-fault files (Ok u) end is m = subst laws.MetNoFault (sym is) tt
+no-fault files (Err (error.Busy name)) end is m = subst laws.MetNoFault (sym is) tt
+no-fault files (Err error.Record) end is m = subst laws.MetNoFault (sym is) tt
+no-fault files (Err (error.Changed name at)) end is m = subst laws.MetNoFault (sym is) tt
+no-fault files (Err (error.TooLarge name k)) end is m = subst laws.MetNoFault (sym is) tt
+no-fault files (Err (error.Disk p)) end is m = absurd m
+no-fault files (Err error.Memory) end (inl is) m = subst laws.MetNoFault (sym is) tt
+no-fault files (Err error.Memory) end (inr is) m = subst laws.MetNoFault (sym is.2) tt
+no-fault files (Err (error.TooManyNames k)) end is m = absurd is
 
 -- no change is refused
 no-cause : (o : Option ChangeRefusal) → option_map cause_of o ≡ None → o ≡ None
@@ -108,12 +108,12 @@ safely actor token c cs base d es result job one may honest h =
     record {
       moments = λ front rest is. let x = front_is_run j d front rest (Ended h.end) (subst G is run) in crash_safe j d front x.0 x.1;
       stops = λ front rest e part is. stop_safe j d front e rest (Ended h.end) part (subst G is run);
-      decided = decided-so result h.end _ h.is_as (decisions_are_told j d es h.end run);
+      decided = decided-so (all_of j) result h.end _ h.is_as (decisions_are_told j d es h.end run);
       fits = λ front rest e is at.
           let (files, due, none) = no_refused_is_decided j d front e rest (Ended h.end) (subst G is run) at in
           let now = files_after j d (settled_files j.actor d) front in
           alone (c ∷ cs) base now files (name_of c) one (sym (due (name_of c) (named actor token c cs base))) ∙ no-cause (first_refusal (c ∷ cs) base files) none;
-      nothing_left = λ m. nothing_left j d es h.end (no-fault result h.end h.is_as m) run;
+      nothing_left = λ m. nothing_left j d es h.end (no-fault (all_of j) result h.end h.is_as m) run;
       right_given_up = right_is_given_up j d es h.end run;
       nothing_after_a_fault = λ front rest e is. nothing_after_a_fault j d front e rest (Ended h.end) (subst G is run);
     }

@@ -17,8 +17,8 @@ use Rattle.commit_machine.specs.Names.{record_name, new_name, right_name, staged
 use Rattle.commit_machine.specs.Records.{record_of, is_go, names_of}
 use Rattle.commit_machine.specs.Settled.{Files}
 use Rattle.commit_machine.specs.Jobs.{Found, Refusal, Busy, TooLarge, Ending, Done, Refused, Failed, NoMemory, Outcome, Puts, Edit, Job, Made, all_of, edits_of, prepare_of, go_of, seen_files}
-use Rattle.commit_machine.specs.Machine.{State, Seizing, Looking, Undoing, Placing, Unlocking, Erasing, Clearing, Preparing, Publishing, Locking, Loading, Staging, Deciding, Committing, Checking, Releasing, Ended, Then, GoOn, Answer, ToLoad, ToStage, ToErase, ToPublish, ToLock, ToUnlock, ToSeize, ToRelease, unlocking, undoing, placing, staging, mended, none_stands, mending, record_seen, refusing, judged, loading, locking, loaded, next, refused, after_reply}
-use Rattle.commit_machine.specs.Goes.{IsOf, loads, stages, stage_fails, publishes, erases, locks, unlocks, seizes, releases, IsNext, reply, Goes}
+use Rattle.commit_machine.specs.Machine.{State, Seizing, Looking, Undoing, Placing, Unlocking, Erasing, Clearing, Preparing, Publishing, Locking, Loading, Staging, Deciding, Committing, Checking, Releasing, Ended, Then, GoOn, Answer, unlocking, undoing, placing, staging, mended, none_stands, mending, record_seen, refusing, judged, loading, locking, loaded, next, refused, after_reply}
+use Rattle.commit_machine.specs.Goes.{IsNext, reply, Goes}
 use Rattle.folder_change.specs.declared.change.Change.{Change}
 use Rattle.folder_change.specs.Changes.{name_of}
 use Rattle.folder_change.specs.Outcomes.{outcome_of}
@@ -30,37 +30,13 @@ use Rattle.folder_recovery.proofs.GoesLemmas.{placing_cons}
 use Rattle.folder_commit.specs.declared.error.Passed.TheVariants as passed
 use Rattle.folder_commit.specs.declared.error.CommitError.{CommitError}
 use Rattle.folder_commit.specs.declared.error.CommitError.TheVariants as error
-use Rattle.folder_commit.specs.Ends.{AnswersAs, Commits}
+use Rattle.folder_commit.specs.Ends.{WantedAs, AnswersAs, Commits}
 use Rattle.folder_commit.specs.Told.{by_decision, by_changes, by_load, by_lock, by_standing, by_record, by_right, is_fault, TellsFaults, TellsEnd}
 use Rattle.folder_commit.specs.Judging.{AllOf}
 use Rattle.folder_commit.specs.Steps.{job_of}
 use Rattle.folder_commit.proofs.EndLemmas.{made_of, loaded-one, seen-here}
+use Rattle.folder_commit.proofs.CleanLemmas.{erase-is, publish-is, lock-is, unlock-is, seize-is, load-is, release-is, stage-is, AllQuiet, cleans-refusing, all-quiet}
 use Rattle.commit_machine.proofs.NameLemmas.{staged-new}
-
-pub erase-is : (n : List ℕ) (e : Event) → IsOf (ToErase n) e → (done : Bool) × (failed : Bool) × (e ≡ event.Erase n done failed)
-erase-is n e (erases {done = done} {failed = failed}) = (done, failed, refl)
-
-pub publish-is : (from to : List ℕ) (e : Event) → IsOf (ToPublish from to) e → (done : Bool) × (failed : Bool) × (e ≡ event.Publish from to done failed)
-publish-is from to e (publishes {done = done} {failed = failed}) = (done, failed, refl)
-
-pub lock-is : (n : List ℕ) (t : ℕ) (e : Event) → IsOf (ToLock n t) e → (got : Bool) × (failed : Bool) × (e ≡ event.Lock n t got failed)
-lock-is n t e (locks {got = got} {failed = failed}) = (got, failed, refl)
-
-pub unlock-is : (n : List ℕ) (t : ℕ) (e : Event) → IsOf (ToUnlock n t) e → (done : Bool) × (failed : Bool) × (e ≡ event.Unlock n t done failed)
-unlock-is n t e (unlocks {done = done} {failed = failed}) = (done, failed, refl)
-
-pub seize-is : (n : List ℕ) (e : Event) → IsOf (ToSeize n) e → (got : Bool) × (failed : Bool) × (e ≡ event.Seize n got failed)
-seize-is n e (seizes {got = got} {failed = failed}) = (got, failed, refl)
-
-pub load-is : (n : List ℕ) (e : Event) → IsOf (ToLoad n) e → (s : Seen) × (e ≡ event.Load n s)
-load-is n e (loads {s = s}) = (s, refl)
-
-pub release-is : (n : List ℕ) (e : Event) → IsOf (ToRelease n) e → e ≡ event.Release n
-release-is n e releases = refl
-
-pub stage-is : (n c : List ℕ) (e : Event) → IsOf (ToStage n c) e → (left : Option (List ℕ)) × (failed : Bool) × (e ≡ event.Stage n left failed)
-stage-is n c e stages = (Some c, false, refl)
-stage-is n c e (stage_fails {left = left}) = (left, true, refl)
 
 -- the end of a call that failed
 abbrev pub is_failed_end : Ending → Bool
@@ -293,21 +269,21 @@ module _ (j : Job) where
   pub failed-told : (es : List Event) (end : Ending) → Goes j Seizing es (Ended end) → is_failed_end end ≡ list_any is_failed es
   failed-told es end goes = fails-told es Seizing end tt goes
 
-fault-so : (result : Result Unit CommitError) (end : Ending) → AnswersAs result end → is_failed_end end ≡ is_fault result
-fault-so (Ok u) end is = ap is_failed_end is
-fault-so (Err (error.Busy name)) end is = ap is_failed_end is
-fault-so (Err error.Record) end is = ap is_failed_end is
-fault-so (Err (error.Changed name at)) end is = ap is_failed_end is
-fault-so (Err (error.TooLarge name n)) end is = ap is_failed_end is
-fault-so (Err (error.Disk passed.Before)) end is = ap is_failed_end is
-fault-so (Err (error.Disk passed.After)) end is = ap is_failed_end is
-fault-so (Err (error.Disk passed.Unknown)) end is = ap is_failed_end is
-fault-so (Err error.Memory) end (inl is) = ap is_failed_end is
-fault-so (Err error.Memory) end (inr is) = ap is_failed_end is.1
-fault-so (Err (error.TooManyNames n)) end is = absurd is
+fault-so : (files : List (List ℕ)) (result : Result Unit CommitError) (end : Ending) → AnswersAs files result end → is_failed_end end ≡ is_fault result
+fault-so files (Ok u) end is = ap is_failed_end is
+fault-so files (Err (error.Busy name)) end is = ap is_failed_end is
+fault-so files (Err error.Record) end is = ap is_failed_end is
+fault-so files (Err (error.Changed name at)) end is = ap is_failed_end is
+fault-so files (Err (error.TooLarge name n)) end is = ap is_failed_end is
+fault-so files (Err (error.Disk passed.Before)) end is = ap is_failed_end is
+fault-so files (Err (error.Disk passed.After)) end is = ap is_failed_end is
+fault-so files (Err (error.Disk passed.Unknown)) end is = ap is_failed_end is
+fault-so files (Err error.Memory) end (inl is) = ap is_failed_end is
+fault-so files (Err error.Memory) end (inr is) = ap is_failed_end is.2
+fault-so files (Err (error.TooManyNames n)) end is = absurd is
 
 pub tells-faults : (j : Job) (es : List Event) (result : Result Unit CommitError) → Commits j es result → TellsFaults es result
-tells-faults j es result h = sym (failed-told j es h.end h.goes) ∙ fault-so result h.end h.is_as
+tells-faults j es result h = sym (failed-told j es h.end h.goes) ∙ fault-so (all_of j) result h.end h.is_as
 
 -- what changes of one file are refused for depends on that file alone
 pub alone : (changes : List Change) (base : List (List ℕ)) (files others : Files) (name : List ℕ) → AllOf name changes → files name ≡ others name → first_refusal changes base files ≡ first_refusal changes base others
@@ -398,12 +374,12 @@ module _ (actor : List ℕ) (token : ℕ) (changes : List Change) (base : List (
   so_seen None = (tt, λ es. refl)
   so_seen (Some r) = so_mending r
 
-  -- an event that doesn't fail leads to a state that ends so, or memory was wanting
+  -- an event that doesn't fail leads to a state that ends so
   abbrev Walks : State → Event → Type 0
-  Walks s e = Shape (after_reply job s (reply e)) × (((es : List Event) → end_from s (e ∷ es) ≡ end_from (after_reply job s (reply e)) es) ⊎ ((es : List Event) → end_from (after_reply job s (reply e)) es ≡ NoMemory))
+  Walks s e = Shape (after_reply job s (reply e)) × ((es : List Event) → end_from s (e ∷ es) ≡ end_from (after_reply job s (reply e)) es)
 
   to : (s : State) (e : Event) (f : List Event → Ending) → Ends_so (after_reply job s (reply e)) f → ((es : List Event) → end_from s (e ∷ es) ≡ f es) → Walks s e
-  to s e f so h = (so.0, inl (λ es. h es ∙ sym (so.1 es)))
+  to s e f so h = (so.0, λ es. h es ∙ sym (so.1 es))
 
   skip-erase : (th : Then) (m : List ℕ) (d f : Bool) (es : List Event) → end_then th (event.Erase m d f ∷ es) ≡ end_then th es
   skip-erase GoOn m d f es = refl
@@ -432,38 +408,38 @@ module _ (actor : List ℕ) (token : ℕ) (changes : List Change) (base : List (
 
   w-erasing : (r : Record) (th : Then) (m : List ℕ) (d f : Bool) → f ≡ false → Walks (Erasing r th) (event.Erase m d f)
   w-erasing r th m d true h = absurd (cc)
-  w-erasing r GoOn m d false h = (tt, inl (λ es. refl))
-  w-erasing r (Answer a) m d false h = (tt, inl (λ es. refl))
+  w-erasing r GoOn m d false h = (tt, λ es. refl)
+  w-erasing r (Answer a) m d false h = (tt, λ es. refl)
 
   w-clearing : (x : Found) (m : List ℕ) (d f : Bool) → f ≡ false → Walks (Clearing x) (event.Erase m d f)
   w-clearing x m d true h = absurd (cc)
-  w-clearing x m d false h = (tt, inl (λ es. refl))
+  w-clearing x m d false h = (tt, λ es. refl)
 
   w-seizing : (m : List ℕ) (d f : Bool) → f ≡ false → Walks Seizing (event.Seize m d f)
   w-seizing m d true h = absurd (cc)
-  w-seizing m true false h = (tt, inl (λ es. refl))
-  w-seizing m false false h = (tt, inl (λ es. refl))
+  w-seizing m true false h = (tt, λ es. refl)
+  w-seizing m false false h = (tt, λ es. refl)
 
   w-looking : (m : List ℕ) (s : Seen) → is_failed (event.Load m s) ≡ false → Walks Looking (event.Load m s)
-  w-looking m (seen.Bytes None held) h = (tt, inl (λ es. refl))
+  w-looking m (seen.Bytes None held) h = (tt, λ es. refl)
   w-looking m (seen.Bytes (Some bytes) held) h = to Looking (event.Load m (seen.Bytes (Some bytes) held)) (λ es. by_standing (record_of bytes) (locks_from es)) (so_seen (record_of bytes)) (λ es. refl)
-  w-looking m (seen.TooLarge n) h = (tt, inl (λ es. refl))
+  w-looking m (seen.TooLarge n) h = (tt, λ es. refl)
   w-looking m seen.Failed h = absurd (cc)
-  w-looking m seen.Memory h = (tt, inr (λ es. refl))
+  w-looking m seen.Memory h = (tt, λ es. refl)
 
   w-preparing : (m : List ℕ) (c : Option (List ℕ)) (f : Bool) → f ≡ false → Walks Preparing (event.Stage m c f)
   w-preparing m c true h = absurd (cc)
-  w-preparing m c false h = (tt, inl (λ es. refl))
+  w-preparing m c false h = (tt, λ es. refl)
 
   w-publishing : (m : List ℕ) (d f : Bool) → f ≡ false → Walks Publishing (event.Publish (new_name actor) m d f)
   w-publishing m d true h = absurd (cc)
-  w-publishing m true false h = (refl, inl (λ es. refl))
-  w-publishing m false false h = (tt, inl (λ es. cond-true _ _ _ ((bytes_eq-Decides (new_name actor) (new_name actor)).1 refl)))
+  w-publishing m true false h = (refl, λ es. refl)
+  w-publishing m false false h = (tt, λ es. cond-true _ _ _ ((bytes_eq-Decides (new_name actor) (new_name actor)).1 refl))
 
   w-locking : (m : List ℕ) (t : ℕ) (d f : Bool) → f ≡ false → Walks (Locking [] ed []) (event.Lock m t d f)
   w-locking m t d true h = absurd (cc)
-  w-locking m t true false h = (refl, inl (λ es. refl))
-  w-locking m t false false h = (tt, inl (λ es. refl))
+  w-locking m t true false h = (refl, λ es. refl)
+  w-locking m t false false h = (tt, λ es. refl)
 
   loaded-so : (c : Option (List ℕ)) → Ends_so (loaded job [] ed [] c (ed.by c)) (λ es. by_changes (first_refusal changes base (λ m. c)) (by_decision es))
   loaded-so c =
@@ -475,9 +451,9 @@ module _ (actor : List ℕ) (token : ℕ) (changes : List Change) (base : List (
 
   w-loading : (m : List ℕ) (s : Seen) → is_failed (event.Load m s) ≡ false → Walks (Loading [] ed []) (event.Load m s)
   w-loading m (seen.Bytes c held) h = to (Loading [] ed []) (event.Load m (seen.Bytes c held)) (λ es. by_changes (first_refusal changes base (λ m. c)) (by_decision es)) (loaded-so c) (λ es. refl)
-  w-loading m (seen.TooLarge n) h = (tt, inl (λ es. refl))
+  w-loading m (seen.TooLarge n) h = (tt, λ es. refl)
   w-loading m seen.Failed h = absurd (cc)
-  w-loading m seen.Memory h = (tt, inr (λ es. refl))
+  w-loading m seen.Memory h = (tt, λ es. refl)
 
   w-staging : (ns : List (List ℕ)) (done : List Made) (x : Made) (left : List Made) (m : List ℕ) (c : Option (List ℕ)) (f : Bool) → f ≡ false → Walks (Staging ns done x left) (event.Stage m c f)
   w-staging ns done x left m c true h = absurd (cc)
@@ -485,12 +461,12 @@ module _ (actor : List ℕ) (token : ℕ) (changes : List Change) (base : List (
 
   w-deciding : (done : List Made) (m : List ℕ) (c : Option (List ℕ)) (f : Bool) → f ≡ false → Walks (Deciding done) (event.Stage m c f)
   w-deciding done m c true h = absurd (cc)
-  w-deciding done m c false h = (tt, inl (λ es. refl))
+  w-deciding done m c false h = (tt, λ es. refl)
 
   w-committing : (made : List Made) (from m : List ℕ) (d f : Bool) → f ≡ false → Walks (Committing made) (event.Publish from m d f)
   w-committing made from m d true h = absurd (cc)
   w-committing made from m true false h = to (Committing made) (event.Publish from m true false) (λ es. Done) (so_placing (go_of job made) (all_of job) (all_of job) (Answer Done)) (λ es. refl)
-  w-committing made from m false false h = (tt, inl (λ es. refl))
+  w-committing made from m false false h = (tt, λ es. refl)
 
   -- an event that is this one and hasn't failed
   same-failed : (e x : Event) → e ≡ x → is_failed e ≡ false → is_failed x ≡ false
@@ -518,80 +494,100 @@ module _ (actor : List ℕ) (token : ℕ) (changes : List Change) (base : List (
   walks (Deciding done) e k is h = let w = stage-is (new_name actor) (written (go_of job done)) e is in subst (Walks (Deciding done)) (sym w.2) (w-deciding done (new_name actor) w.0 w.1 (same-failed e _ w.2 h))
   walks (Committing made) e k is h = let w = publish-is (new_name actor) (record_name actor) e is in subst (Walks (Committing made)) (sym w.2) (w-committing made (new_name actor) (record_name actor) w.0 w.1 (same-failed e _ w.2 h))
   walks Checking e k is h = absurd k
-  walks (Releasing a) e k is h = subst (Walks (Releasing a)) (sym (release-is (right_name actor) e is)) (tt, inl (λ es. refl))
+  walks (Releasing a) e k is h = subst (Walks (Releasing a)) (sym (release-is (right_name actor) e is)) (tt, λ es. refl)
   walks (Ended a) e k is h = absurd is
 
-  -- want of memory in place of a call
-  abbrev Wants : State → Type 0
-  Wants s = Shape (refused job s) × (((es : List Event) → end_from (refused job s) es ≡ NoMemory) ⊎ (refused job s ≡ s))
+  -- a clean-up is told of as want of memory, wherever it begins
+  quiet-decision : (es : List Event) → AllQuiet es → by_decision es ≡ NoMemory
+  quiet-decision [] q = refl
+  quiet-decision (event.Erase m d f ∷ es) q = quiet-decision es q.1
+  quiet-decision (event.Unlock m t d f ∷ es) q = quiet-decision es q.1
+  quiet-decision (event.Release m ∷ es) q = quiet-decision es q.1
+  quiet-decision (e ∷ es) q = let h = q.0 in absurd (cc)
 
-  wants-clean : (s : State) (ns ls : List (List ℕ)) → refused job s ≡ refusing job ns ls NoMemory → Wants s
-  wants-clean s ns ls is = subst (λ (t : State). Shape t × (((es : List Event) → end_from t es ≡ NoMemory) ⊎ (t ≡ s))) (sym is) ((so_refusing ns ls NoMemory).0, inl (so_refusing ns ls NoMemory).1)
+  quiet-lock : (es : List Event) → AllQuiet es → locks_from es ≡ NoMemory
+  quiet-lock [] q = refl
+  quiet-lock (event.Erase m d f ∷ es) q = quiet-lock es q.1
+  quiet-lock (event.Unlock m t d f ∷ es) q = quiet-lock es q.1
+  quiet-lock (event.Release m ∷ es) q = quiet-lock es q.1
+  quiet-lock (e ∷ es) q = let h = q.0 in absurd (cc)
+
+  quiet-load : (es : List Event) → AllQuiet es → by_load changes base name es ≡ NoMemory
+  quiet-load (event.Load m s ∷ es) q = let h = q.0 in absurd (cc)
+  quiet-load [] q = refl
+  quiet-load (e ∷ es) q = refl
+
+  quiet-record : (es : List Event) → AllQuiet es → by_record actor changes base name es ≡ NoMemory
+  quiet-record (event.Load m s ∷ es) q = let h = q.0 in absurd (cc)
+  quiet-record [] q = refl
+  quiet-record (e ∷ es) q = refl
+
+  quiet-right : (es : List Event) → AllQuiet es → by_right actor changes base name es ≡ NoMemory
+  quiet-right (event.Seize m d f ∷ es) q = let h = q.0 in absurd (cc)
+  quiet-right [] q = refl
+  quiet-right (e ∷ es) q = refl
+
+  -- want of memory in place of a call: the end by the events is that of the clean-up
+  abbrev Wants : State → Type 0
+  Wants s = Shape (refused job s) × ((es : List Event) (end : Ending) → Goes job (refused job s) es (Ended end) → end_from s es ≡ end_from (refused job s) es)
+
+  -- the state goes over to a clean-up
+  wants-clean : (s : State) (ns ls : List (List ℕ)) → refused job s ≡ refusing job ns ls NoMemory → ((es : List Event) → AllQuiet es → end_from s es ≡ NoMemory) → Wants s
+  wants-clean s ns ls is quiet =
+      let W : State → Type 0 = λ t. Shape t × ((es : List Event) (end : Ending) → Goes job t es (Ended end) → end_from s es ≡ end_from t es) in
+      let so = so_refusing ns ls NoMemory in
+      subst W (sym is) (so.0, λ es end goes. quiet es (all-quiet job es (refusing job ns ls NoMemory) (Ended end) (cleans-refusing job ns ls NoMemory) goes) ∙ sym (so.1 es))
+
+  wants-end : (es : List Event) (end : Ending) → Goes job (Releasing NoMemory) es (Ended end) → locks_from es ≡ NoMemory
+  wants-end es end goes = quiet-lock es (all-quiet job es (Releasing NoMemory) (Ended end) tt goes)
 
   wants : (s : State) → Shape s → Wants s
-  wants Seizing k = (tt, inl (λ es. refl))
-  wants Looking k = (tt, inl (λ es. refl))
-  wants (Undoing r n ns ls GoOn) k = (tt, inl (λ es. refl))
-  wants (Undoing r n ns ls (Answer a)) k = (tt, inr refl)
-  wants (Placing r n ns ls GoOn) k = (tt, inl (λ es. refl))
-  wants (Placing r n ns ls (Answer a)) k = (tt, inr refl)
-  wants (Unlocking r n ns GoOn) k = (tt, inl (λ es. refl))
-  wants (Unlocking r n ns (Answer a)) k = (tt, inr refl)
-  wants (Erasing r GoOn) k = (tt, inl (λ es. refl))
-  wants (Erasing r (Answer a)) k = (tt, inr refl)
-  wants (Clearing f) k = (tt, inl (λ es. refl))
-  wants Preparing k = (tt, inl (λ es. refl))
-  wants Publishing k = (tt, inl (λ es. refl))
-  wants (Locking ls x left) k = wants-clean (Locking ls x left) [] ls refl
-  wants (Loading done x left) k = wants-clean (Loading done x left) [] (all_of job) refl
-  wants (Staging ns done x left) k = wants-clean (Staging ns done x left) ns (all_of job) refl
-  wants (Deciding done) k = wants-clean (Deciding done) (all_of job) (all_of job) refl
-  wants (Committing done) k = wants-clean (Committing done) (all_of job) (all_of job) refl
+  wants Seizing k = (tt, λ es end goes. quiet-right es (all-quiet job es (Ended NoMemory) (Ended end) tt goes))
+  wants Looking k = (tt, λ es end goes. quiet-record es (all-quiet job es (Releasing NoMemory) (Ended end) tt goes))
+  wants (Undoing r n ns ls GoOn) k = (tt, wants-end)
+  wants (Undoing r n ns ls (Answer a)) k = (tt, λ es end goes. refl)
+  wants (Placing r n ns ls GoOn) k = (tt, wants-end)
+  wants (Placing r n ns ls (Answer a)) k = (tt, λ es end goes. refl)
+  wants (Unlocking r n ns GoOn) k = (tt, wants-end)
+  wants (Unlocking r n ns (Answer a)) k = (tt, λ es end goes. refl)
+  wants (Erasing r GoOn) k = (tt, wants-end)
+  wants (Erasing r (Answer a)) k = (tt, λ es end goes. refl)
+  wants (Clearing f) k = (tt, wants-end)
+  wants Preparing k = (tt, wants-end)
+  wants Publishing k = (tt, wants-end)
+  wants (Locking ls x left) k = wants-clean (Locking ls x left) [] ls refl quiet-lock
+  wants (Loading done x left) k = wants-clean (Loading done x left) [] (all_of job) refl quiet-load
+  wants (Staging ns done x left) k = wants-clean (Staging ns done x left) ns (all_of job) refl quiet-decision
+  wants (Deciding done) k = wants-clean (Deciding done) (all_of job) (all_of job) refl quiet-decision
+  wants (Committing done) k = wants-clean (Committing done) (all_of job) (all_of job) refl quiet-decision
   wants Checking k = absurd k
-  wants (Releasing a) k = (tt, inr refl)
-  wants (Ended a) k = (tt, inr refl)
+  wants (Releasing a) k = (tt, λ es end goes. refl)
+  wants (Ended a) k = (tt, λ es end goes. refl)
 
-  abbrev Is : Ending → Ending → Type 0
-  Is x end = (end ≡ x) ⊎ (end ≡ NoMemory)
+  at-end : (s : State) (end : Ending) → Shape s → (s ≡ Ended end) ⊎ (refused job s ≡ Ended end) → end_from s [] ≡ end
+  at-end s end k (inl p) = ap (λ (t : State). end_from t []) p
+  at-end s end k (inr p) = (wants s k).1 [] end (inl p) ∙ ap (λ (t : State). end_from t []) p
 
-  abbrev Walked : List Event → State → Ending → Type 0
-  Walked es s end = Shape s → Is (end_from s es) end
-
-  from-here : (e : Event) (es : List Event) (s : State) (end : Ending) → Walks s e → Walked es (after_reply job s (reply e)) end → Is (end_from s (e ∷ es)) end
-  from-here e es s end w on = elim (on w.0) [ inr p ↦ inr p | inl p ↦ elim w.1 [ inl q ↦ inl (p ∙ sym (q es)) | inr q ↦ inr (p ∙ q es) ] ]
-
-  at-end : (s : State) (end : Ending) → Shape s → (s ≡ Ended end) ⊎ (refused job s ≡ Ended end) → Is (end_from s []) end
-  at-end s end k (inl p) = inl (sym (ap (λ (t : State). end_from t []) p))
-  at-end s end k (inr p) =
-      elim (wants s k).1 [ inl q ↦ inr (sym (ap (λ (t : State). end_from t []) p) ∙ q []) | inr q ↦ inl (sym (ap (λ (t : State). end_from t []) (sym q ∙ p))) ]
-
-  walk : (es : List Event) (s : State) (end : Ending) → list_any is_failed es ≡ false → Goes job s es (Ended end) → Walked es s end
+  -- where no call failed, the end is that by the events
+  walk : (es : List Event) (s : State) (end : Ending) → list_any is_failed es ≡ false → Goes job s es (Ended end) → Shape s → end_from s es ≡ end
   walk [] s end h goes k = at-end s end k goes
   walk (e ∷ es) s end h (now, from, is, more) k =
       let hs = or_parts (is_failed e) (list_any is_failed es) h in
       let on = walk es (after_reply job now (reply e)) end hs.1 more in
-      let at : Shape now → Is (end_from now (e ∷ es)) end = λ kn. from-here e es now end (walks now e kn is hs.0) on in
+      let at : Shape now → end_from now (e ∷ es) ≡ end = λ kn. let w = walks now e kn is hs.0 in w.1 es ∙ on w.0 in
       elim from [
-        | inl p ↦ subst (λ (t : State). Is (end_from t (e ∷ es)) end) p (at (subst Shape (sym p) k))
+        | inl p ↦ subst (λ (t : State). end_from t (e ∷ es) ≡ end) p (at (subst Shape (sym p) k))
         | inr p ↦
             let w = wants s k in
-            let got : Is (end_from (refused job s) (e ∷ es)) end = subst (λ (t : State). Is (end_from t (e ∷ es)) end) p (at (subst Shape (sym p) w.0)) in
-            elim w.1 [
-              | inl q ↦ elim got [ inl x ↦ inr (x ∙ q (e ∷ es)) | inr x ↦ inr x ]
-              | inr q ↦ subst (λ (t : State). Is (end_from t (e ∷ es)) end) q got
-            ]
+            w.1 (e ∷ es) end (now, inl p, is, more) ∙ subst (λ (t : State). end_from t (e ∷ es) ≡ end) p (at (subst Shape (sym p) w.0))
       ]
 
-  not-short : (x end : Ending) → Is x end → (end ≡ NoMemory → ⊥) → x ≡ end
-  not-short x end (inl p) other = sym p
-  not-short x end (inr p) other = absurd (other p)
-
-  pub tells-end : (es : List Event) (result : Result Unit CommitError) (end : Ending) → AnswersAs result end → Goes job Seizing es (Ended end) → TellsFaults es result → TellsEnd (by_right actor changes base name es) result
-  tells-end es (Ok u) end is goes f = not-short _ end (walk es Seizing end f goes tt) (λ p. absurd (cc)) ∙ is
-  tells-end es (Err (error.Busy n)) end is goes f = not-short _ end (walk es Seizing end f goes tt) (λ p. absurd (cc)) ∙ is
-  tells-end es (Err error.Record) end is goes f = not-short _ end (walk es Seizing end f goes tt) (λ p. absurd (cc)) ∙ is
-  tells-end es (Err (error.Changed n at)) end is goes f = not-short _ end (walk es Seizing end f goes tt) (λ p. absurd (cc)) ∙ is
-  tells-end es (Err (error.TooLarge n k)) end is goes f = not-short _ end (walk es Seizing end f goes tt) (λ p. absurd (cc)) ∙ is
+  pub tells-end : (es : List Event) (result : Result Unit CommitError) (end : Ending) → AnswersAs (name ∷ []) result end → Goes job Seizing es (Ended end) → TellsFaults es result → TellsEnd name (by_right actor changes base name es) result
+  tells-end es (Ok u) end is goes f = walk es Seizing end f goes tt ∙ is
+  tells-end es (Err (error.Busy n)) end is goes f = walk es Seizing end f goes tt ∙ is
+  tells-end es (Err error.Record) end is goes f = walk es Seizing end f goes tt ∙ is
+  tells-end es (Err (error.Changed n at)) end is goes f = walk es Seizing end f goes tt ∙ is
+  tells-end es (Err (error.TooLarge n k)) end is goes f = walk es Seizing end f goes tt ∙ is
   tells-end es (Err (error.Disk p)) end is goes f = tt
-  tells-end es (Err error.Memory) end is goes f = tt
+  tells-end es (Err error.Memory) end is goes f = subst (WantedAs (name ∷ [])) (sym (walk es Seizing end f goes tt)) is
   tells-end es (Err (error.TooManyNames n)) end is goes f = absurd is

@@ -1,12 +1,15 @@
 -- How a commit ends, and the machine with it.
-use Rattle.std.specs.Prelude.{◌≡◌, ◌⊎◌, ◌<◌, ℕ, List, [], ◌∷◌, Option, Some}
+use Rattle.std.specs.Prelude.{◌≡◌, ◌⊎◌, ◌<◌, ℕ, Bool, true, false, List, [], ◌∷◌, Option, Some}
+use Rattle.std.specs.List.{list_any}
 use Rattle.std.specs.declared.result.Result.{Result}
 use Rattle.std.specs.declared.result.Result.TheVariants.{Ok, Err}
 use Rattle.host_port.specs.declared.event.Event.{Event}
+use Rattle.host_port.specs.declared.event.Event.TheVariants.{Load}
+use Rattle.host_port.specs.declared.event.Seen.TheVariants as seen
 use Rattle.host_port.specs.Calls.{Counts, Rose, load_limit}
 use Rattle.commit_machine.specs.Names.{record_name, right_name}
-use Rattle.commit_machine.specs.Settled.{Files}
-use Rattle.commit_machine.specs.Jobs.{Refusal, Ending, Done, Refused, Failed, NoMemory, Edit, Job}
+use Rattle.commit_machine.specs.Settled.{Files, Mem}
+use Rattle.commit_machine.specs.Jobs.{Refusal, Ending, Done, Refused, Failed, NoMemory, Edit, Job, all_of}
 use Rattle.commit_machine.specs.Jobs as jobs
 use Rattle.commit_machine.specs.Machine.{State, Seizing, Releasing, Ended}
 use Rattle.commit_machine.specs.Goes.{Goes}
@@ -23,9 +26,22 @@ FailedAs Before end = end ≡ Failed jobs.Before
 FailedAs After end = end ≡ Failed jobs.After
 FailedAs Unknown end = end ≡ Failed jobs.Unknown
 
--- memory was wanting, which may hide a refusal
-abbrev pub WantedAs : Ending → Type 0
-WantedAs end = (end ≡ NoMemory) ⊎ ((why : Refusal) × (end ≡ Refused why))
+-- What want of memory may hide, in a commit of files of these names. To read the record takes memory, and so does to judge the changes of a
+-- file. A right or a lock that another has is seen without memory.
+abbrev pub MayHide : List (List ℕ) → Refusal → Type 0
+MayHide files (jobs.Busy name) = ⊥
+MayHide files jobs.NotARecord = Unit {0}
+MayHide files (jobs.TooLarge name length) = Mem name files
+MayHide files (jobs.Changed name at) = Mem name files
+
+-- memory was wanting, which may hide such a refusal
+abbrev pub WantedAs : List (List ℕ) → Ending → Type 0
+WantedAs files end = (end ≡ NoMemory) ⊎ ((why : Refusal) × MayHide files why × (end ≡ Refused why))
+
+-- a load that met too many bytes
+abbrev pub is_past_limit : Event → Bool
+is_past_limit (Load name (seen.TooLarge length)) = true
+is_past_limit e = false
 
 -- what is said of a stop of an actor's commit of one file
 abbrev pub StopsAs : List ℕ → List ℕ → Stop → Ending → Type 0
@@ -35,7 +51,7 @@ StopsAs actor name (stop.Changed at) end = end ≡ Refused (jobs.Changed name at
 StopsAs actor name (stop.LongRecord length) end = end ≡ Refused (jobs.TooLarge (record_name actor) length)
 StopsAs actor name (stop.TooLarge length) end = end ≡ Refused (jobs.TooLarge name length)
 StopsAs actor name (stop.Disk passed) end = FailedAs passed end
-StopsAs actor name stop.Memory end = WantedAs end
+StopsAs actor name stop.Memory end = WantedAs (name ∷ []) end
 
 abbrev pub EndsAs : List ℕ → List ℕ → Result Unit Stop → Ending → Type 0
 EndsAs actor name (Ok u) end = end ≡ Done
@@ -45,28 +61,44 @@ EndsAs actor name (Err why) end = StopsAs actor name why end
 abbrev pub one_job : List ℕ → ℕ → Edit → (Files → Option Refusal) → Job
 one_job actor token e refusal = record { actor = actor; token = token; edits = Some (e ∷ []); refusal = refusal }
 
+-- want of memory hides no load that met too many bytes
+abbrev pub StopsWithin : List Event → Result Unit Stop → Type 0
+StopsWithin es (Err stop.Memory) = list_any is_past_limit es ≡ false
+StopsWithin es result = Unit {0}
+
 -- The events carry the machine of a job for the file of this name from a state to where the right is given up, as the answer says.
 pub record Ends (j : Job) (name : List ℕ) (s : State) (es : List Event) (result : Result Unit Stop) : Type 0 where
   pub end : Ending
   pub is_as : EndsAs j.actor name result end
+  pub within : StopsWithin es result
   pub goes : Goes j s es (Releasing end)
 
--- what is said of a commit's answer
-abbrev pub AnswersAs : Result Unit CommitError → Ending → Type 0
-AnswersAs (Ok u) end = end ≡ Done
-AnswersAs (Err (error.Busy name)) end = end ≡ Refused (jobs.Busy name)
-AnswersAs (Err error.Record) end = end ≡ Refused jobs.NotARecord
-AnswersAs (Err (error.Changed name at)) end = end ≡ Refused (jobs.Changed name at)
-AnswersAs (Err (error.TooLarge name length)) end = end ≡ Refused (jobs.TooLarge name length)
-AnswersAs (Err (error.Disk passed)) end = FailedAs passed end
-AnswersAs (Err error.Memory) end = WantedAs end
-AnswersAs (Err (error.TooManyNames count)) end = ⊥
+-- what is said of the answer of a commit of files of these names
+abbrev pub AnswersAs : List (List ℕ) → Result Unit CommitError → Ending → Type 0
+AnswersAs files (Ok u) end = end ≡ Done
+AnswersAs files (Err (error.Busy name)) end = end ≡ Refused (jobs.Busy name)
+AnswersAs files (Err error.Record) end = end ≡ Refused jobs.NotARecord
+AnswersAs files (Err (error.Changed name at)) end = end ≡ Refused (jobs.Changed name at)
+AnswersAs files (Err (error.TooLarge name length)) end = end ≡ Refused (jobs.TooLarge name length)
+AnswersAs files (Err (error.Disk passed)) end = FailedAs passed end
+AnswersAs files (Err error.Memory) end = WantedAs files end
+AnswersAs files (Err (error.TooManyNames count)) end = ⊥
+
+-- want of memory hides no load that met too many bytes
+abbrev pub AnswersWithin : List Event → Result Unit CommitError → Type 0
+AnswersWithin es (Err error.Memory) = list_any is_past_limit es ≡ false
+AnswersWithin es result = Unit {0}
 
 -- The events carry the machine of a job from its start to its end, as the answer says.
 pub record Commits (j : Job) (es : List Event) (result : Result Unit CommitError) : Type 0 where
   pub end : Ending
-  pub is_as : AnswersAs result end
+  pub is_as : AnswersAs (all_of j) result end
+  pub within : AnswersWithin es result
   pub goes : Goes j Seizing es (Ended end)
+
+-- a clean-up answers why it was begun, or that a call failed
+abbrev pub AnswersFor : Stop → Stop → Type 0
+AnswersFor why result = (result ≡ why) ⊎ (result ≡ stop.Disk Before)
 
 -- the disk is told only where its count rose, and too many bytes only past the limit
 abbrev pub FaultCause : Counts → Counts → Stop → Type 0

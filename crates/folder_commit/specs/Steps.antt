@@ -19,7 +19,7 @@ use Rattle.folder_commit.specs.declared.error.Passed.{Passed}
 use Rattle.folder_commit.specs.declared.error.Passed.TheVariants as passed
 use Rattle.folder_commit.specs.declared.error.Stop.{Stop}
 use Rattle.folder_commit.specs.declared.error.Stop.TheVariants as stop
-use Rattle.folder_commit.specs.Ends.{FailedAs, one_job}
+use Rattle.folder_commit.specs.Ends.{FailedAs, MayHide, one_job}
 
 -- the look at the record after its publication failed
 pub record Checks (j : Job) (es : List Event) (passed : Passed) : Type 0 where
@@ -27,12 +27,12 @@ pub record Checks (j : Job) (es : List Event) (passed : Passed) : Type 0 where
   pub is_as : FailedAs passed end
   pub goes : Goes j Checking es (Releasing end)
 
--- how a file that was loaded turns out: what is staged for it, or why its job is refused
+-- how a file that was loaded turns out: what is staged for it, or why its job is refused; want of memory hides only what it may
 abbrev pub TurnsOut : (Files → Option Refusal) → Made → Result (Option (List ℕ)) Stop → Type 0
 TurnsOut refusal x (Ok file) = (refusal (seen_files (x ∷ [])) ≡ None) × (x.content ≡ bytes_of file)
 TurnsOut refusal x (Err (stop.Changed at)) = refusal (seen_files (x ∷ [])) ≡ Some (jobs.Changed x.edit.name at)
 TurnsOut refusal x (Err (stop.TooLarge length)) = refusal (seen_files (x ∷ [])) ≡ Some (jobs.TooLarge x.edit.name length)
-TurnsOut refusal x (Err stop.Memory) = Unit {0}
+TurnsOut refusal x (Err stop.Memory) = (why : Refusal) → refusal (seen_files (x ∷ [])) ≡ Some why → MayHide (x.edit.name ∷ []) why
 TurnsOut refusal x (Err why) = ⊥
 
 -- the state once the one file is loaded

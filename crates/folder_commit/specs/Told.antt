@@ -21,6 +21,7 @@ use Rattle.commit_machine.specs.Restraints.{is_failed}
 use Rattle.folder_commit.specs.declared.error.Passed.TheVariants.{Unknown}
 use Rattle.folder_commit.specs.declared.error.CommitError.{CommitError}
 use Rattle.folder_commit.specs.declared.error.CommitError.TheVariants as error
+use Rattle.folder_commit.specs.Ends.{WantedAs}
 
 -- from the decision's record on: it is published
 abbrev pub by_decision : List Event → Ending
@@ -96,19 +97,20 @@ is_unknown result = false
 abbrev pub TellsUnknown : List Event → Result Unit CommitError → Type 0
 TellsUnknown es result = look_failed es ≡ is_unknown result
 
--- without a fault, and but for want of memory, the answer is this end
-abbrev pub TellsEnd : Ending → Result Unit CommitError → Type 0
-TellsEnd end (Ok u) = end ≡ Done
-TellsEnd end (Err (error.Busy name)) = end ≡ Refused (Busy name)
-TellsEnd end (Err error.Record) = end ≡ Refused NotARecord
-TellsEnd end (Err (error.Changed name at)) = end ≡ Refused (Changed name at)
-TellsEnd end (Err (error.TooLarge name length)) = end ≡ Refused (TooLarge name length)
-TellsEnd end (Err (error.Disk passed)) = Unit {0}
-TellsEnd end (Err error.Memory) = Unit {0}
-TellsEnd end (Err (error.TooManyNames count)) = ⊥
+-- Without a fault the answer is this end of a commit of the file of this name, but for want of memory, which may hide that the record is none and
+-- that the changes of the file can't be made.
+abbrev pub TellsEnd : List ℕ → Ending → Result Unit CommitError → Type 0
+TellsEnd file end (Ok u) = end ≡ Done
+TellsEnd file end (Err (error.Busy name)) = end ≡ Refused (Busy name)
+TellsEnd file end (Err error.Record) = end ≡ Refused NotARecord
+TellsEnd file end (Err (error.Changed name at)) = end ≡ Refused (Changed name at)
+TellsEnd file end (Err (error.TooLarge name length)) = end ≡ Refused (TooLarge name length)
+TellsEnd file end (Err (error.Disk passed)) = Unit {0}
+TellsEnd file end (Err error.Memory) = WantedAs (file ∷ []) end
+TellsEnd file end (Err (error.TooManyNames count)) = ⊥
 
 -- The answer is as the own events give it, in this order: a call failed, where it says too whether anything is known of the decision; the right or the
 -- record that stands refused it; the file's lock, its load and the changes of it did; or it was decided.
 abbrev pub IsTold : List ℕ → List Change → List (List ℕ) → List Event → Result Unit CommitError → Type 0
 IsTold actor [] base es result = TellsFaults es result × TellsUnknown es result
-IsTold actor (c ∷ cs) base es result = TellsFaults es result × TellsUnknown es result × TellsEnd (by_right actor (c ∷ cs) base (name_of c) es) result
+IsTold actor (c ∷ cs) base es result = TellsFaults es result × TellsUnknown es result × TellsEnd (name_of c) (by_right actor (c ∷ cs) base (name_of c) es) result

@@ -11,7 +11,7 @@ ghost use Rattle.commit_machine.specs.Jobs.{Refusal, Ending, Failed, Before, Job
 ghost use Rattle.commit_machine.specs.Edits.{edit_for};
 ghost use Rattle.commit_machine.specs.Machine.{Answer, Looking, Preparing, Publishing, Locking, Loading, Staging, Deciding, Committing, undoing, passed_ending, passed_by, go_front};
 ghost use Rattle.folder_commit.specs.Judging.{AllOf, IsJudged};
-ghost use Rattle.folder_commit.specs.Ends.{FailedAs, StopsAs, Ends, StopCause, FaultCause, IsNoFault, one_job};
+ghost use Rattle.folder_commit.specs.Ends.{FailedAs, StopsAs, Ends, AnswersFor, StopCause, FaultCause, IsNoFault, one_job};
 ghost use Rattle.folder_commit.specs.Plans.{AreReady, AreSafe};
 ghost use Rattle.folder_commit.specs.Steps.{Checks, TurnsOut, judged_one, job_of, stop_of};
 
@@ -66,6 +66,7 @@ fn refuse<H: Host>(host: &mut H, name: &[u8], token: u64, locked: &[Entry], why:
     requires own { IsFileName name.now }
     requires names { All (λ e. IsFileName e.name) locked.now }
     ensures ran { (j : Job) (file : List ℕ) (end : Ending) → name.now ≡ record_name j.actor → j.token ≡ token → StopsAs j.actor file why end → passed_ending end ≡ Before → Ran H.start H.told H.counts host.old host.new (λ es. Ends j file (undoing (prepare_of j) [] (map (λ e. e.name) locked.now) (Answer end)) es (Err result)) }
+    ensures same { AnswersFor why result }
     ensures counts { NeverFall (H.counts host.old) (H.counts host.new) }
     ensures cause { IsNoFault why → FaultCause (H.counts host.old) (H.counts host.new) result }
 {

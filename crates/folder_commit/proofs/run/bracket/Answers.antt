@@ -1,4 +1,4 @@
-use Rattle.std.proofs.Common.{◌∙◌, Err, List, ℕ, subst, sym}
+use Rattle.std.proofs.Common.{◌∙◌, Err, List, ℕ, refl, subst, sym}
 use Rattle.std.specs.Prelude.{option_copied}
 use Rattle.std.specs.declared.result.Result.{Result}
 use Rattle.host_port.specs.declared.event.Event.{Event}
@@ -38,7 +38,7 @@ returns-in-Ok-true-clause-ran g c = λ token name ready all.
     let P : List Event → Result Unit CommitError → Type 0 = λ es r. Commits j es r in
     let file = c.in_ok-file.ensures ∙ c.bytes.ensures ∙ ready.1.file_is in
     Ran-map (λ es h. subst (P es) (sym c.answer.ensures) h)
-    (Ran-then (released j c.bytes-in-Ok-true.result.now (c.bytes-in-Ok-true.ensures ∙ c.in_ok-right.ensures) name c.in_ok-file.file c.in_ok-name.name c.change-done.result file c.in_ok-name.ensures)
+    (Ran-then (released j c.bytes-in-Ok-true.result.now (c.bytes-in-Ok-true.ensures ∙ c.in_ok-right.ensures) name c.in_ok-file.file c.in_ok-name.name c.change-done.result file c.in_ok-name.ensures refl)
     (Ran-then (held j c.bytes-2.result.now (c.bytes-2.ensures ∙ c.in_ok-right.ensures) name c.change-done.result) (rw c.in-Ok-true.field-0-test at c.in-Ok-true.ensures.ran) (c.change-done.ensures.ran c.args.actor.now token name ready all))
     c.release.ensures.ran)
 

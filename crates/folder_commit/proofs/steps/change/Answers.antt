@@ -17,7 +17,7 @@ returns-in-Ok-clause-ran g c = λ actor token name ready all.
     let j = job_of actor token c.args.changes.now base name in
     let e = edit_for c.args.changes.now base name in
     let refusal = refusal_one actor token c.args.changes.now base name in
-    Ran-then (λ front more p q. ends-on j name Looking Preparing c.prepare.result front more (mended-so actor token e refusal front c.in-Ok.field-0 p) q)
+    Ran-then (λ front more p q. ends-on j name Looking Preparing c.prepare.result front more (λ b. b) (mended-so actor token e refusal front c.in-Ok.field-0 p) q)
     (c.in-Ok.ensures.ran j (c.bytes.ensures ∙ ready.0.record_is) (c.bytes-2.ensures ∙ ready.0.new_is)) (c.prepare.ensures.ran actor token name ready all)
 
 pub returns-in-Err-clause-ran : goal.returns-in-Err-clause-ran

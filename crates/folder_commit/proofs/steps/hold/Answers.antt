@@ -1,4 +1,4 @@
-use Rattle.std.proofs.Common.{◌∙◌, true, false, [], Err, refl, sym}
+use Rattle.std.proofs.Common.{◌∙◌, true, false, [], Err, refl, sym, inl}
 use Rattle.std.specs.Prelude.{option_copied}
 use Rattle.host_port.proofs.RanLemmas.{Ran-then, Ran-map}
 use Rattle.folder_change.specs.Outcomes.{base_list}
@@ -18,7 +18,7 @@ returns-in-Ok-true-clause-ran g c = λ actor token name ready all.
     let j = job_of actor token c.args.changes.now base name in
     let e = edit_for c.args.changes.now base name in
     let call = to-lock name c.bytes.result.now token c.args.texts.now.value.token (c.bytes.ensures ∙ ready.1.file_is) (token-ok token name c.args.texts.now ready.1) in
-    Ran-then (λ front more p q. ends-then j name (Locking [] e []) (Loading [] e []) (ToLock c.bytes.result.now c.args.texts.now.value.token) (Went true) c.take.result front more call refl p q)
+    Ran-then (λ front more p q. ends-then j name (Locking [] e []) (Loading [] e []) (ToLock c.bytes.result.now c.args.texts.now.value.token) (Went true) c.take.result front more call refl (inl refl) p q)
     (rw c.in-Ok-true.field-0-test at c.in-Ok-true.ensures.ran) (c.take.ensures.ran actor token name ready all)
 
 pub returns-in-Ok-false-clause-ran : goal.returns-in-Ok-false-clause-ran
@@ -28,7 +28,7 @@ returns-in-Ok-false-clause-ran g c = λ actor token name ready all.
     let e = edit_for c.args.changes.now base name in
     let call = to-lock name c.bytes.result.now token c.args.texts.now.value.token (c.bytes.ensures ∙ ready.1.file_is) (token-ok token name c.args.texts.now ready.1) in
     let end : Ending = Refused (jobs.Busy name) in
-    Ran-then (λ front more p q. ends-then j name (Locking [] e []) (undoing (prepare_of j) [] [] (Answer end)) (ToLock c.bytes.result.now c.args.texts.now.value.token) (Went false) (Err c.refuse.result) front more call refl p q)
+    Ran-then (λ front more p q. ends-then j name (Locking [] e []) (undoing (prepare_of j) [] [] (Answer end)) (ToLock c.bytes.result.now c.args.texts.now.value.token) (Went false) (Err c.refuse.result) front more call refl (inl refl) p q)
     (rw c.in-Ok-false.field-0-test at c.in-Ok-false.ensures.ran)
     (c.refuse.ensures.ran j name end (c.bytes-in-Ok-false.ensures ∙ ready.0.record_is) (sym (token-ok token name c.args.texts.now ready.1)) refl refl)
 
@@ -38,4 +38,4 @@ returns-in-Err-clause-ran g c = λ actor token name ready all.
     let j = job_of actor token c.args.changes.now base name in
     let e = edit_for c.args.changes.now base name in
     let call = to-lock name c.bytes.result.now token c.args.texts.now.value.token (c.bytes.ensures ∙ ready.1.file_is) (token-ok token name c.args.texts.now ready.1) in
-    Ran-map (λ es did. ends-call j name (Locking [] e []) (ToLock c.bytes.result.now c.args.texts.now.value.token) Fault (Failed Before) (Err (stop.Disk passed.Before)) es call refl refl did) c.in-Err.ensures.ran
+    Ran-map (λ es did. ends-call j name (Locking [] e []) (ToLock c.bytes.result.now c.args.texts.now.value.token) Fault (Failed Before) (Err (stop.Disk passed.Before)) es call refl refl tt did) c.in-Err.ensures.ran

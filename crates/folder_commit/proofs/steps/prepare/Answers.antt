@@ -1,4 +1,4 @@
-use Rattle.std.proofs.Common.{◌∙◌, true, Err, refl}
+use Rattle.std.proofs.Common.{◌∙◌, true, Err, refl, inl}
 use Rattle.std.specs.Prelude.{option_copied}
 use Rattle.host_port.proofs.RanLemmas.{Ran-then, Ran-map}
 use Rattle.commit_record.specs.Format.{written}
@@ -19,7 +19,7 @@ returns-in-Ok-clause-ran g c = λ actor token name ready all.
     let j = job_of actor token c.args.changes.now base name in
     let e = edit_for c.args.changes.now base name in
     let call = to-stage (new_name actor) (written (prepare_of j)) c.bytes.result.now c.bytes-2.result.now (c.bytes.ensures ∙ ready.0.new_is) (c.bytes-2.ensures ∙ ready.1.prepare_is) in
-    Ran-then (λ front more p q. ends-then j name Preparing Publishing (ToStage c.bytes.result.now c.bytes-2.result.now) (Went true) c.announce.result front more call refl p q)
+    Ran-then (λ front more p q. ends-then j name Preparing Publishing (ToStage c.bytes.result.now c.bytes-2.result.now) (Went true) c.announce.result front more call refl (inl refl) p q)
     c.in-Ok.ensures.ran (c.announce.ensures.ran actor token name ready all)
 
 pub returns-in-Err-clause-ran : goal.returns-in-Err-clause-ran
@@ -28,4 +28,4 @@ returns-in-Err-clause-ran g c = λ actor token name ready all.
     let j = job_of actor token c.args.changes.now base name in
     let e = edit_for c.args.changes.now base name in
     let call = to-stage (new_name actor) (written (prepare_of j)) c.bytes.result.now c.bytes-2.result.now (c.bytes.ensures ∙ ready.0.new_is) (c.bytes-2.ensures ∙ ready.1.prepare_is) in
-    Ran-map (λ es did. ends-call j name Preparing (ToStage c.bytes.result.now c.bytes-2.result.now) Fault (Failed Before) (Err (stop.Disk passed.Before)) es call refl refl did) c.in-Err.ensures.ran
+    Ran-map (λ es did. ends-call j name Preparing (ToStage c.bytes.result.now c.bytes-2.result.now) Fault (Failed Before) (Err (stop.Disk passed.Before)) es call refl refl tt did) c.in-Err.ensures.ran
