@@ -22,6 +22,14 @@ fn names_are_written_so(rt: HostRuntime) -> Result<(), Fail> {
 }
 
 #[test]
+fn long_names_are_written(rt: HostRuntime) -> Result<(), Fail> {
+    let name = vec![in rt.alloc(); b'a'; 4_000]?;
+    let staged = staged_name(rt.alloc(), 1, &name)?;
+    assert!(rt; staged.bytes().len() == 4_019);
+    Ok(())
+}
+
+#[test]
 fn record_names_are_told(rt: HostRuntime) -> Result<(), Fail> {
     let rows: [(&[u8], bool); 8] = [
         (b"/h/.mailx.commit", true),
