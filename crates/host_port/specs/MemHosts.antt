@@ -1,5 +1,5 @@
 -- What a host in memory means.
-use Rattle.std.specs.Prelude.{◌≡◌, ℕ, Bool, true, false, List, [], is_some, min, take, drop}
+use Rattle.std.specs.Prelude.{◌≡◌, ℕ, Bool, true, false, List, [], is_some, is_none, min, take, drop}
 use Rattle.std.specs.declared.option.Option.{Option}
 use Rattle.std.specs.declared.option.Option.TheVariants.{Some, None}
 use Rattle.host_port.specs.declared.event.Event.{Event}
@@ -41,6 +41,15 @@ fails_next m = is_some (part_at m.plan.fails (next_call m.calls))
 abbrev pub is_failed_load : Result LoadAnswer LoadError → Bool
 is_failed_load (Err error.Failed) = true
 is_failed_load r = false
+
+-- whether a load answered want of memory
+abbrev pub wants_memory : Result LoadAnswer LoadError → Bool
+wants_memory (Err error.Memory) = true
+wants_memory r = false
+
+-- whether the host tells its trace no more
+abbrev pub is_lost : MemHost → Bool
+is_lost m = is_none (host_told m)
 
 -- A call takes the next number. While the host tells its trace afterwards, it added the steps that the plan has before
 -- this call and its own event, and it failed exactly where the plan names it.

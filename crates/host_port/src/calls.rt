@@ -1,8 +1,9 @@
 // What the calls of a host in memory add to its tape.
-ghost use Rattle.std.specs.Prelude.{◌≡◌, Option, Some, None, OnOk, IfOk};
+ghost use Rattle.std.specs.Prelude.{◌≡◌, false, Option, Some, None, OnOk, IfOk};
 ghost use Rattle.std.specs.Option.{option_copied};
 ghost use Rattle.host_port.specs.Disk.{disk};
 ghost use Rattle.host_port.specs.Calls.{Loaded, LoadCause};
+ghost use Rattle.host_port.specs.MemHosts.{wants_memory};
 ghost use Rattle.host_port.specs.Views.{disk_of, AddsOne, AddsCall, steps_before, part_at};
 ghost use Rattle.host_port.specs.declared.event.Event.TheVariants as event;
 
@@ -82,6 +83,7 @@ fn look(
 ) -> Result<(Result<LoadAnswer, LoadError>, Event), Memory>
     ensures loaded { IfOk result (λ r. Loaded name.now r.0 (disk (disk_of tape.now.start.files tape.now.start.locks) tape.now.trace.items) r.1) }
     ensures cause { IfOk result (λ r. LoadCause 0 0 r.0) }
+    ensures known { IfOk result (λ r. wants_memory r.0 ≡ false) }
 {
     let held = tape.standing.locks.has(name);
     let found = tape.standing.files.get(name);
@@ -114,6 +116,7 @@ pub fn tell_load(
 ) -> Result<Result<LoadAnswer, LoadError>, Memory>
     ensures ok { IfOk result (λ r. AddsCall (disk_of tape.old.start.files tape.old.start.locks) tape.old.trace.items tape.new.trace.items (steps_before plan.now call) (Loaded name.now r)) }
     ensures cause { IfOk result (λ r. LoadCause 0 0 r) }
+    ensures known { IfOk result (λ r. wants_memory r ≡ false) }
     ensures start { tape.new.start ≡ tape.old.start }
 {
     add_others(alloc, plan, call, tape)?;

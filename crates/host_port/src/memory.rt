@@ -106,7 +106,7 @@ impl MemHost {
 }
 
 impl Host for MemHost {
-    ghost use Rattle.host_port.specs.MemHosts.{host_told, host_start, host_counts, is_failed_load, next_part, input_left, next_input, after_input, after_output, after_disk, IsAsPlanned, IsDoneAsPlanned, SaysAsPlanned};
+    ghost use Rattle.host_port.specs.MemHosts.{host_told, host_start, host_counts, is_failed_load, wants_memory, is_lost, next_part, input_left, next_input, after_input, after_output, after_disk, IsAsPlanned, IsDoneAsPlanned, SaysAsPlanned};
 
     ghost start = { host_start };
 
@@ -126,6 +126,7 @@ impl Host for MemHost {
         ensures left { IfOk result (λ n. input_left self.new ≡ drop n (input_left self.old)) }
         ensures kept { OnErr result (input_left self.new ≡ input_left self.old) }
         ensures counted { host_counts self.new ≡ after_input (is_err result) (host_counts self.old) }
+        ensures lost { is_lost self.new ≡ true → is_err result ≡ true }
     {
         self.calls = self.calls.saturating_add(1);
         let fails = failing(self.plan.fails.items(), self.calls).is_some();
@@ -165,6 +166,7 @@ impl Host for MemHost {
         ensures sent { SaysAsPlanned self.old self.new bytes.now (is_err result) }
         ensures kept { input_left self.new ≡ input_left self.old }
         ensures counted { host_counts self.new ≡ after_output (is_err result) (host_counts self.old) }
+        ensures lost { is_lost self.new ≡ true → is_err result ≡ true }
     {
         self.calls = self.calls.saturating_add(1);
         let part = failing(self.plan.fails.items(), self.calls);
@@ -203,6 +205,7 @@ impl Host for MemHost {
         ensures planned { IsAsPlanned self.old self.new (is_failed_load result) }
         ensures kept { input_left self.new ≡ input_left self.old }
         ensures counted { host_counts self.new ≡ after_disk (is_failed_load result) (host_counts self.old) }
+        ensures lost { wants_memory result ≡ is_lost self.new }
     {
         self.calls = self.calls.saturating_add(1);
         if self.lost {
@@ -250,6 +253,7 @@ impl Host for MemHost {
         ensures planned { IsDoneAsPlanned self.old self.new (event.Stage name.now (Some bytes.now) false) (next_part self.old) (is_err result) }
         ensures kept { input_left self.new ≡ input_left self.old }
         ensures counted { host_counts self.new ≡ after_disk (is_err result) (host_counts self.old) }
+        ensures lost { is_lost self.new ≡ true → is_err result ≡ true }
     {
         self.calls = self.calls.saturating_add(1);
         if !self.lost {
@@ -280,6 +284,7 @@ impl Host for MemHost {
         ensures planned { IsDoneAsPlanned self.old self.new (event.Publish from.now to.now true false) (next_part self.old) (is_err result) }
         ensures kept { input_left self.new ≡ input_left self.old }
         ensures counted { host_counts self.new ≡ after_disk (is_err result) (host_counts self.old) }
+        ensures lost { is_lost self.new ≡ true → is_err result ≡ true }
     {
         self.calls = self.calls.saturating_add(1);
         if !self.lost {
@@ -302,6 +307,7 @@ impl Host for MemHost {
         ensures planned { IsDoneAsPlanned self.old self.new (event.Erase name.now true false) (next_part self.old) (is_err result) }
         ensures kept { input_left self.new ≡ input_left self.old }
         ensures counted { host_counts self.new ≡ after_disk (is_err result) (host_counts self.old) }
+        ensures lost { is_lost self.new ≡ true → is_err result ≡ true }
     {
         self.calls = self.calls.saturating_add(1);
         if !self.lost {
@@ -324,6 +330,7 @@ impl Host for MemHost {
         ensures planned { IsDoneAsPlanned self.old self.new (event.Lock name.now token true false) (next_part self.old) (is_err result) }
         ensures kept { input_left self.new ≡ input_left self.old }
         ensures counted { host_counts self.new ≡ after_disk (is_err result) (host_counts self.old) }
+        ensures lost { is_lost self.new ≡ true → is_err result ≡ true }
     {
         self.calls = self.calls.saturating_add(1);
         if !self.lost {
@@ -353,6 +360,7 @@ impl Host for MemHost {
         ensures planned { IsDoneAsPlanned self.old self.new (event.Unlock name.now token true false) (next_part self.old) (is_err result) }
         ensures kept { input_left self.new ≡ input_left self.old }
         ensures counted { host_counts self.new ≡ after_disk (is_err result) (host_counts self.old) }
+        ensures lost { is_lost self.new ≡ true → is_err result ≡ true }
     {
         self.calls = self.calls.saturating_add(1);
         if !self.lost {
@@ -382,6 +390,7 @@ impl Host for MemHost {
         ensures planned { IsDoneAsPlanned self.old self.new (event.Seize name.now true false) (next_part self.old) (is_err result) }
         ensures kept { input_left self.new ≡ input_left self.old }
         ensures counted { host_counts self.new ≡ after_disk (is_err result) (host_counts self.old) }
+        ensures lost { is_lost self.new ≡ true → is_err result ≡ true }
     {
         self.calls = self.calls.saturating_add(1);
         if !self.lost {
