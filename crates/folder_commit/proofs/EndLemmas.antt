@@ -26,7 +26,7 @@ use Rattle.folder_change.specs.Apply.{Refusal as ChangeRefusal, TooLong, apply, 
 use Rattle.commit_machine.specs.Names.{record_name, new_name, staged_name}
 use Rattle.commit_machine.specs.Records.{names_of}
 use Rattle.commit_machine.specs.Settled.{Files}
-use Rattle.commit_machine.specs.Jobs.{Refusal, Ending, Done, Refused, Failed, NoMemory, Edit, Job, Made, Outcome, Puts, seen_files, seen_of, made_at, kind_made, go_of, prepare_of}
+use Rattle.commit_machine.specs.Jobs.{Refusal, Ending, Done, Refused, Failed, NoMemory, Edit, Job, Made, seen_files, seen_of, made_at, kind_made, go_of, prepare_of}
 use Rattle.commit_machine.specs.Jobs as jobs
 use Rattle.commit_machine.specs.Edits.{edit_for, outcome_for, cause_of}
 use Rattle.commit_machine.specs.Machine.{State, Looking, Preparing, Staging, Committing, Checking, Releasing, Answer, Call, ToLoad, ToStage, ToPublish, ToLock, Reply, Went, Saw, Long, Short, Fault, undoing, placing, loaded, judged, refused, next, after_reply, passed_ending, passed_by, go_front}

@@ -6,3 +6,4 @@ pub mod RunLemmas
 pub mod SafeLemmas
 pub mod ToldLemmas
 pub mod LookLemmas
+pub mod TestLemmas

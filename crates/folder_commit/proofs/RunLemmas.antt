@@ -19,7 +19,7 @@ use Rattle.commit_record.specs.declared.record.Record.{Record}
 use Rattle.folder_change.specs.declared.change.Change.{Change}
 use Rattle.folder_change.specs.Changes.{name_of}
 use Rattle.commit_machine.specs.Names.{record_name, right_name}
-use Rattle.commit_machine.specs.Jobs.{Ending, Done, Refused, Failed, NoMemory, Before, Job, all_of}
+use Rattle.commit_machine.specs.Jobs.{Ending, Refused, Failed, NoMemory, Before, Job, all_of}
 use Rattle.commit_machine.specs.Jobs as jobs
 use Rattle.commit_machine.specs.Edits.{first_names, without, edit_for, job_for}
 use Rattle.commit_machine.specs.Machine.{Seizing, Looking, Releasing, Ended, ToSeize, ToRelease, Went, Fault}

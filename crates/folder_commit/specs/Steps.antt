@@ -8,7 +8,7 @@ use Rattle.folder_change.specs.declared.change.Change.{Change}
 use Rattle.folder_change.specs.Outcomes.{bytes_of}
 use Rattle.folder_change.specs.Apply.{first_refusal}
 use Rattle.commit_machine.specs.Settled.{Files}
-use Rattle.commit_machine.specs.Jobs.{Refusal, Ending, Job, Edit, Made, seen_files}
+use Rattle.commit_machine.specs.Jobs.{Refusal, Ending, Job, Made, seen_files}
 use Rattle.commit_machine.specs.Jobs as jobs
 use Rattle.commit_machine.specs.Edits.{edit_for, cause_of}
 use Rattle.commit_machine.specs.Machine.{State, Checking, Releasing, judged}

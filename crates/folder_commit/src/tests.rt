@@ -1,11 +1,13 @@
 // Commits of one file that stop anywhere, and how they answer.
-ghost use Rattle.std.specs.Prelude.{◌≤◌, IfOk};
+ghost use Rattle.std.specs.Prelude.{◌≤◌, ◌≡◌, false, All, IfOk};
+ghost use Rattle.folder_change.specs.Changes.{name_of, is_rewrite};
 
 use crate::{CommitError, Passed, commit, is_file_name};
 use folder_change::Change;
 use folder_recovery::recover;
 use host_port::{DiskView, Event, ForeignStep, MemHost, Part, Plan};
 use mail_text::{Items, Memory, Text};
+use mbox_scan::Folder;
 use std::alloc::Global;
 use std::test::Fail;
 
@@ -79,14 +81,19 @@ fn host_over(alloc: Global, view: DiskView) -> Result<MemHost, Memory> {
     MemHost::new(alloc, view, Text::new(alloc), plan)
 }
 
-// The disk before a commit: the file.
-fn start(alloc: Global) -> Result<DiskView, Memory> {
+// A disk where the file has these bytes.
+fn disk_of(alloc: Global, bytes: &[u8]) -> Result<DiskView, Memory> {
     let mut files = Items::new(alloc);
-    files.push((Text::copy(alloc, FILE)?, Text::copy(alloc, b"old")?))?;
+    files.push((Text::copy(alloc, FILE)?, Text::copy(alloc, bytes)?))?;
     Ok(DiskView {
         files,
         locks: Items::new(alloc),
     })
+}
+
+// The disk before a commit: the file.
+fn start(alloc: Global) -> Result<DiskView, Memory> {
+    disk_of(alloc, b"old")
 }
 
 // The letter of an answer.
@@ -305,5 +312,78 @@ fn names_of_files_are_told(rt: HostRuntime) -> Result<(), Fail> {
     for (name, told) in rows {
         assert_eq!(rt; is_file_name(ACTOR, name), told);
     }
+    Ok(())
+}
+
+// Writes the file without a message, made for a folder: the letter of the answer.
+fn emptied(alloc: Global, base: &Folder, host: &mut MemHost) -> Result<u8, Memory> {
+    let change = Change::Rewrite {
+        name: Text::copy(alloc, FILE)?,
+        list: Items::new(alloc),
+        keep: true,
+    };
+    let answer = commit(alloc, ACTOR, 1, &[change], Some(base), host);
+    Ok(letter(&answer))
+}
+
+#[test]
+fn a_first_message_that_changed_is_told(rt: HostRuntime) -> Result<(), Fail> {
+    let alloc = rt.alloc();
+    let base = Folder::open(alloc, Text::copy(alloc, b"From b@x\n\ntwo\n\n")?)?;
+    let mut host = host_over(alloc, disk_of(alloc, b"From a@x\n\none\n\n")?)?;
+    let letter = emptied(alloc, &base, &mut host)?;
+    assert_eq!(rt; letter, b'C');
+    Ok(())
+}
+
+fn addition(alloc: Global, name: &[u8]) -> Result<Change, Memory>
+    ensures { IfOk result (λ c. (name_of c ≡ name.now) × (is_rewrite c ≡ false)) }
+{
+    Ok(Change::AddRaw {
+        name: Text::copy(alloc, name)?,
+        bytes: Text::copy(alloc, b"x")?,
+    })
+}
+
+// Twenty additions to the file of this name.
+fn additions(alloc: Global, name: &[u8]) -> Result<Vec<Change>, Memory>
+    ensures { IfOk result (λ cs. All (λ c. (name_of c ≡ name.now) × (is_rewrite c ≡ false)) cs.items) }
+{
+    let mut changes = Vec::new(alloc);
+    for _ in 0..20 {
+        changes.push(addition(alloc, name)?)?;
+    }
+    Ok(changes)
+}
+
+// Adds twenty times to the file of this name: the letter of the answer.
+fn added(alloc: Global, name: &[u8], host: &mut MemHost) -> Result<u8, Memory> {
+    if !is_file_name(ACTOR, name) {
+        return Ok(b'F');
+    }
+    let changes = additions(alloc, name)?;
+    let answer = commit(alloc, ACTOR, 1, &changes, None, host);
+    Ok(letter(&answer))
+}
+
+#[test]
+fn long_names_and_many_changes_are_taken(rt: HostRuntime) -> Result<(), Fail> {
+    let alloc = rt.alloc();
+    let name = vec![in alloc; b'a'; 3_900]?;
+    let mut host = host_over(alloc, start(alloc)?)?;
+    let letter = added(alloc, &name, &mut host)?;
+    assert_eq!(rt; letter, b'd');
+    Ok(())
+}
+
+#[test]
+fn errors_have_words_of_their_own(rt: HostRuntime) -> Result<(), Fail> {
+    let alloc = rt.alloc();
+    let error = CommitError::TooLarge {
+        name: Text::copy(alloc, FILE)?,
+        length: 5,
+    };
+    let words = format!(in alloc; "{error}")?;
+    assert_eq!(rt; words.as_str(), "/h/a is too large: 5 bytes");
     Ok(())
 }

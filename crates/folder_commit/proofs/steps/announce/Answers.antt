@@ -3,7 +3,7 @@ use Rattle.std.specs.Prelude.{option_copied}
 use Rattle.host_port.proofs.RanLemmas.{Ran-then, Ran-map}
 use Rattle.folder_change.specs.Outcomes.{base_list}
 use Rattle.commit_machine.specs.Names.{new_name, record_name}
-use Rattle.commit_machine.specs.Jobs.{Refused, Failed, NoMemory, Before, Ending, prepare_of}
+use Rattle.commit_machine.specs.Jobs.{Refused, Failed, Before}
 use Rattle.commit_machine.specs.Jobs as jobs
 use Rattle.commit_machine.specs.Edits.{edit_for}
 use Rattle.commit_machine.specs.Machine.{Publishing, Locking, ToPublish, Went, Fault}

@@ -4,7 +4,7 @@ use Rattle.host_port.specs.Ran.{Ran}
 use Rattle.host_port.proofs.RanLemmas.{Ran-then, Ran-map}
 use Rattle.commit_record.specs.declared.record.Entry.{Entry}
 use Rattle.folder_change.specs.Outcomes.{base_list}
-use Rattle.commit_machine.specs.Jobs.{Refused, Failed, NoMemory, Before, Ending, prepare_of}
+use Rattle.commit_machine.specs.Jobs.{Refused, Failed, NoMemory, Before, prepare_of}
 use Rattle.commit_machine.specs.Jobs as jobs
 use Rattle.commit_machine.specs.Edits.{edit_for}
 use Rattle.commit_machine.specs.Machine.{Answer, Loading, ToLoad, Saw, Long, Short, Fault, undoing}
