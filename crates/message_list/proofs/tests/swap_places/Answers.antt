@@ -1,4 +1,4 @@
-use Rattle.std.proofs.Common.{◌<◌, length, arith}
+use Rattle.std.proofs.Common.{arith}
 use Rattle.std.proofs.lemmas.List.Sorted.{IsPermutation-swap}
 use Rattle.message_list.proofs.tests.swap_places.Goals as goal
 

@@ -1,4 +1,4 @@
-use Rattle.std.proofs.Common.{List, [], ◌∷◌, refl, arith}
+use Rattle.std.proofs.Common.{[], ◌∷◌, refl, arith}
 use Rattle.message_show.proofs.tests.places.Goals as goal
 
 pub returns-then-turned : goal.returns-then-turned
