@@ -8,7 +8,8 @@ use Rattle.std.proofs.lemmas.List.Sums.{take_while-cons}
 use Rattle.std.proofs.Math.Seq.{take-add, drop-cons}
 use Rattle.mail_text.specs.Lines.{lines_of, in_front}
 use Rattle.mail_text.proofs.LineLemmas.{lines_of-hit, lines_of-miss, lines_of-empty, lines_of-nil, lines_of-feed, lines_of-byte}
-use Rattle.mail_headers.specs.Field.{is_blank, is_folded, name_length, begins_field, field_of}
+use Rattle.mail_headers.specs.Field.{is_folded, name_length, begins_field, field_of}
+use Rattle.mail_text.specs.Ascii.{is_blank}
 use Rattle.mail_headers.specs.Header.{Entry, field, other, entries_from, first_line}
 use Rattle.mail_headers.specs.Cutting.{IsLineLength, folded_part, lines_after, IsInField, IsFieldEnd}
 use Rattle.mail_headers.proofs.FieldLemmas.{HasName-begins, name_length-append, join-lines, entries_from-field, entries_from-folded, entries_from-other, entries_from-unfolded, entries_from-nil}

@@ -1,12 +1,13 @@
 -- Values without their line feeds and outer blanks.
-use Rattle.std.proofs.Common.{◌≡◌, ℕ, true, false, not, ◌==◌, List, [], ◌∷◌, ◌++◌, length, refl, sym, ap, ◌∙◌, arith, ⊎_elim}
+use Rattle.std.proofs.Common.{◌≡◌, ℕ, suc, ◌<◌, get_or, true, false, not, ◌==◌, List, [], ◌∷◌, ◌++◌, length, refl, sym, ap, ◌∙◌, arith, ⊎_elim}
 use Rattle.std.specs.List.{concat}
-use Rattle.std.proofs.lemmas.Bool.{cond-true, cond-false, false≢true, cases_Bool, or_cases, or_parts, not_from_true, not_from_false}
+use Rattle.std.proofs.lemmas.Bool.{cond-true, cond-false, ne_eqb, false≢true, cases_Bool, or_cases, or_parts, not_from_true, not_from_false}
 use Rattle.std.proofs.lemmas.List.{append-nil}
 use Rattle.std.proofs.lemmas.List.Elements.{filter-append}
 use Rattle.mail_text.specs.Lines.{lines_of, in_front}
 use Rattle.mail_text.proofs.LineLemmas.{lines_of-nil, lines_of-feed, lines_of-byte}
-use Rattle.mail_headers.specs.Field.{is_blank, without_feeds, trim_start, unless_last_blank, trim_end}
+use Rattle.mail_headers.specs.Field.{without_feeds, trim_start, unless_last_blank, trim_end}
+use Rattle.mail_text.specs.Ascii.{is_blank}
 use Rattle.mail_headers.specs.Cutting.{is_space}
 
 -- ---- line feeds
@@ -32,6 +33,12 @@ concat-lines_of (b ∷ bs) =
     (λ feed. ap concat (lines_of-feed b bs feed) ∙ concat-lines_of bs ∙ sym (without_feeds-feed b bs feed))
     (λ byte. ap concat (lines_of-byte b bs byte) ∙ concat-in_front b (lines_of bs) ∙ ap (λ (l : List ℕ). b ∷ l) (concat-lines_of bs) ∙ sym (without_feeds-byte b bs byte))
     (cases_Bool (b == 10))
+
+-- without line feeds the bytes are as they are
+pub without_feeds-none : (bs : List ℕ) → ((k : ℕ) → k < length bs → get_or bs k 0 ≡ 10 → ⊥) → without_feeds bs ≡ bs
+without_feeds-none [] none = refl
+without_feeds-none (b ∷ bs) none =
+    without_feeds-byte b bs (ne_eqb _ _ (none 0 (omega arith))) ∙ ap (λ (l : List ℕ). b ∷ l) (without_feeds-none bs (λ k l e. none (suc k) (omega arith) e))
 
 -- ---- blanks at the front
 

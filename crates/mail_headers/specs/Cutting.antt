@@ -3,7 +3,8 @@ use Rattle.std.specs.Prelude.{◌≡◌, ◌≢◌, ℕ, ◌+◌, ◌<◌, ◌�
 use Rattle.std.specs.List.{flat_map, take_while}
 use Rattle.std.specs.Option.{ForSome}
 use Rattle.mail_text.specs.Lines.{lines_of}
-use Rattle.mail_headers.specs.Field.{is_blank, is_folded}
+use Rattle.mail_headers.specs.Field.{is_folded}
+use Rattle.mail_text.specs.Ascii.{is_blank}
 use Rattle.mail_headers.specs.Header.{Entry, field, other, entries_from}
 
 -- the entry of some bytes, a field where a place of a colon is given

@@ -2,17 +2,13 @@
 ghost use Rattle.std.specs.Prelude.{◌≡◌, ◌+◌, ◌<◌, ◌≤◌, false, ◌∷◌, length, drop, slice_index, Some, None, if◌then◌else◌};
 ghost use Rattle.mail_text.specs.Lines.{lines_of};
 ghost use Rattle.mail_headers.specs.Cutting.{IsLineLength, IsFieldEnd};
-ghost use Rattle.mail_headers.specs.Field.{is_blank, is_name_byte, name_length, begins_field};
+ghost use Rattle.mail_headers.specs.Field.{is_name_byte, name_length, begins_field};
+ghost use Rattle.mail_text.specs.Ascii.{is_blank};
 ghost use Rattle.mail_headers.specs.Header.{entries_from};
 
 use crate::EntryRef;
+use mail_text::is_blank;
 use memchr::memchr;
-
-pub(crate) fn is_blank(byte: u8) -> bool
-    ensures { result ≡ is_blank byte }
-{
-    byte == b' ' || byte == b'\t'
-}
 
 fn is_name_byte(byte: u8) -> bool
     ensures { result ≡ is_name_byte byte }

@@ -3,17 +3,78 @@ ghost use Rattle.mail_headers.specs.Field.{unfolded, without_feeds, trim_start, 
 ghost use Rattle.mail_headers.specs.Cutting.{is_space};
 
 use crate::FieldRef;
-use crate::cut::is_blank;
-use mail_text::{Memory, Text, lines};
+use mail_text::{Memory, Text, is_blank, lines};
+use memchr::memchr;
 use std::alloc::Global;
+use std::marker::Model;
+
+/// The unfolded value of a field: a part of the header where it has no line feed, else a text of its own. Contracts see
+/// its bytes.
+#[derive(Drop)]
+pub struct UnfoldedValue<'a> {
+    part: Option<&'a [u8]>,
+    joined: Text,
+}
+
+impl<'a> Model for UnfoldedValue<'a> {
+    ghost use Rattle.std.specs.Prelude.{List, ℕ};
+    ghost use Rattle.std.specs.Option.{option_copied, unwrap_or};
+
+    ghost Value = { List ℕ };
+
+    ghost view = { λ u. unwrap_or (option_copied u.part) u.joined };
+}
+
+impl<'a> UnfoldedValue<'a> {
+    /// The bytes.
+    pub fn bytes(&self) -> &[u8]
+        ensures { result.now ≡ self.now }
+    {
+        match self.part {
+            Some(part) => part,
+            None => self.joined.bytes(),
+        }
+    }
+}
 
 /// The value of a field without its line feeds and without blanks, spaces and tabs, at either end (RFC 5322, section
-/// 2.2.3). Only want of memory can fail.
+/// 2.2.3). It takes memory only where the value has line feeds inside. Only want of memory can fail.
+pub fn unfold_value<'a>(alloc: Global, field: FieldRef<'a>) -> Result<UnfoldedValue<'a>, Memory>
+    ensures { IfOk result (λ value. value ≡ unfolded field.entry) }
+{
+    let value = trimmed(field);
+    match memchr(b'\n', value) {
+        Some(_) => Ok(UnfoldedValue {
+            part: None,
+            joined: joined(alloc, value)?,
+        }),
+        None => Ok(UnfoldedValue {
+            part: Some(value),
+            joined: Text::new(alloc),
+        }),
+    }
+}
+
+/// The same value as `unfold_value` gives, as a text of its own. Only want of memory can fail.
 pub fn unfolded(alloc: Global, field: FieldRef<'_>) -> Result<Text, Memory>
     ensures { IfOk result (λ text. text ≡ unfolded field.entry) }
 {
-    let mut text = Text::new(alloc);
-    for line in lines(without_last_spaces(without_first_spaces(field.value()))) {
+    joined(alloc, trimmed(field))
+}
+
+// The value of a field without the blanks and line feeds at its ends.
+fn trimmed(field: FieldRef<'_>) -> &[u8]
+    ensures { without_feeds result.now ≡ unfolded field.entry }
+{
+    without_last_spaces(without_first_spaces(field.value()))
+}
+
+// The bytes without their line feeds.
+fn joined(alloc: Global, bytes: &[u8]) -> Result<Text, Memory>
+    ensures { IfOk result (λ text. text ≡ without_feeds bytes.now) }
+{
+    let mut text = Text::of(Vec::with_capacity(alloc, bytes.len())?);
+    for line in lines(bytes) {
         text.push(line)?;
     }
     Ok(text)

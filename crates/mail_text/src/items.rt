@@ -34,7 +34,7 @@ impl<T> Items<T> {
         ensures { result ≡ v.items }
     {
         Items {
-            list: Reserved::from_vec(v),
+            list: Reserved::of(v),
         }
     }
 
@@ -78,8 +78,6 @@ impl<T> Items<T> {
         ensures ok { OnOk result (self.new ≡ self.old ++ x ∷ []) }
         ensures err { OnErr result (self.new ≡ self.old) }
     {
-        self.list.reserve()?;
-        self.list.put(x);
-        Ok(())
+        self.list.push(x)
     }
 }

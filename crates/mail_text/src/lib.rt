@@ -1,5 +1,5 @@
 //! Byte texts and lists of values, which contracts see as lists; a text by lines; numbers in digits; comparison without
-//! ASCII case.
+//! ASCII case; blanks.
 #![tactic(auto)]
 
 mod ascii;
@@ -14,7 +14,7 @@ ghost use Rattle.std.specs.Prelude.{◌≡◌, ◌≤◌, ℕ, List, length, All
 ghost use Rattle.std.specs.List.{flat_map};
 ghost use Rattle.mail_text.specs.Lines.{lines_of, with_feed, fed, HasNoFeed};
 
-pub use ascii::same_ascii;
+pub use ascii::{is_blank, same_ascii};
 pub use items::Items;
 pub use memory::Memory;
 pub use number::read_number;

@@ -2,6 +2,7 @@ ghost use Rattle.std.specs.Prelude.{◌≡◌, ◌+◌, ◌<◌, ◌≤◌, ◌+
 ghost use Rattle.std.specs.Borrow.{sem};
 
 use crate::Memory;
+use std::alloc::Global;
 use std::marker::Model;
 
 /// A list and the number of further values for which it holds memory already. Contracts see both.
@@ -22,15 +23,22 @@ impl<T> Model for Reserved<T> {
 impl<T> Reserved<T> {
     ghost use Rattle.mail_text.specs.Lending.{LendsRoomValue};
 
-    /// The values of a vector.
-    pub(crate) fn from_vec(items: Vec<T>) -> Reserved<T>
+    /// No values. It takes no memory.
+    pub fn new(alloc: Global) -> Reserved<T>
+        ensures { result.items ≡ [] }
+    {
+        Reserved::of(Vec::new(alloc))
+    }
+
+    /// The values of a vector, with the room that it has. It takes no memory.
+    pub fn of(items: Vec<T>) -> Reserved<T>
         ensures { result.items ≡ items.items }
     {
         Reserved { items }
     }
 
-    /// The values as a vector.
-    pub(crate) fn into_vec(self) -> Vec<T>
+    /// The values as a vector. It takes no memory.
+    pub fn into_vec(self) -> Vec<T>
         ensures { result.items ≡ self.items }
     {
         self.items
@@ -75,5 +83,20 @@ impl<T> Reserved<T> {
             Ok(()) => {}
             Err(_) => unreachable!(),
         }
+    }
+    /// Puts a value at the end, and makes room for it where there is none. After want of memory all is as before, and the
+    /// value is gone.
+    pub fn push(&mut self, x: T) -> Result<(), Memory>
+    where
+        T: Drop,
+        ensures ok { OnOk result (self.new.items ≡ self.old.items ++ x ∷ []) }
+        ensures room { self.old.spare ≤ self.new.spare + 1 }
+        ensures err { OnErr result (self.new.items ≡ self.old.items) }
+        ensures kept { OnErr result (self.new.spare ≡ self.old.spare) }
+        ensures enough { 0 < self.old.spare → IsOk result }
+    {
+        self.reserve()?;
+        self.put(x);
+        Ok(())
     }
 }

@@ -2,7 +2,7 @@ use Rattle.std.proofs.Common.{ℕ, not, ◌∙◌, rules, tests}
 use Rattle.std.proofs.lemmas.Iterator.{YieldsList-from_slice}
 use Rattle.std.proofs.lemmas.Iterator.Search.{position_from_yields_List}
 use Rattle.mail_headers.specs.Field.{is_name_byte}
-use Rattle.mail_headers.proofs.FieldLemmas.{prefix_len-from_position}
+use Rattle.mail_text.proofs.FrontLemmas.{prefix_len-from_position}
 use Rattle.mail_headers.proofs.cut.name_length.Goals as goal
 
 pub returns-clause-value : goal.returns-clause-value
