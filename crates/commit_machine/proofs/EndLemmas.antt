@@ -61,7 +61,7 @@ module _ (j : Job) where
   honest_front [] rest d h = tt
   honest_front (x ∷ es) rest d h = (h.0, honest_front es rest (after d x) h.1)
 
-  lawful_front : (before rest : List Event) (d : Disk) → OthersAreLawful j.actor j.token d (before ++ rest) → OthersAreLawful j.actor j.token d before
+  pub lawful_front : (before rest : List Event) (d : Disk) → OthersAreLawful j.actor j.token d (before ++ rest) → OthersAreLawful j.actor j.token d before
   lawful_front [] rest d h = tt
   lawful_front (event.Foreign f ∷ es) rest d h = (h.0, h.1, lawful_front es rest (after d (event.Foreign f)) h.2)
   lawful_front (x ∷ es) rest d h = lawful_front es rest (after d x) h

@@ -24,4 +24,5 @@ pub mod EditLemmas
 pub mod RestraintLemmas
 pub mod FaultLemmas
 pub mod RefusalLemmas
+pub mod RowLemmas
 mod TroubleLemmas

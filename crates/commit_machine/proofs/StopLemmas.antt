@@ -41,12 +41,12 @@ cut_is d part (ToUnlock n t) unlocks = unlocks
 cut_is d part (ToSeize n) seizes = seizes
 cut_is d part (ToRelease n) releases = releases
 
-cut_next : (d : Disk) (part : Part) (o : Option Call) (e : Event) → IsNext o e → IsNext o (cut_short d e part)
+pub cut_next : (d : Disk) (part : Part) (o : Option Call) (e : Event) → IsNext o e → IsNext o (cut_short d e part)
 cut_next d part None e is = absurd is
 cut_next d part (Some c) e is = cut_is d part c is
 
 -- what it says is so
-cut_agrees : (d : Disk) (e : Event) (part : Part) → Agrees d e → Agrees d (cut_short d e part)
+pub cut_agrees : (d : Disk) (e : Event) (part : Part) → Agrees d e → Agrees d (cut_short d e part)
 cut_agrees d (event.Publish from to done failed) part agrees = λ h. (and_parts (is_after part) (is_some (d.files from)) h).1
 cut_agrees d (event.Erase n done failed) part agrees = λ h. refl
 cut_agrees d (event.Lock n t got failed) part agrees = λ h. (and_parts (is_after part) (is_none (d.locks n)) h).1

@@ -28,12 +28,12 @@ use Rattle.host_port.specs.declared.event.ForeignStep.{ForeignStep}
 use Rattle.host_port.specs.Disk.{disk, after_step}
 use Rattle.host_port.specs.Own.{own}
 use Rattle.host_port.specs.Ran.{Honest}
-use Rattle.commit_machine.specs.Jobs.{Passed, Before, After, Refusal, seen_files}
+use Rattle.commit_machine.specs.Jobs.{Passed, Before, After, Unknown, Refusal, seen_files}
 use Rattle.commit_machine.specs.Machine.{Reply, Went, Saw, Long, Short, Fault, refused, wanted, next, faulted, saw, too_long, went_on, passed_at, passed_then, passed_ending, place_one, mended, none_stands, record_seen, looked, is_own_go, passed_by}
 use Rattle.commit_machine.specs.Records.{record_of}
 use Rattle.commit_machine.specs.Goes.{IsNext, Goes}
 use Rattle.commit_machine.specs.Lawful.{IsLawful, OthersAreLawful}
-use Rattle.commit_machine.specs.Laws.{TellsDecisions, decisions, DecisionsAreTold}
+use Rattle.commit_machine.specs.Laws.{IsRun, TellsDecisions, decisions, DecisionsAreTold}
 use Rattle.commit_machine.proofs.LawfulLemmas.{lawful_keeps}
 use Rattle.commit_machine.proofs.Others.{others_knows}
 use Rattle.commit_machine.proofs.RunLemmas
@@ -325,3 +325,30 @@ module _ (j : Job) (job : IsJob j) where
 
 pub decisions_are_told : DecisionsAreTold
 decisions_are_told j d es end run = all_told j run.job es Seizing (Ended end) d 0 run.sound run.fresh refl run.goes run.honest run.lawful
+
+tells_few : (e : Ending) (n : ℕ) → TellsDecisions e n → (n ≡ 0) ⊎ (n ≡ 1)
+tells_few Done n t = inr t
+tells_few (Recovered found) n t = inl t
+tells_few (Refused why) n t = inl t
+tells_few (Failed Before) n t = inl t
+tells_few (Failed After) n t = inr t
+tells_few (Failed Unknown) n t = t
+tells_few NoMemory n t = inl t
+
+then_few : (th : Then) (n : ℕ) → told_then th n → (n ≡ 0) ⊎ (n ≡ 1)
+then_few GoOn n t = inl t
+then_few (Answer e) n t = tells_few e n t
+
+told_few : (j : Job) (s : State) (d : Disk) (n : ℕ) → Told j s d n → (n ≡ 0) ⊎ (n ≡ 1)
+told_few j (Undoing r m ns ls th) d n t = inl t.0
+told_few j (Placing r m ns ls th) d n t = then_few th n t
+told_few j (Unlocking r m ns th) d n t = then_few th n t
+told_few j (Erasing r th) d n t = then_few th n t
+told_few j Checking d n t = elim t.1 [ inl p ↦ inr p.0 | inr p ↦ inl p.0 ]
+told_few j (Releasing e) d n t = tells_few e n t
+told_few j (Ended e) d n t = tells_few e n t
+told_few j s d n t = inl t
+
+-- a run holds one decision at most
+pub few_decisions : (j : Job) (d : Disk) (es : List Event) (last : State) → IsRun j d es last → (decisions j d 0 es ≡ 0) ⊎ (decisions j d 0 es ≡ 1)
+few_decisions j d es last run = told_few j last (disk d es) _ (all_told j run.job es Seizing last d 0 run.sound run.fresh refl run.goes run.honest run.lawful)

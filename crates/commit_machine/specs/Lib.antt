@@ -11,3 +11,4 @@ pub mod Laws
 pub mod Worked
 pub mod Restraints
 pub mod Troubles
+pub mod Rows

@@ -1,6 +1,7 @@
 ghost use Rattle.commit_machine.specs.Laws.{CrashSafe, FrontIsRun, StretchesJoin, StopSafe, OnlyDecisions, DecisionsApply, NothingLeft, NoRecordStands, RecoverySettles, DecisionsAreTold};
 ghost use Rattle.commit_machine.specs.Edits.{EditsAreChanges};
 ghost use Rattle.commit_machine.specs.Restraints.{RightIsGivenUp, NothingAfterAFault, NoRefusedIsDecided};
+ghost use Rattle.commit_machine.specs.Rows.{RowIsSafe, RowMoments, RowStops, RowStopsBetween};
 ghost use Rattle.commit_machine.specs.Troubles.{TroubledRuns};
 ghost use Rattle.commit_machine.specs.Worked.{AloneGoes, WorkedRuns};
 
@@ -96,4 +97,25 @@ pub fn worked_runs()
 /// where a call fails before its decision, at it and behind it.
 pub fn troubled_runs()
     ensures { TroubledRuns }
+{}
+
+/// After several jobs in a row, with events between them that only look, nothing carries the run's
+/// token, and what is settled is what the edits of the decided ones give, each made at its decision.
+pub fn row_is_safe()
+    ensures { RowIsSafe }
+{}
+
+/// So it is at each moment of a job that follows them.
+pub fn row_moments()
+    ensures { RowMoments }
+{}
+
+/// And on each disk that is left where the run stops before or inside an event of that job.
+pub fn row_stops()
+    ensures { RowStops }
+{}
+
+/// And where it stops between jobs.
+pub fn row_stops_between()
+    ensures { RowStopsBetween }
 {}

@@ -1,0 +1,5 @@
+use Rattle.commit_machine.proofs.RowLemmas.{row_is_safe}
+use Rattle.commit_machine.proofs.laws.row_is_safe.Goals as goal
+
+pub returns : goal.returns
+returns c = row_is_safe
