@@ -7,9 +7,13 @@ use mail_text::Text;
 use std::alloc::{AllocError, Global};
 use std::fs::{File, Files, OpenFile, OpenOptions, exists};
 use std::io::{Error, ErrorKind, Read, Write};
+use std::os::unix::fs::OpenOptionsExt;
 
 /// The most bytes of a file that a load takes.
 pub const LOAD_LIMIT: u64 = 268_435_456;
+
+/// The permissions of each file that is made here: its user alone may read and write it, whatever the umask.
+pub const PRIVATE: u32 = 0o600;
 
 /// Why a file was not read or changed.
 #[derive(Drop, Debug)]
@@ -86,25 +90,34 @@ pub fn read_file<R: Files>(rt: &R, alloc: Global, path: &str) -> Result<Option<T
     Ok(Some(Text::of(bytes)))
 }
 
-/// Writes a whole file and waits until it, and its name, have reached the device.
+// Makes a private file, open for writing. What stood there is taken away first and not written over: it may be
+// another's, be open to others, or have another name too, as a lock that a stopped run has linked already.
+fn create_private<R: Files>(rt: &R, path: &str) -> Result<R::File, Error> {
+    let _ = rt.remove_file(path);
+    OpenOptions::new()
+        .write(true)
+        .create_new(true)
+        .mode(PRIVATE)
+        .open(rt, path)
+}
+
+/// Writes a whole private file and waits until it, and its name, have reached the device.
 pub fn write_file<R: Files>(rt: &R, path: &str, bytes: &[u8]) -> Result<(), FileError> {
-    let mut file = File::create(rt, path)?;
+    let mut file = create_private(rt, path)?;
     file.write_all(bytes)?;
     file.sync_all()?;
     Ok(sync_folder(rt, path)?)
 }
 
-/// Makes a file that isn't there yet, whole from its first moment: it is written under another name and then linked into place. False
-/// where one is there, and then nothing changes. The other name is taken away again.
+/// Makes a private file that isn't there yet, whole from its first moment: it is written under another name and then
+/// linked into place. False where one is there, and then nothing changes. The other name is taken away again.
 pub fn write_new<R: Files>(
     rt: &R,
     path: &str,
     beside: &str,
     bytes: &[u8],
 ) -> Result<bool, FileError> {
-    // What a stopped run left there may be linked already, so that it isn't written over.
-    let _ = rt.remove_file(beside);
-    let mut file = File::create_new(rt, beside)?;
+    let mut file = create_private(rt, beside)?;
     let made = linked(rt, &mut file, beside, path, bytes);
     let _ = rt.remove_file(beside);
     if made? {

@@ -3,10 +3,11 @@
 ghost use Rattle.std.specs.Prelude.{◌≡◌, IfOk};
 ghost use Rattle.host_port.specs.Calls.{FitsLoad};
 
-use crate::files::{FileError, path_of, read_file, remove_file, write_new};
+use crate::files::{FileError, PRIVATE, path_of, read_file, remove_file, write_new};
 use host_port::LoadAnswer;
 use std::alloc::{AllocError, Global};
 use std::fs::{File, Files, OpenOptions, TryLockError, exists};
+use std::os::unix::fs::OpenOptionsExt;
 
 fn lock_path(alloc: Global, path: &str) -> Result<String, AllocError> {
     format!(in alloc; "{path}.lock")
@@ -63,6 +64,7 @@ pub fn seize<R: Files<File = File>>(rt: &R, name: &[u8]) -> Result<Option<File>,
         .read(true)
         .write(true)
         .create(true)
+        .mode(PRIVATE)
         .open(rt, path)?;
     match file.try_lock() {
         Ok(()) => Ok(Some(file)),
