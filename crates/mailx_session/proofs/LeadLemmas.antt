@@ -7,8 +7,8 @@ use Rattle.std.specs.declared.result.Result.TheVariants.{Ok, Err}
 use Rattle.host_port.specs.declared.event.Event.{Event}
 use Rattle.session_play.specs.declared.stop.Stop.{Stop}
 use Rattle.session_play.specs.Play.{Play, Ret, Ask, Say, Goes}
-use Rattle.read_commands.specs.declared.steps.Ask as asked
-use Rattle.read_commands.specs.declared.steps.Ask.TheVariants as asks
+use Rattle.command_desk.specs.declared.steps.Ask as asked
+use Rattle.command_desk.specs.declared.steps.Ask.TheVariants as asks
 use Rattle.mailx_session.specs.declared.flow.End.TheVariants.{Done}
 use Rattle.mailx_session.specs.Sessions.{asked_for}
 use Rattle.session_play.proofs.PlayLemmas.{goes-then, goes-cut}

@@ -14,8 +14,8 @@ use Rattle.message_state.specs.declared.shown.Shown.{Shown}
 use Rattle.message_state.specs.Rows.{IsRow}
 use Rattle.message_state.specs.Status.{mark_of}
 use Rattle.session_play.specs.Knowing.{AreRows}
-use Rattle.read_commands.specs.declared.desk.Desk.{Desk}
-use Rattle.read_commands.specs.Desks.{IsDesk, AreRowsButMarks}
+use Rattle.command_desk.specs.declared.desk.Desk.{Desk}
+use Rattle.command_desk.specs.Desks.{IsDesk, AreRowsButMarks}
 use Rattle.mailx_session.specs.Openings.{desk_with, with_folder, with_page, plain, first_current, opened}
 
 -- a row more

@@ -14,10 +14,10 @@ use Rattle.message_state.specs.declared.row.Row.{Row}
 use Rattle.message_state.specs.declared.shown.Shown.{Shown}
 use Rattle.message_state.specs.States.{place}
 use Rattle.session_play.specs.Knowing.{AreRows}
-use Rattle.read_commands.specs.declared.desk.Desk.{Desk}
-use Rattle.read_commands.specs.declared.desk.Open.{Open}
-use Rattle.read_commands.specs.Answers.{OrFault}
-use Rattle.read_commands.specs.Paging.{page_size, page_of, current_page}
+use Rattle.command_desk.specs.declared.desk.Desk.{Desk}
+use Rattle.command_desk.specs.declared.desk.Open.{Open}
+use Rattle.command_desk.specs.Answers.{OrFault}
+use Rattle.show_commands.specs.Paging.{page_size, page_of, current_page}
 
 -- a desk without messages, with the variables that are set at the start
 abbrev pub desk_with : Places → Desk

@@ -6,13 +6,13 @@ use Rattle.std.specs.declared.result.Result.{Result}
 use Rattle.std.specs.declared.result.Result.TheVariants.{Ok, Err}
 use Rattle.session_play.specs.declared.stop.Stop.{Stop}
 use Rattle.session_play.specs.Play.{Play, Ret, Ask, Say, Next, Go, Last, bind}
-use Rattle.read_commands.specs.declared.desk.Desk.{Desk}
-use Rattle.read_commands.specs.declared.effects.Effects.{Effects}
-use Rattle.read_commands.specs.declared.steps.Ask as asked
-use Rattle.read_commands.specs.declared.steps.Ask.TheVariants as asks
-use Rattle.read_commands.specs.declared.steps.Steps.{Steps}
-use Rattle.read_commands.specs.Answers.{OrFault}
-use Rattle.read_commands.specs.Effects.{effect}
+use Rattle.command_desk.specs.declared.desk.Desk.{Desk}
+use Rattle.command_desk.specs.declared.effects.Effects.{Effects}
+use Rattle.command_desk.specs.declared.steps.Ask as asked
+use Rattle.command_desk.specs.declared.steps.Ask.TheVariants as asks
+use Rattle.command_desk.specs.declared.steps.Steps.{Steps}
+use Rattle.command_desk.specs.Answers.{OrFault}
+use Rattle.command_desk.specs.Effects.{effect}
 use Rattle.read_commands.specs.Commands.{commanded}
 use Rattle.mailx_session.specs.declared.flow.End.{End}
 use Rattle.mailx_session.specs.declared.flow.End.TheVariants.{Done}

@@ -1,8 +1,8 @@
 // What is said of a folder at the start.
 ghost use Rattle.std.specs.Prelude.{◌≡◌, ◌++◌, IfOk, OnOk};
 ghost use Rattle.std.specs.List.{count_by};
-ghost use Rattle.read_commands.specs.Desks.{IsDesk};
-ghost use Rattle.read_commands.specs.Paging.{current_page};
+ghost use Rattle.command_desk.specs.Desks.{IsDesk};
+ghost use Rattle.show_commands.specs.Paging.{current_page};
 ghost use Rattle.mailx_session.specs.Openings.{is_in, opening_line, page_or_none, greeting};
 
 use itoa::Buffer;

@@ -1,13 +1,13 @@
 // The rows and the view of a folder that is opened.
 ghost use Rattle.std.specs.Prelude.{◌≡◌, ◌<◌, ◌≤◌, length, map, All, IfOk, IfSome, replicate};
 ghost use Rattle.std.specs.List.{range_with_len, position};
-ghost use Rattle.read_commands.specs.Paging.{page_size};
+ghost use Rattle.show_commands.specs.Paging.{page_size};
 ghost use Rattle.mail_dates.specs.Clock.{IsInYears};
 ghost use Rattle.mbox_scan.specs.Mailbox.{texts_of};
 ghost use Rattle.session_play.specs.Knowing.{AreRows};
 ghost use Rattle.message_state.specs.declared.row.Row.{Row};
 ghost use Rattle.mailx_session.specs.Openings.{is_in, first_current, desk_with, IsKnownSize, plain, with_folder, with_page};
-ghost use Rattle.read_commands.specs.Desks.{IsDesk};
+ghost use Rattle.command_desk.specs.Desks.{IsDesk};
 
 use mail_text::{Items, Memory, Text};
 use mailx_vars::{Places, Vars};

@@ -3,8 +3,8 @@ ghost use Rattle.std.specs.Prelude.{◌≡◌, true, Ok, IfOk, IfSome, OnOk, OnE
 ghost use Rattle.host_port.specs.Ran.{Ran};
 ghost use Rattle.session_play.specs.Play.{Play, Ask, Ret, Say, Goes, Caused};
 ghost use Rattle.mailx_vars.specs.Environment.{knows_user};
-ghost use Rattle.read_commands.specs.Desks.{IsDesk};
-ghost use Rattle.read_commands.specs.Effects.{effect};
+ghost use Rattle.command_desk.specs.Desks.{IsDesk};
+ghost use Rattle.command_desk.specs.Effects.{effect};
 ghost use Rattle.mailx_session.specs.Sessions.{asked_for, settled, carried_out, line_play, next_of, next_desk, EndsDone, StaysAtEnd};
 ghost use Rattle.mailx_session.specs.Openings.{first_desk, greeting, Opens};
 
@@ -28,8 +28,8 @@ pub struct Session {
 }
 
 impl Model for Session {
-    ghost use Rattle.read_commands.specs.declared.desk.Desk.{Desk};
-    ghost use Rattle.read_commands.specs.Desks.{IsDesk};
+    ghost use Rattle.command_desk.specs.declared.desk.Desk.{Desk};
+    ghost use Rattle.command_desk.specs.Desks.{IsDesk};
 
     ghost Value = { Desk };
 

@@ -16,7 +16,7 @@ use Rattle.mailx_top.specs.Words.{Start}
 use Rattle.host_port.specs.declared.event.Event.{Event}
 use Rattle.session_play.specs.declared.stop.Stop.{Stop}
 use Rattle.session_play.specs.Play.{Goes, Next}
-use Rattle.read_commands.specs.declared.desk.Desk.{Desk}
+use Rattle.command_desk.specs.declared.desk.Desk.{Desk}
 use Rattle.mailx_session.specs.declared.flow.End.{End}
 use Rattle.mailx_session.specs.Openings.{Opens}
 use Rattle.mailx_top.specs.Meaning.{State, starting, loaded, with_list, begun, greeted, says_and_ends, message_limit}

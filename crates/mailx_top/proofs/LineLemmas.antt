@@ -6,12 +6,12 @@ use Rattle.std.specs.declared.result.Result.TheVariants.{Ok, Err}
 use Rattle.session_play.specs.Input.{Input}
 use Rattle.session_play.specs.Play.{Next, Go, Last}
 use Rattle.session_play.specs.Causes.{Threads}
-use Rattle.read_commands.specs.declared.desk.Desk.{Desk}
-use Rattle.read_commands.specs.declared.effects.Effects.{Effects}
-use Rattle.read_commands.specs.declared.steps.Ask as asked
-use Rattle.read_commands.specs.declared.steps.Ask.TheVariants as asks
-use Rattle.read_commands.specs.declared.steps.Steps.{Steps}
-use Rattle.read_commands.specs.Answers.{OrFault}
+use Rattle.command_desk.specs.declared.desk.Desk.{Desk}
+use Rattle.command_desk.specs.declared.effects.Effects.{Effects}
+use Rattle.command_desk.specs.declared.steps.Ask as asked
+use Rattle.command_desk.specs.declared.steps.Ask.TheVariants as asks
+use Rattle.command_desk.specs.declared.steps.Steps.{Steps}
+use Rattle.command_desk.specs.Answers.{OrFault}
 use Rattle.read_commands.specs.Commands.{commanded}
 use Rattle.mailx_session.specs.declared.flow.End.{End}
 use Rattle.mailx_session.specs.declared.flow.End.TheVariants.{Done}

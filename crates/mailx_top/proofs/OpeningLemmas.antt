@@ -18,7 +18,7 @@ use Rattle.session_play.specs.Input.{Input, took, Reads}
 use Rattle.session_play.specs.Play.{Line, Say, Read, Know, Play, Ret, Ask, Says, SaysInPart, seen_of, Partly, Goes, Next, Go, Last, Loop, again, last, cut}
 use Rattle.mail_text.specs.Lines.{with_feed}
 use Rattle.mailx_vars.specs.Names.{is_short_name}
-use Rattle.read_commands.specs.declared.desk.Desk.{Desk}
+use Rattle.command_desk.specs.declared.desk.Desk.{Desk}
 use Rattle.mailx_session.specs.declared.flow.End.{End}
 use Rattle.mailx_session.specs.declared.flow.End.TheVariants as ending
 use Rattle.mailx_session.specs.Openings.{first_desk, opened}

@@ -10,7 +10,7 @@ use Rattle.session_play.specs.Input.{Input, no_input}
 use Rattle.session_play.specs.Play.{Play, Ask, Line, Next, Go, Last}
 use Rattle.session_play.specs.Causes.{Threads, NextFrom}
 use Rattle.mailx_vars.specs.Names.{is_short_name}
-use Rattle.read_commands.specs.declared.desk.Desk.{Desk}
+use Rattle.command_desk.specs.declared.desk.Desk.{Desk}
 use Rattle.mailx_session.specs.declared.flow.End.{End}
 use Rattle.mailx_session.specs.Openings.{first_desk, opened}
 use Rattle.mailx_session.specs.Sessions.{line_play}

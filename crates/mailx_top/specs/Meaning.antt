@@ -13,7 +13,7 @@ use Rattle.session_play.specs.Input.{Input, no_input}
 use Rattle.session_play.specs.Play.{Play, Ret, Ask, Line, Say, Read, Know, Next, Go, Last, bind}
 use Rattle.mailx_vars.specs.Names.{is_short_name}
 use Rattle.mailx_vars.specs.Settings.{value_of}
-use Rattle.read_commands.specs.declared.desk.Desk.{Desk}
+use Rattle.command_desk.specs.declared.desk.Desk.{Desk}
 use Rattle.mailx_session.specs.declared.flow.End.{End}
 use Rattle.mailx_session.specs.declared.flow.End.TheVariants as ending
 use Rattle.mailx_session.specs.Openings.{first_desk, opened, greeting}

@@ -6,7 +6,7 @@ ghost use Rattle.mbox_scan.specs.Mailbox.{texts_of, list_of};
 ghost use Rattle.session_play.specs.Input.{no_input};
 ghost use Rattle.session_play.specs.Play.{Play, Ask, Read, Goes, Loop, Caused};
 ghost use Rattle.mailx_vars.specs.Names.{is_short_name};
-ghost use Rattle.read_commands.specs.declared.desk.Desk.{Desk};
+ghost use Rattle.command_desk.specs.declared.desk.Desk.{Desk};
 ghost use Rattle.mailx_session.specs.Openings.{Opens};
 ghost use Rattle.mailx_top.specs.declared.environment.Environment.{Environment};
 ghost use Rattle.mailx_top.specs.Meaning.{starting, loaded, with_list, begun, greeted, says_and_ends, round, Opening, next_state};

@@ -1,27 +1,27 @@
 -- What each command comes to.
 use Rattle.std.specs.Prelude.{ℕ, List, [], ◌∷◌, codes, unwrap_or}
-use Rattle.std.specs.List.{flat_map}
 use Rattle.std.specs.Str.{bytes_eq}
 use Rattle.std.specs.declared.result.Result.{Result}
 use Rattle.std.specs.declared.result.Result.TheVariants.{Ok, Err}
-use Rattle.mail_text.specs.Lines.{with_feed}
 use Rattle.line_words.specs.declared.line.CommandLine.{CommandLine}
 use Rattle.line_words.specs.declared.line.LineError.{LineError}
+use Rattle.line_words.specs.declared.line.LineError.TheVariants as error
 use Rattle.line_words.specs.declared.command.Command.{Command}
 use Rattle.line_words.specs.declared.command.Command.TheVariants as command
-use Rattle.line_words.specs.Spellings.{whole_name, names}
+use Rattle.line_words.specs.Spellings.{whole_name}
 use Rattle.line_words.specs.Line.{reading}
 use Rattle.message_show.specs.declared.text.How.TheVariants.{Kept, All}
-use Rattle.read_commands.specs.declared.desk.Desk.{Desk}
-use Rattle.read_commands.specs.declared.steps.Ask.TheVariants.{Exit}
-use Rattle.read_commands.specs.declared.steps.Steps.{Steps}
-use Rattle.read_commands.specs.Answers.{OrFault, next, says, quietly}
-use Rattle.read_commands.specs.Effects.{unchanged}
-use Rattle.read_commands.specs.Faults.{bad_arguments, not_built, fault_of}
-use Rattle.read_commands.specs.Printing.{print, top, from, size, print_following, number, echo}
-use Rattle.read_commands.specs.Paging.{headers, scroll}
-use Rattle.read_commands.specs.Deleting.{delete, delete_and_print, undelete}
-use Rattle.read_commands.specs.Setting.{set, unset}
+use Rattle.command_desk.specs.declared.desk.Desk.{Desk}
+use Rattle.command_desk.specs.declared.steps.Ask.TheVariants.{Exit}
+use Rattle.command_desk.specs.declared.steps.Steps.{Steps}
+use Rattle.command_desk.specs.Answers.{OrFault, next, quietly}
+use Rattle.command_desk.specs.Effects.{unchanged}
+use Rattle.command_desk.specs.Faults.{bad_arguments, not_built, unknown_command, open_quote, line_too_long}
+use Rattle.show_commands.specs.Printing.{print, top, print_following}
+use Rattle.show_commands.specs.Paging.{headers, scroll}
+use Rattle.mark_commands.specs.Deleting.{delete, delete_and_print, undelete}
+use Rattle.setting_commands.specs.Setting.{set, unset}
+use Rattle.show_commands.specs.Telling.{from, size, number, echo, help}
 
 -- the whole name of the command that a word spells
 abbrev pub name_of : List ℕ → List ℕ
@@ -35,10 +35,6 @@ without_words (w ∷ ws) word meant = Err (bad_arguments (name_of word))
 -- a command that takes no words
 abbrev pub alone : CommandLine → OrFault Steps → OrFault Steps
 alone line meant = without_words line.words line.word meant
-
--- `help`: the names of all commands, one a line
-abbrev pub help : Desk → OrFault Steps
-help desk = says (flat_map with_feed names) (unchanged desk)
 
 -- `exit`, `xit`
 abbrev pub exit : Desk → OrFault Steps
@@ -68,6 +64,13 @@ meaning_of other line desk = Err (not_built (name_of line.word))
 
 abbrev pub meaning : CommandLine → Desk → OrFault Steps
 meaning line desk = meaning_of line.command line desk
+
+-- the line of what is wrong with a line's form
+abbrev pub fault_of : LineError → List ℕ
+fault_of error.TooLong = line_too_long
+fault_of (error.Unknown word) = unknown_command word
+fault_of error.OpenQuote = open_quote
+fault_of error.Memory = []
 
 -- a line that was read, or the line of what is wrong with its form
 abbrev pub read_or_fault : Result CommandLine LineError → OrFault CommandLine

@@ -1,10 +1,5 @@
-pub mod Desks
-pub mod Effects
-pub mod Faults
-pub mod Answers
-pub mod Selecting
-pub mod Printing
-pub mod Paging
-pub mod Deleting
-pub mod Setting
 pub mod Commands
+pub use Rattle.command_desk.specs.Answers
+pub use Rattle.command_desk.specs.Desks
+pub use Rattle.command_desk.specs.Effects
+pub use Rattle.show_commands.specs.Paging

@@ -1,28 +1,21 @@
 // What a line's command comes to.
 ghost use Rattle.std.specs.Prelude.{◌≡◌, [], IfOk, IfErr, OnOk, codes};
 ghost use Rattle.std.specs.Str.{bytes_eq};
-ghost use Rattle.std.specs.List.{flat_map};
-ghost use Rattle.mail_text.specs.Lines.{with_feed};
-ghost use Rattle.line_words.specs.Spellings.{names};
 ghost use Rattle.line_words.specs.Line.{reading};
-ghost use Rattle.read_commands.specs.Answers.{OrFault, Means, IsRefused};
-ghost use Rattle.read_commands.specs.Printing.{number};
-ghost use Rattle.read_commands.specs.Paging.{scroll};
-ghost use Rattle.read_commands.specs.Desks.{IsDesk, IsWithin};
-ghost use Rattle.read_commands.specs.Effects.{effect};
-ghost use Rattle.read_commands.specs.Commands.{name_of, alone, help, exit, meaning_of, meaning, read_or_fault, commanded};
+ghost use Rattle.command_desk.specs.Answers.{OrFault, Means, IsRefused};
+ghost use Rattle.show_commands.specs.Paging.{scroll};
+ghost use Rattle.command_desk.specs.Desks.{IsDesk, IsWithin};
+ghost use Rattle.command_desk.specs.Effects.{effect};
+ghost use Rattle.read_commands.specs.Commands.{name_of, alone, exit, meaning, read_or_fault, commanded};
+ghost use Rattle.show_commands.specs.Telling.{number, help};
 
-use crate::delete::{delete, delete_and_print, undelete};
-use crate::effects::unchanged;
-use crate::faults::fault;
-use crate::page::{headers, scroll};
-use crate::print::{echo, from, number, print, print_following, size, top};
-use crate::set::{set, unset};
-use crate::steps::{quietly, says};
-use crate::{Ask, Desk, Refusal, Steps};
-use line_words::{Command, CommandLine, LineError, command_name, read_line, whole_name};
-use mail_text::{Items, Memory, Text};
+use command_desk::{Ask, Desk, Refusal, Steps, fault, quietly, unchanged};
+use line_words::{Command, CommandLine, LineError, read_line, whole_name};
+use mail_text::Items;
+use mark_commands::{delete, delete_and_print, undelete};
 use message_show::How;
+use setting_commands::{set, unset};
+use show_commands::{echo, from, headers, help, number, print, print_following, scroll, size, top};
 use std::alloc::Global;
 
 // The whole name of the command that a word spells.
@@ -35,29 +28,7 @@ fn name_of(word: &[u8]) -> &'static [u8]
     }
 }
 
-// The names of all commands, one a line.
-fn names(alloc: Global) -> Result<Text, Memory>
-    ensures { IfOk result (λ t. t ≡ flat_map with_feed names) }
-{
-    let mut out = Text::new(alloc);
-    let mut k = 0;
-    while let Some(name) = command_name(k) {
-        out.push(name)?;
-        out.push(b"\n")?;
-        k += 1;
-    }
-    Ok(out)
-}
-
-fn help(alloc: Global, desk: &Desk) -> Result<Steps, Refusal>
-    requires { IsDesk desk.now }
-    ensures means { Means result (help desk.now) }
-    ensures within { IsWithin desk.now result }
-{
-    let out = names(alloc)?;
-    says(alloc, out, unchanged(alloc, desk))
-}
-
+// `exit`, `xit`.
 fn exit(alloc: Global, desk: &Desk) -> Result<Steps, Refusal>
     requires { IsDesk desk.now }
     ensures means { Means result (exit desk.now) }

@@ -1,19 +1,8 @@
-//! Commands: what the line of a command asks for and what it changes.
+//! The dispatch of commands: what a line asks for and what it changes, by the command that it names.
 #![tactic(auto)]
 
-mod delete;
-mod desk;
 mod dispatch;
-mod effects;
-mod faults;
-mod page;
-mod print;
-mod select;
-mod set;
-mod steps;
 
-pub use desk::{Desk, Open};
+pub use command_desk::{Ask, Desk, Effects, Marking, Open, Refusal, Steps};
 pub use dispatch::{perform, perform_line};
-pub use effects::{Effects, Marking};
-pub use page::{current_page, page_of, page_size};
-pub use steps::{Ask, Refusal, Steps};
+pub use show_commands::{current_page, page_of, page_size};

@@ -1,7 +1,7 @@
 use Rattle.std.proofs.Common.{sym, ap, ◌∙◌}
 use Rattle.std.proofs.lemmas.Result.{err_from_is_err_and}
 use Rattle.host_port.proofs.RanLemmas.{Ran-then, Ran-map}
-use Rattle.read_commands.specs.declared.steps.Ask.TheVariants as asks
+use Rattle.command_desk.specs.declared.steps.Ask.TheVariants as asks
 use Rattle.mailx_session.proofs.LeadLemmas.{asked-more, asked-cut, asked-exit, asked-end}
 use Rattle.mailx_session.proofs.session.do_asks.Goals as goal
 

@@ -7,10 +7,10 @@ use Rattle.line_words.specs.declared.line.CommandLine.{CommandLine}
 use Rattle.line_words.specs.declared.line.LineError.{LineError}
 use Rattle.line_words.specs.declared.line.LineError.TheVariants.{Unknown}
 use Rattle.line_words.specs.Line.{reading}
-use Rattle.read_commands.specs.Answers.{IsRefusal}
-use Rattle.read_commands.specs.Faults.{unknown_command}
+use Rattle.command_desk.specs.Answers.{IsRefusal}
+use Rattle.command_desk.specs.Faults.{unknown_command}
 use Rattle.read_commands.specs.Commands.{read_or_fault}
-use Rattle.read_commands.proofs.MeansLemmas.{means-refusal}
+use Rattle.command_desk.proofs.MeansLemmas.{means-refusal}
 use Rattle.read_commands.proofs.dispatch.command_line.Goals as goal
 
 abbrev failed : LineError → Result CommandLine LineError

@@ -1,6 +1,6 @@
-use Rattle.read_commands.specs.declared.steps.Steps.{Steps}
-use Rattle.read_commands.proofs.DeskLemmas.{if-ok}
-use Rattle.read_commands.proofs.EffectLemmas.{desk-after}
+use Rattle.command_desk.specs.declared.steps.Steps.{Steps}
+use Rattle.command_desk.proofs.DeskLemmas.{if-ok}
+use Rattle.command_desk.proofs.EffectLemmas.{desk-after}
 use Rattle.read_commands.proofs.dispatch.perform.Goals as goal
 
 pub returns-clause-desk : goal.returns-clause-desk

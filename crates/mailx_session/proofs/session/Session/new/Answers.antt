@@ -1,6 +1,6 @@
 use Rattle.std.proofs.Common.{sym, subst, ◌≤◌, arith}
-use Rattle.read_commands.specs.declared.desk.Desk.{Desk}
-use Rattle.read_commands.specs.Desks.{IsDesk}
+use Rattle.command_desk.specs.declared.desk.Desk.{Desk}
+use Rattle.command_desk.specs.Desks.{IsDesk}
 use Rattle.mailx_session.proofs.OpeningLemmas.{empty-desk}
 use Rattle.mailx_session.proofs.session.Session.new.Goals as goal
 

@@ -1,9 +1,9 @@
-use Rattle.read_commands.specs.declared.desk.Desk.{Desk}
+use Rattle.command_desk.specs.declared.desk.Desk.{Desk}
 use Rattle.std.proofs.Common.{◌≡◌, ◌≤◌, length, List, map, sym, ap, ◌∙◌, subst}
 use Rattle.message_state.specs.declared.mark.Mark.{Mark}
 use Rattle.message_state.specs.declared.row.Row.{Row}
 use Rattle.message_state.specs.declared.shown.Shown.{Shown}
-use Rattle.read_commands.specs.Desks.{IsDesk}
+use Rattle.command_desk.specs.Desks.{IsDesk}
 use Rattle.mailx_session.specs.Openings.{with_folder, plain, first_current, opened}
 use Rattle.mailx_session.proofs.OpeningLemmas.{opened-desk, opened-is}
 use Rattle.mailx_session.proofs.session.Session.open.Goals as goal

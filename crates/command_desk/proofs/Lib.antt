@@ -1,0 +1,5 @@
+pub mod MeansLemmas
+pub mod FlagLemmas
+pub mod DeskLemmas
+pub mod EffectLemmas
+pub mod ChosenLemmas

@@ -1,0 +1,54 @@
+-- What a command changes, and the desk that it leaves.
+use Rattle.std.specs.Prelude.{ℕ, Bool, ◌-◌, ◌==◌, true, List, [], map, slice_get, slice_set, None, unwrap_or, if◌then◌else◌}
+use Rattle.std.specs.List.{fold}
+use Rattle.std.specs.Option.{option_map_or}
+use Rattle.message_state.specs.declared.mark.Act.{Act}
+use Rattle.message_state.specs.declared.row.Row.{Row}
+use Rattle.message_state.specs.States.{after}
+use Rattle.command_desk.specs.declared.desk.Desk.{Desk}
+use Rattle.command_desk.specs.declared.effects.Marking.{Marking}
+use Rattle.command_desk.specs.declared.effects.Effects.{Effects}
+
+-- a row once an act was done on its message
+abbrev pub row_after : Act → Row → Row
+row_after act row = record row { mark = after row.mark act }
+
+-- the rows once an act was done on the message of one of them
+abbrev pub acted : List Row → Marking → List Row
+acted rows m = option_map_or (λ row. slice_set rows m.row (row_after m.act row)) (slice_get rows m.row) rows
+
+-- the rows once each act was done, in order
+abbrev pub rows_after : List Row → List Marking → List Row
+rows_after rows marks = fold acted rows marks
+
+-- the desk with other rows, and their marks
+abbrev pub with_rows : Desk → List Row → Desk
+with_rows desk rows = record desk { folder = record desk.folder { marks = map (λ row. row.mark) rows }; shown = record desk.shown { rows = rows } }
+
+-- the desk with this current message
+abbrev pub with_current : Desk → ℕ → Bool → Desk
+with_current desk current fresh = record desk { shown = record desk.shown { current = current }; fresh = fresh }
+
+-- the desk after a command
+abbrev pub effect : Desk → Effects → Desk
+effect desk effects =
+    record (with_current (with_rows desk (rows_after desk.shown.rows effects.marks)) effects.current effects.fresh) {
+      vars = unwrap_or effects.vars desk.vars;
+      page = effects.page;
+    }
+
+-- no change
+abbrev pub unchanged : Desk → Effects
+unchanged desk = record { marks = []; current = desk.shown.current; fresh = desk.fresh; page = desk.page; vars = None }
+
+-- message n becomes current; it is unwritten, where another was current before
+abbrev pub moved : Desk → ℕ → Effects
+moved desk n = record (unchanged desk) { current = n; fresh = if n == desk.shown.current then desk.fresh else true }
+
+-- an act on message n, numbered from 1
+abbrev pub marking : Act → ℕ → Marking
+marking act n = record { row = n - 1; act = act }
+
+-- an act on each of these
+abbrev pub markings : Act → List ℕ → List Marking
+markings act numbers = map (marking act) numbers

@@ -1,0 +1,47 @@
+-- The lines that refuse a command.
+use Rattle.std.specs.Prelude.{ℕ, List, ◌++◌, codes}
+use Rattle.mail_text.specs.Lines.{with_feed}
+
+-- the command of this name has the wrong number or form of words
+abbrev pub bad_arguments : List ℕ → List ℕ
+bad_arguments name = with_feed (name ++ codes ": bad arguments")
+
+abbrev pub not_built : List ℕ → List ℕ
+not_built name = with_feed (name ++ codes ": not built")
+
+-- the word is no list word
+abbrev pub bad_list : List ℕ → List ℕ
+bad_list word = with_feed (word ++ codes ": bad message list")
+
+-- the word names no message
+abbrev pub no_such : List ℕ → List ℕ
+no_such word = with_feed (word ++ codes ": no such message")
+
+-- there is no word, and no message to take
+abbrev pub none_applicable : List ℕ
+none_applicable = with_feed (codes "no applicable message")
+
+-- there is no further message, or no further page
+abbrev pub at_end : List ℕ
+at_end = with_feed (codes "at end")
+
+-- the variable's value is no number
+abbrev pub not_a_number : List ℕ → List ℕ
+not_a_number name = with_feed (name ++ codes ": not a number")
+
+-- no variable can have this name
+abbrev pub bad_name : List ℕ → List ℕ
+bad_name name = with_feed (name ++ codes ": bad name")
+
+abbrev pub too_many_variables : List ℕ
+too_many_variables = with_feed (codes "too many variables")
+
+-- no command is spelled so
+abbrev pub unknown_command : List ℕ → List ℕ
+unknown_command word = with_feed (word ++ codes ": unknown command")
+
+abbrev pub open_quote : List ℕ
+open_quote = with_feed (codes "open quote")
+
+abbrev pub line_too_long : List ℕ
+line_too_long = with_feed (codes "line too long")

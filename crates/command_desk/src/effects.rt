@@ -1,0 +1,124 @@
+ghost use Rattle.std.specs.Prelude.{◌≡◌, ◌<◌, map, IfOk};
+ghost use Rattle.message_state.specs.declared.row.Row.{Row};
+ghost use Rattle.message_state.specs.declared.mark.Mark.{Mark};
+ghost use Rattle.command_desk.specs.Desks.{IsDesk};
+ghost use Rattle.command_desk.specs.Effects.{acted, effect, unchanged, moved, marking, markings};
+
+use crate::Desk;
+use mail_text::{Items, Memory};
+use mailx_vars::Vars;
+use message_state::{Act, Mark, RowList, after};
+use std::alloc::Global;
+
+/// An act on a message.
+#[derive(Clone, Copy, Debug, PartialEq, Eq)]
+pub struct Marking {
+    /// The place of the message's row, from 0.
+    pub row: usize,
+    /// What is done.
+    pub act: Act,
+}
+
+/// What a command changes.
+#[derive(Drop)]
+pub struct Effects {
+    /// Acts on messages, in order.
+    pub marks: Items<Marking>,
+    /// The message that is current then.
+    pub current: u32,
+    /// Whether it is unwritten.
+    pub fresh: bool,
+    /// The page that was said last.
+    pub page: usize,
+    /// The variables, where some are set or unset.
+    pub vars: Option<Vars>,
+}
+
+// Marks a row of the messages and the mark beside it.
+fn mark_row(rows: &mut RowList, marks: &mut Items<Mark>, marking: Marking)
+    requires { marks.old ≡ map (λ (row : Row). row.mark) rows.old }
+    ensures rows { rows.new ≡ acted rows.old marking }
+    ensures marks { marks.new ≡ map (λ (row : Row). row.mark) rows.new }
+{
+    if marking.row < rows.items().len() {
+        let mark = after(rows.items()[marking.row].mark, marking.act);
+        rows.set_mark(marking.row, mark);
+        *marks.get_mut(marking.row) = mark;
+    }
+}
+
+impl Desk {
+    /// Carries out the changes of a command once what it asked for was done. It takes no memory.
+    pub fn settle(&mut self, effects: Effects)
+        requires before { IsDesk self.old }
+        requires after { IsDesk (effect self.old effects) }
+        ensures { self.new ≡ effect self.old effects }
+    {
+        let Effects {
+            marks,
+            current,
+            fresh,
+            page,
+            vars,
+        } = effects;
+        for marking in marks.items() {
+            mark_row(&mut self.shown.rows, &mut self.folder.marks, *marking);
+        }
+        self.shown.current = current;
+        self.fresh = fresh;
+        self.page = page;
+        if let Some(vars) = vars {
+            self.vars = vars;
+        }
+    }
+}
+
+/// No change.
+pub fn unchanged(alloc: Global, desk: &Desk) -> Effects
+    ensures { result ≡ unchanged desk.now }
+{
+    Effects {
+        marks: Items::new(alloc),
+        current: desk.shown.current,
+        fresh: desk.fresh,
+        page: desk.page,
+        vars: None,
+    }
+}
+
+/// Message n becomes current; it is unwritten, where another was current before.
+pub fn moved(alloc: Global, desk: &Desk, n: u32) -> Effects
+    ensures { result ≡ moved desk.now n }
+{
+    let fresh = if n == desk.shown.current {
+        desk.fresh
+    } else {
+        true
+    };
+    Effects {
+        current: n,
+        fresh,
+        ..unchanged(alloc, desk)
+    }
+}
+
+/// An act on message n, numbered from 1.
+pub fn act_on(act: Act, n: u32) -> Marking
+    ensures { result ≡ marking act n }
+{
+    Marking {
+        row: (n as usize).saturating_sub(1),
+        act,
+    }
+}
+
+/// An act on each of these messages, which are numbered from 1.
+pub fn markings(alloc: Global, act: Act, numbers: &[u32]) -> Result<Items<Marking>, Memory>
+    ensures { IfOk result (λ marks. marks ≡ markings act numbers.now) }
+{
+    let mut marks = Items::new(alloc);
+    for number in numbers {
+        marks.push(act_on(act, *number))?;
+    }
+    Ok(marks)
+}

@@ -1,0 +1,17 @@
+//! What the commands of a session stand on: the desk between two commands, what a command asks for and changes, the lines that
+//! refuse it, the messages that its words select, and a message as it is printed.
+#![tactic(auto)]
+
+mod desk;
+mod effects;
+mod faults;
+mod messages;
+mod selecting;
+mod steps;
+
+pub use desk::{Desk, Open};
+pub use effects::{Effects, Marking, act_on, markings, moved, unchanged};
+pub use faults::fault;
+pub use messages::{message, printed, put_heading, put_printed};
+pub use selecting::{Among, chosen, last_message, single};
+pub use steps::{Ask, Refusal, Steps, quietly, says};

@@ -1,0 +1,143 @@
+// The messages that the words of a command select.
+ghost use Rattle.std.specs.Prelude.{◌≡◌, ◌≤◌, ◌<◌, All, IfOk, length};
+ghost use Rattle.message_state.specs.ShownRows.{IsShown};
+ghost use Rattle.command_desk.specs.Answers.{Means};
+ghost use Rattle.command_desk.specs.Desks.{IsMessageOf};
+ghost use Rattle.command_desk.specs.Selecting.{chosen, single, last_message, is_among, flag_of, IsListRefusal, AreFlags};
+
+use crate::Refusal;
+use crate::faults::fault;
+use mail_text::{Items, Memory, Text};
+use message_list::{ListError, Purpose, read_list, select};
+use message_state::Shown;
+use std::alloc::Global;
+use std::marker::Model;
+
+// The line that refuses a list.
+fn list_refusal(alloc: Global, error: ListError) -> Refusal
+    ensures { IsListRefusal error result }
+{
+    match error {
+        ListError::Syntax { word } => fault(alloc, word.bytes(), b": bad message list"),
+        ListError::NoSuch { word } => fault(alloc, word.bytes(), b": no such message"),
+        ListError::NoneMatch => fault(alloc, b"", b"no applicable message"),
+        ListError::Memory => Refusal::Memory,
+    }
+}
+
+/// The messages that the words select, in view order: one at least, and each is a message.
+pub fn chosen(
+    alloc: Global,
+    words: &[Text],
+    shown: &Shown,
+    purpose: Purpose,
+) -> Result<Items<u32>, Refusal>
+    requires { IsShown shown.now }
+    ensures means { Means result (chosen purpose shown.now words.now) }
+    ensures some { IfOk result (λ ns. 0 < length ns) }
+    ensures messages { IfOk result (λ ns. All (IsMessageOf shown.now) ns) }
+{
+    let list = match read_list(alloc, words) {
+        Ok(list) => list,
+        Err(error) => return Err(list_refusal(alloc, error)),
+    };
+    match select(alloc, &list, shown, purpose) {
+        Ok(numbers) => Ok(Items::of(numbers)),
+        Err(error) => Err(list_refusal(alloc, error)),
+    }
+}
+
+/// The one message of a selection, for the command of this name.
+pub fn single(alloc: Global, name: &[u8], numbers: &[u32]) -> Result<u32, Refusal>
+    ensures means { Means result (single name.now numbers.now) }
+{
+    match numbers {
+        [n] => Ok(*n),
+        _ => Err(fault(alloc, name, b": bad arguments")),
+    }
+}
+
+/// The last of some messages.
+pub fn last_message(numbers: &[u32]) -> u32
+    requires { 0 < length numbers.now }
+    ensures { result ≡ last_message numbers.now }
+{
+    numbers[numbers.len() - 1]
+}
+
+// So many messages are looked through one by one.
+const FEW: usize = 16;
+
+/// Messages, and where they are more than a few a flag for each number, which says whether it is one of them. Contracts see them as
+/// the list of the messages.
+#[derive(Drop)]
+pub struct Among<'a> {
+    numbers: &'a [u32],
+    flags: Option<Vec<bool>>,
+}
+
+impl<'a> Model for Among<'a> {
+    ghost use Rattle.std.specs.Prelude.{ℕ, List};
+    ghost use Rattle.std.specs.Prelude.{IfSome};
+    ghost use Rattle.command_desk.specs.Selecting.{AreFlags};
+
+    ghost Value = { List ℕ };
+
+    ghost view = { λ a. a.numbers.now };
+
+    ghost invariant = { λ a. IfSome a.flags (λ flags. AreFlags flags.items a.numbers.now) };
+}
+
+// A flag for each number up to the count, which says whether it is one of these.
+fn flags_of(alloc: Global, numbers: &[u32], count: usize) -> Result<Vec<bool>, Memory>
+    requires few { count ≤ 1_000_000 }
+    requires within { All (λ n. n ≤ count) numbers.now }
+    ensures { IfOk result (λ flags. AreFlags flags.items numbers.now) }
+{
+    let mut flags = vec![in alloc; false; count + 1]?;
+    for n in numbers {
+        flags[*n as usize] = true;
+    }
+    Ok(flags)
+}
+
+// The flag of a number, false where there is none.
+fn flag_of(flags: &[bool], n: usize) -> bool
+    ensures { result ≡ flag_of flags.now n }
+{
+    match flags.get(n) {
+        Some(flag) => *flag,
+        None => false,
+    }
+}
+
+impl<'a> Among<'a> {
+    /// The messages of a list, where there are so many messages in all.
+    pub fn of(alloc: Global, numbers: &'a [u32], count: usize) -> Result<Among<'a>, Memory>
+        requires few { count ≤ 1_000_000 }
+        requires within { All (λ n. n ≤ count) numbers.now }
+        ensures { IfOk result (λ among. among ≡ numbers.now) }
+    {
+        if numbers.len() <= FEW {
+            return Ok(Among {
+                numbers,
+                flags: None,
+            });
+        }
+        let flags = flags_of(alloc, numbers, count)?;
+        Ok(Among {
+            numbers,
+            flags: Some(flags),
+        })
+    }
+
+    /// Whether message n is among them.
+    pub fn has(&self, n: u32) -> bool
+        ensures { result ≡ is_among self.now n }
+    {
+        match &self.flags {
+            Some(flags) => flag_of(flags, n as usize),
+            None => self.numbers.iter().any(|m| *m == n),
+        }
+    }
+}

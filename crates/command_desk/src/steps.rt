@@ -1,0 +1,78 @@
+ghost use Rattle.std.specs.Prelude.{◌≡◌, IfOk, Ok};
+ghost use Rattle.command_desk.specs.Answers.{Means, says, quietly};
+
+use crate::Effects;
+use mail_text::{Items, Memory, Text};
+use std::alloc::{AllocError, Global};
+use thiserror::Error;
+
+/// What a command asks for.
+#[derive(Drop)]
+pub enum Ask {
+    /// These bytes are said.
+    Say(Text),
+    /// The run ends without changes.
+    Exit,
+}
+
+/// What a command comes to.
+#[derive(Drop)]
+pub struct Steps {
+    /// What is asked for, in order.
+    pub asks: Items<Ask>,
+    /// What is changed once that was done.
+    pub effects: Effects,
+}
+
+/// Why a command is not carried out.
+#[derive(Drop, Debug, Error)]
+pub enum Refusal {
+    /// It is refused by this line, which ends in a line feed.
+    #[error("{line}")]
+    Fault { line: Text },
+    /// Want of memory.
+    #[error("out of memory")]
+    Memory,
+}
+
+impl From<Memory> for Refusal {
+    ghost use Rattle.std.specs.Prelude.{◌≡◌};
+    ghost use Rattle.command_desk.specs.declared.steps.Refusal.TheVariants.{Memory};
+
+    ghost from_gives = { λ _ e. e ≡ Memory };
+
+    fn from(_: Memory) -> Refusal {
+        Refusal::Memory
+    }
+}
+
+impl From<AllocError> for Refusal {
+    ghost use Rattle.std.specs.Prelude.{◌≡◌};
+    ghost use Rattle.command_desk.specs.declared.steps.Refusal.TheVariants.{Memory};
+
+    ghost from_gives = { λ _ e. e ≡ Memory };
+
+    fn from(_: AllocError) -> Refusal {
+        Refusal::Memory
+    }
+}
+
+/// Bytes are said, and this is changed.
+pub fn says(alloc: Global, bytes: Text, effects: Effects) -> Result<Steps, Refusal>
+    ensures means { Means result (says bytes effects) }
+    ensures effects { IfOk result (λ steps. steps.effects ≡ effects) }
+{
+    let mut asks = Items::new(alloc);
+    asks.push(Ask::Say(bytes))?;
+    Ok(Steps { asks, effects })
+}
+
+/// This is changed, and nothing is said.
+pub fn quietly(alloc: Global, effects: Effects) -> Steps
+    ensures { quietly effects ≡ Ok result }
+{
+    Steps {
+        asks: Items::new(alloc),
+        effects,
+    }
+}

@@ -1,6 +1,0 @@
-use Rattle.std.proofs.Common.{take}
-use Rattle.read_commands.proofs.NumberLemmas.{IsLeastAbove}
-use Rattle.read_commands.proofs.print.least_above.Given as goal
-
-abbrev pub invariant-loop-n : goal.invariant-loop-n
-invariant-loop-n l = IsLeastAbove l.current (take l.n-index l.numbers) l.least

@@ -1,7 +1,0 @@
-use Rattle.std.proofs.Common.{◌≡◌, take}
-use Rattle.std.specs.List.{flat_map}
-use Rattle.read_commands.specs.Printing.{printed}
-use Rattle.read_commands.proofs.print.printed_all.Given as goal
-
-abbrev pub invariant-loop-n : goal.invariant-loop-n
-invariant-loop-n l = l.out ≡ flat_map (printed l.desk l.how) (take l.n-index l.numbers)

@@ -1,7 +1,0 @@
-use Rattle.std.proofs.Common.{◌≡◌, take}
-use Rattle.std.specs.List.{flat_map}
-use Rattle.read_commands.specs.Setting.{setting_line}
-use Rattle.read_commands.proofs.set.listing.Given as goal
-
-abbrev pub invariant-loop-k : goal.invariant-loop-k
-invariant-loop-k l = l.out ≡ flat_map setting_line (take l.k l.vars)

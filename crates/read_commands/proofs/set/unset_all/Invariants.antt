@@ -1,7 +1,0 @@
-use Rattle.std.proofs.Common.{◌≡◌, take}
-use Rattle.std.specs.List.{fold}
-use Rattle.mailx_vars.specs.Settings.{without}
-use Rattle.read_commands.proofs.set.unset_all.Given as goal
-
-abbrev pub invariant-loop-name : goal.invariant-loop-name
-invariant-loop-name l = l.vars ≡ fold without l.vars-2 (take l.name-index l.names)

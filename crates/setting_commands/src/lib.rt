@@ -1,0 +1,6 @@
+//! Commands that set and unset variables.
+#![tactic(auto)]
+
+mod setting;
+
+pub use setting::{set, unset};
