@@ -11,6 +11,3 @@ pub use command::Command;
 pub use laws::{a_word_names_one_command, words_read_back};
 pub use line::{CommandLine, LineError, read_line};
 pub use table::{command_name, command_of, whole_name};
-
-#[cfg(test)]
-mod tests;

@@ -18,6 +18,3 @@ pub use laws::{
     tokens_are_the_value,
 };
 pub use read::read_list;
-
-#[cfg(test)]
-mod tests;

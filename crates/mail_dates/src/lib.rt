@@ -21,6 +21,3 @@ pub use law::{
 pub use moment::Moment;
 pub use print::{print_date, print_from_date, print_short_date};
 pub use zone::{Zone, ZoneError, moment_at, utc, zone_of};
-
-#[cfg(test)]
-mod tests;

@@ -14,6 +14,3 @@ pub use header::Header;
 pub use iterators::{Entries, Fields};
 pub use laws::{entries_make_the_header, parts_make_the_text};
 pub use unfold::{UnfoldedValue, unfold_value, unfolded};
-
-#[cfg(test)]
-mod tests;

@@ -37,6 +37,3 @@ pub fn lines_make_the_text()
     ensures whole { (text : List ℕ) → flat_map with_feed (lines_of text) ≡ fed text }
     ensures apart { (text : List ℕ) → All HasNoFeed (lines_of text) }
 {}
-
-#[cfg(test)]
-mod tests;

@@ -15,6 +15,3 @@ pub use expand::expand_name;
 pub use laws::variables_are_kept;
 pub use names::{is_short_name, is_user_name, is_variable_name};
 pub use settings::Vars;
-
-#[cfg(test)]
-mod tests;

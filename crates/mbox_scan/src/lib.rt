@@ -14,6 +14,3 @@ pub use folder::{Folder, MOST_MESSAGES, MessageRef};
 pub use laws::{list_of_join, texts_are_proper};
 pub use scan::is_mailbox;
 pub use texts::Texts;
-
-#[cfg(test)]
-mod tests;

@@ -15,6 +15,3 @@ pub use list::{End, Item, Kind, ListError, ListSpec, Purpose};
 pub use read::read_list;
 pub use selection::select;
 pub use view::{first_live, in_base, is_live, next_live, place_of, previous_live};
-
-#[cfg(test)]
-mod tests;

@@ -12,6 +12,3 @@ pub use field_sets::FieldSets;
 pub use laws::all_fields_make_the_text;
 pub use summary::{page, page_with_current, summary_line, summary_lines};
 pub use text::{How, shown_text, top};
-
-#[cfg(test)]
-mod tests;

@@ -20,6 +20,3 @@ pub use row_list::RowList;
 pub use shown::Shown;
 pub use stamp::stamped;
 pub use status::mark_of;
-
-#[cfg(test)]
-mod tests;

@@ -1,6 +1,6 @@
 use Rattle.std.proofs.Common.{arith}
 use Rattle.std.proofs.lemmas.List.Sorted.{IsPermutation-swap}
-use Rattle.message_list.proofs.tests.swap_places.Goals as goal
+use Rattle.leaf_cases.proofs.view.swap_two.Goals as goal
 
 pub returns-then-b-len : goal.returns-then-b-len
 returns-then-b-len c =

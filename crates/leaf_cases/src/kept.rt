@@ -1,0 +1,31 @@
+// What is kept from one case to the next.
+use mail_text::{Items, Memory, Text};
+use mailx_vars::Vars;
+use std::alloc::Global;
+
+#[derive(Drop)]
+pub struct Kept {
+    /// The variables that the cases of the topic `vars` set.
+    pub vars: Vars,
+    /// The messages that a view is made of, each as `view` reads it.
+    pub messages: Items<Text>,
+}
+
+impl Kept {
+    pub fn new(alloc: Global) -> Result<Kept, Memory> {
+        Ok(Kept {
+            vars: Vars::new(alloc)?,
+            messages: Items::new(alloc),
+        })
+    }
+
+    /// Keeps the fields of a case behind its topic as messages.
+    pub fn keep_messages(&mut self, alloc: Global, case: &[Text]) -> Result<(), Memory> {
+        let mut messages = Items::new(alloc);
+        for message in case.iter().skip(1) {
+            messages.push(Text::copy(alloc, message.bytes())?)?;
+        }
+        self.messages = messages;
+        Ok(())
+    }
+}

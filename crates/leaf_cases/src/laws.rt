@@ -1,0 +1,57 @@
+// The laws of the leaf crates: their conditions can be met.
+use mail_addresses::{
+    comments_are_balanced, one_reading, pieces_are_the_tokens, quoted_strings_end_at_a_quote,
+    tokens_are_the_value,
+};
+use mail_dates::{
+    Moment, day_has_date, printed_date_reads, printed_dates_are_plain, printed_from_date_reads,
+    short_date_is_plain,
+};
+use mail_headers::{entries_make_the_header, parts_make_the_text};
+use mail_text::{Memory, Text, lines_make_the_text};
+use mailx_vars::variables_are_kept;
+use mbox_scan::{list_of_join, texts_are_proper};
+use message_show::all_fields_make_the_text;
+use message_state::{a_text_has_one_row, acts_by_the_table, stamps_read_back};
+
+pub fn put(out: &mut Text) -> Result<(), Memory> {
+    speak_of_texts();
+    speak_of_sessions();
+    speak_of_moments();
+    out.push(b"hold")
+}
+
+fn speak_of_texts() {
+    lines_make_the_text();
+    list_of_join();
+    texts_are_proper();
+    parts_make_the_text();
+    entries_make_the_header();
+    one_reading();
+    tokens_are_the_value();
+    comments_are_balanced();
+    quoted_strings_end_at_a_quote();
+    pieces_are_the_tokens();
+}
+
+fn speak_of_sessions() {
+    acts_by_the_table();
+    stamps_read_back();
+    a_text_has_one_row();
+    line_words::a_word_names_one_command();
+    line_words::words_read_back();
+    variables_are_kept();
+    all_fields_make_the_text();
+}
+
+fn speak_of_moments() {
+    let m = Moment {
+        seconds: 1_709_626_500,
+        offset: 3600,
+    };
+    printed_date_reads(m);
+    printed_dates_are_plain(m);
+    short_date_is_plain(m);
+    printed_from_date_reads(b"a@x", m);
+    day_has_date(19_787);
+}
