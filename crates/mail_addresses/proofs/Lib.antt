@@ -11,3 +11,6 @@ pub mod GroupLemmas
 pub mod UniqueLemmas
 pub mod TokenUnique
 pub mod BalanceLemmas
+pub mod PlainLemmas
+pub mod TotalLemmas
+pub mod PieceReading

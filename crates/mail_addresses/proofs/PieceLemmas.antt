@@ -36,7 +36,7 @@ full place (t ∷ ts) =
 pub with_front-nil : (place : Place) (ts : List Lexeme) → with_front [] (pieces_from place ts) ≡ pieces_from place ts
 with_front-nil place ts = let l = full place ts in ap (with_front []) l.whole ∙ sym l.whole
 
-with_front-in_first : (front : List Lexeme) (t : Lexeme) (list : List (List Lexeme)) → IsFull list → with_front front (in_first t list) ≡ with_front (front ++ t ∷ []) list
+pub with_front-in_first : (front : List Lexeme) (t : Lexeme) (list : List (List Lexeme)) → IsFull list → with_front front (in_first t list) ≡ with_front (front ++ t ∷ []) list
 with_front-in_first front t list l =
     ap (λ (m : List (List Lexeme)). with_front front (in_first t m)) l.whole ∙ ap (λ (p : List Lexeme). p ∷ l.others) (sym (append_assoc front (t ∷ []) l.first)) ∙ ap (with_front (front ++ t ∷ [])) (sym l.whole)
 

@@ -134,7 +134,7 @@ atom_opens_nothing : (b : ℕ) → is_atom_byte b ≡ true → (b ≢ 40) × (b 
 unfolding is_atom_byte is_special
 atom_opens_nothing b h = (λ e. false≢true (ap is_atom_byte (sym e) ∙ h), λ e. false≢true (ap is_atom_byte (sym e) ∙ h), λ e. false≢true (ap is_atom_byte (sym e) ∙ h))
 
-atom_no_blank : (b : ℕ) → is_atom_byte b ≡ true → is_blank_byte b ≡ false
+pub atom_no_blank : (b : ℕ) → is_atom_byte b ≡ true → is_blank_byte b ≡ false
 unfolding is_atom_byte is_special is_blank_byte
 atom_no_blank b h = false_from_ne_true (is_blank_byte b) (λ t. elim (or_cases _ _ t) [
   | inl e ↦ false≢true (ap is_atom_byte (sym (eqb-true b 32 e)) ∙ h)

@@ -194,25 +194,5 @@ pub fault_unique : (value : List ℕ) (m n : ℕ) → IsFault value m → IsFaul
 fault_unique value m n f g =
     bad_unique (pieces f.tokens) m n f.first_bad (subst (λ (ts : List Lexeme). IsFirstBad (pieces ts) n) (tokens_unique value g.tokens f.tokens g.are_tokens f.are_tokens) g.first_bad)
 
--- what reading all pieces answers
-pub read_all : (value : List ℕ) (found slice : List Lexeme) (old items : List Address) (bad : Option ℕ) → AreTokens value found → slice ≡ found → old ≡ [] → bad ≡ None
-    → MatchOption bad ((added : List Address) × (items ≡ old ++ added) × Lists Spells (pieces slice) added) (λ at. IsFirstBad (pieces slice) at) → Reads value items
-read_all value found slice old items bad are e empty none h =
-    let all = at_none bad _ _ none h in
-    let same : items ≡ all.0 = all.1 ∙ ap (λ (xs : List Address). xs ++ all.0) empty in
-    record {
-      tokens = slice;
-      are_tokens = subst (AreTokens value) (sym e) are;
-      lists = subst (Lists Spells (pieces slice)) (sym same) all.2;
-    }
-
-pub read_fault : (value : List ℕ) (found slice : List Lexeme) (old items : List Address) (bad : Option ℕ) (at : ℕ) → AreTokens value found → slice ≡ found → bad ≡ Some at
-    → MatchOption bad ((added : List Address) × (items ≡ old ++ added) × Lists Spells (pieces slice) added) (λ at. IsFirstBad (pieces slice) at) → IsFault value at
-read_fault value found slice old items bad at are e some h = record {
-  tokens = slice;
-  are_tokens = subst (AreTokens value) (sym e) are;
-  first_bad = at_some bad at _ (λ at. IsFirstBad (pieces slice) at) some h;
-}
-
 pub reads_in_spec : (value : List ℕ) (p : List Address) → Reads value p → All IsInSpec p
 reads_in_spec value p r = all_in_spec (pieces r.tokens) p r.lists

@@ -3,3 +3,5 @@ pub mod Lexeme
 pub mod Forms
 pub mod Listing
 pub mod Balance
+pub mod Plain
+pub mod Pieces

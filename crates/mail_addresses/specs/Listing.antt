@@ -1,5 +1,5 @@
 -- The pieces of an address list and what they spell (RFC 5322, section 3.4, address-list and group, with the empty pieces of section 4.4).
-use Rattle.std.specs.Prelude.{◌≡◌, ◌≢◌, ◌⊎◌, ℕ, Bool, false, ◌+◌, if◌then◌else◌, List, [], ◌∷◌, ◌++◌, MatchBool}
+use Rattle.std.specs.Prelude.{◌≡◌, ◌≢◌, ◌⊎◌, ℕ, Bool, false, ◌+◌, if◌then◌else◌, List, [], ◌∷◌, ◌++◌, slice_get, Option, None, MatchBool}
 use Rattle.std.specs.List.{list_all}
 use Rattle.mail_addresses.specs.declared.address.Address.{Address}
 use Rattle.mail_addresses.specs.declared.pieces.Place.{Place}
@@ -98,3 +98,9 @@ pub record IsFault (value : List ℕ) (number : ℕ) : Type 0 where
   pub tokens : List Lexeme
   pub are_tokens : AreTokens value tokens
   pub first_bad : IsFirstBad (pieces tokens) number
+
+-- the first address of a value's list; none where the list has none, or where a piece of the value is no address
+abbrev pub IsFirstAddress : List ℕ → Option Address → Type 0
+IsFirstAddress value found =
+    ((list : List Address) × Reads value list × (found ≡ slice_get list 0))
+    ⊎ ((at : ℕ) × IsFault value at × (found ≡ None))

@@ -1,4 +1,4 @@
-ghost use Rattle.std.specs.Prelude.{◌≡◌, ◌++◌, ◌∷◌, ℕ, List};
+ghost use Rattle.std.specs.Prelude.{◌≡◌, ◌⊎◌, ◌++◌, ◌∷◌, ℕ, List};
 ghost use Rattle.mail_addresses.specs.declared.address.Address.{Address};
 ghost use Rattle.mail_addresses.specs.Lexical.{Lexeme, comment, quoted, texts, AreTokens};
 ghost use Rattle.mail_addresses.specs.Balance.{IsBalanced, HasNoQuote};
@@ -12,6 +12,11 @@ pub fn one_reading()
         → IsFault value m → IsFault value n → m ≡ n }
     ensures either { (value : List ℕ) (list : List Address) (at : ℕ)
         → Reads value list → IsFault value at → ⊥ }
+{}
+
+/// A law: each value has a list of addresses, or a first bad piece.
+pub fn each_value_is_read()
+    ensures { (value : List ℕ) → ((list : List Address) × Reads value list) ⊎ ((at : ℕ) × IsFault value at) }
 {}
 
 /// A law: the tokens of a value, joined, are the value, and it has no others.

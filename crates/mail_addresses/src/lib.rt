@@ -8,13 +8,14 @@ mod mailbox;
 mod name;
 mod parts;
 mod pieces;
+mod plain;
 mod read;
 mod scan;
 mod token;
 
 pub use address::{Address, AddressError, bare, local_part, same_address};
 pub use laws::{
-    comments_are_balanced, one_reading, pieces_are_the_tokens, quoted_strings_end_at_a_quote,
-    tokens_are_the_value,
+    comments_are_balanced, each_value_is_read, one_reading, pieces_are_the_tokens,
+    quoted_strings_end_at_a_quote, tokens_are_the_value,
 };
-pub use read::read_list;
+pub use read::{first_address, read_list};

@@ -1,7 +1,11 @@
-ghost use Rattle.std.specs.Prelude.{◌≡◌, ◌<◌, ◌+◌, ◌∷◌, [], length, take, drop, ◌≤◌};
+ghost use Rattle.std.specs.Prelude.{◌≡◌, ◌<◌, ◌+◌, ◌∷◌, [], length, take, drop, ◌≤◌, IfOk, MatchOption};
 ghost use Rattle.mail_addresses.specs.Listing.{place_after, is_cut, pieces};
+ghost use Rattle.mail_addresses.specs.Pieces.{IsLastPiece, IsPieceBefore};
 
+use crate::scan::first_token;
 use crate::token::Token;
+use mail_text::Memory;
+use std::alloc::Global;
 
 /// Where a token stands.
 #[derive(Clone, Copy)]
@@ -80,4 +84,27 @@ pub(crate) fn piece_length(tokens: &[Token]) -> usize
         place = place_after(place, token);
     }
     tokens.len()
+}
+
+/// The tokens of the first piece of a value, and what follows the comma that cuts it off, if one does.
+pub(crate) fn first_piece<'a>(
+    alloc: Global,
+    value: &'a [u8],
+) -> Result<(Vec<Token<'a>>, Option<&'a [u8]>), Memory>
+    ensures { IfOk result (λ first. MatchOption first.1
+        (IsLastPiece value.now first.0.items)
+        (λ after. IsPieceBefore value.now first.0.items after.now)) }
+{
+    let mut piece = Vec::new(alloc);
+    let mut place = Place::Outside;
+    let mut rest = value;
+    while let Some((token, after)) = first_token(rest) {
+        if is_cut(place, &token) {
+            return Ok((piece, Some(after)));
+        }
+        place = place_after(place, &token);
+        piece.push(token)?;
+        rest = after;
+    }
+    Ok((piece, None))
 }

@@ -1,16 +1,16 @@
-ghost use Rattle.std.specs.Prelude.{◌≡◌, ◌≤◌, ◌⊎◌, [], ℕ, List, length, IfOk, IfErr, IsErrAnd, All, Err, MatchOption, MatchBool, ◌≢◌};
+ghost use Rattle.std.specs.Prelude.{◌≡◌, ◌≤◌, ◌⊎◌, [], ℕ, List, length, slice_get, IfOk, IfErr, IsErrAnd, All, Err, MatchOption, MatchBool, ◌≢◌};
 ghost use Rattle.mail_addresses.specs.declared.address.Address.{Address};
 ghost use Rattle.mail_addresses.specs.Forms.{IsDisplayName};
-ghost use Rattle.mail_addresses.specs.Listing.{pieces, Gives, Lists, SpellsMailbox, IsGrouped, SpellsGroup, Spells, IsBad, IsFirstBad, Adds, AddsIf, Reads, IsFault};
+ghost use Rattle.mail_addresses.specs.Listing.{pieces, Gives, Lists, SpellsMailbox, IsGrouped, SpellsGroup, Spells, IsBad, IsFirstBad, Adds, AddsIf, Reads, IsFault, IsFirstAddress};
 
 use crate::address::{Address, AddressError};
 use crate::mailbox::mailbox;
 use crate::name::display_name;
 use crate::parts::{are_gaps, split_at_mark};
-use crate::pieces::piece_length;
-use crate::scan::tokens;
+use crate::pieces::{first_piece, piece_length};
+use crate::plain::plain_address;
 use crate::token::Token;
-use mail_text::Memory;
+use mail_text::{Memory, Text};
 use std::alloc::Global;
 
 /// Reads a list of addresses (RFC 5322, section 3.4). The answer is what the value's pieces spell, in order: a piece is
@@ -27,37 +27,64 @@ pub fn read_list(alloc: Global, value: &[u8]) -> Result<Vec<Address>, AddressErr
         → IsErrAnd result (λ e. (e ≡ AddressError.Syntax at) ⊎ (e ≡ AddressError.Memory)) }
     ensures local { IfOk result (λ list. All (λ a. a.local ≤ length a.spec) list.items) }
 {
-    let found = tokens(alloc, value)?;
     let mut list = Vec::new(alloc);
-    let bad = read_pieces(alloc, &found, &mut list)?;
+    let bad = read_pieces(alloc, value, &mut list)?;
     match bad {
         None => Ok(list),
         Some(at) => Err(AddressError::Syntax { at }),
     }
 }
 
-/// Puts the addresses of all pieces at the end, or answers the number of the first bad piece.
-fn read_pieces(
-    alloc: Global,
-    tokens: &[Token],
-    list: &mut Vec<Address>,
-) -> Result<Option<u64>, Memory>
-    ensures { IfOk result (λ bad. MatchOption bad
-        (Adds (Lists Spells (pieces tokens.now)) list.old.items list.new.items)
-        (λ at. IsFirstBad (pieces tokens.now) at)) }
+/// The first address of the list that a value gives; none where it gives no list, or an empty one. Only want of memory can
+/// fail. A value that is one address as most are written takes memory for that address alone.
+pub fn first_address(alloc: Global, value: &[u8]) -> Result<Option<Address>, Memory>
+    ensures { IfOk result (IsFirstAddress value.now) }
 {
-    let mut rest = tokens;
+    match plain_address(value) {
+        Some(plain) => Ok(Some(Address {
+            name: Text::copy(alloc, plain.name)?,
+            spec: Text::copy(alloc, plain.spec)?,
+            local: plain.local,
+        })),
+        None => match read_list(alloc, value) {
+            Ok(list) => Ok(first_of(list)),
+            Err(AddressError::Syntax { at: _ }) => Ok(None),
+            Err(AddressError::Memory) => Err(Memory),
+        },
+    }
+}
+
+/// The first address of a list.
+fn first_of(list: Vec<Address>) -> Option<Address>
+    ensures { result ≡ slice_get list.items 0 }
+{
+    let mut list = list;
+    if list.is_empty() {
+        None
+    } else {
+        Some(list.swap_remove(0))
+    }
+}
+
+/// Puts the addresses of all pieces of a value at the end, or answers the number of the first bad piece. The tokens of one
+/// piece stand in memory at a time.
+fn read_pieces(alloc: Global, value: &[u8], list: &mut Vec<Address>) -> Result<Option<u64>, Memory>
+    ensures { IfOk result (λ bad. MatchOption bad
+        (Adds (Reads value.now) list.old.items list.new.items)
+        (IsFault value.now)) }
+{
+    let mut rest = value;
     let mut number = 0;
     loop {
-        let count = piece_length(rest);
-        let good = read_piece(alloc, &rest[..count], list)?;
+        let (piece, after) = first_piece(alloc, rest)?;
+        let good = read_piece(alloc, &piece, list)?;
         if !good {
             return Ok(Some(number));
         }
-        if count == rest.len() {
-            return Ok(None);
+        match after {
+            Some(after) => rest = after,
+            None => return Ok(None),
         }
-        rest = &rest[count + 1..];
         number += 1;
     }
 }

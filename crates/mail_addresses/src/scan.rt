@@ -1,16 +1,12 @@
 ghost use Rattle.std.specs.Prelude.{◌≡◌, ◌≢◌, ◌==◌, ◌≤◌, ◌<◌, ◌+◌, ◌++◌, ◌∷◌, [], length, take, drop, true, false, IfOk, OnOk, IfSome, MatchOption};
 ghost use Rattle.std.specs.List.{list_all, list_any};
-ghost use Rattle.mail_addresses.specs.Lexical.{is_blank_byte, is_special, is_atom_byte, begins, IsCommentContent, IsQuotedContent, IsLiteralContent, IsEnd, unclosed, text_of, IsToken, AreTokens};
+ghost use Rattle.mail_addresses.specs.Lexical.{is_blank_byte, is_special, is_atom_byte, begins, IsCommentContent, IsQuotedContent, IsLiteralContent, IsEnd, unclosed, text_of, IsToken};
 ghost use Rattle.mail_addresses.specs.Lexeme.{lexeme};
 ghost use Rattle.mail_addresses.specs.Forms.{unescaped};
 
 use crate::token::{Kind, Token};
 use mail_text::{Memory, Text};
 use memchr::memchr;
-use std::alloc::Global;
-
-/// How many tokens a short list has, such as one of a name and an address.
-const FEW_TOKENS: usize = 16;
 
 /// Whether the byte is a space or a tab.
 #[tactic(auto, unfolding(crate::specs::Lexical::is_blank_byte))]
@@ -75,7 +71,7 @@ fn comment_end(bytes: &[u8]) -> Option<usize>
 }
 
 /// The place of the quote that closes a quoted string; its opening one stands before these bytes.
-fn quote_end(bytes: &[u8]) -> Option<usize>
+pub(crate) fn quote_end(bytes: &[u8]) -> Option<usize>
     ensures { IsEnd IsQuotedContent 34 bytes.now result }
 {
     let mut escaped = false;
@@ -113,7 +109,7 @@ fn blank_length(bytes: &[u8]) -> usize
 }
 
 /// How many bytes at the front an atom has.
-fn atom_length(bytes: &[u8]) -> usize
+pub(crate) fn atom_length(bytes: &[u8]) -> usize
     ensures within { result ≤ length bytes.now }
     ensures all { list_all is_atom_byte (take result bytes.now) ≡ true }
     ensures ends { begins is_atom_byte (drop result bytes.now) ≡ false }
@@ -177,7 +173,7 @@ fn plain_token<'a>(first: u8, bytes: &'a [u8], after: &'a [u8]) -> (Token<'a>, &
 }
 
 /// The first token and what follows it.
-fn first_token<'a>(bytes: &'a [u8]) -> Option<(Token<'a>, &'a [u8])>
+pub(crate) fn first_token<'a>(bytes: &'a [u8]) -> Option<(Token<'a>, &'a [u8])>
     ensures { MatchOption result (bytes.now ≡ [])
         (λ r. (bytes.now ≡ text_of r.0 ++ r.1.now) × IsToken r.0 r.1.now) }
 {
@@ -185,19 +181,6 @@ fn first_token<'a>(bytes: &'a [u8]) -> Option<(Token<'a>, &'a [u8])>
         [] => None,
         [first, after @ ..] => Some(token_from(*first, bytes, after)),
     }
-}
-
-/// The tokens of the value.
-pub(crate) fn tokens<'a>(alloc: Global, value: &'a [u8]) -> Result<Vec<Token<'a>>, Memory>
-    ensures { IfOk result (λ v. AreTokens value.now v.items) }
-{
-    let mut found = Vec::with_capacity(alloc, FEW_TOKENS)?;
-    let mut rest = value;
-    while let Some((token, after)) = first_token(rest) {
-        found.push(token)?;
-        rest = after;
-    }
-    Ok(found)
 }
 
 /// Puts what a quoted string stands for at the end.

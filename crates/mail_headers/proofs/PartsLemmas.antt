@@ -1,12 +1,12 @@
 -- A text cut at the first two line feeds in a row: the lines before them are the From line and the header's lines.
-use Rattle.std.proofs.Common.{◌≡◌, ℕ, zero, suc, ◌+◌, ◌<◌, true, false, ◌==◌, List, [], ◌∷◌, length, take, drop, get_or, Some, None, refl, sym, ap, ◌∙◌, arith, ⊎_elim, subst, add-zero}
+use Rattle.std.proofs.Common.{◌≡◌, ◌≢◌, ℕ, zero, suc, ◌+◌, ◌-◌, ◌<◌, true, false, ◌==◌, List, [], ◌∷◌, length, take, drop, get_or, Some, None, refl, sym, ap, ◌∙◌, arith, ⊎_elim, subst, add-zero}
 use Rattle.std.specs.List.{take_while}
-use Rattle.std.proofs.lemmas.Bool.{cond-true, cond-false, eqb-true, eq-eqb, false≢true, cases_Bool, and_parts, and_from, and_left, false_from_ne_true}
+use Rattle.std.proofs.lemmas.Bool.{cond-true, cond-false, eqb-true, false≢true, ne_eqb, cases_Bool, cases_lt, and_left}
 use Rattle.std.proofs.lemmas.List.Sums.{take_while-cons}
-use Rattle.memchr.specs.Find.{OccursAt}
 use Rattle.mail_text.specs.Lines.{lines_of, in_front}
 use Rattle.mail_text.proofs.LineLemmas.{lines_of-nil, lines_of-feed, lines_of-byte}
 use Rattle.mail_headers.specs.Header.{first_line, has_bytes, has_two_feeds, body_of}
+use Rattle.mail_headers.specs.Cutting.{IsLineLength}
 use Rattle.mail_headers.specs.Parts.{head_of}
 
 -- ---- lines
@@ -115,53 +115,57 @@ HasHead-head_of (b ∷ c ∷ cs) =
 
 -- ---- the place of the first two line feeds in a row
 
-two_feeds-OccursAt : (t : List ℕ) → OccursAt t (10 ∷ 10 ∷ []) 0 → has_two_feeds t ≡ true
-two_feeds-OccursAt t occurs = and_from _ _ (eq-eqb _ _ (occurs.reads 0 (omega arith))) (eq-eqb _ _ (occurs.reads 1 (omega arith)))
-
-two_reads : (t : List ℕ) (k : ℕ) → get_or t k 0 ≡ 10 → get_or t (k + 1) 0 ≡ 10 → (j : ℕ) → j < 2 → get_or t (k + j) 0 ≡ get_or (10 ∷ 10 ∷ []) j 0
-two_reads t k first second zero lt = ap (λ (n : ℕ). get_or t n 0) (add-zero k) ∙ first
-two_reads t k first second (suc zero) lt = second
-two_reads t k first second (suc (suc j)) lt = absurd (omega arith)
-
-OccursAt-two_feeds : (b : ℕ) (bs : List ℕ) → has_two_feeds (b ∷ bs) ≡ true → OccursAt (b ∷ bs) (10 ∷ 10 ∷ []) 0
-OccursAt-two_feeds b [] two = absurd (false≢true (and_parts (b == 10) false two).1)
-OccursAt-two_feeds b (c ∷ cs) two =
-    let parts = and_parts (b == 10) (c == 10) two in
-    record { fits = omega arith; reads = two_reads (b ∷ c ∷ cs) 0 (eqb-true b 10 parts.0) (eqb-true c 10 parts.1) }
-
-OccursAt-later : (b : ℕ) (bs : List ℕ) (k : ℕ) → OccursAt bs (10 ∷ 10 ∷ []) k → OccursAt (b ∷ bs) (10 ∷ 10 ∷ []) (suc k)
-OccursAt-later b bs k occurs =
-    let place : suc k + 1 ≡ suc (k + 1) = omega arith in
-    let first = ap (λ (n : ℕ). get_or bs n 0) (sym (add-zero k)) ∙ occurs.reads 0 (omega arith) in
-    record {
-      fits = omega (arith, occurs.fits);
-      reads = two_reads (b ∷ bs) (suc k) first (ap (λ (n : ℕ). get_or (b ∷ bs) n 0) place ∙ occurs.reads 1 (omega arith));
-    }
-
-OccursAt-earlier : (b : ℕ) (bs : List ℕ) (k : ℕ) → OccursAt (b ∷ bs) (10 ∷ 10 ∷ []) (suc k) → OccursAt bs (10 ∷ 10 ∷ []) k
-OccursAt-earlier b bs k occurs =
-    let place : suc (k + 1) ≡ suc k + 1 = omega arith in
-    let first = ap (λ (n : ℕ). get_or (b ∷ bs) n 0) (sym (add-zero (suc k))) ∙ occurs.reads 0 (omega arith) in
-    record {
-      fits = omega (arith, occurs.fits);
-      reads = two_reads bs k first (ap (λ (n : ℕ). get_or (b ∷ bs) n 0) place ∙ occurs.reads 1 (omega arith));
-    }
-
-pub head_of-found : (t : List ℕ) (k : ℕ) → OccursAt t (10 ∷ 10 ∷ []) k → ((j : ℕ) → j < k → ¬ (OccursAt t (10 ∷ 10 ∷ []) j)) → (head_of t ≡ take k t) × (body_of t ≡ Some (drop (k + 2) t))
+pub head_of-found : (t : List ℕ) (k : ℕ) → has_two_feeds (drop k t) ≡ true → ((j : ℕ) → j < k → has_two_feeds (drop j t) ≡ false) → (head_of t ≡ take k t) × (body_of t ≡ Some (drop (k + 2) t))
 unfolding head_of body_of
-head_of-found [] k occurs before = absurd (omega (arith, occurs.fits))
-head_of-found (b ∷ bs) zero occurs before =
-    let two = two_feeds-OccursAt (b ∷ bs) occurs in (cond-true _ _ _ two, cond-true _ _ _ two)
-head_of-found (b ∷ bs) (suc k) occurs before =
-    let none : has_two_feeds (b ∷ bs) ≡ false = false_from_ne_true _ (λ two. before 0 (omega arith) (OccursAt-two_feeds b bs two)) in
-    let later = head_of-found bs k (OccursAt-earlier b bs k occurs) (λ j lt here. before (suc j) (omega arith) (OccursAt-later b bs j here)) in
+head_of-found [] zero two before = absurd (false≢true two)
+head_of-found [] (suc k) two before = absurd (false≢true two)
+head_of-found (b ∷ bs) zero two before = (cond-true _ _ _ two, cond-true _ _ _ two)
+head_of-found (b ∷ bs) (suc k) two before =
+    let none : has_two_feeds (b ∷ bs) ≡ false = before 0 (omega arith) in
+    let later = head_of-found bs k two (λ j lt. before (suc j) (omega arith)) in
     let place : suc (k + 2) ≡ suc k + 2 = omega arith in
     (cond-false _ _ _ none ∙ ap (λ (l : List ℕ). b ∷ l) later.0, cond-false _ _ _ none ∙ later.1 ∙ ap (λ (n : ℕ). Some (drop n (b ∷ bs))) place)
 
-pub head_of-missed : (t : List ℕ) → ((j : ℕ) → j < length t + 1 → ¬ (OccursAt t (10 ∷ 10 ∷ []) j)) → (head_of t ≡ t) × (body_of t ≡ None)
+pub head_of-missed : (t : List ℕ) → ((j : ℕ) → j < length t → has_two_feeds (drop j t) ≡ false) → (head_of t ≡ t) × (body_of t ≡ None)
 unfolding head_of body_of
 head_of-missed [] nowhere = (refl, refl)
 head_of-missed (b ∷ bs) nowhere =
-    let none : has_two_feeds (b ∷ bs) ≡ false = false_from_ne_true _ (λ two. nowhere 0 (omega arith) (OccursAt-two_feeds b bs two)) in
-    let later = head_of-missed bs (λ j lt here. nowhere (suc j) (omega arith) (OccursAt-later b bs j here)) in
+    let none : has_two_feeds (b ∷ bs) ≡ false = nowhere 0 (omega arith) in
+    let later = head_of-missed bs (λ j lt. nowhere (suc j) (omega arith)) in
     (cond-false _ _ _ none ∙ ap (λ (l : List ℕ). b ∷ l) later.0, cond-false _ _ _ none ∙ later.1)
+
+-- a byte that is no line feed begins no two
+one_other : (t : List ℕ) (k : ℕ) → get_or t k 0 ≢ 10 → has_two_feeds (drop k t) ≡ false
+one_other t k other = and_left (get_or (drop k t) 0 0 == 10) _ (ne_eqb _ _ (λ e. other (sym (get_or-drop t k) ∙ e)))
+  where
+    get_or-drop : (t : List ℕ) (k : ℕ) → get_or (drop k t) 0 0 ≡ get_or t k 0
+    get_or-drop t zero = refl
+    get_or-drop [] (suc k) = refl
+    get_or-drop (b ∷ bs) (suc k) = get_or-drop bs k
+
+-- before a place of the text no two line feeds stand
+abbrev pub NoneBefore : List ℕ → ℕ → Type 0
+NoneBefore t n = (k : ℕ) → k < n → has_two_feeds (drop k t) ≡ false
+
+-- nor up to the end of the line that begins there
+pub none-in_line : (t rest : List ℕ) (start n : ℕ) → rest ≡ drop start t → NoneBefore t start → IsLineLength rest n → NoneBefore t (start + n)
+none-in_line t rest start n e before line k lt =
+    ⊎_elim
+    (λ early. before k early)
+    (λ late.
+    let place : start + (k - start) ≡ k = omega arith in
+    let read : get_or rest (k - start) 0 ≡ get_or t k 0 = ap (λ (xs : List ℕ). get_or xs (k - start) 0) e ∙ get_or-drop_more t start (k - start) ∙ ap (λ (m : ℕ). get_or t m 0) place in
+    one_other t k (λ feed. line.plain (k - start) (omega arith) (read ∙ feed)))
+    (cases_lt k start)
+  where
+    get_or-drop_more : (t : List ℕ) (i j : ℕ) → get_or (drop i t) j 0 ≡ get_or t (i + j) 0
+    get_or-drop_more t zero j = let e : j ≡ 0 + j = omega arith in ap (λ (m : ℕ). get_or t m 0) e
+    get_or-drop_more [] (suc i) j = refl
+    get_or-drop_more (b ∷ bs) (suc i) j = let e : suc (i + j) ≡ suc i + j = omega arith in get_or-drop_more bs i j ∙ ap (λ (m : ℕ). get_or (b ∷ bs) m 0) e
+
+pub none-next : (t : List ℕ) (n : ℕ) → NoneBefore t n → has_two_feeds (drop n t) ≡ false → NoneBefore t (n + 1)
+none-next t n before here k lt =
+    ⊎_elim
+    (λ early. before k early)
+    (λ late. ap (λ (m : ℕ). has_two_feeds (drop m t)) (let same : k ≡ n = omega arith in same) ∙ here)
+    (cases_lt k n)

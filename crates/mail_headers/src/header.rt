@@ -1,12 +1,11 @@
-ghost use Rattle.std.specs.Prelude.{◌≡◌, Ok};
+ghost use Rattle.std.specs.Prelude.{◌≡◌, ◌≤◌, Ok, length, drop};
 ghost use Rattle.std.specs.Option.{option_copied};
-ghost use Rattle.mail_headers.specs.Header.{body_of};
+ghost use Rattle.mail_headers.specs.Header.{has_two_feeds, body_of};
 ghost use Rattle.mail_headers.specs.Parts.{head_of};
 
 use crate::cut::{after_line, line_length};
 use crate::{Entries, FieldRef, Fields};
 use mail_text::{Memory, same_ascii};
-use memchr::memmem;
 use std::alloc::Global;
 use std::marker::Model;
 
@@ -102,12 +101,28 @@ fn split_body(text: &[u8]) -> (&[u8], Option<&[u8]>)
     ensures head { result.0.now ≡ head_of text.now }
     ensures body { option_copied result.1 ≡ body_of text.now }
 {
-    match memmem::find(text, b"\n\n") {
-        Some(at) => {
-            let (head, _) = text.split_at(at);
-            let (_, body) = text.split_at(at + 2);
-            (head, Some(body))
+    let mut start = 0;
+    while start < text.len() {
+        let (_, rest) = text.split_at(start);
+        let feed = start + line_length(rest);
+        if has_two_feeds_at(text, feed) {
+            let (head, _) = text.split_at(feed);
+            let (_, body) = text.split_at(feed + 2);
+            return (head, Some(body));
         }
-        None => (text, None),
+        start = feed + 1;
+    }
+    (text, None)
+}
+
+// Whether two line feeds stand there.
+fn has_two_feeds_at(text: &[u8], at: usize) -> bool
+    requires { at ≤ length text.now }
+    ensures { result ≡ has_two_feeds (drop at text.now) }
+{
+    let (_, rest) = text.split_at(at);
+    match rest {
+        [first, second, ..] => *first == b'\n' && *second == b'\n',
+        _ => false,
     }
 }

@@ -1,19 +1,32 @@
-use Rattle.std.proofs.Common.{ℕ, List, Some, sym, ap, ◌∙◌, arith}
-use Rattle.mail_headers.proofs.PartsLemmas.{head_of-found, head_of-missed}
+use Rattle.std.proofs.Common.{ℕ, ◌+◌, List, Some, sym, ap, ◌∙◌, arith}
+use Rattle.mail_headers.proofs.PartsLemmas.{NoneBefore, head_of-found, head_of-missed, none-in_line, none-next}
 use Rattle.mail_headers.proofs.header.split_body.Goals as goal
 
-pub returns-in-Some-clause-head : goal.returns-in-Some-clause-head
-returns-in-Some-clause-head c =
-    let found = c.in-Some.ensures in
-    c.split_at.ensures.front ∙ sym (head_of-found c.args.text.now c.in-Some.at found.1 (λ j lt. found.0.before j (omega arith) lt)).0
+pub loop-start-init : goal.loop-start-init
+loop-start-init c = λ k lt. absurd (omega arith)
 
-pub returns-in-Some-clause-body : goal.returns-in-Some-clause-body
-returns-in-Some-clause-body c =
-    let found = c.in-Some.ensures in
-    ap (λ (l : List ℕ). Some l) c.split_at-in-Some.ensures.back ∙ sym (head_of-found c.args.text.now c.in-Some.at found.1 (λ j lt. found.0.before j (omega arith) lt)).1
+pub loop-start-preserved : goal.loop-start-preserved
+loop-start-preserved c =
+    let text = c.args.text.now in
+    let none : NoneBefore text (c.loop-start.start + c.line_length.result) = none-in_line text c.split_at.result.1.now c.loop-start.start c.line_length.result c.split_at.ensures.back c.loop-start.invariant c.line_length.ensures in
+    none-next text (c.loop-start.start + c.line_length.result) none (sym c.has_two_feeds_at.ensures ∙ c.if-has_two_feeds_at.false)
 
-pub returns-in-None-clause-head : goal.returns-in-None-clause-head
-returns-in-None-clause-head c = sym (head_of-missed c.args.text.now (λ j lt. c.in-None.ensures j (omega arith) lt)).0
+pub returns-then-has_two_feeds_at-clause-head : goal.returns-then-has_two_feeds_at-clause-head
+returns-then-has_two_feeds_at-clause-head c =
+    let text = c.args.text.now in
+    let none : NoneBefore text (c.loop-start.start + c.line_length.result) = none-in_line text c.split_at.result.1.now c.loop-start.start c.line_length.result c.split_at.ensures.back c.loop-start.invariant c.line_length.ensures in
+    let found = head_of-found text (c.loop-start.start + c.line_length.result) (sym c.has_two_feeds_at.ensures ∙ c.if-has_two_feeds_at.true) none in
+    c.split_at-then-has_two_feeds_at.ensures.front ∙ sym found.0
 
-pub returns-in-None-clause-body : goal.returns-in-None-clause-body
-returns-in-None-clause-body c = sym (head_of-missed c.args.text.now (λ j lt. c.in-None.ensures j (omega arith) lt)).1
+pub returns-then-has_two_feeds_at-clause-body : goal.returns-then-has_two_feeds_at-clause-body
+returns-then-has_two_feeds_at-clause-body c =
+    let text = c.args.text.now in
+    let none : NoneBefore text (c.loop-start.start + c.line_length.result) = none-in_line text c.split_at.result.1.now c.loop-start.start c.line_length.result c.split_at.ensures.back c.loop-start.invariant c.line_length.ensures in
+    let found = head_of-found text (c.loop-start.start + c.line_length.result) (sym c.has_two_feeds_at.ensures ∙ c.if-has_two_feeds_at.true) none in
+    ap (λ (l : List ℕ). Some l) c.split_at-then-has_two_feeds_at-2.ensures.back ∙ sym found.1
+
+pub returns-clause-head : goal.returns-clause-head
+returns-clause-head c = sym (head_of-missed c.args.text.now (λ j lt. c.loop-start.invariant j (omega arith))).0
+
+pub returns-clause-body : goal.returns-clause-body
+returns-clause-body c = sym (head_of-missed c.args.text.now (λ j lt. c.loop-start.invariant j (omega arith))).1
