@@ -1,2 +1,3 @@
-pub mod LeadLemmas
+pub mod AskLemmas
 pub mod OpeningLemmas
+pub mod NameLemmas

@@ -1,60 +1,84 @@
 -- What a session does with a line.
 use Rattle.std.specs.Prelude.{◌≡◌, ℕ, List, [], ◌∷◌}
-use Rattle.std.specs.declared.option.Option.{Option}
-use Rattle.std.specs.declared.option.Option.TheVariants.{Some, None}
 use Rattle.std.specs.declared.result.Result.{Result}
 use Rattle.std.specs.declared.result.Result.TheVariants.{Ok, Err}
+use Rattle.host_port.specs.Calls.{Counts, Rose}
 use Rattle.session_play.specs.declared.stop.Stop.{Stop}
+use Rattle.session_play.specs.declared.stop.Stop.TheVariants as stop
 use Rattle.session_play.specs.Play.{Play, Ret, Ask, Say, Next, Go, Last, bind}
+use Rattle.session_play.specs.Steps.{After, On, Refused, Ended, in_order, refused, concluded}
 use Rattle.command_desk.specs.declared.desk.Desk.{Desk}
-use Rattle.command_desk.specs.declared.effects.Effects.{Effects}
-use Rattle.command_desk.specs.declared.steps.Ask as asked
+use Rattle.command_desk.specs.declared.steps.Ask as asked_of
 use Rattle.command_desk.specs.declared.steps.Ask.TheVariants as asks
 use Rattle.command_desk.specs.declared.steps.Steps.{Steps}
 use Rattle.command_desk.specs.Answers.{OrFault}
 use Rattle.command_desk.specs.Effects.{effect}
 use Rattle.read_commands.specs.Commands.{commanded}
-use Rattle.mailx_session.specs.declared.flow.End.{End}
-use Rattle.mailx_session.specs.declared.flow.End.TheVariants.{Done}
+use Rattle.mailx_session.specs.declared.asks.Asked.{Asked}
+use Rattle.mailx_session.specs.declared.asks.Asked.TheVariants as answered
+use Rattle.mailx_session.specs.declared.error.RunError.{RunError}
+use Rattle.mailx_session.specs.declared.error.RunError.TheVariants as error
 use Rattle.mailx_session.specs.declared.flow.Flow.{Flow}
 use Rattle.mailx_session.specs.declared.flow.Flow.TheVariants as flow
+use Rattle.mailx_session.specs.declared.status.Status.{Status}
+use Rattle.mailx_session.specs.declared.status.Status.TheVariants.{Done}
 
--- what is asked for, in order, up to what ends the run
-abbrev pub asked_for : List asked.Ask → Play (Option End)
-asked_for [] = Ret None
-asked_for (asks.Say bytes ∷ rest) = Ask (Say bytes) (λ _. asked_for rest)
-asked_for (asks.Exit ∷ rest) = Ret (Some Done)
+-- what is asked for, and what its answer leaves
+abbrev pub asked : Desk → asked_of.Ask → Play (After Desk Status)
+asked desk (asks.Say bytes) = Ask (Say bytes) (λ _. Ret (On desk))
+asked desk asks.Exit = Ret (Ended Done)
 
--- then the desk is changed, unless the run ends
-abbrev pub settled : Desk → Effects → Option End → Play (Next Desk End)
-settled desk effects None = Ret (Go (effect desk effects))
-settled desk effects (Some e) = Ret (Last e)
-
--- a command's steps are carried out; the line that refuses it is said, and nothing is changed
-abbrev pub carried_out : Desk → OrFault Steps → Play (Next Desk End)
-carried_out desk (Ok steps) = bind (asked_for steps.asks) (settled desk steps.effects)
-carried_out desk (Err line) = Ask (Say line) (λ _. Ret (Go desk))
+-- a command's steps are carried out, or the line that refuses it is said
+abbrev pub carried_out : Desk → OrFault Steps → Play (Next Desk Status)
+carried_out desk (Ok steps) = bind (in_order asked desk steps.asks) (concluded desk (λ d. effect d steps.effects))
+carried_out desk (Err line) = refused desk line
 
 -- what an input line does
-abbrev pub line_play : Desk → List ℕ → Play (Next Desk End)
+abbrev pub line_play : Desk → List ℕ → Play (Next Desk Status)
 line_play desk line = carried_out desk (commanded desk line)
+
+-- what the answers to a command's asks leave
+abbrev pub after_asks : Desk → Asked → After Desk Status
+after_asks desk answered.On = On desk
+after_asks desk (answered.Refused line) = Refused line
+after_asks desk (answered.Ended s) = Ended s
+
+-- the next desk, or the end
+abbrev pub next_of : Desk → Flow → Next Desk Status
+next_of desk flow.Go = Go desk
+next_of desk (flow.End s) = Last s
+
+-- the cut that an error is; a bad record is none yet, since no line answers it
+abbrev pub stop_of : RunError → Stop
+stop_of error.Output = stop.Output
+stop_of error.Disk = stop.Disk
+stop_of (error.BadRecord name) = stop.Disk
+stop_of error.Memory = stop.Memory
+
+-- a result of a play, or the cut
+abbrev pub in_play : {A B : Type 0} → (A → B) → Result A RunError → Result B Stop
+in_play to (Ok a) = Ok (to a)
+in_play to (Err e) = Err (stop_of e)
+
+-- a line is cut off by a fault of the output only where its count rose; no line uses the disk yet
+abbrev pub LineCaused : {T : Type 0} → Counts → Counts → Result T RunError → Type 0
+LineCaused old new (Err error.Output) = Rose old.outs new.outs
+LineCaused old new (Err error.Disk) = ⊥
+LineCaused old new (Err (error.BadRecord name)) = ⊥
+LineCaused old new (Err error.Memory) = Unit {0}
+LineCaused old new (Ok t) = Unit {0}
 
 -- where the run ends, the session is done
 abbrev pub EndsDone : Flow → Type 0
 EndsDone flow.Go = Unit {0}
-EndsDone (flow.End e) = e ≡ Done
-
--- the next desk, or the end
-abbrev pub next_of : Desk → Flow → Next Desk End
-next_of desk flow.Go = Go desk
-next_of desk (flow.End e) = Last e
-
--- the same, where the run isn't cut off
-abbrev pub next_desk : Desk → Result Flow Stop → Result (Next Desk End) Stop
-next_desk desk (Ok f) = Ok (next_of desk f)
-next_desk desk (Err cause) = Err cause
+EndsDone (flow.End s) = s ≡ Done
 
 -- where the run ends, the desk stays
 abbrev pub StaysAtEnd : Desk → Desk → Flow → Type 0
 StaysAtEnd old new flow.Go = Unit {0}
-StaysAtEnd old new (flow.End e) = new ≡ old
+StaysAtEnd old new (flow.End s) = new ≡ old
+
+-- where an ask ended the run, the session is done
+abbrev pub IsDoneAfter : Asked → Type 0
+IsDoneAfter (answered.Ended s) = s ≡ Done
+IsDoneAfter a = Unit {0}

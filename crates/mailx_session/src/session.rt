@@ -1,22 +1,26 @@
 // A session and its lines.
-ghost use Rattle.std.specs.Prelude.{◌≡◌, true, Ok, IfOk, IfSome, OnOk, OnErr};
+ghost use Rattle.std.specs.Prelude.{◌≡◌, true, List, ℕ, Ok, Err, IfOk, OnOk, OnErr};
 ghost use Rattle.host_port.specs.Ran.{Ran};
-ghost use Rattle.session_play.specs.Play.{Play, Ask, Ret, Say, Goes, Caused};
+ghost use Rattle.session_play.specs.Play.{Play, Goes};
+ghost use Rattle.session_play.specs.Steps.{refused, concluded};
+ghost use Rattle.command_desk.specs.declared.desk.Desk.{Desk};
+ghost use Rattle.mailx_session.specs.declared.status.Status.{Status};
 ghost use Rattle.mailx_vars.specs.Environment.{knows_user};
 ghost use Rattle.command_desk.specs.Desks.{IsDesk};
+ghost use Rattle.read_commands.specs.Commands.{commanded};
 ghost use Rattle.command_desk.specs.Effects.{effect};
-ghost use Rattle.mailx_session.specs.Sessions.{asked_for, settled, carried_out, line_play, next_of, next_desk, EndsDone, StaysAtEnd};
+ghost use Rattle.mailx_session.specs.Sessions.{carried_out, after_asks, line_play, next_of, in_play, LineCaused, IsDoneAfter, EndsDone, StaysAtEnd};
 ghost use Rattle.mailx_session.specs.Openings.{first_desk, greeting, Opens};
 
-use crate::flow::{End, Flow};
+use crate::asks::{Asked, do_asks, say};
 use crate::greeting::greeting;
 use crate::opening::{first_desk, known_page_size, marks_of, plain_view, put_folder, rows_of};
+use crate::{Flow, RunError, Status};
 use host_port::Host;
 use mail_text::{Memory, Text};
 use mailx_vars::Places;
 use mbox_scan::Folder;
-use read_commands::{Ask, Desk, Effects, Open, Refusal, Steps, perform_line};
-use session_play::{Stop, say};
+use read_commands::{Desk, Effects, Open, Refusal, Steps, perform_line};
 use std::alloc::Global;
 use std::marker::Model;
 
@@ -36,21 +40,6 @@ impl Model for Session {
     ghost view = { λ s. s.desk };
 
     ghost invariant = { λ s. IsDesk s.desk };
-}
-
-// Does what is asked for, in order, up to what ends the run.
-fn do_asks<H: Host>(host: &mut H, asks: &[Ask]) -> Result<Option<End>, Stop>
-    ensures ran { Ran H.start H.told H.counts host.old host.new (λ es. Goes (asked_for asks.now) es result) }
-    ensures done { IfOk result (λ ended. IfSome ended (λ e. e ≡ End.Done)) }
-    ensures cause { Caused (H.counts host.old) (H.counts host.new) result }
-{
-    for ask in asks {
-        match ask {
-            Ask::Say(bytes) => say(host, bytes.bytes())?,
-            Ask::Exit => return Ok(Some(End::Done)),
-        }
-    }
-    Ok(None)
 }
 
 impl Session {
@@ -105,57 +94,84 @@ impl Session {
     }
 
     // Carries out a command's steps.
-    fn carry_out<H: Host>(&mut self, host: &mut H, steps: Steps) -> Result<Flow, Stop>
+    fn carry_out<H: Host>(&mut self, host: &mut H, steps: Steps) -> Result<Flow, RunError>
         requires { IsDesk (effect self.old steps.effects) }
-        ensures ran { Ran H.start H.told H.counts host.old host.new (λ es. Goes (carried_out self.old (Ok steps)) es (next_desk self.new result)) }
+        ensures ran { Ran H.start H.told H.counts host.old host.new
+            (λ es. Goes (carried_out self.old (Ok steps)) es (in_play (next_of self.new) result)) }
         ensures done { IfOk result EndsDone }
         ensures end { IfOk result (StaysAtEnd self.old self.new) }
         ensures err { OnErr result (self.new ≡ self.old) }
-        ensures cause { Caused (H.counts host.old) (H.counts host.new) result }
+        ensures cause { LineCaused (H.counts host.old) (H.counts host.new) result }
     {
         let Steps { asks, effects } = steps;
-        let ended = do_asks(host, asks.items())?;
-        Ok(self.finish(effects, ended))
+        let asked = do_asks(host, asks.items())?;
+        self.finish(host, effects, asked)
     }
 
-    // Makes the changes of a command, unless the run ends.
-    fn finish(&mut self, effects: Effects, ended: Option<End>) -> Flow
-        requires { IsDesk (effect self.old effects) }
-        ensures settled { settled self.old effects ended ≡ Ret (next_of self.new result) }
-        ensures done { IfSome ended (λ e. e ≡ End.Done) → EndsDone result }
-        ensures end { StaysAtEnd self.old self.new result }
+    // Makes the changes of a command, unless an answer refused it or the run ends.
+    fn finish<H: Host>(
+        &mut self,
+        host: &mut H,
+        effects: Effects,
+        asked: Asked,
+    ) -> Result<Flow, RunError>
+        requires desk { IsDesk (effect self.old effects) }
+        requires done { IsDoneAfter asked }
+        ensures ran { Ran H.start H.told H.counts host.old host.new
+            (λ es. Goes (concluded self.old (λ d. effect d effects) (after_asks self.old asked)) es
+            (in_play (next_of self.new) result)) }
+        ensures done { IfOk result EndsDone }
+        ensures end { IfOk result (StaysAtEnd self.old self.new) }
+        ensures err { OnErr result (self.new ≡ self.old) }
+        ensures cause { LineCaused (H.counts host.old) (H.counts host.new) result }
     {
-        match ended {
-            Some(end) => Flow::End(end),
-            None => {
+        match asked {
+            Asked::On => {
                 self.desk.settle(effects);
-                Flow::Go
+                Ok(Flow::Go)
             }
+            Asked::Refused { line } => self.refuse(host, &line),
+            Asked::Ended(status) => Ok(Flow::End(status)),
         }
     }
 
-    /// Takes one input line, without its line feed. The desk changes only where the run goes on.
-    pub fn step<H: Host>(&mut self, line: &[u8], host: &mut H) -> Result<Flow, Stop>
-        ensures ran { Ran H.start H.told H.counts host.old host.new (λ es. Goes (line_play self.old line.now) es (next_desk self.new result)) }
+    // Says the line that refuses a command.
+    fn refuse<H: Host>(&self, host: &mut H, line: &Text) -> Result<Flow, RunError>
+        ensures ran { Ran H.start H.told H.counts host.old host.new
+            (λ es. Goes (refused self.now line.now) es (in_play (next_of self.now) result)) }
+        ensures go { IfOk result (λ flow. flow ≡ Flow.Go) }
+        ensures cause { LineCaused (H.counts host.old) (H.counts host.new) result }
+    {
+        match say(host, line.bytes()) {
+            Ok(()) => Ok(Flow::Go),
+            Err(error) => Err(error),
+        }
+    }
+
+    /// Takes one input line, without its line feed. The desk changes only where the run goes on, and not where the line
+    /// is refused.
+    pub fn step<H: Host>(&mut self, line: &[u8], host: &mut H) -> Result<Flow, RunError>
+        ensures ran { Ran H.start H.told H.counts host.old host.new
+            (λ es. Goes (line_play self.old line.now) es (in_play (next_of self.new) result)) }
+        ensures refused { (fault : List ℕ) → commanded self.old line.now ≡ Err fault → self.new ≡ self.old }
+        ensures goes_on { (fault : List ℕ) → commanded self.old line.now ≡ Err fault
+            → IfOk result (λ flow. flow ≡ Flow.Go) }
         ensures done { IfOk result EndsDone }
         ensures end { IfOk result (StaysAtEnd self.old self.new) }
         ensures err { OnErr result (self.new ≡ self.old) }
-        ensures cause { Caused (H.counts host.old) (H.counts host.new) result }
+        ensures cause { LineCaused (H.counts host.old) (H.counts host.new) result }
     {
         match perform_line(self.alloc, line, &self.desk) {
             Ok(steps) => self.carry_out(host, steps),
-            Err(Refusal::Fault { line }) => {
-                say(host, line.bytes())?;
-                Ok(Flow::Go)
-            }
-            Err(Refusal::Memory) => Err(Stop::Memory),
+            Err(Refusal::Fault { line: fault }) => self.refuse(host, &fault),
+            Err(Refusal::Memory) => Err(RunError::Memory),
         }
     }
 
     /// The end of input, which ends the run as `exit` does.
-    pub fn end(&self) -> End
-        ensures { result ≡ End.Done }
+    pub fn end(&self) -> Status
+        ensures { result ≡ Status.Done }
     {
-        End::Done
+        Status::Done
     }
 }

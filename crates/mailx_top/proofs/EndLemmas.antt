@@ -1,5 +1,5 @@
--- The last line of a run that was cut off.
-use Rattle.std.proofs.Common.{◌≡◌, ℕ, Bool, true, false, List, [], ◌∷◌, refl, sym, ap, subst, inl, inr, take}
+-- How a run ends, and the last line of one that was cut off.
+use Rattle.std.proofs.Common.{◌≡◌, ℕ, Bool, true, false, List, [], ◌∷◌, refl, sym, ◌∙◌, ap, subst, inl, inr, take}
 use Rattle.std.specs.declared.result.Result.{Result}
 use Rattle.std.specs.declared.result.Result.TheVariants.{Ok, Err}
 use Rattle.host_port.specs.declared.event.Event.{Event}
@@ -9,6 +9,23 @@ use Rattle.host_port.specs.Disk.{Disk}
 use Rattle.host_port.specs.Calls.{Said}
 use Rattle.host_port.specs.Ran.{Agrees}
 use Rattle.host_port.specs.Own.{own, OnlyLooks}
+use Rattle.host_port.specs.Calls.{Counts}
+use Rattle.session_play.specs.declared.stop.Stop.{Stop}
+use Rattle.session_play.specs.declared.stop.Stop.TheVariants as stop
+use Rattle.session_play.specs.Play.{Caused}
+use Rattle.mailx_session.specs.declared.error.RunError.{RunError}
+use Rattle.mailx_session.specs.declared.error.RunError.TheVariants as error
+use Rattle.mailx_session.specs.declared.flow.Flow.{Flow}
+use Rattle.mailx_session.specs.declared.status.Status.{Status}
+use Rattle.mailx_session.specs.declared.status.Status.TheVariants as status
+use Rattle.mailx_session.specs.Sessions.{LineCaused, stop_of}
+use Rattle.mailx_session.specs.Statuses.{IsEnd}
+use Rattle.std.specs.declared.option.Option.{Option}
+use Rattle.std.specs.declared.option.Option.TheVariants.{Some, None}
+use Rattle.mailx_top.specs.Openings.{IsBadName}
+use Rattle.mailx_top.specs.Statuses.{status_at_stop}
+use Rattle.mailx_top.specs.Usage.{IsSayCut, EndsAsNamed, IsOrCut}
+use Rattle.mailx_top.specs.Words.{Start}
 use Rattle.mailx_top.specs.Runs.{AsFar, SaysLast}
 
 pub said-far : (r : Result Unit OutFault) (bytes line : List ℕ) → bytes ≡ line → (d : Disk) (e : Event) → Said r bytes d e → Agrees d e × AsFar line (own (e ∷ []))
@@ -28,3 +45,71 @@ pub last-looks : (read : Bool) (bytes : List ℕ) (es : List Event) → SaysLast
 last-looks false bytes es is = subst OnlyLooks (sym is) tt
 last-looks true bytes es (inl is) = subst OnlyLooks (sym is) (refl, tt)
 last-looks true bytes es (inr cut) = subst OnlyLooks (sym cut.1) (refl, tt)
+
+-- a line's error has the cause of its cut
+pub caused-line : (old new : Counts) (e : RunError) → LineCaused {T = Flow} old new (Err e) → Caused {T = Option Status} old new (Err (stop_of e))
+caused-line old new error.Output rose = rose
+caused-line old new error.Disk never = absurd never
+caused-line old new (error.BadRecord name) never = absurd never
+caused-line old new error.Memory c = tt
+
+-- the status of a fault
+abbrev pub IsFault : Status → Type 0
+IsFault status.InputFault = Unit {0}
+IsFault status.OutputFault = Unit {0}
+IsFault status.DiskFault = Unit {0}
+IsFault s = ⊥
+
+-- a run that isn't cut off ends with no fault
+pub end-no-fault : {A : Type 0} (start : Option Start) (s f : Status) → EndsAsNamed start (Ok s) → IsFault f → s ≡ f → A
+end-no-fault None s f named fault is = absurd (subst IsFault (sym is ∙ named) fault)
+end-no-fault {A = A} (Some start) s f named fault is = go f (subst IsEnd is named.0) fault
+  where
+    go : (f : Status) → IsEnd f → IsFault f → A
+    go status.Done e never = absurd never
+    go status.Refused e never = absurd never
+    go status.NoFolder e never = absurd never
+    go status.Usage never f = absurd never
+    go status.InputFault never f = absurd never
+    go status.OutputFault never f = absurd never
+    go status.DiskFault never f = absurd never
+    go status.Memory never f = absurd never
+    go status.InputLimit never f = absurd never
+
+pub only-usage : (start : Option Start) (s : Status) → EndsAsNamed start (Ok s) → s ≡ status.Usage → start ≡ None
+only-usage None s named is = refl
+only-usage (Some start) s named is = absurd (subst IsEnd is named.0)
+
+or-same : (wanted s : Status) → s ≡ wanted → IsOrCut wanted s
+or-same wanted status.Done is = is
+or-same wanted status.Usage is = is
+or-same wanted status.InputFault is = is
+or-same wanted status.OutputFault is = tt
+or-same wanted status.DiskFault is = is
+or-same wanted status.Refused is = is
+or-same wanted status.Memory is = tt
+or-same wanted status.InputLimit is = is
+or-same wanted status.NoFolder is = is
+
+or-cut : (wanted : Status) (cause : Stop) → IsSayCut cause → IsOrCut wanted (status_at_stop cause)
+or-cut wanted stop.Output c = tt
+or-cut wanted stop.Memory c = tt
+or-cut wanted stop.Input never = absurd never
+or-cut wanted stop.Disk never = absurd never
+or-cut wanted stop.TooMuch never = absurd never
+
+pub usage-ended : (start : Option Start) (s : Status) → EndsAsNamed start (Ok s) → start ≡ None → IsOrCut status.Usage s
+usage-ended None s named none = or-same status.Usage s named
+usage-ended (Some start) s named none = absurd (cc none)
+
+pub usage-cut : (start : Option Start) (cause : Stop) → EndsAsNamed start (Err cause) → start ≡ None → IsOrCut status.Usage (status_at_stop cause)
+usage-cut None cause named none = or-cut status.Usage cause named
+usage-cut (Some start) cause named none = absurd (cc none)
+
+pub bad-ended : (start : Option Start) (s : Status) → EndsAsNamed start (Ok s) → IsBadName start → IsOrCut status.NoFolder s
+bad-ended None s named never = absurd never
+bad-ended (Some start) s named bad = or-same status.NoFolder s (named.1 bad)
+
+pub bad-cut : (start : Option Start) (cause : Stop) → EndsAsNamed start (Err cause) → IsBadName start → IsOrCut status.NoFolder (status_at_stop cause)
+bad-cut None cause named never = absurd never
+bad-cut (Some start) cause named bad = or-cut status.NoFolder cause (named.1 bad)

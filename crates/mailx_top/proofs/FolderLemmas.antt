@@ -11,13 +11,13 @@ use Rattle.mbox_scan.specs.declared.error.ScanError.{ScanError}
 use Rattle.mbox_scan.specs.declared.error.ScanError.TheVariants as scan
 use Rattle.mbox_scan.specs.Mailbox.{list_of, is_mailbox, texts_of, starts, pieces}
 use Rattle.mail_text.specs.Lines.{with_feed}
-use Rattle.mailx_session.specs.declared.flow.End.TheVariants as ending
+use Rattle.mailx_session.specs.declared.status.Status.TheVariants as status
 use Rattle.mailx_top.specs.Words.{Start}
 use Rattle.host_port.specs.declared.event.Event.{Event}
 use Rattle.session_play.specs.declared.stop.Stop.{Stop}
 use Rattle.session_play.specs.Play.{Goes, Next}
 use Rattle.command_desk.specs.declared.desk.Desk.{Desk}
-use Rattle.mailx_session.specs.declared.flow.End.{End}
+use Rattle.mailx_session.specs.declared.status.Status.{Status}
 use Rattle.mailx_session.specs.Openings.{Opens}
 use Rattle.mailx_top.specs.Meaning.{State, starting, loaded, with_list, begun, greeted, says_and_ends, message_limit}
 use Rattle.std.specs.Prelude.{◌++◌, codes, Bool, false}
@@ -42,7 +42,7 @@ unfolding list_of
 listed b some = ⊎_elim (λ t. cond-true _ _ _ t) (λ f. absurd (some (cond-false _ _ _ f))) (cases_Bool (is_mailbox b))
 
 -- a session that was opened goes as it is greeted
-pub begun-goes : (old : Desk) (start : Start) (bytes : List ℕ) (desk : Desk) (out : Result (Next State End) Stop) → Opens old start.file bytes desk → (es : List Event) → Goes (greeted start.quiet desk) es out
+pub begun-goes : (old : Desk) (start : Start) (bytes : List ℕ) (desk : Desk) (out : Result (Next State Status) Stop) → Opens old start.file bytes desk → (es : List Event) → Goes (greeted start.quiet desk) es out
     → Goes (begun old start bytes (texts_of bytes)) es out
 begun-goes old start bytes desk out (rows, are, is) es went =
     let G : Desk → Type 0 = λ d. Goes (greeted start.quiet d) es out in
@@ -51,24 +51,24 @@ begun-goes old start bytes desk out (rows, are, is) es went =
 abbrev pub failed : ScanError → Result Folder ScanError
 failed e = Err e
 
-pub with-no-list : (desk : Desk) (start : Start) (b : List ℕ) (l : Option (List (List ℕ))) → l ≡ None → with_list desk start b l ≡ says_and_ends (with_feed (start.file ++ codes ": not a mailbox")) ending.NoFolder
+pub with-no-list : (desk : Desk) (start : Start) (b : List ℕ) (l : Option (List (List ℕ))) → l ≡ None → with_list desk start b l ≡ says_and_ends (with_feed (start.file ++ codes ": not a mailbox")) status.NoFolder
 with-no-list desk start b l is = ap (with_list desk start b) is
 
-pub with-held : (desk : Desk) (start : Start) (f : Found) (b : Option Text) (h : Bool) → f ≡ found.Bytes b h → h ≡ true → loaded desk start f ≡ says_and_ends (with_feed (start.file ++ codes ": busy")) ending.Refused
+pub with-held : (desk : Desk) (start : Start) (f : Found) (b : Option Text) (h : Bool) → f ≡ found.Bytes b h → h ≡ true → loaded desk start f ≡ says_and_ends (with_feed (start.file ++ codes ": busy")) status.Refused
 with-held desk start f b h is held = ap (loaded desk start) (is ∙ ap (λ h. found.Bytes b h) held)
 
-pub with-none : (desk : Desk) (start : Start) (f : Found) (b : Option Text) (h : Bool) → f ≡ found.Bytes b h → b ≡ None → h ≡ false → loaded desk start f ≡ says_and_ends (with_feed (start.file ++ codes ": no such file")) ending.NoFolder
+pub with-none : (desk : Desk) (start : Start) (f : Found) (b : Option Text) (h : Bool) → f ≡ found.Bytes b h → b ≡ None → h ≡ false → loaded desk start f ≡ says_and_ends (with_feed (start.file ++ codes ": no such file")) status.NoFolder
 with-none desk start f b h is none free = ap (loaded desk start) (is ∙ (ap (λ b. found.Bytes b h) none ∙ ap (λ h. found.Bytes None h) free))
 
-pub with-large : (desk : Desk) (start : Start) (f : Found) (n : ℕ) → f ≡ found.TooLarge n → loaded desk start f ≡ says_and_ends (with_feed (start.file ++ codes ": too large")) ending.NoFolder
+pub with-large : (desk : Desk) (start : Start) (f : Found) (n : ℕ) → f ≡ found.TooLarge n → loaded desk start f ≡ says_and_ends (with_feed (start.file ++ codes ": too large")) status.NoFolder
 with-large desk start f n is = ap (loaded desk start) is
 
-pub with-bad-name : (desk : Desk) (start : Start) → is_short_name start.file ≡ false → starting desk start ≡ says_and_ends (with_feed (start.file ++ codes ": bad name")) ending.NoFolder
+pub with-bad-name : (desk : Desk) (start : Start) → is_short_name start.file ≡ false → starting desk start ≡ says_and_ends (with_feed (start.file ++ codes ": bad name")) status.NoFolder
 with-bad-name desk start bad = cond-false _ _ _ bad
 
 -- what is done where more messages start than a folder may have
 pub with-too-many : (desk : Desk) (start : Start) (b : List ℕ) (count : ℕ) (e : ScanError) → e ≡ scan.TooMany count → (list_of b ≡ None → failed e ≡ failed scan.NotAMailbox) → count ≡ length (starts b) → 1000000 < count
-    → with_list desk start b (list_of b) ≡ says_and_ends (with_feed (start.file ++ codes ": too many messages")) ending.NoFolder
+    → with_list desk start b (list_of b) ≡ says_and_ends (with_feed (start.file ++ codes ": too many messages")) status.NoFolder
 with-too-many desk start b count e found some is many =
     let long : nat_lt message_limit (length (texts_of b)) ≡ true = lt-ltb _ _ (let e = length-texts b in omega arith) in
     ap (with_list desk start b) (listed b (λ none. other (ap failed (sym found) ∙ some none))) ∙ cond-true _ _ _ long

@@ -1,7 +1,6 @@
-pub mod ShapeLemmas
+pub mod OrderLemmas
 pub mod LineLemmas
 pub mod EndLemmas
 pub mod FolderLemmas
-pub mod NameLemmas
 pub mod RoundLemmas
 pub mod OpeningLemmas

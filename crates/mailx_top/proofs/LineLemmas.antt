@@ -1,76 +1,96 @@
--- A line of a session takes no input and loads nothing, and where it ends the run the session is done.
-use Rattle.std.proofs.Common.{◌≡◌, ℕ, List, [], ◌∷◌, refl}
-use Rattle.std.specs.declared.option.Option.{Option}
-use Rattle.std.specs.declared.option.Option.TheVariants.{Some, None}
+-- A line of a session takes no input, and its acts and ends pass what its asks pass.
+use Rattle.std.proofs.Common.{◌≡◌, ℕ, Bool, true, List, [], ◌∷◌, refl, subst}
 use Rattle.std.specs.declared.result.Result.TheVariants.{Ok, Err}
 use Rattle.session_play.specs.Input.{Input}
+use Rattle.session_play.specs.Acts.{AllActs, AllEnds, Threads, loads_nothing}
 use Rattle.session_play.specs.Play.{Next, Go, Last}
-use Rattle.session_play.specs.Causes.{Threads}
+use Rattle.session_play.specs.Steps.{After, On, Refused, Ended, onward, in_order, concluded}
+use Rattle.session_play.proofs.ShapeLemmas.{bind-acts, bind-ends, bind-threads}
+use Rattle.mailx_top.proofs.OrderLemmas.{Keeps, order-acts, order-ends, order-threads}
 use Rattle.command_desk.specs.declared.desk.Desk.{Desk}
 use Rattle.command_desk.specs.declared.effects.Effects.{Effects}
-use Rattle.command_desk.specs.declared.steps.Ask as asked
+use Rattle.command_desk.specs.declared.steps.Ask as asked_of
 use Rattle.command_desk.specs.declared.steps.Ask.TheVariants as asks
 use Rattle.command_desk.specs.declared.steps.Steps.{Steps}
 use Rattle.command_desk.specs.Answers.{OrFault}
 use Rattle.read_commands.specs.Commands.{commanded}
-use Rattle.mailx_session.specs.declared.flow.End.{End}
-use Rattle.mailx_session.specs.declared.flow.End.TheVariants.{Done}
-use Rattle.mailx_session.specs.Sessions.{asked_for, settled, carried_out, line_play}
-use Rattle.mailx_top.proofs.ShapeLemmas.{Loadless, Ends, bind-loadless, bind-ends, bind-threads}
+use Rattle.command_desk.specs.Effects.{effect}
+use Rattle.mailx_session.specs.declared.status.Status.{Status}
+use Rattle.mailx_session.specs.declared.status.Status.TheVariants.{Done}
+use Rattle.mailx_session.specs.Sessions.{asked, carried_out, line_play}
 
--- the end, if there is one, is that of a session
-abbrev IsDone : Option End → Type 0
-IsDone None = Unit {0}
-IsDone (Some e) = e ≡ Done
+abbrev pub After-line : Type 0
+After-line = After Desk Status
 
-abbrev pub EndsDone : Next Desk End → Type 0
+-- where an ask ends the run, the session is done
+abbrev IsDone : After-line → Type 0
+IsDone (On desk) = Unit {0}
+IsDone (Refused line) = Unit {0}
+IsDone (Ended s) = s ≡ Done
+
+abbrev pub EndsDone : Next Desk Status → Type 0
 EndsDone (Go desk) = Unit {0}
-EndsDone (Last e) = e ≡ Done
+EndsDone (Last s) = s ≡ Done
 
-asked-loadless : (l : List asked.Ask) → Loadless (asked_for l)
-asked-loadless [] = tt
-asked-loadless (asks.Say bytes ∷ rest) = λ u. asked-loadless rest
-asked-loadless (asks.Exit ∷ rest) = tt
+-- one ask
+ask-acts : (desk : Desk) (ask : asked_of.Ask) → AllActs loads_nothing (asked desk ask)
+ask-acts desk (asks.Say bytes) = (refl, λ u. tt)
+ask-acts desk asks.Exit = tt
 
-asked-ends : (l : List asked.Ask) → Ends IsDone (asked_for l)
-asked-ends [] = tt
-asked-ends (asks.Say bytes ∷ rest) = λ u. asked-ends rest
-asked-ends (asks.Exit ∷ rest) = refl
+ask-ends : (desk : Desk) (ask : asked_of.Ask) → AllEnds IsDone (asked desk ask)
+ask-ends desk (asks.Say bytes) = λ u. tt
+ask-ends desk asks.Exit = refl
 
-asked-threads : (l : List asked.Ask) (i : Input) → Threads (λ o j. j ≡ i) i (asked_for l)
-asked-threads [] i = refl
-asked-threads (asks.Say bytes ∷ rest) i = λ u. asked-threads rest i
-asked-threads (asks.Exit ∷ rest) i = refl
+ask-threads : (desk : Desk) (ask : asked_of.Ask) (i : Input) → Threads (Keeps i) i (asked desk ask)
+ask-threads desk (asks.Say bytes) i = (tt, λ u. refl)
+ask-threads desk asks.Exit i = refl
 
-settled-loadless : (desk : Desk) (effects : Effects) (o : Option End) → Loadless (settled desk effects o)
-settled-loadless desk effects None = tt
-settled-loadless desk effects (Some e) = tt
+-- asks in order
+asks-acts : (desk : Desk) (l : List asked_of.Ask) → AllActs loads_nothing (in_order asked desk l)
+asks-acts desk l = order-acts loads_nothing asked ask-acts desk l
 
-settled-ends : (desk : Desk) (effects : Effects) (o : Option End) → IsDone o → Ends EndsDone (settled desk effects o)
-settled-ends desk effects None done = tt
-settled-ends desk effects (Some e) done = done
+asks-ends : (desk : Desk) (l : List asked_of.Ask) → AllEnds IsDone (in_order asked desk l)
+asks-ends desk l = order-ends IsDone asked (λ t. tt) ask-ends desk l
 
-settled-threads : (desk : Desk) (effects : Effects) (i : Input) (o : Option End) (j : Input) → j ≡ i → Threads (λ n j. j ≡ i) j (settled desk effects o)
-settled-threads desk effects i None j same = same
-settled-threads desk effects i (Some e) j same = same
+asks-threads : (desk : Desk) (l : List asked_of.Ask) (i : Input) → Threads (Keeps i) i (in_order asked desk l)
+asks-threads desk l i = order-threads asked ask-threads desk l i
 
-carried-loadless : (desk : Desk) (m : OrFault Steps) → Loadless (carried_out desk m)
-carried-loadless desk (Ok steps) = bind-loadless (asked_for steps.asks) (settled desk steps.effects) (asked-loadless steps.asks) (settled-loadless desk steps.effects)
-carried-loadless desk (Err line) = λ u. tt
+abbrev changed : Effects → Desk → Desk
+changed effects desk = effect desk effects
 
-carried-ends : (desk : Desk) (m : OrFault Steps) → Ends EndsDone (carried_out desk m)
-carried-ends desk (Ok steps) = bind-ends IsDone EndsDone (asked_for steps.asks) (settled desk steps.effects) (asked-ends steps.asks) (settled-ends desk steps.effects)
+finished-acts : (desk : Desk) (effects : Effects) (a : After-line) → AllActs loads_nothing (concluded desk (changed effects) a)
+finished-acts desk effects (On t) = tt
+finished-acts desk effects (Refused line) = (refl, λ u. tt)
+finished-acts desk effects (Ended s) = tt
+
+finished-ends : (desk : Desk) (effects : Effects) (a : After-line) → IsDone a → AllEnds EndsDone (concluded desk (changed effects) a)
+finished-ends desk effects (On t) d = tt
+finished-ends desk effects (Refused line) d = λ u. tt
+finished-ends desk effects (Ended s) d = d
+
+finished-threads : (desk : Desk) (effects : Effects) (i : Input) (a : After-line) (j : Input) → j ≡ i → Threads (λ n j. j ≡ i) j (concluded desk (changed effects) a)
+finished-threads desk effects i (On t) j same = same
+finished-threads desk effects i (Refused line) j same = (tt, λ u. same)
+finished-threads desk effects i (Ended s) j same = same
+
+carried-acts : (desk : Desk) (m : OrFault Steps) → AllActs loads_nothing (carried_out desk m)
+carried-acts desk (Ok steps) = bind-acts loads_nothing (in_order asked desk steps.asks) (concluded desk (changed steps.effects)) (asks-acts desk steps.asks) (finished-acts desk steps.effects)
+carried-acts desk (Err line) = (refl, λ u. tt)
+
+carried-ends : (desk : Desk) (m : OrFault Steps) → AllEnds EndsDone (carried_out desk m)
+carried-ends desk (Ok steps) = bind-ends IsDone EndsDone (in_order asked desk steps.asks) (concluded desk (changed steps.effects)) (asks-ends desk steps.asks) (finished-ends desk steps.effects)
 carried-ends desk (Err line) = λ u. tt
 
 carried-threads : (desk : Desk) (i : Input) (m : OrFault Steps) → Threads (λ n j. j ≡ i) i (carried_out desk m)
 carried-threads desk i (Ok steps) =
-    bind-threads (λ (o : Option End) (j : Input). j ≡ i) (λ (n : Next Desk End) (j : Input). j ≡ i) (asked_for steps.asks) (settled desk steps.effects) i (asked-threads steps.asks i) (settled-threads desk steps.effects i)
-carried-threads desk i (Err line) = λ u. refl
+    bind-threads (λ (a : After-line) (j : Input). j ≡ i) (λ (n : Next Desk Status) (j : Input). j ≡ i) (in_order asked desk steps.asks)
+    (concluded desk (changed steps.effects)) i (asks-threads desk steps.asks i) (finished-threads desk steps.effects i)
+carried-threads desk i (Err line) = (tt, λ u. refl)
 
-pub line-loadless : (desk : Desk) (line : List ℕ) → Loadless (line_play desk line)
-line-loadless desk line = carried-loadless desk (commanded desk line)
+pub line-acts : (desk : Desk) (line : List ℕ) → AllActs loads_nothing (line_play desk line)
+line-acts desk line = carried-acts desk (commanded desk line)
 
-pub line-ends : (desk : Desk) (line : List ℕ) → Ends EndsDone (line_play desk line)
+pub line-ends : (desk : Desk) (line : List ℕ) → AllEnds EndsDone (line_play desk line)
 line-ends desk line = carried-ends desk (commanded desk line)
 
 pub line-threads : (desk : Desk) (line : List ℕ) (i : Input) → Threads (λ n j. j ≡ i) i (line_play desk line)

@@ -1,4 +1,4 @@
--- Why a run opened no folder, read off its own events.
+-- Why a run opened no folder, read off the own events of its opening.
 use Rattle.std.specs.Prelude.{◌≡◌, ◌⊎◌, ◌||◌, nat_lt, ℕ, Bool, true, false, List, [], ◌∷◌, length}
 use Rattle.std.specs.declared.option.Option.{Option}
 use Rattle.std.specs.declared.option.Option.TheVariants.{Some, None}
@@ -10,9 +10,10 @@ use Rattle.host_port.specs.declared.event.Seen.{Seen}
 use Rattle.host_port.specs.declared.event.Seen.TheVariants as seen
 use Rattle.mbox_scan.specs.Mailbox.{list_of}
 use Rattle.session_play.specs.declared.stop.Stop.{Stop}
+use Rattle.session_play.specs.Causes.{some_load_saw}
 use Rattle.mailx_vars.specs.Names.{is_short_name}
-use Rattle.mailx_session.specs.declared.flow.End.{End}
-use Rattle.mailx_session.specs.declared.flow.End.TheVariants as ending
+use Rattle.mailx_session.specs.declared.status.Status.{Status}
+use Rattle.mailx_session.specs.declared.status.Status.TheVariants as status
 use Rattle.mailx_top.specs.Words.{Start}
 use Rattle.mailx_top.specs.Meaning.{message_limit}
 
@@ -34,12 +35,6 @@ saw_no_folder (seen.Bytes (Some bytes) false) = is_no_list (list_of bytes)
 saw_no_folder (seen.TooLarge n) = true
 saw_no_folder s = false
 
--- some load saw such a thing
-abbrev pub some_load_saw : (Seen → Bool) → List Event → Bool
-some_load_saw test [] = false
-some_load_saw test (event.Load name s ∷ es) = test s || some_load_saw test es
-some_load_saw test (e ∷ es) = some_load_saw test es
-
 -- the file is named so that it can't be one
 abbrev pub IsBadName : Option Start → Type 0
 IsBadName None = ⊥
@@ -50,13 +45,14 @@ abbrev pub OpensNone : Option Start → List Event → Type 0
 OpensNone start es = IsBadName start ⊎ (some_load_saw saw_no_folder es ≡ true)
 
 -- the run came to this end, or was cut off
-abbrev pub EndsOrIsCut : End → Result End Stop → Type 0
+abbrev pub EndsOrIsCut : Status → Result Status Stop → Type 0
 EndsOrIsCut e (Ok r) = r ≡ e
 EndsOrIsCut e (Err cause) = Unit {0}
 
--- A run is refused exactly where a load saw the folder held, and has no folder exactly where there is none to open, unless it is cut off.
-pub record IsOpeningExplained (start : Option Start) (out : Result End Stop) (es : List Event) : Type 0 where
-  pub refused_only : out ≡ Ok ending.Refused → some_load_saw saw_held es ≡ true
-  pub refused_always : some_load_saw saw_held es ≡ true → EndsOrIsCut ending.Refused out
-  pub no_folder_only : out ≡ Ok ending.NoFolder → OpensNone start es
-  pub no_folder_always : OpensNone start es → EndsOrIsCut ending.NoFolder out
+-- A run is refused exactly where the load of its opening saw the folder held, and has no folder exactly where there is
+-- none to open, unless it is cut off. `es` are the own events of the opening.
+pub record IsOpeningExplained (start : Option Start) (out : Result Status Stop) (es : List Event) : Type 0 where
+  pub refused_only : out ≡ Ok status.Refused → some_load_saw saw_held es ≡ true
+  pub refused_always : some_load_saw saw_held es ≡ true → EndsOrIsCut status.Refused out
+  pub no_folder_only : out ≡ Ok status.NoFolder → OpensNone start es
+  pub no_folder_always : OpensNone start es → EndsOrIsCut status.NoFolder out

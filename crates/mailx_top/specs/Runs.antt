@@ -6,14 +6,13 @@ use Rattle.host_port.specs.declared.event.Event.{Event}
 use Rattle.host_port.specs.declared.event.Event.TheVariants as event
 use Rattle.session_play.specs.declared.stop.Stop.{Stop}
 use Rattle.session_play.specs.Play.{Whole}
-use Rattle.session_play.specs.Causes.{IsExplained}
-use Rattle.mailx_session.specs.declared.flow.End.{End}
+use Rattle.session_play.specs.Causes.{IsExplained, events_at}
+use Rattle.mailx_session.specs.declared.status.Status.{Status}
 use Rattle.mailx_top.specs.declared.environment.Environment.{Environment}
-use Rattle.mailx_top.specs.declared.status.Status.{Status}
-use Rattle.mailx_top.specs.Meaning.{Opening, round}
+use Rattle.mailx_top.specs.Meaning.{Opening, round, is_opening}
 use Rattle.mailx_top.specs.Openings.{IsOpeningExplained}
 use Rattle.mailx_top.specs.Words.{are_read, start_of}
-use Rattle.mailx_top.specs.Statuses.{status_at_end, status_at_stop, line_at_stop}
+use Rattle.mailx_top.specs.Statuses.{status_at_stop, line_at_stop}
 
 -- bytes are said by one Out, as far as they went
 abbrev pub AsFar : List ℕ → List Event → Type 0
@@ -25,12 +24,13 @@ SaysLast true bytes es = AsFar bytes es
 SaysLast false bytes es = es ≡ []
 
 -- an end adds nothing; at a cut its line is said, where the words were read
-abbrev pub Ending : Bool → Status → Result End Stop → List Event → Type 0
-Ending read s (Ok e) es = (es ≡ []) × (s ≡ status_at_end e)
+abbrev pub Ending : Bool → Status → Result Status Stop → List Event → Type 0
+Ending read s (Ok e) es = (es ≡ []) × (s ≡ e)
 Ending read s (Err cause) es = (s ≡ status_at_stop cause) × SaysLast read (line_at_stop cause) es
 
--- The own events of a run with these words in this environment, which ends with this status: those of its meaning, with each cut explained.
+-- The own events of a run with these words in this environment, which ends with this status: those of its meaning, with
+-- each cut explained. A load counts as one of the folder where its round opens the folder.
 pub record IsRun (words : List (List ℕ)) (env : Environment) (s : Status) (es : List Event) : Type 0 where
   pub whole : Whole (round env) (Opening (start_of words env.pairs)) (Ending (are_read words) s) es
-  pub explained : IsExplained whole.out whole.front
-  pub opening : IsOpeningExplained (start_of words env.pairs) whole.out whole.front
+  pub explained : IsExplained whole.out whole.front (events_at is_opening whole.plays)
+  pub opening : IsOpeningExplained (start_of words env.pairs) whole.out (events_at is_opening whole.plays)

@@ -1,38 +1,42 @@
--- When the words of the command line and the environment are refused, whatever the host tells.
-use Rattle.std.specs.Prelude.{◌≡◌}
+-- How a run ends where its words, its environment or its folder's name are refused, whatever the host tells.
+use Rattle.std.specs.Prelude.{◌≡◌, false, IfOk}
 use Rattle.std.specs.declared.option.Option.{Option}
 use Rattle.std.specs.declared.option.Option.TheVariants.{Some, None}
 use Rattle.std.specs.declared.result.Result.{Result}
 use Rattle.std.specs.declared.result.Result.TheVariants.{Ok, Err}
 use Rattle.session_play.specs.declared.stop.Stop.{Stop}
 use Rattle.session_play.specs.declared.stop.Stop.TheVariants as stop
-use Rattle.mailx_session.specs.declared.flow.End.{End}
-use Rattle.mailx_session.specs.declared.flow.End.TheVariants as ending
+use Rattle.mailx_vars.specs.Names.{is_short_name}
+use Rattle.mailx_session.specs.declared.status.Status.{Status}
+use Rattle.mailx_session.specs.declared.status.Status.TheVariants as status
+use Rattle.mailx_session.specs.Statuses.{IsEnd}
 use Rattle.mailx_top.specs.Words.{Start}
-use Rattle.mailx_top.specs.declared.status.Status.{Status}
-use Rattle.mailx_top.specs.declared.status.Status.TheVariants as status
 
--- an end that isn't the one of refused words
-abbrev pub IsNoUsage : End → Type 0
-IsNoUsage ending.Usage = ⊥
-IsNoUsage e = Unit {0}
+-- a line that is said is cut off where the output fails; memory may be wanted for it
+abbrev pub IsSayCut : Stop → Type 0
+IsSayCut stop.Output = Unit {0}
+IsSayCut stop.Memory = Unit {0}
+IsSayCut cause = ⊥
 
--- refused words end so, or are cut off where the output fails or memory is wanted
-abbrev pub IsUsageCut : Stop → Type 0
-IsUsageCut stop.Output = Unit {0}
-IsUsageCut stop.Memory = Unit {0}
-IsUsageCut cause = ⊥
+-- this end, or such a cut in its place
+abbrev pub EndsOr : Status → Result Status Stop → Type 0
+EndsOr wanted (Ok s) = s ≡ wanted
+EndsOr wanted (Err cause) = IsSayCut cause
 
--- a run ends as refused words do exactly where there is no way to start
-abbrev pub EndsAsNamed : Option Start → Result End Stop → Type 0
-EndsAsNamed (Some start) (Ok e) = IsNoUsage e
-EndsAsNamed (Some start) (Err cause) = Unit {0}
-EndsAsNamed None (Ok e) = e ≡ ending.Usage
-EndsAsNamed None (Err cause) = IsUsageCut cause
+-- the same of the opening of a folder, which isn't opened
+abbrev pub EndsOrOpens : Status → Result (Option Status) Stop → Type 0
+EndsOrOpens wanted (Ok None) = ⊥
+EndsOrOpens wanted (Ok (Some s)) = s ≡ wanted
+EndsOrOpens wanted (Err cause) = IsSayCut cause
 
--- the status of refused words, or of a cut in place of it
-abbrev pub IsUsageStatus : Status → Type 0
-IsUsageStatus status.Usage = Unit {0}
-IsUsageStatus status.OutputFault = Unit {0}
-IsUsageStatus status.Memory = Unit {0}
-IsUsageStatus s = ⊥
+-- a run ends as refused words do exactly where there is no way to start, and without a folder where its name can't be a
+-- file's
+abbrev pub EndsAsNamed : Option Start → Result Status Stop → Type 0
+EndsAsNamed None out = EndsOr status.Usage out
+EndsAsNamed (Some start) out = IfOk out IsEnd × (is_short_name start.file ≡ false → EndsOr status.NoFolder out)
+
+-- this status, or that of such a cut in its place
+abbrev pub IsOrCut : Status → Status → Type 0
+IsOrCut wanted status.OutputFault = Unit {0}
+IsOrCut wanted status.Memory = Unit {0}
+IsOrCut wanted s = s ≡ wanted

@@ -11,5 +11,5 @@ mod top;
 mod words;
 
 pub use environment::Environment;
-pub use status::Status;
+pub use mailx_session::Status;
 pub use top::run;

@@ -10,13 +10,14 @@ ghost use Rattle.command_desk.specs.declared.desk.Desk.{Desk};
 ghost use Rattle.mailx_session.specs.Openings.{Opens};
 ghost use Rattle.mailx_top.specs.declared.environment.Environment.{Environment};
 ghost use Rattle.mailx_top.specs.Meaning.{starting, loaded, with_list, begun, greeted, says_and_ends, round, Opening, next_state};
-ghost use Rattle.mailx_top.specs.Usage.{IsNoUsage, EndsAsNamed};
+ghost use Rattle.mailx_session.specs.Statuses.{IsEnd};
+ghost use Rattle.mailx_top.specs.Usage.{EndsOr, EndsOrOpens};
 ghost use Rattle.mailx_top.specs.Wants.{start_from};
 
 use crate::words::Wanted;
 use host_port::Host;
 use mail_text::{Memory, Text};
-use mailx_session::{End, Session};
+use mailx_session::{Session, Status};
 use mailx_vars::is_short_name;
 use mbox_scan::{Folder, ScanError};
 use session_play::{Found, Stop, load, say};
@@ -26,24 +27,25 @@ const USAGE: &[u8] =
     b"usage: mailx [-eHiNnF] [-f [file]] [-u user] [-s subject] [-b names] [-c names] [address...]\n";
 
 /// Says the usage and ends.
-pub(crate) fn end_with_usage<H: Host>(host: &mut H) -> Result<End, Stop>
+pub(crate) fn end_with_usage<H: Host>(host: &mut H) -> Result<Status, Stop>
     ensures ran { (env : Environment) → Ran H.start H.told H.counts host.old host.new
         (λ es. Loop (round env) (Opening None) es result) }
     ensures cause { Caused (H.counts host.old) (H.counts host.new) result }
-    ensures named { EndsAsNamed None result }
+    ensures named { EndsOr Status.Usage result }
 {
     match say(host, USAGE) {
-        Ok(()) => Ok(End::Usage),
+        Ok(()) => Ok(Status::Usage),
         Err(cause) => Err(cause),
     }
 }
 
 // Says a line and ends.
-fn end_with<H: Host>(host: &mut H, line: &[u8], end: End) -> Result<Option<End>, Stop>
+fn end_with<H: Host>(host: &mut H, line: &[u8], end: Status) -> Result<Option<Status>, Stop>
     ensures ran { (desk : Desk) → Ran H.start H.told H.counts host.old host.new
         (λ es. Goes (says_and_ends line.now end) es (next_state desk no_input result)) }
     ensures cause { Caused (H.counts host.old) (H.counts host.new) result }
     ensures same_end { IfOk result (λ e. e ≡ Some end) }
+    ensures ends { EndsOrOpens end result }
 {
     match say(host, line) {
         Ok(()) => Ok(Some(end)),
@@ -66,12 +68,13 @@ fn end_at_file<H: Host>(
     host: &mut H,
     name: &[u8],
     fault: &[u8],
-    end: End,
-) -> Result<Option<End>, Stop>
+    end: Status,
+) -> Result<Option<Status>, Stop>
     ensures ran { (desk : Desk) → Ran H.start H.told H.counts host.old host.new
         (λ es. Goes (says_and_ends (with_feed (name.now ++ fault.now)) end) es (next_state desk no_input result)) }
     ensures cause { Caused (H.counts host.old) (H.counts host.new) result }
     ensures same_end { IfOk result (λ e. e ≡ Some end) }
+    ensures ends { EndsOrOpens end result }
 {
     match fault_line(alloc, name, fault) {
         Ok(line) => end_with(host, line.bytes(), end),
@@ -80,11 +83,11 @@ fn end_at_file<H: Host>(
 }
 
 // Says the greeting of a session.
-fn greet_aloud<H: Host>(host: &mut H, session: &Session) -> Result<Option<End>, Stop>
+fn greet_aloud<H: Host>(host: &mut H, session: &Session) -> Result<Option<Status>, Stop>
     ensures ran { Ran H.start H.told H.counts host.old host.new
         (λ es. Goes (greeted false session.now) es (next_state session.now no_input result)) }
     ensures cause { Caused (H.counts host.old) (H.counts host.new) result }
-    ensures plain { IfOk result (λ end. IfSome end (λ e. IsNoUsage e)) }
+    ensures plain { IfOk result (λ end. IfSome end (λ e. IsEnd e)) }
 {
     let greeting = match session.greeting() {
         Ok(greeting) => greeting,
@@ -97,11 +100,11 @@ fn greet_aloud<H: Host>(host: &mut H, session: &Session) -> Result<Option<End>, 
 }
 
 // Says the greeting of a session, unless it is to be quiet.
-fn greet<H: Host>(host: &mut H, quiet: bool, session: &Session) -> Result<Option<End>, Stop>
+fn greet<H: Host>(host: &mut H, quiet: bool, session: &Session) -> Result<Option<Status>, Stop>
     ensures ran { Ran H.start H.told H.counts host.old host.new
         (λ es. Goes (greeted quiet session.now) es (next_state session.now no_input result)) }
     ensures cause { Caused (H.counts host.old) (H.counts host.new) result }
-    ensures plain { IfOk result (λ end. IfSome end (λ e. IsNoUsage e)) }
+    ensures plain { IfOk result (λ end. IfSome end (λ e. IsEnd e)) }
 {
     if quiet {
         Ok(None)
@@ -130,11 +133,12 @@ fn begin<H: Host>(
     start: Wanted<'_>,
     folder: Folder,
     session: &mut Session,
-) -> Result<Option<End>, Stop>
+) -> Result<Option<Status>, Stop>
     ensures ran { Ran H.start H.told H.counts host.old host.new
-        (λ es. Goes (begun session.old (start_from start.entry) folder (texts_of folder)) es (next_state session.new no_input result)) }
+        (λ es. Goes (begun session.old (start_from start.entry) folder (texts_of folder))
+        es (next_state session.new no_input result)) }
     ensures cause { Caused (H.counts host.old) (H.counts host.new) result }
-    ensures plain { IfOk result (λ end. IfSome end (λ e. IsNoUsage e)) }
+    ensures plain { IfOk result (λ end. IfSome end (λ e. IsEnd e)) }
 {
     match put_folder(alloc, session, start.file, folder) {
         Ok(()) => greet(host, start.quiet, session),
@@ -148,16 +152,23 @@ fn open_bytes<H: Host>(
     start: Wanted<'_>,
     bytes: Text,
     session: &mut Session,
-) -> Result<Option<End>, Stop>
+) -> Result<Option<Status>, Stop>
     ensures ran { Ran H.start H.told H.counts host.old host.new
-        (λ es. Goes (with_list session.old (start_from start.entry) bytes (list_of bytes)) es (next_state session.new no_input result)) }
+        (λ es. Goes (with_list session.old (start_from start.entry) bytes (list_of bytes))
+        es (next_state session.new no_input result)) }
     ensures cause { Caused (H.counts host.old) (H.counts host.new) result }
-    ensures plain { IfOk result (λ end. IfSome end (λ e. IsNoUsage e)) }
+    ensures plain { IfOk result (λ end. IfSome end (λ e. IsEnd e)) }
 {
     match Folder::open(alloc, bytes) {
         Ok(folder) => begin(alloc, host, start, folder, session),
         Err(ScanError::NotAMailbox) => {
-            end_at_file(alloc, host, start.file, b": not a mailbox", End::NoFolder)
+            end_at_file(
+                alloc,
+                host,
+                start.file,
+                b": not a mailbox",
+                Status::NoFolder,
+            )
         }
         Err(ScanError::TooMany { .. }) => {
             end_at_file(
@@ -165,7 +176,7 @@ fn open_bytes<H: Host>(
                 host,
                 start.file,
                 b": too many messages",
-                End::NoFolder,
+                Status::NoFolder,
             )
         }
         Err(ScanError::Memory) => Err(Stop::Memory),
@@ -178,26 +189,26 @@ fn open_found<H: Host>(
     start: Wanted<'_>,
     found: Found,
     session: &mut Session,
-) -> Result<Option<End>, Stop>
+) -> Result<Option<Status>, Stop>
     ensures ran { Ran H.start H.told H.counts host.old host.new
         (λ es. Goes (loaded session.old (start_from start.entry) found) es (next_state session.new no_input result)) }
     ensures cause { Caused (H.counts host.old) (H.counts host.new) result }
-    ensures plain { IfOk result (λ end. IfSome end (λ e. IsNoUsage e)) }
+    ensures plain { IfOk result (λ end. IfSome end (λ e. IsEnd e)) }
 {
     match found {
         Found::Bytes { held: true, .. } => {
-            end_at_file(alloc, host, start.file, b": busy", End::Refused)
+            end_at_file(alloc, host, start.file, b": busy", Status::Refused)
         }
         Found::Bytes {
             bytes: None,
             held: false,
-        } => end_at_file(alloc, host, start.file, b": no such file", End::NoFolder),
+        } => end_at_file(alloc, host, start.file, b": no such file", Status::NoFolder),
         Found::Bytes {
             bytes: Some(bytes),
             held: false,
         } => open_bytes(alloc, host, start, bytes, session),
         Found::TooLarge { .. } => {
-            end_at_file(alloc, host, start.file, b": too large", End::NoFolder)
+            end_at_file(alloc, host, start.file, b": too large", Status::NoFolder)
         }
     }
 }
@@ -207,12 +218,13 @@ fn load_and_open<H: Host>(
     host: &mut H,
     start: Wanted<'_>,
     session: &mut Session,
-) -> Result<Option<End>, Stop>
+) -> Result<Option<Status>, Stop>
     requires { is_short_name start.file.now ≡ true }
     ensures ran { Ran H.start H.told H.counts host.old host.new
-        (λ es. Goes (Ask (Read start.entry.file.now) (loaded session.old (start_from start.entry))) es (next_state session.new no_input result)) }
+        (λ es. Goes (Ask (Read start.entry.file.now) (loaded session.old (start_from start.entry)))
+        es (next_state session.new no_input result)) }
     ensures cause { Caused (H.counts host.old) (H.counts host.new) result }
-    ensures plain { IfOk result (λ end. IfSome end (λ e. IsNoUsage e)) }
+    ensures plain { IfOk result (λ end. IfSome end (λ e. IsEnd e)) }
 {
     match load(alloc, host, start.file) {
         Ok(found) => open_found(alloc, host, start, found, session),
@@ -226,15 +238,16 @@ pub(crate) fn open<H: Host>(
     host: &mut H,
     start: Wanted<'_>,
     session: &mut Session,
-) -> Result<Option<End>, Stop>
+) -> Result<Option<Status>, Stop>
     ensures ran { Ran H.start H.told H.counts host.old host.new
         (λ es. Goes (starting session.old (start_from start.entry)) es (next_state session.new no_input result)) }
     ensures cause { Caused (H.counts host.old) (H.counts host.new) result }
-    ensures plain { IfOk result (λ end. IfSome end (λ e. IsNoUsage e)) }
+    ensures plain { IfOk result (λ end. IfSome end (λ e. IsEnd e)) }
+    ensures bad_name { is_short_name start.entry.file.now ≡ false → EndsOrOpens Status.NoFolder result }
 {
     if is_short_name(start.file) {
         load_and_open(alloc, host, start, session)
     } else {
-        end_at_file(alloc, host, start.file, b": bad name", End::NoFolder)
+        end_at_file(alloc, host, start.file, b": bad name", Status::NoFolder)
     }
 }

@@ -4,11 +4,12 @@ ghost use Rattle.mailx_vars.specs.Settings.{value_of};
 ghost use Rattle.host_port.specs.Ran.{Ran};
 ghost use Rattle.session_play.specs.Input.{Input, left, no_input};
 ghost use Rattle.session_play.specs.Play.{Play, Ask, Line, Goes, Loop, Caused};
+ghost use Rattle.mailx_session.specs.Sessions.{stop_of};
 ghost use Rattle.mailx_top.specs.Meaning.{round, State, Reading, next_state, turn, prompted};
 
 use crate::Environment;
 use host_port::Host;
-use mailx_session::{End, Flow, Session};
+use mailx_session::{Flow, RunError, Session, Status};
 use session_play::{Reader, Stop, say};
 use std::alloc::Global;
 
@@ -34,17 +35,29 @@ fn say_prompt<H: Host>(host: &mut H, terminal: bool, session: &Session) -> Resul
     }
 }
 
+// The cut that an error is.
+fn stop_of(error: &RunError) -> Stop
+    ensures { result ≡ stop_of error.now }
+{
+    match error {
+        RunError::Output => Stop::Output,
+        RunError::Disk => Stop::Disk,
+        RunError::BadRecord { .. } => Stop::Disk,
+        RunError::Memory => Stop::Memory,
+    }
+}
+
 // Takes a line.
-fn step<H: Host>(host: &mut H, session: &mut Session, line: &[u8]) -> Result<Option<End>, Stop>
+fn step<H: Host>(host: &mut H, session: &mut Session, line: &[u8]) -> Result<Option<Status>, Stop>
     ensures ran { (j : Input) → Ran H.start H.told H.counts host.old host.new
         (λ es. Goes (turn session.old j (Some line.now)) es (next_state session.new j result)) }
     ensures cause { Caused (H.counts host.old) (H.counts host.new) result }
-    ensures done { IfOk result (λ end. IfSome end (λ e. e ≡ End.Done)) }
+    ensures done { IfOk result (λ end. IfSome end (λ e. e ≡ Status.Done)) }
 {
     match session.step(line, host) {
         Ok(Flow::Go) => Ok(None),
-        Ok(Flow::End(end)) => Ok(Some(end)),
-        Err(cause) => Err(cause),
+        Ok(Flow::End(status)) => Ok(Some(status)),
+        Err(error) => Err(stop_of(&error)),
     }
 }
 
@@ -54,12 +67,13 @@ fn next_line<H: Host>(
     host: &mut H,
     reader: &mut Reader,
     session: &mut Session,
-) -> Result<Option<End>, Stop>
+) -> Result<Option<Status>, Stop>
     ensures ran { Ran H.start H.told H.counts host.old host.new
-        (λ es. Goes (Ask (Line reader.old) (λ a. turn session.old a.1 a.0)) es (next_state session.new reader.new result)) }
+        (λ es. Goes (Ask (Line reader.old) (λ a. turn session.old a.1 a.0))
+        es (next_state session.new reader.new result)) }
     ensures cause { Caused (H.counts host.old) (H.counts host.new) result }
     ensures progress { IfOk result (λ end. IfNone end (left reader.new < left reader.old)) }
-    ensures done { IfOk result (λ end. IfSome end (λ e. e ≡ End.Done)) }
+    ensures done { IfOk result (λ end. IfSome end (λ e. e ≡ Status.Done)) }
 {
     match reader.line(alloc, host) {
         Ok(Some(line)) => step(host, session, line.bytes()),
@@ -74,12 +88,12 @@ fn one_line<H: Host>(
     env: &Environment,
     reader: &mut Reader,
     session: &mut Session,
-) -> Result<Option<End>, Stop>
+) -> Result<Option<Status>, Stop>
     ensures ran { Ran H.start H.told H.counts host.old host.new
         (λ es. Goes (round env.now (Reading session.old reader.old)) es (next_state session.new reader.new result)) }
     ensures cause { Caused (H.counts host.old) (H.counts host.new) result }
     ensures progress { IfOk result (λ end. IfNone end (left reader.new < left reader.old)) }
-    ensures done { IfOk result (λ end. IfSome end (λ e. e ≡ End.Done)) }
+    ensures done { IfOk result (λ end. IfSome end (λ e. e ≡ Status.Done)) }
 {
     match say_prompt(host, env.terminal, session) {
         Ok(()) => next_line(alloc, host, reader, session),
@@ -93,11 +107,11 @@ pub(crate) fn lines<H: Host>(
     host: &mut H,
     env: &Environment,
     session: &mut Session,
-) -> Result<End, Stop>
+) -> Result<Status, Stop>
     ensures ran { Ran H.start H.told H.counts host.old host.new
         (λ es. Loop (round env.now) (Reading session.old no_input) es result) }
     ensures cause { Caused (H.counts host.old) (H.counts host.new) result }
-    ensures done { IfOk result (λ e. e ≡ End.Done) }
+    ensures done { IfOk result (λ e. e ≡ Status.Done) }
 {
     let mut reader = Reader::new(alloc);
     'lines: loop {

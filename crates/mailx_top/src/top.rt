@@ -1,5 +1,5 @@
 // The whole run.
-ghost use Rattle.std.specs.Prelude.{◌≡◌, ◌++◌, true, List, Some, None, IfOk};
+ghost use Rattle.std.specs.Prelude.{◌≡◌, ◌++◌, true, false, List, Some, None, IfOk};
 ghost use Rattle.host_port.specs.Calls.{Rose};
 ghost use Rattle.host_port.specs.Disk.{disk};
 ghost use Rattle.host_port.specs.Own.{of_others};
@@ -7,22 +7,25 @@ ghost use Rattle.host_port.specs.Ran.{Ran};
 ghost use Rattle.host_port.specs.declared.event.Event.{Event};
 ghost use Rattle.session_play.specs.Play.{Play, Loop, Caused};
 ghost use Rattle.mailx_vars.specs.Environment.{knows_user};
+ghost use Rattle.mailx_vars.specs.Names.{is_short_name};
 ghost use Rattle.mailx_session.specs.Openings.{first_desk};
 ghost use Rattle.mailx_top.specs.Meaning.{round, Opening};
 ghost use Rattle.mailx_top.specs.Runs.{IsRun, SaysLast};
 ghost use Rattle.mailx_top.specs.Statuses.{line_at_stop};
-ghost use Rattle.mailx_top.specs.Usage.{EndsAsNamed, IsNoUsage, IsUsageStatus};
+ghost use Rattle.mailx_session.specs.Statuses.{IsEnd};
+ghost use Rattle.mailx_top.specs.Openings.{IsBadName};
+ghost use Rattle.mailx_top.specs.Usage.{EndsAsNamed, EndsOr, IsOrCut};
 ghost use Rattle.mailx_top.specs.Wants.{start_from};
 ghost use Rattle.mailx_top.specs.Words.{are_read, start_of};
 
+use crate::Environment;
 use crate::open::{end_with_usage, open};
 use crate::session::lines;
-use crate::status::{end_status, stop_line, stop_status};
+use crate::status::{stop_line, stop_status};
 use crate::words::{Wanted, are_read, start_of};
-use crate::{Environment, Status};
 use host_port::Host;
 use mail_text::{Memory, Text};
-use mailx_session::{End, Session};
+use mailx_session::{Session, Status};
 use session_play::Stop;
 use std::alloc::Global;
 
@@ -33,12 +36,13 @@ fn play_session<H: Host>(
     env: &Environment,
     start: Wanted<'_>,
     session: &mut Session,
-) -> Result<End, Stop>
+) -> Result<Status, Stop>
     requires { session.old ≡ first_desk env.now.pairs }
     ensures ran { Ran H.start H.told H.counts host.old host.new
         (λ es. Loop (round env.now) (Opening (Some (start_from start.entry))) es result) }
     ensures cause { Caused (H.counts host.old) (H.counts host.new) result }
-    ensures plain { IfOk result (λ e. IsNoUsage e) }
+    ensures plain { IfOk result (λ e. IsEnd e) }
+    ensures bad_name { is_short_name start.entry.file.now ≡ false → EndsOr Status.NoFolder result }
 {
     match open(alloc, host, start, session) {
         Ok(None) => lines(alloc, host, env, session),
@@ -52,12 +56,13 @@ fn start_session<H: Host>(
     host: &mut H,
     env: &Environment,
     start: Wanted<'_>,
-) -> Result<End, Stop>
+) -> Result<Status, Stop>
     requires { knows_user env.now.pairs ≡ true }
     ensures ran { Ran H.start H.told H.counts host.old host.new
         (λ es. Loop (round env.now) (Opening (Some (start_from start.entry))) es result) }
     ensures cause { Caused (H.counts host.old) (H.counts host.new) result }
-    ensures plain { IfOk result (λ e. IsNoUsage e) }
+    ensures plain { IfOk result (λ e. IsEnd e) }
+    ensures bad_name { is_short_name start.entry.file.now ≡ false → EndsOr Status.NoFolder result }
 {
     match Session::new(alloc, env.pairs.items()) {
         Ok(mut session) => play_session(alloc, host, env, start, &mut session),
@@ -70,7 +75,7 @@ fn play<H: Host>(
     host: &mut H,
     words: &[Text],
     env: &Environment,
-) -> Result<End, Stop>
+) -> Result<Status, Stop>
     ensures ran { Ran H.start H.told H.counts host.old host.new
         (λ es. Loop (round env.now) (Opening (start_of words.now env.now.pairs)) es result) }
     ensures cause { Caused (H.counts host.old) (H.counts host.new) result }
@@ -103,13 +108,16 @@ pub fn run<H: Host>(alloc: Global, words: &[Text], env: &Environment, host: &mut
     ensures disk_fault { result ≡ Status.DiskFault → Rose (H.counts host.old).disks (H.counts host.new).disks }
     // The usage is answered exactly where the words or the environment are refused.
     ensures usage_only { result ≡ Status.Usage → start_of words.now env.now.pairs ≡ None }
-    ensures usage_always { start_of words.now env.now.pairs ≡ None → IsUsageStatus result }
+    ensures usage_always { start_of words.now env.now.pairs ≡ None → IsOrCut Status.Usage result }
+    // A folder whose name can't be a file's is none, whatever the host tells.
+    ensures bad_name { IsBadName (start_of words.now env.now.pairs) → IsOrCut Status.NoFolder result }
     // At every moment of the run the disk is the one at its start with the steps of others.
-    ensures prefixes { (before front rest : List Event) → H.told host.old ≡ Some before → H.told host.new ≡ Some (before ++ (front ++ rest))
+    ensures prefixes { (before front rest : List Event)
+        → H.told host.old ≡ Some before → H.told host.new ≡ Some (before ++ (front ++ rest))
         → disk (H.start host.new) (before ++ front) ≡ disk (H.start host.new) (before ++ of_others front) }
 {
     match play(alloc, host, words, env) {
-        Ok(end) => end_status(end),
+        Ok(status) => status,
         Err(cause) => {
             say_cut(host, words, cause);
             stop_status(cause)

@@ -13,7 +13,9 @@ use Rattle.host_port.specs.Own.{own}
 use Rattle.session_play.specs.declared.act.Found.{Found}
 use Rattle.session_play.specs.declared.act.Found.TheVariants as found
 use Rattle.session_play.specs.declared.stop.Stop.TheVariants as stop
-use Rattle.session_play.specs.Play.{Ask, Ret, Say, Read, Goes}
+use Rattle.std.specs.declared.option.Option.{Option}
+use Rattle.std.specs.declared.option.Option.TheVariants.{Some, None}
+use Rattle.session_play.specs.Play.{Ask, Ret, Say, Read, Try, Goes}
 
 append_nil : (xs : List ℕ) → xs ≡ xs ++ []
 append_nil [] = refl
@@ -47,4 +49,28 @@ load-failed name d e is =
 pub load-memory : (name : List ℕ) (d : Disk) (e : Event) → e ≡ event.Load name seen.Memory → Agrees d e × Goes {R = Found} (Ask (Read name) Ret) (own (e ∷ [])) (Err stop.Memory)
 load-memory name d e is =
     let P : Event → Type 0 = λ e. Agrees d e × Goes {R = Found} (Ask (Read name) Ret) (own (e ∷ [])) (Err stop.Memory) in
+    subst P (sym is) (tt, inr (stop.Memory, refl, inr refl))
+
+pub tried-ok : (name : List ℕ) (a : LoadAnswer) (d : Disk) (e : Event) → Loaded name (Ok a) d e
+    → Agrees d e × Goes {R = Option Found} (Ask (Try name) Ret) (own (e ∷ [])) (Ok (Some (found.Bytes a.bytes a.held)))
+tried-ok name a d e is =
+    let P : Event → Type 0 = λ e. Agrees d e × Goes {R = Option Found} (Ask (Try name) Ret) (own (e ∷ [])) (Ok (Some (found.Bytes a.bytes a.held))) in
+    subst P (sym is.0) ((is.1, is.2), inl (Some (found.Bytes a.bytes a.held), event.Load name (seen.Bytes a.bytes a.held) ∷ [], [], refl, refl, (refl, inl refl)))
+
+pub tried-large : (name : List ℕ) (n : ℕ) (d : Disk) (e : Event) → Loaded name (Err (error.TooLarge n)) d e
+    → Agrees d e × Goes {R = Option Found} (Ask (Try name) Ret) (own (e ∷ [])) (Ok (Some (found.TooLarge n)))
+tried-large name n d e is =
+    let P : Event → Type 0 = λ e. Agrees d e × Goes {R = Option Found} (Ask (Try name) Ret) (own (e ∷ [])) (Ok (Some (found.TooLarge n))) in
+    subst P (sym is.0) (is.1, inl (Some (found.TooLarge n), event.Load name (seen.TooLarge n) ∷ [], [], refl, refl, (refl, inl refl)))
+
+pub tried-failed : (name : List ℕ) (d : Disk) (e : Event) → e ≡ event.Load name seen.Failed
+    → Agrees d e × Goes {R = Option Found} (Ask (Try name) Ret) (own (e ∷ [])) (Ok None)
+tried-failed name d e is =
+    let P : Event → Type 0 = λ e. Agrees d e × Goes {R = Option Found} (Ask (Try name) Ret) (own (e ∷ [])) (Ok None) in
+    subst P (sym is) (tt, inl (None, event.Load name seen.Failed ∷ [], [], refl, refl, (refl, inl refl)))
+
+pub tried-memory : (name : List ℕ) (d : Disk) (e : Event) → e ≡ event.Load name seen.Memory
+    → Agrees d e × Goes {R = Option Found} (Ask (Try name) Ret) (own (e ∷ [])) (Err stop.Memory)
+tried-memory name d e is =
+    let P : Event → Type 0 = λ e. Agrees d e × Goes {R = Option Found} (Ask (Try name) Ret) (own (e ∷ [])) (Err stop.Memory) in
     subst P (sym is) (tt, inr (stop.Memory, refl, inr refl))

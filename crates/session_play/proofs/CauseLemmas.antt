@@ -12,8 +12,10 @@ use Rattle.session_play.specs.declared.act.Found.TheVariants as found
 use Rattle.session_play.specs.declared.stop.Stop.{Stop}
 use Rattle.session_play.specs.declared.stop.Stop.TheVariants as stop
 use Rattle.session_play.specs.Input.{Input, input_limit, first_line, last_line, next_of, next_line, took, Reads}
-use Rattle.session_play.specs.Play.{Line, Say, Read, Know, Play, Ret, Ask, Says, SaysInPart, seen_of, Partly, Goes, Next, Go, Last, Loop, again, last, cut}
-use Rattle.session_play.specs.Causes.{some_in_failed, some_out_failed, some_load_failed, bytes_in, IsExplained, Threads, NextFrom}
+use Rattle.session_play.specs.Play.{Act, Answer, Line, Say, Read, Try, Know, Play, Ret, Ask, Says, SaysInPart, seen_of, seen_at, Did, Partly, Goes, Next, Go, Last, Loop, again, last, cut}
+use Rattle.session_play.specs.Acts.{AllActs, TakesFrom, input_after, Threads, may_load}
+use Rattle.session_play.specs.Causes.{some_in_failed, some_out_failed, some_load_saw, is_failed, bytes_in, counted, events_at, IsExplained, NextFrom}
+use Rattle.session_play.proofs.SawLemmas.{saw-append, Unseen, unseen-then, unseen-none, unseen-did, unseen-cut}
 
 abbrev is_in : Stop → Bool
 is_in stop.Input = true
@@ -23,10 +25,6 @@ abbrev is_out : Stop → Bool
 is_out stop.Output = true
 is_out cause = false
 
-abbrev is_disk : Stop → Bool
-is_disk stop.Disk = true
-is_disk cause = false
-
 abbrev Amount : Stop → ℕ → Type 0
 Amount stop.TooMuch n = input_limit < n
 Amount cause n = n ≤ input_limit
@@ -35,7 +33,6 @@ Amount cause n = n ≤ input_limit
 record IsClean (es : List Event) (i j : Input) : Type 0 where
   in_ok : some_in_failed es ≡ false
   out_ok : some_out_failed es ≡ false
-  load_ok : some_load_failed es ≡ false
   bytes : i.taken + bytes_in es ≡ j.taken
   within : j.taken ≤ input_limit
 
@@ -43,7 +40,6 @@ record IsClean (es : List Event) (i j : Input) : Type 0 where
 record IsCutBy (cause : Stop) (es : List Event) (i : Input) : Type 0 where
   in_is : some_in_failed es ≡ is_in cause
   out_is : some_out_failed es ≡ is_out cause
-  load_is : some_load_failed es ≡ is_disk cause
   amount : Amount cause (i.taken + bytes_in es)
 
 in-append : (es fs : List Event) → some_in_failed es ≡ false → some_in_failed (es ++ fs) ≡ some_in_failed fs
@@ -58,11 +54,6 @@ out-append (event.Out bytes true ∷ es) fs h = absurd (cc)
 out-append (event.Out bytes false ∷ es) fs h = out-append es fs h
 out-append (e ∷ es) fs h = out-append es fs h
 
-load-append : (es fs : List Event) → some_load_failed es ≡ false → some_load_failed (es ++ fs) ≡ some_load_failed fs
-load-append [] fs h = refl
-load-append (event.Load name seen.Failed ∷ es) fs h = absurd (cc)
-load-append (e ∷ es) fs h = load-append es fs h
-
 bytes-append : (es fs : List Event) → bytes_in (es ++ fs) ≡ bytes_in es + bytes_in fs
 bytes-append [] fs = omega arith
 bytes-append (event.In bytes failed ∷ es) fs = omega (arith, bytes-append es fs)
@@ -72,7 +63,6 @@ clean-then : (es fs : List Event) (i j k : Input) → IsClean es i j → IsClean
 clean-then es fs i j k x y = record {
   in_ok = in-append es fs x.in_ok ∙ y.in_ok;
   out_ok = out-append es fs x.out_ok ∙ y.out_ok;
-  load_ok = load-append es fs x.load_ok ∙ y.load_ok;
   bytes = omega (arith, bytes-append es fs, x.bytes, y.bytes);
   within = y.within;
 }
@@ -81,51 +71,47 @@ cut-then : (cause : Stop) (es fs : List Event) (i j : Input) → IsClean es i j 
 cut-then cause es fs i j x y = record {
   in_is = in-append es fs x.in_ok ∙ y.in_is;
   out_is = out-append es fs x.out_ok ∙ y.out_is;
-  load_is = load-append es fs x.load_ok ∙ y.load_is;
   amount = subst (Amount cause) (let same : j.taken + bytes_in fs ≡ i.taken + bytes_in (es ++ fs) = omega (arith, bytes-append es fs, x.bytes) in same) y.amount;
 }
 
 clean-none : (i : Input) → i.taken ≤ input_limit → IsClean [] i i
-clean-none i le = record { in_ok = refl; out_ok = refl; load_ok = refl; bytes = omega arith; within = le }
+clean-none i le = record { in_ok = refl; out_ok = refl; bytes = omega arith; within = le }
 
 -- takings of input are clean
 reads-clean : (es : List Event) (i j : Input) → i.taken ≤ input_limit → Reads i es j → IsClean es i j
 reads-clean [] i j le same = subst (λ (k : Input). IsClean [] i k) same (clean-none i le)
 reads-clean (event.In bytes false ∷ es) i j le (none, (fits, within), more) =
     let rest = reads-clean es (took i bytes) j within more in
-    record { in_ok = rest.in_ok; out_ok = rest.out_ok; load_ok = rest.load_ok; bytes = omega (arith, rest.bytes); within = rest.within }
+    record { in_ok = rest.in_ok; out_ok = rest.out_ok; bytes = omega (arith, rest.bytes); within = rest.within }
 reads-clean (e ∷ es) i j le never = absurd never
 
 says-clean : (bytes : List ℕ) (es : List Event) (i : Input) → i.taken ≤ input_limit → Says bytes es → IsClean es i i
 says-clean bytes [] i le none = clean-none i le
 says-clean bytes (event.Out front false ∷ es) i le (rest, is, more) =
     let c = says-clean rest es i le more in
-    record { in_ok = c.in_ok; out_ok = c.out_ok; load_ok = c.load_ok; bytes = c.bytes; within = c.within }
+    record { in_ok = c.in_ok; out_ok = c.out_ok; bytes = c.bytes; within = c.within }
 says-clean bytes (e ∷ es) i le never = absurd never
 
-load-clean : (name : List ℕ) (f : Found) (es : List Event) (i : Input) → i.taken ≤ input_limit → es ≡ event.Load name (seen_of f) ∷ [] → IsClean es i i
-load-clean name f es i le is = subst (λ (es : List Event). IsClean es i i) (sym is) (go f)
-  where
-    go : (f : Found) → IsClean (event.Load name (seen_of f) ∷ []) i i
-    go (found.Bytes bytes held) = record { in_ok = refl; out_ok = refl; load_ok = refl; bytes = omega arith; within = le }
-    go (found.TooLarge n) = record { in_ok = refl; out_ok = refl; load_ok = refl; bytes = omega arith; within = le }
+load-clean : (name : List ℕ) (f : Option Found) (es : List Event) (i : Input) → i.taken ≤ input_limit → es ≡ event.Load name (seen_at f) ∷ [] → IsClean es i i
+load-clean name f es i le is =
+    subst (λ (es : List Event). IsClean es i i) (sym is) (record { in_ok = refl; out_ok = refl; bytes = omega arith; within = le })
 
 none-clean : (es : List Event) (i : Input) → i.taken ≤ input_limit → es ≡ [] → IsClean es i i
 none-clean es i le is = subst (λ (es : List Event). IsClean es i i) (sym is) (clean-none i le)
 
 memory-cut : (es : List Event) (i : Input) → i.taken ≤ input_limit → es ≡ [] → IsCutBy stop.Memory es i
-memory-cut es i le is = subst (λ (es : List Event). IsCutBy stop.Memory es i) (sym is) (record { in_is = refl; out_is = refl; load_is = refl; amount = omega arith })
+memory-cut es i le is = subst (λ (es : List Event). IsCutBy stop.Memory es i) (sym is) (record { in_is = refl; out_is = refl; amount = omega arith })
 
 clean-memory : (es : List Event) (i j : Input) → IsClean es i j → IsCutBy stop.Memory es i
-clean-memory es i j c = record { in_is = c.in_ok; out_is = c.out_ok; load_is = c.load_ok; amount = omega (arith, c.bytes, c.within) }
+clean-memory es i j c = record { in_is = c.in_ok; out_is = c.out_ok; amount = omega (arith, c.bytes, c.within) }
 
-line-cut-by : (cause : Stop) (es : List Event) (i : Input) → i.taken ≤ input_limit → Partly cause (Line i) es → IsCutBy cause es i
-line-cut-by stop.Input es i le (front, j, reads, none, is) =
-    subst (λ (es : List Event). IsCutBy stop.Input es i) (sym is) (let c = reads-clean front i j le reads in let w = c.within in
-    cut-then stop.Input front (event.In [] true ∷ []) i j c (record { in_is = refl; out_is = refl; load_is = refl; amount = omega arith }))
-line-cut-by stop.TooMuch es i le (front, j, bytes, reads, none, (fits, large), is) =
+line-cut-by : (cause : Stop) (es : List Event) (i : Input) → i.taken ≤ input_limit → Partly (Line i) cause es → IsCutBy cause es i
+line-cut-by stop.Input es i le (front, j, short, is) =
+    subst (λ (es : List Event). IsCutBy stop.Input es i) (sym is) (let c = reads-clean front i j le short.reads in let w = c.within in
+    cut-then stop.Input front (event.In [] true ∷ []) i j c (record { in_is = refl; out_is = refl; amount = omega arith }))
+line-cut-by stop.TooMuch es i le (front, j, bytes, short, (fits, large), is) =
     subst (λ (es : List Event). IsCutBy stop.TooMuch es i) (sym is)
-    (cut-then stop.TooMuch front (event.In bytes false ∷ []) i j (reads-clean front i j le reads) (record { in_is = refl; out_is = refl; load_is = refl; amount = omega arith }))
+    (cut-then stop.TooMuch front (event.In bytes false ∷ []) i j (reads-clean front i j le short.reads) (record { in_is = refl; out_is = refl; amount = omega arith }))
 line-cut-by stop.Memory es i le (j, reads) = clean-memory es i j (reads-clean es i j le reads)
 line-cut-by stop.Output es i le never = absurd never
 line-cut-by stop.Disk es i le never = absurd never
@@ -134,32 +120,33 @@ say-part-cut : (bytes : List ℕ) (es : List Event) (i : Input) → i.taken ≤ 
 say-part-cut bytes [] i le never = absurd never
 say-part-cut bytes (event.Out front false ∷ es) i le (rest, is, more) =
     let c = say-part-cut rest es i le more in
-    record { in_is = c.in_is; out_is = c.out_is; load_is = c.load_is; amount = c.amount }
+    record { in_is = c.in_is; out_is = c.out_is; amount = c.amount }
 say-part-cut bytes (event.Out front true ∷ es) i le (rest, is, none) =
-    subst (λ (es : List Event). IsCutBy stop.Output (event.Out front true ∷ es) i) (sym none) (record { in_is = refl; out_is = refl; load_is = refl; amount = omega arith })
+    subst (λ (es : List Event). IsCutBy stop.Output (event.Out front true ∷ es) i) (sym none) (record { in_is = refl; out_is = refl; amount = omega arith })
 say-part-cut bytes (e ∷ es) i le never = absurd never
 
-say-cut-by : (cause : Stop) (bytes : List ℕ) (es : List Event) (i : Input) → i.taken ≤ input_limit → Partly cause (Say bytes) es → IsCutBy cause es i
-say-cut-by stop.Output bytes es i le part = say-part-cut bytes es i le part
-say-cut-by stop.Input bytes es i le never = absurd never
-say-cut-by stop.TooMuch bytes es i le never = absurd never
-say-cut-by stop.Memory bytes es i le never = absurd never
-say-cut-by stop.Disk bytes es i le never = absurd never
+load-cut-by : (cause : Stop) (es : List Event) (i : Input) (e : Event) → i.taken ≤ input_limit → es ≡ e ∷ [] → IsCutBy cause (e ∷ []) i → IsCutBy cause es i
+load-cut-by cause es i e le is c = subst (λ (es : List Event). IsCutBy cause es i) (sym is) c
 
-read-cut-by : (cause : Stop) (name : List ℕ) (es : List Event) (i : Input) → i.taken ≤ input_limit → Partly cause (Read name) es → IsCutBy cause es i
-read-cut-by stop.Disk name es i le is = subst (λ (es : List Event). IsCutBy stop.Disk es i) (sym is) (record { in_is = refl; out_is = refl; load_is = refl; amount = omega arith })
-read-cut-by stop.Memory name es i le is = subst (λ (es : List Event). IsCutBy stop.Memory es i) (sym is) (record { in_is = refl; out_is = refl; load_is = refl; amount = omega arith })
-read-cut-by stop.Input name es i le never = absurd never
-read-cut-by stop.Output name es i le never = absurd never
-read-cut-by stop.TooMuch name es i le never = absurd never
-
--- rows are found at once, or not at all
-no-part : (cause : Stop) (texts : List (List ℕ)) (es : List Event) → Partly cause (Know texts) es → ⊥
-no-part stop.Input texts es never = never
-no-part stop.Output texts es never = never
-no-part stop.Disk texts es never = never
-no-part stop.TooMuch texts es never = never
-no-part stop.Memory texts es never = never
+-- an act that is cut off
+cut-by : (act : Act) (cause : Stop) (es : List Event) (i : Input) → i.taken ≤ input_limit → TakesFrom act i → Partly act cause es → IsCutBy cause es i
+cut-by (Line k) cause es i le same part = line-cut-by cause es i le (subst (λ (k : Input). Partly (Line k) cause es) same part)
+cut-by (Say bytes) stop.Output es i le same part = say-part-cut bytes es i le part
+cut-by (Say bytes) stop.Input es i le same never = absurd never
+cut-by (Say bytes) stop.Disk es i le same never = absurd never
+cut-by (Say bytes) stop.TooMuch es i le same never = absurd never
+cut-by (Say bytes) stop.Memory es i le same never = absurd never
+cut-by (Read name) stop.Disk es i le same is = load-cut-by stop.Disk es i _ le is (record { in_is = refl; out_is = refl; amount = omega arith })
+cut-by (Read name) stop.Memory es i le same is = load-cut-by stop.Memory es i _ le is (record { in_is = refl; out_is = refl; amount = omega arith })
+cut-by (Read name) stop.Input es i le same never = absurd never
+cut-by (Read name) stop.Output es i le same never = absurd never
+cut-by (Read name) stop.TooMuch es i le same never = absurd never
+cut-by (Try name) stop.Memory es i le same is = load-cut-by stop.Memory es i _ le is (record { in_is = refl; out_is = refl; amount = omega arith })
+cut-by (Try name) stop.Disk es i le same never = absurd never
+cut-by (Try name) stop.Input es i le same never = absurd never
+cut-by (Try name) stop.Output es i le same never = absurd never
+cut-by (Try name) stop.TooMuch es i le same never = absurd never
+cut-by (Know texts) cause es i le same never = absurd never
 
 some-same : {A : Type 0} {a b : A} → Some a ≡ Some b → a ≡ b
 some-same e = cc
@@ -189,59 +176,142 @@ line-taken-same j answer is = go (first_line j.rest) j.ended j.rest is
     go None true r e = tail j.rest e
     go None false r e = absurd (cc e)
 
+-- an act that is carried out
+line-clean : (i : Input) (a : Option (List ℕ) × Input) (es : List Event) → i.taken ≤ input_limit → Did (Line i) a es → IsClean es i a.1
+line-clean i a es le (j, reads, next) =
+    let c = reads-clean es i j le reads in
+    let same : a.1.taken ≡ j.taken = line-taken-same j a next in
+    record { in_ok = c.in_ok; out_ok = c.out_ok; bytes = omega (arith, c.bytes); within = (let w = c.within in omega arith) }
+
+did-clean : (act : Act) (a : Answer act) (es : List Event) (i : Input) → i.taken ≤ input_limit → TakesFrom act i → Did act a es → IsClean es i (input_after act a i)
+did-clean (Line k) a es i le same did = line-clean i a es le (subst (λ (k : Input). Did (Line k) a es) same did)
+did-clean (Say bytes) u es i le same did = says-clean bytes es i le did
+did-clean (Read name) f es i le same did = load-clean name (Some f) es i le did
+did-clean (Try name) f es i le same did = load-clean name f es i le did
+did-clean (Know texts) rows es i le same did = none-clean es i le did.0
+
 -- a play that came to its end is clean
 goes-clean : {R : Type 0} (Ends : R → Input → Type 0) (p : Play R) (i : Input) (r : R) (es : List Event) → Threads Ends i p → i.taken ≤ input_limit → Goes p es (Ok r) → (j : Input) × Ends r j × IsClean es i j
 goes-clean Ends (Ret q) i r es t le (none, inl same) =
     (i, subst (λ q. Ends q i) (sym (ok-same r q same)) t, subst (λ (es : List Event). IsClean es i i) (sym none) (clean-none i le))
 goes-clean Ends (Ret q) i r es t le (none, inr other) = absurd (cc other)
-goes-clean Ends (Ask (Line k) go) i r es t le (inl (answer, front, rest, is, (j, reads, next), goes)) =
-    let R : Input → Type 0 = λ k. Reads k front j in
-    let c = reads-clean front i j le (subst R t.0 reads) in
-    let same : answer.1.taken ≡ j.taken = line-taken-same j answer next in
-    let more = goes-clean Ends (go answer) answer.1 r rest (t.1 answer) (let w = c.within in omega arith) goes in (
-      more.0,
-      more.1,
-      subst (λ (es : List Event). IsClean es i more.0) (sym is)
-          (clean-then front rest i answer.1 more.0 (record { in_ok = c.in_ok; out_ok = c.out_ok; load_ok = c.load_ok; bytes = omega (arith, c.bytes); within = (let w = c.within in omega arith) }) more.2),
-    )
-goes-clean Ends (Ask (Say bytes) go) i r es t le (inl (answer, front, rest, is, did, goes)) =
-    let more = goes-clean Ends (go answer) i r rest (t answer) le goes in
-    (more.0, more.1, subst (λ (es : List Event). IsClean es i more.0) (sym is) (clean-then front rest i i more.0 (says-clean bytes front i le did) more.2))
-goes-clean Ends (Ask (Read name) go) i r es t le (inl (answer, front, rest, is, did, goes)) =
-    let more = goes-clean Ends (go answer) i r rest (t answer) le goes in
-    (more.0, more.1, subst (λ (es : List Event). IsClean es i more.0) (sym is) (clean-then front rest i i more.0 (load-clean name answer front i le did) more.2))
-goes-clean Ends (Ask (Know texts) go) i r es t le (inl (answer, front, rest, is, did, goes)) =
-    let more = goes-clean Ends (go answer) i r rest (t answer) le goes in
-    (more.0, more.1, subst (λ (es : List Event). IsClean es i more.0) (sym is) (clean-then front rest i i more.0 (none-clean front i le did.0) more.2))
+goes-clean Ends (Ask act go) i r es t le (inl (answer, front, rest, is, did, goes)) =
+    let c = did-clean act answer front i le t.0 did in
+    let more = goes-clean Ends (go answer) (input_after act answer i) r rest (t.1 answer) c.within goes in
+    (more.0, more.1, subst (λ (es : List Event). IsClean es i more.0) (sym is) (clean-then front rest i (input_after act answer i) more.0 c more.2))
 goes-clean Ends (Ask act go) i r es t le (inr (cause, other, part)) = absurd (cc other)
 
 -- a play that was cut off ends with its cut
 goes-cut-by : {R : Type 0} (Ends : R → Input → Type 0) (p : Play R) (i : Input) (cause : Stop) (es : List Event) → Threads Ends i p → i.taken ≤ input_limit → Goes p es (Err cause) → IsCutBy cause es i
 goes-cut-by Ends (Ret q) i cause es t le (none, inl other) = absurd (cc other)
 goes-cut-by Ends (Ret q) i cause es t le (none, inr same) = subst (λ (c : Stop). IsCutBy c es i) (sym (err-same cause stop.Memory same)) (memory-cut es i le none)
-goes-cut-by Ends (Ask (Line k) go) i cause es t le (inl (answer, front, rest, is, (j, reads, next), goes)) =
-    let R : Input → Type 0 = λ k. Reads k front j in
-    let c = reads-clean front i j le (subst R t.0 reads) in
-    let same : answer.1.taken ≡ j.taken = line-taken-same j answer next in
-    let more = goes-cut-by Ends (go answer) answer.1 cause rest (t.1 answer) (let w = c.within in omega arith) goes in
-    subst (λ (es : List Event). IsCutBy cause es i) (sym is)
-    (cut-then cause front rest i answer.1 (record { in_ok = c.in_ok; out_ok = c.out_ok; load_ok = c.load_ok; bytes = omega (arith, c.bytes); within = (let w = c.within in omega arith) }) more)
-goes-cut-by Ends (Ask (Say bytes) go) i cause es t le (inl (answer, front, rest, is, did, goes)) =
-    subst (λ (es : List Event). IsCutBy cause es i) (sym is) (cut-then cause front rest i i (says-clean bytes front i le did) (goes-cut-by Ends (go answer) i cause rest (t answer) le goes))
-goes-cut-by Ends (Ask (Read name) go) i cause es t le (inl (answer, front, rest, is, did, goes)) =
-    subst (λ (es : List Event). IsCutBy cause es i) (sym is) (cut-then cause front rest i i (load-clean name answer front i le did) (goes-cut-by Ends (go answer) i cause rest (t answer) le goes))
-goes-cut-by Ends (Ask (Know texts) go) i cause es t le (inl (answer, front, rest, is, did, goes)) =
-    subst (λ (es : List Event). IsCutBy cause es i) (sym is) (cut-then cause front rest i i (none-clean front i le did.0) (goes-cut-by Ends (go answer) i cause rest (t answer) le goes))
-goes-cut-by Ends (Ask act go) i cause es t le (inr (why, same, inl (memory, none))) =
-    subst (λ (c : Stop). IsCutBy c es i) (sym (err-same cause why same ∙ memory)) (memory-cut es i le none)
-goes-cut-by Ends (Ask (Line k) go) i cause es t le (inr (why, same, inr part)) =
-    let P : Input → Type 0 = λ k. Partly why (Line k) es in
-    subst (λ (c : Stop). IsCutBy c es i) (sym (err-same cause why same)) (line-cut-by why es i le (subst P t.0 part))
-goes-cut-by Ends (Ask (Say bytes) go) i cause es t le (inr (why, same, inr part)) =
-    subst (λ (c : Stop). IsCutBy c es i) (sym (err-same cause why same)) (say-cut-by why bytes es i le part)
-goes-cut-by Ends (Ask (Read name) go) i cause es t le (inr (why, same, inr part)) =
-    subst (λ (c : Stop). IsCutBy c es i) (sym (err-same cause why same)) (read-cut-by why name es i le part)
-goes-cut-by Ends (Ask (Know texts) go) i cause es t le (inr (why, same, inr part)) = absurd (no-part why texts es part)
+goes-cut-by Ends (Ask act go) i cause es t le (inl (answer, front, rest, is, did, goes)) =
+    let c = did-clean act answer front i le t.0 did in
+    let more = goes-cut-by Ends (go answer) (input_after act answer i) cause rest (t.1 answer) c.within goes in
+    subst (λ (es : List Event). IsCutBy cause es i) (sym is) (cut-then cause front rest i (input_after act answer i) c more)
+goes-cut-by {R = R} Ends (Ask act go) i cause es t le (inr (why, same, inl (memory, none))) =
+    subst (λ (c : Stop). IsCutBy c es i) (sym (err-same {R = R} cause why same ∙ memory)) (memory-cut es i le none)
+goes-cut-by {R = R} Ends (Ask act go) i cause es t le (inr (why, same, inr part)) =
+    subst (λ (c : Stop). IsCutBy c es i) (sym (err-same {R = R} cause why same)) (cut-by act why es i le t.0 part)
+
+-- the cut is by a fault of the disk
+abbrev is_disk : Stop → Bool
+is_disk stop.Disk = true
+is_disk cause = false
+
+abbrev is_disk_cut : {R : Type 0} → Result R Stop → Bool
+is_disk_cut (Err cause) = is_disk cause
+is_disk_cut (Ok r) = false
+
+-- where failed loads cut, the events have one exactly where there is such a cut; elsewhere there is none
+abbrev Loads : Bool → Bool → List Event → Type 0
+Loads true is_cut es = some_load_saw is_failed es ≡ is_cut
+Loads false is_cut es = is_cut ≡ false
+
+-- the same of one act that is carried out
+abbrev Quiet : Bool → List Event → Type 0
+Quiet true es = Unseen is_failed es
+Quiet false es = Unit {0}
+
+load-found : (name : List ℕ) (f : Found) → some_load_saw is_failed (event.Load name (seen_of f) ∷ []) ≡ false
+load-found name (found.Bytes bytes held) = refl
+load-found name (found.TooLarge n) = refl
+
+did-quiet : (b : Bool) (act : Act) (a : Answer act) (es : List Event) → may_load b act ≡ true → Did act a es → Quiet b es
+did-quiet false act a es may did = tt
+did-quiet true (Line i) a es may did = unseen-did is_failed (Line i) a es refl did
+did-quiet true (Say bytes) u es may did = unseen-did is_failed (Say bytes) u es refl did
+did-quiet true (Read name) f es may did = subst (Unseen is_failed) (sym did) (load-found name f)
+did-quiet true (Try name) f es may did = absurd (cc may)
+did-quiet true (Know texts) rows es may did = unseen-did is_failed (Know texts) rows es refl did
+
+cut-loads : (b : Bool) (act : Act) (cause : Stop) (es : List Event) → may_load b act ≡ true → Partly act cause es → Loads b (is_disk cause) es
+cut-loads true (Line i) stop.Input es may part = unseen-cut is_failed (Line i) stop.Input es refl part
+cut-loads true (Line i) stop.TooMuch es may part = unseen-cut is_failed (Line i) stop.TooMuch es refl part
+cut-loads true (Line i) stop.Memory es may part = unseen-cut is_failed (Line i) stop.Memory es refl part
+cut-loads true (Line i) stop.Output es may never = absurd never
+cut-loads true (Line i) stop.Disk es may never = absurd never
+cut-loads false (Line i) stop.Input es may part = refl
+cut-loads false (Line i) stop.TooMuch es may part = refl
+cut-loads false (Line i) stop.Memory es may part = refl
+cut-loads false (Line i) stop.Output es may never = absurd never
+cut-loads false (Line i) stop.Disk es may never = absurd never
+cut-loads true (Say bytes) stop.Output es may part = unseen-cut is_failed (Say bytes) stop.Output es refl part
+cut-loads false (Say bytes) stop.Output es may part = refl
+cut-loads b (Say bytes) stop.Input es may never = absurd never
+cut-loads b (Say bytes) stop.Disk es may never = absurd never
+cut-loads b (Say bytes) stop.TooMuch es may never = absurd never
+cut-loads b (Say bytes) stop.Memory es may never = absurd never
+cut-loads true (Read name) stop.Disk es may is = ap (some_load_saw is_failed) is
+cut-loads true (Read name) stop.Memory es may is = ap (some_load_saw is_failed) is
+cut-loads true (Read name) stop.Input es may never = absurd never
+cut-loads true (Read name) stop.Output es may never = absurd never
+cut-loads true (Read name) stop.TooMuch es may never = absurd never
+cut-loads false (Read name) cause es may part = absurd (cc may)
+cut-loads true (Try name) cause es may part = absurd (cc may)
+cut-loads false (Try name) stop.Memory es may is = refl
+cut-loads false (Try name) stop.Disk es may never = absurd never
+cut-loads false (Try name) stop.Input es may never = absurd never
+cut-loads false (Try name) stop.Output es may never = absurd never
+cut-loads false (Try name) stop.TooMuch es may never = absurd never
+cut-loads b (Know texts) cause es may never = absurd never
+
+loads-none : (b is_cut : Bool) (es : List Event) → is_cut ≡ false → es ≡ [] → Loads b is_cut es
+loads-none true is_cut es h is = unseen-none is_failed es is ∙ sym h
+loads-none false is_cut es h is = h
+
+loads-then : (b is_cut : Bool) (front rest : List Event) → Quiet b front → Loads b is_cut rest → Loads b is_cut (front ++ rest)
+loads-then true is_cut front rest quiet more = saw-append is_failed front rest quiet ∙ more
+loads-then false is_cut front rest quiet more = more
+
+goes-loads : {R : Type 0} (b : Bool) (p : Play R) (es : List Event) (out : Result R Stop) → AllActs (may_load b) p → Goes p es out → Loads b (is_disk_cut out) es
+goes-loads b (Ret r) es out all (none, inl same) = loads-none b (is_disk_cut out) es (ap is_disk_cut same) none
+goes-loads b (Ret r) es out all (none, inr same) = loads-none b (is_disk_cut out) es (ap is_disk_cut same) none
+goes-loads b (Ask act go) es out all (inl (answer, front, rest, is, did, goes)) =
+    subst (Loads b (is_disk_cut out)) (sym is) (loads-then b (is_disk_cut out) front rest (did-quiet b act answer front all.0 did) (goes-loads b (go answer) rest out (all.1 answer) goes))
+goes-loads b (Ask act go) es out all (inr (why, same, inl (memory, none))) =
+    loads-none b (is_disk_cut out) es (ap is_disk_cut same ∙ ap is_disk memory) none
+goes-loads b (Ask act go) es out all (inr (why, same, inr part)) =
+    subst (λ (c : Bool). Loads b c es) (sym (ap is_disk_cut same)) (cut-loads b act why es all.0 part)
+
+front-counted : (b : Bool) (es : List Event) → Loads b false es → some_load_saw is_failed (counted b es) ≡ false
+front-counted true es loads = loads
+front-counted false es loads = refl
+
+end-counted : (b is_cut : Bool) (es : List Event) → Loads b is_cut es → some_load_saw is_failed (counted b es) ≡ is_cut
+end-counted true is_cut es loads = loads
+end-counted false is_cut es loads = sym loads
+
+-- where in some rounds failed loads cut, and in the others none does, those rounds have one exactly where the run is cut off so
+loop-loads : {X R : Type 0} (round : X → Play (Next X R)) (cuts : X → Bool) → ((x : X) → AllActs (may_load (cuts x)) (round x))
+    → {x : X} {es : List Event} {out : Result R Stop} (loop : Loop round x es out) → some_load_saw is_failed (events_at cuts loop) ≡ is_disk_cut out
+loop-loads round cuts all {x = x} (again {y = y} front rest is goes more) =
+    let first = front-counted (cuts x) front (goes-loads (cuts x) (round x) front (Ok (Go y)) (all x) goes) in
+    saw-append is_failed (counted (cuts x) front) (events_at cuts more) first ∙ loop-loads round cuts all more
+loop-loads round cuts all {x = x} {es = es} (last {r = r} goes) =
+    end-counted (cuts x) false es (goes-loads (cuts x) (round x) es (Ok (Last r)) (all x) goes)
+loop-loads round cuts all {x = x} {es = es} (cut {cause = cause} goes) =
+    end-counted (cuts x) (is_disk cause) es (goes-loads (cuts x) (round x) es (Err cause) (all x) goes)
 
 abbrev Verdict : {R : Type 0} → Result R Stop → List Event → Input → Type 0
 Verdict (Ok r) es i = (j : Input) × IsClean es i j
@@ -270,17 +340,26 @@ amount-none n stop.Output other a = a
 amount-none n stop.Disk other a = a
 amount-none n stop.Memory other a = a
 
-explained : {R : Type 0} (out : Result R Stop) (es : List Event) (i : Input) → i.taken ≡ 0 → Verdict out es i → IsExplained out es
-explained (Ok r) es i zero_taken (j, c) = record {
+disk-cut : {R : Type 0} (out : Result R Stop) → is_disk_cut out ≡ true → out ≡ Err stop.Disk
+disk-cut (Ok r) h = absurd (cc h)
+disk-cut (Err stop.Disk) h = refl
+disk-cut (Err stop.Input) h = absurd (cc h)
+disk-cut (Err stop.Output) h = absurd (cc h)
+disk-cut (Err stop.TooMuch) h = absurd (cc h)
+disk-cut (Err stop.Memory) h = absurd (cc h)
+
+explained : {R : Type 0} (out : Result R Stop) (es loads : List Event) (i : Input) → i.taken ≡ 0 → some_load_saw is_failed loads ≡ is_disk_cut out
+    → Verdict out es i → IsExplained out es loads
+explained (Ok r) es loads i zero_taken disks (j, c) = record {
   input = (λ e. absurd (cc e), λ h. absurd (cc (h, c.in_ok)));
   output = (λ e. absurd (cc e), λ h. absurd (cc (h, c.out_ok)));
-  disk = (λ e. absurd (cc e), λ h. absurd (cc (h, c.load_ok)));
+  disk = (λ e. absurd (cc e), λ h. absurd (cc (h, disks)));
   too_much = (λ e. absurd (cc e), λ h. absurd (let b = c.bytes in let w = c.within in omega arith));
 }
-explained {R = R} (Err cause) es i zero_taken c = record {
+explained {R = R} (Err cause) es loads i zero_taken disks c = record {
   input = (λ e. c.in_is ∙ ap is_in (err-same {R = R} cause stop.Input e), λ h. ap (was_cut {R = R}) (of-in cause (sym c.in_is ∙ h)));
   output = (λ e. c.out_is ∙ ap is_out (err-same {R = R} cause stop.Output e), λ h. ap (was_cut {R = R}) (of-out cause (sym c.out_is ∙ h)));
-  disk = (λ e. c.load_is ∙ ap is_disk (err-same {R = R} cause stop.Disk e), λ h. ap (was_cut {R = R}) (of-disk cause (sym c.load_is ∙ h)));
+  disk = (λ e. disks ∙ ap is_disk_cut e, λ h. disk-cut (Err cause) (sym disks ∙ h));
   too_much = (λ e. (let a = subst (λ (s : Stop). Amount s (i.taken + bytes_in es)) (err-same {R = R} cause stop.TooMuch e) c.amount in omega arith), λ h. ap (was_cut {R = R}) (of-amount cause (i.taken + bytes_in es) (omega arith) c.amount));
 }
   where
@@ -298,13 +377,6 @@ explained {R = R} (Err cause) es i zero_taken c = record {
     of-out stop.TooMuch h = absurd (cc h)
     of-out stop.Memory h = absurd (cc h)
 
-    of-disk : (cause : Stop) → is_disk cause ≡ true → cause ≡ stop.Disk
-    of-disk stop.Disk h = refl
-    of-disk stop.Input h = absurd (cc h)
-    of-disk stop.Output h = absurd (cc h)
-    of-disk stop.TooMuch h = absurd (cc h)
-    of-disk stop.Memory h = absurd (cc h)
-
     of-amount : (cause : Stop) (n : ℕ) → input_limit < n → Amount cause n → cause ≡ stop.TooMuch
     of-amount stop.TooMuch n more a = refl
     of-amount stop.Input n more a = absurd (omega arith)
@@ -312,7 +384,10 @@ explained {R = R} (Err cause) es i zero_taken c = record {
     of-amount stop.Disk n more a = absurd (omega arith)
     of-amount stop.Memory n more a = absurd (omega arith)
 
--- where each round goes on with the input that the round before left, a run from no input explains its cut
-pub loop-explained : {X R : Type 0} (round : X → Play (Next X R)) (input_of : X → Input) (x : X) (es : List Event) (out : Result R Stop) → ((x : X) → Threads (NextFrom input_of) (input_of x) (round x))
-    → (input_of x).taken ≡ 0 → Loop round x es out → IsExplained out es
-loop-explained round input_of x es out t none loop = explained out es (input_of x) none (loop-verdict round input_of t (omega arith) loop)
+-- Where each round goes on with the input that the round before left, and failed loads cut in some rounds and in no other, a run from no
+-- input explains its cut.
+pub loop-explained : {X R : Type 0} (round : X → Play (Next X R)) (input_of : X → Input) (cuts : X → Bool) (x : X) (es : List Event) (out : Result R Stop)
+    → ((x : X) → Threads (NextFrom input_of) (input_of x) (round x)) → ((x : X) → AllActs (may_load (cuts x)) (round x))
+    → (input_of x).taken ≡ 0 → (loop : Loop round x es out) → IsExplained out es (events_at cuts loop)
+loop-explained round input_of cuts x es out t loads none loop =
+    explained out es (events_at cuts loop) (input_of x) none (loop-loads round cuts loads loop) (loop-verdict round input_of t (omega arith) loop)

@@ -13,7 +13,7 @@ use Rattle.host_port.specs.Own.{own}
 use Rattle.session_play.specs.declared.stop.Stop.{Stop}
 use Rattle.session_play.specs.declared.stop.Stop.TheVariants as stop
 use Rattle.session_play.specs.Input.{Input, input_limit, buffer_size, first_line, next_line, next_of, took, is_empty, Reads}
-use Rattle.session_play.specs.Play.{Ask, Ret, Line, Goes, Partly, TookSome, with_input}
+use Rattle.session_play.specs.Play.{Ask, Ret, Line, Goes, Partly, ReadsShort, TookSome, with_input}
 
 -- where nothing can be handed out, the end was not seen
 pub still_open : (i : Input) → next_line i ≡ None → i.ended ≡ false
@@ -42,7 +42,7 @@ at-event bytes failed result i j d e took is =
     subst P (sym is) (tt, took)
 
 pub filled-err : (i : Input) → next_line i ≡ None → (d : Disk) (e : Event) → e ≡ event.In [] true → Agrees d e × TookSome (Err stop.Input) i i (own (e ∷ []))
-filled-err i none d e is = at-event [] true (Err stop.Input) i i d e ([], i, refl, none, refl) is
+filled-err i none d e is = at-event [] true (Err stop.Input) i i d e ([], i, record { reads = refl; none = none }, refl) is
 
 pub filled-end : (i : Input) (n taken : ℕ) (buf rest : List ℕ) → next_line i ≡ None → taken ≤ input_limit → n ≡ 0 → rest ≡ i.rest → taken ≡ i.taken → (d : Disk) (e : Event) → e ≡ event.In (take n buf) false → Agrees d e × TookSome (Ok tt) i (record { rest = rest; ended = true; taken = taken }) (own (e ∷ []))
 filled-end i n taken buf rest none within zero_is rest_is taken_is d e is =
@@ -73,7 +73,7 @@ pub filled-large : (i : Input) (n taken : ℕ) (buf : List ℕ) (j : Input) → 
     → Agrees d e × TookSome (Err stop.TooMuch) i j (own (e ∷ []))
 filled-large i n taken buf j none le fits taken_is more d e is =
     at-event (take n buf) false (Err stop.TooMuch) i j d e
-    ([], i, take n buf, refl, none, ((let l = length-take-le n buf le in omega arith), (let l = length-take-le n buf le in omega arith)), refl) is
+    ([], i, take n buf, record { reads = refl; none = none }, ((let l = length-take-le n buf le in omega arith), (let l = length-take-le n buf le in omega arith)), refl) is
 
 pub filled-memory : (i : Input) (n : ℕ) (buf : List ℕ) (j : Input) → next_line i ≡ None → i.taken + n ≤ input_limit → n ≤ length buf → length buf ≤ buffer_size → (d : Disk) (e : Event) → e ≡ event.In (take n buf) false → Agrees d e × TookSome (Err stop.Memory) i j (own (e ∷ []))
 filled-memory i n buf j none within le fits d e is =
@@ -89,12 +89,37 @@ reads-more (e ∷ es) fs i j k x y = absurd x
 pub line-taken : (i j k : Input) (line : Option (List ℕ)) (es : List Event) → next_line j ≡ Some (line, k) → Reads i es j → Goes (Ask (Line i) Ret) es (with_input (Ok line) k)
 line-taken i j k line es is reads = inl ((line, k), es, [], sym (append-nil es), (j, reads, is), (refl, inl refl))
 
+-- takings in front of takings
+short-after : (i j m : Input) (es front : List Event) → Reads i es j → ReadsShort j m front → ReadsShort i m (es ++ front)
+short-after i j m es front reads short = record { reads = reads-more es front i j m reads short.reads; none = short.none }
+
 -- a cut after takings
-pub line-cut : (i j k : Input) (cause : Stop) (es fs : List Event) → Reads i es j → Partly cause (Line j) fs → Goes (Ask (Line i) Ret) (es ++ fs) (with_input (Err cause) k)
-line-cut i j k stop.Input es fs reads (front, m, more, none, is) =
-    inr (stop.Input, refl, inr ((es ++ front, m, reads-more es front i j m reads more, none, ap (λ r. es ++ r) is ∙ sym (append_assoc es front (event.In [] true ∷ [])))))
-line-cut i j k stop.TooMuch es fs reads (front, m, bytes, more, none, large, is) =
-    inr (stop.TooMuch, refl, inr ((es ++ front, m, bytes, reads-more es front i j m reads more, none, large, ap (λ r. es ++ r) is ∙ sym (append_assoc es front (event.In bytes false ∷ [])))))
+pub line-cut : (i j k : Input) (cause : Stop) (es fs : List Event) → Reads i es j → Partly (Line j) cause fs
+    → Goes (Ask (Line i) Ret) (es ++ fs) (with_input (Err cause) k)
+line-cut i j k stop.Input es fs reads (front, m, short, is) =
+    inr (
+      stop.Input,
+      refl,
+      inr ((
+        es ++ front,
+        m,
+        short-after i j m es front reads short,
+        ap (λ r. es ++ r) is ∙ sym (append_assoc es front (event.In [] true ∷ [])),
+      )),
+    )
+line-cut i j k stop.TooMuch es fs reads (front, m, bytes, short, large, is) =
+    inr (
+      stop.TooMuch,
+      refl,
+      inr ((
+        es ++ front,
+        m,
+        bytes,
+        short-after i j m es front reads short,
+        large,
+        ap (λ r. es ++ r) is ∙ sym (append_assoc es front (event.In bytes false ∷ [])),
+      )),
+    )
 line-cut i j k stop.Memory es fs reads (m, more) = inr (stop.Memory, refl, inr ((m, reads-more es fs i j m reads more)))
 line-cut i j k stop.Output es fs reads never = absurd never
 line-cut i j k stop.Disk es fs reads never = absurd never
@@ -102,5 +127,5 @@ line-cut i j k stop.Disk es fs reads never = absurd never
 pub reads-on : (i j m k : Input) → m ≡ j → (es fs : List Event) → Reads i es j → Reads m fs k → Reads i (es ++ fs) k
 reads-on i j m k same es fs x y = let R : Input → Type 0 = λ m. Reads m fs k in reads-more es fs i j k x (subst R same y)
 
-pub line-cut-on : (i j m k : Input) (cause : Stop) → m ≡ j → (es fs : List Event) → Reads i es j → Partly cause (Line m) fs → Goes (Ask (Line i) Ret) (es ++ fs) (with_input (Err cause) k)
-line-cut-on i j m k cause same es fs x y = let R : Input → Type 0 = λ m. Partly cause (Line m) fs in line-cut i j k cause es fs x (subst R same y)
+pub line-cut-on : (i j m k : Input) (cause : Stop) → m ≡ j → (es fs : List Event) → Reads i es j → Partly (Line m) cause fs → Goes (Ask (Line i) Ret) (es ++ fs) (with_input (Err cause) k)
+line-cut-on i j m k cause same es fs x y = let R : Input → Type 0 = λ m. Partly (Line m) cause fs in line-cut i j k cause es fs x (subst R same y)

@@ -3,5 +3,8 @@ pub mod ActLemmas
 pub mod InputLemmas
 pub mod LoopLemmas
 pub mod LineLemmas
+pub mod ShapeLemmas
+pub mod SawLemmas
 pub mod CauseLemmas
 pub mod LooksLemmas
+pub mod LeadLemmas

@@ -14,7 +14,8 @@ use Rattle.host_port.proofs.OwnLemmas.{disk-of_others}
 use Rattle.session_play.specs.declared.stop.Stop.{Stop}
 use Rattle.session_play.specs.declared.stop.Stop.TheVariants as stop
 use Rattle.session_play.specs.Input.{Input, took, Reads}
-use Rattle.session_play.specs.Play.{Act, Answer, Line, Say, Read, Know, Play, Ret, Ask, Says, SaysInPart, Did, Partly, Goes, Next, Loop, again, last, cut}
+use Rattle.session_play.specs.Acts.{is_neutral, AllActs}
+use Rattle.session_play.specs.Play.{Act, Answer, Line, Say, Read, Try, Know, Play, Ret, Ask, Says, SaysInPart, Did, Partly, Goes, Next, Loop, again, last, cut}
 
 looks-then : (es fs : List Event) → OnlyLooks es → OnlyLooks fs → OnlyLooks (es ++ fs)
 looks-then [] fs x y = y
@@ -43,58 +44,56 @@ looks-part bytes (event.Out front false ∷ es) s = (refl, looks-part s.0 es s.2
 looks-part bytes (event.Out front true ∷ es) s = (refl, looks-none es s.2)
 looks-part bytes (e ∷ es) never = absurd never
 
-looks-did : (act : Act) (a : Answer act) (es : List Event) → Did act a es → OnlyLooks es
-looks-did (Line i) a es did = looks-reads es i did.0 did.1
-looks-did (Say bytes) u es did = looks-says bytes es did
-looks-did (Read name) f es did = subst OnlyLooks (sym did) (refl, tt)
-looks-did (Know texts) rows es did = looks-none es did.0
-
-looks-line : (cause : Stop) (i : Input) (es : List Event) → Partly cause (Line i) es → OnlyLooks es
-looks-line stop.Input i es (front, j, reads, none, is) = subst OnlyLooks (sym is) (looks-then front _ (looks-reads front i j reads) (refl, tt))
-looks-line stop.TooMuch i es (front, j, bytes, reads, none, large, is) = subst OnlyLooks (sym is) (looks-then front _ (looks-reads front i j reads) (refl, tt))
+looks-line : (cause : Stop) (i : Input) (es : List Event) → Partly (Line i) cause es → OnlyLooks es
+looks-line stop.Input i es (front, j, short, is) = subst OnlyLooks (sym is) (looks-then front _ (looks-reads front i j short.reads) (refl, tt))
+looks-line stop.TooMuch i es (front, j, bytes, short, large, is) =
+    subst OnlyLooks (sym is) (looks-then front _ (looks-reads front i j short.reads) (refl, tt))
 looks-line stop.Memory i es (j, reads) = looks-reads es i j reads
 looks-line stop.Output i es never = absurd never
 looks-line stop.Disk i es never = absurd never
 
-looks-say : (cause : Stop) (bytes : List ℕ) (es : List Event) → Partly cause (Say bytes) es → OnlyLooks es
-looks-say stop.Output bytes es part = looks-part bytes es part
-looks-say stop.Input bytes es never = absurd never
-looks-say stop.TooMuch bytes es never = absurd never
-looks-say stop.Memory bytes es never = absurd never
-looks-say stop.Disk bytes es never = absurd never
+-- an act that changes nothing is carried out by events that change no disk
+pub neutral-did : (act : Act) (a : Answer act) (es : List Event) → is_neutral act ≡ true → Did act a es → OnlyLooks es
+neutral-did (Line i) a es neutral did = looks-reads es i did.0 did.1
+neutral-did (Say bytes) u es neutral did = looks-says bytes es did
+neutral-did (Read name) f es neutral did = subst OnlyLooks (sym did) (refl, tt)
+neutral-did (Try name) f es neutral did = subst OnlyLooks (sym did) (refl, tt)
+neutral-did (Know texts) rows es neutral did = looks-none es did.0
 
-looks-read : (cause : Stop) (name : List ℕ) (es : List Event) → Partly cause (Read name) es → OnlyLooks es
-looks-read stop.Disk name es is = subst OnlyLooks (sym is) (refl, tt)
-looks-read stop.Memory name es is = subst OnlyLooks (sym is) (refl, tt)
-looks-read stop.Input name es never = absurd never
-looks-read stop.Output name es never = absurd never
-looks-read stop.TooMuch name es never = absurd never
+-- where it is cut off, too
+pub neutral-part : (act : Act) (cause : Stop) (es : List Event) → is_neutral act ≡ true → Partly act cause es → OnlyLooks es
+neutral-part (Line i) cause es neutral part = looks-line cause i es part
+neutral-part (Say bytes) stop.Output es neutral part = looks-part bytes es part
+neutral-part (Say bytes) stop.Input es neutral never = absurd never
+neutral-part (Say bytes) stop.Disk es neutral never = absurd never
+neutral-part (Say bytes) stop.TooMuch es neutral never = absurd never
+neutral-part (Say bytes) stop.Memory es neutral never = absurd never
+neutral-part (Read name) stop.Disk es neutral is = subst OnlyLooks (sym is) (refl, tt)
+neutral-part (Read name) stop.Memory es neutral is = subst OnlyLooks (sym is) (refl, tt)
+neutral-part (Read name) stop.Input es neutral never = absurd never
+neutral-part (Read name) stop.Output es neutral never = absurd never
+neutral-part (Read name) stop.TooMuch es neutral never = absurd never
+neutral-part (Try name) stop.Memory es neutral is = subst OnlyLooks (sym is) (refl, tt)
+neutral-part (Try name) stop.Disk es neutral never = absurd never
+neutral-part (Try name) stop.Input es neutral never = absurd never
+neutral-part (Try name) stop.Output es neutral never = absurd never
+neutral-part (Try name) stop.TooMuch es neutral never = absurd never
+neutral-part (Know texts) cause es neutral never = absurd never
 
-looks-know : (cause : Stop) (texts : List (List ℕ)) (es : List Event) → Partly cause (Know texts) es → OnlyLooks es
-looks-know stop.Input texts es never = absurd never
-looks-know stop.Output texts es never = absurd never
-looks-know stop.Disk texts es never = absurd never
-looks-know stop.TooMuch texts es never = absurd never
-looks-know stop.Memory texts es never = absurd never
+goes-looks : {R : Type 0} (p : Play R) (es : List Event) (out : Result R Stop) → AllActs is_neutral p → Goes p es out → OnlyLooks es
+goes-looks (Ret r) es out all g = looks-none es g.0
+goes-looks (Ask act go) es out all (inl (answer, front, rest, is, did, goes)) =
+    subst OnlyLooks (sym is) (looks-then front rest (neutral-did act answer front all.0 did) (goes-looks (go answer) rest out (all.1 answer) goes))
+goes-looks (Ask act go) es out all (inr (cause, is, inl none)) = looks-none es none.1
+goes-looks (Ask act go) es out all (inr (cause, is, inr part)) = neutral-part act cause es all.0 part
 
-looks-partly : (cause : Stop) (act : Act) (es : List Event) → Partly cause act es → OnlyLooks es
-looks-partly cause (Line i) es part = looks-line cause i es part
-looks-partly cause (Say bytes) es part = looks-say cause bytes es part
-looks-partly cause (Read name) es part = looks-read cause name es part
-looks-partly cause (Know texts) es part = looks-know cause texts es part
-
-goes-looks : {R : Type 0} (p : Play R) (es : List Event) (out : Result R Stop) → Goes p es out → OnlyLooks es
-goes-looks (Ret r) es out g = looks-none es g.0
-goes-looks (Ask act go) es out (inl (answer, front, rest, is, did, goes)) =
-    subst OnlyLooks (sym is) (looks-then front rest (looks-did act answer front did) (goes-looks (go answer) rest out goes))
-goes-looks (Ask act go) es out (inr (cause, is, inl none)) = looks-none es none.1
-goes-looks (Ask act go) es out (inr (cause, is, inr part)) = looks-partly cause act es part
-
--- the events of rounds of plays change no disk
-pub loop-looks : {X R : Type 0} {round : X → Play (Next X R)} {x : X} {es : List Event} {out : Result R Stop} → Loop round x es out → OnlyLooks es
-loop-looks {round = round} {x = x} (again {y = y} front rest is goes more) = subst OnlyLooks (sym is) (looks-then front rest (goes-looks (round x) front _ goes) (loop-looks more))
-loop-looks {round = round} {x = x} {es = es} (last goes) = goes-looks (round x) es _ goes
-loop-looks {round = round} {x = x} {es = es} (cut goes) = goes-looks (round x) es _ goes
+-- the events of rounds of plays of such acts change no disk
+pub loop-looks : {X R : Type 0} {round : X → Play (Next X R)} → ((x : X) → AllActs is_neutral (round x))
+    → {x : X} {es : List Event} {out : Result R Stop} → Loop round x es out → OnlyLooks es
+loop-looks {round = round} all {x = x} (again {y = y} front rest is goes more) =
+    subst OnlyLooks (sym is) (looks-then front rest (goes-looks (round x) front _ (all x) goes) (loop-looks all more))
+loop-looks {round = round} all {x = x} {es = es} (last goes) = goes-looks (round x) es _ (all x) goes
+loop-looks {round = round} all {x = x} {es = es} (cut goes) = goes-looks (round x) es _ (all x) goes
 
 -- events with what follows them change no disk
 pub looks-both : (es fs : List Event) → OnlyLooks es → OnlyLooks fs → OnlyLooks (es ++ fs)

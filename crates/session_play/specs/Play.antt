@@ -17,18 +17,22 @@ use Rattle.session_play.specs.declared.stop.Stop.{Stop}
 use Rattle.session_play.specs.declared.stop.Stop.TheVariants as stop
 use Rattle.session_play.specs.Input.{Input, input_limit, buffer_size, next_line, Reads}
 
--- what a run asks: the next line of its input, to say bytes, to load a file; and the rows of some texts, which it finds without the outside
+-- What a run asks: the next line of its input; to say bytes; to load a file, where a failure cuts the run off; to try to load one, where a
+-- failure is an answer; and the rows of some texts, which it finds without the outside.
 pub data Act : Type 0 where
   Line : Input → Act
   Say : List ℕ → Act
   Read : List ℕ → Act
+  Try : List ℕ → Act
   Know : List (List ℕ) → Act
 
--- what it is answered: the line, or none at the end, with the input that is left; nothing; what the load found; the rows
+-- what it is answered: the line, or none at the end, with the input that is left; nothing; what the load found; the same, or none where the
+-- load failed; the rows
 abbrev pub Answer : Act → Type 0
 Answer (Line i) = Option (List ℕ) × Input
 Answer (Say bytes) = Unit {0}
 Answer (Read name) = Found
+Answer (Try name) = Option Found
 Answer (Know texts) = List Row
 
 -- acts, each followed by what its answer calls for, to a result
@@ -59,33 +63,47 @@ abbrev pub seen_of : Found → Seen
 seen_of (found.Bytes bytes held) = seen.Bytes bytes held
 seen_of (found.TooLarge n) = seen.TooLarge n
 
+-- what the event of a load says that found something, or failed
+abbrev pub seen_at : Option Found → Seen
+seen_at (Some f) = seen_of f
+seen_at None = seen.Failed
+
 -- the own events that carry out an act, with its answer
 abbrev pub Did : (act : Act) → Answer act → List Event → Type 0
 Did (Line i) a es = (j : Input) × Reads i es j × (next_line j ≡ Some a)
 Did (Say bytes) u es = Says bytes es
 Did (Read name) f es = es ≡ event.Load name (seen_of f) ∷ []
+Did (Try name) f es = es ≡ event.Load name (seen_at f) ∷ []
 Did (Know texts) rows es = (es ≡ []) × AreRows texts rows
 
 -- bytes that fit the buffer and pass the limit
 abbrev pub IsTooMuch : Input → List ℕ → Type 0
 IsTooMuch i bytes = (length bytes ≤ buffer_size) × (input_limit < i.taken + length bytes)
 
+-- takings of input up to where no line can be handed out
+pub record ReadsShort (i j : Input) (front : List Event) : Type 0 where
+  pub reads : Reads i front j
+  pub none : next_line j ≡ None
+
 -- the own events of an act that is cut off, and why it was
-abbrev pub Partly : Stop → Act → List Event → Type 0
-Partly stop.Input (Line i) es = (front : List Event) × (j : Input) × Reads i front j × (next_line j ≡ None) × (es ≡ front ++ event.In [] true ∷ [])
-Partly stop.TooMuch (Line i) es = (front : List Event) × (j : Input) × (bytes : List ℕ) × Reads i front j × (next_line j ≡ None) × IsTooMuch j bytes × (es ≡ front ++ event.In bytes false ∷ [])
-Partly stop.Memory (Line i) es = (j : Input) × Reads i es j
-Partly stop.Output (Say bytes) es = SaysInPart bytes es
-Partly stop.Disk (Read name) es = es ≡ event.Load name seen.Failed ∷ []
-Partly stop.Memory (Read name) es = es ≡ event.Load name seen.Memory ∷ []
-Partly cause act es = ⊥
+abbrev pub Partly : Act → Stop → List Event → Type 0
+Partly (Line i) stop.Input es = (front : List Event) × (j : Input) × ReadsShort i j front × (es ≡ front ++ event.In [] true ∷ [])
+Partly (Line i) stop.TooMuch es =
+    (front : List Event) × (j : Input) × (bytes : List ℕ) × ReadsShort i j front × IsTooMuch j bytes × (es ≡ front ++ event.In bytes false ∷ [])
+Partly (Line i) stop.Memory es = (j : Input) × Reads i es j
+Partly (Say bytes) stop.Output es = SaysInPart bytes es
+Partly (Read name) stop.Disk es = es ≡ event.Load name seen.Failed ∷ []
+Partly (Read name) stop.Memory es = es ≡ event.Load name seen.Memory ∷ []
+Partly (Try name) stop.Memory es = es ≡ event.Load name seen.Memory ∷ []
+Partly act cause es = ⊥
 
 -- The events are those of the play, to its end or to where it was cut off. Want of memory may come at any place.
 abbrev pub Goes : {R : Type 0} → Play R → List Event → Result R Stop → Type 0
 Goes (Ret r) es out = (es ≡ []) × ((out ≡ Ok r) ⊎ (out ≡ Err stop.Memory))
 Goes (Ask act k) es out =
-    ((answer : Answer act) × (front : List Event) × (rest : List Event) × (es ≡ front ++ rest) × Did act answer front × Goes (k answer) rest out)
-    ⊎ ((cause : Stop) × (out ≡ Err cause) × (((cause ≡ stop.Memory) × (es ≡ [])) ⊎ Partly cause act es))
+    ((answer : Answer act) × (front : List Event) × (rest : List Event) × (es ≡ front ++ rest)
+    × Did act answer front × Goes (k answer) rest out)
+    ⊎ ((cause : Stop) × (out ≡ Err cause) × (((cause ≡ stop.Memory) × (es ≡ [])) ⊎ Partly act cause es))
 
 -- a round of a loop ends with the next state, or with the loop's result
 pub data Next (X R : Type 0) : Type 0 where
@@ -94,12 +112,14 @@ pub data Next (X R : Type 0) : Type 0 where
 
 -- rounds from a state on, to the end or to a cut
 pub data Loop {X R : Type 0} (round : X → Play (Next X R)) : X → List Event → Result R Stop → Type 0 where
-  again : {x y : X} {es : List Event} {out : Result R Stop} (front rest : List Event) → es ≡ front ++ rest → Goes (round x) front (Ok (Go y)) → Loop round y rest out → Loop round x es out
+  again : {x y : X} {es : List Event} {out : Result R Stop} (front rest : List Event) → es ≡ front ++ rest
+      → Goes (round x) front (Ok (Go y)) → Loop round y rest out → Loop round x es out
   last : {x : X} {es : List Event} {r : R} → Goes (round x) es (Ok (Last r)) → Loop round x es (Ok r)
   cut : {x : X} {es : List Event} {cause : Stop} → Goes (round x) es (Err cause) → Loop round x es (Err cause)
 
 -- the own events of a whole run: rounds from its opening to an end or a cut, and then what the ending adds
-pub record Whole {X R : Type 0} (round : X → Play (Next X R)) (opening : X) (Ending : Result R Stop → List Event → Type 0) (es : List Event) : Type 0 where
+pub record Whole {X R : Type 0} (round : X → Play (Next X R)) (opening : X) (Ending : Result R Stop → List Event → Type 0)
+    (es : List Event) : Type 0 where
   pub out : Result R Stop
   pub front : List Event
   pub behind : List Event
@@ -124,4 +144,4 @@ with_input (Err cause) j = Err cause
 -- input was taken from i to j, or the taking was cut off
 abbrev pub TookSome : Result Unit Stop → Input → Input → List Event → Type 0
 TookSome (Ok u) i j es = Reads i es j
-TookSome (Err cause) i j es = Partly cause (Line i) es
+TookSome (Err cause) i j es = Partly (Line i) cause es

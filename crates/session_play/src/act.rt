@@ -2,10 +2,11 @@
 ghost use Rattle.std.specs.Prelude.{◌≡◌, IfErr};
 ghost use Rattle.host_port.specs.Names.{IsFileName};
 ghost use Rattle.host_port.specs.Ran.{Ran};
-ghost use Rattle.session_play.specs.Play.{Play, Ask, Ret, Say, Read, Goes, Caused};
+ghost use Rattle.session_play.specs.Cuts.{IsLoadCut};
+ghost use Rattle.session_play.specs.Play.{Play, Ask, Ret, Say, Read, Try, Goes, Caused};
 
 use crate::Stop;
-use host_port::{Host, LoadError};
+use host_port::{Host, LoadAnswer, LoadError};
 use mail_text::Text;
 use std::alloc::Global;
 
@@ -30,19 +31,42 @@ pub fn say<H: Host>(host: &mut H, bytes: &[u8]) -> Result<(), Stop>
     }
 }
 
-/// Loads a file.
+// What a load answered.
+fn found_of(answer: LoadAnswer) -> Found
+    ensures { result ≡ Found.Bytes answer.bytes answer.held }
+{
+    Found::Bytes {
+        bytes: answer.bytes,
+        held: answer.held,
+    }
+}
+
+/// Loads a file; a failure cuts the run off.
 pub fn load<H: Host>(alloc: Global, host: &mut H, name: &[u8]) -> Result<Found, Stop>
     requires { IsFileName name.now }
     ensures ran { Ran H.start H.told H.counts host.old host.new (λ es. Goes (Ask (Read name.now) Ret) es result) }
     ensures cause { Caused (H.counts host.old) (H.counts host.new) result }
+    ensures only_load { IfErr result IsLoadCut }
 {
     match host.load(alloc, name) {
-        Ok(a) => Ok(Found::Bytes {
-            bytes: a.bytes,
-            held: a.held,
-        }),
+        Ok(answer) => Ok(found_of(answer)),
         Err(LoadError::TooLarge { length }) => Ok(Found::TooLarge { length }),
         Err(LoadError::Failed) => Err(Stop::Disk),
+        Err(LoadError::Memory) => Err(Stop::Memory),
+    }
+}
+
+/// Tries to load a file; None where the load fails.
+pub fn try_load<H: Host>(alloc: Global, host: &mut H, name: &[u8]) -> Result<Option<Found>, Stop>
+    requires { IsFileName name.now }
+    ensures ran { Ran H.start H.told H.counts host.old host.new (λ es. Goes (Ask (Try name.now) Ret) es result) }
+    ensures cause { Caused (H.counts host.old) (H.counts host.new) result }
+    ensures only_memory { IfErr result (λ cause. cause ≡ Stop.Memory) }
+{
+    match host.load(alloc, name) {
+        Ok(answer) => Ok(Some(found_of(answer))),
+        Err(LoadError::TooLarge { length }) => Ok(Some(Found::TooLarge { length })),
+        Err(LoadError::Failed) => Ok(None),
         Err(LoadError::Memory) => Err(Stop::Memory),
     }
 }

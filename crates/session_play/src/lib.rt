@@ -5,6 +5,6 @@ mod act;
 mod reader;
 mod stop;
 
-pub use act::{Found, load, say};
+pub use act::{Found, load, say, try_load};
 pub use reader::Reader;
 pub use stop::Stop;

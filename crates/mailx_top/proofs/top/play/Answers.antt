@@ -5,3 +5,9 @@ returns-in-Some-clause-ran g c = rw c.in-Some.ensures.wanted c.start_session.ens
 
 pub returns-in-None-clause-ran : goal.returns-in-None-clause-ran
 returns-in-None-clause-ran g c = rw c.in-None.ensures.wanted (c.end_with_usage.ensures.ran c.args.env.now)
+
+pub returns-in-Some-clause-named : goal.returns-in-Some-clause-named
+returns-in-Some-clause-named g c = rw c.in-Some.ensures.wanted (c.start_session.ensures.plain, c.start_session.ensures.bad_name)
+
+pub returns-in-None-clause-named : goal.returns-in-None-clause-named
+returns-in-None-clause-named g c = rw c.in-None.ensures.wanted c.end_with_usage.ensures.named

@@ -3,7 +3,7 @@ use Rattle.session_play.proofs.ActLemmas.{loaded-ok, loaded-large, load-failed, 
 use Rattle.session_play.proofs.act.load.Goals as goal
 
 pub returns-in-Ok-clause-ran : goal.returns-in-Ok-clause-ran
-returns-in-Ok-clause-ran g c = called (loaded-ok c.args.name.now _) c.load.ensures.start c.load.ensures.counts c.in-Ok.ensures.call
+returns-in-Ok-clause-ran g c = rw c.found_of.ensures (called (loaded-ok c.args.name.now _) c.load.ensures.start c.load.ensures.counts c.in-Ok.ensures.call)
 
 pub returns-in-Err-TooLarge-clause-ran : goal.returns-in-Err-TooLarge-clause-ran
 returns-in-Err-TooLarge-clause-ran g c = called (loaded-large c.args.name.now _) c.load.ensures.start c.load.ensures.counts (rw c.in-Err-TooLarge.field-0-is at c.in-Err-TooLarge.ensures.call)

@@ -1,0 +1,37 @@
+-- What is asked for, by the kind of ask.
+use Rattle.std.proofs.Common.{◌≡◌, ℕ, List, ap, arith}
+use Rattle.host_port.specs.Calls.{Counts, NeverFall, Rose}
+use Rattle.std.specs.Prelude.{min, ◌^◌, ◌-◌, ◌+◌, ◌≤◌}
+use Rattle.std.specs.declared.result.Result.TheVariants.{Err}
+use Rattle.mailx_session.specs.declared.error.RunError.{RunError}
+use Rattle.mailx_session.specs.declared.error.RunError.TheVariants as error
+use Rattle.mailx_session.specs.declared.asks.Asked.{Asked}
+use Rattle.session_play.specs.Play.{Play, Ret, Ask, Say}
+use Rattle.session_play.specs.Steps.{After, On, Ended}
+use Rattle.command_desk.specs.declared.desk.Desk.{Desk}
+use Rattle.command_desk.specs.declared.steps.Ask as asked_of
+use Rattle.command_desk.specs.declared.steps.Ask.TheVariants as asks
+use Rattle.mailx_session.specs.declared.status.Status.TheVariants.{Done}
+use Rattle.mailx_session.specs.Sessions.{asked, LineCaused}
+
+pub asked-say : (desk : Desk) (ask : asked_of.Ask) (bytes : List ℕ) → ask ≡ asks.Say bytes → asked desk ask ≡ Ask (Say bytes) (λ _. Ret (On desk))
+asked-say desk ask bytes is = ap (asked desk) is
+
+pub asked-exit : (desk : Desk) (ask : asked_of.Ask) → ask ≡ asks.Exit → asked desk ask ≡ Ret (Ended Done)
+asked-exit desk ask is = ap (asked desk) is
+
+pub never-fall-none : (c : Counts) → NeverFall c c
+never-fall-none c = record { ins = omega arith; outs = omega arith; disks = omega arith; children = omega arith }
+
+pub never-fall-then : (a b c : Counts) → NeverFall a b → NeverFall b c → NeverFall a c
+never-fall-then a b c x y = record { ins = omega arith; outs = omega arith; disks = omega arith; children = omega arith }
+
+rose-later : (a b c : ℕ) → a ≤ b → Rose b c → Rose a c
+rose-later a b c le rose = omega arith
+
+-- a cause in a later call is one in the whole stretch
+pub caused-later : (a b c : Counts) (e : RunError) → NeverFall a b → LineCaused {T = Asked} b c (Err e) → LineCaused {T = Asked} a c (Err e)
+caused-later a b c error.Output fall rose = rose-later a.outs b.outs c.outs fall.outs rose
+caused-later a b c error.Disk fall never = never
+caused-later a b c (error.BadRecord name) fall never = never
+caused-later a b c error.Memory fall t = tt

@@ -1,0 +1,10 @@
+use Rattle.std.proofs.Common.{sym, ◌∙◌, refl, inl}
+use Rattle.host_port.proofs.RanLemmas.{Ran-none}
+use Rattle.mailx_session.proofs.AskLemmas.{asked-say, asked-exit}
+use Rattle.mailx_session.proofs.asks.do_ask.Goals as goal
+
+pub returns-in-Say-clause-ran : goal.returns-in-Say-clause-ran
+returns-in-Say-clause-ran g c = λ desk. rw (asked-say desk c.args.ask.now _ c.in-Say.is) (c.say_line.ensures.ran desk)
+
+pub returns-in-Exit-clause-ran : goal.returns-in-Exit-clause-ran
+returns-in-Exit-clause-ran g c = λ desk. rw (asked-exit desk c.args.ask.now c.in-Exit.is) (Ran-none (refl, inl refl))

@@ -1,0 +1,23 @@
+-- How runs end.
+use Rattle.std.specs.Prelude.{ℕ}
+use Rattle.mailx_session.specs.declared.status.Status.{Status}
+use Rattle.mailx_session.specs.declared.status.Status.TheVariants as status
+
+-- the exit status of the program
+abbrev pub status_number : Status → ℕ
+status_number status.Done = 0
+status_number status.Usage = 2
+status_number status.InputFault = 3
+status_number status.OutputFault = 4
+status_number status.DiskFault = 5
+status_number status.Refused = 7
+status_number status.Memory = 8
+status_number status.InputLimit = 9
+status_number status.NoFolder = 10
+
+-- a run ends so that isn't cut off, and whose words aren't refused
+abbrev pub IsEnd : Status → Type 0
+IsEnd status.Done = Unit {0}
+IsEnd status.Refused = Unit {0}
+IsEnd status.NoFolder = Unit {0}
+IsEnd s = ⊥

@@ -1,0 +1,44 @@
+/// How a run ends.
+#[derive(Clone, Copy, Debug, PartialEq, Eq)]
+pub enum Status {
+    /// The session ended by its meaning.
+    Done,
+    /// The words of the command line or the environment are refused.
+    Usage,
+    /// Input could not be read.
+    InputFault,
+    /// Output could not be written.
+    OutputFault,
+    /// The folder could not be read.
+    DiskFault,
+    /// Another has the lock of the folder.
+    Refused,
+    /// Out of memory.
+    Memory,
+    /// More input was taken than a run may take.
+    InputLimit,
+    /// There is no folder of that name to open.
+    NoFolder,
+}
+
+impl Status {
+    ghost use Rattle.std.specs.Prelude.{◌≡◌};
+    ghost use Rattle.mailx_session.specs.Statuses.{status_number};
+
+    /// The exit status of the program.
+    pub fn number(&self) -> u8
+        ensures { result ≡ status_number self.now }
+    {
+        match self {
+            Status::Done => 0,
+            Status::Usage => 2,
+            Status::InputFault => 3,
+            Status::OutputFault => 4,
+            Status::DiskFault => 5,
+            Status::Refused => 7,
+            Status::Memory => 8,
+            Status::InputLimit => 9,
+            Status::NoFolder => 10,
+        }
+    }
+}

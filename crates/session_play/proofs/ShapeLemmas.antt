@@ -1,0 +1,41 @@
+-- What holds of the acts and ends of a play, and of one play after another.
+use Rattle.std.proofs.Common.{◌≡◌, Bool, true, List, refl, sym, subst, inl, inr}
+use Rattle.std.specs.declared.result.Result.{Result}
+use Rattle.std.specs.declared.result.Result.TheVariants.{Ok}
+use Rattle.host_port.specs.declared.event.Event.{Event}
+use Rattle.session_play.specs.declared.stop.Stop.{Stop}
+use Rattle.session_play.specs.Input.{Input}
+use Rattle.session_play.specs.Acts.{AllActs, AllEnds, Threads, is_neutral, input_after}
+use Rattle.session_play.specs.Play.{Act, Answer, Play, Ret, Ask, Goes, bind}
+
+abbrev pub came : {R : Type 0} → R → Result R Stop
+came r = Ok r
+
+pub came-same : {R : Type 0} (r q : R) → came r ≡ came q → r ≡ q
+came-same r q e = cc
+
+pub goes-ends : {R : Type 0} (P : R → Type 0) (p : Play R) (es : List Event) (r : R) → AllEnds P p → Goes p es (Ok r) → P r
+goes-ends P (Ret q) es r e (none, inl same) = subst P (sym (came-same r q same)) e
+goes-ends P (Ret q) es r e (none, inr other) = absurd (cc other)
+goes-ends P (Ask act go) es r e (inl (answer, front, rest, is, did, goes)) = goes-ends P (go answer) rest r (e answer) goes
+goes-ends P (Ask act go) es r e (inr (cause, other, part)) = absurd (cc other)
+
+pub bind-acts : {A B : Type 0} (test : Act → Bool) (p : Play A) (k : A → Play B) → AllActs test p → ((a : A) → AllActs test (k a))
+    → AllActs test (bind p k)
+bind-acts test (Ret a) k all more = more a
+bind-acts test (Ask act go) k all more = (all.0, λ a. bind-acts test (go a) k (all.1 a) more)
+
+pub bind-ends : {A B : Type 0} (P : A → Type 0) (Q : B → Type 0) (p : Play A) (k : A → Play B) → AllEnds P p
+    → ((a : A) → P a → AllEnds Q (k a)) → AllEnds Q (bind p k)
+bind-ends P Q (Ret a) k e more = more a e
+bind-ends P Q (Ask act go) k e more = λ a. bind-ends P Q (go a) k (e a) more
+
+pub bind-threads : {A B : Type 0} (E : A → Input → Type 0) (F : B → Input → Type 0) (p : Play A) (k : A → Play B) (i : Input)
+    → Threads E i p → ((a : A) (j : Input) → E a j → Threads F j (k a)) → Threads F i (bind p k)
+bind-threads E F (Ret a) k i t more = more a i t
+bind-threads E F (Ask act go) k i t more = (t.0, λ a. bind-threads E F (go a) k (input_after act a i) (t.1 a) more)
+
+-- every play is of acts that change nothing
+pub all-neutral : {R : Type 0} (p : Play R) → AllActs is_neutral p
+all-neutral (Ret r) = tt
+all-neutral (Ask act go) = (refl, λ a. all-neutral (go a))
