@@ -9,6 +9,3 @@ mod recovery;
 
 pub use error::{MendError, RecoverError};
 pub use recovery::{Recovered, recover};
-
-#[cfg(test)]
-mod tests;
