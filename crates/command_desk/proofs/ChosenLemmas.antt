@@ -6,7 +6,7 @@ use Rattle.std.specs.Option.{option_map}
 use Rattle.std.specs.declared.option.Option.TheVariants.{Some, None}
 use Rattle.std.specs.declared.result.Result.TheVariants.{Ok, Err}
 use Rattle.std.proofs.lemmas.List.Elements.{All-head, All-tail}
-use Rattle.message_state.specs.declared.shown.Shown.{Shown}
+use Rattle.command_desk.specs.declared.desk.Desk.{Desk}
 use Rattle.message_list.specs.declared.list.Item.{Item}
 use Rattle.message_list.specs.declared.list.ListError.{ListError}
 use Rattle.message_list.specs.declared.list.ListError.TheVariants as error
@@ -45,44 +45,44 @@ pub no-bad : (words : List (List ℕ)) (items : List Item) → AreItems words it
 no-bad words items are = ap first_bad (sym are.in_order) ∙ none-bad items are.kinds
 
 -- a list that can't be read is refused so
-pub chosen-bad : (purpose : Purpose) (shown : Shown) (words : List (List ℕ)) (e : ListError) (r : Refusal) → IsBadList words e → IsListRefusal e r → Means {A = List ℕ} (Err r) (chosen purpose shown words)
-chosen-bad purpose shown words (error.Syntax word) r is said =
-    means-refusal r (bad_list word) (chosen purpose shown words) said
-    (ap (λ o. unless o bad_list (unless (first_missing shown purpose (items_of words)) no_such (some_message (selection shown purpose (items_of words))))) is)
-chosen-bad purpose shown words (error.NoSuch word) r never said = absurd never
-chosen-bad purpose shown words error.NoneMatch r never said = absurd never
-chosen-bad purpose shown words error.Memory r is said = subst (λ r. Means {A = List ℕ} (Err r) (chosen purpose shown words)) (sym said) tt
+pub chosen-bad : (purpose : Purpose) (desk : Desk) (words : List (List ℕ)) (e : ListError) (r : Refusal) → IsBadList words e → IsListRefusal e r → Means {A = List ℕ} (Err r) (chosen purpose desk words)
+chosen-bad purpose desk words (error.Syntax word) r is said =
+    means-refusal r (bad_list word) (chosen purpose desk words) said
+    (ap (λ o. unless o bad_list (unless (first_missing desk.shown purpose (items_of words)) no_such (some_message (selection desk.shown purpose (items_of words))))) is)
+chosen-bad purpose desk words (error.NoSuch word) r never said = absurd never
+chosen-bad purpose desk words error.NoneMatch r never said = absurd never
+chosen-bad purpose desk words error.Memory r is said = subst (λ r. Means {A = List ℕ} (Err r) (chosen purpose desk words)) (sym said) tt
 
 -- what a list that was read comes to
-chosen-read : (purpose : Purpose) (shown : Shown) (words : List (List ℕ)) (items : List Item) → AreItems words items
-    → chosen purpose shown words ≡ unless (first_missing shown purpose items) no_such (some_message (selection shown purpose items))
-chosen-read purpose shown words items are =
-    ap (λ o. unless o bad_list (unless (first_missing shown purpose (items_of words)) no_such (some_message (selection shown purpose (items_of words))))) (no-bad words items are)
-    ∙ ap (λ (l : List Item). unless (first_missing shown purpose l) no_such (some_message (selection shown purpose l))) (items-of words items are)
+chosen-read : (purpose : Purpose) (desk : Desk) (words : List (List ℕ)) (items : List Item) → AreItems words items
+    → chosen purpose desk words ≡ unless (first_missing desk.shown purpose items) no_such (some_message (selection desk.shown purpose items))
+chosen-read purpose desk words items are =
+    ap (λ o. unless o bad_list (unless (first_missing desk.shown purpose (items_of words)) no_such (some_message (selection desk.shown purpose (items_of words))))) (no-bad words items are)
+    ∙ ap (λ (l : List Item). unless (first_missing desk.shown purpose l) no_such (some_message (selection desk.shown purpose l))) (items-of words items are)
 
 some-there : (ns : List ℕ) → 0 < length ns → some_message ns ≡ Ok ns
 some-there [] some = absurd (omega arith)
 some-there (n ∷ ns) some = refl
 
 -- a list that selects messages
-pub chosen-met : (purpose : Purpose) (shown : Shown) (words : List (List ℕ)) (items : List Item) (ns : List ℕ) → AreItems words items → ns ≡ selection shown purpose items → first_missing shown purpose items ≡ None → 0 < length ns
-    → chosen purpose shown words ≡ Ok ns
-chosen-met purpose shown words items ns are is met some =
-    chosen-read purpose shown words items are
-    ∙ ap (λ o. unless o no_such (some_message (selection shown purpose items))) met
+pub chosen-met : (purpose : Purpose) (desk : Desk) (words : List (List ℕ)) (items : List Item) (ns : List ℕ) → AreItems words items → ns ≡ selection desk.shown purpose items → first_missing desk.shown purpose items ≡ None → 0 < length ns
+    → chosen purpose desk words ≡ Ok ns
+chosen-met purpose desk words items ns are is met some =
+    chosen-read purpose desk words items are
+    ∙ ap (λ o. unless o no_such (some_message (selection desk.shown purpose items))) met
     ∙ ap some_message (sym is)
     ∙ some-there ns some
 
 -- a list that selects none
-pub chosen-unmet : (purpose : Purpose) (shown : Shown) (words : List (List ℕ)) (items : List Item) (e : ListError) (r : Refusal) → AreItems words items → IsUnmet shown purpose items e → IsListRefusal e r
-    → Means {A = List ℕ} (Err r) (chosen purpose shown words)
-chosen-unmet purpose shown words items (error.Syntax word) r are never said = absurd never
-chosen-unmet purpose shown words items (error.NoSuch word) r are is said =
-    means-refusal r (no_such word) (chosen purpose shown words) said
-    (chosen-read purpose shown words items are ∙ ap (λ o. unless o no_such (some_message (selection shown purpose items))) is)
-chosen-unmet purpose shown words items error.NoneMatch r are (empty, none) said =
-    means-refusal r none_applicable (chosen purpose shown words) said
-    (chosen-read purpose shown words items are
-    ∙ ap (λ (l : List Item). unless (first_missing shown purpose l) no_such (some_message (selection shown purpose l))) empty
+pub chosen-unmet : (purpose : Purpose) (desk : Desk) (words : List (List ℕ)) (items : List Item) (e : ListError) (r : Refusal) → AreItems words items → IsUnmet desk.shown purpose items e → IsListRefusal e r
+    → Means {A = List ℕ} (Err r) (chosen purpose desk words)
+chosen-unmet purpose desk words items (error.Syntax word) r are never said = absurd never
+chosen-unmet purpose desk words items (error.NoSuch word) r are is said =
+    means-refusal r (no_such word) (chosen purpose desk words) said
+    (chosen-read purpose desk words items are ∙ ap (λ o. unless o no_such (some_message (selection desk.shown purpose items))) is)
+chosen-unmet purpose desk words items error.NoneMatch r are (empty, none) said =
+    means-refusal r none_applicable (chosen purpose desk words) said
+    (chosen-read purpose desk words items are
+    ∙ ap (λ (l : List Item). unless (first_missing desk.shown purpose l) no_such (some_message (selection desk.shown purpose l))) empty
     ∙ ap (λ o. some_message (option_to_list o)) none)
-chosen-unmet purpose shown words items error.Memory r are is said = subst (λ r. Means {A = List ℕ} (Err r) (chosen purpose shown words)) (sym said) tt
+chosen-unmet purpose desk words items error.Memory r are is said = subst (λ r. Means {A = List ℕ} (Err r) (chosen purpose desk words)) (sym said) tt

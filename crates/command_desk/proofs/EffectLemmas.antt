@@ -1,6 +1,6 @@
 -- A desk stays valid.
 use Rattle.std.proofs.Common.{◌≡◌, ◌≤◌, ℕ, zero, suc, List, [], ◌∷◌, length, map, refl, sym, ap, ◌∙◌, subst, arith}
-use Rattle.std.specs.Prelude.{All, IfSome, slice_get, slice_set}
+use Rattle.std.specs.Prelude.{All, IfSome, slice_get, slice_set, unwrap_or}
 use Rattle.std.specs.List.{range_with_len}
 use Rattle.std.specs.List.Sorted.{IsPermutation}
 use Rattle.std.specs.Option.{option_map_or}
@@ -63,9 +63,14 @@ after-years : (rows : List Row) (ms : List Marking) → All InYears rows → All
 after-years rows [] h = h
 after-years rows (m ∷ ms) h = after-years (acted rows m) ms (acted-years rows m.row m.act h)
 
+current-within : (o : Option ℕ) (current count : ℕ) → IfSome o (λ n. n ≤ count) → current ≤ count → unwrap_or o current ≤ count
+current-within None current count h before = before
+current-within (Some n) current count h before = h
+
 -- the effect of a command leaves a valid desk, where the message that is current then is one
-pub desk-after : (desk : Desk) (effects : Effects) → IsDesk desk → effects.current ≤ length desk.shown.rows → IsDesk (effect desk effects)
+pub desk-after : (desk : Desk) (effects : Effects) → IsDesk desk → IfSome effects.current (λ n. n ≤ length desk.shown.rows) → IsDesk (effect desk effects)
 desk-after desk effects d within =
+    let inside : unwrap_or effects.current desk.shown.current ≤ length desk.shown.rows = current-within effects.current desk.shown.current (length desk.shown.rows) within d.shown.current in
     let rows = rows_after desk.shown.rows effects.marks in
     let same : length rows ≡ length desk.shown.rows = after-length desk.shown.rows effects.marks in
     record {

@@ -46,3 +46,8 @@ IsRefusal Memory meant = Unit {0}
 abbrev pub IsRefused : {A : Type 0} → Refusal → OrFault A → Type 0
 IsRefused (Fault line) meant = meant ≡ Err line
 IsRefused Memory meant = Unit {0}
+
+-- a refusal is by the line that was found, or for want of memory
+abbrev pub IsRefusedBy : Refusal → Option (List ℕ) → Type 0
+IsRefusedBy (Fault line) found = found ≡ Some line
+IsRefusedBy Memory found = Unit {0}

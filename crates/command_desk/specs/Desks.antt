@@ -1,5 +1,5 @@
 -- The state of a session between two commands.
-use Rattle.std.specs.Prelude.{◌≡◌, ◌≤◌, ℕ, ◌-◌, List, [], map, length, slice_get, unwrap_or, IfOk}
+use Rattle.std.specs.Prelude.{◌≡◌, ◌≤◌, ℕ, ◌-◌, List, [], map, length, slice_get, unwrap_or, IfOk, IfSome}
 use Rattle.std.specs.List.{AllZip}
 use Rattle.std.specs.declared.result.Result.{Result}
 use Rattle.mbox_scan.specs.Mailbox.{texts_of}
@@ -15,8 +15,8 @@ use Rattle.command_desk.specs.declared.steps.Steps.{Steps}
 abbrev pub AreRowsButMarks : List (List ℕ) → List Row → Type 0
 AreRowsButMarks texts rows = AllZip (λ t row. IsRow t (record row { mark = mark_of t })) texts rows
 
--- The desk is valid: so is what it shows, whose rows are those of the folder's texts, marks aside; the marks of the folder are those of the rows;
--- and a line has room for two bytes
+-- The desk is valid: so is what it shows, whose rows are those of the folder's texts, marks aside; the marks of the
+-- folder are those of the rows; and a line has room for two bytes
 pub record IsDesk (desk : Desk) : Type 0 where
   pub shown : IsShown desk.shown
   pub rows : AreRowsButMarks (texts_of desk.folder.folder) desk.shown.rows
@@ -31,6 +31,6 @@ message_text desk n = unwrap_or (slice_get (texts_of desk.folder.folder) (n - 1)
 abbrev pub IsMessageOf : Shown → ℕ → Type 0
 IsMessageOf shown n = (1 ≤ n) × (n ≤ length shown.rows)
 
--- a command's steps leave a message current, or none
+-- where a command's steps make a message current, it is one, or none
 abbrev pub IsWithin : {E : Type 0} → Desk → Result Steps E → Type 0
-IsWithin desk result = IfOk result (λ steps. steps.effects.current ≤ length desk.shown.rows)
+IsWithin desk result = IfOk result (λ steps. IfSome steps.effects.current (λ n. n ≤ length desk.shown.rows))

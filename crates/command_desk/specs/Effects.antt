@@ -1,5 +1,5 @@
 -- What a command changes, and the desk that it leaves.
-use Rattle.std.specs.Prelude.{ℕ, Bool, ◌-◌, ◌==◌, true, List, [], map, slice_get, slice_set, None, unwrap_or, if◌then◌else◌}
+use Rattle.std.specs.Prelude.{ℕ, Bool, ◌-◌, ◌==◌, true, false, List, [], map, slice_get, slice_set, None, Some, unwrap_or, if◌then◌else◌}
 use Rattle.std.specs.List.{fold}
 use Rattle.std.specs.Option.{option_map_or}
 use Rattle.message_state.specs.declared.mark.Act.{Act}
@@ -23,27 +23,35 @@ rows_after rows marks = fold acted rows marks
 
 -- the desk with other rows, and their marks
 abbrev pub with_rows : Desk → List Row → Desk
-with_rows desk rows = record desk { folder = record desk.folder { marks = map (λ row. row.mark) rows }; shown = record desk.shown { rows = rows } }
+with_rows desk rows = record desk {
+  folder = record desk.folder { marks = map (λ row. row.mark) rows };
+  shown = record desk.shown { rows = rows };
+}
 
 -- the desk with this current message
 abbrev pub with_current : Desk → ℕ → Bool → Desk
 with_current desk current fresh = record desk { shown = record desk.shown { current = current }; fresh = fresh }
 
--- the desk after a command
+-- the desk after a command: what its effects don't name stays
 abbrev pub effect : Desk → Effects → Desk
 effect desk effects =
-    record (with_current (with_rows desk (rows_after desk.shown.rows effects.marks)) effects.current effects.fresh) {
+    let marked = with_rows desk (rows_after desk.shown.rows effects.marks) in
+    record (with_current marked (unwrap_or effects.current desk.shown.current) (unwrap_or effects.fresh desk.fresh)) {
       vars = unwrap_or effects.vars desk.vars;
-      page = effects.page;
+      page = unwrap_or effects.page desk.page;
     }
 
 -- no change
-abbrev pub unchanged : Desk → Effects
-unchanged desk = record { marks = []; current = desk.shown.current; fresh = desk.fresh; page = desk.page; vars = None }
+abbrev pub unchanged : Effects
+unchanged = record { marks = []; current = None; fresh = None; page = None; vars = None }
 
 -- message n becomes current; it is unwritten, where another was current before
 abbrev pub moved : Desk → ℕ → Effects
-moved desk n = record (unchanged desk) { current = n; fresh = if n == desk.shown.current then desk.fresh else true }
+moved desk n = record unchanged { current = Some n; fresh = if n == desk.shown.current then None else Some true }
+
+-- message n becomes current and is written
+abbrev pub written : ℕ → Effects
+written n = record unchanged { current = Some n; fresh = Some false }
 
 -- an act on message n, numbered from 1
 abbrev pub marking : Act → ℕ → Marking

@@ -45,3 +45,11 @@ open_quote = with_feed (codes "open quote")
 
 abbrev pub line_too_long : List ℕ
 line_too_long = with_feed (codes "line too long")
+
+-- a start-up file can't hold the command
+abbrev pub not_in_startup : List ℕ → List ℕ
+not_in_startup name = with_feed (name ++ codes ": not in a start-up file")
+
+-- a draft can't give the command
+abbrev pub not_composing : List ℕ → List ℕ
+not_composing name = with_feed (name ++ codes ": not while composing")

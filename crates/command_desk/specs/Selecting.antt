@@ -3,13 +3,13 @@ use Rattle.std.specs.Prelude.{◌≡◌, ℕ, Bool, false, ◌==◌, List, [], �
 use Rattle.std.specs.List.{filter_map, list_any}
 use Rattle.std.specs.Option.{option_map}
 use Rattle.std.specs.declared.result.Result.TheVariants.{Ok, Err}
-use Rattle.message_state.specs.declared.shown.Shown.{Shown}
 use Rattle.message_list.specs.declared.list.Item.{Item}
 use Rattle.message_list.specs.declared.list.ListError.{ListError}
 use Rattle.message_list.specs.declared.list.ListError.TheVariants as error
 use Rattle.message_list.specs.declared.list.Purpose.{Purpose}
 use Rattle.message_list.specs.ListWords.{kind_of, first_bad}
 use Rattle.message_list.specs.Selections.{selection, first_missing}
+use Rattle.command_desk.specs.declared.desk.Desk.{Desk}
 use Rattle.command_desk.specs.declared.steps.Refusal.{Refusal}
 use Rattle.command_desk.specs.declared.steps.Refusal.TheVariants.{Memory}
 use Rattle.command_desk.specs.Answers.{OrFault, unless, IsRefusal}
@@ -28,12 +28,13 @@ abbrev pub some_message : List ℕ → OrFault (List ℕ)
 some_message [] = Err none_applicable
 some_message (n ∷ ns) = Ok (n ∷ ns)
 
--- The selected messages in view order. Refused are, in this order: the first word that is no list word, the first that names no
--- message, and the lack of words where there is no message to take
-abbrev pub chosen : Purpose → Shown → List (List ℕ) → OrFault (List ℕ)
-chosen purpose shown words =
+-- The selected messages of the folder in view order. Refused are, in this order: the first word that is no list word,
+-- the first that names no message, and the lack of words where there is no message to take
+abbrev pub chosen : Purpose → Desk → List (List ℕ) → OrFault (List ℕ)
+chosen purpose desk words =
     unless (first_bad words) bad_list
-    (unless (first_missing shown purpose (items_of words)) no_such (some_message (selection shown purpose (items_of words))))
+    (unless (first_missing desk.shown purpose (items_of words)) no_such
+    (some_message (selection desk.shown purpose (items_of words))))
 
 -- the one message of a selection, for the command of this name
 abbrev pub single : List ℕ → List ℕ → OrFault ℕ

@@ -17,8 +17,9 @@ pub struct Open {
     pub marks: Items<Mark>,
 }
 
-/// The state of a session between two commands. Calls that take one ask for a valid one: what it shows is valid, its rows are
-/// those of the folder's texts, marks aside, its marks are those of the folder, and a line has room for two bytes.
+/// The state of a session between two commands. Calls that take one ask for a valid one: what it shows is valid, its
+/// rows are those of the folder's texts, marks aside, its marks are those of the folder, and a line has room for two
+/// bytes.
 #[derive(Drop)]
 pub struct Desk {
     /// The open folder.

@@ -2,7 +2,7 @@ ghost use Rattle.std.specs.Prelude.{◌≡◌, ◌<◌, map, IfOk};
 ghost use Rattle.message_state.specs.declared.row.Row.{Row};
 ghost use Rattle.message_state.specs.declared.mark.Mark.{Mark};
 ghost use Rattle.command_desk.specs.Desks.{IsDesk};
-ghost use Rattle.command_desk.specs.Effects.{acted, effect, unchanged, moved, marking, markings};
+ghost use Rattle.command_desk.specs.Effects.{acted, effect, unchanged, moved, written, marking, markings};
 
 use crate::Desk;
 use mail_text::{Items, Memory};
@@ -19,17 +19,17 @@ pub struct Marking {
     pub act: Act,
 }
 
-/// What a command changes.
+/// What a command changes; what it doesn't name stays.
 #[derive(Drop)]
 pub struct Effects {
     /// Acts on messages, in order.
     pub marks: Items<Marking>,
     /// The message that is current then.
-    pub current: u32,
+    pub current: Option<u32>,
     /// Whether it is unwritten.
-    pub fresh: bool,
+    pub fresh: Option<bool>,
     /// The page that was said last.
-    pub page: usize,
+    pub page: Option<usize>,
     /// The variables, where some are set or unset.
     pub vars: Option<Vars>,
 }
@@ -64,9 +64,9 @@ impl Desk {
         for marking in marks.items() {
             mark_row(&mut self.shown.rows, &mut self.folder.marks, *marking);
         }
-        self.shown.current = current;
-        self.fresh = fresh;
-        self.page = page;
+        self.shown.current = current.unwrap_or(self.shown.current);
+        self.fresh = fresh.unwrap_or(self.fresh);
+        self.page = page.unwrap_or(self.page);
         if let Some(vars) = vars {
             self.vars = vars;
         }
@@ -74,14 +74,14 @@ impl Desk {
 }
 
 /// No change.
-pub fn unchanged(alloc: Global, desk: &Desk) -> Effects
-    ensures { result ≡ unchanged desk.now }
+pub fn unchanged(alloc: Global) -> Effects
+    ensures { result ≡ unchanged }
 {
     Effects {
         marks: Items::new(alloc),
-        current: desk.shown.current,
-        fresh: desk.fresh,
-        page: desk.page,
+        current: None,
+        fresh: None,
+        page: None,
         vars: None,
     }
 }
@@ -91,14 +91,25 @@ pub fn moved(alloc: Global, desk: &Desk, n: u32) -> Effects
     ensures { result ≡ moved desk.now n }
 {
     let fresh = if n == desk.shown.current {
-        desk.fresh
+        None
     } else {
-        true
+        Some(true)
     };
     Effects {
-        current: n,
+        current: Some(n),
         fresh,
-        ..unchanged(alloc, desk)
+        ..unchanged(alloc)
+    }
+}
+
+/// Message n becomes current and is written.
+pub fn written(alloc: Global, n: u32) -> Effects
+    ensures { result ≡ written n }
+{
+    Effects {
+        current: Some(n),
+        fresh: Some(false),
+        ..unchanged(alloc)
     }
 }
 

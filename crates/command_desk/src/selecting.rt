@@ -1,15 +1,14 @@
 // The messages that the words of a command select.
 ghost use Rattle.std.specs.Prelude.{◌≡◌, ◌≤◌, ◌<◌, All, IfOk, length};
-ghost use Rattle.message_state.specs.ShownRows.{IsShown};
+ghost use Rattle.mbox_scan.specs.declared.folder.TheConstants.{MOST_MESSAGES};
 ghost use Rattle.command_desk.specs.Answers.{Means};
-ghost use Rattle.command_desk.specs.Desks.{IsMessageOf};
+ghost use Rattle.command_desk.specs.Desks.{IsDesk, IsMessageOf};
 ghost use Rattle.command_desk.specs.Selecting.{chosen, single, last_message, is_among, flag_of, IsListRefusal, AreFlags};
 
-use crate::Refusal;
 use crate::faults::fault;
+use crate::{Desk, Refusal};
 use mail_text::{Items, Memory, Text};
 use message_list::{ListError, Purpose, read_list, select};
-use message_state::Shown;
 use std::alloc::Global;
 use std::marker::Model;
 
@@ -29,19 +28,19 @@ fn list_refusal(alloc: Global, error: ListError) -> Refusal
 pub fn chosen(
     alloc: Global,
     words: &[Text],
-    shown: &Shown,
+    desk: &Desk,
     purpose: Purpose,
 ) -> Result<Items<u32>, Refusal>
-    requires { IsShown shown.now }
-    ensures means { Means result (chosen purpose shown.now words.now) }
+    requires { IsDesk desk.now }
+    ensures means { Means result (chosen purpose desk.now words.now) }
     ensures some { IfOk result (λ ns. 0 < length ns) }
-    ensures messages { IfOk result (λ ns. All (IsMessageOf shown.now) ns) }
+    ensures messages { IfOk result (λ ns. All (IsMessageOf desk.now.shown) ns) }
 {
     let list = match read_list(alloc, words) {
         Ok(list) => list,
         Err(error) => return Err(list_refusal(alloc, error)),
     };
-    match select(alloc, &list, shown, purpose) {
+    match select(alloc, &list, &desk.shown, purpose) {
         Ok(numbers) => Ok(Items::of(numbers)),
         Err(error) => Err(list_refusal(alloc, error)),
     }
@@ -68,8 +67,8 @@ pub fn last_message(numbers: &[u32]) -> u32
 // So many messages are looked through one by one.
 const FEW: usize = 16;
 
-/// Messages, and where they are more than a few a flag for each number, which says whether it is one of them. Contracts see them as
-/// the list of the messages.
+/// Messages, and where they are more than a few a flag for each number, which says whether it is one of them. Contracts
+/// see them as the list of the messages.
 #[derive(Drop)]
 pub struct Among<'a> {
     numbers: &'a [u32],
@@ -90,7 +89,7 @@ impl<'a> Model for Among<'a> {
 
 // A flag for each number up to the count, which says whether it is one of these.
 fn flags_of(alloc: Global, numbers: &[u32], count: usize) -> Result<Vec<bool>, Memory>
-    requires few { count ≤ 1_000_000 }
+    requires few { count ≤ MOST_MESSAGES }
     requires within { All (λ n. n ≤ count) numbers.now }
     ensures { IfOk result (λ flags. AreFlags flags.items numbers.now) }
 {
@@ -114,7 +113,7 @@ fn flag_of(flags: &[bool], n: usize) -> bool
 impl<'a> Among<'a> {
     /// The messages of a list, where there are so many messages in all.
     pub fn of(alloc: Global, numbers: &'a [u32], count: usize) -> Result<Among<'a>, Memory>
-        requires few { count ≤ 1_000_000 }
+        requires few { count ≤ MOST_MESSAGES }
         requires within { All (λ n. n ≤ count) numbers.now }
         ensures { IfOk result (λ among. among ≡ numbers.now) }
     {

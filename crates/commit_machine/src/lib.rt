@@ -11,6 +11,3 @@ pub use laws::{
     stop_safe, stretches_join, troubled_runs, worked_runs,
 };
 pub use names::{is_record_name, new_name, record_name, right_name, staged_name};
-
-#[cfg(test)]
-mod tests;

@@ -14,6 +14,3 @@ pub use reader::read;
 pub use record::{Entry, EntryKind, Phase, Record};
 pub use valid::{is_lawful, is_valid};
 pub use writer::write;
-
-#[cfg(test)]
-mod tests;

@@ -14,6 +14,3 @@ pub use laws::{
     rewrite_by_the_base, rewrite_keeps_the_rest,
 };
 pub use writing::outcome;
-
-#[cfg(test)]
-mod tests;

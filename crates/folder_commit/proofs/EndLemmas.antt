@@ -33,10 +33,10 @@ use Rattle.commit_machine.specs.Machine.{State, Looking, Preparing, Staging, Com
 use Rattle.commit_machine.specs.Goes.{Goes}
 use Rattle.commit_machine.proofs.GoesLemmas.{goes_short}
 use Rattle.commit_machine.proofs.FrontLemmas.{front-taken}
-use Rattle.folder_recovery.specs.Did.{Did, load_reply}
+use Rattle.commit_driver.specs.Did.{Did, load_reply}
 use Rattle.folder_recovery.specs.Closing.{closed}
-use Rattle.folder_recovery.specs.Recovering.{Mends, Stops}
-use Rattle.folder_recovery.specs.declared.recovery.Recovered.{Recovered}
+use Rattle.folder_recovery.specs.Mending.{Mends, Stops}
+use Rattle.commit_driver.specs.declared.step.Recovered.{Recovered}
 use Rattle.folder_recovery.specs.declared.error.MendError.{MendError}
 use Rattle.folder_recovery.specs.declared.error.MendError.TheVariants as mend
 use Rattle.folder_recovery.proofs.GoesLemmas.{goes_call, goes_then}

@@ -6,4 +6,3 @@ pub mod RunLemmas
 pub mod SafeLemmas
 pub mod ToldLemmas
 pub mod LookLemmas
-pub mod TestLemmas

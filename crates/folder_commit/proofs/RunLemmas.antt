@@ -24,9 +24,9 @@ use Rattle.commit_machine.specs.Jobs as jobs
 use Rattle.commit_machine.specs.Edits.{first_names, without, edit_for, job_for}
 use Rattle.commit_machine.specs.Machine.{Seizing, Looking, Releasing, Ended, ToSeize, ToRelease, Went, Fault}
 use Rattle.commit_machine.specs.Goes.{Goes}
-use Rattle.folder_recovery.specs.Did.{Did}
+use Rattle.commit_driver.specs.Did.{Did}
 use Rattle.folder_recovery.proofs.GoesLemmas.{goes_call, goes_then}
-use Rattle.folder_recovery.proofs.FileLemmas.{record-file, new-file, lawful-file, staged-file, record-files, record-staged}
+use Rattle.commit_driver.proofs.FileLemmas.{record-file, new-file, lawful-file, staged-file, record-files, record-staged}
 use Rattle.folder_commit.specs.declared.plan.Names.{Names}
 use Rattle.folder_commit.specs.declared.plan.Texts.{Texts}
 use Rattle.folder_commit.specs.declared.error.Passed.TheVariants as passed

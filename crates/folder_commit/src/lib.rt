@@ -11,6 +11,3 @@ mod steps;
 pub use error::{CommitError, Passed};
 pub use names::is_file_name;
 pub use run::commit;
-
-#[cfg(test)]
-mod tests;

@@ -18,9 +18,9 @@ ghost use Rattle.folder_commit.specs.Commits.{IsOfOne, AreFiles, IsCommit, IsNam
 use crate::error::{CommitError, Passed, Stop};
 use crate::plan::{Names, Texts, names_of, texts_for};
 use crate::steps::change;
+use commit_driver::calls::{release, seize};
 use commit_machine::{record_name, right_name};
 use folder_change::{Change, change_name};
-use folder_recovery::calls::{release, seize};
 use host_port::{DiskFault, Host};
 use mail_text::Text;
 use mbox_scan::Folder;

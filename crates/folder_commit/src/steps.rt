@@ -18,10 +18,10 @@ ghost use Rattle.folder_commit.specs.Steps.{Checks, TurnsOut, judged_one, job_of
 use crate::error::{Passed, Stop};
 use crate::judge::judge;
 use crate::plan::{Names, Texts};
+use commit_driver::calls::{load, lock, publish, stage};
 use commit_record::Entry;
 use folder_change::Change;
 use folder_recovery::MendError;
-use folder_recovery::calls::{load, lock, publish, stage};
 use folder_recovery::closing::{finish, roll_back};
 use folder_recovery::mend::mend;
 use host_port::{DiskFault, Host, LoadError};

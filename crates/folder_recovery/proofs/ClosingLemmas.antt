@@ -11,7 +11,7 @@ use Rattle.commit_machine.specs.Names.{staged_name, record_name}
 use Rattle.commit_machine.specs.Jobs.{Before, Failed, Job}
 use Rattle.commit_machine.specs.Machine.{State, Undoing, Placing, Unlocking, Erasing, Releasing, Then, ToErase, ToPublish, ToUnlock, Went, Fault, undoing, placing, unlocking}
 use Rattle.commit_machine.specs.Goes.{Goes}
-use Rattle.folder_recovery.specs.Did.{Did, DidUnlock, done_reply}
+use Rattle.commit_driver.specs.Did.{Did, DidUnlock, done_reply}
 use Rattle.folder_recovery.specs.Closing.{failed, closed}
 use Rattle.folder_recovery.proofs.GoesLemmas.{goes_call, placing_cons}
 

@@ -1,15 +1,18 @@
--- Stretches of the machine's calls go on from one another.
-use Rattle.std.proofs.Common.{◌≡◌, ℕ, List, ◌∷◌, ◌++◌, Option, Some, refl, ap, sym, subst, inl}
+-- The ends that a recovery may come to.
+use Rattle.std.proofs.Common.{◌≡◌, ◌⊎◌, ℕ, Bool, true, false, List, [], ◌∷◌, ◌++◌, refl, ap, sym, subst, inl, inr}
+use Rattle.std.specs.declared.option.Option.{Option}
+use Rattle.std.specs.declared.option.Option.TheVariants.{Some, None}
+use Rattle.std.proofs.lemmas.Bool.{cases_Bool}
 use Rattle.host_port.specs.declared.event.Event.{Event}
-use Rattle.commit_record.specs.declared.record.EntryKind.{EntryKind}
-use Rattle.commit_record.specs.declared.record.EntryKind.TheVariants.{Replace}
 use Rattle.commit_record.specs.declared.record.Record.{Record}
-use Rattle.commit_machine.specs.Records.{kind_of}
-use Rattle.commit_machine.specs.Jobs.{Job}
-use Rattle.commit_machine.specs.Machine.{State, Placing, Then, Call, Reply, placing, place_one, next, after_reply}
-use Rattle.commit_machine.specs.Goes.{IsNext, Goes}
+use Rattle.commit_machine.specs.Records.{record_of, is_go, names_of}
+use Rattle.commit_machine.specs.Jobs.{Passed, Before, Ending, Recovered, Refused, Failed, NoMemory, Job}
+use Rattle.commit_machine.specs.Edits.{recovery_for}
+use Rattle.commit_machine.specs.Machine.{State, Call, next, Seizing, Looking, Undoing, Placing, Unlocking, Erasing, Clearing, Releasing, Ended, Then, GoOn, Reply, Went, Saw, Long, Short, Fault, unlocking, undoing, placing, mending, record_seen, refused, after_reply, passed_at, passed_ending}
+use Rattle.commit_machine.specs.Goes.{IsNext, reply, Goes}
 use Rattle.commit_machine.proofs.GoesLemmas.{stretches_join}
-use Rattle.folder_recovery.specs.Did.{Did}
+use Rattle.commit_driver.specs.Did.{Did}
+use Rattle.commit_driver.proofs.StateLemmas.{placing-cons}
 
 pub goes_then : (j : Job) (s mid last : State) (xs ys : List Event) → Goes j s xs mid → Goes j mid ys last → Goes j s (xs ++ ys) last
 goes_then j s mid last xs ys h more = stretches_join j s mid last xs ys h more
@@ -24,9 +27,123 @@ goes_call j s c r es call did =
 pub goes_more : (j : Job) (s mid : State) (c : Call) (r : Reply) (xs ys : List Event) → next j mid ≡ Some c → Goes j s xs mid → Did c r ys → Goes j s (xs ++ ys) (after_reply j mid r)
 goes_more j s mid c r xs ys call h did = goes_then j s mid (after_reply j mid r) xs ys h (goes_call j mid c r ys call did)
 
--- a file is put in place by one publication
 pub placing_cons : (r : Record) (n : List ℕ) (ns ls : List (List ℕ)) (th : Then) → placing r (n ∷ ns) ls th ≡ Placing r n ns ls th
-placing_cons r n ns ls th = go (kind_of r n)
-  where
-    go : (k : EntryKind) → place_one k r n ns ls th ≡ Placing r n ns ls th
-    go Replace = refl
+placing_cons r n ns ls th = placing-cons r n ns ls th
+
+-- nothing is decided in a recovery
+abbrev pub MayEnd : Ending → Type 0
+MayEnd (Recovered f) = Unit {0}
+MayEnd (Refused why) = Unit {0}
+MayEnd (Failed Before) = Unit {0}
+MayEnd NoMemory = Unit {0}
+MayEnd e = ⊥
+
+-- the states of a recovery
+abbrev Mends : State → Type 0
+Mends Seizing = Unit {0}
+Mends Looking = Unit {0}
+Mends (Undoing r n ns ls GoOn) = Unit {0}
+Mends (Placing r n ns ls GoOn) = Unit {0}
+Mends (Unlocking r n ns GoOn) = Unit {0}
+Mends (Erasing r GoOn) = Unit {0}
+Mends (Clearing f) = Unit {0}
+Mends (Releasing e) = MayEnd e
+Mends (Ended e) = MayEnd e
+Mends s = ⊥
+
+mends-unlocking : (r : Record) (ls : List (List ℕ)) → Mends (unlocking r ls GoOn)
+mends-unlocking r [] = tt
+mends-unlocking r (l ∷ ls) = tt
+
+mends-undoing : (r : Record) (ns ls : List (List ℕ)) → Mends (undoing r ns ls GoOn)
+mends-undoing r [] ls = mends-unlocking r ls
+mends-undoing r (n ∷ ns) ls = tt
+
+mends-placing : (r : Record) (ns ls : List (List ℕ)) → Mends (placing r ns ls GoOn)
+mends-placing r [] ls = mends-unlocking r ls
+mends-placing r (n ∷ ns) ls = subst Mends (sym (placing_cons r n ns ls GoOn)) tt
+
+mends-seen : (o : Option Record) → Mends (record_seen o)
+mends-seen None = tt
+mends-seen (Some r) = elim (cases_Bool (is_go r)) [ inl y ↦ rw y (mends-placing r (names_of r) (names_of r)) | inr nay ↦ rw nay (mends-undoing r (names_of r) (names_of r)) ]
+
+ending-before : (e : Ending) → MayEnd e → passed_ending e ≡ Before
+ending-before (Recovered f) h = refl
+ending-before (Refused why) h = refl
+ending-before (Failed Before) h = refl
+ending-before NoMemory h = refl
+ending-before e h = absurd h
+
+before : (s : State) → Mends s → passed_at s ≡ Before
+before Seizing h = refl
+before Looking h = refl
+before (Undoing r n ns ls GoOn) h = refl
+before (Placing r n ns ls GoOn) h = refl
+before (Unlocking r n ns GoOn) h = refl
+before (Erasing r GoOn) h = refl
+before (Clearing f) h = refl
+before (Releasing e) h = ending-before e h
+before (Ended e) h = ending-before e h
+before s h = absurd h
+
+-- a call that failed, or an answer that doesn't fit
+fails : (s : State) → Mends s → Mends (Releasing (Failed (passed_at s)))
+fails s h = subst (λ (p : Passed). MayEnd (Failed p)) (sym (before s h)) tt
+
+module _ (actor : List ℕ) (token : ℕ) where
+  abbrev job : Job
+  job = recovery_for actor token
+
+  mends-refused : (s : State) → Mends s → Mends (refused job s)
+  mends-refused Seizing h = tt
+  mends-refused Looking h = tt
+  mends-refused (Undoing r n ns ls GoOn) h = tt
+  mends-refused (Placing r n ns ls GoOn) h = tt
+  mends-refused (Unlocking r n ns GoOn) h = tt
+  mends-refused (Erasing r GoOn) h = tt
+  mends-refused (Clearing f) h = tt
+  mends-refused (Releasing e) h = h
+  mends-refused (Ended e) h = h
+  mends-refused s h = absurd h
+
+  mends-reply : (s : State) (r : Reply) → Mends s → Mends (after_reply job s r)
+  mends-reply Seizing (Went true) h = tt
+  mends-reply Seizing (Went false) h = tt
+  mends-reply Looking (Saw None) h = tt
+  mends-reply Looking (Saw (Some bytes)) h = mends-seen (record_of bytes)
+  mends-reply Looking (Long n) h = tt
+  mends-reply (Undoing r n ns ls GoOn) (Went b) h = mends-undoing r ns ls
+  mends-reply (Placing r n ns ls GoOn) (Went b) h = mends-placing r ns ls
+  mends-reply (Unlocking r n ns GoOn) (Went b) h = mends-unlocking r ns
+  mends-reply (Erasing r GoOn) (Went b) h = tt
+  mends-reply (Clearing f) (Went b) h = tt
+  mends-reply (Releasing e) (Went b) h = h
+  mends-reply (Releasing e) Short h = h
+  mends-reply (Ended e) Short h = h
+  mends-reply Seizing Short h = tt
+  mends-reply Looking Short h = tt
+  mends-reply (Undoing r n ns ls GoOn) Short h = tt
+  mends-reply (Placing r n ns ls GoOn) Short h = tt
+  mends-reply (Unlocking r n ns GoOn) Short h = tt
+  mends-reply (Erasing r GoOn) Short h = tt
+  mends-reply (Clearing f) Short h = tt
+  mends-reply Seizing r h = tt
+  mends-reply Looking r h = tt
+  mends-reply (Undoing q n ns ls GoOn) r h = fails (Undoing q n ns ls GoOn) h
+  mends-reply (Placing q n ns ls GoOn) r h = fails (Placing q n ns ls GoOn) h
+  mends-reply (Unlocking q n ns GoOn) r h = fails (Unlocking q n ns GoOn) h
+  mends-reply (Erasing q GoOn) r h = fails (Erasing q GoOn) h
+  mends-reply (Clearing f) r h = fails (Clearing f) h
+  mends-reply (Releasing e) r h = fails (Releasing e) h
+  mends-reply (Ended e) r h = fails (Ended e) h
+  mends-reply s r h = absurd h
+
+  mends-last : (es : List Event) (s last : State) → Mends s → Goes job s es last → Mends last
+  mends-last [] s last h (inl p) = subst Mends p h
+  mends-last [] s last h (inr p) = subst Mends p (mends-refused s h)
+  mends-last (e ∷ es) s last h (now, from, is, more) =
+      let at : Mends now = elim from [ inl p ↦ subst Mends (sym p) h | inr p ↦ subst Mends (sym p) (mends-refused s h) ] in
+      mends-last es (after_reply job now (reply e)) last (mends-reply now (reply e) at) more
+
+  pub may-end : (es : List Event) (e : Ending) → Goes job Seizing es (Ended e) → MayEnd e
+  may-end es e goes = mends-last es Seizing (Ended e) tt goes

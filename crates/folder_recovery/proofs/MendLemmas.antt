@@ -14,13 +14,14 @@ use Rattle.commit_machine.specs.Jobs as jobs
 use Rattle.commit_machine.specs.Machine.{State, Looking, Clearing, Releasing, GoOn, ToLoad, ToErase, Reply, Went, Saw, Long, Short, Fault, undoing, placing, unlocking, refused, mending, mended, none_stands, looked, record_seen, found_of, after_reply}
 use Rattle.commit_machine.specs.Goes.{Goes, reply}
 use Rattle.commit_machine.proofs.RecordLemmas.{record_of-written, record_of-is}
-use Rattle.folder_recovery.specs.Did.{Did}
+use Rattle.commit_driver.specs.Did.{Did}
 use Rattle.folder_recovery.specs.Closing.{closed}
-use Rattle.folder_recovery.specs.declared.recovery.Recovered.{Recovered}
-use Rattle.folder_recovery.specs.declared.recovery.Recovered.TheVariants as recovered
+use Rattle.commit_driver.specs.declared.step.Recovered.{Recovered}
+use Rattle.commit_driver.specs.declared.step.Recovered.TheVariants as recovered
 use Rattle.folder_recovery.specs.declared.error.MendError.{MendError}
 use Rattle.folder_recovery.specs.declared.error.MendError.TheVariants as mend
-use Rattle.folder_recovery.specs.Recovering.{found, ReadsAs, Stops, Looks, MendsFound, all_closed}
+use Rattle.folder_recovery.specs.Recovering.{found}
+use Rattle.folder_recovery.specs.Mending.{ReadsAs, Stops, Looks, MendsFound, all_closed}
 use Rattle.folder_recovery.proofs.GoesLemmas.{goes_call, goes_then, placing_cons}
 use Rattle.commit_machine.proofs.GoesLemmas.{refused_twice}
 

@@ -1,65 +1,93 @@
--- A recovery from its seizure to its release.
-use Rattle.std.proofs.Common.{◌≡◌, ◌⊎◌, ℕ, true, false, List, ◌++◌, Some, ap, sym, subst, inl, inr}
+-- A recovery that was driven to its end.
+use Rattle.std.proofs.Common.{◌≡◌, ◌≤◌, ℕ, true, false, List, [], length, Some, map, refl, ap, sym, subst, inl, inr, ◌∙◌, arith}
+use Rattle.std.proofs.lemmas.List.Elements.{All-nil}
 use Rattle.std.specs.declared.result.Result.{Result}
 use Rattle.std.specs.declared.result.Result.TheVariants.{Ok, Err}
 use Rattle.host_port.specs.declared.event.Event.{Event}
-use Rattle.commit_machine.specs.Names.{record_name, right_name}
-use Rattle.commit_machine.specs.Jobs.{Before, Ending, Refused, Failed, NoMemory, Job}
+use Rattle.host_port.specs.Calls.{Counts}
+use Rattle.host_port.specs.Names.{IsFileName, has_no_zero}
+use Rattle.commit_machine.specs.Names.{record_name, new_name, right_name}
+use Rattle.commit_machine.specs.Jobs.{Ending, Before, Refused, Failed, NoMemory, Job}
 use Rattle.commit_machine.specs.Jobs as jobs
-use Rattle.commit_machine.specs.Machine.{Seizing, Looking, Releasing, Ended, ToSeize, ToRelease, Reply, Went, Fault, after_reply}
-use Rattle.commit_machine.specs.Goes.{Goes}
-use Rattle.folder_recovery.specs.Did.{Did}
-use Rattle.folder_recovery.specs.declared.recovery.Recovered.{Recovered}
-use Rattle.folder_recovery.specs.declared.error.MendError.{MendError}
-use Rattle.folder_recovery.specs.declared.error.MendError.TheVariants as mend
+use Rattle.commit_machine.specs.Edits.{recovery_for}
+use Rattle.commit_driver.specs.declared.step.Passed.TheVariants as passed
+use Rattle.commit_driver.specs.declared.step.Recovered.{Recovered}
+use Rattle.commit_driver.specs.declared.step.End.{End}
+use Rattle.commit_driver.specs.declared.step.End.TheVariants as end
+use Rattle.commit_driver.specs.declared.place.Plan.{Plan}
+use Rattle.commit_driver.specs.Steps.{EndFits}
+use Rattle.commit_driver.specs.Places.{WantedAs, IsPlan, IsSafe}
+use Rattle.commit_driver.specs.Answers.{EndCaused}
+use Rattle.commit_driver.specs.Drives.{Drives}
+use Rattle.commit_driver.proofs.FileLemmas.{record-file, new-file, right-file}
+use Rattle.folder_recovery.specs.declared.error.RecoverError.{RecoverError}
 use Rattle.folder_recovery.specs.declared.error.RecoverError.TheVariants as error
-use Rattle.folder_recovery.specs.Recovering.{IsNamed, found, Settles, GoesTo, Recovers, answer_of}
-use Rattle.folder_recovery.proofs.GoesLemmas.{goes_call, goes_then}
+use Rattle.folder_recovery.specs.Recovering.{found, GoesTo, Recovers, RecoverCause, IsNamed, recovery_plan, answer_of}
+use Rattle.folder_recovery.proofs.GoesLemmas.{may-end}
 
--- what holds before the release
-abbrev Held : Job → List Event → Result Recovered MendError → Type 0
-Held j es (Ok f) = Goes j Seizing es (Releasing (jobs.Recovered (found f)))
-Held j es (Err mend.NotARecord) = Goes j Seizing es (Releasing (Refused jobs.NotARecord))
-Held j es (Err (mend.TooLarge n)) = Goes j Seizing es (Releasing (Refused (jobs.TooLarge (record_name j.actor) n)))
-Held j es (Err mend.Disk) = Goes j Seizing es (Releasing (Failed Before))
-Held j es (Err mend.Memory) = Goes j Seizing es (Releasing NoMemory) ⊎ Goes j Seizing es (Releasing (Refused jobs.NotARecord))
+pub is-safe : (actor : List ℕ) → length actor ≤ 4021 → has_no_zero actor ≡ true → IsSafe (recovery_plan actor)
+is-safe actor short none = record {
+  record_file = record-file actor short none;
+  new_file = new-file actor short none;
+  right_file = right-file actor short none;
+  names = All-nil IsFileName;
+  staged = All-nil IsFileName;
+  staged_long = refl;
+  few = omega arith;
+  some = λ e. absurd (cc);
+}
 
-module _ (j : Job) (right : List ℕ) (right_is : right ≡ right_name j.actor) where
-  seize-call : (r : Reply) (es : List Event) → Did (ToSeize right) r es → Goes j Seizing es (after_reply j Seizing r)
-  seize-call r es did = goes_call j Seizing (ToSeize right) r es (ap (λ (z : List ℕ). Some (ToSeize z)) (sym right_is)) did
+pub is-plan : (actor : List ℕ) (token : ℕ) → IsPlan (recovery_for actor token) (recovery_plan actor)
+is-plan actor token = record {
+  record_is = refl;
+  new_is = refl;
+  right_is = refl;
+  commits_is = refl;
+  token_is = λ l. absurd (omega (arith, l));
+  names_are = refl;
+  staged_are = refl;
+  texts_are = λ e. absurd (cc);
+}
 
-  release-call : (why : Ending) (es : List Event) → Did (ToRelease right) (Went true) es → Goes j (Releasing why) es (Ended why)
-  release-call why es did = goes_call j (Releasing why) (ToRelease right) (Went true) es (ap (λ (z : List ℕ). Some (ToRelease z)) (sym right_is)) did
+pub not-begun : (j : Job) (r : Result Recovered RecoverError) → (y : RecoverError) × (r ≡ Err y) × (y ≡ error.Memory) → Recovers j [] r
+not-begun j r h =
+    let C : Result Recovered RecoverError → Type 0 = λ z. Recovers j [] z in
+    subst C (sym (h.1 ∙ ap Err h.2)) (inl (inr refl))
 
-  pub held : (result : Result Recovered MendError) (front more : List Event) → Did (ToSeize right) (Went true) front → Settles j more result → Held j (front ++ more) result
-  held (Ok f) front more did h = goes_then j Seizing Looking _ front more (seize-call (Went true) front did) h
-  held (Err mend.NotARecord) front more did h = goes_then j Seizing Looking _ front more (seize-call (Went true) front did) h
-  held (Err (mend.TooLarge n)) front more did h = goes_then j Seizing Looking _ front more (seize-call (Went true) front did) h
-  held (Err mend.Disk) front more did h = goes_then j Seizing Looking _ front more (seize-call (Went true) front did) h
-  held (Err mend.Memory) front more did (inl h) = inl (goes_then j Seizing Looking _ front more (seize-call (Went true) front did) h)
-  held (Err mend.Memory) front more did (inr h) = inr (goes_then j Seizing Looking _ front more (seize-call (Went true) front did) h)
+-- the answer is as the machine ended
+pub recovers : (actor : List ℕ) (token : ℕ) (e : End) (es : List Event) → EndFits 0 e → Drives (recovery_for actor token) es e → Recovers (recovery_for actor token) es (answer_of e (recovery_plan actor))
+recovers actor token (end.Recovered f) es fits d = d.goes
+recovers actor token end.RightBusy es fits d = (refl, d.goes)
+recovers actor token end.NotARecord es fits d = d.goes
+recovers actor token (end.RecordTooLarge n) es fits d = (refl, d.goes)
+recovers actor token end.NoMemory es fits d = wants d.hidden d.wanted d.goes
+  where
+    wants : (hidden : Ending) → WantedAs [] hidden → GoesTo (recovery_for actor token) es hidden → Recovers (recovery_for actor token) es (Err error.Memory)
+    wants hidden (inl is) goes = inl (subst (GoesTo (recovery_for actor token) es) is goes)
+    wants hidden (inr (jobs.NotARecord, may, is)) goes = inr (subst (GoesTo (recovery_for actor token) es) is goes)
+    wants hidden (inr (jobs.Busy n, may, is)) goes = absurd may
+    wants hidden (inr (jobs.TooLarge n k, may, is)) goes = absurd may
+    wants hidden (inr (jobs.Changed n k, may, is)) goes = absurd may
+recovers actor token (end.Failed passed.Before) es fits d = d.goes
+recovers actor token (end.Failed passed.After) es fits d = absurd (may-end actor token es (Failed jobs.After) d.goes)
+recovers actor token (end.Failed passed.Unknown) es fits d = absurd (may-end actor token es (Failed jobs.Unknown) d.goes)
+recovers actor token end.Done es fits d = absurd (may-end actor token es jobs.Done d.goes)
+recovers actor token (end.Busy k) es fits d = absurd (omega (arith, fits))
+recovers actor token (end.TooLarge k n) es fits d = absurd (omega (arith, fits))
+recovers actor token (end.Changed k n) es fits d = absurd (omega (arith, fits))
 
-  ended : (why : Ending) (front more : List Event) → Goes j Seizing front (Releasing why) → Did (ToRelease right) (Went true) more → GoesTo j (front ++ more) why
-  ended why front more h did = goes_then j Seizing (Releasing why) (Ended why) front more h (release-call why more did)
+pub is-named : (actor : List ℕ) (e : End) → IsNamed actor (answer_of e (recovery_plan actor))
+is-named actor end.RightBusy = refl
+is-named actor (end.RecordTooLarge n) = refl
+is-named actor (end.Recovered f) = tt
+is-named actor end.NotARecord = tt
+is-named actor end.NoMemory = tt
+is-named actor e = tt
 
-  pub released : (name : List ℕ) (result : Result Recovered MendError) → name ≡ record_name j.actor → (front more : List Event) → Held j front result → Did (ToRelease right) (Went true) more → Recovers j (front ++ more) (answer_of result name)
-  released name (Ok f) is front more h did = ended (jobs.Recovered (found f)) front more h did
-  released name (Err mend.NotARecord) is front more h did = ended (Refused jobs.NotARecord) front more h did
-  released name (Err (mend.TooLarge n)) is front more h did =
-      (is, subst (λ (z : List ℕ). GoesTo j (front ++ more) (Refused (jobs.TooLarge z n))) (sym is) (ended (Refused (jobs.TooLarge (record_name j.actor) n)) front more h did))
-  released name (Err mend.Disk) is front more h did = ended (Failed Before) front more h did
-  released name (Err mend.Memory) is front more (inl h) did = inl (ended NoMemory front more h did)
-  released name (Err mend.Memory) is front more (inr h) did = inr (ended (Refused jobs.NotARecord) front more h did)
-
-  pub busy : (es : List Event) → Did (ToSeize right) (Went false) es → Recovers j es (Err (error.Busy right))
-  busy es did = (right_is, subst (λ (z : List ℕ). GoesTo j es (Refused (jobs.Busy z))) (sym right_is) (seize-call (Went false) es did))
-
-  pub no-right : (front more : List Event) → Did (ToSeize right) Fault front → Did (ToRelease right) (Went true) more → Recovers j (front ++ more) (Err error.Disk)
-  no-right front more did h = ended (Failed Before) front more (seize-call Fault front did) h
-
-pub answer-named : (actor : List ℕ) (result : Result Recovered MendError) (name : List ℕ) → name ≡ record_name actor → IsNamed actor (answer_of result name)
-answer-named actor (Ok f) name is = tt
-answer-named actor (Err mend.NotARecord) name is = tt
-answer-named actor (Err (mend.TooLarge n)) name is = is
-answer-named actor (Err mend.Disk) name is = tt
-answer-named actor (Err mend.Memory) name is = tt
+pub is-caused : (actor : List ℕ) (e : End) (old now : Counts) → EndCaused old.disks now.disks e → RecoverCause old now (answer_of e (recovery_plan actor))
+is-caused actor (end.Failed p) old now c = c
+is-caused actor (end.RecordTooLarge n) old now c = c
+is-caused actor (end.Recovered f) old now c = tt
+is-caused actor end.RightBusy old now c = tt
+is-caused actor end.NoMemory old now c = tt
+is-caused actor e old now c = tt

@@ -22,7 +22,7 @@ use Rattle.commit_machine.proofs.StopLemmas.{stop_safe}
 use Rattle.commit_machine.proofs.EndLemmas.{front_is_run, no_record_stands, recovery_settles}
 use Rattle.commit_machine.proofs.FaultLemmas.{nothing_after_a_fault}
 use Rattle.commit_machine.proofs.RestraintLemmas.{right_is_given_up}
-use Rattle.folder_recovery.specs.declared.recovery.Recovered.{Recovered}
+use Rattle.commit_driver.specs.declared.step.Recovered.{Recovered}
 use Rattle.folder_recovery.specs.declared.error.RecoverError.{RecoverError}
 use Rattle.folder_recovery.specs.declared.error.RecoverError.TheVariants as error
 use Rattle.folder_recovery.specs.Recovering.{found, Recovers, GoesTo}

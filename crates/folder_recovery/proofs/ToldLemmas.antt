@@ -17,7 +17,7 @@ use Rattle.commit_machine.specs.Jobs.{Before, Found, Nothing, Busy, NotARecord, 
 use Rattle.commit_machine.specs.Edits.{recovery_for}
 use Rattle.commit_machine.specs.Machine.{State, Seizing, Looking, Undoing, Placing, Unlocking, Erasing, Clearing, Releasing, Ended, GoOn, Answer, ToLoad, ToErase, ToPublish, ToUnlock, ToSeize, ToRelease, unlocking, undoing, placing, mending, record_seen, found_of, next, refused, after_reply}
 use Rattle.commit_machine.specs.Goes.{IsOf, loads, publishes, erases, unlocks, seizes, releases, IsNext, reply, Goes}
-use Rattle.folder_recovery.specs.declared.recovery.Recovered.{Recovered as Found_answer}
+use Rattle.commit_driver.specs.declared.step.Recovered.{Recovered as Found_answer}
 use Rattle.folder_recovery.specs.declared.error.RecoverError.{RecoverError}
 use Rattle.folder_recovery.specs.declared.error.RecoverError.TheVariants as error
 use Rattle.folder_recovery.specs.Recovering.{found, GoesTo, Recovers}

@@ -1,5 +1,5 @@
-pub mod Did
-pub mod Closing
 pub mod Recovering
+pub mod Closing
+pub mod Mending
 pub mod Safe
 pub mod Told

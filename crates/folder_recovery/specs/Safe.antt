@@ -15,7 +15,7 @@ use Rattle.commit_machine.specs.Lawful.{IsSound, IsFresh, HasRight, OthersAreLaw
 use Rattle.commit_machine.specs.Due.{settled_files, settled_locks}
 use Rattle.commit_machine.specs.Laws.{IsDue, in_flight}
 use Rattle.commit_machine.specs.Restraints.{is_failed, may_act}
-use Rattle.folder_recovery.specs.declared.recovery.Recovered.{Recovered}
+use Rattle.commit_driver.specs.declared.step.Recovered.{Recovered}
 use Rattle.folder_recovery.specs.declared.error.RecoverError.{RecoverError}
 
 -- A recovery begins on a disk that is sound, and others do only what is lawful. Some token is nobody's: of such a one the lawful

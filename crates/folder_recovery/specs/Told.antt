@@ -14,7 +14,7 @@ use Rattle.commit_machine.specs.Names.{record_name, right_name}
 use Rattle.commit_machine.specs.Records.{record_of, is_go}
 use Rattle.commit_machine.specs.Jobs.{Before, Nothing, RolledBack, Finished, Busy, NotARecord, TooLarge, Ending, Recovered, Refused, Failed, NoMemory}
 use Rattle.commit_machine.specs.Restraints.{is_failed}
-use Rattle.folder_recovery.specs.declared.recovery.Recovered.{Recovered as Answer}
+use Rattle.commit_driver.specs.declared.step.Recovered.{Recovered as Answer}
 use Rattle.folder_recovery.specs.declared.error.RecoverError.{RecoverError}
 use Rattle.folder_recovery.specs.declared.error.RecoverError.TheVariants as error
 use Rattle.folder_recovery.specs.Recovering.{found}

@@ -11,7 +11,7 @@ ghost use Rattle.commit_machine.specs.Records.{names_of};
 ghost use Rattle.commit_record.specs.declared.record.Record.{Record};
 ghost use Rattle.folder_recovery.specs.Closing.{undone, all_placed, all_unlocked, closed};
 
-use crate::calls::{erase, publish, unlock};
+use commit_driver::calls::{erase, publish, unlock};
 use commit_record::{Entry, Record};
 use host_port::{DiskFault, Host};
 use mail_text::Text;

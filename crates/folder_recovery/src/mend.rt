@@ -9,11 +9,12 @@ ghost use Rattle.commit_machine.specs.Names.{staged_name, record_name, new_name}
 ghost use Rattle.commit_machine.specs.Jobs.{Job};
 ghost use Rattle.commit_machine.specs.Machine.{mending, found_of};
 ghost use Rattle.commit_machine.specs.Goes.{Goes};
-ghost use Rattle.folder_recovery.specs.Recovering.{ReadsAs, IsValidFound, Looks, Closes, Mends, MendsFound, MendCause, all_closed, found};
+ghost use Rattle.folder_recovery.specs.Recovering.{found};
+ghost use Rattle.folder_recovery.specs.Mending.{ReadsAs, IsValidFound, Looks, Closes, Mends, MendsFound, MendCause, all_closed};
 
-use crate::calls::{erase, load};
 use crate::closing::{finish, roll_back};
 use crate::{MendError, Recovered};
+use commit_driver::calls::{erase, load};
 use commit_machine::staged_name;
 use commit_record::{Entry, Phase, Record, RecordError, read};
 use host_port::{DiskFault, Host, LoadError};

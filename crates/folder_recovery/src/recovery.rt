@@ -1,69 +1,60 @@
 // Recovery.
-ghost use Rattle.std.specs.Prelude.{◌≡◌, ◌≤◌, ◌++◌, ℕ, List, Some, None, true, length};
-ghost use Rattle.host_port.specs.Calls.{NeverFall};
-ghost use Rattle.host_port.specs.Names.{IsFileName, has_no_zero};
+ghost use Rattle.std.specs.Prelude.{◌≡◌, ◌≤◌, ◌++◌, ℕ, List, Some, true, length, IfOk};
+ghost use Rattle.host_port.specs.Names.{has_no_zero};
 ghost use Rattle.host_port.specs.Ran.{Ran};
-ghost use Rattle.commit_machine.specs.Edits.{recovery_for};
-ghost use Rattle.commit_machine.specs.Names.{record_name, new_name};
-ghost use Rattle.commit_machine.specs.Jobs.{Job};
 ghost use Rattle.host_port.specs.Disk.{disk};
 ghost use Rattle.host_port.specs.declared.event.Event.{Event};
+ghost use Rattle.commit_machine.specs.Edits.{recovery_for};
+ghost use Rattle.commit_driver.specs.Steps.{EndFits};
 ghost use Rattle.folder_recovery.specs.Told.{IsTold};
 ghost use Rattle.folder_recovery.specs.Safe.{MayRecover, RecoversSafely};
-ghost use Rattle.folder_recovery.specs.Recovering.{Settles, MendCause, Recovers, RecoverCause, IsNamed, answer_of};
+ghost use Rattle.folder_recovery.specs.Recovering.{Recovers, RecoverCause, IsNamed, recovery_plan, answer_of};
 
-use crate::calls::{erase, release, seize};
-use crate::mend::mend;
-use crate::{MendError, RecoverError};
+use crate::RecoverError;
+use commit_driver::{End, Place, Plan, Recovered, drive};
 use commit_machine::{new_name, record_name, right_name};
-use host_port::{DiskFault, Host};
-use mail_text::Text;
+use commit_record::{Phase, Record};
+use host_port::Host;
+use mail_text::{Items, Memory, Text};
 use std::alloc::Global;
 
-/// What a recovery found.
-#[derive(Clone, Copy, Debug, PartialEq, Eq)]
-pub enum Recovered {
-    /// No record stood.
-    Nothing,
-    /// A commit that wasn't decided was undone.
-    RolledBack,
-    /// A commit that was decided was carried out.
-    Finished,
-}
-
-// Does with the record what is to be done, while the right is held.
-fn settle<H: Host>(
-    alloc: Global,
-    host: &mut H,
-    name: &[u8],
-    new: &[u8],
-) -> Result<Recovered, MendError>
-    requires own { IsFileName name.now }
-    requires new { IsFileName new.now }
-    ensures ran { (j : Job) → j.edits ≡ None → name.now ≡ record_name j.actor → new.now ≡ new_name j.actor → Ran H.start H.told H.counts host.old host.new (λ es. Settles j es result) }
-    ensures counts { NeverFall (H.counts host.old) (H.counts host.new) }
-    ensures cause { MendCause (H.counts host.old) (H.counts host.new) result }
+// The plan of a recovery, which has no files.
+fn plan_for(alloc: Global, actor: &[u8]) -> Result<Plan, Memory>
+    ensures { IfOk result (λ p. p ≡ recovery_plan actor.now) }
 {
-    match mend(alloc, host, name, new) {
-        Ok(Some(done)) => Ok(done),
-        Ok(None) => match erase(host, new) {
-            Ok(()) => Ok(Recovered::Nothing),
-            Err(DiskFault) => Err(MendError::Disk),
+    let record = record_name(alloc, actor)?;
+    let new = new_name(alloc, actor)?;
+    let right = right_name(alloc, actor)?;
+    Ok(Plan {
+        record,
+        new,
+        right,
+        commits: false,
+        value: Record {
+            phase: Phase::Go,
+            token: 0,
+            entries: Items::new(alloc),
         },
-        Err(why) => Err(why),
-    }
+        staged: Items::new(alloc),
+        prepare: Text::new(alloc),
+        go: Text::new(alloc),
+    })
 }
 
-// The answer of a recovery; `name` is the record's.
-fn answer(settled: Result<Recovered, MendError>, name: Text) -> Result<Recovered, RecoverError>
-    ensures { result ≡ answer_of settled name }
+// The answer of a recovery that ended so. Since it has no files and isn't decided, what is left is that the record is none.
+fn answer(end: End, plan: Plan) -> Result<Recovered, RecoverError>
+    ensures { result ≡ answer_of end plan }
 {
-    match settled {
-        Ok(done) => Ok(done),
-        Err(MendError::NotARecord) => Err(RecoverError::NotARecord),
-        Err(MendError::TooLarge { length }) => Err(RecoverError::TooLarge { name, length }),
-        Err(MendError::Disk) => Err(RecoverError::Disk),
-        Err(MendError::Memory) => Err(RecoverError::Memory),
+    match end {
+        End::Recovered(found) => Ok(found),
+        End::RightBusy => Err(RecoverError::Busy { name: plan.right }),
+        End::RecordTooLarge(length) => Err(RecoverError::TooLarge {
+            name: plan.record,
+            length,
+        }),
+        End::Failed(_) => Err(RecoverError::Disk),
+        End::NoMemory => Err(RecoverError::Memory),
+        _ => Err(RecoverError::NotARecord),
     }
 }
 
@@ -75,21 +66,10 @@ fn run<H: Host>(alloc: Global, actor: &[u8], host: &mut H) -> Result<Recovered, 
     ensures named { IsNamed actor.now result }
     ensures cause { RecoverCause (H.counts host.old) (H.counts host.new) result }
 {
-    let name = record_name(alloc, actor)?;
-    let new = new_name(alloc, actor)?;
-    let right = right_name(alloc, actor)?;
-    match seize(host, right.bytes()) {
-        Ok(true) => {
-            let settled = settle(alloc, host, name.bytes(), new.bytes());
-            release(host, right.bytes());
-            answer(settled, name)
-        }
-        Ok(false) => Err(RecoverError::Busy { name: right }),
-        Err(DiskFault) => {
-            release(host, right.bytes());
-            Err(RecoverError::Disk)
-        }
-    }
+    let plan = plan_for(alloc, actor)?;
+    let place = Place::new(alloc, Items::new(alloc));
+    let end = drive(alloc, &plan, place, &[], None, host);
+    answer(end, plan)
 }
 
 /// Recovers what a stopped commit of the actor has left. A commit that was decided is carried out: its staged files are put in

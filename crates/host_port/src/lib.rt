@@ -4,8 +4,6 @@
 
 mod calls;
 mod disk_calls;
-#[cfg(test)]
-mod disk_tests;
 mod ending;
 mod event;
 mod host;
@@ -14,8 +12,6 @@ mod memory;
 mod named;
 mod standing;
 mod tape;
-#[cfg(test)]
-mod tests;
 
 ghost use Rattle.std.specs.Prelude.{◌≡◌, true, List};
 ghost use Rattle.host_port.specs.Disk.{Disk, after, disk};

@@ -10,7 +10,8 @@ use Rattle.std.specs.Char.{is_ascii_digit, is_ascii_alphabetic}
 use Rattle.mail_dates.specs.Names.{day_name, month_name}
 use Rattle.mail_dates.specs.Printed.{two, two_places, four, clock_text, from_date_form}
 use Rattle.mail_dates.specs.Values.{digits, day_value, date_value, moment_of, moment_value}
-use Rattle.mail_dates.specs.FromLines.{is_blank, words_of, clock_of, clock_value, is_zone, year_in, day_number_of, arrival, sender_of, arrival_of}
+use Rattle.mail_dates.specs.FromLines.{words_of, clock_of, clock_value, is_zone, year_in, day_number_of, arrival, sender_of, arrival_of}
+use Rattle.mail_text.specs.Ascii.{is_blank}
 use Rattle.jiff_core.proofs.SignedLemmas.{signed_arith}
 use Rattle.mail_dates.specs.declared.moment.Moment.{Moment}
 use Rattle.mail_dates.specs.Clock.{IsPrintable, clock_seconds, day_number, second_of_day}

@@ -5,7 +5,8 @@ use Rattle.std.proofs.lemmas.List.Sums.{prefix_len-le-length}
 use Rattle.std.proofs.lemmas.List.Splits.{slice_split_first, slice_split-cons_yes, slice_split-cons_no, length-slice_split}
 use Rattle.std.proofs.lemmas.Iterator.Adapters.{position_from-zero}
 use Rattle.std.specs.List.{prefix_len, position_from, position_or_len, slice_split, onto_first}
-use Rattle.mail_dates.specs.FromLines.{is_blank, words_of, clock_of}
+use Rattle.mail_dates.specs.FromLines.{words_of, clock_of}
+use Rattle.mail_text.specs.Ascii.{is_blank}
 
 one_more : (n : ℕ) → 1 + n ≡ suc n
 one_more n = omega arith

@@ -4,10 +4,7 @@ use Rattle.std.specs.Char.{is_ascii_alphabetic}
 use Rattle.std.specs.List.{list_all, slice_split}
 use Rattle.mail_dates.specs.declared.moment.Moment.{Moment}
 use Rattle.mail_dates.specs.Values.{◌>>=◌, digits, day_value, month_value, is_day_name, date_value, time_value, moment_value}
-
--- space and tab
-abbrev pub is_blank : ℕ → Bool
-is_blank b = (b == 32) || (b == 9)
+use Rattle.mail_text.specs.Ascii.{is_blank}
 
 abbrev pub is_not_empty : List ℕ → Bool
 is_not_empty [] = false

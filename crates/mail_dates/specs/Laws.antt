@@ -7,7 +7,8 @@ use Rattle.mail_dates.specs.declared.moment.Moment.{Moment}
 use Rattle.mail_dates.specs.Clock.{in_whole_minutes, clock_seconds, month_of_day, day_of_month}
 use Rattle.mail_dates.specs.Printed.{date_text, from_date_text, short_date_text}
 use Rattle.mail_dates.specs.DateFields.{date_of}
-use Rattle.mail_dates.specs.FromLines.{is_blank, sender_of, arrival_of}
+use Rattle.mail_dates.specs.FromLines.{sender_of, arrival_of}
+use Rattle.mail_text.specs.Ascii.{is_blank}
 
 -- the moment with its offset in whole minutes
 abbrev pub with_whole_minutes : Moment → Moment

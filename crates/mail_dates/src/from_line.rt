@@ -3,11 +3,13 @@ ghost use Rattle.std.specs.Char.{is_ascii_alphabetic};
 ghost use Rattle.std.specs.List.{list_all, position_from, prefix_len, slice_split};
 ghost use Rattle.mail_dates.specs.Clock.{IsDayInYears, IsInYears};
 ghost use Rattle.mail_dates.specs.Values.{month_value, day_value};
-ghost use Rattle.mail_dates.specs.FromLines.{is_blank, words_of, clock_value, is_zone, is_zone_number, year_in, day_number_of, arrival, sender_of, arrival_of};
+ghost use Rattle.mail_dates.specs.FromLines.{words_of, clock_value, is_zone, is_zone_number, year_in, day_number_of, arrival, sender_of, arrival_of};
+ghost use Rattle.mail_text.specs.Ascii.{is_blank};
 
 use crate::Moment;
 use crate::parts::{first_byte, is_sign};
 use crate::values::{date_value, day_value, digits, is_day_name, moment, month_value, time_value};
+use mail_text::is_blank;
 
 /// What a From line says: who sent the message, and when it came.
 #[derive(Clone, Copy, Debug)]
@@ -16,12 +18,6 @@ pub struct FromLine<'a> {
     pub sender: &'a [u8],
     /// When the message came, if the line has a date. Its offset is 0.
     pub moment: Option<Moment>,
-}
-
-fn is_blank(b: u8) -> bool
-    ensures { result ≡ is_blank b }
-{
-    b == b' ' || b == b'\t'
 }
 
 fn blanks_len(text: &[u8]) -> usize

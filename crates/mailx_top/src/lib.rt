@@ -5,8 +5,6 @@ mod environment;
 mod open;
 mod session;
 mod status;
-#[cfg(test)]
-mod tests;
 mod top;
 mod words;
 

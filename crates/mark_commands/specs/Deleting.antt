@@ -4,6 +4,7 @@ use Rattle.std.specs.List.{find}
 use Rattle.std.specs.Option.{option_or}
 use Rattle.std.specs.declared.option.Option.TheVariants.{Some, None}
 use Rattle.mailx_vars.specs.Settings.{is_set}
+use Rattle.message_state.specs.declared.mark.Act.{Act}
 use Rattle.message_state.specs.declared.mark.Act.TheVariants.{Look, Delete, Undelete}
 use Rattle.message_state.specs.declared.shown.Shown.{Shown}
 use Rattle.message_list.specs.declared.list.Purpose.TheVariants.{Live, Dead}
@@ -13,7 +14,7 @@ use Rattle.command_desk.specs.declared.desk.Desk.{Desk}
 use Rattle.command_desk.specs.declared.effects.Effects.{Effects}
 use Rattle.command_desk.specs.declared.steps.Steps.{Steps}
 use Rattle.command_desk.specs.Answers.{OrFault, next, says, quietly}
-use Rattle.command_desk.specs.Effects.{unchanged, moved, markings}
+use Rattle.command_desk.specs.Effects.{unchanged, moved, written, markings}
 use Rattle.command_desk.specs.Faults.{at_end}
 use Rattle.command_desk.specs.Selecting.{chosen, last_message, is_among}
 use Rattle.command_desk.specs.Messages.{printed}
@@ -22,37 +23,50 @@ use Rattle.command_desk.specs.Messages.{printed}
 abbrev pub is_left : Shown → List ℕ → ℕ → Bool
 is_left shown ns n = in_base shown Live n && not (is_among ns n)
 
--- the message that is current once these were deleted: the first live one after the last of them in the view, else the last live
--- one before it; none where no message is live
+-- the message that is current once these were deleted: the first live one after the last of them in the view, else the
+-- last live one before it; none where no message is live
 abbrev pub after_deleting : Shown → List ℕ → Option ℕ
-after_deleting shown ns = option_or (next_of shown Live (last_message ns)) (find (is_left shown ns) (before_message shown (last_message ns)))
+after_deleting shown ns =
+    let last = last_message ns in
+    option_or (next_of shown Live last) (find (is_left shown ns) (before_message shown last))
+
+-- an act is done on these, and the last of them is current
+abbrev pub marked : Desk → Act → List ℕ → Effects
+marked desk act ns = record (moved desk (last_message ns)) { marks = markings act ns }
 
 -- these are deleted; where no message is live then, the current one stays
 abbrev pub deleted : Desk → List ℕ → Effects
-deleted desk ns = record (moved desk (unwrap_or (after_deleting desk.shown ns) desk.shown.current)) { marks = markings Delete ns }
+deleted desk ns =
+    let current = unwrap_or (after_deleting desk.shown ns) desk.shown.current in
+    record (moved desk current) { marks = markings Delete ns }
 
 -- these are deleted and the new current message, if there is one, is printed
 abbrev pub print_after : Desk → List ℕ → Option ℕ → OrFault Steps
-print_after desk ns (Some n) = says (printed desk Kept n) (record (unchanged desk) { marks = markings Delete ns ++ markings Look (n ∷ []); current = n; fresh = false })
-print_after desk ns None = says at_end (record (unchanged desk) { marks = markings Delete ns })
+print_after desk ns (Some n) =
+    says (printed desk Kept n) (record (written n) { marks = markings Delete ns ++ markings Look (n ∷ []) })
+print_after desk ns None = says at_end (record unchanged { marks = markings Delete ns })
 
 -- `dp`, `dt`
 abbrev pub delete_and_print : Desk → List (List ℕ) → OrFault Steps
-delete_and_print desk words = next (chosen Live desk.shown words) (λ ns. print_after desk ns (after_deleting desk.shown ns))
+delete_and_print desk words = next (chosen Live desk words) (λ ns. print_after desk ns (after_deleting desk.shown ns))
+
+-- `delete` without `autoprint`
+abbrev pub delete_quietly : Desk → List (List ℕ) → OrFault Steps
+delete_quietly desk words = next (chosen Live desk words) (λ ns. quietly (deleted desk ns))
 
 -- `delete`; with `autoprint` as `dp`
 abbrev pub delete : Desk → List (List ℕ) → OrFault Steps
 delete desk words =
     if is_set desk.vars (codes "autoprint") then delete_and_print desk words
-    else next (chosen Live desk.shown words) (λ ns. quietly (deleted desk ns))
+    else delete_quietly desk words
 
 -- these are given back and the last of them is current; with `autoprint` it is printed
 abbrev pub give_back : Desk → List ℕ → OrFault Steps
 give_back desk ns =
     if is_set desk.vars (codes "autoprint")
-    then says (printed desk Kept (last_message ns)) (record (unchanged desk) { marks = markings Undelete ns; current = last_message ns; fresh = false })
-    else quietly (record (moved desk (last_message ns)) { marks = markings Undelete ns })
+    then says (printed desk Kept (last_message ns)) (record (marked desk Undelete ns) { fresh = Some false })
+    else quietly (marked desk Undelete ns)
 
 -- `undelete`
 abbrev pub undelete : Desk → List (List ℕ) → OrFault Steps
-undelete desk words = next (chosen Dead desk.shown words) (give_back desk)
+undelete desk words = next (chosen Dead desk words) (give_back desk)

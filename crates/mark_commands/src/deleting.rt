@@ -4,18 +4,17 @@ ghost use Rattle.std.specs.List.{find, range_with_len};
 ghost use Rattle.message_state.specs.ShownRows.{IsShown};
 ghost use Rattle.message_state.specs.declared.mark.Act.TheVariants as act;
 ghost use Rattle.message_list.specs.Places.{before_message};
-ghost use Rattle.command_desk.specs.Answers.{Means, next, says, quietly};
-ghost use Rattle.message_list.specs.declared.list.Purpose.TheVariants as purpose;
+ghost use Rattle.command_desk.specs.Answers.{Means, says, quietly};
 ghost use Rattle.message_show.specs.declared.text.How.TheVariants as how;
 ghost use Rattle.command_desk.specs.Selecting.{chosen, last_message};
 ghost use Rattle.command_desk.specs.Desks.{IsDesk, IsMessageOf, IsWithin};
-ghost use Rattle.command_desk.specs.Effects.{unchanged, moved, markings};
-ghost use Rattle.mark_commands.specs.Deleting.{is_left, after_deleting, deleted, print_after, delete_and_print, delete, give_back, undelete};
+ghost use Rattle.command_desk.specs.Effects.{moved, written, markings};
+ghost use Rattle.mark_commands.specs.Deleting.{is_left, after_deleting, marked, deleted, print_after, delete_and_print, delete_quietly, delete, give_back, undelete};
 ghost use Rattle.command_desk.specs.Messages.{printed};
 
 use command_desk::{
     Among, Desk, Effects, Refusal, Steps, act_on, chosen, last_message, markings, moved, printed,
-    quietly, says, unchanged,
+    quietly, says, unchanged, written,
 };
 use mail_text::{Memory, Text};
 use message_list::{Purpose, in_base, next_live, place_of};
@@ -99,13 +98,27 @@ fn after_deleting(alloc: Global, shown: &Shown, numbers: &[u32]) -> Result<Optio
     }
 }
 
+// What an act on these changes; the last of them is current.
+fn marked(alloc: Global, desk: &Desk, act: Act, numbers: &[u32]) -> Result<Effects, Memory>
+    requires desk { IsDesk desk.now }
+    requires some { 0 < length numbers.now }
+    requires messages { All (IsMessageOf desk.now.shown) numbers.now }
+    ensures effects { IfOk result (λ effects. effects ≡ marked desk.now act numbers.now) }
+    ensures within { IfOk result (λ effects. IfSome effects.current (λ n. n ≤ length desk.now.shown.rows)) }
+{
+    Ok(Effects {
+        marks: markings(alloc, act, numbers)?,
+        ..moved(alloc, desk, last_message(numbers))
+    })
+}
+
 // What deleting these changes.
 fn deleted(alloc: Global, desk: &Desk, numbers: &[u32]) -> Result<Effects, Memory>
     requires desk { IsDesk desk.now }
     requires some { 0 < length numbers.now }
     requires messages { All (IsMessageOf desk.now.shown) numbers.now }
     ensures effects { IfOk result (λ effects. effects ≡ deleted desk.now numbers.now) }
-    ensures within { IfOk result (λ effects. effects.current ≤ length desk.now.shown.rows) }
+    ensures within { IfOk result (λ effects. IfSome effects.current (λ n. n ≤ length desk.now.shown.rows)) }
 {
     let n = after_deleting(alloc, &desk.shown, numbers)?;
     let current = n.unwrap_or(desk.shown.current);
@@ -116,25 +129,16 @@ fn deleted(alloc: Global, desk: &Desk, numbers: &[u32]) -> Result<Effects, Memor
 }
 
 // What deleting these and printing message n changes.
-fn deleted_and_printed(
-    alloc: Global,
-    desk: &Desk,
-    numbers: &[u32],
-    n: u32,
-) -> Result<Effects, Memory>
-    ensures { IfOk result (λ effects. effects ≡ record (unchanged desk.now) {
+fn deleted_and_printed(alloc: Global, numbers: &[u32], n: u32) -> Result<Effects, Memory>
+    ensures { IfOk result (λ effects. effects ≡ record (written n) {
       marks = markings act.Delete numbers.now ++ markings act.Look (n ∷ []);
-      current = n;
-      fresh = false;
     }) }
 {
     let mut marks = markings(alloc, Act::Delete, numbers)?;
     marks.push(act_on(Act::Look, n))?;
     Ok(Effects {
         marks,
-        current: n,
-        fresh: false,
-        ..unchanged(alloc, desk)
+        ..written(alloc, n)
     })
 }
 
@@ -153,13 +157,13 @@ fn print_after(
     match n {
         Some(n) => {
             let out = printed(alloc, desk, How::Kept, n)?;
-            let effects = deleted_and_printed(alloc, desk, numbers, n)?;
+            let effects = deleted_and_printed(alloc, numbers, n)?;
             says(alloc, out, effects)
         }
         None => {
             let effects = Effects {
                 marks: markings(alloc, Act::Delete, numbers)?,
-                ..unchanged(alloc, desk)
+                ..unchanged(alloc)
             };
             says(alloc, Text::copy(alloc, b"at end\n")?, effects)
         }
@@ -172,7 +176,7 @@ pub fn delete_and_print(alloc: Global, desk: &Desk, words: &[Text]) -> Result<St
     ensures means { Means result (delete_and_print desk.now words.now) }
     ensures within { IsWithin desk.now result }
 {
-    let numbers = chosen(alloc, words, &desk.shown, Purpose::Live)?;
+    let numbers = chosen(alloc, words, desk, Purpose::Live)?;
     let n = after_deleting(alloc, &desk.shown, numbers.items())?;
     print_after(alloc, desk, numbers.items(), n)
 }
@@ -180,10 +184,10 @@ pub fn delete_and_print(alloc: Global, desk: &Desk, words: &[Text]) -> Result<St
 // `delete` without `autoprint`.
 fn delete_quietly(alloc: Global, desk: &Desk, words: &[Text]) -> Result<Steps, Refusal>
     requires { IsDesk desk.now }
-    ensures means { Means result (next (chosen purpose.Live desk.now.shown words.now) (λ ns. quietly (deleted desk.now ns))) }
+    ensures means { Means result (delete_quietly desk.now words.now) }
     ensures within { IsWithin desk.now result }
 {
-    let numbers = chosen(alloc, words, &desk.shown, Purpose::Live)?;
+    let numbers = chosen(alloc, words, desk, Purpose::Live)?;
     let effects = deleted(alloc, desk, numbers.items())?;
     Ok(quietly(alloc, effects))
 }
@@ -207,16 +211,14 @@ fn give_back_and_print(alloc: Global, desk: &Desk, numbers: &[u32]) -> Result<St
     requires some { 0 < length numbers.now }
     requires messages { All (IsMessageOf desk.now.shown) numbers.now }
     ensures means { Means result (says (printed desk.now how.Kept (last_message numbers.now))
-        (record (unchanged desk.now) { marks = markings act.Undelete numbers.now; current = last_message numbers.now; fresh = false })) }
+        (record (marked desk.now act.Undelete numbers.now) { fresh = Some false })) }
     ensures within { IsWithin desk.now result }
 {
     let last = last_message(numbers);
     let out = printed(alloc, desk, How::Kept, last)?;
     let effects = Effects {
-        marks: markings(alloc, Act::Undelete, numbers)?,
-        current: last,
-        fresh: false,
-        ..unchanged(alloc, desk)
+        fresh: Some(false),
+        ..marked(alloc, desk, Act::Undelete, numbers)?
     };
     says(alloc, out, effects)
 }
@@ -232,10 +234,7 @@ fn give_back(alloc: Global, desk: &Desk, numbers: &[u32]) -> Result<Steps, Refus
     if desk.vars.flag(b"autoprint") {
         return give_back_and_print(alloc, desk, numbers);
     }
-    let effects = Effects {
-        marks: markings(alloc, Act::Undelete, numbers)?,
-        ..moved(alloc, desk, last_message(numbers))
-    };
+    let effects = marked(alloc, desk, Act::Undelete, numbers)?;
     Ok(quietly(alloc, effects))
 }
 
@@ -245,6 +244,6 @@ pub fn undelete(alloc: Global, desk: &Desk, words: &[Text]) -> Result<Steps, Ref
     ensures means { Means result (undelete desk.now words.now) }
     ensures within { IsWithin desk.now result }
 {
-    let numbers = chosen(alloc, words, &desk.shown, Purpose::Dead)?;
+    let numbers = chosen(alloc, words, desk, Purpose::Dead)?;
     give_back(alloc, desk, numbers.items())
 }

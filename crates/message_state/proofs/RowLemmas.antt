@@ -1,15 +1,16 @@
--- A text has one row, since a value has one list of addresses.
-use Rattle.std.proofs.Common.{◌≡◌, ℕ, List, [], Option, Some, None, slice_get, sym, ap, ◌∙◌, inl, inr, codes}
+-- A text has a row and no other, since a value has one list of addresses or a bad piece.
+use Rattle.std.proofs.Common.{◌≡◌, ◌⊎◌, ℕ, ◌+◌, length, List, [], Option, Some, None, slice_get, refl, sym, ap, ◌∙◌, inl, inr, codes}
 use Rattle.mail_dates.specs.declared.moment.Moment.{Moment}
 use Rattle.mail_headers.specs.Field.{Field, unfolded}
 use Rattle.mail_headers.specs.Header.{field_named}
 use Rattle.mail_dates.specs.FromLines.{sender_of}
 use Rattle.mail_addresses.specs.declared.address.Address.{Address}
-use Rattle.mail_addresses.specs.Listing.{Reads, IsFault}
+use Rattle.mail_addresses.specs.Listing.{Reads, IsFault, IsFirstAddress}
 use Rattle.message_state.specs.declared.mark.Mark.{Mark}
 use Rattle.message_state.specs.declared.row.Ids.{Ids}
 use Rattle.message_state.specs.declared.row.Row.{Row}
-use Rattle.message_state.specs.Rows.{IsFirstAddress, IsFirstOf, IsRow, spec_or, name_or, after_from}
+use Rattle.message_state.specs.Rows.{IsFirstOf, IsRow, spec_or, name_or, after_from, value_or_empty, moment_of, ids_in}
+use Rattle.message_state.specs.Status.{mark_of}
 
 -- a value has one list of addresses, or a bad piece
 pub record HasOneReading : Type 0 where
@@ -52,3 +53,47 @@ one-row one t r s x y =
     (x.moment ∙ sym y.moment)
     (x.size ∙ sym y.size)
     (x.ids ∙ sym y.ids)
+
+-- ---- some row
+
+-- each value has a list of addresses, or a bad piece
+abbrev pub EachIsRead : Type 0
+EachIsRead = (value : List ℕ) → ((list : List Address) × Reads value list) ⊎ ((at : ℕ) × IsFault value at)
+
+first-some : EachIsRead → (value : List ℕ) → (found : Option Address) × IsFirstAddress value found
+first-some each value =
+    elim (each value) [
+      | inl list ↦ (slice_get list.0 0, inl (list.0, list.1, refl))
+      | inr fault ↦ (None, inr (fault.0, fault.1, refl))
+    ]
+
+first_of-some : EachIsRead → (f : Option Field) → (found : Option Address) × IsFirstOf f found
+first_of-some each None = (None, refl)
+first_of-some each (Some f) = first-some each (unfolded f)
+
+pub some-row : EachIsRead → (t : List ℕ) → (row : Row) × IsRow t row
+some-row each t =
+    let sender = sender_of (after_from t) in
+    let from = first_of-some each (field_named (codes "From") t) in
+    let to = first_of-some each (field_named (codes "To") t) in
+    let row : Row = record {
+      mark = mark_of t;
+      subject = value_or_empty (field_named (codes "Subject") t);
+      author = spec_or sender from.0;
+      shown_author = name_or sender from.0;
+      to = spec_or [] to.0;
+      moment = moment_of t;
+      size = length t + 1;
+      ids = ids_in t;
+    } in (
+      row,
+      record {
+        mark = refl;
+        subject = refl;
+        author = (from.0, from.1, refl, refl);
+        to = (to.0, to.1, refl);
+        moment = refl;
+        size = refl;
+        ids = refl;
+      },
+    )

@@ -7,7 +7,8 @@ use Rattle.std.proofs.lemmas.Bool.{cond-true, cond-false, cases_Bool, false≢tr
 use Rattle.std.proofs.lemmas.Slice.Eq.{bytes_eq-Decides}
 use Rattle.mail_text.specs.Ascii.{same_ascii}
 use Rattle.mail_text.specs.Lines.{lines_of}
-use Rattle.mail_headers.specs.Field.{Field, is_blank, begins_field, field_of, unfolded, without_feeds, unless_last_blank, trim_start, trim_end}
+use Rattle.mail_headers.specs.Field.{Field, begins_field, field_of, unfolded, without_feeds, unless_last_blank, trim_start, trim_end}
+use Rattle.mail_text.specs.Ascii.{is_blank}
 use Rattle.mail_headers.specs.Header.{Entry, field, other, entry_bytes, field_in, from_line, header_lines, entries_of, entries_from, body_of}
 use Rattle.mail_headers.proofs.FieldLemmas.{join-lines}
 use Rattle.message_state.specs.declared.mark.Mark.{Mark}

@@ -1,7 +1,7 @@
 -- Message identifiers in a field's value (RFC 5322, section 3.6.4).
 use Rattle.std.specs.Prelude.{ℕ, Bool, not, ◌||◌, ◌==◌, List, [], ◌∷◌, ◌++◌, take, slice_index, Option, Some, None, if◌then◌else◌}
 use Rattle.std.specs.List.{prefix_len}
-use Rattle.mail_headers.specs.Field.{is_blank}
+use Rattle.mail_text.specs.Ascii.{is_blank}
 
 -- a byte that may stand between an id's angle brackets: no blank and no bracket
 abbrev pub is_inside : ℕ → Bool

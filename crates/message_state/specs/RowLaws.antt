@@ -6,3 +6,7 @@ use Rattle.message_state.specs.Rows.{IsRow}
 -- a text has one row
 abbrev pub OneRow : Type 0
 OneRow = (t : List ℕ) (r s : Row) → IsRow t r → IsRow t s → r ≡ s
+
+-- each text has a row
+abbrev pub SomeRow : Type 0
+SomeRow = (t : List ℕ) → (row : Row) × IsRow t row

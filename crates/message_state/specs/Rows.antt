@@ -1,10 +1,10 @@
 -- What a summary, a selection and a view know of a message.
-use Rattle.std.specs.Prelude.{◌≡◌, ◌⊎◌, ℕ, ◌+◌, ◌==◌, List, [], length, drop, slice_get, Option, Some, None, codes, if◌then◌else◌}
+use Rattle.std.specs.Prelude.{◌≡◌, ℕ, ◌+◌, ◌==◌, List, [], length, drop, Option, Some, None, codes, if◌then◌else◌}
 use Rattle.std.specs.Option.{option_or, option_and_then}
 use Rattle.mail_headers.specs.Field.{Field, unfolded}
 use Rattle.mail_headers.specs.Header.{from_line, field_named}
 use Rattle.mail_addresses.specs.declared.address.Address.{Address}
-use Rattle.mail_addresses.specs.Listing.{Reads, IsFault}
+use Rattle.mail_addresses.specs.Listing.{IsFirstAddress}
 use Rattle.mail_dates.specs.declared.moment.Moment.{Moment}
 use Rattle.mail_dates.specs.DateFields.{date_of}
 use Rattle.mail_dates.specs.FromLines.{sender_of, arrival_of}
@@ -21,12 +21,6 @@ value_or_empty (Some f) = unfolded f
 -- the From line without the `From ` in front
 abbrev pub after_from : List ℕ → List ℕ
 after_from t = drop 5 (from_line t)
-
--- the first address of a value's list; none where the list has none, or where a piece of the value is no address
-abbrev pub IsFirstAddress : List ℕ → Option Address → Type 0
-IsFirstAddress value found =
-    ((list : List Address) × Reads value list × (found ≡ slice_get list 0))
-    ⊎ ((at : ℕ) × IsFault value at × (found ≡ None))
 
 -- the first address of a field, if there is a field
 abbrev pub IsFirstOf : Option Field → Option Address → Type 0

@@ -1,8 +1,8 @@
-ghost use Rattle.message_state.specs.RowLaws.{OneRow};
+ghost use Rattle.message_state.specs.RowLaws.{OneRow, SomeRow};
 ghost use Rattle.message_state.specs.StampLaws.{StampReads, StampMarks, StampIsOnce, StampKeepsTheRest};
 ghost use Rattle.message_state.specs.StateLaws.{UndeleteReads, UndeleteKeeps, OnlyDeleteDeletes, DeletedStays, NothingUnreads, OnceIsEnough, SeenStays};
 
-use mail_addresses::one_reading;
+use mail_addresses::{each_value_is_read, one_reading};
 
 /// Laws of the table of states, over every mark and act.
 pub fn acts_by_the_table()
@@ -24,7 +24,14 @@ pub fn stamps_read_back()
     ensures the_rest { StampKeepsTheRest }
 {}
 
-/// A law: a text has one row.
+/// A law: each text has a row.
+pub fn each_text_has_a_row()
+    ensures { SomeRow }
+{
+    each_value_is_read();
+}
+
+/// A law: a text has no other row.
 pub fn a_text_has_one_row()
     ensures { OneRow }
 {

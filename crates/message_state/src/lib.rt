@@ -12,7 +12,7 @@ mod shown;
 mod stamp;
 mod status;
 
-pub use laws::{a_text_has_one_row, acts_by_the_table, stamps_read_back};
+pub use laws::{a_text_has_one_row, acts_by_the_table, each_text_has_a_row, stamps_read_back};
 pub use mark::{Act, Mark, State, after};
 pub use order::Order;
 pub use row::{Ids, Row, row_of};

@@ -1,16 +1,17 @@
-ghost use Rattle.std.specs.Prelude.{◌≡◌, ◌==◌, [], length, drop, slice_get, IfOk, IfSome, if◌then◌else◌};
+ghost use Rattle.std.specs.Prelude.{◌≡◌, ◌==◌, [], length, drop, IfOk, IfSome, if◌then◌else◌};
 ghost use Rattle.std.specs.Option.{option_or};
 ghost use Rattle.mail_dates.specs.Clock.{IsInYears};
+ghost use Rattle.mail_dates.specs.FromLines.{sender_of, arrival_of};
 ghost use Rattle.message_state.specs.Ids.{ids_of, first_id};
 ghost use Rattle.message_state.specs.Rows.{value_or_empty, IsFirstOf, spec_or, name_or, display_name, date_in, IsRow};
 
 use crate::Mark;
 use crate::fields::row_fields;
-use crate::ids::ids_of;
+use crate::ids::{first_id, ids_of};
 use crate::status::mark_of_status;
-use mail_addresses::{Address, AddressError, read_list};
+use mail_addresses::{Address, first_address};
 use mail_dates::{Moment, read_date, read_from_line};
-use mail_headers::{FieldRef, Header, unfolded};
+use mail_headers::{FieldRef, Header, unfold_value, unfolded};
 use mail_text::{Items, Memory, Text};
 use std::alloc::Global;
 
@@ -54,14 +55,14 @@ pub fn row_of(alloc: Global, text: &[u8]) -> Result<Row, Memory>
 {
     let header = Header::read(alloc, text)?;
     let fields = row_fields(&header);
-    let arrival = read_from_line(after_from(header.from_line()));
+    let line = after_from(header.from_line());
     let mark = mark_of_status(&fields.status);
     let subject = value_or_empty(alloc, fields.subject)?;
-    let found = first_address(alloc, fields.from)?;
-    let (author, shown_author) = author_of(alloc, found, arrival.sender)?;
-    let found = first_address(alloc, fields.to)?;
+    let found = first_of(alloc, fields.from)?;
+    let (author, shown_author) = author_of(alloc, found, line)?;
+    let found = first_of(alloc, fields.to)?;
     let to = addressee(alloc, found);
-    let moment = moment_of(alloc, fields.date, arrival.moment)?;
+    let moment = moment_of(alloc, fields.date, line)?;
     let own = own_id(alloc, fields.message_id)?;
     let references = ids_in(alloc, fields.references)?;
     let reply = ids_in(alloc, fields.reply)?;
@@ -105,38 +106,23 @@ fn value_or_empty(alloc: Global, field: Option<FieldRef<'_>>) -> Result<Text, Me
 }
 
 // The first address of a field.
-fn first_address(alloc: Global, field: Option<FieldRef<'_>>) -> Result<Option<Address>, Memory>
+fn first_of(alloc: Global, field: Option<FieldRef<'_>>) -> Result<Option<Address>, Memory>
     ensures { IfOk result (IsFirstOf field.entry) }
 {
     match field {
         Some(field) => {
-            let value = unfolded(alloc, field)?;
-            match read_list(alloc, value.bytes()) {
-                Ok(list) => Ok(first_of(list)),
-                Err(AddressError::Syntax { .. }) => Ok(None),
-                Err(AddressError::Memory) => Err(Memory),
-            }
+            let value = unfold_value(alloc, field)?;
+            first_address(alloc, value.bytes())
         }
         None => Ok(None),
     }
 }
 
-// The first address of a list.
-fn first_of(list: Vec<Address>) -> Option<Address>
-    ensures { result ≡ slice_get list.items 0 }
-{
-    let mut list = list;
-    if list.is_empty() {
-        None
-    } else {
-        Some(list.swap_remove(0))
-    }
-}
-
-// The author's bare address and the name to be shown, for the first address of `From` and the sender of the From line.
-fn author_of(alloc: Global, found: Option<Address>, sender: &[u8]) -> Result<(Text, Text), Memory>
-    ensures author { IfOk result (λ names. names.0 ≡ spec_or sender.now found) }
-    ensures shown { IfOk result (λ names. names.1 ≡ name_or sender.now found) }
+// The author's bare address and the name to be shown, for the first address of `From` and what the From line has behind
+// `From `, which is read only where there is no address.
+fn author_of(alloc: Global, found: Option<Address>, line: &[u8]) -> Result<(Text, Text), Memory>
+    ensures author { IfOk result (λ names. names.0 ≡ spec_or (sender_of line.now) found) }
+    ensures shown { IfOk result (λ names. names.1 ≡ name_or (sender_of line.now) found) }
 {
     match found {
         Some(address) => {
@@ -149,8 +135,9 @@ fn author_of(alloc: Global, found: Option<Address>, sender: &[u8]) -> Result<(Te
             Ok((spec, shown))
         }
         None => {
-            let author = Text::copy(alloc, sender)?;
-            let shown = Text::copy(alloc, sender)?;
+            let arrival = read_from_line(line);
+            let author = Text::copy(alloc, arrival.sender)?;
+            let shown = Text::copy(alloc, arrival.sender)?;
             Ok((author, shown))
         }
     }
@@ -184,24 +171,25 @@ fn addressee(alloc: Global, found: Option<Address>) -> Text
     }
 }
 
-// The date of a field where it reads, else the moment of the From line.
+// The date of a field where it reads, else the moment of the From line, which is read only then.
 fn moment_of(
     alloc: Global,
     date: Option<FieldRef<'_>>,
-    arrival: Option<Moment>,
+    line: &[u8],
 ) -> Result<Option<Moment>, Memory>
-    ensures moment { IfOk result (λ moment. moment ≡ option_or (date_in date.entry) arrival) }
-    ensures years { IfSome arrival IsInYears → IfOk result (λ moment. IfSome moment IsInYears) }
+    ensures moment { IfOk result (λ moment. moment ≡ option_or (date_in date.entry) (arrival_of line.now)) }
+    ensures years { IfOk result (λ moment. IfSome moment IsInYears) }
 {
-    match date {
+    let written = match date {
         Some(field) => {
-            let value = unfolded(alloc, field)?;
-            match read_date(value.bytes()) {
-                Some(moment) => Ok(Some(moment)),
-                None => Ok(arrival),
-            }
+            let value = unfold_value(alloc, field)?;
+            read_date(value.bytes())
         }
-        None => Ok(arrival),
+        None => None,
+    };
+    match written {
+        Some(moment) => Ok(Some(moment)),
+        None => Ok(read_from_line(line).moment),
     }
 }
 
@@ -209,17 +197,24 @@ fn moment_of(
 fn ids_in(alloc: Global, field: Option<FieldRef<'_>>) -> Result<Items<Text>, Memory>
     ensures { IfOk result (λ ids. ids ≡ ids_of (value_or_empty field.entry)) }
 {
-    let value = value_or_empty(alloc, field)?;
-    ids_of(alloc, value.bytes())
+    match field {
+        Some(field) => {
+            let value = unfold_value(alloc, field)?;
+            ids_of(alloc, value.bytes())
+        }
+        None => Ok(Items::new(alloc)),
+    }
 }
 
 // The first id of a field, or empty.
 fn own_id(alloc: Global, field: Option<FieldRef<'_>>) -> Result<Text, Memory>
     ensures { IfOk result (λ id. id ≡ first_id (ids_of (value_or_empty field.entry))) }
 {
-    let ids = ids_in(alloc, field)?;
-    match ids.items().first() {
-        Some(id) => Text::copy(alloc, id.bytes()),
+    match field {
+        Some(field) => {
+            let value = unfold_value(alloc, field)?;
+            Text::copy(alloc, first_id(value.bytes()))
+        }
         None => Ok(Text::new(alloc)),
     }
 }

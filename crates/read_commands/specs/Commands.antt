@@ -37,8 +37,8 @@ abbrev pub alone : CommandLine → OrFault Steps → OrFault Steps
 alone line meant = without_words line.words line.word meant
 
 -- `exit`, `xit`
-abbrev pub exit : Desk → OrFault Steps
-exit desk = Ok (record { asks = Exit ∷ []; effects = unchanged desk })
+abbrev pub exit : OrFault Steps
+exit = Ok (record { asks = Exit ∷ []; effects = unchanged })
 
 -- the command of a line, on a desk
 abbrev pub meaning_of : Command → CommandLine → Desk → OrFault Steps
@@ -58,8 +58,8 @@ meaning_of command.Undelete line desk = undelete desk line.words
 meaning_of command.Set line desk = set desk line.words
 meaning_of command.Unset line desk = unset desk line.words
 meaning_of command.Help line desk = alone line (help desk)
-meaning_of command.Comment line desk = quietly (unchanged desk)
-meaning_of command.Exit line desk = alone line (exit desk)
+meaning_of command.Comment line desk = quietly unchanged
+meaning_of command.Exit line desk = alone line exit
 meaning_of other line desk = Err (not_built (name_of line.word))
 
 abbrev pub meaning : CommandLine → Desk → OrFault Steps

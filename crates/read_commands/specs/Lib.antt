@@ -1,4 +1,5 @@
 pub mod Commands
+pub mod Origins
 pub use Rattle.command_desk.specs.Answers
 pub use Rattle.command_desk.specs.Desks
 pub use Rattle.command_desk.specs.Effects

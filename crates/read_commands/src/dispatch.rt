@@ -19,7 +19,7 @@ use show_commands::{echo, from, headers, help, number, print, print_following, s
 use std::alloc::Global;
 
 // The whole name of the command that a word spells.
-fn name_of(word: &[u8]) -> &'static [u8]
+pub(crate) fn name_of(word: &[u8]) -> &'static [u8]
     ensures { result.now ≡ name_of word.now }
 {
     match whole_name(word) {
@@ -30,15 +30,14 @@ fn name_of(word: &[u8]) -> &'static [u8]
 
 // `exit`, `xit`.
 fn exit(alloc: Global, desk: &Desk) -> Result<Steps, Refusal>
-    requires { IsDesk desk.now }
-    ensures means { Means result (exit desk.now) }
+    ensures means { Means result exit }
     ensures within { IsWithin desk.now result }
 {
     let mut asks = Items::new(alloc);
     asks.push(Ask::Exit)?;
     Ok(Steps {
         asks,
-        effects: unchanged(alloc, desk),
+        effects: unchanged(alloc),
     })
 }
 
@@ -74,7 +73,7 @@ fn lone_help(alloc: Global, line: &CommandLine, desk: &Desk) -> Result<Steps, Re
 
 fn lone_exit(alloc: Global, line: &CommandLine, desk: &Desk) -> Result<Steps, Refusal>
     requires { IsDesk desk.now }
-    ensures means { Means result (alone line.now (exit desk.now)) }
+    ensures means { Means result (alone line.now exit) }
     ensures within { IsWithin desk.now result }
 {
     no_words(alloc, line)?;
@@ -90,8 +89,8 @@ fn lone_scroll(alloc: Global, line: &CommandLine, desk: &Desk) -> Result<Steps, 
     scroll(alloc, desk, line.word.bytes() == b"z-".as_slice())
 }
 
-/// What the command of a line asks for and what it changes, or the one line that refuses it. A refused command changes nothing.
-/// Nothing is said or done yet: the asks are carried out in order, and then `Desk::settle` carries out the changes.
+/// What the command of a line asks for and what it changes, or the one line that refuses it. A refused command changes
+/// nothing. Nothing is said or done yet: the asks are carried out in order, and then `Desk::settle` carries out the changes.
 pub fn perform(alloc: Global, line: &CommandLine, desk: &Desk) -> Result<Steps, Refusal>
     requires { IsDesk desk.now }
     ensures means { Means result (meaning line.now desk.now) }
@@ -100,7 +99,7 @@ pub fn perform(alloc: Global, line: &CommandLine, desk: &Desk) -> Result<Steps, 
     carry_out(alloc, line, desk)
 }
 
-// The same; that the message which is current then is one is all that is said of the desk.
+// What the command of a line comes to; that the message which is current then is one is all that is said of the desk.
 fn carry_out(alloc: Global, line: &CommandLine, desk: &Desk) -> Result<Steps, Refusal>
     requires { IsDesk desk.now }
     ensures means { Means result (meaning line.now desk.now) }
@@ -121,7 +120,7 @@ fn carry_out(alloc: Global, line: &CommandLine, desk: &Desk) -> Result<Steps, Re
         Command::Undelete => undelete(alloc, desk, words),
         Command::Set => set(alloc, desk, words),
         Command::Unset => unset(alloc, desk, words),
-        Command::Comment => Ok(quietly(alloc, unchanged(alloc, desk))),
+        Command::Comment => Ok(quietly(alloc, unchanged(alloc))),
         Command::Number => lone_number(alloc, line, desk),
         Command::Help => lone_help(alloc, line, desk),
         Command::Exit => lone_exit(alloc, line, desk),
@@ -131,7 +130,7 @@ fn carry_out(alloc: Global, line: &CommandLine, desk: &Desk) -> Result<Steps, Re
 }
 
 // Reads a line, or refuses it by its form.
-fn command_line(alloc: Global, line: &[u8]) -> Result<CommandLine, Refusal>
+pub(crate) fn command_line(alloc: Global, line: &[u8]) -> Result<CommandLine, Refusal>
     ensures { Means result (read_or_fault (reading line.now)) }
 {
     match read_line(alloc, line) {
@@ -143,7 +142,7 @@ fn command_line(alloc: Global, line: &[u8]) -> Result<CommandLine, Refusal>
     }
 }
 
-/// The same for an input line as it stands, whose form is looked at first.
+/// What a line of the run's input comes to: its form is looked at first, and then its command is performed.
 pub fn perform_line(alloc: Global, line: &[u8], desk: &Desk) -> Result<Steps, Refusal>
     requires { IsDesk desk.now }
     ensures means { Means result (commanded desk.now line.now) }

@@ -2,7 +2,9 @@
 #![tactic(auto)]
 
 mod dispatch;
+mod origin;
 
 pub use command_desk::{Ask, Desk, Effects, Marking, Open, Refusal, Steps};
 pub use dispatch::{perform, perform_line};
+pub use origin::{Origin, read_command};
 pub use show_commands::{current_page, page_of, page_size};

@@ -19,7 +19,8 @@ is_equals b = b == 61
 
 -- the pieces before and after the first `=`, if there is one
 abbrev pub IsSplit : Option (Bor (List ℕ) × Bor (List ℕ)) → List ℕ → Type 0
-IsSplit (Some p) word = (list_any is_equals word ≡ true) × (p.0.now ≡ before_first is_equals word) × (p.1.now ≡ after_first is_equals word)
+IsSplit (Some p) word =
+    (list_any is_equals word ≡ true) × (p.0.now ≡ before_first is_equals word) × (p.1.now ≡ after_first is_equals word)
 IsSplit None word = list_any is_equals word ≡ false
 
 -- a variable as it is listed
@@ -57,10 +58,11 @@ after_words vars (w ∷ ws) = next (after_word vars w) (λ new. after_words new 
 
 -- `set`: without words all variables are listed
 abbrev pub set : Desk → List (List ℕ) → OrFault Steps
-set desk [] = says (flat_map setting_line desk.vars) (unchanged desk)
-set desk (w ∷ ws) = next (after_words desk.vars (w ∷ ws)) (λ vars. quietly (record (unchanged desk) { vars = Some vars }))
+set desk [] = says (flat_map setting_line desk.vars) unchanged
+set desk (w ∷ ws) =
+    next (after_words desk.vars (w ∷ ws)) (λ vars. quietly (record unchanged { vars = Some vars }))
 
 -- `unset`: a variable that isn't set is passed over
 abbrev pub unset : Desk → List (List ℕ) → OrFault Steps
 unset desk [] = Err (bad_arguments (codes "unset"))
-unset desk (w ∷ ws) = quietly (record (unchanged desk) { vars = Some (fold without desk.vars (w ∷ ws)) })
+unset desk (w ∷ ws) = quietly (record unchanged { vars = Some (fold without desk.vars (w ∷ ws)) })

@@ -106,12 +106,12 @@ fn listing(alloc: Global, vars: &Vars) -> Result<Text, Memory>
 }
 
 // The variables as they are to be, and no other change.
-fn with_vars(alloc: Global, desk: &Desk, vars: Vars) -> Effects
-    ensures { result ≡ record (unchanged desk.now) { vars = Some vars } }
+fn with_vars(alloc: Global, vars: Vars) -> Effects
+    ensures { result ≡ record unchanged { vars = Some vars } }
 {
     Effects {
         vars: Some(vars),
-        ..unchanged(alloc, desk)
+        ..unchanged(alloc)
     }
 }
 
@@ -123,10 +123,10 @@ pub fn set(alloc: Global, desk: &Desk, words: &[Text]) -> Result<Steps, Refusal>
 {
     if words.is_empty() {
         let out = listing(alloc, &desk.vars)?;
-        return says(alloc, out, unchanged(alloc, desk));
+        return says(alloc, out, unchanged(alloc));
     }
     let vars = after_words(alloc, &desk.vars, words)?;
-    Ok(quietly(alloc, with_vars(alloc, desk, vars)))
+    Ok(quietly(alloc, with_vars(alloc, vars)))
 }
 
 // The variables once these were unset.
@@ -150,5 +150,5 @@ pub fn unset(alloc: Global, desk: &Desk, words: &[Text]) -> Result<Steps, Refusa
         return Err(fault(alloc, b"unset", b": bad arguments"));
     }
     let vars = unset_all(&desk.vars, words)?;
-    Ok(quietly(alloc, with_vars(alloc, desk, vars)))
+    Ok(quietly(alloc, with_vars(alloc, vars)))
 }

@@ -1,5 +1,6 @@
 -- The view by pages of `screen` messages, counted from its front.
 use Rattle.std.specs.Prelude.{ℕ, ◌+◌, ◌-◌, ◌*◌, ◌/◌, max, nat_lt, Bool, true, false, ◌==◌, List, [], ◌∷◌, length, slice_index, codes, unwrap_or, if◌then◌else◌}
+use Rattle.std.specs.declared.option.Option.TheVariants.{Some}
 use Rattle.std.specs.declared.result.Result.TheVariants.{Ok, Err}
 use Rattle.message_list.specs.declared.list.Purpose.TheVariants.{Live}
 use Rattle.message_list.specs.Places.{place_of}
@@ -24,28 +25,39 @@ page_of desk n size = unwrap_or (place_of desk.shown n) 0 / size
 -- the summary lines of a page are said, with the current message that is left
 abbrev pub says_page : Desk → ℕ → ℕ → Effects → OrFault Steps
 says_page desk page size effects =
-    says (page_text (record desk.shown { current = effects.current }) (page * size) size desk.places.width) (record effects { page = page })
+    let shown = record desk.shown { current = unwrap_or effects.current desk.shown.current } in
+    says (page_text shown (page * size) size desk.places.width) (record effects { page = Some page })
 
 -- the summary lines of the page that has the current message
 abbrev pub current_page : Desk → OrFault (List ℕ)
-current_page desk = next (page_size desk) (λ size. Ok (page_text desk.shown (page_of desk desk.shown.current size * size) size desk.places.width))
+current_page desk =
+    next (page_size desk) (λ size.
+    Ok (page_text desk.shown (page_of desk desk.shown.current size * size) size desk.places.width))
 
 -- the message at the top of a page
 abbrev pub top_of : Desk → ℕ → ℕ → ℕ
 top_of desk page size = slice_index desk.shown.order (page * size)
 
+-- the page of message n, whose first message becomes current
+abbrev pub page_of_message : Desk → ℕ → ℕ → OrFault Steps
+page_of_message desk n size =
+    let page = page_of desk n size in
+    says_page desk page size (moved desk (top_of desk page size))
+
 -- `headers`: the page of the current message; or the page of another one, whose first message becomes current
 abbrev pub headers : Desk → List (List ℕ) → OrFault Steps
-headers desk [] = next (page_size desk) (λ size. says_page desk (page_of desk desk.shown.current size) size (unchanged desk))
+headers desk [] = next (page_size desk) (λ size. says_page desk (page_of desk desk.shown.current size) size unchanged)
 headers desk (w ∷ ws) =
-    next (chosen Live desk.shown (w ∷ ws)) (λ ns.
+    next (chosen Live desk (w ∷ ws)) (λ ns.
     next (single (codes "headers") ns) (λ n.
     next (page_size desk) (λ size.
-    says_page desk (page_of desk n size) size (moved desk (top_of desk (page_of desk n size) size)))))
+    page_of_message desk n size)))
 
 -- a page, where its first place is in the view
 abbrev pub turned : Desk → ℕ → ℕ → OrFault Steps
-turned desk page size = if nat_lt (page * size) (length desk.shown.order) then says_page desk page size (unchanged desk) else Err at_end
+turned desk page size =
+    if nat_lt (page * size) (length desk.shown.order) then says_page desk page size unchanged
+    else Err at_end
 
 -- the page after the last one said, or the one before it
 abbrev pub scrolled : Desk → Bool → ℕ → OrFault Steps

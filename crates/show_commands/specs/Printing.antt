@@ -1,5 +1,5 @@
 -- Commands that print messages, or of messages.
-use Rattle.std.specs.Prelude.{ℕ, ◌+◌, false, ◌&&◌, List, [], ◌∷◌, ◌++◌, Option, if◌then◌else◌, codes}
+use Rattle.std.specs.Prelude.{ℕ, ◌+◌, ◌&&◌, List, [], ◌∷◌, ◌++◌, Option, if◌then◌else◌, codes}
 use Rattle.std.specs.List.{flat_map, find}
 use Rattle.std.specs.declared.option.Option.TheVariants.{Some, None}
 use Rattle.std.specs.declared.result.Result.TheVariants.{Ok, Err}
@@ -15,18 +15,18 @@ use Rattle.command_desk.specs.declared.effects.Effects.{Effects}
 use Rattle.command_desk.specs.declared.steps.Steps.{Steps}
 use Rattle.command_desk.specs.Answers.{OrFault, next, says}
 use Rattle.command_desk.specs.Desks.{message_text}
-use Rattle.command_desk.specs.Effects.{unchanged, markings}
+use Rattle.command_desk.specs.Effects.{written, markings}
 use Rattle.command_desk.specs.Messages.{heading, printed}
 use Rattle.command_desk.specs.Faults.{at_end, not_a_number}
 use Rattle.command_desk.specs.Selecting.{chosen, last_message, is_among}
 
 -- these were printed: Look is done on each, and the last is current and written
-abbrev pub after_printing : Desk → List ℕ → Effects
-after_printing desk ns = record (unchanged desk) { marks = markings Look ns; current = last_message ns; fresh = false }
+abbrev pub after_printing : List ℕ → Effects
+after_printing ns = record (written (last_message ns)) { marks = markings Look ns }
 
 -- `print`, `type`, `Print`, `Type`
 abbrev pub print : How → Desk → List (List ℕ) → OrFault Steps
-print how desk words = next (chosen Live desk.shown words) (λ ns. says (flat_map (printed desk how) ns) (after_printing desk ns))
+print how desk words = next (chosen Live desk words) (λ ns. says (flat_map (printed desk how) ns) (after_printing ns))
 
 -- the number that a variable's value writes
 abbrev pub number_or : List ℕ → Option ℕ → OrFault ℕ
@@ -43,18 +43,21 @@ topped desk count n = heading n ++ top_text (message_text desk n) desk.sets coun
 -- `top`: the first `toplines` lines of each
 abbrev pub top : Desk → List (List ℕ) → OrFault Steps
 top desk words =
-    next (chosen Live desk.shown words) (λ ns.
+    next (chosen Live desk words) (λ ns.
     next (number_of_variable desk.vars (codes "toplines")) (λ count.
-    says (flat_map (topped desk count) ns) (after_printing desk ns)))
+    says (flat_map (topped desk count) ns) (after_printing ns)))
 
 -- the message is printed, where there is one
 abbrev pub print_next : Desk → Option ℕ → OrFault Steps
-print_next desk (Some n) = says (printed desk Kept n) (after_printing desk (n ∷ []))
+print_next desk (Some n) = says (printed desk Kept n) (after_printing (n ∷ []))
 print_next desk None = Err at_end
 
 -- what `next` prints: the current message where it is live and unwritten, else the next live one in the view
 abbrev pub following : Desk → Option ℕ
-following desk = if in_base desk.shown Live desk.shown.current && desk.fresh then Some desk.shown.current else next_of desk.shown Live desk.shown.current
+following desk =
+    let current = desk.shown.current in
+    if in_base desk.shown Live current && desk.fresh then Some current
+    else next_of desk.shown Live current
 
 -- the first of some messages that stands after the current one in the view
 abbrev pub following_of : Desk → List ℕ → Option ℕ
@@ -63,4 +66,4 @@ following_of desk ns = find (λ n. is_among ns n) (after_message desk.shown desk
 -- `next`
 abbrev pub print_following : Desk → List (List ℕ) → OrFault Steps
 print_following desk [] = print_next desk (following desk)
-print_following desk (w ∷ ws) = next (chosen Live desk.shown (w ∷ ws)) (λ ns. print_next desk (following_of desk ns))
+print_following desk (w ∷ ws) = next (chosen Live desk (w ∷ ws)) (λ ns. print_next desk (following_of desk ns))

@@ -15,7 +15,7 @@ use Rattle.command_desk.specs.Selecting.{chosen}
 
 -- `from`: the summary lines of the selected messages, deleted ones too
 abbrev pub from : Desk → List (List ℕ) → OrFault Steps
-from desk words = next (chosen Any desk.shown words) (λ ns. says (summaries desk.shown ns desk.places.width) (unchanged desk))
+from desk words = next (chosen Any desk words) (λ ns. says (summaries desk.shown ns desk.places.width) unchanged)
 
 -- a message's number and size, which is the length of its text and one
 abbrev pub size_line : Desk → ℕ → List ℕ
@@ -23,16 +23,16 @@ size_line desk n = with_feed (decimal n ++ codes ": " ++ decimal (length (messag
 
 -- `size`: the sizes of the selected messages, deleted ones too
 abbrev pub size : Desk → List (List ℕ) → OrFault Steps
-size desk words = next (chosen Any desk.shown words) (λ ns. says (flat_map (size_line desk) ns) (unchanged desk))
+size desk words = next (chosen Any desk words) (λ ns. says (flat_map (size_line desk) ns) unchanged)
 
 -- `=`: the number of the current message, 0 where there is none
 abbrev pub number : Desk → OrFault Steps
-number desk = says (with_feed (decimal desk.shown.current)) (unchanged desk)
+number desk = says (with_feed (decimal desk.shown.current)) unchanged
 
 -- `echo`: the words joined by one space
 abbrev pub echo : Desk → List (List ℕ) → OrFault Steps
-echo desk words = says (with_feed (join_with_byte 32 words)) (unchanged desk)
+echo desk words = says (with_feed (join_with_byte 32 words)) unchanged
 
 -- `help`: the names of all commands, one a line
 abbrev pub help : Desk → OrFault Steps
-help desk = says (flat_map with_feed names) (unchanged desk)
+help desk = says (flat_map with_feed names) unchanged

@@ -3,7 +3,7 @@ ghost use Rattle.std.specs.Prelude.{◌≡◌, ◌<◌, ◌*◌, true, false, If
 ghost use Rattle.command_desk.specs.Answers.{Means};
 ghost use Rattle.command_desk.specs.Desks.{IsDesk, IsMessageOf, IsWithin};
 ghost use Rattle.command_desk.specs.Effects.{unchanged, moved};
-ghost use Rattle.show_commands.specs.Paging.{page_size, page_of, current_page, says_page, top_of, headers, turned, scrolled, scroll};
+ghost use Rattle.show_commands.specs.Paging.{page_size, page_of, current_page, says_page, page_of_message, headers, turned, scrolled, scroll};
 
 use crate::printing::number_of_variable;
 use command_desk::{Desk, Effects, Refusal, Steps, chosen, fault, moved, says, single, unchanged};
@@ -72,7 +72,9 @@ fn says_page(
     ensures current { IfOk result (λ steps. steps.effects.current ≡ effects.current) }
 {
     let width = desk.places.width;
-    let out = page_with_current(alloc, &desk.shown, effects.current, start, size, width)?;
+    let current = effects.current.unwrap_or(desk.shown.current);
+    let out = page_with_current(alloc, &desk.shown, current, start, size, width)?;
+    let page = Some(page);
     says(alloc, out, Effects { page, ..effects })
 }
 
@@ -81,7 +83,7 @@ fn page_of_message(alloc: Global, desk: &Desk, n: u32, size: usize) -> Result<St
     requires desk { IsDesk desk.now }
     requires message { IsMessageOf desk.now.shown n }
     requires some { 0 < size }
-    ensures means { Means result (says_page desk.now (page_of desk.now n size) size (moved desk.now (top_of desk.now (page_of desk.now n size) size))) }
+    ensures means { Means result (page_of_message desk.now n size) }
     ensures within { IsWithin desk.now result }
 {
     let page = page_of(desk, n, size);
@@ -100,9 +102,9 @@ pub fn headers(alloc: Global, desk: &Desk, words: &[Text]) -> Result<Steps, Refu
         let size = page_size(alloc, desk)?;
         let page = page_of(desk, desk.shown.current, size);
         let start = start_of_page(desk, desk.shown.current, size);
-        return says_page(alloc, desk, page, start, size, unchanged(alloc, desk));
+        return says_page(alloc, desk, page, start, size, unchanged(alloc));
     }
-    let numbers = chosen(alloc, words, &desk.shown, Purpose::Live)?;
+    let numbers = chosen(alloc, words, desk, Purpose::Live)?;
     let n = single(alloc, b"headers", numbers.items())?;
     let size = page_size(alloc, desk)?;
     page_of_message(alloc, desk, n, size)
@@ -116,7 +118,7 @@ fn turned(alloc: Global, desk: &Desk, page: usize, size: usize) -> Result<Steps,
 {
     match page.checked_mul(size) {
         Some(start) if start < desk.shown.order.items().len() => {
-            says_page(alloc, desk, page, start, size, unchanged(alloc, desk))
+            says_page(alloc, desk, page, start, size, unchanged(alloc))
         }
         _ => Err(fault(alloc, b"", b"at end")),
     }

@@ -9,7 +9,7 @@ ghost use Rattle.command_desk.specs.Messages.{printed};
 
 use command_desk::{
     Among, Desk, Effects, Refusal, Steps, chosen, fault, last_message, markings, message, printed,
-    put_heading, put_printed, says, unchanged,
+    put_heading, put_printed, says, written,
 };
 use mail_text::{Memory, Text};
 use mailx_vars::{VarError, Vars};
@@ -32,15 +32,13 @@ fn printed_all(alloc: Global, desk: &Desk, how: How, numbers: &[u32]) -> Result<
 }
 
 /// What printing these messages changes: Look is done on each, and the last is current and written.
-fn after_printing(alloc: Global, desk: &Desk, numbers: &[u32]) -> Result<Effects, Memory>
+fn after_printing(alloc: Global, numbers: &[u32]) -> Result<Effects, Memory>
     requires { 0 < length numbers.now }
-    ensures { IfOk result (λ effects. effects ≡ after_printing desk.now numbers.now) }
+    ensures { IfOk result (λ effects. effects ≡ after_printing numbers.now) }
 {
     Ok(Effects {
         marks: markings(alloc, Act::Look, numbers)?,
-        current: last_message(numbers),
-        fresh: false,
-        ..unchanged(alloc, desk)
+        ..written(alloc, last_message(numbers))
     })
 }
 
@@ -50,9 +48,9 @@ pub fn print(alloc: Global, desk: &Desk, words: &[Text], how: How) -> Result<Ste
     ensures means { Means result (print how desk.now words.now) }
     ensures within { IsWithin desk.now result }
 {
-    let numbers = chosen(alloc, words, &desk.shown, Purpose::Live)?;
+    let numbers = chosen(alloc, words, desk, Purpose::Live)?;
     let out = printed_all(alloc, desk, how, numbers.items())?;
-    let effects = after_printing(alloc, desk, numbers.items())?;
+    let effects = after_printing(alloc, numbers.items())?;
     says(alloc, out, effects)
 }
 
@@ -97,10 +95,10 @@ pub fn top(alloc: Global, desk: &Desk, words: &[Text]) -> Result<Steps, Refusal>
     ensures means { Means result (top desk.now words.now) }
     ensures within { IsWithin desk.now result }
 {
-    let numbers = chosen(alloc, words, &desk.shown, Purpose::Live)?;
+    let numbers = chosen(alloc, words, desk, Purpose::Live)?;
     let count = number_of_variable(alloc, &desk.vars, b"toplines")?;
     let out = topped_all(alloc, desk, count, numbers.items())?;
-    let effects = after_printing(alloc, desk, numbers.items())?;
+    let effects = after_printing(alloc, numbers.items())?;
     says(alloc, out, effects)
 }
 
@@ -114,7 +112,7 @@ fn print_next(alloc: Global, desk: &Desk, n: Option<u32>) -> Result<Steps, Refus
     match n {
         Some(n) => {
             let out = printed(alloc, desk, How::Kept, n)?;
-            let effects = after_printing(alloc, desk, &[n])?;
+            let effects = after_printing(alloc, &[n])?;
             says(alloc, out, effects)
         }
         None => Err(fault(alloc, b"", b"at end")),
@@ -193,7 +191,7 @@ pub fn print_following(alloc: Global, desk: &Desk, words: &[Text]) -> Result<Ste
     if words.is_empty() {
         return print_next(alloc, desk, following(desk));
     }
-    let numbers = chosen(alloc, words, &desk.shown, Purpose::Live)?;
+    let numbers = chosen(alloc, words, desk, Purpose::Live)?;
     let n = following_of(alloc, desk, numbers.items())?;
     print_next(alloc, desk, n)
 }

@@ -21,9 +21,9 @@ pub fn from(alloc: Global, desk: &Desk, words: &[Text]) -> Result<Steps, Refusal
     ensures means { Means result (from desk.now words.now) }
     ensures within { IsWithin desk.now result }
 {
-    let numbers = chosen(alloc, words, &desk.shown, Purpose::Any)?;
+    let numbers = chosen(alloc, words, desk, Purpose::Any)?;
     let out = summary_lines(alloc, &desk.shown, numbers.items(), desk.places.width)?;
-    says(alloc, out, unchanged(alloc, desk))
+    says(alloc, out, unchanged(alloc))
 }
 
 // Puts a message's number and size.
@@ -58,9 +58,9 @@ pub fn size(alloc: Global, desk: &Desk, words: &[Text]) -> Result<Steps, Refusal
     ensures means { Means result (size desk.now words.now) }
     ensures within { IsWithin desk.now result }
 {
-    let numbers = chosen(alloc, words, &desk.shown, Purpose::Any)?;
+    let numbers = chosen(alloc, words, desk, Purpose::Any)?;
     let out = sizes(alloc, desk, numbers.items())?;
-    says(alloc, out, unchanged(alloc, desk))
+    says(alloc, out, unchanged(alloc))
 }
 
 /// `=`.
@@ -72,7 +72,7 @@ pub fn number(alloc: Global, desk: &Desk) -> Result<Steps, Refusal>
     let mut buffer = Buffer::new();
     let mut out = Text::copy(alloc, buffer.format(desk.shown.current).as_bytes())?;
     out.push(b"\n")?;
-    says(alloc, out, unchanged(alloc, desk))
+    says(alloc, out, unchanged(alloc))
 }
 
 // Puts words, each behind a space.
@@ -113,7 +113,7 @@ pub fn echo(alloc: Global, desk: &Desk, words: &[Text]) -> Result<Steps, Refusal
     ensures within { IsWithin desk.now result }
 {
     let out = joined(alloc, words)?;
-    says(alloc, out, unchanged(alloc, desk))
+    says(alloc, out, unchanged(alloc))
 }
 
 // The names of all commands, one a line.
@@ -137,5 +137,5 @@ pub fn help(alloc: Global, desk: &Desk) -> Result<Steps, Refusal>
     ensures within { IsWithin desk.now result }
 {
     let out = names(alloc)?;
-    says(alloc, out, unchanged(alloc, desk))
+    says(alloc, out, unchanged(alloc))
 }

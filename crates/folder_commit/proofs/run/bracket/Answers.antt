@@ -6,7 +6,7 @@ use Rattle.host_port.specs.Names.{IsFileName}
 use Rattle.std.proofs.lemmas.Result.{err_from_is_err_and}
 use Rattle.host_port.proofs.RanLemmas.{Ran-none, Ran-then, Ran-map}
 use Rattle.folder_change.specs.Outcomes.{base_list}
-use Rattle.folder_recovery.proofs.FileLemmas.{right-file}
+use Rattle.commit_driver.proofs.FileLemmas.{right-file}
 use Rattle.folder_commit.specs.declared.error.CommitError.{CommitError}
 use Rattle.folder_commit.specs.declared.error.CommitError.TheVariants as error
 use Rattle.folder_commit.specs.Ends.{Commits}

@@ -9,7 +9,7 @@ use Rattle.commit_machine.specs.Machine.{GoOn, undoing}
 use Rattle.commit_machine.specs.Goes.{Goes}
 use Rattle.folder_recovery.specs.Closing.{closed}
 use Rattle.folder_recovery.proofs.ClosingLemmas.{entry_names, map-names}
-use Rattle.folder_recovery.proofs.FileLemmas.{record-files, record-staged}
+use Rattle.commit_driver.proofs.FileLemmas.{record-files, record-staged}
 use Rattle.folder_recovery.proofs.MendLemmas.{closed-go, closed-prepare}
 use Rattle.folder_recovery.proofs.mend.close_staged.Goals as goal
 

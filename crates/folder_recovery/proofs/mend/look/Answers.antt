@@ -1,6 +1,6 @@
 use Rattle.std.proofs.Common.{subst, Option, List, ℕ}
 use Rattle.host_port.proofs.RanLemmas.{Ran-map}
-use Rattle.folder_recovery.specs.Recovering.{ReadsAs}
+use Rattle.folder_recovery.specs.Mending.{ReadsAs}
 use Rattle.folder_recovery.proofs.MendLemmas.{looked-found, looked-long, looked-fault, looked-short}
 use Rattle.folder_recovery.proofs.mend.look.Goals as goal
 

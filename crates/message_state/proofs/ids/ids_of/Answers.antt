@@ -1,5 +1,6 @@
-use Rattle.std.proofs.Common.{ℕ, List, [], ◌++◌, drop, sym, ap, ◌∙◌, arith, append_assoc, append-nil}
+use Rattle.std.proofs.Common.{ℕ, List, Option, [], ◌++◌, drop, refl, sym, ap, ◌∙◌, arith, append_assoc, append-nil}
 use Rattle.std.proofs.lemmas.Bool.{eqb-true, eq-eqb}
+use Rattle.std.specs.Option.{option_copied}
 use Rattle.message_state.specs.Ids.{id_behind, id_first, ids_of}
 use Rattle.message_state.proofs.IdLemmas.{ids_of_step, ids_of_missed}
 use Rattle.message_state.proofs.ids.ids_of.Goals as goal
@@ -8,13 +9,13 @@ pub loop-at-preserved : goal.loop-at-preserved
 loop-at-preserved c =
     let found = c.in-Some.ensures in
     let ids : List (List ℕ) = c.loop-at.ids in
-    let inside : List ℕ = c.split_at-in-Some.result.1.now in
-    let after : List ℕ = c.split_at-in-Some-2.result.1.now in
-    let step = ids_of_step c.loop-at.rest.now c.split_at.result.1.now inside c.in-Some.at found.0.high (λ k l e. found.0.before k (omega arith) l (eq-eqb _ _ e)) (eqb-true _ _ found.1) c.split_at.ensures.back c.split_at-in-Some.ensures.back in
+    let tail : List ℕ = c.split_at.result.1.now in
+    let after : List ℕ = c.cut_id.result.1.now in
+    let step = ids_of_step c.loop-at.rest.now tail (drop 1 tail) c.in-Some.at found.0.high (λ k l e. found.0.before k (omega arith) l (eq-eqb _ _ e)) (eqb-true _ _ found.1) c.split_at.ensures.back refl in
     ap (λ (new : List (List ℕ)). new ++ ids_of after) c.in_ok-push_id.ensures
-    ∙ append_assoc ids (id_first (id_behind (drop 1 c.split_at.result.1.now)) []) (ids_of after)
-    ∙ ap (λ (bs : List ℕ). ids ++ (id_first (id_behind bs) [] ++ ids_of after)) (sym c.split_at-in-Some.ensures.back)
-    ∙ ap (λ (bs : List ℕ). ids ++ (id_first (id_behind inside) [] ++ ids_of bs)) (c.split_at-in-Some-2.ensures.back ∙ ap (λ (n : ℕ). drop n inside) c.inside_length-end.ensures.value)
+    ∙ append_assoc ids (id_first (option_copied c.cut_id.result.0) []) (ids_of after)
+    ∙ ap (λ (id : Option (List ℕ)). ids ++ (id_first id [] ++ ids_of after)) c.cut_id.ensures.id
+    ∙ ap (λ (bs : List ℕ). ids ++ (id_first (id_behind (drop 1 tail)) [] ++ ids_of bs)) c.cut_id.ensures.after
     ∙ ap (λ (later : List (List ℕ)). ids ++ later) (sym step)
     ∙ c.loop-at.invariant
 

@@ -1,7 +1,7 @@
 use Rattle.std.proofs.Common.{ℕ, not, ◌∙◌, rules, tests}
 use Rattle.std.proofs.lemmas.Iterator.{YieldsList-from_slice}
 use Rattle.std.proofs.lemmas.Iterator.Search.{position_from_yields_List}
-use Rattle.mail_headers.proofs.FieldLemmas.{prefix_len-from_position}
+use Rattle.mail_text.proofs.FrontLemmas.{prefix_len-from_position}
 use Rattle.message_state.specs.Ids.{is_inside}
 use Rattle.message_state.proofs.ids.inside_length.Goals as goal
 

@@ -1,0 +1,35 @@
+//! Cases as text: blocks that stand apart by an empty line, the host in memory that a block describes, and what became
+//! of it.
+//!
+//! Each line of a block says one thing. In it `\n`, `\t` and `\\` stand for a line feed, a tab and a backslash, `\xNN`
+//! for the byte of two hexadecimal digits, and `\e` for nothing. The bytes of a file or of the input stand below their
+//! line: each line `|TEXT` is TEXT with a line feed, and each line `:TEXT` is TEXT without one. A line that begins with
+//! `#` says nothing.
+//!
+//! | Line | Meaning |
+//! |---|---|
+//! | `always` | the block holds for the cases that follow; what they say themselves goes before it |
+//! | `case TITLE` | the block is a case |
+//! | `bare` | for this case the block `always` doesn't hold |
+//! | `file NAME` | a file, whose bytes stand below |
+//! | `holds NAME TEXT` | a file with these bytes |
+//! | `lock NAME TOKEN` | a lock |
+//! | `input` | the input, whose bytes stand below |
+//! | `pieces N` | the most bytes that the host gives of the input at once; without it 3 |
+//! | `fails N PART` | the call of this number fails, and leaves `before`, `after`, `nothing` or `bytes TEXT` |
+//! | `other N write NAME TEXT` | what another does before the call of this number |
+//! | `other N remove NAME`, `seize NAME`, `release NAME` | the same |
+//! | `other N lock NAME TOKEN`, `unlock NAME TOKEN` | the same |
+#![tactic(auto)]
+
+mod block;
+mod disks;
+mod escape;
+mod planned;
+mod shown;
+
+pub use block::{Case, cut, first, is_plain, number, text_under, value};
+pub use disks::view;
+pub use escape::{decoded, push_encoded, push_lines};
+pub use planned::{part, plan};
+pub use shown::push_changes;

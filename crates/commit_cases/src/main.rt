@@ -1,0 +1,66 @@
+//! Cases of the host in memory, of changes, records, commits and recoveries. Standard input has the cases, and for each
+//! the program prints what its lines answer.
+//!
+//! The lines of a case are those of `case_blocks`, and these, which are carried out in their order. A line `do` is a call
+//! of the host or of a library over it; the actor of recoveries and commits is `/h/m`, and their token 1.
+//!
+//! | Line | What is printed |
+//! |---|---|
+//! | `do fill` | the bytes of the input that come, of 8 at most |
+//! | `do say TEXT`, `do stage NAME TEXT`, `do erase NAME`, `do unlock NAME TOKEN`, `do release NAME` | `done` or `fault` |
+//! | `do publish FROM TO`, `do lock NAME TOKEN`, `do seize NAME` | `yes`, `no` or `fault` |
+//! | `do load NAME` | what was seen |
+//! | `do recover`, `do add NAME TEXT` | how the recovery, or the commit that adds the text to the file, ended |
+//! | `do empty NAME TEXT` | how the commit ended that leaves a file without a message, read before as the text |
+//! | `letters` | a letter for each event so far |
+//! | `stop N PART` | what a stop inside the event of this number leaves, of which this part was done |
+//! | `stops` | for a stop inside each event, with each part done, what a recovery leaves; and a line where another stop inside that recovery, recovered again, leaves something else |
+//! | `change KIND / CURRENT / BASE / TEXT\|TEXT..` | what a change (`keep`, `drop`: a rewrite; `add`, `front`, `raw`) makes of a file; `-` is no file |
+//! | `write PHASE TOKEN NAME\|NAME..` | whether such a record is valid, its text, and whether it is read back |
+//! | `read` | whether the text below the line `record` is one |
+//! | `swap OLD => NEW` | the same of this text where the first OLD is replaced |
+//! | `lawful NAME`, `own NAME` | whether a record may have the name; whether a commit of the actor may change it |
+//! | `names ACTOR TOKEN NAME` | the names of the record, of the new one, of the right and of a staged file |
+//! | `taken ACTOR NAME` | whether the name is that of the actor's record |
+//! | `large` | what comes of files past a limit |
+//!
+//! Of a case with calls there are printed last how many events there are, and what became of the disk.
+#![tactic(auto)]
+
+mod calls;
+mod changes;
+mod commits;
+mod large;
+mod laws;
+mod names;
+mod pure;
+mod records;
+mod script;
+mod stops;
+
+use mail_text::Memory;
+use std::io;
+use std::process::ExitCode;
+
+fn tell(rt: &HostRuntime, cases: &str) -> Result<(), Memory> {
+    laws::call();
+    let mut always = "";
+    for block in cases.split("\n\n") {
+        if block.lines().any(|line| line == "always") {
+            always = block;
+        }
+        let told = script::told(rt.alloc(), case_blocks::first(block, always))?;
+        let _ = rt.write_all(told.bytes());
+    }
+    Ok(())
+}
+
+fn main(rt: HostRuntime) -> ExitCode {
+    match io::read_to_string(rt.alloc(), rt.reader()) {
+        Ok(cases) => match tell(&rt, cases.as_str()) {
+            Ok(()) => ExitCode::from(0),
+            Err(_) => ExitCode::from(8),
+        },
+        Err(_) => ExitCode::from(3),
+    }
+}

@@ -1,0 +1,317 @@
+-- The place after an answer.
+use Rattle.std.proofs.Common.{◌≡◌, ◌⊎◌, ℕ, ◌+◌, ◌-◌, ◌*◌, ◌<◌, ◌≤◌, Bool, true, false, List, [], ◌∷◌, length, map, take, slice_set, is_some, refl, ap, sym, subst, inl, inr, ◌∙◌, arith}
+use Rattle.std.specs.Prelude.{All}
+use Rattle.std.specs.declared.option.Option.{Option}
+use Rattle.std.specs.declared.option.Option.TheVariants.{Some, None}
+use Rattle.std.specs.declared.result.Result.{Result}
+use Rattle.std.specs.declared.result.Result.TheVariants.{Ok, Err}
+use Rattle.std.proofs.lemmas.Bool.{and_parts, leb-true}
+use Rattle.std.proofs.lemmas.List.Elements.{All-nil, All-cons, All-head, All-tail}
+use Rattle.host_port.specs.Names.{IsFileName}
+use Rattle.folder_change.specs.declared.change.Change.{Change}
+use Rattle.commit_record.specs.Format.{is_valid}
+use Rattle.commit_record.specs.declared.record.Entry.{Entry}
+use Rattle.commit_record.specs.declared.record.Record.{Record}
+use Rattle.commit_machine.specs.Names.{staged_name}
+use Rattle.commit_machine.specs.Records.{is_go, names_of}
+use Rattle.commit_machine.specs.Jobs.{Ending, NoMemory, Edit, Job, Made, edits_of}
+use Rattle.commit_machine.specs.Machine.{State, Looking, loading, after_reply, went_on, faulted, too_long, wanted, saw}
+use Rattle.commit_driver.specs.declared.step.Passed.{Passed}
+use Rattle.commit_driver.specs.declared.step.End.{End}
+use Rattle.commit_driver.specs.declared.step.End.TheVariants as end
+use Rattle.commit_driver.specs.declared.step.Then.TheVariants as then
+use Rattle.commit_driver.specs.declared.step.Step.{Step}
+use Rattle.commit_driver.specs.declared.step.Step.TheVariants as step
+use Rattle.commit_driver.specs.declared.answers.Found.{Found}
+use Rattle.commit_driver.specs.declared.answers.Reply.{Reply}
+use Rattle.commit_driver.specs.declared.answers.Reply.TheVariants as reply
+use Rattle.commit_driver.specs.declared.judge.Trouble.{Trouble}
+use Rattle.commit_driver.specs.declared.judge.Trouble.TheVariants as trouble
+use Rattle.commit_driver.specs.declared.place.Plan.{Plan}
+use Rattle.commit_driver.specs.declared.place.Place.{Place}
+use Rattle.commit_driver.specs.Steps.{call_at, Fits, weight, went_at, faulted_at, long_at, short_at}
+use Rattle.commit_driver.specs.Judging.{TroubleFits}
+use Rattle.commit_driver.specs.Places.{files_of, entries_of, made_from, state_as, Holds, IsPlan, IsPlace, IsSafe, StandsFor}
+use Rattle.commit_driver.specs.Answers.{IsAnswer, reply_as, mending_at, judged_at, Finds, PassedSo, LooksAt, Looks, Takes, SawSo, Answered, at_step, IsCommitOf, Follows, is_long, is_settled, Caused, ReplyCaused, IsAfter}
+use Rattle.commit_driver.proofs.StateLemmas.{unlocking-all, drop-some}
+use Rattle.commit_driver.proofs.NextLemmas.{files-long, edits-long}
+use Rattle.commit_driver.proofs.FitLemmas.{of-if, of-staging, fits-went, fits-fault, fits-long, fits-short, fits-placing, fits-undoing, fits-unlocking, fits-staging, lighter-went, lighter-fault, lighter-long, lighter-short, under-placing, under-undoing, under-unlocking, under-staging, settled-went, settled-fault, settled-long, settled-short, caused-went, caused-fault, caused-long, caused-short, caused-placing, caused-undoing, caused-unlocking, Loads}
+use Rattle.commit_driver.proofs.AnswerLemmas.{went-same, fault-same, long-same, holds-went, holds-fault, holds-long, holds-short}
+use Rattle.commit_driver.proofs.FileLemmas.{record-files, record-staged}
+use Rattle.commit_driver.proofs.SawLemmas.{AreNamed, length-set, look-follows, check-follows, take-follows}
+
+false-true : true ≡ false → ⊥
+false-true h = let x : true ≡ false = h in absurd (cc)
+
+loads-of : (s : Step) (r : Reply) → IsAnswer (call_at s) r → (is_loaded : Bool) → ((b : Bool) → r ≡ reply.Went b → ⊥) → (r ≡ reply.Fault → ⊥) → Loads s
+loads-of step.Looking r a b h g = tt
+loads-of (step.Loading at) r a b h g = tt
+loads-of step.Checking r a b h g = tt
+loads-of s (reply.Went x) a b h g = absurd (h x refl)
+loads-of s reply.Fault a b h g = absurd (g refl)
+loads-of (step.Unlocking at e then.GoOn) r a b h g = absurd a
+loads-of (step.Unlocking at e (then.Answer x)) r a b h g = absurd a
+loads-of s r a b h g = absurd a
+
+loads-long : (s : Step) (k : ℕ) → IsAnswer (call_at s) (reply.Long k) → Loads s
+loads-long s k a = loads-of s (reply.Long k) a true (λ b e. absurd (cc)) (λ e. absurd (cc))
+
+loads-short : (s : Step) → IsAnswer (call_at s) reply.Short → Loads s
+loads-short s a = loads-of s reply.Short a true (λ b e. absurd (cc)) (λ e. absurd (cc))
+
+loads-saw : (s : Step) (c : Option (List ℕ)) → IsAnswer (call_at s) (reply.Saw c) → Loads s
+loads-saw s c a = loads-of s (reply.Saw c) a true (λ b e. absurd (cc)) (λ e. absurd (cc))
+
+-- the same place with another step
+place-step : (plan : Plan) (old : Place) (s : Step) → IsPlace plan old → Fits (files_of plan) (entries_of old) s → IsPlace plan (at_step old s)
+place-step plan old s q f = record { fits = f; staged_are = q.staged_are; few = q.few; files_are = q.files_are; names = q.names; staged = q.staged }
+
+names-staged : (token : ℕ) (es : List Entry) → map (λ e. staged_name token e.name) es ≡ map (staged_name token) (map (λ e. e.name) es)
+names-staged token [] = refl
+names-staged token (e ∷ es) = ap (λ (ns : List (List ℕ)). staged_name token e.name ∷ ns) (names-staged token es)
+
+valid-few : (r : Record) → is_valid r ≡ true → length r.entries ≤ 16
+valid-few r h = leb-true (length r.entries) 16 (and_parts _ _ (and_parts _ _ h).1).0
+
+all-names : (es : List Entry) → All (λ (e : Entry). IsFileName e.name) es → All IsFileName (map (λ e. e.name) es)
+all-names [] h = All-nil IsFileName
+all-names (e ∷ es) h = All-cons IsFileName e.name (map (λ e. e.name) es) (All-head (λ (e : Entry). IsFileName e.name) e es h) (all-names es (All-tail (λ (e : Entry). IsFileName e.name) e es h))
+
+module _ (plan : Plan) (old : Place) (q : IsPlace plan old) (safe : IsSafe plan) (changes : List Change) (base : List (List ℕ)) (named : AreNamed (names_of plan.value) changes) where
+  abbrev n : ℕ
+  n = files_of plan
+
+  abbrev m : ℕ
+  m = entries_of old
+
+  abbrev After : Reply → Place → Type 0
+  After r now = IsAfter plan r changes base old now
+
+  -- an answer that leads to a step by numbers alone
+  by-step : (r : Reply) (s : Step) → Fits n m s → weight s < weight old.step → (is_settled s ≡ false → (is_settled old.step ≡ false) × (is_long r ≡ false))
+      → ((before after : ℕ) → Caused before after old.step → ReplyCaused before after r → Caused before after s)
+      → ((j : Job) (t : State) → IsPlan j plan → (j.edits ≡ None) ⊎ IsCommitOf j changes base → StandsFor j old t → Follows j (at_step old s) (after_reply j t (reply_as r)))
+      → (now : Place) → now ≡ at_step old s → After r now
+  by-step r s f l u c go now is = subst (After r) (sym is) (record { place = place-step plan old s q f; lighter = l; settled = u; caused = c; follows = go })
+
+  after-went : (b : Bool) → IsAnswer (call_at old.step) (reply.Went b) → (now : Place) → Answered plan (reply.Went b) changes base old now → After (reply.Went b) now
+  after-went b a now is =
+      let s = went_at plan.commits n m (is_go old.found) old.step b in
+      by-step (reply.Went b) s (fits-went plan.commits n m (is_go old.found) old.step b (λ e. safe.some e) q.fits a) (lighter-went plan.commits n m (is_go old.found) old.step b safe.few q.few q.fits a)
+      (λ e. (settled-went plan.commits n m (is_go old.found) old.step b a e, refl))
+      (λ before after c x. caused-went before after plan.commits n m (is_go old.found) old.step b a c)
+      (λ j t p for st. (
+        went_on j t b,
+        inl refl,
+        record {
+          hidden = st.hidden;
+          wanted = st.wanted;
+          made = st.made;
+          holds = holds-went j plan old st.hidden st.made p q (is_go old.found) old.step b st.holds a;
+          is = went-same j plan old st.hidden st.made p q old.step b q.fits st.holds a ∙ ap (λ (z : State). went_on j z b) st.is;
+        },
+      ))
+      now is
+
+  after-fault : IsAnswer (call_at old.step) reply.Fault → (now : Place) → Answered plan reply.Fault changes base old now → After reply.Fault now
+  after-fault a now is =
+      by-step reply.Fault (faulted_at old.step) (fits-fault n m old.step) (lighter-fault old.step a)
+      (λ e. absurd (false-true (sym (settled-fault old.step) ∙ e)))
+      (λ before after c x. caused-fault before after old.step x)
+      (λ j t p for st. (
+        faulted t,
+        inl refl,
+        record {
+          hidden = st.hidden;
+          wanted = st.wanted;
+          made = st.made;
+          holds = holds-fault j plan old st.hidden st.made p q old.step st.holds;
+          is = fault-same j plan old st.hidden st.made p q st.wanted old.step q.fits st.holds a ∙ ap faulted st.is;
+        },
+      ))
+      now is
+
+  after-long : (k : ℕ) → IsAnswer (call_at old.step) (reply.Long k) → (now : Place) → Answered plan (reply.Long k) changes base old now → After (reply.Long k) now
+  after-long k a now is =
+      let l = loads-long old.step k a in
+      by-step (reply.Long k) (long_at n old.step k) (fits-long n m old.step k q.fits) (lighter-long n m old.step k safe.few q.fits l)
+      (λ e. absurd (false-true (sym (settled-long n old.step k) ∙ e)))
+      (λ before after c x. caused-long before after n old.step k l x c)
+      (λ j t p for st. (
+        too_long j t k,
+        inl refl,
+        record {
+          hidden = st.hidden;
+          wanted = st.wanted;
+          made = st.made;
+          holds = holds-long j plan old st.hidden st.made p q old.step k;
+          is = long-same j plan old st.hidden st.made p q old.step k q.fits l ∙ ap (λ (z : State). too_long j z k) st.is;
+        },
+      ))
+      now is
+
+  -- a load that wants memory
+  short-follows : (j : Job) (s : Step) (t : State) (hidden : Ending) (made : List Made) → IsPlan j plan → Fits n m s → Loads s → state_as j hidden made old.found old.files s ≡ t → StandsFor j (at_step old (short_at n s)) (wanted j t)
+  short-follows j step.Looking t hidden made p f l is =
+      record { hidden = NoMemory; wanted = inl refl; made = made; holds = tt; is = ap (wanted j) is }
+  short-follows j (step.Loading at) t hidden made p f l is =
+      let es = edits_of j in
+      let ms = made_from es (take at old.files) in
+      let w = drop-some es at (omega (arith, f, edits-long j plan p)) in
+      record {
+        hidden = NoMemory;
+        wanted = inl refl;
+        made = made;
+        holds = holds-short j plan old NoMemory made p q (step.Loading at);
+        is = unlocking-all j NoMemory made old.found old.files n (then.Answer end.NoMemory) (files-long j plan p) ∙ sym (ap (λ (xs : List Edit). wanted j (loading j ms xs)) w.1) ∙ ap (wanted j) is;
+      }
+  short-follows j step.Checking t hidden made p f l is = record { hidden = NoMemory; wanted = inl refl; made = made; holds = tt; is = ap (wanted j) is }
+  short-follows j s t hidden made p f l is = absurd l
+
+  after-short : IsAnswer (call_at old.step) reply.Short → (now : Place) → Answered plan reply.Short changes base old now → After reply.Short now
+  after-short a now is =
+      let l = loads-short old.step a in
+      by-step reply.Short (short_at n old.step) (fits-short n m old.step) (lighter-short n m old.step safe.few q.fits l)
+      (λ e. (settled-short n old.step l e, refl))
+      (λ before after c x. caused-short before after n old.step l c)
+      (λ j t p for st. (wanted j t, inl refl, short-follows j old.step t st.hidden st.made p q.fits l st.is))
+      now is
+
+  -- what a load of the record saw
+  module _ (looking : old.step ≡ step.Looking) where
+    at-looking : (j : Job) (t : State) → StandsFor j old t → Looking ≡ t
+    at-looking j t st = sym (ap (state_as j st.hidden st.made old.found old.files) looking) ∙ st.is
+
+    look-goes : (file : Option (List ℕ)) (now : Place) → Looks plan file old now → (j : Job) (t : State) → IsPlan j plan → (j.edits ≡ None) ⊎ IsCommitOf j changes base → StandsFor j old t → Follows j now (saw j t file)
+    look-goes file now l j t p for st = subst (λ (z : State). Follows j now (saw j z file)) (at-looking j t st) (look-follows j plan old p q st.hidden st.wanted st.made file now l)
+
+    was-open : is_settled old.step ≡ false
+    was-open = ap is_settled looking
+
+    lighter-than : (s : Step) → weight s < 19 * 17 → weight s < weight old.step
+    lighter-than s l = subst (λ (z : Step). weight s < weight z) (sym looking) l
+
+    look-step : (file : Option (List ℕ)) (s : Step) (now : Place) → Fits n m s → weight s < 19 * 17 → ((before after : ℕ) → Caused before after s) → now ≡ at_step old s → Looks plan file old now → After (reply.Saw file) now
+    look-step file s now f l c is looks =
+        record {
+          place = subst (IsPlace plan) (sym is) (place-step plan old s q f);
+          lighter = subst (λ (z : Place). weight z.step < weight old.step) (sym is) (lighter-than s l);
+          settled = λ e. (was-open, refl);
+          caused = λ before after x y. subst (λ (z : Place). Caused before after z.step) (sym is) (c before after);
+          follows = look-goes file now looks;
+        }
+
+    found-place : (bytes : List ℕ) (found : Found) → Finds bytes (Ok found) → IsPlace plan (record old { step = mending_at found.value; found = found.value; found_staged = found.staged })
+    found-place bytes found finds =
+        let r = found.value in
+        let valid = finds.0.valid in
+        let le : length r.entries ≤ length r.entries = omega arith in
+        record {
+          fits = of-if (Fits n (length r.entries)) (is_go r) _ _ (λ e. fits-placing n (length r.entries) 0 then.GoOn tt) (λ e. fits-undoing n (length r.entries) 0 (length r.entries) (length r.entries) then.GoOn le le tt);
+          staged_are = finds.1 ∙ names-staged r.token r.entries;
+          few = valid-few r valid;
+          files_are = q.files_are;
+          names = all-names r.entries (record-files r valid);
+          staged = subst (All IsFileName) (sym finds.1) (record-staged r valid);
+        }
+
+    mending-light : (r : Record) → length r.entries ≤ 16 → weight (mending_at r) < 19 * 17
+    mending-light r few = of-if (λ (s : Step). weight s < 19 * 17) (is_go r) _ _ (λ e. under-placing (19 * 17) 0 (length r.entries) then.GoOn (omega arith)) (λ e. under-undoing (19 * 17) 0 (length r.entries) (length r.entries) then.GoOn few (omega arith))
+
+    after-found : (bytes : List ℕ) (result : Result Found End) (now : Place) → Finds bytes result → LooksAt result old now → Looks plan (Some bytes) old now → After (reply.Saw (Some bytes)) now
+    after-found bytes (Ok found) now finds is looks =
+        let r = found.value in
+        record {
+          place = subst (IsPlace plan) (sym is) (found-place bytes found finds);
+          lighter = subst (λ (z : Place). weight z.step < weight old.step) (sym is) (lighter-than (mending_at r) (mending-light r (valid-few r finds.0.valid)));
+          settled = λ e. (was-open, refl);
+          caused = λ before after x y. subst (λ (z : Place). Caused before after z.step) (sym is)
+              (of-if (Caused before after) (is_go r) _ _ (λ e. caused-placing before after 0 (length r.entries) then.GoOn tt) (λ e. caused-undoing before after 0 (length r.entries) (length r.entries) then.GoOn tt));
+          follows = look-goes (Some bytes) now looks;
+        }
+    after-found bytes (Err end.NotARecord) now finds is looks = look-step (Some bytes) (step.Releasing end.NotARecord) now tt (omega arith) (λ before after. tt) is looks
+    after-found bytes (Err end.NoMemory) now finds is looks = look-step (Some bytes) (step.Releasing end.NoMemory) now tt (omega arith) (λ before after. tt) is looks
+    after-found bytes (Err e) now finds is looks = absurd finds
+
+    after-looking : (file : Option (List ℕ)) (now : Place) → Looks plan file old now → After (reply.Saw file) now
+    after-looking None now is =
+        look-step None _ now (of-if (Fits n m) plan.commits _ _ (λ e. safe.some e) (λ e. tt)) (of-if (λ (s : Step). weight s < 19 * 17) plan.commits _ _ (λ e. omega arith) (λ e. omega arith))
+        (λ before after. of-if (Caused before after) plan.commits _ _ (λ e. tt) (λ e. tt)) is is
+    after-looking (Some bytes) now looks = after-found bytes looks.0 now looks.1 looks.2 looks
+
+  -- what a load of a file saw
+  module _ (at : ℕ) (at-loading : old.step ≡ step.Loading at) where
+    at-some : at < n
+    at-some = subst (Fits n m) at-loading q.fits
+
+    load-goes : (file : Option (List ℕ)) (now : Place) → Takes plan at file changes base old now → (j : Job) (t : State) → IsPlan j plan → (j.edits ≡ None) ⊎ IsCommitOf j changes base → StandsFor j old t → Follows j now (saw j t file)
+    load-goes file now takes j t p (inl none) st =
+        let some : is_some j.edits ≡ true = subst (Holds j st.made old.files) at-loading st.holds in
+        absurd (false-true (sym some ∙ ap is_some none))
+    load-goes file now takes j t p (inr of) st =
+        let is = sym (ap (state_as j st.hidden st.made old.found old.files) at-loading) ∙ st.is in
+        subst (λ (z : State). Follows j now (saw j z file)) is (take-follows j plan old p q st.hidden st.wanted st.made changes base of named at file now at-some takes)
+
+    load-open : is_settled old.step ≡ false
+    load-open = ap is_settled at-loading
+
+    judged-fits : (result : Result Unit Trouble) → TroubleFits n result → Fits n m (judged_at n result)
+    judged-fits (Ok u) t = fits-staging n m 0
+    judged-fits (Err (trouble.Changed k x)) t = fits-unlocking n m 0 n (then.Answer (end.Changed k x)) (omega arith) t
+    judged-fits (Err (trouble.TooLarge k x)) t = fits-unlocking n m 0 n (then.Answer (end.TooLarge k x)) (omega arith) t.0
+    judged-fits (Err trouble.Memory) t = fits-unlocking n m 0 n (then.Answer end.NoMemory) (omega arith) tt
+
+    judged-light : (result : Result Unit Trouble) → weight (judged_at n result) < 9 * 17 + (16 - at)
+    judged-light (Ok u) = under-staging (9 * 17 + (16 - at)) 0 n (omega (arith, at-some, safe.few))
+    judged-light (Err (trouble.Changed k x)) = under-unlocking (9 * 17 + (16 - at)) 0 n (then.Answer (end.Changed k x)) safe.few (omega arith)
+    judged-light (Err (trouble.TooLarge k x)) = under-unlocking (9 * 17 + (16 - at)) 0 n (then.Answer (end.TooLarge k x)) safe.few (omega arith)
+    judged-light (Err trouble.Memory) = under-unlocking (9 * 17 + (16 - at)) 0 n (then.Answer end.NoMemory) safe.few (omega arith)
+
+    judged-caused : (before after : ℕ) (result : Result Unit Trouble) → TroubleFits n result → Caused before after (judged_at n result)
+    judged-caused before after (Ok u) t = of-staging (Caused before after) 0 n (λ l. tt) tt
+    judged-caused before after (Err (trouble.Changed k x)) t = caused-unlocking before after 0 n (then.Answer (end.Changed k x)) tt
+    judged-caused before after (Err (trouble.TooLarge k x)) t = caused-unlocking before after 0 n (then.Answer (end.TooLarge k x)) t.1
+    judged-caused before after (Err trouble.Memory) t = caused-unlocking before after 0 n (then.Answer end.NoMemory) tt
+
+    load-place : (s : Step) (fs : List (Option (List ℕ))) → Fits n m s → length fs ≡ n → IsPlace plan (record old { step = s; files = fs })
+    load-place s fs f l = record { fits = f; staged_are = q.staged_are; few = q.few; files_are = l; names = q.names; staged = q.staged }
+
+    load-step : (file : Option (List ℕ)) (s : Step) (fs : List (Option (List ℕ))) (now : Place) → Fits n m s → length fs ≡ n → weight s < 9 * 17 + (16 - at) → ((before after : ℕ) → Caused before after s) → now ≡ record old { step = s; files = fs } → Takes plan at file changes base old now → After (reply.Saw file) now
+    load-step file s fs now f l w c is takes = record {
+      place = subst (IsPlace plan) (sym is) (load-place s fs f l);
+      lighter = subst (λ (z : Place). weight z.step < weight old.step) (sym is) (subst (λ (z : Step). weight s < weight z) (sym at-loading) w);
+      settled = λ e. (load-open, refl);
+      caused = λ before after x y. subst (λ (z : Place). Caused before after z.step) (sym is) (c before after);
+      follows = load-goes file now takes;
+    }
+
+    after-loading : (file : Option (List ℕ)) (now : Place) → Takes plan at file changes base old now → After (reply.Saw file) now
+    after-loading file now (inl more) =
+        load-step file (step.Loading (at + 1)) (slice_set old.files at file) now more.0 (length-set old.files at file ∙ q.files_are) (omega (arith, at-some, safe.few)) (λ before after. tt) more.1 (inl more)
+    after-loading file now (inr over) =
+        let t = over.1 in
+        load-step file (judged_at n t.result) t.made now (judged-fits t.result t.fits) (t.long ∙ length-set old.files at file ∙ q.files_are) (judged-light t.result) (λ before after. judged-caused before after t.result t.fits) t.is (inr over)
+
+  -- what a look at the record after a failed decision saw
+  after-checking : (file : Option (List ℕ)) (now : Place) → old.step ≡ step.Checking → (x : Passed) → PassedSo plan.go file x → now ≡ at_step old (step.Releasing (end.Failed x)) → After (reply.Saw file) now
+  after-checking file now at x so is =
+      by-step (reply.Saw file) (step.Releasing (end.Failed x)) tt (subst (λ (z : Step). 17 < weight z) (sym at) (omega arith)) (λ e. absurd (false-true e))
+      (λ before after c y. subst (Caused before after) at c)
+      (λ j t p for st.
+      let same = sym (ap (state_as j st.hidden st.made old.found old.files) at) ∙ st.is in
+      let some : is_some j.edits ≡ true = subst (Holds j st.made old.files) at st.holds in
+      subst (λ (z : State). Follows j (at_step old (step.Releasing (end.Failed x))) (saw j z file)) same (check-follows j plan old p q st.hidden st.wanted st.made file (at_step old (step.Releasing (end.Failed x))) x some so refl))
+      now is
+
+  after-saw : (file : Option (List ℕ)) (s : Step) (now : Place) → old.step ≡ s → IsAnswer (call_at s) (reply.Saw file) → SawSo plan file changes base old s now → After (reply.Saw file) now
+  after-saw file step.Looking now e a is = after-looking e file now is
+  after-saw file (step.Loading at) now e a is = after-loading at e file now is
+  after-saw file step.Checking now e a is = after-checking file now e is.0 is.1 is.2
+  after-saw file s now e a is = absurd (loads-saw s file a)
+
+  pub is-after : (r : Reply) (now : Place) → IsAnswer (call_at old.step) r → Answered plan r changes base old now → After r now
+  is-after (reply.Went b) now a is = after-went b a now is
+  is-after (reply.Saw file) now a is = after-saw file old.step now refl a is
+  is-after (reply.Long k) now a is = after-long k a now is
+  is-after reply.Short now a is = after-short a now is
+  is-after reply.Fault now a is = after-fault a now is

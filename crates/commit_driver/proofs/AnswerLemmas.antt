@@ -1,0 +1,226 @@
+-- The state after an answer is the machine's.
+use Rattle.std.proofs.Common.{◌≡◌, ℕ, ◌+◌, ◌<◌, Bool, true, false, List, [], ◌∷◌, ◌++◌, Option, Some, None, length, map, take, drop, is_some, refl, ap, sym, inl, inr, ◌∙◌, arith, if◌then◌else◌}
+use Rattle.commit_record.specs.declared.record.Record.{Record}
+use Rattle.commit_machine.specs.Records.{is_go}
+use Rattle.commit_machine.specs.Jobs.{Ending, Edit, Job, Made, edits_of, all_of, prepare_of, go_of}
+use Rattle.commit_machine.specs.Jobs as jobs
+use Rattle.commit_machine.specs.Machine.{State, locking, loading, staging, unlocking, undoing, placing, refusing, went_on, faulted, too_long, mended, none_stands}
+use Rattle.commit_machine.specs.Machine as machine
+use Rattle.commit_driver.specs.declared.step.Recovered.{Recovered}
+use Rattle.commit_driver.specs.declared.step.Recovered.TheVariants as recovered
+use Rattle.commit_driver.specs.declared.step.End.{End}
+use Rattle.commit_driver.specs.declared.step.End.TheVariants as end
+use Rattle.commit_driver.specs.declared.step.Then.{Then}
+use Rattle.commit_driver.specs.declared.step.Then.TheVariants.{GoOn, Answer}
+use Rattle.commit_driver.specs.declared.step.Step.{Step}
+use Rattle.commit_driver.specs.declared.step.Step.TheVariants.{Seizing, Looking, Undoing, Placing, Unlocking, Erasing, Clearing, Preparing, Publishing, Locking, Loading, Staging, Deciding, Committing, Checking, Releasing, Ended}
+use Rattle.commit_driver.specs.declared.answers.Reply.TheVariants as reply
+use Rattle.commit_driver.specs.declared.place.Plan.{Plan}
+use Rattle.commit_driver.specs.declared.place.Place.{Place}
+use Rattle.commit_driver.specs.Steps.{call_at, count_at, passed_end, passed_then, unlocking_at, undoing_at, placing_at, faulted_at, long_at, short_at, closed_at, went_at, Fits}
+use Rattle.commit_driver.specs.Places.{nth, files_of, entries_of, passed_as, found_as, end_as, then_as, made_from, names_as, state_as, WantedAs, IsMade, Holds, IsPlan, IsPlace}
+use Rattle.commit_driver.specs.Answers.{IsAnswer}
+use Rattle.commit_driver.proofs.StateLemmas.{drop-some, drop-map, nth-map, take-next, unlocking-view, undoing-view, placing-view, unlocking-is, unlocking-all, undoing-is, placing-is, locking-is, staging-is}
+use Rattle.commit_driver.proofs.NextLemmas.{files-long, edits-long, made-long, names-count}
+use Rattle.commit_driver.proofs.FitLemmas.{of-if, of-unlocking, of-undoing, of-placing, of-locking, of-staging, Loads}
+
+found-same : (b : Bool) → found_as (if b then recovered.Finished else recovered.RolledBack) ≡ (if b then jobs.Finished else jobs.RolledBack)
+found-same true = refl
+found-same false = refl
+
+end-passed : (j : Job) (hidden : Ending) (files : List (List ℕ)) (e : End) → WantedAs files hidden → passed_as (passed_end e) ≡ machine.passed_ending (end_as j hidden e)
+end-passed j hidden files end.Done w = refl
+end-passed j hidden files (end.Failed p) w = refl
+end-passed j hidden files end.NoMemory (inl is) = sym (ap machine.passed_ending is)
+end-passed j hidden files end.NoMemory (inr is) = sym (ap machine.passed_ending is.2)
+end-passed j hidden files (end.Recovered f) w = refl
+end-passed j hidden files end.RightBusy w = refl
+end-passed j hidden files (end.Busy k) w = refl
+end-passed j hidden files end.NotARecord w = refl
+end-passed j hidden files (end.RecordTooLarge n) w = refl
+end-passed j hidden files (end.TooLarge k n) w = refl
+end-passed j hidden files (end.Changed k m) w = refl
+
+then-passed : (j : Job) (hidden : Ending) (files : List (List ℕ)) (th : Then) → WantedAs files hidden → passed_as (passed_then th) ≡ machine.passed_then (then_as j hidden th)
+then-passed j hidden files GoOn w = refl
+then-passed j hidden files (Answer e) w = end-passed j hidden files e w
+
+module _ (j : Job) (plan : Plan) (place : Place) (hidden : Ending) (made : List Made) (p : IsPlan j plan) (q : IsPlace plan place) where
+  abbrev found : Record
+  found = place.found
+
+  abbrev pub at_step : Step → State
+  at_step s = state_as j hidden made found place.files s
+
+  count : (th : Then) → count_at (files_of plan) (entries_of place) th ≡ length (names_as j found th)
+  count th = names-count j plan place hidden made p q th
+
+  n-is : files_of plan ≡ length (all_of j)
+  n-is = files-long j plan p
+
+  -- the edit that is next, with its name
+  edit-at : (at : ℕ) → at < files_of plan → (e : Edit) × (drop at (edits_of j) ≡ e ∷ drop (at + 1) (edits_of j))
+  edit-at at l = drop-some (edits_of j) at (omega (arith, l, edits-long j plan p))
+
+  edit-name : (at : ℕ) (e : Edit) (left : List Edit) → drop at (edits_of j) ≡ e ∷ left → nth (all_of j) at ≡ e.name
+  edit-name at e left is = nth-map (λ (e : Edit). e.name) (edits_of j) at e left is
+
+  edit-taken : (at : ℕ) (e : Edit) (left : List Edit) → drop at (edits_of j) ≡ e ∷ left → take (at + 1) (all_of j) ≡ take at (all_of j) ++ e.name ∷ []
+  edit-taken at e left is = take-next (all_of j) at e.name (map (λ (e : Edit). e.name) left) (drop-map (λ (e : Edit). e.name) (edits_of j) at ∙ ap (map (λ (e : Edit). e.name)) is)
+
+  went-clearing : (c : Recovered) (o : Option (List Edit)) → plan.commits ≡ is_some o → at_step (if plan.commits then Preparing else Releasing (end.Recovered c)) ≡ mended o (found_as c)
+  went-clearing c None e = ap (λ (b : Bool). at_step (if b then Preparing else Releasing (end.Recovered c))) e
+  went-clearing c (Some es) e = ap (λ (b : Bool). at_step (if b then Preparing else Releasing (end.Recovered c))) e
+
+  pub looked-none : (o : Option (List Edit)) → plan.commits ≡ is_some o → at_step (if plan.commits then Preparing else Clearing recovered.Nothing) ≡ none_stands o
+  looked-none None e = ap (λ (b : Bool). at_step (if b then Preparing else Clearing recovered.Nothing)) e
+  looked-none (Some es) e = ap (λ (b : Bool). at_step (if b then Preparing else Clearing recovered.Nothing)) e
+
+  abbrev Went : Step → Bool → Type 0
+  Went s b = at_step (went_at plan.commits (files_of plan) (entries_of place) (is_go found) s b) ≡ went_on j (at_step s) b
+
+  went-erasing : (th : Then) (b : Bool) → Went (Erasing th) b
+  went-erasing GoOn b = ap machine.Clearing (found-same (is_go found))
+  went-erasing (Answer e) b = refl
+
+  went-locking : (at : ℕ) (b : Bool) → at < files_of plan → Went (Locking at) b
+  went-locking at true l =
+      let w = edit-at at l in
+      locking-is j hidden made found place.files (at + 1) (files_of plan) n-is
+      ∙ ap (λ (ls : List (List ℕ)). locking j ls (drop (at + 1) (edits_of j))) (edit-taken at w.0 (drop (at + 1) (edits_of j)) w.1)
+      ∙ sym (ap (λ (es : List Edit). went_on j (locking j (take at (all_of j)) es) true) w.1)
+  went-locking at false l =
+      let w = edit-at at l in
+      unlocking-is j hidden made found place.files 0 at (Answer (end.Busy at)) (omega (arith, l, n-is))
+      ∙ ap (λ (n : List ℕ). unlocking (prepare_of j) (take at (all_of j)) (machine.Answer (jobs.Refused (jobs.Busy n)))) (edit-name at w.0 (drop (at + 1) (edits_of j)) w.1)
+      ∙ sym (ap (λ (es : List Edit). went_on j (locking j (take at (all_of j)) es) false) w.1)
+
+  went-staging : (at : ℕ) (b : Bool) → at < files_of plan → IsMade j made place.files → Went (Staging at) b
+  went-staging at b l m =
+      let long = made-long j plan made place.files p m in
+      let w = drop-some made at (omega (arith, l, long)) in
+      let taken = take-next (all_of j) at w.0.edit.name (map (λ (x : Made). x.edit.name) (drop (at + 1) made)) (ap (drop at) (sym m.names_are) ∙ drop-map (λ (x : Made). x.edit.name) made at ∙ ap (map (λ (x : Made). x.edit.name)) w.1) in
+      staging-is j hidden made found place.files (at + 1) (files_of plan) long
+      ∙ ap (λ (ns : List (List ℕ)). staging ns made (drop (at + 1) made)) taken
+      ∙ sym (ap (λ (ms : List Made). went_on j (staging (take at (all_of j)) made ms) b) w.1)
+
+  pub went-same : (s : Step) (b : Bool) → Fits (files_of plan) (entries_of place) s → Holds j made place.files s → IsAnswer (call_at s) (reply.Went b) → Went s b
+  went-same Seizing true f h a = refl
+  went-same Seizing false f h a = refl
+  went-same (Undoing at e locks th) b f h a =
+      let c = count th in
+      undoing-is j hidden made found place.files (at + 1) e locks th (omega (arith, f.1, c)) (omega (arith, f.2, c))
+      ∙ sym (ap (λ (s : State). went_on j s b) (undoing-view j hidden made found place.files at e locks th f.0 (omega (arith, f.1, c))))
+  went-same (Placing at th) b f h a =
+      let c = count th in
+      placing-is j hidden made found place.files (at + 1) (count_at (files_of plan) (entries_of place) th) th c
+      ∙ sym (ap (λ (s : State). went_on j s b) (placing-view j hidden made found place.files at th (omega (arith, f.0, c))))
+  went-same (Unlocking at e th) b f h a =
+      let c = count th in
+      unlocking-is j hidden made found place.files (at + 1) e th (omega (arith, f.1, c))
+      ∙ sym (ap (λ (s : State). went_on j s b) (unlocking-view j hidden made found place.files at e th f.0 (omega (arith, f.1, c))))
+  went-same (Erasing th) b f h a = went-erasing th b
+  went-same (Clearing c) b f h a = went-clearing c j.edits p.commits_is
+  went-same Preparing b f h a = refl
+  went-same Publishing true f h a = locking-is j hidden made found place.files 0 (files_of plan) n-is
+  went-same Publishing false f h a = refl
+  went-same (Locking at) b f h a = went-locking at b f
+  went-same (Staging at) b f h a = went-staging at b f h.1
+  went-same Deciding b f h a = refl
+  went-same Committing true f h a = placing-is j hidden made found place.files 0 (files_of plan) (Answer end.Done) n-is
+  went-same Committing false f h a = refl
+  went-same (Releasing e) b f h a = refl
+  went-same Looking b f h a = absurd a
+  went-same (Loading at) b f h a = absurd a
+  went-same Checking b f h a = absurd a
+  went-same (Ended e) b f h a = absurd a
+
+  module _ (wanted : WantedAs (all_of j) hidden) where
+    abbrev Faults : Step → Type 0
+    Faults s = at_step (faulted_at s) ≡ faulted (at_step s)
+
+    failed-then : (th : Then) → machine.Releasing (jobs.Failed (passed_as (passed_then th))) ≡ machine.Releasing (jobs.Failed (machine.passed_then (then_as j hidden th)))
+    failed-then th = ap (λ (x : jobs.Passed). machine.Releasing (jobs.Failed x)) (then-passed j hidden (all_of j) th wanted)
+
+    pub fault-same : (s : Step) → Fits (files_of plan) (entries_of place) s → Holds j made place.files s → IsAnswer (call_at s) reply.Fault → Faults s
+    fault-same Seizing f h a = refl
+    fault-same Looking f h a = refl
+    fault-same (Undoing at e locks th) f h a = let c = count th in sym (ap faulted (undoing-view j hidden made found place.files at e locks th f.0 (omega (arith, f.1, c))))
+    fault-same (Placing at th) f h a = let c = count th in failed-then th ∙ sym (ap faulted (placing-view j hidden made found place.files at th (omega (arith, f.0, c))))
+    fault-same (Unlocking at e th) f h a = let c = count th in failed-then th ∙ sym (ap faulted (unlocking-view j hidden made found place.files at e th f.0 (omega (arith, f.1, c))))
+    fault-same (Erasing th) f h a = failed-then th
+    fault-same (Clearing c) f h a = refl
+    fault-same Preparing f h a = refl
+    fault-same Publishing f h a = refl
+    fault-same (Locking at) f h a = let w = edit-at at f in sym (ap (λ (es : List Edit). faulted (locking j (take at (all_of j)) es)) w.1)
+    fault-same (Loading at) f h a = let w = edit-at at f in sym (ap (λ (es : List Edit). faulted (loading j (made_from (edits_of j) (take at place.files)) es)) w.1)
+    fault-same (Staging at) f h a = let w = drop-some made at (omega (arith, f, made-long j plan made place.files p h.1)) in sym (ap (λ (ms : List Made). faulted (staging (take at (all_of j)) made ms)) w.1)
+    fault-same Deciding f h a = refl
+    fault-same Committing f h a = refl
+    fault-same Checking f h a = refl
+    fault-same (Releasing e) f h a = absurd a
+    fault-same (Ended e) f h a = absurd a
+
+  pub long-same : (s : Step) (k : ℕ) → Fits (files_of plan) (entries_of place) s → Loads s → at_step (long_at (files_of plan) s k) ≡ too_long j (at_step s) k
+  long-same Looking k f l = refl
+  long-same (Loading at) k f l =
+      let w = edit-at at f in
+      unlocking-all j hidden made found place.files (files_of plan) (Answer (end.TooLarge at k)) n-is
+      ∙ ap (λ (n : List ℕ). refusing j [] (all_of j) (jobs.Refused (jobs.TooLarge n k))) (edit-name at w.0 (drop (at + 1) (edits_of j)) w.1)
+      ∙ sym (ap (λ (es : List Edit). too_long j (loading j (made_from (edits_of j) (take at place.files)) es) k) w.1)
+  long-same Checking k f l = refl
+  long-same s k f l = absurd l
+
+  -- what a step takes for granted holds at the next
+  abbrev Held : Step → Type 0
+  Held s = Holds j made place.files s
+
+  pub holds-undoing : (at e locks : ℕ) (th : Then) → Held (undoing_at at e locks th)
+  holds-undoing at e locks th = of-undoing (Holds j made place.files) at e locks th (λ x. tt) (λ x. tt) tt
+
+  pub holds-placing : (at e : ℕ) (th : Then) → Held (placing_at at e th)
+  holds-placing at e th = of-placing (Holds j made place.files) at e th (λ x. tt) (λ x. tt) tt
+
+  pub holds-unlocking : (at e : ℕ) (th : Then) → Held (unlocking_at at e th)
+  holds-unlocking at e th = of-unlocking (Holds j made place.files) at e th (λ x. tt) tt
+
+  holds-closed : (decided : Bool) (th : Then) → Held (closed_at decided th)
+  holds-closed decided GoOn = tt
+  holds-closed decided (Answer e) = tt
+
+  pub holds-went : (decided : Bool) (s : Step) (b : Bool) → Held s → IsAnswer (call_at s) (reply.Went b) → Held (went_at plan.commits (files_of plan) (entries_of place) decided s b)
+  holds-went decided Seizing true h a = tt
+  holds-went decided Seizing false h a = tt
+  holds-went decided (Undoing at e locks th) b h a = holds-undoing (at + 1) e locks th
+  holds-went decided (Placing at th) b h a = holds-placing (at + 1) (count_at (files_of plan) (entries_of place) th) th
+  holds-went decided (Unlocking at e th) b h a = holds-unlocking (at + 1) e th
+  holds-went decided (Erasing th) b h a = holds-closed decided th
+  holds-went decided (Clearing c) b h a = of-if (Holds j made place.files) plan.commits Preparing _ (λ e. sym p.commits_is ∙ e) (λ e. tt)
+  holds-went decided Preparing b h a = h
+  holds-went decided Publishing true h a = of-locking (Holds j made place.files) 0 (files_of plan) (λ x. h) h
+  holds-went decided Publishing false h a = tt
+  holds-went decided (Locking at) true h a = of-locking (Holds j made place.files) (at + 1) (files_of plan) (λ x. h) h
+  holds-went decided (Locking at) false h a = holds-unlocking 0 at (Answer (end.Busy at))
+  holds-went decided (Staging at) b h a = of-staging (Holds j made place.files) (at + 1) (files_of plan) (λ x. h) h.0
+  holds-went decided Deciding b h a = h
+  holds-went decided Committing true h a = holds-placing 0 (files_of plan) (Answer end.Done)
+  holds-went decided Committing false h a = tt
+  holds-went decided (Releasing e) b h a = tt
+  holds-went decided Looking b h a = absurd a
+  holds-went decided (Loading at) b h a = absurd a
+  holds-went decided Checking b h a = absurd a
+  holds-went decided (Ended e) b h a = absurd a
+
+  pub holds-fault : (s : Step) → Held s → Held (faulted_at s)
+  holds-fault Committing h = h
+  holds-fault s h = tt
+
+  pub holds-long : (s : Step) (k : ℕ) → Held (long_at (files_of plan) s k)
+  holds-long (Loading at) k = holds-unlocking 0 (files_of plan) (Answer (end.TooLarge at k))
+  holds-long Looking k = tt
+  holds-long s k = tt
+
+  pub holds-short : (s : Step) → Held (short_at (files_of plan) s)
+  holds-short (Loading at) = holds-unlocking 0 (files_of plan) (Answer end.NoMemory)
+  holds-short Looking = tt
+  holds-short s = tt

@@ -1,0 +1,111 @@
+-- One call of a host is one call of the machine.
+use Rattle.std.proofs.Common.{◌≡◌, ℕ, Bool, true, false, ◌&&◌, List, [], ◌∷◌, is_some, is_none, refl, sym, subst}
+use Rattle.std.specs.declared.option.Option.TheVariants.{Some}
+use Rattle.std.specs.declared.result.Result.{Result}
+use Rattle.std.specs.declared.result.Result.TheVariants.{Ok, Err}
+use Rattle.std.proofs.lemmas.Bool.{and_parts}
+use Rattle.host_port.specs.declared.event.Event.{Event}
+use Rattle.host_port.specs.declared.event.Event.TheVariants as event
+use Rattle.host_port.specs.declared.event.Seen.TheVariants as seen
+use Rattle.host_port.specs.declared.event.LoadAnswer.{LoadAnswer}
+use Rattle.host_port.specs.declared.host.DiskFault.{DiskFault}
+use Rattle.host_port.specs.declared.host.LoadError.{LoadError}
+use Rattle.host_port.specs.declared.host.LoadError.TheVariants as error
+use Rattle.host_port.specs.Disk.{Disk}
+use Rattle.host_port.specs.Ends.{is_after, is_owner, is_open, cut_short}
+use Rattle.host_port.specs.Calls.{Loaded, Staged, Published, Erased, Locked, Unlocked, Seized, Released}
+use Rattle.host_port.specs.Ran.{Agrees}
+use Rattle.host_port.specs.Own.{own}
+use Rattle.commit_machine.specs.Machine.{Call, ToLoad, ToStage, ToPublish, ToErase, ToLock, ToUnlock, ToSeize, ToRelease, Reply, Went, Fault}
+use Rattle.commit_machine.specs.Goes.{IsOf, loads, stages, stage_fails, publishes, erases, locks, unlocks, seizes, releases, reply}
+use Rattle.commit_driver.specs.Did.{Did, DidUnlock, told_reply, done_reply, load_reply}
+use Rattle.commit_driver.specs.Drives.{AnswersSo, Performed}
+
+abbrev Both : Disk → Event → (List Event → Type 0) → Type 0
+Both d e P = Agrees d e × P (own (e ∷ []))
+
+one : (c : Call) (e : Event) → IsOf c e → Did c (reply e) (e ∷ [])
+one c e of = record { event = e; is = refl; of = of; replies = refl }
+
+allowed : (a b : Bool) → (a && b) ≡ true → b ≡ true
+allowed a b h = (and_parts a b h).1
+
+pub loaded : (name : List ℕ) (r : Result LoadAnswer LoadError) (d : Disk) (e : Event) → Loaded name r d e → Both d e (Did (ToLoad name) (load_reply r))
+loaded name (Ok a) d e is =
+    let P : Event → Type 0 = λ e. Both d e (Did (ToLoad name) (load_reply (Ok a))) in
+    subst P (sym is.0) ((is.1, is.2), one (ToLoad name) (event.Load name (seen.Bytes a.bytes a.held)) loads)
+loaded name (Err (error.TooLarge n)) d e is =
+    let P : Event → Type 0 = λ e. Both d e (Did (ToLoad name) (load_reply (Err (error.TooLarge n)))) in
+    subst P (sym is.0) (is.1, one (ToLoad name) (event.Load name (seen.TooLarge n)) loads)
+loaded name (Err error.Failed) d e is =
+    let P : Event → Type 0 = λ e. Both d e (Did (ToLoad name) (load_reply (Err error.Failed))) in
+    subst P (sym is) (tt, one (ToLoad name) (event.Load name seen.Failed) loads)
+loaded name (Err error.Memory) d e is =
+    let P : Event → Type 0 = λ e. Both d e (Did (ToLoad name) (load_reply (Err error.Memory))) in
+    subst P (sym is) (tt, one (ToLoad name) (event.Load name seen.Memory) loads)
+
+pub staged : (name bytes : List ℕ) (r : Result Unit DiskFault) (d : Disk) (e : Event) → Staged name bytes r d e → Both d e (Did (ToStage name bytes) (done_reply r))
+staged name bytes (Ok u) d e is =
+    let P : Event → Type 0 = λ e. Both d e (Did (ToStage name bytes) (Went true)) in
+    subst P (sym is) (tt, one (ToStage name bytes) (event.Stage name (Some bytes) false) stages)
+staged name bytes (Err fault) d e is =
+    let P : Event → Type 0 = λ e. Both d e (Did (ToStage name bytes) Fault) in
+    subst P (sym is.1) (tt, one (ToStage name bytes) (cut_short d (event.Stage name (Some bytes) false) is.0) stage_fails)
+
+pub published : (from to : List ℕ) (r : Result Bool DiskFault) (d : Disk) (e : Event) → Published from to r d e → Both d e (Did (ToPublish from to) (told_reply r))
+published from to (Ok done) d e is =
+    let P : Event → Type 0 = λ e. Both d e (Did (ToPublish from to) (Went done)) in
+    subst P (sym is.0) (is.1, one (ToPublish from to) (event.Publish from to done false) publishes)
+published from to (Err fault) d e is =
+    let P : Event → Type 0 = λ e. Both d e (Did (ToPublish from to) Fault) in
+    subst P (sym is.1) (allowed (is_after is.0) (is_some (d.files from)), one (ToPublish from to) (cut_short d (event.Publish from to true false) is.0) publishes)
+
+pub erased : (name : List ℕ) (r : Result Unit DiskFault) (d : Disk) (e : Event) → Erased name r d e → Both d e (Did (ToErase name) (done_reply r))
+erased name (Ok u) d e is =
+    let P : Event → Type 0 = λ e. Both d e (Did (ToErase name) (Went true)) in
+    subst P (sym is) (refl, one (ToErase name) (event.Erase name true false) erases)
+erased name (Err fault) d e is =
+    let P : Event → Type 0 = λ e. Both d e (Did (ToErase name) Fault) in
+    subst P (sym is.1) ((λ h. refl), one (ToErase name) (cut_short d (event.Erase name true false) is.0) erases)
+
+pub locked : (name : List ℕ) (t : ℕ) (r : Result Bool DiskFault) (d : Disk) (e : Event) → Locked name t r d e → Both d e (Did (ToLock name t) (told_reply r))
+locked name t (Ok got) d e is =
+    let P : Event → Type 0 = λ e. Both d e (Did (ToLock name t) (Went got)) in
+    subst P (sym is.0) (is.1, one (ToLock name t) (event.Lock name t got false) locks)
+locked name t (Err fault) d e is =
+    let P : Event → Type 0 = λ e. Both d e (Did (ToLock name t) Fault) in
+    subst P (sym is.1) (allowed (is_after is.0) (is_none (d.locks name)), one (ToLock name t) (cut_short d (event.Lock name t true false) is.0) locks)
+
+pub unlocked : (name : List ℕ) (t : ℕ) (r : Result Unit DiskFault) (d : Disk) (e : Event) → Unlocked name t r d e → Both d e (DidUnlock name t r)
+unlocked name t (Ok u) d e is =
+    let P : Event → Type 0 = λ e. Both d e (DidUnlock name t (Ok u)) in
+    subst P (sym is) (refl, (is_owner t (d.locks name), one (ToUnlock name t) (event.Unlock name t (is_owner t (d.locks name)) false) unlocks))
+unlocked name t (Err fault) d e is =
+    let P : Event → Type 0 = λ e. Both d e (Did (ToUnlock name t) Fault) in
+    subst P (sym is.1) (allowed (is_after is.0) (is_owner t (d.locks name)), one (ToUnlock name t) (cut_short d (event.Unlock name t true false) is.0) unlocks)
+
+pub seized : (name : List ℕ) (r : Result Bool DiskFault) (d : Disk) (e : Event) → Seized name r d e → Both d e (Did (ToSeize name) (told_reply r))
+seized name (Ok got) d e is =
+    let P : Event → Type 0 = λ e. Both d e (Did (ToSeize name) (Went got)) in
+    subst P (sym is.0) (is.1, one (ToSeize name) (event.Seize name got false) seizes)
+seized name (Err fault) d e is =
+    let P : Event → Type 0 = λ e. Both d e (Did (ToSeize name) Fault) in
+    subst P (sym is.1) (allowed (is_after is.0) (is_open (d.rights name)), one (ToSeize name) (cut_short d (event.Seize name true false) is.0) seizes)
+
+pub released : (name : List ℕ) (d : Disk) (e : Event) → Released name d e → Both d e (Did (ToRelease name) (Went true))
+released name d e is =
+    let P : Event → Type 0 = λ e. Both d e (Did (ToRelease name) (Went true)) in
+    subst P (sym is) (tt, one (ToRelease name) (event.Release name) releases)
+
+-- a call that is answered as its event has it
+answers-self : (c : Call) (r : Reply) → AnswersSo c r r
+answers-self (ToUnlock n t) (Went b) = tt
+answers-self (ToUnlock n t) r = refl
+answers-self c r = refl
+
+pub performed : (c : Call) (r : Reply) (es : List Event) → Did c r es → Performed c r es
+performed c r es did = record { reply = r; same = answers-self c r; did = did }
+
+pub performed-unlock : (n : List ℕ) (t : ℕ) (r : Result Unit DiskFault) (es : List Event) → DidUnlock n t r es → Performed (ToUnlock n t) (done_reply r) es
+performed-unlock n t (Ok u) es did = record { reply = Went did.0; same = tt; did = did.1 }
+performed-unlock n t (Err f) es did = record { reply = Fault; same = refl; did = did }

@@ -1,0 +1,208 @@
+-- Changes of files, one after the other.
+use Rattle.std.proofs.Common.{◌≡◌, ◌≢◌, ℕ, suc, ◌-◌, ◌<◌, ◌≤◌, Bool, true, false, ◌||◌, List, [], ◌∷◌, length, map, take, drop, get_or, slice_set, refl, ap, sym, subst, inl, inr, ◌∙◌, add-one, arith}
+use Rattle.std.specs.Prelude.{All, nat_le, if◌then◌else◌}
+use Rattle.std.specs.declared.option.Option.{Option}
+use Rattle.std.specs.declared.option.Option.TheVariants.{Some, None}
+use Rattle.std.specs.declared.result.Result.{Result}
+use Rattle.std.specs.declared.result.Result.TheVariants.{Ok, Err}
+use Rattle.std.specs.Str.{bytes_eq}
+use Rattle.std.proofs.lemmas.Bool.{cases_Bool, leb-false}
+use Rattle.std.proofs.lemmas.List.{take_all}
+use Rattle.std.proofs.lemmas.List.Elements.{All-head, All-tail}
+use Rattle.folder_change.specs.declared.change.Change.{Change}
+use Rattle.folder_change.specs.Changes.{name_of}
+use Rattle.folder_change.specs.Outcomes.{outcome_of}
+use Rattle.folder_change.specs.Apply.{Files, Refusal, ChangedAt, TooLong, put, after, apply, first_refusal, refusal_of, or_else, outcome_on, put_outcome, most_bytes}
+use Rattle.folder_change.proofs.ApplyLemmas.{put-here, put-other}
+use Rattle.commit_machine.specs.Records.{has}
+use Rattle.commit_machine.proofs.Same.{has_Mem, same_refl, same_true}
+use Rattle.commit_driver.specs.declared.judge.Trouble.{Trouble}
+use Rattle.commit_driver.specs.declared.judge.Trouble.TheVariants as trouble
+use Rattle.commit_driver.specs.Judging.{excess_of, number_in, AreDistinct, JudgesOne, JudgesSo, Judges, TroubleFits}
+use Rattle.commit_driver.proofs.SawLemmas.{AreNamed, length-set}
+
+pub are-named : (names : List (List ℕ)) (cs : List Change) → All (λ c. has names (name_of c) ≡ true) cs → AreNamed names cs
+are-named names [] all = tt
+are-named names (c ∷ cs) all = (has_Mem names (name_of c) (All-head (λ (c : Change). has names (name_of c) ≡ true) c cs all), are-named names cs (All-tail (λ (c : Change). has names (name_of c) ≡ true) c cs all))
+
+-- the number of a name that is among names
+number-here : (n : List ℕ) (ns : List (List ℕ)) (name : List ℕ) → bytes_eq name n ≡ true → number_in (n ∷ ns) name ≡ 0
+number-here n ns name e = rw e refl
+
+number-there : (n : List ℕ) (ns : List (List ℕ)) (name : List ℕ) → bytes_eq name n ≡ false → number_in (n ∷ ns) name ≡ suc (number_in ns name)
+number-there n ns name e = rw e (add-one (number_in ns name))
+
+has-later : (n : List ℕ) (ns : List (List ℕ)) (name : List ℕ) → has (n ∷ ns) name ≡ true → bytes_eq name n ≡ false → has ns name ≡ true
+has-later n ns name h e = rw e at h
+
+pub number-below : (ns : List (List ℕ)) (name : List ℕ) → has ns name ≡ true → number_in ns name < length ns
+number-below [] name h = absurd (cc)
+number-below (n ∷ ns) name h = elim (cases_Bool (bytes_eq name n)) [
+  | inl y ↦ omega (arith, number-here n ns name y)
+  | inr nay ↦ omega (arith, number-there n ns name nay, number-below ns name (has-later n ns name h nay))
+]
+
+number-name : (ns : List (List ℕ)) (name : List ℕ) → has ns name ≡ true → get_or ns (number_in ns name) [] ≡ name
+number-name [] name h = absurd (cc)
+number-name (n ∷ ns) name h = elim (cases_Bool (bytes_eq name n)) [
+  | inl y ↦ ap (λ (k : ℕ). get_or (n ∷ ns) k []) (number-here n ns name y) ∙ sym (same_true name n y)
+  | inr nay ↦ ap (λ (k : ℕ). get_or (n ∷ ns) k []) (number-there n ns name nay) ∙ number-name ns name (has-later n ns name h nay)
+]
+
+-- the file of that name
+number-file : (ns : List (List ℕ)) (name : List ℕ) (files : Files) → has ns name ≡ true → get_or (map files ns) (number_in ns name) None ≡ files name
+number-file [] name files h = absurd (cc)
+number-file (n ∷ ns) name files h = elim (cases_Bool (bytes_eq name n)) [
+  | inl y ↦ ap (λ (k : ℕ). get_or (map files (n ∷ ns)) k None) (number-here n ns name y) ∙ ap files (sym (same_true name n y))
+  | inr nay ↦ ap (λ (k : ℕ). get_or (map files (n ∷ ns)) k None) (number-there n ns name nay) ∙ number-file ns name files (has-later n ns name h nay)
+]
+
+or-none : (a b : Bool) → (a || b) ≡ false → (a ≡ false) × (b ≡ false)
+or-none true b h = absurd (cc)
+or-none false b h = (refl, h)
+
+not-among : (ns : List (List ℕ)) (name : List ℕ) (files : Files) (file : Option (List ℕ)) → has ns name ≡ false → map (put files name file) ns ≡ map files ns
+not-among [] name files file h = refl
+not-among (n ∷ ns) name files file h =
+    let b = or-none (bytes_eq name n) (has ns name) h in
+    let other : n ≢ name = λ e. let w : bytes_eq name n ≡ true = subst (λ (z : List ℕ). bytes_eq name z ≡ true) (sym e) (same_refl name) in absurd (cc) in
+    ap (λ (f : Option (List ℕ)). f ∷ map (put files name file) ns) (put-other files name n file other) ∙ ap (λ (fs : List (Option (List ℕ))). files n ∷ fs) (not-among ns name files file b.1)
+
+-- the file of a name is set
+number-set : (ns : List (List ℕ)) (name : List ℕ) (files : Files) (file : Option (List ℕ)) → AreDistinct ns → has ns name ≡ true → slice_set (map files ns) (number_in ns name) file ≡ map (put files name file) ns
+number-set [] name files file d h = absurd (cc)
+number-set (n ∷ ns) name files file d h = elim (cases_Bool (bytes_eq name n)) [
+  | inl y ↦
+      let same : name ≡ n = same_true name n y in
+      ap (λ (k : ℕ). slice_set (map files (n ∷ ns)) k file) (number-here n ns name y)
+      ∙ ap (λ (fs : List (Option (List ℕ))). file ∷ fs) (sym (not-among ns name files file (subst (λ (z : List ℕ). has ns z ≡ false) (sym same) d.0)))
+      ∙ ap (λ (f : Option (List ℕ)). f ∷ map (put files name file) ns) (sym (ap (put files name file) (sym same) ∙ put-here files name file))
+  | inr nay ↦
+      let other : n ≢ name = λ e. let w : bytes_eq name n ≡ true = subst (λ (z : List ℕ). bytes_eq name z ≡ true) (sym e) (same_refl name) in absurd (cc) in
+      ap (λ (k : ℕ). slice_set (map files (n ∷ ns)) k file) (number-there n ns name nay)
+      ∙ ap (λ (fs : List (Option (List ℕ))). files n ∷ fs) (number-set ns name files file d.1 (has-later n ns name h nay))
+      ∙ ap (λ (f : Option (List ℕ)). f ∷ map (put files name file) ns) (sym (put-other files name n file other))
+]
+
+refusal-none : (name : List ℕ) (file : Option (List ℕ)) → excess_of file ≡ None → refusal_of name (Ok file) ≡ None
+refusal-none name None h = refl
+refusal-none name (Some b) h = go (nat_le (length b) most_bytes) h
+  where
+    go : (t : Bool) → (if t then None else Some (length b)) ≡ None → (if t then None else Some (TooLong name (length b))) ≡ None
+    go true h = refl
+    go false h = absurd (cc h)
+
+refusal-long : (name : List ℕ) (file : Option (List ℕ)) (n : ℕ) → excess_of file ≡ Some n → refusal_of name (Ok file) ≡ Some (TooLong name n)
+refusal-long name None n h = absurd (cc h)
+refusal-long name (Some b) n h = go (nat_le (length b) most_bytes) h
+  where
+    go : (t : Bool) → (if t then None else Some (length b)) ≡ Some n → (if t then None else Some (TooLong name (length b))) ≡ Some (TooLong name n)
+    go true h = absurd (cc h)
+    go false h = let e : length b ≡ n = cc in ap (λ (k : ℕ). Some (TooLong name k)) e
+
+-- a file that is too long is past the limit
+pub excess-past : (file : Option (List ℕ)) (n : ℕ) → excess_of file ≡ Some n → most_bytes < n
+excess-past None n h = absurd (cc h)
+excess-past (Some b) n h = go (nat_le (length b) most_bytes) refl h
+  where
+    go : (t : Bool) → nat_le (length b) most_bytes ≡ t → (if t then None else Some (length b)) ≡ Some n → most_bytes < n
+    go true is h = absurd (cc h)
+    go false is h = let e : length b ≡ n = cc in let past : most_bytes < length b = leb-false (length b) most_bytes is in omega (arith, e, past)
+
+module _ (first : Change) (rest : List Change) (base : List (List ℕ)) (names : List (List ℕ)) (among : has names (name_of first) ≡ true) where
+  abbrev at : ℕ
+  at = number_in names (name_of first)
+
+  on : (files : Files) (seen : List (Option (List ℕ))) (o : Result (Option (List ℕ)) ℕ) → seen ≡ map files names → outcome_of (get_or seen at None) first base ≡ o → outcome_on files first base ≡ o
+  on files seen o is out =
+      sym (ap (λ (f : Option (List ℕ)). outcome_of f first base) (ap (λ (fs : List (Option (List ℕ))). get_or fs at None) is ∙ number-file names (name_of first) files among)) ∙ out
+
+  refused-first : (files : Files) (o : Result (Option (List ℕ)) ℕ) (r : Option Refusal) → outcome_on files first base ≡ o → refusal_of (name_of first) o ≡ r → first_refusal (first ∷ rest) base files ≡ or_else r (first_refusal rest base (after files first base))
+  unfolding first_refusal
+  refused-first files o r is made = ap (λ (x : Option Refusal). or_else x (first_refusal rest base (after files first base))) (ap (refusal_of (name_of first)) is ∙ made)
+
+  made-after : (files : Files) (file : Option (List ℕ)) → outcome_on files first base ≡ Ok file → after files first base ≡ put files (name_of first) file
+  made-after files file is = ap (put_outcome files (name_of first)) is
+
+  so-more : (files : Files) (result : Result Unit Trouble) (now : List (Option (List ℕ))) → first_refusal (first ∷ rest) base files ≡ first_refusal rest base (after files first base) → JudgesSo rest base names (after files first base) result now → JudgesSo (first ∷ rest) base names files result now
+  unfolding apply
+  so-more files (Ok u) now e so = (e ∙ so.0, so.1)
+  so-more files (Err (trouble.Changed k m)) now e so = e ∙ so
+  so-more files (Err (trouble.TooLarge k m)) now e so = e ∙ so
+  so-more files (Err trouble.Memory) now e so = tt
+
+  judged-more : (seen mid now : List (Option (List ℕ))) (u : Unit) (result : Result Unit Trouble) → JudgesOne first base at seen (Ok u) mid → Judges rest base names mid result now → Judges (first ∷ rest) base names seen result now
+  judged-more seen mid now u result one more files d is =
+      let file = one.0 in
+      let out = on files seen (Ok file) is one.1 in
+      let there : mid ≡ map (after files first base) names =
+      one.3 ∙ ap (λ (fs : List (Option (List ℕ))). slice_set fs at file) is ∙ number-set names (name_of first) files file d among ∙ ap (λ (f : Files). map f names) (sym (made-after files file out))
+      in
+      so-more files result now (refused-first files (Ok file) None out (refusal-none (name_of first) file one.2)) (more (after files first base) d there)
+
+  judged-trouble : (seen now : List (Option (List ℕ))) (t : Trouble) → JudgesOne first base at seen (Err t) now → (last : List (Option (List ℕ))) → Judges (first ∷ rest) base names seen (Err t) last
+  judged-trouble seen now (trouble.Changed k m) one last files d is =
+      refused-first files (Err m) (Some (ChangedAt (name_of first) m)) (on files seen (Err m) is one.2) refl
+      ∙ ap (λ (n : List ℕ). Some (ChangedAt n m)) (sym (ap (λ (i : ℕ). get_or names i []) one.1 ∙ number-name names (name_of first) among))
+  judged-trouble seen now (trouble.TooLarge k n) one last files d is =
+      let file = one.2.0 in
+      refused-first files (Ok file) (Some (TooLong (name_of first) n)) (on files seen (Ok file) is one.2.1) (refusal-long (name_of first) file n one.2.2)
+      ∙ ap (λ (x : List ℕ). Some (TooLong x n)) (sym (ap (λ (i : ℕ). get_or names i []) one.1 ∙ number-name names (name_of first) among))
+  judged-trouble seen now trouble.Memory one last files d is = tt
+
+  trouble-fits : (seen now : List (Option (List ℕ))) (t : Trouble) → JudgesOne first base at seen (Err t) now → TroubleFits (length names) (Err t)
+  trouble-fits seen now (trouble.Changed k m) one = omega (arith, one.1, number-below names (name_of first) among)
+  trouble-fits seen now (trouble.TooLarge k n) one = (omega (arith, one.1, number-below names (name_of first) among), excess-past one.2.0 n one.2.2)
+  trouble-fits seen now trouble.Memory one = tt
+
+judged-none : (base : List (List ℕ)) (names : List (List ℕ)) (seen : List (Option (List ℕ))) → Judges [] base names seen (Ok tt) seen
+unfolding apply first_refusal
+judged-none base names seen files d is = (refl, is)
+
+pub judged-empty : (xs : List Change) (base : List (List ℕ)) (names : List (List ℕ)) (seen : List (Option (List ℕ))) → length xs < 1 → Judges xs base names seen (Ok tt) seen
+judged-empty [] base names seen short = judged-none base names seen
+judged-empty (x ∷ xs) base names seen short = absurd (omega (arith, short))
+
+-- what is behind the first
+abbrev pub rest_of : {A : Type 0} → List A → List A
+rest_of xs = take (length xs - 1) (drop 1 xs)
+
+head-tail : {A : Type 0} (xs : List A) (x : A) → 1 ≤ length xs → x ≡ get_or xs 0 x → xs ≡ x ∷ rest_of xs
+head-tail [] x h is = absurd (omega arith)
+head-tail {A = A} (y ∷ ys) x h is =
+    let all : take (length (y ∷ ys) - 1) ys ≡ ys = take_all (length (y ∷ ys) - 1) ys (omega arith) in
+    let same : y ≡ x = sym is in
+    rw all (ap (λ (z : A). z ∷ ys) same)
+
+pub rest-shorter : {A : Type 0} (xs : List A) (x : A) → 1 ≤ length xs → x ≡ get_or xs 0 x → length (rest_of xs) < length xs
+rest-shorter xs x h is = let e = ap length (head-tail xs x h is) in omega (arith, e)
+
+pub all-rest : {A : Type 0} (P : A → Type 0) (xs : List A) (x : A) → 1 ≤ length xs → x ≡ get_or xs 0 x → All P xs → All P (rest_of xs)
+all-rest {A = A} P xs x h is all = All-tail P x (rest_of xs) (subst (λ (z : List A). All P z) (head-tail xs x h is) all)
+
+pub all-first : {A : Type 0} (P : A → Type 0) (xs : List A) (x : A) → 1 ≤ length xs → x ≡ get_or xs 0 x → All P xs → P x
+all-first {A = A} P xs x h is all = All-head P x (rest_of xs) (subst (λ (z : List A). All P z) (head-tail xs x h is) all)
+
+-- the same over a list of one at least
+module _ (xs : List Change) (first : Change) (some : 1 ≤ length xs) (is : first ≡ get_or xs 0 first) (base names : List (List ℕ)) (at : ℕ) (among : has names (name_of first) ≡ true) (number : at ≡ number_in names (name_of first)) where
+  split : xs ≡ first ∷ rest_of xs
+  split = head-tail xs first some is
+
+  pub more : (seen mid now : List (Option (List ℕ))) (u : Unit) (result : Result Unit Trouble) → JudgesOne first base at seen (Ok u) mid → Judges (rest_of xs) base names mid result now → Judges xs base names seen result now
+  more seen mid now u result one rest =
+      subst (λ (z : List Change). Judges z base names seen result now) (sym split)
+      (judged-more first (rest_of xs) base names among seen mid now u result (subst (λ (k : ℕ). JudgesOne first base k seen (Ok u) mid) number one) rest)
+
+  pub troubled : (seen now : List (Option (List ℕ))) (t : Trouble) → JudgesOne first base at seen (Err t) now → Judges xs base names seen (Err t) now
+  troubled seen now t one =
+      subst (λ (z : List Change). Judges z base names seen (Err t) now) (sym split)
+      (judged-trouble first (rest_of xs) base names among seen now t (subst (λ (k : ℕ). JudgesOne first base k seen (Err t) now) number one) now)
+
+  pub fits-so : (seen now : List (Option (List ℕ))) (t : Trouble) → JudgesOne first base at seen (Err t) now → TroubleFits (length names) (Err t)
+  fits-so seen now t one = trouble-fits first (rest_of xs) base names among seen now t (subst (λ (k : ℕ). JudgesOne first base k seen (Err t) now) number one)
+
+pub same-long : (first : Change) (base : List (List ℕ)) (k : ℕ) (seen now : List (Option (List ℕ))) (r : Result Unit Trouble) → JudgesOne first base k seen r now → length now ≡ length seen
+same-long first base k seen now (Ok u) one = ap length one.3 ∙ length-set seen k one.0
+same-long first base k seen now (Err (trouble.Changed i m)) one = ap length one.0
+same-long first base k seen now (Err (trouble.TooLarge i n)) one = ap length one.0
+same-long first base k seen now (Err trouble.Memory) one = ap length one

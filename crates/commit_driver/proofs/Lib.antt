@@ -1,0 +1,11 @@
+pub mod CallLemmas
+pub mod StateLemmas
+pub mod NextLemmas
+pub mod FitLemmas
+pub mod AnswerLemmas
+pub mod FileLemmas
+pub mod SawLemmas
+pub mod AfterLemmas
+pub mod JudgeLemmas
+pub mod FrontLemmas
+pub mod DriveLemmas

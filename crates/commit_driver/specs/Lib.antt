@@ -1,0 +1,6 @@
+pub mod Did
+pub mod Steps
+pub mod Places
+pub mod Judging
+pub mod Answers
+pub mod Drives

@@ -1,0 +1,236 @@
+-- The machine's state that a place stands for.
+use Rattle.std.specs.Prelude.{◌≡◌, ◌⊎◌, ◌≤◌, ℕ, true, List, [], ◌∷◌, map, take, drop, get_or, length, is_some, All}
+use Rattle.std.specs.declared.option.Option.{Option}
+use Rattle.std.specs.declared.option.Option.TheVariants.{None}
+use Rattle.std.specs.Option.{option_map}
+use Rattle.host_port.specs.Names.{IsFileName}
+use Rattle.folder_change.specs.Outcomes.{bytes_of}
+use Rattle.commit_record.specs.Format.{written}
+use Rattle.commit_record.specs.declared.record.Phase.TheVariants.{Prepare}
+use Rattle.commit_record.specs.declared.record.EntryKind.{EntryKind}
+use Rattle.commit_record.specs.declared.record.Record.{Record}
+use Rattle.commit_machine.specs.Names.{record_name, new_name, right_name, staged_name}
+use Rattle.commit_machine.specs.Records.{names_of}
+use Rattle.commit_machine.specs.Settled.{Mem}
+use Rattle.commit_machine.specs.Jobs.{Ending, Outcome, Puts, Edit, Job, Made, edits_of, all_of, prepare_of, go_of}
+use Rattle.commit_machine.specs.Jobs as jobs
+use Rattle.commit_machine.specs.Machine.{State, next, go_front, undoing, placing, unlocking, locking, loading, staging}
+use Rattle.commit_machine.specs.Machine as machine
+use Rattle.commit_driver.specs.declared.step.Passed.{Passed}
+use Rattle.commit_driver.specs.declared.step.Passed.TheVariants as passed
+use Rattle.commit_driver.specs.declared.step.Recovered.{Recovered}
+use Rattle.commit_driver.specs.declared.step.Recovered.TheVariants as recovered
+use Rattle.commit_driver.specs.declared.step.End.{End}
+use Rattle.commit_driver.specs.declared.step.End.TheVariants as end
+use Rattle.commit_driver.specs.declared.step.Then.{Then}
+use Rattle.commit_driver.specs.declared.step.Then.TheVariants as then
+use Rattle.commit_driver.specs.declared.step.Step.{Step}
+use Rattle.commit_driver.specs.declared.step.Step.TheVariants as step
+use Rattle.commit_driver.specs.declared.next.Name.{Name}
+use Rattle.commit_driver.specs.declared.next.Name.TheVariants as name
+use Rattle.commit_driver.specs.declared.next.Call.{Call}
+use Rattle.commit_driver.specs.declared.next.Call.TheVariants as call
+use Rattle.commit_driver.specs.declared.place.Plan.{Plan}
+use Rattle.commit_driver.specs.declared.place.Place.{Place}
+use Rattle.commit_driver.specs.Judging.{AreDistinct}
+use Rattle.commit_driver.specs.Steps.{Fits}
+
+-- a place before the first call, with room for so many files
+abbrev pub begun : List (Option (List ℕ)) → Place
+begun files = record { step = step.Seizing; found = record { phase = Prepare; token = 0; entries = [] }; found_staged = []; files = files }
+
+-- how many files a plan has, and how many entries the record that was found
+abbrev pub files_of : Plan → ℕ
+files_of plan = length plan.value.entries
+
+abbrev pub entries_of : Place → ℕ
+entries_of place = length place.found.entries
+
+-- the name with this number
+abbrev pub nth : List (List ℕ) → ℕ → List ℕ
+nth names k = get_or names k []
+
+abbrev pub name_in : Plan → Place → Name → List ℕ
+name_in plan place name.Record = plan.record
+name_in plan place name.New = plan.new
+name_in plan place name.Right = plan.right
+name_in plan place (name.File k) = nth (names_of plan.value) k
+name_in plan place (name.Staged k) = nth plan.staged k
+name_in plan place (name.Found k) = nth (names_of place.found) k
+name_in plan place (name.FoundStaged k) = nth place.found_staged k
+
+-- what is staged for the file with this number
+abbrev pub content_at : List (Option (List ℕ)) → ℕ → List ℕ
+content_at files k = bytes_of (get_or files k None)
+
+-- the machine's call that a call is
+abbrev pub call_in : Plan → Place → Call → machine.Call
+call_in plan place (call.Load x) = machine.ToLoad (name_in plan place x)
+call_in plan place call.StagePrepare = machine.ToStage plan.new plan.prepare
+call_in plan place call.StageGo = machine.ToStage plan.new plan.go
+call_in plan place (call.StageFile k) = machine.ToStage (nth plan.staged k) (content_at place.files k)
+call_in plan place (call.Publish x y) = machine.ToPublish (name_in plan place x) (name_in plan place y)
+call_in plan place (call.Erase x) = machine.ToErase (name_in plan place x)
+call_in plan place (call.Lock k) = machine.ToLock (nth (names_of plan.value) k) plan.value.token
+call_in plan place (call.Unlock k) = machine.ToUnlock (nth (names_of plan.value) k) plan.value.token
+call_in plan place (call.UnlockFound k) = machine.ToUnlock (nth (names_of place.found) k) place.found.token
+call_in plan place call.Seize = machine.ToSeize plan.right
+call_in plan place call.Release = machine.ToRelease plan.right
+
+abbrev pub passed_as : Passed → jobs.Passed
+passed_as passed.Before = jobs.Before
+passed_as passed.After = jobs.After
+passed_as passed.Unknown = jobs.Unknown
+
+abbrev pub found_as : Recovered → jobs.Found
+found_as recovered.Nothing = jobs.Nothing
+found_as recovered.RolledBack = jobs.RolledBack
+found_as recovered.Finished = jobs.Finished
+
+-- The machine's end that an end is. Want of memory may stand for another end, which it hides.
+abbrev pub end_as : Job → Ending → End → Ending
+end_as j hidden end.Done = jobs.Done
+end_as j hidden (end.Recovered f) = jobs.Recovered (found_as f)
+end_as j hidden end.RightBusy = jobs.Refused (jobs.Busy (right_name j.actor))
+end_as j hidden (end.Busy k) = jobs.Refused (jobs.Busy (nth (all_of j) k))
+end_as j hidden end.NotARecord = jobs.Refused jobs.NotARecord
+end_as j hidden (end.RecordTooLarge n) = jobs.Refused (jobs.TooLarge (record_name j.actor) n)
+end_as j hidden (end.TooLarge k n) = jobs.Refused (jobs.TooLarge (nth (all_of j) k) n)
+end_as j hidden (end.Changed k at) = jobs.Refused (jobs.Changed (nth (all_of j) k) at)
+end_as j hidden (end.Failed p) = jobs.Failed (passed_as p)
+end_as j hidden end.NoMemory = hidden
+
+abbrev pub then_as : Job → Ending → Then → machine.Then
+then_as j hidden then.GoOn = machine.GoOn
+then_as j hidden (then.Answer e) = machine.Answer (end_as j hidden e)
+
+-- the record that is done with, and its names
+abbrev pub own_record : Job → List Made → End → Record
+own_record j made end.Done = go_of j made
+own_record j made e = prepare_of j
+
+abbrev pub record_as : Job → List Made → Record → Then → Record
+record_as j made found then.GoOn = found
+record_as j made found (then.Answer e) = own_record j made e
+
+abbrev pub names_as : Job → Record → Then → List (List ℕ)
+names_as j found then.GoOn = names_of found
+names_as j found (then.Answer e) = all_of j
+
+abbrev pub outcome_kind : Outcome → EntryKind
+outcome_kind (Puts kind content) = kind
+
+abbrev pub outcome_content : Outcome → List ℕ
+outcome_content (Puts kind content) = content
+
+-- what is made of edits where their files were loaded so
+abbrev pub made_by : Edit → Option (List ℕ) → Outcome → Made
+made_by e seen o = record { edit = e; seen = seen; kind = outcome_kind o; content = outcome_content o }
+
+abbrev pub made_from : List Edit → List (Option (List ℕ)) → List Made
+made_from [] files = []
+made_from (e ∷ es) [] = []
+made_from (e ∷ es) (file ∷ files) = made_by e file (e.by file) ∷ made_from es files
+
+-- The state that a step stands for: in a job, with what want of memory hides, what was made of the files, the record that was found,
+-- and the files that were loaded.
+abbrev pub state_as : Job → Ending → List Made → Record → List (Option (List ℕ)) → Step → State
+state_as j hidden made found files step.Seizing = machine.Seizing
+state_as j hidden made found files step.Looking = machine.Looking
+state_as j hidden made found files (step.Undoing at end locks th) =
+    undoing (record_as j made found th) (drop at (take end (names_as j found th))) (take locks (names_as j found th)) (then_as j hidden th)
+state_as j hidden made found files (step.Placing at th) =
+    placing (record_as j made found th) (drop at (names_as j found th)) (names_as j found th) (then_as j hidden th)
+state_as j hidden made found files (step.Unlocking at end th) =
+    unlocking (record_as j made found th) (drop at (take end (names_as j found th))) (then_as j hidden th)
+state_as j hidden made found files (step.Erasing th) = machine.Erasing (record_as j made found th) (then_as j hidden th)
+state_as j hidden made found files (step.Clearing f) = machine.Clearing (found_as f)
+state_as j hidden made found files step.Preparing = machine.Preparing
+state_as j hidden made found files step.Publishing = machine.Publishing
+state_as j hidden made found files (step.Locking at) = locking j (take at (all_of j)) (drop at (edits_of j))
+state_as j hidden made found files (step.Loading at) = loading j (made_from (edits_of j) (take at files)) (drop at (edits_of j))
+state_as j hidden made found files (step.Staging at) = staging (take at (all_of j)) made (drop at made)
+state_as j hidden made found files step.Deciding = machine.Deciding made
+state_as j hidden made found files step.Committing = machine.Committing made
+state_as j hidden made found files step.Checking = machine.Checking
+state_as j hidden made found files (step.Releasing e) = machine.Releasing (end_as j hidden e)
+state_as j hidden made found files (step.Ended e) = machine.Ended (end_as j hidden e)
+
+-- What want of memory may hide, in a commit of files of these names. To read the record takes memory, and so does to judge the changes of a
+-- file. A right or a lock that another has is seen without memory.
+abbrev pub MayHide : List (List ℕ) → jobs.Refusal → Type 0
+MayHide files (jobs.Busy n) = ⊥
+MayHide files jobs.NotARecord = Unit {0}
+MayHide files (jobs.TooLarge n length) = Mem n files
+MayHide files (jobs.Changed n at) = Mem n files
+
+-- memory was wanting, which may hide such a refusal
+abbrev pub WantedAs : List (List ℕ) → Ending → Type 0
+WantedAs files e = (e ≡ jobs.NoMemory) ⊎ ((why : jobs.Refusal) × MayHide files why × (e ≡ jobs.Refused why))
+
+-- the texts of a commit
+pub record AreTexts (j : Job) (plan : Plan) : Type 0 where
+  pub distinct : AreDistinct (all_of j)
+  pub prepare_is : plan.prepare ≡ written (prepare_of j)
+  pub go_is : (made : List Made) → plan.go ≡ written (go_of j made)
+  pub front_is : take 47 plan.go ≡ go_front j.token
+
+-- the plan is that of a job
+pub record IsPlan (j : Job) (plan : Plan) : Type 0 where
+  pub record_is : plan.record ≡ record_name j.actor
+  pub new_is : plan.new ≡ new_name j.actor
+  pub right_is : plan.right ≡ right_name j.actor
+  pub commits_is : plan.commits ≡ is_some j.edits
+  pub token_is : 1 ≤ files_of plan → plan.value.token ≡ j.token
+  pub names_are : names_of plan.value ≡ all_of j
+  pub staged_are : plan.staged ≡ map (staged_name j.token) (all_of j)
+  pub texts_are : is_some j.edits ≡ true → AreTexts j plan
+
+-- what was made is what is staged
+pub record IsMade (j : Job) (made : List Made) (files : List (Option (List ℕ))) : Type 0 where
+  pub names_are : map (λ x. x.edit.name) made ≡ all_of j
+  pub contents_are : map bytes_of files ≡ map (λ x. x.content) made
+
+-- what a step takes for granted: some belong to a commit, and a file is staged once all are made
+abbrev pub Holds : Job → List Made → List (Option (List ℕ)) → Step → Type 0
+Holds j made files step.Preparing = is_some j.edits ≡ true
+Holds j made files step.Publishing = is_some j.edits ≡ true
+Holds j made files (step.Locking at) = is_some j.edits ≡ true
+Holds j made files (step.Loading at) = is_some j.edits ≡ true
+Holds j made files (step.Staging at) = (is_some j.edits ≡ true) × IsMade j made files
+Holds j made files step.Deciding = is_some j.edits ≡ true
+Holds j made files step.Committing = is_some j.edits ≡ true
+Holds j made files step.Checking = is_some j.edits ≡ true
+Holds j made files s = Unit {0}
+
+-- The place stands for this state of the job.
+pub record StandsFor (j : Job) (place : Place) (s : State) : Type 0 where
+  pub hidden : Ending
+  pub wanted : WantedAs (all_of j) hidden
+  pub made : List Made
+  pub holds : Holds j made place.files place.step
+  pub is : state_as j hidden made place.found place.files place.step ≡ s
+
+-- what a place keeps in order, for a plan
+pub record IsPlace (plan : Plan) (place : Place) : Type 0 where
+  pub fits : Fits (files_of plan) (entries_of place) place.step
+  pub staged_are : place.found_staged ≡ map (staged_name place.found.token) (names_of place.found)
+  pub few : entries_of place ≤ 16
+  pub files_are : length place.files ≡ files_of plan
+  pub names : All IsFileName (names_of place.found)
+  pub staged : All IsFileName place.found_staged
+
+-- a host takes the names of the plan
+pub record IsSafe (plan : Plan) : Type 0 where
+  pub record_file : IsFileName plan.record
+  pub new_file : IsFileName plan.new
+  pub right_file : IsFileName plan.right
+  pub names : All IsFileName (names_of plan.value)
+  pub staged : All IsFileName plan.staged
+  pub staged_long : length plan.staged ≡ files_of plan
+  pub few : files_of plan ≤ 16
+  pub some : plan.commits ≡ true → 1 ≤ files_of plan
+
+-- a call is the machine's next
+abbrev pub NextOf : Plan → Place → Option Call → Type 0
+NextOf plan place result = (j : Job) (s : State) → IsPlan j plan → IsPlace plan place → StandsFor j place s → option_map (call_in plan place) result ≡ next j s

@@ -1,0 +1,198 @@
+-- How far a job has come, by numbers alone.
+use Rattle.std.specs.Prelude.{◌<◌, ◌≤◌, ◌+◌, ◌-◌, ◌*◌, ℕ, Bool, true, false, Option, Some, None, nat_lt, if◌then◌else◌}
+use Rattle.commit_driver.specs.declared.step.Passed.{Passed}
+use Rattle.commit_driver.specs.declared.step.Passed.TheVariants.{Before, After, Unknown}
+use Rattle.commit_driver.specs.declared.step.Recovered.TheVariants as recovered
+use Rattle.commit_driver.specs.declared.step.End.{End}
+use Rattle.commit_driver.specs.declared.step.End.TheVariants.{Done, Recovered, RightBusy, Busy, NotARecord, RecordTooLarge, TooLarge, Changed, Failed, NoMemory}
+use Rattle.commit_driver.specs.declared.step.Then.{Then}
+use Rattle.commit_driver.specs.declared.step.Then.TheVariants.{GoOn, Answer}
+use Rattle.commit_driver.specs.declared.step.Step.{Step}
+use Rattle.commit_driver.specs.declared.step.Step.TheVariants.{Seizing, Looking, Undoing, Placing, Unlocking, Erasing, Clearing, Preparing, Publishing, Locking, Loading, Staging, Deciding, Committing, Checking, Releasing, Ended}
+use Rattle.commit_driver.specs.declared.next.Name.{Name}
+use Rattle.commit_driver.specs.declared.next.Name.TheVariants as name
+use Rattle.commit_driver.specs.declared.next.Call.{Call}
+use Rattle.commit_driver.specs.declared.next.Call.TheVariants as call
+
+-- a file of the record that is done with, and where it is made
+abbrev pub file_at : Then → ℕ → Name
+file_at GoOn at = name.Found at
+file_at (Answer e) at = name.File at
+
+abbrev pub staged_at : Then → ℕ → Name
+staged_at GoOn at = name.FoundStaged at
+staged_at (Answer e) at = name.Staged at
+
+abbrev pub unlock_at : Then → ℕ → Call
+unlock_at GoOn at = call.UnlockFound at
+unlock_at (Answer e) at = call.Unlock at
+
+-- the call that a step is for
+abbrev pub call_at : Step → Option Call
+call_at Seizing = Some call.Seize
+call_at Looking = Some (call.Load name.Record)
+call_at (Undoing at end locks th) = Some (call.Erase (staged_at th at))
+call_at (Placing at th) = Some (call.Publish (staged_at th at) (file_at th at))
+call_at (Unlocking at end th) = Some (unlock_at th at)
+call_at (Erasing th) = Some (call.Erase name.Record)
+call_at (Clearing found) = Some (call.Erase name.New)
+call_at Preparing = Some call.StagePrepare
+call_at Publishing = Some (call.Publish name.New name.Record)
+call_at (Locking at) = Some (call.Lock at)
+call_at (Loading at) = Some (call.Load (name.File at))
+call_at (Staging at) = Some (call.StageFile at)
+call_at Deciding = Some call.StageGo
+call_at Committing = Some (call.Publish name.New name.Record)
+call_at Checking = Some (call.Load name.Record)
+call_at (Releasing e) = Some call.Release
+call_at (Ended e) = None
+
+-- how many names there are: of n files of the plan, or of m entries that were found
+abbrev pub count_at : ℕ → ℕ → Then → ℕ
+count_at n m GoOn = m
+count_at n m (Answer e) = n
+
+-- the numbers of files are those of n files, and of entries those of m
+abbrev pub EndFits : ℕ → End → Type 0
+EndFits n (Busy k) = k < n
+EndFits n (TooLarge k length) = k < n
+EndFits n (Changed k message) = k < n
+EndFits n e = Unit {0}
+
+abbrev pub ThenFits : ℕ → Then → Type 0
+ThenFits n GoOn = Unit {0}
+ThenFits n (Answer e) = EndFits n e
+
+abbrev pub Fits : ℕ → ℕ → Step → Type 0
+Fits n m (Undoing at end locks th) = (at < end) × (end ≤ count_at n m th) × (locks ≤ count_at n m th) × ThenFits n th
+Fits n m (Placing at th) = (at < count_at n m th) × ThenFits n th
+Fits n m (Unlocking at end th) = (at < end) × (end ≤ count_at n m th) × ThenFits n th
+Fits n m (Erasing th) = ThenFits n th
+Fits n m Preparing = 0 < n
+Fits n m Publishing = 0 < n
+Fits n m (Locking at) = at < n
+Fits n m (Loading at) = at < n
+Fits n m (Staging at) = at < n
+Fits n m (Releasing e) = EndFits n e
+Fits n m (Ended e) = EndFits n e
+Fits n m s = Unit {0}
+
+abbrev pub NameFits : ℕ → ℕ → Name → Type 0
+NameFits n m (name.File k) = k < n
+NameFits n m (name.Staged k) = k < n
+NameFits n m (name.Found k) = k < m
+NameFits n m (name.FoundStaged k) = k < m
+NameFits n m x = Unit {0}
+
+abbrev pub CallFits : ℕ → ℕ → Call → Type 0
+CallFits n m (call.Load x) = NameFits n m x
+CallFits n m (call.Publish x y) = NameFits n m x × NameFits n m y
+CallFits n m (call.Erase x) = NameFits n m x
+CallFits n m (call.StageFile k) = k < n
+CallFits n m (call.Lock k) = k < n
+CallFits n m (call.Unlock k) = k < n
+CallFits n m (call.UnlockFound k) = k < m
+CallFits n m c = Unit {0}
+
+-- the steps that numbers lead to
+abbrev pub unlocking_at : ℕ → ℕ → Then → Step
+unlocking_at at end th = if nat_lt at end then Unlocking at end th else Erasing th
+
+abbrev pub undoing_at : ℕ → ℕ → ℕ → Then → Step
+undoing_at at end locks th = if nat_lt at end then Undoing at end locks th else unlocking_at 0 locks th
+
+abbrev pub placing_at : ℕ → ℕ → Then → Step
+placing_at at end th = if nat_lt at end then Placing at th else unlocking_at 0 end th
+
+abbrev pub locking_at : ℕ → ℕ → Step
+locking_at at n = if nat_lt at n then Locking at else Loading 0
+
+abbrev pub staging_at : ℕ → ℕ → Step
+staging_at at n = if nat_lt at n then Staging at else Deciding
+
+-- whether the decision was passed at a step where a call fails
+abbrev pub passed_end : End → Passed
+passed_end Done = After
+passed_end (Failed passed) = passed
+passed_end e = Before
+
+abbrev pub passed_then : Then → Passed
+passed_then GoOn = Before
+passed_then (Answer e) = passed_end e
+
+abbrev pub passed_at : Step → Passed
+passed_at (Undoing at end locks th) = Before
+passed_at (Placing at th) = passed_then th
+passed_at (Unlocking at end th) = passed_then th
+passed_at (Erasing th) = passed_then th
+passed_at (Releasing e) = passed_end e
+passed_at (Ended e) = passed_end e
+passed_at Checking = Unknown
+passed_at s = Before
+
+-- the step after a call that failed
+abbrev pub faulted_at : Step → Step
+faulted_at Committing = Checking
+faulted_at s = Releasing (Failed (passed_at s))
+
+-- after a load that met so many bytes, where there are n files
+abbrev pub long_at : ℕ → Step → ℕ → Step
+long_at n Looking length = Releasing (RecordTooLarge length)
+long_at n (Loading at) length = unlocking_at 0 n (Answer (TooLarge at length))
+long_at n s length = Releasing (Failed (passed_at s))
+
+-- after a load that wants memory
+abbrev pub short_at : ℕ → Step → Step
+short_at n Looking = Releasing NoMemory
+short_at n (Loading at) = unlocking_at 0 n (Answer NoMemory)
+short_at n s = Releasing (Failed (passed_at s))
+
+-- after a record was closed that was decided or wasn't
+abbrev pub closed_at : Bool → Then → Step
+closed_at decided GoOn = Clearing (if decided then recovered.Finished else recovered.RolledBack)
+closed_at decided (Answer e) = Releasing e
+
+-- After a call that went so: in a commit or not, of n files, where a record of m entries was found that was decided or wasn't.
+abbrev pub went_at : Bool → ℕ → ℕ → Bool → Step → Bool → Step
+went_at commits n m decided Seizing true = Looking
+went_at commits n m decided Seizing false = Ended RightBusy
+went_at commits n m decided (Undoing at end locks th) did = undoing_at (at + 1) end locks th
+went_at commits n m decided (Placing at th) did = placing_at (at + 1) (count_at n m th) th
+went_at commits n m decided (Unlocking at end th) did = unlocking_at (at + 1) end th
+went_at commits n m decided (Erasing th) did = closed_at decided th
+went_at commits n m decided (Clearing found) did = if commits then Preparing else Releasing (Recovered found)
+went_at commits n m decided Preparing did = Publishing
+went_at commits n m decided Publishing true = locking_at 0 n
+went_at commits n m decided Publishing false = Releasing NotARecord
+went_at commits n m decided (Locking at) true = locking_at (at + 1) n
+went_at commits n m decided (Locking at) false = unlocking_at 0 at (Answer (Busy at))
+went_at commits n m decided (Staging at) did = staging_at (at + 1) n
+went_at commits n m decided Deciding did = Committing
+went_at commits n m decided Committing true = placing_at 0 n (Answer Done)
+went_at commits n m decided Committing false = Releasing NotARecord
+went_at commits n m decided (Releasing e) did = Ended e
+went_at commits n m decided s did = Releasing (Failed (passed_at s))
+
+-- how much is left to do, at most: each answer makes it less
+abbrev pub then_rank : Then → ℕ
+then_rank GoOn = 10
+then_rank (Answer e) = 0
+
+abbrev pub weight : Step → ℕ
+weight Seizing = 20 * 17
+weight Looking = 19 * 17
+weight (Undoing at end locks th) = (then_rank th + 5) * 17 + (16 - at)
+weight (Placing at th) = (then_rank th + 5) * 17 + (16 - at)
+weight (Unlocking at end th) = (then_rank th + 4) * 17 + (16 - at)
+weight (Erasing th) = (then_rank th + 3) * 17
+weight (Clearing found) = 12 * 17 + 8
+weight Preparing = 12 * 17
+weight Publishing = 11 * 17
+weight (Locking at) = 10 * 17 + (16 - at)
+weight (Loading at) = 9 * 17 + (16 - at)
+weight (Staging at) = 8 * 17 + (16 - at)
+weight Deciding = 7 * 17
+weight Committing = 6 * 17 + 16
+weight Checking = 2 * 17
+weight (Releasing e) = 17
+weight (Ended e) = 0

@@ -1,0 +1,402 @@
+// How far a job has come after an answer.
+ghost use Rattle.std.specs.Prelude.{true, ◌≡◌, ◌<◌, ◌+◌, length, take, All, IsTrue, IsSome, IfOk, option_copied, List, ℕ, map};
+ghost use Rattle.folder_change.specs.Changes.{is_rewrite};
+ghost use Rattle.folder_change.specs.Outcomes.{base_list};
+ghost use Rattle.commit_machine.specs.Names.{staged_name};
+ghost use Rattle.commit_machine.specs.Records.{is_go};
+ghost use Rattle.commit_machine.specs.Records.{has, names_of};
+ghost use Rattle.folder_change.specs.Changes.{name_of};
+ghost use Rattle.commit_driver.specs.declared.step.Step.TheVariants as Step;
+ghost use Rattle.commit_driver.specs.Steps.{call_at, unlocking_at, undoing_at, placing_at, locking_at, staging_at, count_at, closed_at, passed_end, passed_then, passed_at, faulted_at, long_at, short_at, went_at, Fits};
+ghost use Rattle.commit_driver.specs.Places.{IsPlace, IsSafe};
+ghost use Rattle.commit_driver.specs.Answers.{Finds, PassedSo, Looks, Takes, SawSo, Answered, IsAnswer, IsAfter, mending_at, judged_at};
+
+use crate::judge::{Trouble, judge};
+use crate::{End, Passed, Place, Plan, Recovered, Step, Then};
+use commit_machine::staged_name;
+use commit_record::{Entry, Phase, Record, RecordError, read};
+use folder_change::Change;
+use mail_text::{Items, Memory, Text};
+use mbox_scan::Folder;
+use std::alloc::Global;
+
+/// What a call answers.
+#[derive(Drop)]
+pub enum Reply {
+    /// It went so: done or not, taken or not.
+    Went(bool),
+    /// This file was loaded.
+    Saw(Option<Text>),
+    /// A file of so many bytes is too large to load.
+    Long(u64),
+    /// A load wants memory.
+    Short,
+    /// The call failed.
+    Fault,
+}
+
+fn unlocking(at: usize, end: usize, then: Then) -> Step
+    ensures { result ≡ unlocking_at at end then }
+{
+    if at < end {
+        Step::Unlocking(at, end, then)
+    } else {
+        Step::Erasing(then)
+    }
+}
+
+fn undoing(at: usize, end: usize, locks: usize, then: Then) -> Step
+    ensures { result ≡ undoing_at at end locks then }
+{
+    if at < end {
+        Step::Undoing(at, end, locks, then)
+    } else {
+        unlocking(0, locks, then)
+    }
+}
+
+fn placing(at: usize, end: usize, then: Then) -> Step
+    ensures { result ≡ placing_at at end then }
+{
+    if at < end {
+        Step::Placing(at, then)
+    } else {
+        unlocking(0, end, then)
+    }
+}
+
+fn locking(at: usize, files: usize) -> Step
+    ensures { result ≡ locking_at at files }
+{
+    if at < files {
+        Step::Locking(at)
+    } else {
+        Step::Loading(0)
+    }
+}
+
+fn staging(at: usize, files: usize) -> Step
+    ensures { result ≡ staging_at at files }
+{
+    if at < files {
+        Step::Staging(at)
+    } else {
+        Step::Deciding
+    }
+}
+
+// How many names there are to do: of so many files, or of so many entries that were found.
+fn count(files: usize, entries: usize, then: Then) -> usize
+    ensures { result ≡ count_at files entries then }
+{
+    match then {
+        Then::GoOn => entries,
+        Then::Answer(_) => files,
+    }
+}
+
+// After a record was closed that was decided or wasn't.
+fn closed(decided: bool, then: Then) -> Step
+    ensures { result ≡ closed_at decided then }
+{
+    match then {
+        Then::GoOn if decided => Step::Clearing(Recovered::Finished),
+        Then::GoOn => Step::Clearing(Recovered::RolledBack),
+        Then::Answer(end) => Step::Releasing(end),
+    }
+}
+
+fn passed_end(end: End) -> Passed
+    ensures { result ≡ passed_end end }
+{
+    match end {
+        End::Done => Passed::After,
+        End::Failed(passed) => passed,
+        _ => Passed::Before,
+    }
+}
+
+fn passed_then(then: Then) -> Passed
+    ensures { result ≡ passed_then then }
+{
+    match then {
+        Then::GoOn => Passed::Before,
+        Then::Answer(end) => passed_end(end),
+    }
+}
+
+// Whether the decision was passed at a step where a call fails.
+fn passed_at(step: Step) -> Passed
+    ensures { result ≡ passed_at step }
+{
+    match step {
+        Step::Placing(_, then) | Step::Unlocking(_, _, then) | Step::Erasing(then) => {
+            passed_then(then)
+        }
+        Step::Releasing(end) | Step::Ended(end) => passed_end(end),
+        Step::Checking => Passed::Unknown,
+        _ => Passed::Before,
+    }
+}
+
+fn fault(step: Step) -> Step
+    ensures { result ≡ faulted_at step }
+{
+    match step {
+        Step::Committing => Step::Checking,
+        step => Step::Releasing(End::Failed(passed_at(step))),
+    }
+}
+
+fn long(files: usize, step: Step, length: u64) -> Step
+    ensures { result ≡ long_at files step length }
+{
+    match step {
+        Step::Looking => Step::Releasing(End::RecordTooLarge(length)),
+        Step::Loading(at) => unlocking(0, files, Then::Answer(End::TooLarge(at, length))),
+        step => Step::Releasing(End::Failed(passed_at(step))),
+    }
+}
+
+fn short(files: usize, step: Step) -> Step
+    ensures { result ≡ short_at files step }
+{
+    match step {
+        Step::Looking => Step::Releasing(End::NoMemory),
+        Step::Loading(_) => unlocking(0, files, Then::Answer(End::NoMemory)),
+        step => Step::Releasing(End::Failed(passed_at(step))),
+    }
+}
+
+// After a call that went so, of so many files, where a record of so many entries was found.
+fn went(commits: bool, files: usize, entries: usize, decided: bool, step: Step, did: bool) -> Step
+    requires { Fits files entries step }
+    ensures { result ≡ went_at commits files entries decided step did }
+{
+    match step {
+        Step::Seizing if did => Step::Looking,
+        Step::Seizing => Step::Ended(End::RightBusy),
+        Step::Undoing(at, end, locks, then) => undoing(at + 1, end, locks, then),
+        Step::Placing(at, then) => placing(at + 1, count(files, entries, then), then),
+        Step::Unlocking(at, end, then) => unlocking(at + 1, end, then),
+        Step::Erasing(then) => closed(decided, then),
+        Step::Clearing(_) if commits => Step::Preparing,
+        Step::Clearing(found) => Step::Releasing(End::Recovered(found)),
+        Step::Preparing => Step::Publishing,
+        Step::Publishing if did => locking(0, files),
+        Step::Locking(at) if did => locking(at + 1, files),
+        Step::Locking(at) => unlocking(0, at, Then::Answer(End::Busy(at))),
+        Step::Staging(at) => staging(at + 1, files),
+        Step::Deciding => Step::Committing,
+        Step::Committing if did => placing(0, files, Then::Answer(End::Done)),
+        Step::Publishing | Step::Committing => Step::Releasing(End::NotARecord),
+        Step::Releasing(end) => Step::Ended(end),
+        step => Step::Releasing(End::Failed(passed_at(step))),
+    }
+}
+
+// A record was decided.
+fn is_decided(value: &Record) -> bool
+    ensures { result ≡ is_go value.now }
+{
+    match value.phase {
+        Phase::Go => true,
+        Phase::Prepare => false,
+    }
+}
+
+// The staged names of entries, in order.
+fn staged_names(alloc: Global, token: u64, entries: &[Entry]) -> Result<Items<Text>, Memory>
+    ensures { IfOk result (λ s. s ≡ map (λ e. staged_name token e.name) entries.now) }
+{
+    let mut staged = Items::new(alloc);
+    for entry in entries {
+        let name = staged_name(alloc, token, entry.name.bytes())?;
+        staged.push(name)?;
+    }
+    Ok(staged)
+}
+
+/// A record with the staged names of its entries.
+#[derive(Drop)]
+pub struct Found {
+    pub value: Record,
+    pub staged: Items<Text>,
+}
+
+// Reads the record that stands, and makes the staged names of its entries; or the end that follows where that can't be done.
+fn read_found(alloc: Global, bytes: &[u8]) -> Result<Found, End>
+    ensures { Finds bytes.now result }
+{
+    let value = match read(alloc, bytes) {
+        Ok(value) => value,
+        Err(RecordError::NotARecord) => return Err(End::NotARecord),
+        Err(RecordError::Memory) => return Err(End::NoMemory),
+    };
+    match staged_names(alloc, value.token, value.entries.items()) {
+        Ok(staged) => Ok(Found { value, staged }),
+        Err(Memory) => Err(End::NoMemory),
+    }
+}
+
+// The first step of closing a record that was found.
+fn mending(value: &Record) -> Step
+    ensures { result ≡ mending_at value.now }
+{
+    let entries = value.entries.items().len();
+    if is_decided(value) {
+        placing(0, entries, Then::GoOn)
+    } else {
+        undoing(0, entries, entries, Then::GoOn)
+    }
+}
+
+// What stands as the record was loaded.
+fn look(alloc: Global, plan: &Plan, place: &mut Place, file: Option<Text>)
+    ensures { Looks plan.now file place.old place.new }
+{
+    match file {
+        None if plan.commits => place.step = Step::Preparing,
+        None => place.step = Step::Clearing(Recovered::Nothing),
+        Some(text) => match read_found(alloc, text.bytes()) {
+            Ok(found) => {
+                place.step = mending(&found.value);
+                place.found = found.value;
+                place.found_staged = found.staged;
+            }
+            Err(end) => place.step = Step::Releasing(end),
+        },
+    }
+}
+
+/// The bytes of the first three lines of a decision's text, which tell phase and token.
+const FRONT: usize = 47;
+
+// Whether what stands as the record is that of the decision, by the front of the decision's text.
+fn passed_by(go: &[u8], found: Option<&Text>) -> Passed
+    ensures { PassedSo go.now (option_copied found.entry) result }
+{
+    let (front, _) = go.split_at(go.len().min(FRONT));
+    match found {
+        None => Passed::Before,
+        Some(text) => {
+            if text.bytes().starts_with(front) {
+                Passed::After
+            } else {
+                Passed::Before
+            }
+        }
+    }
+}
+
+// The step once all files are loaded and judged.
+fn judged(files: usize, done: Result<(), Trouble>) -> Step
+    ensures { result ≡ judged_at files done }
+{
+    let why = match done {
+        Ok(()) => return staging(0, files),
+        Err(Trouble::Changed { file, at }) => End::Changed(file, at),
+        Err(Trouble::TooLarge { file, length }) => End::TooLarge(file, length),
+        Err(Trouble::Memory) => End::NoMemory,
+    };
+    unlocking(0, files, Then::Answer(why))
+}
+
+// A file was loaded.
+fn take(
+    alloc: Global,
+    plan: &Plan,
+    place: &mut Place,
+    at: usize,
+    file: Option<Text>,
+    changes: &[Change],
+    base: Option<&Folder>,
+)
+    requires place { IsPlace plan.now place.old }
+    requires step { place.old.step ≡ Step.Loading at }
+    requires named { All (λ c. has (names_of plan.now.value) (name_of c) ≡ true) changes.now }
+    requires based { All (λ c. IsTrue (is_rewrite c) → IsSome base) changes.now }
+    ensures { Takes plan.now at file changes.now (base_list (option_copied base.entry)) place.old place.new }
+{
+    let entries = plan.value.entries.items();
+    *place.files.get_mut(at) = file;
+    if at + 1 < entries.len() {
+        place.step = Step::Loading(at + 1);
+    } else {
+        let result = judge(alloc, changes, base, entries, &mut place.files);
+        place.step = judged(entries.len(), result);
+    }
+}
+
+// What a load saw.
+fn saw(
+    alloc: Global,
+    plan: &Plan,
+    place: &mut Place,
+    file: Option<Text>,
+    changes: &[Change],
+    base: Option<&Folder>,
+)
+    requires place { IsPlace plan.now place.old }
+    requires named { All (λ c. has (names_of plan.now.value) (name_of c) ≡ true) changes.now }
+    requires based { All (λ c. IsTrue (is_rewrite c) → IsSome base) changes.now }
+    ensures { SawSo plan.now file changes.now (base_list (option_copied base.entry)) place.old place.old.step place.new }
+{
+    match place.step {
+        Step::Looking => look(alloc, plan, place, file),
+        Step::Loading(at) => take(alloc, plan, place, at, file, changes, base),
+        Step::Checking => {
+            let passed = passed_by(plan.go.bytes(), file.as_ref());
+            place.step = Step::Releasing(End::Failed(passed));
+        }
+        step => place.step = Step::Releasing(End::Failed(passed_at(step))),
+    }
+}
+
+// The place after an answer, by numbers.
+fn answer(
+    alloc: Global,
+    plan: &Plan,
+    place: &mut Place,
+    reply: Reply,
+    changes: &[Change],
+    base: Option<&Folder>,
+)
+    requires place { IsPlace plan.now place.old }
+    requires named { All (λ c. has (names_of plan.now.value) (name_of c) ≡ true) changes.now }
+    requires based { All (λ c. IsTrue (is_rewrite c) → IsSome base) changes.now }
+    ensures { Answered plan.now reply changes.now (base_list (option_copied base.entry)) place.old place.new }
+{
+    let files = plan.value.entries.items().len();
+    let step = place.step;
+    match reply {
+        Reply::Went(did) => {
+            let entries = place.found.entries.items().len();
+            let decided = is_decided(&place.found);
+            place.step = went(plan.commits, files, entries, decided, step, did);
+        }
+        Reply::Saw(file) => saw(alloc, plan, place, file, changes, base),
+        Reply::Long(length) => place.step = long(files, step, length),
+        Reply::Short => place.step = short(files, step),
+        Reply::Fault => place.step = fault(step),
+    }
+}
+
+/// The place after an answer, as the machine has it.
+pub fn after(
+    alloc: Global,
+    plan: &Plan,
+    place: &mut Place,
+    reply: Reply,
+    changes: &[Change],
+    base: Option<&Folder>,
+)
+    requires safe { IsSafe plan.now }
+    requires place { IsPlace plan.now place.old }
+    requires answers { IsAnswer (call_at place.old.step) reply }
+    requires named { All (λ c. has (names_of plan.now.value) (name_of c) ≡ true) changes.now }
+    requires based { All (λ c. IsTrue (is_rewrite c) → IsSome base) changes.now }
+    ensures { IsAfter plan.now reply changes.now (base_list (option_copied base.entry)) place.old place.new }
+{
+    answer(alloc, plan, place, reply, changes, base);
+}

@@ -1,0 +1,139 @@
+// A job is driven over a host.
+ghost use Rattle.std.specs.Prelude.{◌≡◌, Some, true, length, All, IsTrue, IsSome, option_copied};
+ghost use Rattle.host_port.specs.Ran.{Ran};
+ghost use Rattle.folder_change.specs.Changes.{name_of, is_rewrite};
+ghost use Rattle.folder_change.specs.Outcomes.{base_list, bytes_of};
+ghost use Rattle.commit_machine.specs.Records.{has, names_of};
+ghost use Rattle.commit_machine.specs.Jobs.{Job};
+ghost use Rattle.commit_driver.specs.declared.step.Step.TheVariants as Step;
+ghost use Rattle.commit_driver.specs.declared.step.End.{End};
+ghost use Rattle.commit_driver.specs.Did.{load_reply, told_reply, done_reply};
+ghost use Rattle.commit_driver.specs.Steps.{CallFits, EndFits};
+ghost use Rattle.commit_driver.specs.Places.{files_of, entries_of, call_in, begun, IsPlan, IsPlace, IsSafe};
+ghost use Rattle.commit_driver.specs.Answers.{IsAnswer, ReplyCaused, EndCaused, reply_as};
+ghost use Rattle.commit_driver.specs.Drives.{Performed, IsFor, Drives};
+
+use crate::calls::{erase, load, lock, publish, release, seize, stage, unlock};
+use crate::{Call, End, Name, Place, Plan, Reply, Step, after, named, next_call};
+use folder_change::Change;
+use host_port::{DiskFault, Host, LoadAnswer, LoadError};
+use mail_text::Text;
+use mbox_scan::Folder;
+use std::alloc::Global;
+
+fn loaded(answer: Result<LoadAnswer, LoadError>) -> Reply
+    ensures { reply_as result ≡ load_reply answer }
+{
+    match answer {
+        Ok(answer) => Reply::Saw(answer.bytes),
+        Err(LoadError::TooLarge { length }) => Reply::Long(length),
+        Err(LoadError::Failed) => Reply::Fault,
+        Err(LoadError::Memory) => Reply::Short,
+    }
+}
+
+fn told(answer: Result<bool, DiskFault>) -> Reply
+    ensures { reply_as result ≡ told_reply answer }
+{
+    match answer {
+        Ok(did) => Reply::Went(did),
+        Err(DiskFault) => Reply::Fault,
+    }
+}
+
+fn done(answer: Result<(), DiskFault>) -> Reply
+    ensures { reply_as result ≡ done_reply answer }
+{
+    match answer {
+        Ok(()) => Reply::Went(true),
+        Err(DiskFault) => Reply::Fault,
+    }
+}
+
+// What is staged for a file.
+fn content_of(file: &Option<Text>) -> &[u8]
+    ensures { result.now ≡ bytes_of file.now }
+{
+    match file {
+        Some(text) => text.bytes(),
+        None => b"",
+    }
+}
+
+/// Makes a call on the host.
+pub fn perform<H: Host>(
+    alloc: Global,
+    plan: &Plan,
+    place: &Place,
+    call: Call,
+    host: &mut H,
+) -> Reply
+    requires safe { IsSafe plan.now }
+    requires place { IsPlace plan.now place.now }
+    requires fits { CallFits (files_of plan.now) (entries_of place.now) call }
+    ensures ran { Ran H.start H.told H.counts host.old host.new (Performed (call_in plan.now place.now call) (reply_as result)) }
+    ensures answer { IsAnswer (Some call) result }
+    ensures cause { ReplyCaused (H.counts host.old).disks (H.counts host.new).disks result }
+{
+    match call {
+        Call::Load(name) => loaded(load(alloc, host, named(plan, place, name))),
+        Call::StagePrepare => done(stage(host, plan.new.bytes(), plan.prepare.bytes())),
+        Call::StageGo => done(stage(host, plan.new.bytes(), plan.go.bytes())),
+        Call::StageFile(at) => {
+            let content = content_of(&place.files.items()[at]);
+            done(stage(host, named(plan, place, Name::Staged(at)), content))
+        }
+        Call::Publish(from, to) => {
+            told(publish(host, named(plan, place, from), named(plan, place, to)))
+        }
+        Call::Erase(name) => done(erase(host, named(plan, place, name))),
+        Call::Lock(at) => { told(lock(host, named(plan, place, Name::File(at)), plan.value.token)) }
+        Call::Unlock(at) => {
+            done(unlock(host, named(plan, place, Name::File(at)), plan.value.token))
+        }
+        Call::UnlockFound(at) => {
+            done(unlock(host, named(plan, place, Name::Found(at)), place.found.token))
+        }
+        Call::Seize => told(seize(host, plan.right.bytes())),
+        Call::Release => {
+            release(host, plan.right.bytes());
+            Reply::Went(true)
+        }
+    }
+}
+
+// The end of a job that is done.
+fn end_at(step: Step) -> End
+    ensures { (e : End) → step ≡ Step.Ended e → result ≡ e }
+{
+    match step {
+        Step::Ended(end) => end,
+        _ => End::NoMemory,
+    }
+}
+
+/// Drives a job over the host, from its start to its end. Its own events are, one by one, the machine's next calls.
+pub fn drive<H: Host>(
+    alloc: Global,
+    plan: &Plan,
+    start: Place,
+    changes: &[Change],
+    base: Option<&Folder>,
+    host: &mut H,
+) -> End
+    requires safe { IsSafe plan.now }
+    requires begun { start ≡ begun start.files }
+    requires room { length start.files ≡ files_of plan.now }
+    requires named { All (λ c. has (names_of plan.now.value) (name_of c) ≡ true) changes.now }
+    requires based { All (λ c. IsTrue (is_rewrite c) → IsSome base) changes.now }
+    ensures ran { (j : Job) → IsPlan j plan.now → IsFor j changes.now (base_list (option_copied base.entry)) → Ran H.start H.told H.counts host.old host.new (λ es. Drives j es result) }
+    ensures fits { EndFits (files_of plan.now) result }
+    ensures cause { EndCaused (H.counts host.old).disks (H.counts host.new).disks result }
+{
+    let mut place = start;
+    while let Some(call) = next_call(plan, &place) {
+        let reply = perform(alloc, plan, &place, call, host);
+        after(alloc, plan, &mut place, reply, changes, base);
+    }
+    end_at(place.step)
+}

@@ -1,0 +1,17 @@
+//! The driver of commit and recovery: the machine's next call by how far a job has come, and how far it
+//! has come after an answer.
+#![tactic(auto)]
+
+mod answers;
+pub mod calls;
+mod driving;
+mod judge;
+mod next;
+mod place;
+mod step;
+
+pub use answers::{Reply, after};
+pub use driving::{drive, perform};
+pub use next::{Call, Name, named, next_call};
+pub use place::{Place, Plan};
+pub use step::{End, Passed, Recovered, Step, Then};

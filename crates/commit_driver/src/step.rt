@@ -1,0 +1,97 @@
+// How far a job has come, by numbers: of entries in a record, and of files in a plan.
+
+/// Whether the decision was passed when a call on the disk failed.
+#[derive(Clone, Copy, Debug, PartialEq, Eq)]
+pub enum Passed {
+    /// It wasn't: nothing is changed.
+    Before,
+    /// It was: the changes are made, or will be by a recovery.
+    After,
+    /// It can't be told: the decision itself failed, and so did the look at the record that followed.
+    Unknown,
+}
+
+/// What a recovery found.
+#[derive(Clone, Copy, Debug, PartialEq, Eq)]
+pub enum Recovered {
+    /// No record stood.
+    Nothing,
+    /// A commit that wasn't decided was undone.
+    RolledBack,
+    /// A commit that was decided was carried out.
+    Finished,
+}
+
+/// How a job ends. A file goes by its number in the plan, from 0.
+#[derive(Clone, Copy)]
+pub enum End {
+    /// A commit was decided and carried out.
+    Done,
+    /// A recovery is done.
+    Recovered(Recovered),
+    /// Another has the right.
+    RightBusy,
+    /// Another has the lock of this file.
+    Busy(usize),
+    /// What stands as the record is none.
+    NotARecord,
+    /// The record has so many bytes.
+    RecordTooLarge(u64),
+    /// This file has or would have so many bytes.
+    TooLarge(usize, u64),
+    /// This file has changed at this message.
+    Changed(usize, u64),
+    /// A call failed.
+    Failed(Passed),
+    /// Want of memory.
+    NoMemory,
+}
+
+/// What follows when a record is done with.
+#[derive(Clone, Copy)]
+pub enum Then {
+    /// It was found: the rest of the job follows.
+    GoOn,
+    /// It is the job's own: the end follows.
+    Answer(End),
+}
+
+/// How far a job has come: what its next call is for. Numbers are those of the entry or the file that is
+/// next, and of how many there are to do.
+#[derive(Clone, Copy)]
+pub enum Step {
+    /// The right is taken.
+    Seizing,
+    /// The record that stands is loaded.
+    Looking,
+    /// A staged file of this entry is taken away, up to so many; so many locks follow.
+    Undoing(usize, usize, usize, Then),
+    /// The staged file of this entry is put in place.
+    Placing(usize, Then),
+    /// The lock of this entry is taken away, up to so many.
+    Unlocking(usize, usize, Then),
+    /// The record is taken away.
+    Erasing(Then),
+    /// What is being made as the record is taken away.
+    Clearing(Recovered),
+    /// The record before the decision is made.
+    Preparing,
+    /// It takes its place.
+    Publishing,
+    /// This file is locked.
+    Locking(usize),
+    /// This file is loaded.
+    Loading(usize),
+    /// This file is staged.
+    Staging(usize),
+    /// The record of the decision is made.
+    Deciding,
+    /// It takes its place.
+    Committing,
+    /// The record is looked at after a decision that failed.
+    Checking,
+    /// The right is given up.
+    Releasing(End),
+    /// All is done.
+    Ended(End),
+}

@@ -1,6 +1,0 @@
-use Rattle.host_port.proofs.RanLemmas.{called}
-use Rattle.folder_recovery.proofs.CallLemmas.{erased}
-use Rattle.folder_recovery.proofs.calls.erase.Goals as goal
-
-pub returns-clause-ran : goal.returns-clause-ran
-returns-clause-ran g c = called (erased c.args.name.now c.erase.result) c.erase.ensures.start c.erase.ensures.counts c.erase.ensures.call

@@ -1,6 +1,0 @@
-use Rattle.host_port.proofs.RanLemmas.{called}
-use Rattle.folder_recovery.proofs.CallLemmas.{locked}
-use Rattle.folder_recovery.proofs.calls.lock.Goals as goal
-
-pub returns-clause-ran : goal.returns-clause-ran
-returns-clause-ran g c = called (locked c.args.name.now c.args.token c.lock.result) c.lock.ensures.start c.lock.ensures.counts c.lock.ensures.call

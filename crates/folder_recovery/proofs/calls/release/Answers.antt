@@ -1,6 +1,0 @@
-use Rattle.host_port.proofs.RanLemmas.{called}
-use Rattle.folder_recovery.proofs.CallLemmas.{released}
-use Rattle.folder_recovery.proofs.calls.release.Goals as goal
-
-pub returns : goal.returns
-returns g c = record { ran = called (released c.args.name.now) c.release.ensures.start c.release.ensures.counts c.release.ensures.call }

@@ -1,6 +1,0 @@
-use Rattle.host_port.proofs.RanLemmas.{called}
-use Rattle.folder_recovery.proofs.CallLemmas.{staged}
-use Rattle.folder_recovery.proofs.calls.stage.Goals as goal
-
-pub returns-clause-ran : goal.returns-clause-ran
-returns-clause-ran g c = called (staged c.args.name.now c.args.bytes.now c.stage.result) c.stage.ensures.start c.stage.ensures.counts c.stage.ensures.call

@@ -1,6 +1,0 @@
-use Rattle.host_port.proofs.RanLemmas.{called}
-use Rattle.folder_recovery.proofs.CallLemmas.{unlocked}
-use Rattle.folder_recovery.proofs.calls.unlock.Goals as goal
-
-pub returns-clause-ran : goal.returns-clause-ran
-returns-clause-ran g c = called (unlocked c.args.name.now c.args.token c.unlock.result) c.unlock.ensures.start c.unlock.ensures.counts c.unlock.ensures.call

@@ -1,0 +1,61 @@
+-- Where a line comes from, and the commands that may stand there.
+use Rattle.std.specs.Prelude.{ℕ, Bool, true, false, List, Option, if◌then◌else◌}
+use Rattle.std.specs.declared.option.Option.TheVariants.{Some, None}
+use Rattle.std.specs.declared.result.Result.TheVariants.{Ok}
+use Rattle.line_words.specs.declared.line.CommandLine.{CommandLine}
+use Rattle.line_words.specs.declared.command.Command.{Command}
+use Rattle.line_words.specs.declared.command.Command.TheVariants as command
+use Rattle.line_words.specs.Line.{reading}
+use Rattle.command_desk.specs.Answers.{OrFault, next, unless}
+use Rattle.command_desk.specs.Faults.{not_in_startup, not_composing}
+use Rattle.read_commands.specs.declared.origin.Origin.{Origin}
+use Rattle.read_commands.specs.declared.origin.Origin.TheVariants as origin
+use Rattle.read_commands.specs.Commands.{name_of, read_or_fault}
+
+-- a start-up file may hold the command
+abbrev pub is_of_startup : Command → Bool
+is_of_startup command.Alias = true
+is_of_startup command.Alternates = true
+is_of_startup command.Call = true
+is_of_startup command.Define = true
+is_of_startup command.Defines = true
+is_of_startup command.Undef = true
+is_of_startup command.Ignore = true
+is_of_startup command.Retain = true
+is_of_startup command.Echo = true
+is_of_startup command.Condition = true
+is_of_startup command.Set = true
+is_of_startup command.Unset = true
+is_of_startup command.Source = true
+is_of_startup command.Unalias = true
+is_of_startup command.Comment = true
+is_of_startup other = false
+
+-- the command begins a draft, leaves the folder, or brings lines of its own, so a draft can't give it
+abbrev pub leaves_draft : Command → Bool
+leaves_draft command.Mail = true
+leaves_draft command.Reply = true
+leaves_draft command.ReplyAuthors = true
+leaves_draft command.Followup = true
+leaves_draft command.FollowupAuthors = true
+leaves_draft command.File = true
+leaves_draft command.Newmail = true
+leaves_draft command.Quit = true
+leaves_draft command.Exit = true
+leaves_draft command.Define = true
+leaves_draft command.Call = true
+leaves_draft command.Source = true
+leaves_draft other = false
+
+-- the line that refuses a command where it comes from
+abbrev pub line_of_origin : Origin → CommandLine → Option (List ℕ)
+line_of_origin origin.Input line = None
+line_of_origin origin.Startup line =
+    if is_of_startup line.command then None else Some (not_in_startup (name_of line.word))
+line_of_origin origin.Draft line =
+    if leaves_draft line.command then Some (not_composing (name_of line.word)) else None
+
+-- a line as it is read: its form is looked at first, then whether its command may stand where the line comes from
+abbrev pub read_from : Origin → List ℕ → OrFault CommandLine
+read_from from line =
+    next (read_or_fault (reading line)) (λ command. unless (line_of_origin from command) (λ said. said) (Ok command))
