@@ -1,13 +1,16 @@
 // Cases of lists of addresses.
 use crate::answer::{put_bad, put_flag, put_number};
 use crate::case::field;
-use mail_addresses::{Address, AddressError, bare, local_part, read_list, same_address};
+use mail_addresses::{
+    Address, AddressError, bare, first_address, local_part, read_list, same_address,
+};
 use mail_text::{Memory, Text};
 use std::alloc::Global;
 
 pub fn put(alloc: Global, case: &[Text], out: &mut Text) -> Result<(), Memory> {
     match field(case, 1) {
         b"read" => put_list(alloc, field(case, 2), out),
+        b"first" => put_first(alloc, field(case, 2), out),
         b"same" => put_flag(out, same_address(field(case, 2), field(case, 3))),
         _ => put_bad(out),
     }
@@ -49,4 +52,12 @@ fn put_address(address: &Address, out: &mut Text) -> Result<(), Memory> {
     out.push(b"+")?;
     let (_, rest) = bare(address).split_at(address.local);
     out.push(rest)
+}
+
+// The first address of a list.
+fn put_first(alloc: Global, value: &[u8], out: &mut Text) -> Result<(), Memory> {
+    match first_address(alloc, value)? {
+        Some(address) => put_address(&address, out),
+        None => out.push(b"none"),
+    }
 }

@@ -1,7 +1,7 @@
 // Cases of headers.
 use crate::answer::{put_bad, put_in_angles, put_number};
 use crate::case::field;
-use mail_headers::{EntryRef, Header, unfolded};
+use mail_headers::{EntryRef, Header, unfold_value, unfolded};
 use mail_text::{Memory, Text};
 use std::alloc::Global;
 
@@ -12,6 +12,7 @@ pub fn put(alloc: Global, case: &[Text], out: &mut Text) -> Result<(), Memory> {
         b"field" => put_field(&header, field(case, 3), out),
         b"fields" => put_field_count(&header, out),
         b"unfolded" => put_unfolded(alloc, &header, out),
+        b"value" => put_values(alloc, &header, out),
         _ => put_bad(out),
     }
 }
@@ -72,6 +73,14 @@ fn put_field_count(header: &Header<'_>, out: &mut Text) -> Result<(), Memory> {
 fn put_unfolded(alloc: Global, header: &Header<'_>, out: &mut Text) -> Result<(), Memory> {
     for field in header.fields() {
         put_in_angles(out, unfolded(alloc, field)?.bytes())?;
+    }
+    Ok(())
+}
+
+// The same, where a value without a line feed is a part of the header.
+fn put_values(alloc: Global, header: &Header<'_>, out: &mut Text) -> Result<(), Memory> {
+    for field in header.fields() {
+        put_in_angles(out, unfold_value(alloc, field)?.bytes())?;
     }
     Ok(())
 }

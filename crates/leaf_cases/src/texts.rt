@@ -5,7 +5,7 @@ use crate::answer::{
     put_bad, put_debug, put_flag, put_found, put_in_angles, put_numbers, put_shown,
 };
 use crate::case::{field, number, numbers};
-use mail_text::{Items, Memory, Text, lines, read_number, same_ascii};
+use mail_text::{Items, Memory, Reserved, Text, is_blank, lines, read_number, same_ascii};
 use std::alloc::Global;
 
 pub fn put(alloc: Global, case: &[Text], out: &mut Text) -> Result<(), Memory> {
@@ -19,6 +19,8 @@ pub fn put(alloc: Global, case: &[Text], out: &mut Text) -> Result<(), Memory> {
         b"of" => put_text_of(alloc, text, out),
         b"memory" => put_shown(alloc, out, &Memory),
         b"items" => put_items(alloc, case, out),
+        b"reserved" => put_reserved(alloc, case, out),
+        b"blanks" => put_blanks(text, out),
         _ => put_bad(out),
     }
 }
@@ -91,4 +93,23 @@ fn put_in_both(alloc: Global, list: &mut Items<u32>, x: u32, out: &mut Text) -> 
     out.push(b";")?;
     put_numbers(out, list.reserved().items())?;
     out.push(b";")
+}
+
+// A list with room, one number pushed to it, and a list of none.
+fn put_reserved(alloc: Global, case: &[Text], out: &mut Text) -> Result<(), Memory> {
+    let mut list = Reserved::of(numbers(alloc, field(case, 2))?);
+    list.push(number(case, 3).unwrap_or(0))?;
+    put_numbers(out, list.into_vec().as_slice())?;
+    let none: Reserved<u32> = Reserved::new(alloc);
+    out.push(b";")?;
+    put_numbers(out, none.items())
+}
+
+// For each byte whether it is a blank.
+fn put_blanks(text: &[u8], out: &mut Text) -> Result<(), Memory> {
+    for byte in text.iter().copied() {
+        put_flag(out, is_blank(byte))?;
+        out.push(b" ")?;
+    }
+    Ok(())
 }
