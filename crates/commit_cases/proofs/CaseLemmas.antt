@@ -1,10 +1,10 @@
 -- What the cases owe before a commit.
-use Rattle.std.proofs.Common.{◌≡◌, ℕ, true, false, List, [], ◌∷◌, All, sym, subst, ◌∙◌}
-use Rattle.std.proofs.lemmas.List.Elements.{All-nil, All-cons, All-head, All-weaker}
+use Rattle.std.proofs.Common.{◌≡◌, ℕ, true, false, List, [], ◌∷◌, All, sym, subst}
+use Rattle.std.proofs.lemmas.List.Elements.{All-nil, All-cons, All-weaker}
 use Rattle.folder_change.specs.declared.change.Change.{Change}
 use Rattle.folder_change.specs.Changes.{name_of, is_rewrite}
 use Rattle.folder_commit.specs.Names.{is_file_name}
-use Rattle.folder_commit.specs.Commits.{IsOfOne, AreFiles}
+use Rattle.folder_commit.specs.Plans.{AreFiles}
 
 -- one change of a file that may be changed
 pub one-file : (actor name : List ℕ) (c : Change) → is_file_name actor name ≡ true → name_of c ≡ name → AreFiles actor (c ∷ [])
@@ -22,8 +22,3 @@ AreAdditions name changes = All (IsAddition name) changes
 pub additions-files : (actor name : List ℕ) (changes : List Change) → is_file_name actor name ≡ true → AreAdditions name changes → AreFiles actor changes
 additions-files actor name changes named all =
     All-weaker (IsAddition name) (λ c. is_file_name actor (name_of c) ≡ true) (λ c is. subst (λ n. is_file_name actor n ≡ true) (sym is.0) named) changes all
-
-pub additions-one : (name : List ℕ) (changes : List Change) → AreAdditions name changes → IsOfOne changes
-additions-one name [] all = tt
-additions-one name (c ∷ cs) all =
-    All-weaker (IsAddition name) (λ x. name_of x ≡ name_of c) (λ x is. is.0 ∙ sym (All-head (IsAddition name) c cs all).0) (c ∷ cs) all

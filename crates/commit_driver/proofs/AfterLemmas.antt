@@ -66,14 +66,14 @@ loads-saw s c a = loads-of s (reply.Saw c) a true (λ b e. absurd (cc)) (λ e. a
 place-step : (plan : Plan) (old : Place) (s : Step) → IsPlace plan old → Fits (files_of plan) (entries_of old) s → IsPlace plan (at_step old s)
 place-step plan old s q f = record { fits = f; staged_are = q.staged_are; few = q.few; files_are = q.files_are; names = q.names; staged = q.staged }
 
-names-staged : (token : ℕ) (es : List Entry) → map (λ e. staged_name token e.name) es ≡ map (staged_name token) (map (λ e. e.name) es)
+pub names-staged : (token : ℕ) (es : List Entry) → map (λ e. staged_name token e.name) es ≡ map (staged_name token) (map (λ e. e.name) es)
 names-staged token [] = refl
 names-staged token (e ∷ es) = ap (λ (ns : List (List ℕ)). staged_name token e.name ∷ ns) (names-staged token es)
 
 valid-few : (r : Record) → is_valid r ≡ true → length r.entries ≤ 16
 valid-few r h = leb-true (length r.entries) 16 (and_parts _ _ (and_parts _ _ h).1).0
 
-all-names : (es : List Entry) → All (λ (e : Entry). IsFileName e.name) es → All IsFileName (map (λ e. e.name) es)
+pub all-names : (es : List Entry) → All (λ (e : Entry). IsFileName e.name) es → All IsFileName (map (λ e. e.name) es)
 all-names [] h = All-nil IsFileName
 all-names (e ∷ es) h = All-cons IsFileName e.name (map (λ e. e.name) es) (All-head (λ (e : Entry). IsFileName e.name) e es h) (all-names es (All-tail (λ (e : Entry). IsFileName e.name) e es h))
 

@@ -13,7 +13,7 @@ use Rattle.commit_machine.specs.Jobs.{TooLarge, Ending, Refused, Failed, Edit, J
 use Rattle.commit_machine.specs.Machine.{State, Seizing, Looking, Undoing, Placing, Unlocking, Erasing, Clearing, Preparing, Publishing, Locking, Loading, Staging, Deciding, Committing, Checking, Releasing, Ended, Answer, Call, ToLoad, ToStage, ToErase, ToPublish, ToLock, ToUnlock, ToSeize, ToRelease, Reply, Long, unlocking, undoing, refusing, next, refused, after_reply}
 use Rattle.commit_machine.specs.Goes.{IsOf, loads, stages, stage_fails, publishes, erases, locks, unlocks, seizes, releases, IsNext, reply, Goes}
 use Rattle.commit_driver.specs.Did.{Did}
-use Rattle.folder_commit.specs.Ends.{is_past_limit}
+use Rattle.commit_driver.specs.Drives.{is_past_limit}
 
 pub erase-is : (n : List ℕ) (e : Event) → IsOf (ToErase n) e → (done : Bool) × (failed : Bool) × (e ≡ event.Erase n done failed)
 erase-is n e (erases {done = done} {failed = failed}) = (done, failed, refl)

@@ -1,8 +1,9 @@
-pub mod NameLemmas
-pub mod JudgeLemmas
 pub mod CleanLemmas
+pub mod OneLemmas
 pub mod EndLemmas
+pub mod LookLemmas
+pub mod NameLemmas
+pub mod PlanLemmas
 pub mod RunLemmas
 pub mod SafeLemmas
 pub mod ToldLemmas
-pub mod LookLemmas

@@ -1,151 +1,130 @@
--- A commit from its seizure to its release.
-use Rattle.std.proofs.Common.{◌≡◌, ℕ, Bool, true, false, ◌||◌, List, [], ◌∷◌, ◌++◌, ◌≤◌, length, map, get_or, arith, Some, refl, ap, sym, subst, inl, inr, ◌∙◌}
-use Rattle.std.specs.Prelude.{All}
-use Rattle.std.specs.List.{list_any}
-use Rattle.std.proofs.lemmas.List.Folds.{list_any-append}
-use Rattle.std.proofs.lemmas.Bool.{and_parts, cond-true}
-use Rattle.std.proofs.lemmas.List.Elements.{All-head, All-tail}
-use Rattle.std.proofs.lemmas.Slice.Eq.{bytes_eq-Decides}
+-- A commit that was driven to its end.
+use Rattle.std.proofs.Common.{◌≡◌, ℕ, ◌<◌, ◌≤◌, List, [], ◌∷◌, length, refl, ap, sym, subst, inl, inr, ◌∙◌, arith}
 use Rattle.std.specs.declared.result.Result.{Result}
 use Rattle.std.specs.declared.result.Result.TheVariants.{Ok, Err}
+use Rattle.std.proofs.lemmas.Bool.{cases_lt}
 use Rattle.host_port.specs.declared.event.Event.{Event}
-use Rattle.host_port.specs.Names.{IsFileName, has_no_zero}
-use Rattle.commit_record.specs.Format.{is_valid}
-use Rattle.commit_record.specs.Names.{is_lawful}
-use Rattle.commit_record.specs.declared.record.Entry.{Entry}
-use Rattle.commit_record.specs.declared.record.Phase.{Phase}
-use Rattle.commit_record.specs.declared.record.Phase.TheVariants.{Go}
-use Rattle.commit_record.specs.declared.record.Record.{Record}
+use Rattle.host_port.specs.Calls.{Counts}
 use Rattle.folder_change.specs.declared.change.Change.{Change}
-use Rattle.folder_change.specs.Changes.{name_of}
+use Rattle.commit_record.specs.declared.record.Entry.{Entry}
 use Rattle.commit_machine.specs.Names.{record_name, right_name}
-use Rattle.commit_machine.specs.Jobs.{Ending, Refused, Failed, NoMemory, Before, Job, all_of}
+use Rattle.commit_machine.specs.Records.{names_of}
+use Rattle.commit_machine.specs.Settled.{Mem}
+use Rattle.commit_machine.specs.Jobs.{Ending, Refused, Failed, NoMemory, Job, all_of}
 use Rattle.commit_machine.specs.Jobs as jobs
-use Rattle.commit_machine.specs.Edits.{first_names, without, edit_for, job_for}
-use Rattle.commit_machine.specs.Machine.{Seizing, Looking, Releasing, Ended, ToSeize, ToRelease, Went, Fault}
-use Rattle.commit_machine.specs.Goes.{Goes}
-use Rattle.commit_driver.specs.Did.{Did}
-use Rattle.folder_recovery.proofs.GoesLemmas.{goes_call, goes_then}
-use Rattle.commit_driver.proofs.FileLemmas.{record-file, new-file, lawful-file, staged-file, record-files, record-staged}
-use Rattle.folder_commit.specs.declared.plan.Names.{Names}
-use Rattle.folder_commit.specs.declared.plan.Texts.{Texts}
-use Rattle.folder_commit.specs.declared.error.Passed.TheVariants as passed
-use Rattle.folder_commit.specs.declared.error.Stop.{Stop}
-use Rattle.folder_commit.specs.declared.error.Stop.TheVariants as stop
+use Rattle.commit_machine.specs.Edits.{first_names, edits_for, job_for}
+use Rattle.commit_driver.specs.declared.step.Passed.TheVariants as passed
+use Rattle.commit_driver.specs.declared.step.End.{End}
+use Rattle.commit_driver.specs.declared.step.End.TheVariants as end
+use Rattle.commit_driver.specs.declared.place.Plan.{Plan}
+use Rattle.commit_driver.specs.Steps.{EndFits}
+use Rattle.commit_driver.specs.Places.{nth}
+use Rattle.commit_driver.specs.Answers.{EndCaused}
+use Rattle.commit_driver.specs.Drives.{Drives}
 use Rattle.folder_commit.specs.declared.error.CommitError.{CommitError}
 use Rattle.folder_commit.specs.declared.error.CommitError.TheVariants as error
-use Rattle.folder_commit.specs.Names.{is_file_name}
-use Rattle.folder_commit.specs.Judging.{AllOf}
-use Rattle.folder_commit.specs.Plans.{IsNames, IsTexts, AreSafe, one_record}
-use Rattle.folder_commit.specs.Ends.{EndsAs, is_past_limit, StopsWithin, Ends, AnswersAs, AnswersWithin, Commits}
-use Rattle.folder_commit.specs.Steps.{job_of}
-use Rattle.folder_commit.specs.Commits.{IsOfOne, IsCommit, answer_of}
-use Rattle.folder_commit.proofs.EndLemmas.{ends-then}
-use Rattle.folder_commit.proofs.CleanLemmas.{did-within}
+use Rattle.folder_commit.specs.Ends.{Commits, CommitCause, AreNamed}
+use Rattle.folder_commit.specs.Plans.{Plans, commit_plan}
+use Rattle.folder_commit.specs.Commits.{IsCommit, IsNamed, answer_of}
+use Rattle.commit_driver.proofs.StateLemmas.{length-map}
+use Rattle.folder_commit.proofs.EndLemmas.{no-recovery}
+use Rattle.folder_commit.proofs.PlanLemmas.{all-first, plan-names, nth-Mem}
 
 -- memory was wanting before the right was taken
-pub not-begun : (j : Job) (r : Result Unit CommitError) → (y : CommitError) × (r ≡ Err y) × (y ≡ error.Memory) → Commits j [] r
-not-begun j r h =
-    let C : Result Unit CommitError → Type 0 = λ z. Commits j [] z in
-    subst C (sym (h.1 ∙ ap Err h.2)) (record { end = NoMemory; is_as = inl refl; within = refl; goes = inr refl })
+not-begun : (j : Job) → Commits j [] (Err error.Memory)
+not-begun j = record { end = NoMemory; is_as = inl refl; within = refl; goes = inr refl }
 
-answers : (actor name file rec : List ℕ) (result : Result Unit Stop) (end : Ending) → file ≡ name → rec ≡ record_name actor → EndsAs actor name result end → AnswersAs (name ∷ []) (answer_of result file rec) end
-answers actor name file rec (Ok u) end p q h = h
-answers actor name file rec (Err stop.Busy) end p q h = h ∙ ap (λ (z : List ℕ). Refused (jobs.Busy z)) (sym p)
-answers actor name file rec (Err stop.Record) end p q h = h
-answers actor name file rec (Err (stop.Changed at)) end p q h = h ∙ ap (λ (z : List ℕ). Refused (jobs.Changed z at)) (sym p)
-answers actor name file rec (Err (stop.LongRecord n)) end p q h = h ∙ ap (λ (z : List ℕ). Refused (jobs.TooLarge z n)) (sym q)
-answers actor name file rec (Err (stop.TooLarge n)) end p q h = h ∙ ap (λ (z : List ℕ). Refused (jobs.TooLarge z n)) (sym p)
-answers actor name file rec (Err (stop.Disk w)) end p q h = h
-answers actor name file rec (Err stop.Memory) end p q h = h
+pub no-memory : (actor : List ℕ) (token : ℕ) (cs : List Change) (base : List (List ℕ)) → 1 ≤ length cs → IsCommit actor token cs base [] (Err error.Memory)
+no-memory actor token [] base some = absurd (omega (arith, some))
+no-memory actor token (c ∷ cs) base some = elim (cases_lt 16 (length (first_names (c ∷ cs)))) [
+  | inl many ↦ inl (many, (refl, inr refl))
+  | inr few ↦ inr (few, not-begun (job_for actor token (c ∷ cs) base))
+]
 
-answers-within : (file rec : List ℕ) (result : Result Unit Stop) (front more : List Event) → StopsWithin front result → list_any is_past_limit more ≡ false → AnswersWithin (front ++ more) (answer_of result file rec)
-answers-within file rec (Ok u) front more h g = tt
-answers-within file rec (Err stop.Busy) front more h g = tt
-answers-within file rec (Err stop.Record) front more h g = tt
-answers-within file rec (Err (stop.Changed at)) front more h g = tt
-answers-within file rec (Err (stop.LongRecord n)) front more h g = tt
-answers-within file rec (Err (stop.TooLarge n)) front more h g = tt
-answers-within file rec (Err (stop.Disk p)) front more h g = tt
-answers-within file rec (Err stop.Memory) front more h g = list_any-append is_past_limit front more ∙ ap (λ (b : Bool). b || list_any is_past_limit more) h ∙ g
+pub too-many : (actor : List ℕ) (token : ℕ) (cs : List Change) (base : List (List ℕ)) (count : ℕ) → 1 ≤ length cs → 16 < length (first_names cs) → count ≡ length (first_names cs) → IsCommit actor token cs base [] (Err (error.TooManyNames count))
+too-many actor token [] base count some many is = absurd (omega (arith, some))
+too-many actor token (c ∷ cs) base count some many is = inl (many, (refl, inl (ap (λ (n : ℕ). Err (error.TooManyNames n)) is)))
 
-module _ (j : Job) (right : List ℕ) (right_is : right ≡ right_name j.actor) where
-  to-seize : Some (ToSeize (right_name j.actor)) ≡ Some (ToSeize right)
-  to-seize = ap (λ (z : List ℕ). Some (ToSeize z)) (sym right_is)
+pub of-memory : (actor : List ℕ) (token : ℕ) (cs : List Change) (base : List (List ℕ)) (r : Result Unit CommitError) → 1 ≤ length cs → (y : CommitError) × (r ≡ Err y) × (y ≡ error.Memory) → IsCommit actor token cs base [] r
+of-memory actor token cs base r some h = subst (λ (z : Result Unit CommitError). IsCommit actor token cs base [] z) (sym (h.1 ∙ ap Err h.2)) (no-memory actor token cs base some)
 
-  pub held : (name : List ℕ) (result : Result Unit Stop) (front more : List Event) → Did (ToSeize right) (Went true) front → Ends j name Looking more result → Ends j name Seizing (front ++ more) result
-  held name result front more did h = ends-then j name Seizing Looking (ToSeize right) (Went true) result front more to-seize refl (inl refl) did h
+pub nothing-done : (actor : List ℕ) (token : ℕ) (cs : List Change) (base : List (List ℕ)) → length cs < 1 → IsCommit actor token cs base [] (Ok tt)
+nothing-done actor token [] base none = (refl, refl)
+nothing-done actor token (c ∷ cs) base none = absurd (omega (arith, none))
 
-  ended : (end : Ending) (front more : List Event) → Goes j Seizing front (Releasing end) → Did (ToRelease right) (Went true) more → Goes j Seizing (front ++ more) (Ended end)
-  ended end front more h did = goes_then j Seizing (Releasing end) (Ended end) front more h (goes_call j (Releasing end) (ToRelease right) (Went true) more (ap (λ (z : List ℕ). Some (ToRelease z)) (sym right_is)) did)
+pub nothing-named : (actor : List ℕ) (cs : List Change) → length cs < 1 → IsNamed actor cs (Ok tt)
+nothing-named actor [] none = refl
+nothing-named actor (c ∷ cs) none = absurd (omega (arith, none))
 
-  pub released : (name file rec : List ℕ) (result : Result Unit Stop) → file ≡ name → rec ≡ record_name j.actor → all_of j ≡ name ∷ [] → (front more : List Event) → Ends j name Seizing front result → Did (ToRelease right) (Went true) more
-      → Commits j (front ++ more) (answer_of result file rec)
-  released name file rec result p q one front more h did =
-      let P : List (List ℕ) → Type 0 = λ files. AnswersAs files (answer_of result file rec) h.end in
-      record { end = h.end; is_as = subst P (sym one) (answers j.actor name file rec result h.end p q h.is_as); within = answers-within file rec result front more h.within (did-within (ToRelease right) (Went true) more did); goes = ended h.end front more h.goes did }
+module _ (actor : List ℕ) (token : ℕ) (cs : List Change) (base : List (List ℕ)) where
+  abbrev job : Job
+  job = job_for actor token cs base
 
-  pub busy : (es : List Event) → Did (ToSeize right) (Went false) es → Commits j es (Err (error.Busy right))
-  busy es did = record {
-    end = Refused (jobs.Busy (right_name j.actor));
-    is_as = ap (λ (z : List ℕ). Refused (jobs.Busy z)) (sym right_is);
-    within = tt;
-    goes = goes_call j Seizing (ToSeize right) (Went false) es to-seize did;
-  }
+  abbrev plan : Plan
+  plan = commit_plan actor token (first_names cs)
 
-  pub seize-failed : (es : List Event) → Did (ToSeize right) Fault es → Goes j Seizing es (Releasing (Failed Before))
-  seize-failed es did = goes_call j Seizing (ToSeize right) Fault es to-seize did
+  same-names : all_of job ≡ names_of plan.value
+  same-names = all-first actor token cs base ∙ sym (plan-names (first_names cs))
 
-  pub no-right : (front more : List Event) → Goes j Seizing front (Releasing (Failed Before)) → Did (ToRelease right) (Went true) more → Commits j (front ++ more) (Err (error.Disk passed.Before))
-  no-right front more h did = record { end = Failed Before; is_as = refl; within = tt; goes = ended (Failed Before) front more h did }
+  -- a name of the plan is one of the changes'
+  among : (k : ℕ) → k < length plan.value.entries → Mem (nth (names_of plan.value) k) (first_names cs)
+  among k l =
+      let long : length plan.value.entries ≡ length (first_names cs) = sym (length-map (λ (e : Entry). e.name) plan.value.entries) ∙ ap length (plan-names (first_names cs)) in
+      subst (λ (n : List ℕ). Mem n (first_names cs)) (ap (λ (ns : List (List ℕ)). nth ns k) (sym (plan-names (first_names cs)))) (nth-Mem (first_names cs) k (omega (arith, l, long)))
 
--- the names of a commit of one file
-pub one-valid : (phase : Phase) (token : ℕ) (name : List ℕ) → is_lawful name ≡ true → is_valid (one_record phase token name) ≡ true
-one-valid phase token name h = rw h refl
+  commits : (e : End) (es : List Event) → Drives job es e → Commits job es (answer_of e plan)
+  commits end.Done es d = record { end = jobs.Done; is_as = refl; within = tt; goes = d.goes }
+  commits end.RightBusy es d = record { end = Refused (jobs.Busy (right_name actor)); is_as = refl; within = tt; goes = d.goes }
+  commits (end.Busy k) es d = record { end = Refused (jobs.Busy (nth (all_of job) k)); is_as = ap (λ (ns : List (List ℕ)). Refused (jobs.Busy (nth ns k))) same-names; within = tt; goes = d.goes }
+  commits end.NotARecord es d = record { end = Refused jobs.NotARecord; is_as = refl; within = tt; goes = d.goes }
+  commits (end.RecordTooLarge n) es d = record { end = Refused (jobs.TooLarge (record_name actor) n); is_as = refl; within = tt; goes = d.goes }
+  commits (end.TooLarge k n) es d = record { end = Refused (jobs.TooLarge (nth (all_of job) k) n); is_as = ap (λ (ns : List (List ℕ)). Refused (jobs.TooLarge (nth ns k) n)) same-names; within = tt; goes = d.goes }
+  commits (end.Changed k m) es d = record { end = Refused (jobs.Changed (nth (all_of job) k) m); is_as = ap (λ (ns : List (List ℕ)). Refused (jobs.Changed (nth ns k) m)) same-names; within = tt; goes = d.goes }
+  commits (end.Failed passed.Before) es d = record { end = Failed jobs.Before; is_as = refl; within = tt; goes = d.goes }
+  commits (end.Failed passed.After) es d = record { end = Failed jobs.After; is_as = refl; within = tt; goes = d.goes }
+  commits (end.Failed passed.Unknown) es d = record { end = Failed jobs.Unknown; is_as = refl; within = tt; goes = d.goes }
+  commits end.NoMemory es d = record { end = d.hidden; is_as = d.wanted; within = d.within refl; goes = d.goes }
+  commits (end.Recovered f) es d = absurd (no-recovery actor token (edits_for cs base) job.refusal es _ d.goes)
 
-pub is-lawful : (actor name : List ℕ) → is_file_name actor name ≡ true → is_lawful name ≡ true
-is-lawful actor name h = (and_parts (is_lawful name) _ h).0
+  caused : (e : End) (old now : Counts) → EndCaused old.disks now.disks e → CommitCause old now (answer_of e plan)
+  caused (end.Failed p) old now c = c
+  caused (end.RecordTooLarge n) old now c = c
+  caused (end.TooLarge k n) old now c = c
+  caused end.Done old now c = tt
+  caused end.RightBusy old now c = tt
+  caused (end.Busy k) old now c = tt
+  caused (end.Changed k m) old now c = tt
+  caused end.NoMemory old now c = tt
+  caused e old now c = tt
 
-pub are-safe : (actor : List ℕ) (token : ℕ) (name : List ℕ) (names : Names) (texts : Texts) → length actor ≤ 4021 → has_no_zero actor ≡ true → is_lawful name ≡ true → IsNames actor names → IsTexts token name texts → AreSafe names texts
-are-safe actor token name names texts short none lawful n t =
-    let r = one_record Go token name in
-    let v = one-valid Go token name lawful in
-    record {
-      record_file = subst IsFileName (sym n.record_is) (record-file actor short none);
-      new_file = subst IsFileName (sym n.new_is) (new-file actor short none);
-      file_file = subst IsFileName (sym t.file_is) (lawful-file name lawful);
-      made_file = subst IsFileName (sym t.made_is) (staged-file token name lawful);
-      staged_files = subst (λ (z : List (List ℕ)). All IsFileName z) (sym t.staged_is) (record-staged r v);
-      entry_files = subst (λ (z : Record). All (λ (e : Entry). IsFileName e.name) z.entries) (sym t.value_is) (record-files r v);
-    }
+  named : (e : End) → EndFits (length plan.value.entries) e → AreNamed actor (first_names cs) (answer_of e plan)
+  named end.Done f = tt
+  named end.RightBusy f = inl refl
+  named (end.Busy k) f = inr (among k f)
+  named (end.RecordTooLarge n) f = inl refl
+  named (end.TooLarge k n) f = inr (among k f)
+  named (end.Changed k m) f = among k f
+  named (end.Failed p) f = tt
+  named end.NoMemory f = tt
+  named e f = tt
 
--- changes of one file name it once
-none-left : (name : List ℕ) (cs : List Change) → AllOf name cs → without name (first_names cs) ≡ []
-none-left name [] all = refl
-none-left name (c ∷ cs) all =
-    let same : name_of c ≡ name = All-head (λ (x : Change). name_of x ≡ name) c cs all in
-    let later = none-left name cs (All-tail (λ (x : Change). name_of x ≡ name) c cs all) in
-    let P : List ℕ → Type 0 = λ n. without name (n ∷ without n (first_names cs)) ≡ [] in
-    subst P (sym same) (cond-true _ _ _ ((bytes_eq-Decides name name).1 refl) ∙ ap (without name) later)
+pub is-commit : (actor : List ℕ) (token : ℕ) (cs : List Change) (base : List (List ℕ)) (e : End) (es : List Event) → 1 ≤ length cs → length (first_names cs) ≤ 16 → Drives (job_for actor token cs base) es e → IsCommit actor token cs base es (answer_of e (commit_plan actor token (first_names cs)))
+is-commit actor token [] base e es some few d = absurd (omega (arith, some))
+is-commit actor token (c ∷ cs) base e es some few d = inr (few, commits actor token (c ∷ cs) base e es d)
 
-pub named-once : (c : Change) (cs : List Change) → AllOf (name_of c) (c ∷ cs) → first_names (c ∷ cs) ≡ name_of c ∷ []
-named-once c cs all = ap (λ (ns : List (List ℕ)). name_of c ∷ ns) (none-left (name_of c) cs (All-tail (λ (x : Change). name_of x ≡ name_of c) c cs all))
+pub is-caused : (actor : List ℕ) (token : ℕ) (cs : List Change) (e : End) (old now : Counts) → EndCaused old.disks now.disks e → CommitCause old now (answer_of e (commit_plan actor token (first_names cs)))
+is-caused actor token cs e old now c = caused actor token cs [] e old now c
 
-module _ (changes : List Change) (first : Change) (some : 1 ≤ length changes) (is : first ≡ get_or changes 0 first) where
-  pub of-first : IsOfOne changes → AllOf (name_of first) changes
-  of-first one = go changes some is one
-    where
-      go : (xs : List Change) → 1 ≤ length xs → first ≡ get_or xs 0 first → IsOfOne xs → AllOf (name_of first) xs
-      go [] some is one = absurd (omega arith)
-      go (c ∷ cs) some is one = subst (λ (n : List ℕ). AllOf n (c ∷ cs)) (ap name_of (sym is)) one
+pub is-named : (actor : List ℕ) (token : ℕ) (cs : List Change) (e : End) → 1 ≤ length cs → EndFits (length (commit_plan actor token (first_names cs)).value.entries) e → IsNamed actor cs (answer_of e (commit_plan actor token (first_names cs)))
+is-named actor token [] e some f = absurd (omega (arith, some))
+is-named actor token (c ∷ cs) e some f = named actor token (c ∷ cs) [] e f
 
-  pub is-commit : (actor : List ℕ) (token : ℕ) (base : List (List ℕ)) (es : List Event) (r : Result Unit CommitError) → IsOfOne changes → Commits (job_of actor token changes base (name_of first)) es r → IsCommit actor token changes base es r
-  is-commit actor token base es r one h = go changes some is one h
-    where
-      go : (xs : List Change) → 1 ≤ length xs → first ≡ get_or xs 0 first → IsOfOne xs → Commits (job_of actor token xs base (name_of first)) es r → IsCommit actor token xs base es r
-      go [] some is one h = absurd (omega arith)
-      go (c ∷ cs) some is one h =
-          let N : List ℕ → Type 0 = λ n. Commits (job_of actor token (c ∷ cs) base n) es r in
-          let j = job_for actor token (c ∷ cs) base in
-          let P : List (List ℕ) → Type 0 = λ ns. Commits (record { actor = actor; token = token; edits = Some (map (edit_for (c ∷ cs) base) ns); refusal = j.refusal }) es r in
-          subst P (sym (named-once c cs one)) (subst N (ap name_of is) h)
+pub memory-named : (actor : List ℕ) (cs : List Change) (r : Result Unit CommitError) → 1 ≤ length cs → (y : CommitError) × (r ≡ Err y) × (y ≡ error.Memory) → IsNamed actor cs r
+memory-named actor [] r some h = absurd (omega (arith, some))
+memory-named actor (c ∷ cs) r some h = subst (IsNamed actor (c ∷ cs)) (sym (h.1 ∙ ap Err h.2)) tt
+
+-- a plan that couldn't be made
+pub no-plan : (actor : List ℕ) (token : ℕ) (cs : List Change) (base : List (List ℕ)) (why : CommitError) (r : Result Unit CommitError) → 1 ≤ length cs → Plans actor token cs (Err why) → r ≡ Err why → IsCommit actor token cs base [] r
+no-plan actor token cs base (error.TooManyNames count) r some h is = subst (λ (z : Result Unit CommitError). IsCommit actor token cs base [] z) (sym is) (too-many actor token cs base count some h.0 h.1)
+no-plan actor token cs base error.Memory r some h is = subst (λ (z : Result Unit CommitError). IsCommit actor token cs base [] z) (sym is) (no-memory actor token cs base some)
+no-plan actor token cs base why r some h is = absurd h

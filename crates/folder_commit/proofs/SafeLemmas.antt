@@ -1,10 +1,7 @@
 -- The laws of the machine, of a commit.
-use Rattle.std.proofs.Common.{◌≡◌, ◌<◌, ◌^◌, ℕ, true, false, List, [], ◌∷◌, ◌++◌, map, Option, Some, None, refl, ap, sym, subst, inl, inr, ◌∙◌}
-use Rattle.std.specs.Prelude.{not}
+use Rattle.std.proofs.Common.{◌≡◌, ◌<◌, ◌^◌, arith, ℕ, List, [], ◌∷◌, ◌++◌, Option, Some, None, refl, ap, sym, subst, inl, inr, ◌∙◌}
 use Rattle.std.specs.Option.{option_map}
-use Rattle.std.proofs.lemmas.Bool.{and_parts, not-true}
 use Rattle.std.proofs.lemmas.List.{append_cancel_left}
-use Rattle.std.proofs.lemmas.List.Elements.{All-head}
 use Rattle.std.specs.declared.result.Result.{Result}
 use Rattle.std.specs.declared.result.Result.TheVariants.{Ok, Err}
 use Rattle.host_port.specs.declared.event.Event.{Event}
@@ -12,16 +9,15 @@ use Rattle.host_port.specs.Disk.{Disk, disk}
 use Rattle.host_port.specs.Calls.{Counts}
 use Rattle.host_port.specs.Own.{own}
 use Rattle.host_port.specs.Ran.{Honest, Ran}
-use Rattle.commit_record.specs.Names.{is_lawful}
-use Rattle.commit_record.specs.declared.record.Phase.TheVariants.{Prepare}
 use Rattle.folder_change.specs.declared.change.Change.{Change}
 use Rattle.folder_change.specs.Changes.{name_of}
-use Rattle.folder_change.specs.Apply.{Refusal as ChangeRefusal, first_refusal}
-use Rattle.commit_machine.specs.Names.{is_record_name}
+use Rattle.folder_change.specs.Outcomes.{outcome_of}
+use Rattle.folder_change.specs.Apply.{Refusal as ChangeRefusal, apply, after, first_refusal, refusal_of, or_else}
+use Rattle.commit_machine.specs.Settled.{Files}
 use Rattle.commit_machine.specs.Settled.{Mem}
-use Rattle.commit_machine.specs.Jobs.{Ending, Edit, IsJob, edits_of, all_of}
+use Rattle.commit_machine.specs.Jobs.{Ending, IsJob, all_of}
 use Rattle.commit_machine.specs.Due.{settled_files, files_after}
-use Rattle.commit_machine.specs.Edits.{cause_of, edit_for, job_for}
+use Rattle.commit_machine.specs.Edits.{cause_of, job_for}
 use Rattle.commit_machine.specs.Machine.{Ended}
 use Rattle.commit_machine.specs.Laws.{IsRun, TellsDecisions}
 use Rattle.commit_machine.specs.Laws as laws
@@ -32,38 +28,17 @@ use Rattle.commit_machine.proofs.ToldLemmas.{decisions_are_told}
 use Rattle.commit_machine.proofs.FaultLemmas.{nothing_after_a_fault}
 use Rattle.commit_machine.proofs.RefusalLemmas.{no_refused_is_decided}
 use Rattle.commit_machine.proofs.RestraintLemmas.{right_is_given_up}
-use Rattle.folder_commit.specs.declared.error.Passed.TheVariants as passed
+use Rattle.commit_driver.specs.declared.step.Passed.TheVariants as passed
 use Rattle.folder_commit.specs.declared.error.CommitError.{CommitError}
 use Rattle.folder_commit.specs.declared.error.CommitError.TheVariants as error
-use Rattle.folder_commit.specs.Names.{is_file_name}
 use Rattle.folder_commit.specs.Ends.{AnswersAs, Commits}
-use Rattle.folder_commit.specs.Steps.{job_of}
-use Rattle.folder_commit.specs.Commits.{IsOfOne, AreFiles, IsCommit}
+use Rattle.folder_commit.specs.Plans.{AreFiles}
+use Rattle.folder_commit.specs.Commits.{IsCommit}
 use Rattle.folder_commit.specs.Safe.{MayCommit, DecidedSo, MetNoFault, CommitsSafely, IsSafe}
-use Rattle.folder_commit.proofs.RunLemmas.{named-once, one-valid, is-lawful}
-use Rattle.folder_commit.proofs.ToldLemmas.{alone}
-
--- a commit of one file is a job
-plain-name : (actor name : List ℕ) → is_file_name actor name ≡ true → is_record_name actor name ≡ false
-plain-name actor name h = not-true (is_record_name actor name) (and_parts (not (is_record_name actor name)) _ (and_parts (is_lawful name) _ h).1).0
-
-one-job : (actor : List ℕ) (token : ℕ) (changes : List Change) (base : List (List ℕ)) (name : List ℕ) → token < 2 ^ 64 → is_file_name actor name ≡ true → IsJob (job_of actor token changes base name)
-one-job actor token changes base name fits file = record {
-  token_fits = fits;
-  valid = λ es is. one-valid Prepare token name (is-lawful actor name file);
-  plain = λ e m. plain e m;
-}
-  where
-    plain : (e : Edit) → Mem e (edits_of (job_of actor token changes base name)) → is_record_name actor e.name ≡ false
-    plain e (inl is) = ap (λ (x : Edit). is_record_name actor x.name) is ∙ plain-name actor name file
-    plain e (inr other) = absurd other
-
-is-job : (actor : List ℕ) (token : ℕ) (c : Change) (cs : List Change) (base : List (List ℕ)) → token < 2 ^ 64 → AreFiles actor (c ∷ cs) → IsOfOne (c ∷ cs) → IsJob (job_for actor token (c ∷ cs) base)
-is-job actor token c cs base fits files one =
-    let j = job_for actor token (c ∷ cs) base in
-    let file : is_file_name actor (name_of c) ≡ true = All-head (λ (x : Change). is_file_name actor (name_of x) ≡ true) c cs files in
-    let P : List (List ℕ) → Type 0 = λ ns. IsJob (record { actor = actor; token = token; edits = Some (map (edit_for (c ∷ cs) base) ns); refusal = j.refusal }) in
-    subst P (sym (named-once c cs one)) (one-job actor token (c ∷ cs) base (name_of c) fits file)
+use Rattle.commit_driver.proofs.SawLemmas.{AreNamed}
+use Rattle.commit_driver.proofs.JudgeLemmas.{are-named}
+use Rattle.folder_change.proofs.ApplyLemmas.{apply-alone}
+use Rattle.folder_commit.proofs.PlanLemmas.{is-job, all-of-job}
 
 -- the answer says how often there was a decision
 decided-so : (files : List (List ℕ)) (result : Result Unit CommitError) (end : Ending) (n : ℕ) → AnswersAs files result end → TellsDecisions end n → DecidedSo result n
@@ -95,39 +70,48 @@ no-cause : (o : Option ChangeRefusal) → option_map cause_of o ≡ None → o �
 no-cause None h = refl
 no-cause (Some why) h = absurd (cc)
 
--- a file of the changes is the job's
-named : (actor : List ℕ) (token : ℕ) (c : Change) (cs : List Change) (base : List (List ℕ)) → Mem (name_of c) (all_of (job_for actor token (c ∷ cs) base))
-named actor token c cs base = inl refl
+-- what changes are refused for depends on the files that they name
+alike : (names : List (List ℕ)) (cs : List Change) (base : List (List ℕ)) (files others : Files) → AreNamed names cs → ((n : List ℕ) → Mem n names → files n ≡ others n) → first_refusal cs base files ≡ first_refusal cs base others
+unfolding first_refusal apply
+alike names [] base files others named same = refl
+alike names (c ∷ cs) base files others named same =
+    let here : files (name_of c) ≡ others (name_of c) = same (name_of c) named.0 in
+    let later = alike names cs base (after files c base) (after others c base) named.1 (λ n m. apply-alone (c ∷ []) base files others n (same n m)) in
+    ap (λ (f : Option (List ℕ)). or_else (refusal_of (name_of c) (outcome_of f c base)) (first_refusal cs base (after files c base))) here
+    ∙ ap (λ (o : Option ChangeRefusal). or_else (refusal_of (name_of c) (outcome_of (others (name_of c)) c base)) o) later
 
-safely : (actor : List ℕ) (token : ℕ) (c : Change) (cs : List Change) (base : List (List ℕ)) (d : Disk) (es : List Event) (result : Result Unit CommitError) → IsJob (job_for actor token (c ∷ cs) base) → IsOfOne (c ∷ cs)
+safely : (actor : List ℕ) (token : ℕ) (c : Change) (cs : List Change) (base : List (List ℕ)) (d : Disk) (es : List Event) (result : Result Unit CommitError) → IsJob (job_for actor token (c ∷ cs) base)
     → MayCommit actor token d es → Honest d es → Commits (job_for actor token (c ∷ cs) base) (own es) result → CommitsSafely (job_for actor token (c ∷ cs) base) (c ∷ cs) base d es result
-safely actor token c cs base d es result job one may honest h =
+safely actor token c cs base d es result job may honest h =
     let j = job_for actor token (c ∷ cs) base in
     let run : IsRun j d es (Ended h.end) = record { job = job; fresh = may.fresh; sound = may.sound; goes = h.goes; honest = honest; lawful = may.lawful } in
     let G : List Event → Type 0 = λ es. IsRun j d es (Ended h.end) in
+    let names = all_of j in
+    let named = are-named names (c ∷ cs) (all-of-job actor token (c ∷ cs) base) in
     record {
       moments = λ front rest is. let x = front_is_run j d front rest (Ended h.end) (subst G is run) in crash_safe j d front x.0 x.1;
       stops = λ front rest e part is. stop_safe j d front e rest (Ended h.end) part (subst G is run);
-      decided = decided-so (all_of j) result h.end _ h.is_as (decisions_are_told j d es h.end run);
+      decided = decided-so names result h.end _ h.is_as (decisions_are_told j d es h.end run);
       fits = λ front rest e is at.
           let (files, due, none) = no_refused_is_decided j d front e rest (Ended h.end) (subst G is run) at in
           let now = files_after j d (settled_files j.actor d) front in
-          alone (c ∷ cs) base now files (name_of c) one (sym (due (name_of c) (named actor token c cs base))) ∙ no-cause (first_refusal (c ∷ cs) base files) none;
-      nothing_left = λ m. nothing_left j d es h.end (no-fault (all_of j) result h.end h.is_as m) run;
+          alike names (c ∷ cs) base now files named (λ n m. sym (due n m)) ∙ no-cause (first_refusal (c ∷ cs) base files) none;
+      nothing_left = λ m. nothing_left j d es h.end (no-fault names result h.end h.is_as m) run;
       right_given_up = right_is_given_up j d es h.end run;
       nothing_after_a_fault = λ front rest e is. nothing_after_a_fault j d front e rest (Ended h.end) (subst G is run);
     }
 
-is-safe : (actor : List ℕ) (token : ℕ) (changes : List Change) (base : List (List ℕ)) (d : Disk) (es : List Event) (result : Result Unit CommitError) → token < 2 ^ 64 → AreFiles actor changes → IsOfOne changes
+is-safe : (actor : List ℕ) (token : ℕ) (changes : List Change) (base : List (List ℕ)) (d : Disk) (es : List Event) (result : Result Unit CommitError) → token < 2 ^ 64 → AreFiles actor changes
     → MayCommit actor token d es → Honest d es → IsCommit actor token changes base (own es) result → IsSafe actor token changes base d es result
-is-safe actor token [] base d es result fits files one may honest h = tt
-is-safe actor token (c ∷ cs) base d es result fits files one may honest h = safely actor token c cs base d es result (is-job actor token c cs base fits files one) one may honest h
+is-safe actor token [] base d es result fits files may honest h = tt
+is-safe actor token (c ∷ cs) base d es result fits files may honest (inl many) = λ few. absurd (omega (arith, few, many.0))
+is-safe actor token (c ∷ cs) base d es result fits files may honest (inr h) = λ few. safely actor token c cs base d es result (is-job actor token (c ∷ cs) base fits files (omega arith) few) may honest h.1
 
 -- of a host that tells its trace
 pub ran-safely : {H : Type 0} {start : H → Disk} {told : H → Option (List Event)} {counts : H → Counts} {old new : H} (actor : List ℕ) (token : ℕ) (changes : List Change) (base : List (List ℕ)) (result : Result Unit CommitError) (before es : List Event)
-    → token < 2 ^ 64 → AreFiles actor changes → IsOfOne changes → Ran start told counts old new (λ own_ones. IsCommit actor token changes base own_ones result)
+    → token < 2 ^ 64 → AreFiles actor changes → Ran start told counts old new (λ own_ones. IsCommit actor token changes base own_ones result)
     → told old ≡ Some before → told new ≡ Some (before ++ es) → MayCommit actor token (disk (start old) before) es → IsSafe actor token changes base (disk (start old) before) es result
-ran-safely {start = start} {told = told} {old = old} actor token changes base result before es fits files one ran at to may =
+ran-safely {start = start} {told = told} {old = old} actor token changes base result before es fits files ran at to may =
     let t = ran.told_is (before ++ es) to in
     let same : Some before ≡ Some t.0 = sym at ∙ t.1 in
     let first : before ≡ t.0 = cc in
@@ -135,4 +119,4 @@ ran-safely {start = start} {told = told} {old = old} actor token changes base re
     let D : Disk → Type 0 = λ d. Honest d t.2.added in
     let E : List Event → Type 0 = λ xs. Honest (disk (start old) before) xs in
     let P : List Event → Type 0 = λ xs. IsCommit actor token changes base (own xs) result in
-    is-safe actor token changes base (disk (start old) before) es result fits files one may (subst E (sym added) (subst D (ap (disk (start old)) (sym first)) t.2.honest)) (subst P (sym added) t.2.own_ones)
+    is-safe actor token changes base (disk (start old) before) es result fits files may (subst E (sym added) (subst D (ap (disk (start old)) (sym first)) t.2.honest)) (subst P (sym added) t.2.own_ones)

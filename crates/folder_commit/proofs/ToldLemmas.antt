@@ -26,15 +26,16 @@ use Rattle.folder_change.specs.Apply.{Refusal as ChangeRefusal, apply, after, fi
 use Rattle.folder_change.proofs.ApplyLemmas.{apply-alone}
 use Rattle.commit_machine.specs.Edits.{edit_for, cause_of}
 use Rattle.commit_machine.specs.Restraints.{is_failed}
-use Rattle.folder_recovery.proofs.GoesLemmas.{placing_cons}
-use Rattle.folder_commit.specs.declared.error.Passed.TheVariants as passed
+use Rattle.commit_driver.proofs.StateLemmas.{placing-cons}
+use Rattle.commit_driver.specs.declared.step.Passed.TheVariants as passed
 use Rattle.folder_commit.specs.declared.error.CommitError.{CommitError}
 use Rattle.folder_commit.specs.declared.error.CommitError.TheVariants as error
-use Rattle.folder_commit.specs.Ends.{WantedAs, AnswersAs, Commits}
+use Rattle.commit_driver.specs.Places.{WantedAs}
+use Rattle.folder_commit.specs.Ends.{AnswersAs, Commits}
 use Rattle.folder_commit.specs.Told.{by_decision, by_changes, by_load, by_lock, by_standing, by_record, by_right, is_fault, TellsFaults, TellsEnd}
-use Rattle.folder_commit.specs.Judging.{AllOf}
-use Rattle.folder_commit.specs.Steps.{job_of}
-use Rattle.folder_commit.proofs.EndLemmas.{made_of, loaded-one, seen-here}
+use Rattle.folder_commit.specs.OneFile.{AllOf}
+use Rattle.folder_commit.specs.OneFile.{job_of}
+use Rattle.folder_commit.proofs.OneLemmas.{made_of, loaded-one, seen-here}
 use Rattle.folder_commit.proofs.CleanLemmas.{erase-is, publish-is, lock-is, unlock-is, seize-is, load-is, release-is, stage-is, AllQuiet, cleans-refusing, all-quiet}
 use Rattle.commit_machine.proofs.NameLemmas.{staged-new}
 
@@ -76,7 +77,7 @@ good_undoing r (n ∷ ns) ls th h = (h, refl)
 
 good_placing : (r : Record) (ns ls : List (List ℕ)) (th : Then) → CleanThen th → Good (placing r ns ls th)
 good_placing r [] ls th h = good_unlocking r ls th h
-good_placing r (n ∷ ns) ls th h = subst Good (sym (placing_cons r n ns ls th)) (h, refl)
+good_placing r (n ∷ ns) ls th h = subst Good (sym (placing-cons r n ns ls th)) (h, refl)
 
 good_mending : (r : Record) → Good (mending r)
 good_mending r = elim (cases_Bool (is_go r)) [ inl y ↦ rw y (good_placing r (names_of r) (names_of r) GoOn tt) | inr nay ↦ rw nay (good_undoing r (names_of r) (names_of r) GoOn tt) ]
@@ -354,7 +355,7 @@ module _ (actor : List ℕ) (token : ℕ) (changes : List Change) (base : List (
 
   so_placing : (r : Record) (ns ls : List (List ℕ)) (th : Then) → Ends_so (placing r ns ls th) (end_then th)
   so_placing r [] ls th = so_unlocking r ls th
-  so_placing r (n ∷ ns) ls th = subst (λ (s : State). Ends_so s (end_then th)) (sym (placing_cons r n ns ls th)) (tt, λ es. refl)
+  so_placing r (n ∷ ns) ls th = subst (λ (s : State). Ends_so s (end_then th)) (sym (placing-cons r n ns ls th)) (tt, λ es. refl)
 
   so_mending : (r : Record) → Ends_so (mending r) locks_from
   so_mending r = elim (cases_Bool (is_go r)) [ inl y ↦ rw y (so_placing r (names_of r) (names_of r) GoOn) | inr nay ↦ rw nay (so_undoing r (names_of r) (names_of r) GoOn) ]

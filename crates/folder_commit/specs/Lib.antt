@@ -1,8 +1,7 @@
 pub mod Names
 pub mod Ends
+pub mod OneFile
 pub mod Plans
-pub mod Judging
-pub mod Steps
 pub mod Commits
 pub mod Safe
 pub mod Told

@@ -1,42 +1,56 @@
--- What is made before a commit of one file begins.
-use Rattle.std.specs.Prelude.{◌≡◌, ℕ, List, [], ◌∷◌, All}
-use Rattle.host_port.specs.Names.{IsFileName}
+-- What is made before a commit begins.
+use Rattle.std.specs.Prelude.{◌≡◌, ◌<◌, ◌≤◌, ℕ, true, List, [], ◌∷◌, ◌++◌, map, length, All, if◌then◌else◌}
+use Rattle.std.specs.List.{list_any}
+use Rattle.std.specs.Str.{bytes_eq}
+use Rattle.std.specs.declared.result.Result.{Result}
+use Rattle.std.specs.declared.result.Result.TheVariants.{Ok, Err}
+use Rattle.folder_change.specs.declared.change.Change.{Change}
+use Rattle.folder_change.specs.Changes.{name_of}
 use Rattle.commit_record.specs.Format.{written}
 use Rattle.commit_record.specs.declared.record.Phase.{Phase}
 use Rattle.commit_record.specs.declared.record.Phase.TheVariants.{Prepare, Go}
 use Rattle.commit_record.specs.declared.record.EntryKind.TheVariants.{Replace}
+use Rattle.commit_record.specs.declared.record.Entry.{Entry}
 use Rattle.commit_record.specs.declared.record.Record.{Record}
-use Rattle.commit_machine.specs.Names.{record_name, new_name, staged_name}
-use Rattle.folder_commit.specs.declared.plan.Names.{Names}
-use Rattle.folder_commit.specs.declared.plan.Texts.{Texts}
+use Rattle.commit_machine.specs.Names.{record_name, new_name, right_name, staged_name}
+use Rattle.commit_machine.specs.Jobs.{entries_for}
+use Rattle.commit_machine.specs.Edits.{first_names}
+use Rattle.commit_driver.specs.declared.place.Plan.{Plan}
+use Rattle.folder_commit.specs.declared.error.CommitError.{CommitError}
+use Rattle.folder_commit.specs.declared.error.CommitError.TheVariants as error
+use Rattle.folder_commit.specs.Names.{is_file_name}
 
--- the record of a commit of one file
-abbrev pub one_record : Phase → ℕ → List ℕ → Record
-one_record phase token name = record { phase = phase; token = token; entries = record { kind = Replace; name = name } ∷ [] }
+-- each file may be changed by a commit of the actor
+abbrev pub AreFiles : List ℕ → List Change → Type 0
+AreFiles actor changes = All (λ c. is_file_name actor (name_of c) ≡ true) changes
 
--- the names of an actor
-pub record IsNames (actor : List ℕ) (names : Names) : Type 0 where
-  pub record_is : names.record ≡ record_name actor
-  pub new_is : names.new ≡ new_name actor
+-- entries of these names
+abbrev pub replaced : List (List ℕ) → List Entry
+replaced names = entries_for (λ n. Replace) names
 
--- the texts of a commit of one file
-pub record IsTexts (token : ℕ) (name : List ℕ) (texts : Texts) : Type 0 where
-  pub prepare_is : texts.prepare ≡ written (one_record Prepare token name)
-  pub go_is : texts.go ≡ written (one_record Go token name)
-  pub value_is : texts.value ≡ one_record Go token name
-  pub file_is : texts.file ≡ name
-  pub made_is : texts.made ≡ staged_name token name
-  pub staged_is : texts.staged ≡ staged_name token name ∷ []
+-- entries with one of this name at the end, unless it is there
+abbrev pub with_entry : List Entry → List ℕ → List Entry
+with_entry es name = if list_any (λ e. bytes_eq name e.name) es then es else es ++ record { kind = Replace; name = name } ∷ []
 
--- all that is made before the commit of an actor, with a token, of the file of this name
-abbrev pub AreReady : List ℕ → ℕ → List ℕ → Names → Texts → Type 0
-AreReady actor token name names texts = IsNames actor names × IsTexts token name texts
+abbrev pub record_for : Phase → ℕ → List (List ℕ) → Record
+record_for phase token names = record { phase = phase; token = token; entries = replaced names }
 
--- a host takes these names
-pub record AreSafe (names : Names) (texts : Texts) : Type 0 where
-  pub record_file : IsFileName names.record
-  pub new_file : IsFileName names.new
-  pub file_file : IsFileName texts.file
-  pub made_file : IsFileName texts.made
-  pub staged_files : All IsFileName texts.staged
-  pub entry_files : All (λ e. IsFileName e.name) texts.value.entries
+-- the plan of a commit of files of these names
+abbrev pub commit_plan : List ℕ → ℕ → List (List ℕ) → Plan
+commit_plan actor token names = record {
+  «record» = record_name actor;
+  new = new_name actor;
+  right = right_name actor;
+  commits = true;
+  value = record_for Go token names;
+  staged = map (λ e. staged_name token e.name) (replaced names);
+  prepare = written (record_for Prepare token names);
+  go = written (record_for Go token names);
+}
+
+-- the plan of a commit of changes, of 16 files at most
+abbrev pub Plans : List ℕ → ℕ → List Change → Result Plan CommitError → Type 0
+Plans actor token changes (Ok plan) = (length (first_names changes) ≤ 16) × (plan ≡ commit_plan actor token (first_names changes))
+Plans actor token changes (Err (error.TooManyNames count)) = (16 < length (first_names changes)) × (count ≡ length (first_names changes))
+Plans actor token changes (Err error.Memory) = Unit {0}
+Plans actor token changes (Err why) = ⊥

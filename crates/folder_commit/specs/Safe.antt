@@ -1,5 +1,5 @@
 -- What a commit leaves, whatever others lawfully do meanwhile and wherever it stops.
-use Rattle.std.specs.Prelude.{◌≡◌, ◌⊎◌, ℕ, true, false, List, [], ◌∷◌, ◌++◌, None}
+use Rattle.std.specs.Prelude.{◌≡◌, ◌⊎◌, ◌≤◌, ℕ, true, false, List, [], ◌∷◌, ◌++◌, None, length}
 use Rattle.std.specs.List.{list_any}
 use Rattle.std.specs.declared.result.Result.{Result}
 use Rattle.std.specs.declared.result.Result.TheVariants.{Ok, Err}
@@ -10,13 +10,13 @@ use Rattle.host_port.specs.Ends.{stopped}
 use Rattle.folder_change.specs.declared.change.Change.{Change}
 use Rattle.folder_change.specs.Apply.{first_refusal}
 use Rattle.commit_machine.specs.Jobs.{Job}
-use Rattle.commit_machine.specs.Edits.{job_for}
+use Rattle.commit_machine.specs.Edits.{first_names, job_for}
 use Rattle.commit_machine.specs.Lawful.{IsSound, IsFresh, HasRight, OthersAreLawful}
 use Rattle.commit_machine.specs.Due.{settled_files, is_decision, files_after}
 use Rattle.commit_machine.specs.Laws.{IsDue, in_flight, decisions}
 use Rattle.commit_machine.specs.Restraints.{is_failed, may_act}
-use Rattle.folder_commit.specs.declared.error.Passed.{Passed}
-use Rattle.folder_commit.specs.declared.error.Passed.TheVariants.{Before, After, Unknown}
+use Rattle.commit_driver.specs.declared.step.Passed.{Passed}
+use Rattle.commit_driver.specs.declared.step.Passed.TheVariants.{Before, After, Unknown}
 use Rattle.folder_commit.specs.declared.error.CommitError.{CommitError}
 use Rattle.folder_commit.specs.declared.error.CommitError.TheVariants as error
 
@@ -56,7 +56,7 @@ pub record CommitsSafely (j : Job) (changes : List Change) (base : List (List �
   pub right_given_up : (HasRight j.actor d → ⊥) → HasRight j.actor (disk d es) → ⊥
   pub nothing_after_a_fault : (front rest : List Event) (e : Event) → es ≡ front ++ e ∷ rest → is_failed e ≡ true → list_any may_act rest ≡ false
 
--- the same of a commit of changes; without a change there is none
+-- the same of a commit of changes of 16 files at most; without a change there is none
 abbrev pub IsSafe : List ℕ → ℕ → List Change → List (List ℕ) → Disk → List Event → Result Unit CommitError → Type 0
 IsSafe actor token [] base d es result = Unit {0}
-IsSafe actor token (c ∷ cs) base d es result = CommitsSafely (job_for actor token (c ∷ cs) base) (c ∷ cs) base d es result
+IsSafe actor token (c ∷ cs) base d es result = length (first_names (c ∷ cs)) ≤ 16 → CommitsSafely (job_for actor token (c ∷ cs) base) (c ∷ cs) base d es result

@@ -18,10 +18,11 @@ use Rattle.commit_machine.specs.Records.{record_of}
 use Rattle.commit_machine.specs.Jobs.{Busy, NotARecord, TooLarge, Changed, Ending, Done, Refused, NoMemory}
 use Rattle.commit_machine.specs.Edits.{cause_of}
 use Rattle.commit_machine.specs.Restraints.{is_failed}
-use Rattle.folder_commit.specs.declared.error.Passed.TheVariants.{Unknown}
+use Rattle.commit_driver.specs.declared.step.Passed.TheVariants.{Unknown}
 use Rattle.folder_commit.specs.declared.error.CommitError.{CommitError}
 use Rattle.folder_commit.specs.declared.error.CommitError.TheVariants as error
-use Rattle.folder_commit.specs.Ends.{WantedAs}
+use Rattle.commit_driver.specs.Places.{WantedAs}
+use Rattle.folder_commit.specs.OneFile.{AllOf}
 
 -- from the decision's record on: it is published
 abbrev pub by_decision : List Event → Ending
@@ -109,8 +110,8 @@ TellsEnd file end (Err (error.Disk passed)) = Unit {0}
 TellsEnd file end (Err error.Memory) = WantedAs (file ∷ []) end
 TellsEnd file end (Err (error.TooManyNames count)) = ⊥
 
--- The answer is as the own events give it, in this order: a call failed, where it says too whether anything is known of the decision; the right or the
+-- Where all changes are of one file, the answer is as the own events give it, in this order: a call failed, where it says too whether anything is known of the decision; the right or the
 -- record that stands refused it; the file's lock, its load and the changes of it did; or it was decided.
 abbrev pub IsTold : List ℕ → List Change → List (List ℕ) → List Event → Result Unit CommitError → Type 0
 IsTold actor [] base es result = TellsFaults es result × TellsUnknown es result
-IsTold actor (c ∷ cs) base es result = TellsFaults es result × TellsUnknown es result × TellsEnd (name_of c) (by_right actor (c ∷ cs) base (name_of c) es) result
+IsTold actor (c ∷ cs) base es result = TellsFaults es result × TellsUnknown es result × (AllOf (name_of c) (c ∷ cs) → TellsEnd (name_of c) (by_right actor (c ∷ cs) base (name_of c) es) result)

@@ -1,13 +1,12 @@
-//! A commit: changes of a file that are made whole or not at all.
+//! A commit: changes of files that are made whole or not at all.
 #![tactic(auto)]
 
 mod error;
-mod judge;
 mod names;
 mod plan;
 mod run;
-mod steps;
 
-pub use error::{CommitError, Passed};
+pub use commit_driver::Passed;
+pub use error::CommitError;
 pub use names::is_file_name;
 pub use run::commit;

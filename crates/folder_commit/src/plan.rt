@@ -1,103 +1,104 @@
 // What is made before a commit begins, so that nothing that follows its decision wants memory.
-ghost use Rattle.std.specs.Prelude.{◌≡◌, ◌∷◌, [], true, IfOk};
+ghost use Rattle.std.specs.Prelude.{◌≡◌, ◌≤◌, true, length, map, IfOk, OnOk};
+ghost use Rattle.std.specs.List.{list_any};
+ghost use Rattle.std.specs.Str.{bytes_eq};
+ghost use Rattle.commit_machine.specs.Edits.{first_names};
 ghost use Rattle.commit_machine.specs.Names.{staged_name};
-ghost use Rattle.commit_record.specs.Format.{written};
-ghost use Rattle.commit_record.specs.Names.{is_lawful};
-ghost use Rattle.folder_commit.specs.Plans.{IsNames, IsTexts, one_record};
+ghost use Rattle.folder_commit.specs.Plans.{Plans, AreFiles, replaced, with_entry};
 
-use commit_machine::{new_name, record_name, staged_name};
+use crate::CommitError;
+use commit_driver::Plan;
+use commit_machine::{new_name, record_name, right_name, staged_name};
 use commit_record::{Entry, EntryKind, Phase, Record, write};
+use folder_change::{Change, change_name};
 use mail_text::{Items, Memory, Text};
 use std::alloc::Global;
 
-/// The names where an actor's record stands and is made.
-#[derive(Drop)]
-pub struct Names {
-    /// The name of its record.
-    pub record: Text,
-    /// The name where a record is made.
-    pub new: Text,
-}
+/// The most files of a commit.
+const MOST_NAMES: usize = 16;
 
-/// The texts of a commit of one file.
-#[derive(Drop)]
-pub struct Texts {
-    /// The record before the decision.
-    pub prepare: Text,
-    /// The record of the decision.
-    pub go: Text,
-    /// The same as a value.
-    pub value: Record,
-    /// The file's name.
-    pub file: Text,
-    /// The name where the file is made.
-    pub made: Text,
-    /// The same in a list.
-    pub staged: Items<Text>,
-}
-
-/// The names where an actor's record stands and is made.
-pub fn names_of(alloc: Global, actor: &[u8]) -> Result<Names, Memory>
-    ensures { IfOk result (λ n. IsNames actor.now n) }
+// Whether an entry has this name.
+fn has_name(entries: &[Entry], name: &[u8]) -> bool
+    ensures { result ≡ list_any (λ e. bytes_eq name.now e.name) entries.now }
 {
-    let record = record_name(alloc, actor)?;
-    let new = new_name(alloc, actor)?;
-    Ok(Names { record, new })
+    entries.iter().any(|entry| name == entry.name.bytes())
 }
 
-// The record of a commit of one file.
-fn record_for(alloc: Global, phase: Phase, token: u64, name: &[u8]) -> Result<Record, Memory>
-    ensures { IfOk result (λ r. r ≡ one_record phase token name.now) }
+// Puts an entry of this name at the end, unless it is there.
+fn put_entry(alloc: Global, entries: &mut Items<Entry>, name: &[u8]) -> Result<(), Memory>
+    ensures { OnOk result (entries.new ≡ with_entry entries.old name.now) }
 {
+    if has_name(entries.items(), name) {
+        return Ok(());
+    }
     let name = Text::copy(alloc, name)?;
-    let mut entries = Items::new(alloc);
     entries.push(Entry {
         kind: EntryKind::Replace,
         name,
-    })?;
-    Ok(Record {
-        phase,
-        token,
-        entries,
     })
 }
 
-// The text of the record of a commit of one file.
-fn text_for(alloc: Global, phase: Phase, token: u64, name: &[u8]) -> Result<Text, Memory>
-    requires { is_lawful name.now ≡ true }
-    ensures { IfOk result (λ t. t ≡ written (one_record phase token name.now)) }
+// An entry of each file that changes name, in order of first naming.
+fn entries_for(alloc: Global, changes: &[Change]) -> Result<Items<Entry>, Memory>
+    ensures { IfOk result (λ es. es ≡ replaced (first_names changes.now)) }
 {
-    let value = record_for(alloc, phase, token, name)?;
-    write(alloc, &value)
+    let mut entries = Items::new(alloc);
+    for change in changes {
+        put_entry(alloc, &mut entries, change_name(change))?;
+    }
+    Ok(entries)
 }
 
-// The staged name of a file, as a list of one.
-fn staged_for(alloc: Global, token: u64, name: &[u8]) -> Result<Items<Text>, Memory>
-    ensures { IfOk result (λ s. s ≡ staged_name token name.now ∷ []) }
+// The staged names of entries, in order.
+fn staged_names(alloc: Global, token: u64, entries: &[Entry]) -> Result<Items<Text>, Memory>
+    ensures { IfOk result (λ s. s ≡ map (λ e. staged_name token e.name) entries.now) }
 {
-    let staged = staged_name(alloc, token, name)?;
-    let mut list = Items::new(alloc);
-    list.push(staged)?;
-    Ok(list)
+    let mut staged = Items::new(alloc);
+    for entry in entries {
+        let name = staged_name(alloc, token, entry.name.bytes())?;
+        staged.push(name)?;
+    }
+    Ok(staged)
 }
 
-/// The texts of a commit of one file.
-pub fn texts_for(alloc: Global, token: u64, name: &[u8]) -> Result<Texts, Memory>
-    requires { is_lawful name.now ≡ true }
-    ensures { IfOk result (λ t. IsTexts token name.now t) }
+/// The plan of a commit of these changes: `TooManyNames` where they name more than 16 files.
+pub fn plan_for(
+    alloc: Global,
+    actor: &[u8],
+    token: u64,
+    changes: &[Change],
+) -> Result<Plan, CommitError>
+    requires files { AreFiles actor.now changes.now }
+    requires some { 1 ≤ length changes.now }
+    ensures { Plans actor.now token changes.now result }
 {
-    let prepare = text_for(alloc, Phase::Prepare, token, name)?;
-    let go = text_for(alloc, Phase::Go, token, name)?;
-    let value = record_for(alloc, Phase::Go, token, name)?;
-    let file = Text::copy(alloc, name)?;
-    let made = staged_name(alloc, token, name)?;
-    let staged = staged_for(alloc, token, name)?;
-    Ok(Texts {
+    let entries = entries_for(alloc, changes)?;
+    let count = entries.items().len();
+    if count > MOST_NAMES {
+        return Err(CommitError::TooManyNames {
+            count: count as u64,
+        });
+    }
+    let record = record_name(alloc, actor)?;
+    let new = new_name(alloc, actor)?;
+    let right = right_name(alloc, actor)?;
+    let staged = staged_names(alloc, token, entries.items())?;
+    let mut value = Record {
+        phase: Phase::Prepare,
+        token,
+        entries,
+    };
+    let prepare = write(alloc, &value)?;
+    value.phase = Phase::Go;
+    let go = write(alloc, &value)?;
+    Ok(Plan {
+        record,
+        new,
+        right,
+        commits: true,
+        value,
+        staged,
         prepare,
         go,
-        value,
-        file,
-        made,
-        staged,
     })
 }

@@ -1,108 +1,105 @@
 // A commit, with its right.
-ghost use Rattle.std.specs.Prelude.{◌≡◌, ◌≤◌, ◌++◌, ℕ, List, Some, true, length, All, IsTrue, IsSome, option_copied};
+ghost use Rattle.std.specs.Prelude.{◌≡◌, ◌≤◌, ◌<◌, ◌++◌, ℕ, List, Some, true, length, All, IsTrue, IsSome, IfOk, option_copied};
 ghost use Rattle.host_port.specs.Names.{has_no_zero};
 ghost use Rattle.host_port.specs.Ran.{Ran};
 ghost use Rattle.host_port.specs.Disk.{disk};
 ghost use Rattle.host_port.specs.declared.event.Event.{Event};
 ghost use Rattle.folder_change.specs.Changes.{is_rewrite};
 ghost use Rattle.folder_change.specs.Outcomes.{base_list};
-ghost use Rattle.folder_commit.specs.Names.{is_file_name};
-ghost use Rattle.folder_commit.specs.Judging.{AllOf};
-ghost use Rattle.folder_commit.specs.Ends.{Commits, CommitCause, AreNamed};
-ghost use Rattle.folder_commit.specs.Plans.{AreReady, AreSafe};
-ghost use Rattle.folder_commit.specs.Steps.{job_of};
+ghost use Rattle.commit_machine.specs.Records.{names_of};
+ghost use Rattle.commit_driver.specs.Steps.{EndFits};
+ghost use Rattle.commit_driver.specs.Places.{nth, files_of};
+ghost use Rattle.folder_commit.specs.Ends.{CommitCause};
+ghost use Rattle.folder_commit.specs.Plans.{AreFiles};
 ghost use Rattle.folder_commit.specs.Told.{IsTold};
 ghost use Rattle.folder_commit.specs.Safe.{MayCommit, IsSafe};
-ghost use Rattle.folder_commit.specs.Commits.{IsOfOne, AreFiles, IsCommit, IsNamed, answer_of};
+ghost use Rattle.folder_commit.specs.Commits.{IsCommit, IsNamed, answer_of};
 
-use crate::error::{CommitError, Passed, Stop};
-use crate::plan::{Names, Texts, names_of, texts_for};
-use crate::steps::change;
-use commit_driver::calls::{release, seize};
-use commit_machine::{record_name, right_name};
-use folder_change::{Change, change_name};
-use host_port::{DiskFault, Host};
-use mail_text::Text;
+use crate::CommitError;
+use crate::plan::plan_for;
+use commit_driver::{End, Place, Plan, drive};
+use folder_change::Change;
+use host_port::Host;
+use mail_text::{Items, Memory, Text};
 use mbox_scan::Folder;
 use std::alloc::Global;
 
-// The answer of a commit of the file of this name; `name` is the record's.
-fn answer(done: Result<(), Stop>, file: Text, name: Text) -> Result<(), CommitError>
-    ensures { result ≡ answer_of done file name }
+// Room for so many files.
+fn room(alloc: Global, count: usize) -> Result<Items<Option<Text>>, Memory>
+    ensures { IfOk result (λ files. length files ≡ count) }
 {
-    match done {
-        Ok(()) => Ok(()),
-        Err(Stop::Busy) => Err(CommitError::Busy { name: file }),
-        Err(Stop::Record) => Err(CommitError::Record),
-        Err(Stop::Changed { at }) => Err(CommitError::Changed { name: file, at }),
-        Err(Stop::LongRecord { length }) => Err(CommitError::TooLarge { name, length }),
-        Err(Stop::TooLarge { length }) => Err(CommitError::TooLarge { name: file, length }),
-        Err(Stop::Disk { passed }) => Err(CommitError::Disk { passed }),
-        Err(Stop::Memory) => Err(CommitError::Memory),
+    let mut files = Items::new(alloc);
+    for at in 0..count {
+        prove!(at < count);
+        files.push(None)?;
+    }
+    Ok(files)
+}
+
+// The name of the file with this number.
+fn file_name(plan: Plan, at: usize) -> Text
+    requires { at < files_of plan }
+    ensures { result ≡ nth (names_of plan.value) at }
+{
+    let mut entries = plan.value.entries.into_vec();
+    entries.remove(at).name
+}
+
+// The answer of a commit that ended so.
+fn answer(end: End, plan: Plan) -> Result<(), CommitError>
+    requires { EndFits (files_of plan) end }
+    ensures { result ≡ answer_of end plan }
+{
+    match end {
+        End::Done => Ok(()),
+        End::RightBusy => Err(CommitError::Busy { name: plan.right }),
+        End::Busy(at) => Err(CommitError::Busy {
+            name: file_name(plan, at),
+        }),
+        End::RecordTooLarge(length) => Err(CommitError::TooLarge {
+            name: plan.record,
+            length,
+        }),
+        End::TooLarge(at, length) => Err(CommitError::TooLarge {
+            name: file_name(plan, at),
+            length,
+        }),
+        End::Changed(at, message) => Err(CommitError::Changed {
+            name: file_name(plan, at),
+            at: message,
+        }),
+        End::Failed(passed) => Err(CommitError::Disk { passed }),
+        End::NoMemory => Err(CommitError::Memory),
+        End::NotARecord | End::Recovered(_) => Err(CommitError::Record),
     }
 }
 
-// Makes the changes of one file between the seizure of the right and its release.
-fn bracket<H: Host>(
-    alloc: Global,
-    actor: &[u8],
-    names: &Names,
-    texts: &Texts,
-    changes: &[Change],
-    base: Option<&Folder>,
-    host: &mut H,
-) -> Result<(), CommitError>
-    requires short { length actor.now ≤ 4021 }
-    requires no_zero { has_no_zero actor.now ≡ true }
-    requires safe { AreSafe names.now texts.now }
-    requires based { All (λ c. IsTrue (is_rewrite c) → IsSome base) changes.now }
-    ensures ran { (token : ℕ) (name : List ℕ) → AreReady actor.now token name names.now texts.now → AllOf name changes.now → Ran H.start H.told H.counts host.old host.new (λ es. Commits (job_of actor.now token changes.now (base_list (option_copied base.entry)) name) es result) }
-    ensures cause { CommitCause (H.counts host.old) (H.counts host.new) result }
-    ensures named { AreNamed actor.now texts.now.file result }
-{
-    let name = record_name(alloc, actor)?;
-    let right = right_name(alloc, actor)?;
-    let file = Text::copy(alloc, texts.file.bytes())?;
-    match seize(host, right.bytes()) {
-        Ok(true) => {
-            let done = change(alloc, host, names, texts, changes, base);
-            release(host, right.bytes());
-            answer(done, file, name)
-        }
-        Ok(false) => Err(CommitError::Busy { name: right }),
-        Err(DiskFault) => {
-            release(host, right.bytes());
-            Err(CommitError::Disk {
-                passed: Passed::Before,
-            })
-        }
-    }
-}
-
-// Makes the changes of the file of this name.
-fn commit_one<H: Host>(
+// A commit of one change at least, as a run of the machine.
+fn some_changes<H: Host>(
     alloc: Global,
     actor: &[u8],
     token: u64,
-    name: &[u8],
     changes: &[Change],
     base: Option<&Folder>,
     host: &mut H,
 ) -> Result<(), CommitError>
     requires short { length actor.now ≤ 4021 }
     requires no_zero { has_no_zero actor.now ≡ true }
-    requires file { is_file_name actor.now name.now ≡ true }
+    requires files { AreFiles actor.now changes.now }
+    requires some { 1 ≤ length changes.now }
     requires based { All (λ c. IsTrue (is_rewrite c) → IsSome base) changes.now }
-    ensures ran { AllOf name.now changes.now → Ran H.start H.told H.counts host.old host.new (λ es. Commits (job_of actor.now token changes.now (base_list (option_copied base.entry)) name.now) es result) }
+    ensures ran { Ran H.start H.told H.counts host.old host.new (λ es. IsCommit actor.now token changes.now (base_list (option_copied base.entry)) es result) }
     ensures cause { CommitCause (H.counts host.old) (H.counts host.new) result }
-    ensures named { AreNamed actor.now name.now result }
+    ensures named { IsNamed actor.now changes.now result }
 {
-    let names = names_of(alloc, actor)?;
-    let texts = texts_for(alloc, token, name)?;
-    bracket(alloc, actor, &names, &texts, changes, base, host)
+    let plan = plan_for(alloc, actor, token, changes)?;
+    let files = room(alloc, plan.value.entries.items().len())?;
+    let place = Place::new(alloc, files);
+    let end = drive(alloc, &plan, place, changes, base, host);
+    answer(end, plan)
 }
 
-// The whole of it, as a run of the machine.
+// The whole of it.
 fn whole<H: Host>(
     alloc: Global,
     actor: &[u8],
@@ -114,7 +111,6 @@ fn whole<H: Host>(
     requires short { length actor.now ≤ 4021 }
     requires no_zero { has_no_zero actor.now ≡ true }
     requires files { AreFiles actor.now changes.now }
-    requires one { IsOfOne changes.now }
     requires based { All (λ c. IsTrue (is_rewrite c) → IsSome base) changes.now }
     ensures ran { Ran H.start H.told H.counts host.old host.new (λ es. IsCommit actor.now token changes.now (base_list (option_copied base.entry)) es result) }
     ensures cause { CommitCause (H.counts host.old) (H.counts host.new) result }
@@ -122,15 +118,15 @@ fn whole<H: Host>(
 {
     match changes {
         [] => Ok(()),
-        [first, ..] => commit_one(alloc, actor, token, change_name(first), changes, base, host),
+        [_, ..] => some_changes(alloc, actor, token, changes, base, host),
     }
 }
 
-/// Makes changes of a file as one commit: stopped at any moment, a recovery leaves all of them or none. The actor's right is
+/// Makes changes of up to 16 files as one commit: stopped at any moment, a recovery leaves all of them or none. The actor's right is
 /// taken first and given up at the end, and a commit that was stopped before is recovered. `token` is a number that no other
 /// run has. `base` is the folder for which a rewrite among the changes was made. Without a change nothing is done.
 ///
-/// `Busy` comes where another has the right or the file's lock, `Record` where what stands as the record is none, `Changed`
+/// `TooManyNames` comes where the changes name more than 16 files; then nothing is done. `Busy` comes where another has the right or a file's lock, `Record` where what stands as the record is none, `Changed`
 /// where the file's messages don't begin with those of `base`, and `TooLarge` where a file that is loaded or would be staged
 /// is too large. Then, as where memory is wanting, nothing is changed and nothing of this commit is left. `Disk` comes where a
 /// call failed; then nothing more is done but that the right is given up, and `passed` says whether the commit was decided.
@@ -145,7 +141,6 @@ pub fn commit<H: Host>(
     requires short { length actor.now ≤ 4021 }
     requires no_zero { has_no_zero actor.now ≡ true }
     requires files { AreFiles actor.now changes.now }
-    requires one { IsOfOne changes.now }
     requires based { All (λ c. IsTrue (is_rewrite c) → IsSome base) changes.now }
     ensures ran { Ran H.start H.told H.counts host.old host.new (λ es. IsCommit actor.now token changes.now (base_list (option_copied base.entry)) es result) }
     ensures told { Ran H.start H.told H.counts host.old host.new (λ es. IsTold actor.now changes.now (base_list (option_copied base.entry)) es result) }

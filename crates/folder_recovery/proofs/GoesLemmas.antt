@@ -1,5 +1,5 @@
 -- The ends that a recovery may come to.
-use Rattle.std.proofs.Common.{◌≡◌, ◌⊎◌, ℕ, Bool, true, false, List, [], ◌∷◌, ◌++◌, refl, ap, sym, subst, inl, inr}
+use Rattle.std.proofs.Common.{◌≡◌, ◌⊎◌, ℕ, Bool, true, false, List, [], ◌∷◌, refl, sym, subst, inl, inr}
 use Rattle.std.specs.declared.option.Option.{Option}
 use Rattle.std.specs.declared.option.Option.TheVariants.{Some, None}
 use Rattle.std.proofs.lemmas.Bool.{cases_Bool}
@@ -8,24 +8,9 @@ use Rattle.commit_record.specs.declared.record.Record.{Record}
 use Rattle.commit_machine.specs.Records.{record_of, is_go, names_of}
 use Rattle.commit_machine.specs.Jobs.{Passed, Before, Ending, Recovered, Refused, Failed, NoMemory, Job}
 use Rattle.commit_machine.specs.Edits.{recovery_for}
-use Rattle.commit_machine.specs.Machine.{State, Call, next, Seizing, Looking, Undoing, Placing, Unlocking, Erasing, Clearing, Releasing, Ended, Then, GoOn, Reply, Went, Saw, Long, Short, Fault, unlocking, undoing, placing, mending, record_seen, refused, after_reply, passed_at, passed_ending}
-use Rattle.commit_machine.specs.Goes.{IsNext, reply, Goes}
-use Rattle.commit_machine.proofs.GoesLemmas.{stretches_join}
-use Rattle.commit_driver.specs.Did.{Did}
+use Rattle.commit_machine.specs.Machine.{State, Seizing, Looking, Undoing, Placing, Unlocking, Erasing, Clearing, Releasing, Ended, Then, GoOn, Reply, Went, Saw, Long, Short, Fault, unlocking, undoing, placing, mending, record_seen, refused, after_reply, passed_at, passed_ending}
+use Rattle.commit_machine.specs.Goes.{reply, Goes}
 use Rattle.commit_driver.proofs.StateLemmas.{placing-cons}
-
-pub goes_then : (j : Job) (s mid last : State) (xs ys : List Event) → Goes j s xs mid → Goes j mid ys last → Goes j s (xs ++ ys) last
-goes_then j s mid last xs ys h more = stretches_join j s mid last xs ys h more
-
--- one call
-pub goes_call : (j : Job) (s : State) (c : Call) (r : Reply) (es : List Event) → next j s ≡ Some c → Did c r es → Goes j s es (after_reply j s r)
-goes_call j s c r es call did =
-    subst (λ (z : List Event). Goes j s z (after_reply j s r)) (sym did.is)
-    (s, inl refl, subst (λ (o : Option Call). IsNext o did.event) (sym call) did.of, inl (ap (after_reply j s) did.replies))
-
--- a call more
-pub goes_more : (j : Job) (s mid : State) (c : Call) (r : Reply) (xs ys : List Event) → next j mid ≡ Some c → Goes j s xs mid → Did c r ys → Goes j s (xs ++ ys) (after_reply j mid r)
-goes_more j s mid c r xs ys call h did = goes_then j s mid (after_reply j mid r) xs ys h (goes_call j mid c r ys call did)
 
 pub placing_cons : (r : Record) (n : List ℕ) (ns ls : List (List ℕ)) (th : Then) → placing r (n ∷ ns) ls th ≡ Placing r n ns ls th
 placing_cons r n ns ls th = placing-cons r n ns ls th

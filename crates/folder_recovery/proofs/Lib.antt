@@ -1,7 +1,4 @@
 pub mod GoesLemmas
-pub mod ClosingLemmas
-pub mod CountLemmas
-pub mod MendLemmas
 pub mod RecoverLemmas
 pub mod SafeLemmas
 pub mod ToldLemmas

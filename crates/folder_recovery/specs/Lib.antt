@@ -1,5 +1,3 @@
 pub mod Recovering
-pub mod Closing
-pub mod Mending
 pub mod Safe
 pub mod Told

@@ -1,23 +1,6 @@
 use mail_text::{Memory, Text};
 use thiserror::Error;
 
-/// Why the record that stands couldn't be done with.
-#[derive(Clone, Copy, Debug, PartialEq, Eq, Error)]
-pub enum MendError {
-    /// The file of the record is no record.
-    #[error("not a record")]
-    NotARecord,
-    /// The file of the record has so many bytes, more than a load takes.
-    #[error("too large: {length} bytes")]
-    TooLarge { length: u64 },
-    /// A call on the disk failed.
-    #[error("disk fault")]
-    Disk,
-    /// Want of memory.
-    #[error("out of memory")]
-    Memory,
-}
-
 /// Why a recovery wasn't done.
 #[derive(Debug, Drop, Error)]
 pub enum RecoverError {

@@ -1,6 +1,5 @@
 pub mod TableLemmas
 pub mod WordLemmas
-pub mod FrontLemmas
 pub mod LineLemmas
 pub mod SpellingLaws
 pub mod NamedLaws

@@ -7,7 +7,8 @@ use Rattle.line_words.specs.declared.line.CommandLine.{CommandLine}
 use Rattle.line_words.specs.declared.line.LineError.{LineError}
 use Rattle.line_words.specs.declared.line.LineError.TheVariants.{TooLong, Unknown, OpenQuote, Memory}
 use Rattle.line_words.specs.Spellings.{command_of}
-use Rattle.line_words.specs.Words.{is_blank, words_of}
+use Rattle.line_words.specs.Words.{words_of}
+use Rattle.mail_text.specs.Ascii.{is_blank}
 use Rattle.line_words.specs.Line.{text_of, word_length, command_word, after_word, command_named, command_in, takes_rest, with_words, read_named, reading, IsUnknown, IsOpen, OrMemory, ComesWhere}
 
 pub reading_long : (line : List ℕ) → 65536 < length line → reading line ≡ Err TooLong

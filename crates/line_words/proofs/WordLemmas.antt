@@ -7,7 +7,8 @@ use Rattle.line_words.specs.declared.cut.Place.TheVariants.{Between, Word, Escap
 use Rattle.line_words.specs.declared.cut.Act.{Act}
 use Rattle.line_words.specs.declared.cut.Act.TheVariants.{Pass, Keep, End}
 use Rattle.line_words.specs.declared.cut.Step.{Step}
-use Rattle.line_words.specs.Words.{is_blank, is_quote, unquoted, words_from}
+use Rattle.line_words.specs.Words.{is_quote, unquoted, words_from}
+use Rattle.mail_text.specs.Ascii.{is_blank}
 use Rattle.line_words.specs.Cutting.{unquoted_step, step_of, joined, gives, IsReady}
 
 abbrev pub Words : Type 0

@@ -4,7 +4,8 @@ use Rattle.std.proofs.lemmas.Bool.{cond-true, cond-false, eq-eqb, eqb-true, and_
 use Rattle.std.specs.Option.{option_map}
 use Rattle.std.specs.List.{list_all, onto_first}
 use Rattle.line_words.specs.declared.cut.Place.TheVariants.{Between, Word, Quoted}
-use Rattle.line_words.specs.Words.{is_blank, is_quote, words_from}
+use Rattle.line_words.specs.Words.{is_quote, words_from}
+use Rattle.mail_text.specs.Ascii.{is_blank}
 use Rattle.line_words.specs.Cutting.{joined}
 use Rattle.line_words.specs.Laws.{is_plain, Writes, WritesAll, WordsReadBack}
 use Rattle.line_words.proofs.WordLemmas.{Words, map-map, has_first}

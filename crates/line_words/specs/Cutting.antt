@@ -6,7 +6,8 @@ use Rattle.line_words.specs.declared.cut.Place.TheVariants.{Between, Word, Escap
 use Rattle.line_words.specs.declared.cut.Act.{Act}
 use Rattle.line_words.specs.declared.cut.Act.TheVariants.{Pass, Keep, End}
 use Rattle.line_words.specs.declared.cut.Step.{Step}
-use Rattle.line_words.specs.Words.{is_blank, is_quote, words_from}
+use Rattle.line_words.specs.Words.{is_quote, words_from}
+use Rattle.mail_text.specs.Ascii.{is_blank}
 
 -- this becomes of the byte, and the next one stands there
 abbrev pub goes : Place → Act → Step

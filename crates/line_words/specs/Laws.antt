@@ -6,7 +6,8 @@ use Rattle.std.specs.declared.cmp.Ordering.TheVariants.{Less}
 use Rattle.std.specs.List.{Contains, AllPairs, list_all}
 use Rattle.line_words.specs.declared.command.Command.{Command}
 use Rattle.line_words.specs.Spellings.{Spelling, spellings, is_met, command_of, names}
-use Rattle.line_words.specs.Words.{is_blank, is_quote, words_of}
+use Rattle.line_words.specs.Words.{is_quote, words_of}
+use Rattle.mail_text.specs.Ascii.{is_blank}
 
 -- the word meets a spelling of the command
 abbrev pub Names : List ℕ → Command → Type 0

@@ -8,7 +8,8 @@ use Rattle.line_words.specs.declared.line.CommandLine.{CommandLine}
 use Rattle.line_words.specs.declared.line.LineError.{LineError}
 use Rattle.line_words.specs.declared.line.LineError.TheVariants.{TooLong, Unknown, OpenQuote, Memory}
 use Rattle.line_words.specs.Spellings.{command_of}
-use Rattle.line_words.specs.Words.{is_blank, words_of}
+use Rattle.line_words.specs.Words.{words_of}
+use Rattle.mail_text.specs.Ascii.{is_blank}
 
 -- a command line has 65,536 bytes at most
 abbrev pub is_long : List ℕ → Bool

@@ -4,10 +4,7 @@ use Rattle.std.specs.Option.{option_map}
 use Rattle.std.specs.List.{onto_first}
 use Rattle.line_words.specs.declared.cut.Place.{Place}
 use Rattle.line_words.specs.declared.cut.Place.TheVariants.{Between, Word, Escaped, Quoted}
-
--- a space or a tab
-abbrev pub is_blank : ℕ → Bool
-is_blank b = b == 32 || b == 9
+use Rattle.mail_text.specs.Ascii.{is_blank}
 
 -- a double or a single quote
 abbrev pub is_quote : ℕ → Bool

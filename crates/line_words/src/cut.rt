@@ -1,9 +1,10 @@
 // A line cut into words.
 ghost use Rattle.std.specs.Prelude.{◌≡◌, [], ◌∷◌, ◌++◌, IfOk};
-ghost use Rattle.line_words.specs.Words.{is_blank, words_of};
+ghost use Rattle.line_words.specs.Words.{words_of};
+ghost use Rattle.mail_text.specs.Ascii.{is_blank};
 ghost use Rattle.line_words.specs.Cutting.{step_of, unquoted_step, gives, IsReady};
 
-use mail_text::{Items, Memory, Text};
+use mail_text::{Items, Memory, Text, is_blank};
 use std::alloc::Global;
 use std::mem;
 
@@ -36,13 +37,6 @@ pub(crate) enum Act {
 pub(crate) struct Step {
     place: Place,
     act: Act,
-}
-
-// Whether the byte is a space or a tab.
-pub(crate) fn is_blank(byte: u8) -> bool
-    ensures { result ≡ is_blank byte }
-{
-    byte == b' ' || byte == b'\t'
 }
 
 // The step at a byte outside quotes that is no blank.

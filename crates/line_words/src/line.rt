@@ -1,13 +1,13 @@
 ghost use Rattle.std.specs.Prelude.{◌≡◌, ◌⊎◌, ◌<◌, ◌≤◌, ℕ, List, length};
 ghost use Rattle.std.specs.List.{prefix_len};
 ghost use Rattle.std.specs.Char.{is_ascii_alphabetic};
-ghost use Rattle.line_words.specs.Words.{is_blank};
+ghost use Rattle.mail_text.specs.Ascii.{is_blank};
 ghost use Rattle.line_words.specs.Line.{is_mark, word_length, command_named, takes_rest, read_as, reading, IsUnknown, IsOpen, OrMemory, ComesWhere};
 
 use crate::Command;
-use crate::cut::{is_blank, words_of};
+use crate::cut::words_of;
 use crate::table::command_of;
-use mail_text::{Items, Memory, Text};
+use mail_text::{Items, Memory, Text, is_blank};
 use std::alloc::Global;
 use thiserror::Error;
 

@@ -14,3 +14,4 @@ pub mod BalanceLemmas
 pub mod PlainLemmas
 pub mod TotalLemmas
 pub mod PieceReading
+pub mod CutAgain

@@ -1,8 +1,8 @@
-ghost use Rattle.std.specs.Prelude.{◌≡◌, ◌⊎◌, ◌++◌, ◌∷◌, ℕ, List};
+ghost use Rattle.std.specs.Prelude.{◌≡◌, ◌≢◌, ◌⊎◌, [], ◌++◌, ◌∷◌, ℕ, List};
 ghost use Rattle.mail_addresses.specs.declared.address.Address.{Address};
 ghost use Rattle.mail_addresses.specs.Lexical.{Lexeme, comment, quoted, texts, AreTokens};
 ghost use Rattle.mail_addresses.specs.Balance.{IsBalanced, HasNoQuote};
-ghost use Rattle.mail_addresses.specs.Listing.{pieces, joined, Reads, IsFault};
+ghost use Rattle.mail_addresses.specs.Listing.{pieces, joined, Lists, Spells, Reads, IsFault};
 
 /// A law: a value has at most one list of addresses and at most one first bad piece, and never both.
 pub fn one_reading()
@@ -38,6 +38,12 @@ pub fn comments_are_balanced()
 pub fn quoted_strings_end_at_a_quote()
     ensures { (value : List ℕ) (ts front back : List Lexeme) (inside : List ℕ)
         → AreTokens value ts → ts ≡ front ++ quoted inside ∷ back → HasNoQuote inside }
+{}
+
+/// A law: pieces that give addresses, with a comma between one and the next, are cut into the same pieces again.
+pub fn pieces_are_cut_again()
+    ensures { (list : List (List Lexeme)) (all : List Address)
+        → list ≢ [] → Lists Spells list all → pieces (joined list) ≡ list }
 {}
 
 /// A law: pieces with a comma between one and the next are the tokens that were cut.

@@ -15,7 +15,7 @@ mod token;
 
 pub use address::{Address, AddressError, bare, local_part, same_address};
 pub use laws::{
-    comments_are_balanced, each_value_is_read, one_reading, pieces_are_the_tokens,
-    quoted_strings_end_at_a_quote, tokens_are_the_value,
+    comments_are_balanced, each_value_is_read, one_reading, pieces_are_cut_again,
+    pieces_are_the_tokens, quoted_strings_end_at_a_quote, tokens_are_the_value,
 };
 pub use read::{first_address, read_list};

@@ -7,7 +7,7 @@ use Rattle.folder_commit.proofs.run.commit.Goals as goal
 
 pub returns-clause-safe : goal.returns-clause-safe
 returns-clause-safe g c = λ before es at to may.
-    ran-safely c.args.actor.now c.args.token c.args.changes.now (base_list (option_copied c.args.base)) c.whole.result before es c.ranges.token.fits c.requires.files c.requires.one c.whole.ensures.ran at to may
+    ran-safely c.args.actor.now c.args.token c.args.changes.now (base_list (option_copied c.args.base)) c.whole.result before es c.ranges.token.fits c.requires.files c.whole.ensures.ran at to may
 
 pub returns-clause-told : goal.returns-clause-told
-returns-clause-told g c = Ran-map (λ es h. is-told c.args.actor.now c.args.token c.args.changes.now (base_list (option_copied c.args.base)) es c.whole.result c.requires.one h) c.whole.ensures.ran
+returns-clause-told g c = Ran-map (λ es h. is-told c.args.actor.now c.args.token c.args.changes.now (base_list (option_copied c.args.base)) es c.whole.result h) c.whole.ensures.ran

@@ -1,0 +1,284 @@
+-- The files that changes name, and the plan of their commit.
+use Rattle.std.proofs.Common.{◌≡◌, ◌≢◌, ◌⊎◌, ℕ, zero, suc, ◌^◌, ◌<◌, ◌≤◌, Bool, true, false, ◌&&◌, ◌||◌, not, List, [], ◌∷◌, ◌++◌, length, map, get_or, refl, ap, sym, subst, inl, inr, ◌∙◌, arith, append-nil, if◌then◌else◌}
+use Rattle.std.specs.Prelude.{All, nat_lt, nat_le}
+use Rattle.std.specs.List.{list_any, list_all}
+use Rattle.std.specs.Str.{bytes_eq}
+use Rattle.std.proofs.lemmas.Grind.{common_steps}
+use Rattle.std.proofs.lemmas.Bool.{cases_Bool, and_parts, or_right, or_left, not-true, cond-true}
+use Rattle.std.proofs.lemmas.List.Elements.{All-head, All-tail}
+use Rattle.host_port.specs.Names.{has_no_zero}
+use Rattle.folder_change.specs.declared.change.Change.{Change}
+use Rattle.folder_change.specs.Changes.{name_of}
+use Rattle.commit_record.specs.Format.{is_valid, are_distinct, written}
+use Rattle.commit_record.specs.Names.{is_lawful}
+use Rattle.commit_record.specs.declared.record.Phase.{Phase}
+use Rattle.commit_record.specs.declared.record.Phase.TheVariants.{Prepare, Go}
+use Rattle.commit_record.specs.declared.record.EntryKind.{EntryKind}
+use Rattle.commit_record.specs.declared.record.EntryKind.TheVariants.{Replace}
+use Rattle.commit_record.specs.declared.record.Entry.{Entry}
+use Rattle.commit_machine.specs.Names.{is_record_name, staged_name}
+use Rattle.commit_machine.specs.Records.{names_of, has}
+use Rattle.commit_machine.specs.Settled.{Mem}
+use Rattle.commit_machine.specs.Jobs.{Edit, IsJob, all_of, entries_for, kind_made, made_at}
+use Rattle.commit_machine.specs.Edits.{first_names, without, edit_for, job_for}
+use Rattle.commit_machine.proofs.Same.{same_refl, same_or_not}
+use Rattle.commit_machine.proofs.FrontLemmas.{front-taken}
+use Rattle.commit_driver.specs.Judging.{AreDistinct}
+use Rattle.commit_driver.specs.Places.{nth, IsPlan, IsSafe}
+use Rattle.commit_driver.specs.Answers.{IsCommitOf}
+use Rattle.commit_driver.proofs.StateLemmas.{length-map}
+use Rattle.commit_driver.proofs.FileLemmas.{record-file, new-file, right-file, record-files, record-staged}
+use Rattle.commit_driver.proofs.AfterLemmas.{all-names, names-staged}
+use Rattle.folder_commit.specs.Names.{is_file_name}
+use Rattle.folder_commit.specs.Plans.{AreFiles, replaced, with_entry, record_for, commit_plan}
+
+-- one more name at the end, unless it is there
+abbrev pub added : List (List ℕ) → List ℕ → List (List ℕ)
+added ns x = if has ns x then ns else ns ++ x ∷ []
+
+has-without : (y : List ℕ) (ns : List (List ℕ)) (x : List ℕ) → bytes_eq x y ≡ false → has (without y ns) x ≡ has ns x
+has-without y [] x ne = refl
+has-without y (n ∷ ns) x ne = elim (same_or_not n y) [
+  | inl p ↦
+      let other : bytes_eq x n ≡ false = subst (λ (z : List ℕ). bytes_eq x z ≡ false) (sym p.0) ne in
+      let gone : without y (n ∷ ns) ≡ without y ns = rw p.1 refl in
+      ap (λ (l : List (List ℕ)). has l x) gone ∙ has-without y ns x ne ∙ sym (ap (λ (b : Bool). b || has ns x) other)
+  | inr p ↦
+      let kept : without y (n ∷ ns) ≡ n ∷ without y ns = rw p.1 refl in
+      ap (λ (l : List (List ℕ)). has l x) kept ∙ ap (λ (b : Bool). bytes_eq x n || b) (has-without y ns x ne)
+]
+
+without-end : (y : List ℕ) (ns : List (List ℕ)) (x : List ℕ) → without y (ns ++ x ∷ []) ≡ without y ns ++ (if bytes_eq x y then [] else x ∷ [])
+without-end y [] x = go (bytes_eq x y)
+  where
+    go : (b : Bool) → (if b then [] else x ∷ []) ≡ (if b then [] else x ∷ [])
+    go b = refl
+without-end y (n ∷ ns) x = elim (cases_Bool (bytes_eq n y)) [
+  | inl e ↦ rw e (without-end y ns x)
+  | inr e ↦ rw e (ap (λ (l : List (List ℕ)). n ∷ l) (without-end y ns x))
+]
+
+first-more : (cs : List Change) (c : Change) → first_names (cs ++ c ∷ []) ≡ added (first_names cs) (name_of c)
+first-more [] c = refl
+first-more (d ∷ cs) c = pick (same_or_not (name_of c) (name_of d)) (first-more cs c)
+  where
+    x : List ℕ
+    x = name_of c
+
+    y : List ℕ
+    y = name_of d
+
+    same : x ≡ y → bytes_eq x y ≡ true → first_names (cs ++ c ∷ []) ≡ added (first_names cs) x → y ∷ without y (first_names (cs ++ c ∷ [])) ≡ added (y ∷ without y (first_names cs)) x
+    same e is more =
+        ap (λ (l : List (List ℕ)). y ∷ without y l) more
+        ∙ ap (λ (l : List (List ℕ)). y ∷ l) (go (has (first_names cs) x))
+        ∙ sym (cond-true _ _ _ (or_left (bytes_eq x y) (has (without y (first_names cs)) x) is))
+      where
+        go : (b : Bool) → without y (if b then first_names cs else first_names cs ++ x ∷ []) ≡ without y (first_names cs)
+        go true = refl
+        go false = without-end y (first_names cs) x ∙ rw is (append-nil (without y (first_names cs)))
+
+    other : bytes_eq x y ≡ false → first_names (cs ++ c ∷ []) ≡ added (first_names cs) x → y ∷ without y (first_names (cs ++ c ∷ [])) ≡ added (y ∷ without y (first_names cs)) x
+    other ne more =
+        let there : (bytes_eq x y || has (without y (first_names cs)) x) ≡ has (first_names cs) x = ap (λ (b : Bool). b || has (without y (first_names cs)) x) ne ∙ has-without y (first_names cs) x ne in
+        ap (λ (l : List (List ℕ)). y ∷ without y l) more
+        ∙ go (has (first_names cs) x)
+        ∙ sym (ap (λ (b : Bool). if b then y ∷ without y (first_names cs) else y ∷ (without y (first_names cs) ++ x ∷ [])) there)
+      where
+        go : (b : Bool) → y ∷ without y (if b then first_names cs else first_names cs ++ x ∷ []) ≡ (if b then y ∷ without y (first_names cs) else y ∷ (without y (first_names cs) ++ x ∷ []))
+        go true = refl
+        go false = ap (λ (l : List (List ℕ)). y ∷ l) (without-end y (first_names cs) x ∙ rw ne refl)
+
+    pick : ((x ≡ y) × (bytes_eq x y ≡ true)) ⊎ ((x ≢ y) × (bytes_eq x y ≡ false)) → first_names (cs ++ c ∷ []) ≡ added (first_names cs) x → y ∷ without y (first_names (cs ++ c ∷ [])) ≡ added (y ∷ without y (first_names cs)) x
+    pick (inl p) more = same p.0 p.1 more
+    pick (inr p) more = other p.1 more
+
+pub any-has : (ns : List (List ℕ)) (x : List ℕ) → list_any (λ (e : Entry). bytes_eq x e.name) (replaced ns) ≡ has ns x
+any-has [] x = refl
+any-has (n ∷ ns) x = ap (λ (b : Bool). bytes_eq x n || b) (any-has ns x)
+
+replaced-end : (ns : List (List ℕ)) (x : List ℕ) → replaced (ns ++ x ∷ []) ≡ replaced ns ++ record { kind = Replace; name = x } ∷ []
+replaced-end [] x = refl
+replaced-end (n ∷ ns) x = ap (λ (es : List Entry). record { kind = Replace; name = n } ∷ es) (replaced-end ns x)
+
+-- one more change
+pub named-more : (cs : List Change) (c : Change) (es : List Entry) → es ≡ replaced (first_names cs) → with_entry es (name_of c) ≡ replaced (first_names (cs ++ c ∷ []))
+named-more cs c es is =
+    ap (λ (l : List Entry). with_entry l (name_of c)) is
+    ∙ ap (λ (b : Bool). if b then replaced (first_names cs) else replaced (first_names cs) ++ record { kind = Replace; name = name_of c } ∷ []) (any-has (first_names cs) (name_of c))
+    ∙ go (has (first_names cs) (name_of c))
+    ∙ ap replaced (sym (first-more cs c))
+  where
+    go : (b : Bool) → (if b then replaced (first_names cs) else replaced (first_names cs) ++ record { kind = Replace; name = name_of c } ∷ []) ≡ replaced (if b then first_names cs else first_names cs ++ name_of c ∷ [])
+    go true = refl
+    go false = sym (replaced-end (first_names cs) (name_of c))
+
+-- each name stands once
+gone : (y : List ℕ) (ns : List (List ℕ)) → has (without y ns) y ≡ false
+gone y [] = refl
+gone y (n ∷ ns) = elim (same_or_not n y) [
+  | inl p ↦ rw p.1 (gone y ns)
+  | inr p ↦
+      let other : bytes_eq y n ≡ false = elim (same_or_not y n) [ inl q ↦ absurd (p.0 (sym q.0)) | inr q ↦ q.1 ] in
+      rw p.1 (ap (λ (b : Bool). b || has (without y ns) y) other ∙ gone y ns)
+]
+
+or-none : (a b : Bool) → (a || b) ≡ false → (a ≡ false) × (b ≡ false)
+or-none true b h = absurd (cc)
+or-none false b h = (refl, h)
+
+not-without : (y : List ℕ) (ns : List (List ℕ)) (x : List ℕ) → has ns x ≡ false → has (without y ns) x ≡ false
+not-without y [] x h = refl
+not-without y (n ∷ ns) x h =
+    let p = or-none (bytes_eq x n) (has ns x) h in
+    elim (cases_Bool (bytes_eq n y)) [ inl e ↦ rw e (not-without y ns x p.1) | inr e ↦ rw e (ap (λ (b : Bool). b || has (without y ns) x) p.0 ∙ not-without y ns x p.1) ]
+
+distinct-without : (y : List ℕ) (ns : List (List ℕ)) → AreDistinct ns → AreDistinct (without y ns)
+distinct-without y [] d = tt
+distinct-without y (n ∷ ns) d = elim (cases_Bool (bytes_eq n y)) [
+  | inl e ↦ rw e (distinct-without y ns d.1)
+  | inr e ↦ rw e (not-without y ns n d.0, distinct-without y ns d.1)
+]
+
+pub distinct-first : (cs : List Change) → AreDistinct (first_names cs)
+distinct-first [] = tt
+distinct-first (c ∷ cs) = (gone (name_of c) (first_names cs), distinct-without (name_of c) (first_names cs) (distinct-first cs))
+
+are-distinct : (ns : List (List ℕ)) → AreDistinct ns → are_distinct (replaced ns) ≡ true
+are-distinct [] d = refl
+are-distinct (n ∷ ns) d = let one = any-has ns n ∙ d.0 in rw (one, are-distinct ns d.1) refl
+
+-- all names are those of files
+abbrev AllNames : (List ℕ → Type 0) → List (List ℕ) → Type 0
+AllNames P [] = Unit {0}
+AllNames P (n ∷ ns) = P n × AllNames P ns
+
+names-without : (P : List ℕ → Type 0) (y : List ℕ) (ns : List (List ℕ)) → AllNames P ns → AllNames P (without y ns)
+names-without P y [] h = tt
+names-without P y (n ∷ ns) h = elim (cases_Bool (bytes_eq n y)) [ inl e ↦ rw e (names-without P y ns h.1) | inr e ↦ rw e (h.0, names-without P y ns h.1) ]
+
+names-first : (P : List ℕ → Type 0) (cs : List Change) → All (λ (c : Change). P (name_of c)) cs → AllNames P (first_names cs)
+names-first P [] h = tt
+names-first P (c ∷ cs) h = (All-head (λ (c : Change). P (name_of c)) c cs h, names-without P (name_of c) (first_names cs) (names-first P cs (All-tail (λ (c : Change). P (name_of c)) c cs h)))
+
+abbrev Filed : List ℕ → List ℕ → Type 0
+Filed actor n = is_file_name actor n ≡ true
+
+all-lawful : (actor : List ℕ) (ns : List (List ℕ)) → AllNames (Filed actor) ns → list_all (λ (e : Entry). is_lawful e.name) (replaced ns) ≡ true
+all-lawful actor [] h = refl
+all-lawful actor (n ∷ ns) h = let one = (and_parts (is_lawful n) _ h.0).0 in rw (one, all-lawful actor ns h.1) refl
+
+pub length-replaced : (ns : List (List ℕ)) → length (replaced ns) ≡ length ns
+length-replaced ns = length-map (λ (n : List ℕ). record { kind = Replace; name = n }) ns
+
+tests : (a b c d : Bool) → a ≡ true → b ≡ true → c ≡ true → d ≡ true → (a && (b && (c && d))) ≡ true
+tests a b c d p q r s = rw (p, q, r, s) refl
+
+some-first : (cs : List Change) → 1 ≤ length cs → 1 ≤ length (first_names cs)
+some-first [] h = absurd (omega (arith, h))
+some-first (c ∷ cs) h = omega arith
+
+pub is-valid-plan : (actor : List ℕ) (phase : Phase) (token : ℕ) (cs : List Change) → AreFiles actor cs → 1 ≤ length cs → length (first_names cs) ≤ 16 → is_valid (record_for phase token (first_names cs)) ≡ true
+is-valid-plan actor phase token cs files some few =
+    let ns = first_names cs in
+    let long = length-replaced ns in
+    let least = some-first cs some in
+    tests (nat_lt 0 (length (replaced ns))) (nat_le (length (replaced ns)) 16) (list_all (λ (e : Entry). is_lawful e.name) (replaced ns)) (are_distinct (replaced ns))
+    (grind (arith, common_steps)) (grind (arith, common_steps)) (all-lawful actor ns (names-first (Filed actor) cs files)) (are-distinct ns (distinct-first cs))
+
+-- the names of the plan
+pub plan-names : (ns : List (List ℕ)) → map (λ (e : Entry). e.name) (replaced ns) ≡ ns
+plan-names [] = refl
+plan-names (n ∷ ns) = ap (λ (ms : List (List ℕ)). n ∷ ms) (plan-names ns)
+
+edit-names : (cs : List Change) (base ns : List (List ℕ)) → map (λ (e : Edit). e.name) (map (edit_for cs base) ns) ≡ ns
+edit-names cs base [] = refl
+edit-names cs base (n ∷ ns) = ap (λ (ms : List (List ℕ)). n ∷ ms) (edit-names cs base ns)
+
+pub all-first : (actor : List ℕ) (token : ℕ) (cs : List Change) (base : List (List ℕ)) → all_of (job_for actor token cs base) ≡ first_names cs
+all-first actor token cs base = edit-names cs base (first_names cs)
+
+kind-one : (k : EntryKind) → k ≡ Replace
+kind-one Replace = refl
+
+entries-one : (f : List ℕ → EntryKind) (ns : List (List ℕ)) → entries_for f ns ≡ replaced ns
+entries-one f [] = refl
+entries-one f (n ∷ ns) = ap (λ (k : EntryKind). record { kind = k; name = n } ∷ entries_for f ns) (kind-one (f n)) ∙ ap (λ (es : List Entry). record { kind = Replace; name = n } ∷ es) (entries-one f ns)
+
+pub is-plan : (actor : List ℕ) (token : ℕ) (cs : List Change) (base : List (List ℕ)) → IsPlan (job_for actor token cs base) (commit_plan actor token (first_names cs))
+is-plan actor token cs base =
+    let j = job_for actor token cs base in
+    let all = all-first actor token cs base in
+    record {
+      record_is = refl;
+      new_is = refl;
+      right_is = refl;
+      commits_is = refl;
+      token_is = λ l. refl;
+      names_are = plan-names (first_names cs) ∙ sym all;
+      staged_are = names-staged token (replaced (first_names cs)) ∙ ap (map (staged_name token)) (plan-names (first_names cs) ∙ sym all);
+      texts_are = λ e. record {
+        distinct = subst AreDistinct (sym all) (distinct-first cs);
+        prepare_is = ap (λ (ns : List (List ℕ)). written (record_for Prepare token ns)) (sym all);
+        go_is = λ made. ap (λ (es : List Entry). written (record { phase = Go; token = token; entries = es })) (ap replaced (sym all) ∙ sym (entries-one (λ n. kind_made (made_at made n)) (all_of j)));
+        front_is = front-taken token (replaced (first_names cs));
+      };
+    }
+
+pub is-for : (actor : List ℕ) (token : ℕ) (cs : List Change) (base : List (List ℕ)) → IsCommitOf (job_for actor token cs base) cs base
+is-for actor token cs base = record { edits_are = refl; refusal_is = λ files. refl }
+
+pub is-safe : (actor : List ℕ) (token : ℕ) (cs : List Change) → length actor ≤ 4021 → has_no_zero actor ≡ true → AreFiles actor cs → 1 ≤ length cs → length (first_names cs) ≤ 16 → IsSafe (commit_plan actor token (first_names cs))
+is-safe actor token cs short none files some few =
+    let r = record_for Go token (first_names cs) in
+    let valid = is-valid-plan actor Go token cs files some few in
+    let long = length-replaced (first_names cs) in
+    let least = some-first cs some in
+    record {
+      record_file = record-file actor short none;
+      new_file = new-file actor short none;
+      right_file = right-file actor short none;
+      names = all-names (replaced (first_names cs)) (record-files r valid);
+      staged = record-staged r valid;
+      staged_long = length-map (λ (e : Entry). staged_name token e.name) (replaced (first_names cs));
+      few = omega (arith, long, few);
+      some = λ e. omega (arith, long, least);
+    }
+
+-- each change is of a file of the plan
+has-first : (cs : List Change) (d : Change) (k : ℕ) → k < length cs → has (first_names cs) (name_of (get_or cs k d)) ≡ true
+has-first [] d k l = absurd (omega (arith, l))
+has-first (c ∷ cs) d zero l = or_left (bytes_eq (name_of c) (name_of c)) (has (without (name_of c) (first_names cs)) (name_of c)) (same_refl (name_of c))
+has-first (c ∷ cs) d (suc k) l =
+    let x = name_of (get_or cs k d) in
+    elim (cases_Bool (bytes_eq x (name_of c))) [
+      | inl e ↦ or_left (bytes_eq x (name_of c)) (has (without (name_of c) (first_names cs)) x) e
+      | inr e ↦ or_right (bytes_eq x (name_of c)) (has (without (name_of c) (first_names cs)) x) (has-without (name_of c) (first_names cs) x e ∙ has-first cs d k (omega (arith, l)))
+    ]
+
+pub all-named : (actor : List ℕ) (token : ℕ) (cs : List Change) → All (λ (c : Change). has (names_of (commit_plan actor token (first_names cs)).value) (name_of c) ≡ true) cs
+all-named actor token cs k d l = ap (λ (ns : List (List ℕ)). has ns (name_of (get_or cs k d))) (plan-names (first_names cs)) ∙ has-first cs d k l
+
+-- the commit is a job
+edit-file : (actor : List ℕ) (cs : List Change) (base ns : List (List ℕ)) (e : Edit) → AllNames (Filed actor) ns → Mem e (map (edit_for cs base) ns) → is_file_name actor e.name ≡ true
+edit-file actor cs base [] e h m = absurd m
+edit-file actor cs base (n ∷ ns) e h (inl is) = ap (λ (x : Edit). is_file_name actor x.name) is ∙ h.0
+edit-file actor cs base (n ∷ ns) e h (inr m) = edit-file actor cs base ns e h.1 m
+
+plain-name : (actor name : List ℕ) → is_file_name actor name ≡ true → is_record_name actor name ≡ false
+plain-name actor name h = not-true (is_record_name actor name) (and_parts (not (is_record_name actor name)) _ (and_parts (is_lawful name) _ h).1).0
+
+pub is-job : (actor : List ℕ) (token : ℕ) (cs : List Change) (base : List (List ℕ)) → token < 2 ^ 64 → AreFiles actor cs → 1 ≤ length cs → length (first_names cs) ≤ 16 → IsJob (job_for actor token cs base)
+is-job actor token cs base fits files some few = record {
+  token_fits = fits;
+  valid = λ es is. ap (λ (ns : List (List ℕ)). is_valid (record_for Prepare token ns)) (all-first actor token cs base) ∙ is-valid-plan actor Prepare token cs files some few;
+  plain = λ e m. plain-name actor e.name (edit-file actor cs base (first_names cs) e (names-first (Filed actor) cs files) m);
+}
+
+pub nth-Mem : (ns : List (List ℕ)) (k : ℕ) → k < length ns → Mem (nth ns k) ns
+nth-Mem [] k l = absurd (omega (arith, l))
+nth-Mem (n ∷ ns) zero l = inl refl
+nth-Mem (n ∷ ns) (suc k) l = inr (nth-Mem ns k (omega (arith, l)))
+
+pub all-of-job : (actor : List ℕ) (token : ℕ) (cs : List Change) (base : List (List ℕ)) → All (λ (c : Change). has (all_of (job_for actor token cs base)) (name_of c) ≡ true) cs
+all-of-job actor token cs base k d l = ap (λ (ns : List (List ℕ)). has ns (name_of (get_or cs k d))) (all-first actor token cs base) ∙ has-first cs d k l
