@@ -1,13 +1,13 @@
 -- What is asked for, by the kind of ask.
 use Rattle.std.proofs.Common.{◌≡◌, ℕ, List, ap, arith}
 use Rattle.host_port.specs.Calls.{Counts, NeverFall, Rose}
-use Rattle.std.specs.Prelude.{min, ◌^◌, ◌-◌, ◌+◌, ◌≤◌}
+use Rattle.std.specs.Prelude.{◌≤◌}
 use Rattle.std.specs.declared.result.Result.TheVariants.{Err}
 use Rattle.mailx_session.specs.declared.error.RunError.{RunError}
 use Rattle.mailx_session.specs.declared.error.RunError.TheVariants as error
 use Rattle.mailx_session.specs.declared.asks.Asked.{Asked}
-use Rattle.session_play.specs.Play.{Play, Ret, Ask, Say}
-use Rattle.session_play.specs.Steps.{After, On, Ended}
+use Rattle.session_play.specs.Play.{Ret, Ask, Say}
+use Rattle.session_play.specs.Steps.{On, Ended}
 use Rattle.command_desk.specs.declared.desk.Desk.{Desk}
 use Rattle.command_desk.specs.declared.steps.Ask as asked_of
 use Rattle.command_desk.specs.declared.steps.Ask.TheVariants as asks

@@ -6,7 +6,6 @@ use Rattle.std.specs.declared.result.Result.{Result}
 use Rattle.std.specs.declared.result.Result.TheVariants.{Ok, Err}
 use Rattle.host_port.specs.declared.event.Event.{Event}
 use Rattle.host_port.specs.declared.event.Event.TheVariants as event
-use Rattle.host_port.specs.declared.event.Seen.TheVariants as seen
 use Rattle.session_play.specs.declared.act.Found.{Found}
 use Rattle.session_play.specs.declared.act.Found.TheVariants as found
 use Rattle.session_play.specs.declared.stop.Stop.{Stop}
@@ -15,7 +14,7 @@ use Rattle.session_play.specs.Input.{Input, input_limit, first_line, last_line, 
 use Rattle.session_play.specs.Play.{Act, Answer, Line, Say, Read, Try, Know, Play, Ret, Ask, Says, SaysInPart, seen_of, seen_at, Did, Partly, Goes, Next, Go, Last, Loop, again, last, cut}
 use Rattle.session_play.specs.Acts.{AllActs, TakesFrom, input_after, Threads, may_load}
 use Rattle.session_play.specs.Causes.{some_in_failed, some_out_failed, some_load_saw, is_failed, bytes_in, counted, events_at, IsExplained, NextFrom}
-use Rattle.session_play.proofs.SawLemmas.{saw-append, Unseen, unseen-then, unseen-none, unseen-did, unseen-cut}
+use Rattle.session_play.proofs.SawLemmas.{saw-append, Unseen, unseen-none, unseen-did, unseen-cut}
 
 abbrev is_in : Stop → Bool
 is_in stop.Input = true

@@ -1,12 +1,12 @@
 -- What holds of the acts and ends of a play, and of one play after another.
-use Rattle.std.proofs.Common.{◌≡◌, Bool, true, List, refl, sym, subst, inl, inr}
+use Rattle.std.proofs.Common.{◌≡◌, Bool, List, refl, sym, subst, inl, inr}
 use Rattle.std.specs.declared.result.Result.{Result}
 use Rattle.std.specs.declared.result.Result.TheVariants.{Ok}
 use Rattle.host_port.specs.declared.event.Event.{Event}
 use Rattle.session_play.specs.declared.stop.Stop.{Stop}
 use Rattle.session_play.specs.Input.{Input}
 use Rattle.session_play.specs.Acts.{AllActs, AllEnds, Threads, is_neutral, input_after}
-use Rattle.session_play.specs.Play.{Act, Answer, Play, Ret, Ask, Goes, bind}
+use Rattle.session_play.specs.Play.{Act, Play, Ret, Ask, Goes, bind}
 
 abbrev pub came : {R : Type 0} → R → Result R Stop
 came r = Ok r

@@ -1,5 +1,5 @@
 -- Tests on acts, and the plays all of whose acts pass one.
-use Rattle.std.specs.Prelude.{◌≡◌, ℕ, Bool, true, false, List}
+use Rattle.std.specs.Prelude.{◌≡◌, Bool, true, false}
 use Rattle.session_play.specs.Input.{Input}
 use Rattle.session_play.specs.Play.{Act, Answer, Line, Read, Try, Play, Ret, Ask}
 

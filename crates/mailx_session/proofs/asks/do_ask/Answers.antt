@@ -1,4 +1,4 @@
-use Rattle.std.proofs.Common.{sym, ◌∙◌, refl, inl}
+use Rattle.std.proofs.Common.{refl, inl}
 use Rattle.host_port.proofs.RanLemmas.{Ran-none}
 use Rattle.mailx_session.proofs.AskLemmas.{asked-say, asked-exit}
 use Rattle.mailx_session.proofs.asks.do_ask.Goals as goal

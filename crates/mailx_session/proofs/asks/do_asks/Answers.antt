@@ -1,4 +1,4 @@
-use Rattle.std.proofs.Common.{sym, ◌∙◌}
+use Rattle.std.proofs.Common.{sym}
 use Rattle.host_port.proofs.RanLemmas.{Ran-then, Ran-map, Ran-none}
 use Rattle.session_play.specs.Steps.{in_order}
 use Rattle.session_play.proofs.LeadLemmas.{leads-none, asked-on, asked-refused, asked-ended, asked-cut, asked-all}
