@@ -1,0 +1,7 @@
+use Rattle.std.proofs.Common.{◌≡◌, ◌≤◌, take}
+use Rattle.quit_rules.specs.Fates.{is_boxed}
+use Rattle.quit_rules.proofs.PlanLemmas.{count_where}
+use Rattle.quit_rules.proofs.count.boxed.Given as goal
+
+abbrev pub invariant-loop-mark : goal.invariant-loop-mark
+invariant-loop-mark l = record { is : l.count ≡ count_where is_boxed l.rules (take l.mark-index l.marks); few : l.count ≤ l.mark-index }
