@@ -24,15 +24,31 @@ fn host_with(alloc: Global, bytes: Text) -> Result<MemHost, Memory> {
     MemHost::new(alloc, view, Text::new(alloc), plan)
 }
 
-// A file past the limit of a load is told as that, and the host is not lost.
-fn is_too_large(alloc: Global) -> Result<bool, Memory> {
-    let bytes = vec![in alloc; b'x'; 268_435_457]?;
-    let mut host = host_with(alloc, Text::of(bytes))?;
-    let length = match host.load(alloc, b"/h/a") {
+// How many bytes the file has, where a load finds it too large.
+fn too_large(alloc: Global, host: &mut MemHost) -> u64 {
+    match host.load(alloc, b"/h/a") {
         Err(LoadError::TooLarge { length }) => length,
         _ => 0,
-    };
-    Ok(length == 268_435_457 && !host.lost())
+    }
+}
+
+fn tries(alloc: Global, host: &mut MemHost, name: &[u8]) -> Result<bool, Memory> {
+    if name.is_empty() {
+        return Ok(too_large(alloc, host) == 268_435_457 && !host.lost());
+    }
+    Ok(added(alloc, host, name, b"x", 20)? == b"done".as_slice())
+}
+
+// Over a host with these bytes as its one file: whether a load is told that it is too large, and with a name, whether twenty
+// changes of that file are one commit.
+fn goes(alloc: Global, bytes: Text, name: &[u8]) -> Result<bool, Memory> {
+    let mut host = host_with(alloc, bytes)?;
+    tries(alloc, &mut host, name)
+}
+
+// A file past the limit of a load is told as that, and the host is not lost.
+fn is_too_large(alloc: Global) -> Result<bool, Memory> {
+    goes(alloc, Text::of(vec![in alloc; b'x'; 268_435_457]?), b"")
 }
 
 fn many_messages(alloc: Global) -> Result<Text, Memory> {
@@ -72,16 +88,10 @@ fn knows_long_names(alloc: Global) -> Result<bool, Memory> {
     Ok(is_lawful(longest) && !is_lawful(&long) && staged.bytes().len() == 4_019)
 }
 
-fn adds_to(alloc: Global, name: &[u8]) -> Result<bool, Memory> {
-    let mut host = host_with(alloc, Text::new(alloc))?;
-    let word = added(alloc, &mut host, name, b"x", 20)?;
-    Ok(word == b"done".as_slice())
-}
-
 // Twenty changes of a file with a long name are one commit.
 fn adds_often(alloc: Global) -> Result<bool, Memory> {
     let name = vec![in alloc; b'a'; 3_900]?;
-    adds_to(alloc, &name)
+    goes(alloc, Text::new(alloc), &name)
 }
 
 fn push_is(text: &mut Text, words: &[u8], is: Result<bool, Memory>) -> Result<(), Memory> {
