@@ -2,6 +2,7 @@
 use Rattle.std.specs.Prelude.{ℕ, Bool, ◌-◌, ◌==◌, true, false, List, [], map, slice_get, slice_set, None, Some, unwrap_or, if◌then◌else◌}
 use Rattle.std.specs.List.{fold}
 use Rattle.std.specs.Option.{option_map_or}
+use Rattle.mailx_vars.specs.Changes.{changed}
 use Rattle.message_state.specs.declared.mark.Act.{Act}
 use Rattle.message_state.specs.declared.row.Row.{Row}
 use Rattle.message_state.specs.States.{after}
@@ -37,13 +38,13 @@ abbrev pub effect : Desk → Effects → Desk
 effect desk effects =
     let marked = with_rows desk (rows_after desk.shown.rows effects.marks) in
     record (with_current marked (unwrap_or effects.current desk.shown.current) (unwrap_or effects.fresh desk.fresh)) {
-      vars = unwrap_or effects.vars desk.vars;
+      vars = fold changed desk.vars effects.settings;
       page = unwrap_or effects.page desk.page;
     }
 
 -- no change
 abbrev pub unchanged : Effects
-unchanged = record { marks = []; current = None; fresh = None; page = None; vars = None }
+unchanged = record { marks = []; current = None; fresh = None; page = None; settings = [] }
 
 -- message n becomes current; it is unwritten, where another was current before
 abbrev pub moved : Desk → ℕ → Effects

@@ -1,4 +1,6 @@
 ghost use Rattle.std.specs.Prelude.{◌≡◌, ◌<◌, map, IfOk};
+ghost use Rattle.std.specs.List.{fold};
+ghost use Rattle.mailx_vars.specs.Changes.{changed};
 ghost use Rattle.message_state.specs.declared.row.Row.{Row};
 ghost use Rattle.message_state.specs.declared.mark.Mark.{Mark};
 ghost use Rattle.command_desk.specs.Desks.{IsDesk};
@@ -6,7 +8,7 @@ ghost use Rattle.command_desk.specs.Effects.{acted, effect, unchanged, moved, wr
 
 use crate::Desk;
 use mail_text::{Items, Memory};
-use mailx_vars::Vars;
+use mailx_vars::{Setting, Vars};
 use message_state::{Act, Mark, RowList, after};
 use std::alloc::Global;
 
@@ -30,8 +32,8 @@ pub struct Effects {
     pub fresh: Option<bool>,
     /// The page that was said last.
     pub page: Option<usize>,
-    /// The variables, where some are set or unset.
-    pub vars: Option<Vars>,
+    /// Changes of variables, in order.
+    pub settings: Items<Setting>,
 }
 
 // Marks a row of the messages and the mark beside it.
@@ -47,8 +49,18 @@ fn mark_row(rows: &mut RowList, marks: &mut Items<Mark>, marking: Marking)
     }
 }
 
+// Makes changes of variables, in order.
+fn change_all(vars: &mut Vars, settings: Items<Setting>)
+    ensures { vars.new ≡ fold changed vars.old settings }
+{
+    for setting in settings.into_vec() {
+        vars.change(setting);
+    }
+}
+
 impl Desk {
-    /// Carries out the changes of a command once what it asked for was done. It takes no memory.
+    /// Carries out the changes of a command once what it asked for was done. It takes no memory, and as much time
+    /// as there are changes.
     pub fn settle(&mut self, effects: Effects)
         requires before { IsDesk self.old }
         requires after { IsDesk (effect self.old effects) }
@@ -59,7 +71,7 @@ impl Desk {
             current,
             fresh,
             page,
-            vars,
+            settings,
         } = effects;
         for marking in marks.items() {
             mark_row(&mut self.shown.rows, &mut self.folder.marks, *marking);
@@ -67,9 +79,7 @@ impl Desk {
         self.shown.current = current.unwrap_or(self.shown.current);
         self.fresh = fresh.unwrap_or(self.fresh);
         self.page = page.unwrap_or(self.page);
-        if let Some(vars) = vars {
-            self.vars = vars;
-        }
+        change_all(&mut self.vars, settings);
     }
 }
 
@@ -82,7 +92,7 @@ pub fn unchanged(alloc: Global) -> Effects
         current: None,
         fresh: None,
         page: None,
-        vars: None,
+        settings: Items::new(alloc),
     }
 }
 

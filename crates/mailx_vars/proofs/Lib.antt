@@ -1,3 +1,4 @@
+pub mod NameLemmas
 pub mod PairLemmas
 pub mod PlaceLemmas
 pub mod SettingLemmas

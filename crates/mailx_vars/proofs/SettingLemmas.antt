@@ -10,19 +10,8 @@ use Rattle.std.proofs.lemmas.Map.{lookup-set_value, lookup-remove_entry}
 use Rattle.std.proofs.lemmas.Slice.Eq.{bytes_eq-Decides}
 use Rattle.mailx_vars.specs.SettingLaws.{SetAgainIsLast, SetGives, SetKeepsOrder, UnsetTakes}
 use Rattle.mailx_vars.specs.Settings.{Settings, is_set, value_of, without}
+use Rattle.mailx_vars.proofs.NameLemmas.{same-refl, same-symm, to-same}
 use Rattle.mailx_vars.proofs.PairLemmas.{map-append, names-set}
-
-same-refl : (a : List ℕ) → bytes_eq a a ≡ true
-same-refl a = (bytes_eq-Decides a a).1 refl
-
-to-same : (a b : List ℕ) → bytes_eq a b ≡ true → a ≡ b
-to-same a b t = (bytes_eq-Decides a b).0 t
-
-same-symm : (a b : List ℕ) → bytes_eq a b ≡ bytes_eq b a
-same-symm a b =
-    ⊎_elim (λ t. t ∙ sym (ap (λ x. bytes_eq x a) (sym (to-same a b t)) ∙ same-refl a))
-    (λ f. ⊎_elim (λ t. absurd (true≢false (sym (ap (λ x. bytes_eq x b) (sym (to-same b a t)) ∙ same-refl b) ∙ f))) (λ g. f ∙ sym g) (cases_Bool (bytes_eq b a)))
-    (cases_Bool (bytes_eq a b))
 
 same-names : IsEquivalence bytes_eq
 same-names = record { refl = same-refl; symm = same-symm; congr = (λ x y z t. ap (λ w. bytes_eq w z) (to-same x y t)) }

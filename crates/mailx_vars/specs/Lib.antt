@@ -3,3 +3,4 @@ pub mod Expansion
 pub mod Names
 pub mod SettingLaws
 pub mod Settings
+pub mod Changes

@@ -1,6 +1,5 @@
 -- Variables with their values, in order of first setting.
-use Rattle.std.specs.Prelude.{◌≡◌, ◌≤◌, ◌&&◌, not, nat_le, ℕ, Bool, true, List, [], ◌∷◌, ◌++◌, Option, Some, None, is_some, map, length, codes, if◌then◌else◌, Vec}
-use Rattle.std.specs.declared.alloc.Global.{Global}
+use Rattle.std.specs.Prelude.{◌≡◌, ◌≤◌, ◌&&◌, not, nat_le, ℕ, Bool, true, List, [], ◌∷◌, ◌++◌, Option, Some, None, is_some, length, codes, if◌then◌else◌}
 use Rattle.std.specs.List.{list_all, IsDistinct}
 use Rattle.std.specs.Map.{lookup, set_value, remove_entry, keys_of}
 use Rattle.std.specs.Option.{option_and_then}
@@ -60,7 +59,3 @@ defaults =
     ∷ (codes "toplines", codes "5")
     ∷ (codes "sendmail", codes "/usr/lib/sendmail")
     ∷ []
-
--- the entries of a map as pairs of bytes
-abbrev pub pairs_of : List (Vec ℕ Global × Vec ℕ Global) → Settings
-pairs_of entries = map (λ e. (e.0.items, e.1.items)) entries

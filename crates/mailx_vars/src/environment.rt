@@ -43,7 +43,7 @@ pub struct Places {
 }
 
 // The first pair of a name.
-fn first_pair<'a>(pairs: &'a [(Text, Text)], name: &[u8]) -> Option<&'a (Text, Text)>
+pub(crate) fn first_pair<'a>(pairs: &'a [(Text, Text)], name: &[u8]) -> Option<&'a (Text, Text)>
     ensures { option_copied result ≡ find (λ pair. bytes_eq name.now pair.0) pairs.now }
 {
     pairs.iter().find(|pair| name == pair.0.bytes())

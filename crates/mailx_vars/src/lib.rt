@@ -14,4 +14,4 @@ pub use error::{NameError, VarError};
 pub use expand::expand_name;
 pub use laws::variables_are_kept;
 pub use names::{is_short_name, is_user_name, is_variable_name};
-pub use settings::Vars;
+pub use settings::{Setting, Vars};
