@@ -1,7 +1,7 @@
 // The laws of the leaf crates: their conditions can be met.
 use mail_addresses::{
-    comments_are_balanced, each_value_is_read, one_reading, pieces_are_the_tokens,
-    quoted_strings_end_at_a_quote, tokens_are_the_value,
+    comments_are_balanced, each_value_is_read, one_reading, pieces_are_cut_again,
+    pieces_are_the_tokens, quoted_strings_end_at_a_quote, tokens_are_the_value,
 };
 use mail_dates::{
     Moment, day_has_date, printed_date_reads, printed_dates_are_plain, printed_from_date_reads,
@@ -33,6 +33,7 @@ fn speak_of_texts() {
     comments_are_balanced();
     quoted_strings_end_at_a_quote();
     pieces_are_the_tokens();
+    pieces_are_cut_again();
 }
 
 fn speak_of_sessions() {
