@@ -1,98 +1,108 @@
-ghost use Rattle.std.specs.Prelude.{◌≡◌, map, slice_get};
+ghost use Rattle.std.specs.Prelude.{◌≡◌, map, slice_get, take};
 ghost use Rattle.std.specs.Option.{option_copied, option_map};
 ghost use Rattle.line_words.specs.Spellings.{is_met, spellings, spelling_of, command_of, whole_name, names};
 ghost use Rattle.line_words.specs.Table.{row_of};
 
 use crate::Command;
 
-// A spelling of a command: what a word must begin with at least, and the whole name.
+// A spelling of a command: how many bytes of the whole name a word must have at least, and the whole name.
 #[derive(Drop)]
 pub(crate) struct Spelling {
     command: Command,
-    least: &'static [u8],
+    least: usize,
     whole: &'static [u8],
 }
 
 // The spellings of all commands, in the order of the bytes of their whole names.
 #[rattlefmt::skip]
 static SPELLINGS: [Spelling; 69] = [
-    Spelling { command: Command::Shell, least: b"!", whole: b"!" },
-    Spelling { command: Command::Comment, least: b"#", whole: b"#" },
-    Spelling { command: Command::Number, least: b"=", whole: b"=" },
-    Spelling { command: Command::Help, least: b"?", whole: b"?" },
-    Spelling { command: Command::CopyByAuthor, least: b"C", whole: b"Copy" },
-    Spelling { command: Command::FollowupAuthors, least: b"F", whole: b"Followup" },
-    Spelling { command: Command::PrintAll, least: b"P", whole: b"Print" },
-    Spelling { command: Command::ReplyAuthors, least: b"R", whole: b"Reply" },
-    Spelling { command: Command::ReplyAuthors, least: b"R", whole: b"Respond" },
-    Spelling { command: Command::SaveByAuthor, least: b"S", whole: b"Save" },
-    Spelling { command: Command::PrintAll, least: b"T", whole: b"Type" },
-    Spelling { command: Command::Alias, least: b"a", whole: b"alias" },
-    Spelling { command: Command::Alternates, least: b"alt", whole: b"alternates" },
-    Spelling { command: Command::Call, least: b"call", whole: b"call" },
-    Spelling { command: Command::Copy, least: b"c", whole: b"copy" },
-    Spelling { command: Command::Define, least: b"define", whole: b"define" },
-    Spelling { command: Command::Defines, least: b"defines", whole: b"defines" },
-    Spelling { command: Command::Delete, least: b"d", whole: b"delete" },
-    Spelling { command: Command::Ignore, least: b"di", whole: b"discard" },
-    Spelling { command: Command::DeleteAndPrint, least: b"dp", whole: b"dp" },
-    Spelling { command: Command::DeleteAndPrint, least: b"dt", whole: b"dt" },
-    Spelling { command: Command::Echo, least: b"ec", whole: b"echo" },
-    Spelling { command: Command::Condition, least: b"el", whole: b"else" },
-    Spelling { command: Command::Condition, least: b"en", whole: b"endif" },
-    Spelling { command: Command::Exit, least: b"ex", whole: b"exit" },
-    Spelling { command: Command::File, least: b"fi", whole: b"file" },
-    Spelling { command: Command::File, least: b"fold", whole: b"folder" },
-    Spelling { command: Command::Folders, least: b"folders", whole: b"folders" },
-    Spelling { command: Command::Followup, least: b"fo", whole: b"followup" },
-    Spelling { command: Command::From, least: b"f", whole: b"from" },
-    Spelling { command: Command::Alias, least: b"g", whole: b"group" },
-    Spelling { command: Command::Headers, least: b"h", whole: b"headers" },
-    Spelling { command: Command::Help, least: b"hel", whole: b"help" },
-    Spelling { command: Command::Hold, least: b"ho", whole: b"hold" },
-    Spelling { command: Command::Condition, least: b"if", whole: b"if" },
-    Spelling { command: Command::Ignore, least: b"ig", whole: b"ignore" },
-    Spelling { command: Command::Help, least: b"l", whole: b"list" },
-    Spelling { command: Command::Mail, least: b"m", whole: b"mail" },
-    Spelling { command: Command::Mbox, least: b"mb", whole: b"mbox" },
-    Spelling { command: Command::Newmail, least: b"newmail", whole: b"newmail" },
-    Spelling { command: Command::Next, least: b"n", whole: b"next" },
-    Spelling { command: Command::Pipe, least: b"pi", whole: b"pipe" },
-    Spelling { command: Command::Hold, least: b"pre", whole: b"preserve" },
-    Spelling { command: Command::Print, least: b"p", whole: b"print" },
-    Spelling { command: Command::Quit, least: b"q", whole: b"quit" },
-    Spelling { command: Command::Reply, least: b"r", whole: b"reply" },
-    Spelling { command: Command::Reply, least: b"r", whole: b"respond" },
-    Spelling { command: Command::Retain, least: b"ret", whole: b"retain" },
-    Spelling { command: Command::Save, least: b"s", whole: b"save" },
-    Spelling { command: Command::Set, least: b"se", whole: b"set" },
-    Spelling { command: Command::Size, least: b"si", whole: b"size" },
-    Spelling { command: Command::Sort, least: b"sort", whole: b"sort" },
-    Spelling { command: Command::Source, least: b"so", whole: b"source" },
-    Spelling { command: Command::Thread, least: b"thread", whole: b"thread" },
-    Spelling { command: Command::Top, least: b"to", whole: b"top" },
-    Spelling { command: Command::Touch, least: b"tou", whole: b"touch" },
-    Spelling { command: Command::Print, least: b"t", whole: b"type" },
-    Spelling { command: Command::Unalias, least: b"una", whole: b"unalias" },
-    Spelling { command: Command::Undef, least: b"undef", whole: b"undef" },
-    Spelling { command: Command::Undelete, least: b"u", whole: b"undelete" },
-    Spelling { command: Command::Unset, least: b"uns", whole: b"unset" },
-    Spelling { command: Command::Thread, least: b"unsort", whole: b"unsort" },
-    Spelling { command: Command::Thread, least: b"unthread", whole: b"unthread" },
-    Spelling { command: Command::Write, least: b"w", whole: b"write" },
-    Spelling { command: Command::Exit, least: b"x", whole: b"xit" },
-    Spelling { command: Command::Scroll, least: b"z", whole: b"z" },
-    Spelling { command: Command::Scroll, least: b"z+", whole: b"z+" },
-    Spelling { command: Command::Scroll, least: b"z-", whole: b"z-" },
-    Spelling { command: Command::Pipe, least: b"|", whole: b"|" },
+    Spelling { command: Command::Shell, least: 1, whole: b"!" },
+    Spelling { command: Command::Comment, least: 1, whole: b"#" },
+    Spelling { command: Command::Number, least: 1, whole: b"=" },
+    Spelling { command: Command::Help, least: 1, whole: b"?" },
+    Spelling { command: Command::CopyByAuthor, least: 1, whole: b"Copy" },
+    Spelling { command: Command::FollowupAuthors, least: 1, whole: b"Followup" },
+    Spelling { command: Command::PrintAll, least: 1, whole: b"Print" },
+    Spelling { command: Command::ReplyAuthors, least: 1, whole: b"Reply" },
+    Spelling { command: Command::ReplyAuthors, least: 1, whole: b"Respond" },
+    Spelling { command: Command::SaveByAuthor, least: 1, whole: b"Save" },
+    Spelling { command: Command::PrintAll, least: 1, whole: b"Type" },
+    Spelling { command: Command::Alias, least: 1, whole: b"alias" },
+    Spelling { command: Command::Alternates, least: 3, whole: b"alternates" },
+    Spelling { command: Command::Call, least: 4, whole: b"call" },
+    Spelling { command: Command::Copy, least: 1, whole: b"copy" },
+    Spelling { command: Command::Define, least: 6, whole: b"define" },
+    Spelling { command: Command::Defines, least: 7, whole: b"defines" },
+    Spelling { command: Command::Delete, least: 1, whole: b"delete" },
+    Spelling { command: Command::Ignore, least: 2, whole: b"discard" },
+    Spelling { command: Command::DeleteAndPrint, least: 2, whole: b"dp" },
+    Spelling { command: Command::DeleteAndPrint, least: 2, whole: b"dt" },
+    Spelling { command: Command::Echo, least: 2, whole: b"echo" },
+    Spelling { command: Command::Condition, least: 2, whole: b"else" },
+    Spelling { command: Command::Condition, least: 2, whole: b"endif" },
+    Spelling { command: Command::Exit, least: 2, whole: b"exit" },
+    Spelling { command: Command::File, least: 2, whole: b"file" },
+    Spelling { command: Command::File, least: 4, whole: b"folder" },
+    Spelling { command: Command::Folders, least: 7, whole: b"folders" },
+    Spelling { command: Command::Followup, least: 2, whole: b"followup" },
+    Spelling { command: Command::From, least: 1, whole: b"from" },
+    Spelling { command: Command::Alias, least: 1, whole: b"group" },
+    Spelling { command: Command::Headers, least: 1, whole: b"headers" },
+    Spelling { command: Command::Help, least: 3, whole: b"help" },
+    Spelling { command: Command::Hold, least: 2, whole: b"hold" },
+    Spelling { command: Command::Condition, least: 2, whole: b"if" },
+    Spelling { command: Command::Ignore, least: 2, whole: b"ignore" },
+    Spelling { command: Command::Help, least: 1, whole: b"list" },
+    Spelling { command: Command::Mail, least: 1, whole: b"mail" },
+    Spelling { command: Command::Mbox, least: 2, whole: b"mbox" },
+    Spelling { command: Command::Newmail, least: 7, whole: b"newmail" },
+    Spelling { command: Command::Next, least: 1, whole: b"next" },
+    Spelling { command: Command::Pipe, least: 2, whole: b"pipe" },
+    Spelling { command: Command::Hold, least: 3, whole: b"preserve" },
+    Spelling { command: Command::Print, least: 1, whole: b"print" },
+    Spelling { command: Command::Quit, least: 1, whole: b"quit" },
+    Spelling { command: Command::Reply, least: 1, whole: b"reply" },
+    Spelling { command: Command::Reply, least: 1, whole: b"respond" },
+    Spelling { command: Command::Retain, least: 3, whole: b"retain" },
+    Spelling { command: Command::Save, least: 1, whole: b"save" },
+    Spelling { command: Command::Set, least: 2, whole: b"set" },
+    Spelling { command: Command::Size, least: 2, whole: b"size" },
+    Spelling { command: Command::Sort, least: 4, whole: b"sort" },
+    Spelling { command: Command::Source, least: 2, whole: b"source" },
+    Spelling { command: Command::Thread, least: 6, whole: b"thread" },
+    Spelling { command: Command::Top, least: 2, whole: b"top" },
+    Spelling { command: Command::Touch, least: 3, whole: b"touch" },
+    Spelling { command: Command::Print, least: 1, whole: b"type" },
+    Spelling { command: Command::Unalias, least: 3, whole: b"unalias" },
+    Spelling { command: Command::Undef, least: 5, whole: b"undef" },
+    Spelling { command: Command::Undelete, least: 1, whole: b"undelete" },
+    Spelling { command: Command::Unset, least: 3, whole: b"unset" },
+    Spelling { command: Command::Thread, least: 6, whole: b"unsort" },
+    Spelling { command: Command::Thread, least: 8, whole: b"unthread" },
+    Spelling { command: Command::Write, least: 1, whole: b"write" },
+    Spelling { command: Command::Exit, least: 1, whole: b"xit" },
+    Spelling { command: Command::Scroll, least: 1, whole: b"z" },
+    Spelling { command: Command::Scroll, least: 2, whole: b"z+" },
+    Spelling { command: Command::Scroll, least: 2, whole: b"z-" },
+    Spelling { command: Command::Pipe, least: 1, whole: b"|" },
 ];
 
 impl Spelling {
+    // What a word must begin with at least.
+    fn least(&self) -> &'static [u8]
+        ensures { result.now ≡ take self.now.least self.now.whole.now }
+    {
+        match self.whole.get(..self.least) {
+            Some(least) => least,
+            None => self.whole,
+        }
+    }
+
     // Whether the word begins with the least of the spelling and is a front of its whole name.
     fn is_met(&self, word: &[u8]) -> bool
         ensures { result ≡ is_met word.now (row_of self.now) }
     {
-        word.starts_with(self.least) && self.whole.starts_with(word)
+        word.starts_with(self.least()) && self.whole.starts_with(word)
     }
 }
 
