@@ -1,5 +1,5 @@
 -- One fill takes input, and a line is taken by fills.
-use Rattle.std.proofs.Common.{◌≡◌, ℕ, zero, suc, ◌+◌, ◌-◌, ◌<◌, ◌≤◌, Bool, true, false, List, [], ◌∷◌, ◌++◌, refl, sym, ◌∙◌, ap, subst, inl, inr, take, length, arith, add-zero, append_assoc}
+use Rattle.std.proofs.Common.{◌≡◌, ℕ, zero, suc, ◌+◌, ◌-◌, ◌<◌, ◌≤◌, Bool, true, false, List, [], ◌∷◌, ◌++◌, refl, sym, ◌∙◌, ap, subst, inl, inr, take, length, length-append, arith, append_assoc}
 use Rattle.std.proofs.lemmas.List.{length-take-le, append-nil}
 use Rattle.std.specs.declared.option.Option.{Option}
 use Rattle.std.specs.declared.option.Option.TheVariants.{Some, None}
@@ -10,10 +10,13 @@ use Rattle.host_port.specs.declared.event.Event.TheVariants as event
 use Rattle.host_port.specs.Disk.{Disk}
 use Rattle.host_port.specs.Ran.{Agrees}
 use Rattle.host_port.specs.Own.{own}
+use Rattle.host_port.specs.Calls.{Counts}
+use Rattle.std.specs.Prelude.{◌⊎◌, OnOk}
 use Rattle.session_play.specs.declared.stop.Stop.{Stop}
 use Rattle.session_play.specs.declared.stop.Stop.TheVariants as stop
-use Rattle.session_play.specs.Input.{Input, input_limit, buffer_size, first_line, next_line, next_of, took, is_empty, Reads}
-use Rattle.session_play.specs.Play.{Ask, Ret, Line, Goes, Partly, ReadsShort, TookSome, with_input}
+use Rattle.session_play.specs.Input.{Input, input_limit, buffer_size, first_line, next_line, next_of, took, is_empty, left, Reads}
+use Rattle.session_play.specs.Feeds.{TookIn}
+use Rattle.session_play.specs.Play.{Ask, Ret, Line, Goes, Caused, Partly, ReadsShort, TookSome, with_input}
 
 -- where nothing can be handed out, the end was not seen
 pub still_open : (i : Input) → next_line i ≡ None → i.ended ≡ false
@@ -24,18 +27,6 @@ still_open i none = go (first_line i.rest) i.ended none
     go None true e = absurd (cc e)
     go None false e = refl
 
--- an event that takes bytes
-reads-one : (i j : Input) (bytes : List ℕ) → next_line i ≡ None → length bytes ≤ buffer_size → i.taken + length bytes ≤ input_limit → took i bytes ≡ j → Reads i (event.In bytes false ∷ []) j
-reads-one i j bytes none fits within is = (none, (fits, within), is)
-
-abbrev made : List ℕ → Bool → ℕ → Input
-made r b m = record { rest = r; ended = b; taken = m }
-
-same-input : {r s : List ℕ} {b c : Bool} {m n : ℕ} → r ≡ s → b ≡ c → m ≡ n → made r b m ≡ made s c n
-same-input {r = r} {s = s} {b = b} {c = c} {m = m} {n = n} p q t =
-    let I : List ℕ → Bool → ℕ → Input = made in
-    ap (λ (x : List ℕ). I x b m) p ∙ ap (λ (x : Bool). I s x m) q ∙ ap (λ (x : ℕ). I s c x) t
-
 at-event : (bytes : List ℕ) (failed : Bool) (result : Result Unit Stop) (i j : Input) (d : Disk) (e : Event) → TookSome result i j (event.In bytes failed ∷ []) → e ≡ event.In bytes failed → Agrees d e × TookSome result i j (own (e ∷ []))
 at-event bytes failed result i j d e took is =
     let P : Event → Type 0 = λ e. Agrees d e × TookSome result i j (own (e ∷ [])) in
@@ -44,40 +35,38 @@ at-event bytes failed result i j d e took is =
 pub filled-err : (i : Input) → next_line i ≡ None → (d : Disk) (e : Event) → e ≡ event.In [] true → Agrees d e × TookSome (Err stop.Input) i i (own (e ∷ []))
 filled-err i none d e is = at-event [] true (Err stop.Input) i i d e ([], i, record { reads = refl; none = none }, refl) is
 
-pub filled-end : (i : Input) (n taken : ℕ) (buf rest : List ℕ) → next_line i ≡ None → taken ≤ input_limit → n ≡ 0 → rest ≡ i.rest → taken ≡ i.taken → (d : Disk) (e : Event) → e ≡ event.In (take n buf) false → Agrees d e × TookSome (Ok tt) i (record { rest = rest; ended = true; taken = taken }) (own (e ∷ []))
-filled-end i n taken buf rest none within zero_is rest_is taken_is d e is =
-    let J : Input = record { rest = rest; ended = true; taken = taken } in
-    at-event [] false (Ok tt) i J d e
-    (reads-one i J [] none (omega arith) (omega arith) (same-input (append-nil i.rest ∙ sym rest_is) refl (add-zero i.taken ∙ sym taken_is)))
-    (is ∙ ap (λ (n : ℕ). event.In (take n buf) false) zero_is ∙ nothing buf)
+-- what follows where bytes were put behind the unused ones
+pub in-cause : (old new : Counts) (result : Result Unit Stop) (i j : Input) (bytes : List ℕ) → TookIn result i bytes j → Caused old new result
+in-cause old new (Ok u) i j bytes t = tt
+in-cause old new (Err stop.TooMuch) i j bytes t = tt
+in-cause old new (Err stop.Memory) i j bytes t = tt
+in-cause old new (Err stop.Input) i j bytes t = absurd t
+in-cause old new (Err stop.Output) i j bytes t = absurd t
+in-cause old new (Err stop.Disk) i j bytes t = absurd t
+
+pub in-ok : {P : Type 0} (result : Result Unit Stop) (i j : Input) (bytes : List ℕ) → TookIn result i bytes j → (i.taken + length bytes ≤ input_limit → j ≡ took i bytes → P) → OnOk result P
+in-ok (Ok u) i j bytes t p = p t.0 t.1
+in-ok (Err cause) i j bytes t p = tt
+
+pub in-more : (i j : Input) (bytes : List ℕ) → j ≡ took i bytes → (i.taken < j.taken) ⊎ (j.ended ≡ true)
+in-more i j [] is = inr (ap (λ (k : Input). k.ended) is)
+in-more i j (b ∷ bytes) is = let t = ap (λ (k : Input). k.taken) is in inl (omega arith)
+
+pub in-left : (i j : Input) (bytes : List ℕ) → i.taken + length bytes ≤ input_limit → j ≡ took i bytes → left j ≡ left i
+in-left i j bytes within is = ap left is ∙ omega (arith, length-append i.rest bytes)
+
+pub filled : (result : Result Unit Stop) (i j : Input) (n : ℕ) (buf bytes : List ℕ) → next_line i ≡ None → n ≤ length buf → length buf ≤ buffer_size → bytes ≡ take n buf → TookIn result i bytes j
+    → (d : Disk) (e : Event) → e ≡ event.In (take n buf) false → Agrees d e × TookSome result i j (own (e ∷ []))
+filled result i j n buf bytes none le fits bytes_is taken_in d e is =
+    at-event bytes false result i j d e (some result (let l = ap length bytes_is ∙ length-take-le n buf le in omega arith) taken_in) (is ∙ ap (λ (b : List ℕ). event.In b false) (sym bytes_is))
   where
-    nothing : (b : List ℕ) → event.In (take 0 b) false ≡ event.In [] false
-    nothing [] = refl
-    nothing (x ∷ b) = refl
-
-not-empty : (n : ℕ) (buf : List ℕ) → (n ≡ 0 → ⊥) → n ≤ length buf → is_empty (take n buf) ≡ false
-not-empty zero buf ne le = absurd (ne refl)
-not-empty (suc n) [] ne le = absurd (omega arith)
-not-empty (suc n) (b ∷ buf) ne le = refl
-
-pub filled-some : (i : Input) (n taken : ℕ) (buf rest : List ℕ) (ended : Bool) → next_line i ≡ None → i.taken + n ≤ input_limit → (n ≡ 0 → ⊥) → n ≤ length buf → length buf ≤ buffer_size → rest ≡ i.rest ++ take n buf → ended ≡ i.ended → taken ≡ i.taken + n → (d : Disk) (e : Event) → e ≡ event.In (take n buf) false
-    → Agrees d e × TookSome (Ok tt) i (record { rest = rest; ended = ended; taken = taken }) (own (e ∷ []))
-filled-some i n taken buf rest ended none within ne le fits rest_is ended_is taken_is d e is =
-    let J : Input = record { rest = rest; ended = ended; taken = taken } in
-    at-event (take n buf) false (Ok tt) i J d e
-    (reads-one i J (take n buf) none (let l = length-take-le n buf le in omega arith) (let l = length-take-le n buf le in omega arith)
-    (same-input (sym rest_is) (not-empty n buf ne le ∙ sym (ended_is ∙ still_open i none)) (ap (λ (m : ℕ). i.taken + m) (length-take-le n buf le) ∙ sym taken_is)))
-    is
-
-pub filled-large : (i : Input) (n taken : ℕ) (buf : List ℕ) (j : Input) → next_line i ≡ None → n ≤ length buf → length buf ≤ buffer_size → taken ≡ i.taken → input_limit - taken < n → (d : Disk) (e : Event) → e ≡ event.In (take n buf) false
-    → Agrees d e × TookSome (Err stop.TooMuch) i j (own (e ∷ []))
-filled-large i n taken buf j none le fits taken_is more d e is =
-    at-event (take n buf) false (Err stop.TooMuch) i j d e
-    ([], i, take n buf, record { reads = refl; none = none }, ((let l = length-take-le n buf le in omega arith), (let l = length-take-le n buf le in omega arith)), refl) is
-
-pub filled-memory : (i : Input) (n : ℕ) (buf : List ℕ) (j : Input) → next_line i ≡ None → i.taken + n ≤ input_limit → n ≤ length buf → length buf ≤ buffer_size → (d : Disk) (e : Event) → e ≡ event.In (take n buf) false → Agrees d e × TookSome (Err stop.Memory) i j (own (e ∷ []))
-filled-memory i n buf j none within le fits d e is =
-    at-event (take n buf) false (Err stop.Memory) i j d e (took i (take n buf), reads-one i _ (take n buf) none (let l = length-take-le n buf le in omega arith) (let l = length-take-le n buf le in omega arith) refl) is
+    some : (r : Result Unit Stop) → length bytes ≤ buffer_size → TookIn r i bytes j → TookSome r i j (event.In bytes false ∷ [])
+    some (Ok u) small t = (none, (small, t.0), sym t.1)
+    some (Err stop.TooMuch) small t = ([], i, bytes, record { reads = refl; none = none }, (small, t.0), refl)
+    some (Err stop.Memory) small t = (took i bytes, (none, (small, t.0), refl))
+    some (Err stop.Input) small t = absurd t
+    some (Err stop.Output) small t = absurd t
+    some (Err stop.Disk) small t = absurd t
 
 -- takings go on from one another
 pub reads-more : (es fs : List Event) (i j k : Input) → Reads i es j → Reads j fs k → Reads i (es ++ fs) k

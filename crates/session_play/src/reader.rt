@@ -2,7 +2,7 @@
 ghost use Rattle.std.specs.Prelude.{◌≡◌, ◌≢◌, ◌⊎◌, None, ◌<◌, ◌≤◌, List, ℕ, length, slice_index, true, false, IfOk, OnOk, OnErr, OnSome, IfSome, IfNone};
 ghost use Rattle.host_port.specs.Ran.{Ran};
 ghost use Rattle.session_play.specs.Input.{next_line, left, Handed, no_input, input_limit};
-ghost use Rattle.session_play.specs.Feeds.{NoFeed};
+ghost use Rattle.session_play.specs.Feeds.{NoFeed, TookIn};
 ghost use Rattle.session_play.specs.Play.{Play, Ask, Ret, Line, Goes, Caused, TookSome, with_input};
 
 use crate::Stop;
@@ -111,6 +111,27 @@ impl Reader {
         self.at = 0;
     }
 
+    // Puts bytes behind the unused ones. None are the end.
+    fn take_in(&mut self, bytes: &[u8]) -> Result<(), Stop>
+        requires { self.old.ended ≡ false }
+        ensures { TookIn result self.old bytes.now self.new }
+    {
+        if bytes.is_empty() {
+            self.ended = true;
+            return Ok(());
+        }
+        if bytes.len() as u64 > INPUT_LIMIT - self.taken {
+            return Err(Stop::TooMuch);
+        }
+        match self.bytes.extend_from_slice(bytes) {
+            Ok(()) => {
+                self.taken += bytes.len() as u64;
+                Ok(())
+            }
+            Err(_) => Err(Stop::Memory),
+        }
+    }
+
     // Takes more input, where nothing can be handed out.
     fn fill<H: Host>(&mut self, host: &mut H) -> Result<(), Stop>
         requires { next_line self.old ≡ None }
@@ -123,23 +144,9 @@ impl Reader {
         ensures kept { OnOk result (left self.new ≡ left self.old) }
     {
         let mut buf = [0u8; CHUNK];
-        let n = match host.fill(&mut buf) {
-            Ok(n) => n,
-            Err(_) => return Err(Stop::Input),
-        };
-        if n == 0 {
-            self.ended = true;
-            return Ok(());
-        }
-        if n as u64 > INPUT_LIMIT - self.taken {
-            return Err(Stop::TooMuch);
-        }
-        match self.bytes.extend_from_slice(&buf[..n]) {
-            Ok(()) => {
-                self.taken += n as u64;
-                Ok(())
-            }
-            Err(_) => Err(Stop::Memory),
+        match host.fill(&mut buf) {
+            Ok(n) => self.take_in(&buf[..n]),
+            Err(_) => Err(Stop::Input),
         }
     }
 
