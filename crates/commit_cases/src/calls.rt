@@ -141,6 +141,7 @@ pub fn push_call(
         "stage" => push_stage(alloc, host, rest, text),
         "publish" => push_publish(alloc, host, rest, text),
         "recover" => text.push(commits::recovered(alloc, host)),
+        "commit" => commits::push_commit(alloc, host, rest, text),
         "add" => commits::push_added(alloc, host, rest, text),
         "empty" => commits::push_emptied(alloc, host, rest, text),
         _ => push_simple(alloc, host, kind, rest, text),

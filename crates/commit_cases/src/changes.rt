@@ -1,5 +1,5 @@
 // What changes make of a file.
-use case_blocks::{decoded, push_encoded};
+use case_blocks::{cut, decoded, push_encoded};
 use folder_change::{Change, ChangeError, change_name, outcome};
 use mail_text::{Items, Memory, Text};
 use mbox_scan::Folder;
@@ -16,31 +16,45 @@ pub fn texts(alloc: Global, barred: &str) -> Result<Items<Text>, Memory> {
     Ok(texts)
 }
 
-fn raw(alloc: Global, barred: &str) -> Result<Change, Memory> {
+fn raw(alloc: Global, name: Text, barred: &str) -> Result<Change, Memory> {
     let bytes = decoded(alloc, barred)?;
-    let name = Text::copy(alloc, b"box")?;
     Ok(Change::AddRaw { name, bytes })
 }
 
-fn with_texts(alloc: Global, kind: &str, texts: Items<Text>) -> Result<Change, Memory> {
-    let name = Text::copy(alloc, b"box")?;
+fn with_texts(kind: &str, name: Text, texts: Items<Text>) -> Change {
     match kind {
-        "add" => Ok(Change::Add { name, texts }),
-        "front" => Ok(Change::Front { name, texts }),
-        _ => Ok(Change::Rewrite {
+        "add" => Change::Add { name, texts },
+        "front" => Change::Front { name, texts },
+        _ => Change::Rewrite {
             name,
             list: texts,
             keep: kind == "keep",
-        }),
+        },
     }
 }
 
-fn change(alloc: Global, kind: &str, barred: &str) -> Result<Change, Memory> {
+fn change(alloc: Global, kind: &str, name: &str, barred: &str) -> Result<Change, Memory> {
+    let name = decoded(alloc, name)?;
     if kind == "raw" {
-        return raw(alloc, barred);
+        return raw(alloc, name, barred);
     }
     let texts = texts(alloc, barred)?;
-    with_texts(alloc, kind, texts)
+    Ok(with_texts(kind, name, texts))
+}
+
+fn change_of(alloc: Global, line: &str) -> Result<Change, Memory> {
+    let (kind, rest) = cut(line);
+    let (name, barred) = cut(rest);
+    change(alloc, kind, name, barred)
+}
+
+/// The changes between semicolons, each its kind, the name of its file and its texts.
+pub fn changes(alloc: Global, line: &str) -> Result<Items<Change>, Memory> {
+    let mut changes = Items::new(alloc);
+    for part in line.split(" ; ") {
+        changes.push(change_of(alloc, part)?)?;
+    }
+    Ok(changes)
 }
 
 /// What came of a change.
@@ -100,7 +114,7 @@ fn parts(line: &str) -> (&str, &str, &str, &str) {
 /// A change by a line: what it makes of the file.
 pub fn push_change(alloc: Global, line: &str, text: &mut Text) -> Result<(), Memory> {
     let (kind, current, base, texts) = parts(line);
-    let change = change(alloc, kind, texts)?;
+    let change = change(alloc, kind, "box", texts)?;
     if current == "-" {
         return push_opened(alloc, None, &change, base, text);
     }

@@ -1,9 +1,12 @@
 // Recoveries and commits.
-ghost use Rattle.std.specs.Prelude.{◌≡◌, false, All, IfOk};
+ghost use Rattle.std.specs.Prelude.{◌≡◌, false, codes, All, IfOk};
+ghost use Rattle.std.specs.List.{list_all};
 ghost use Rattle.folder_change.specs.Changes.{name_of, is_rewrite};
+ghost use Rattle.folder_commit.specs.Names.{is_file_name};
 
+use crate::changes::changes;
 use case_blocks::{cut, decoded};
-use folder_change::Change;
+use folder_change::{Change, change_name};
 use folder_commit::{CommitError, Passed, commit, is_file_name};
 use folder_recovery::{RecoverError, Recovered, recover};
 use host_port::MemHost;
@@ -136,16 +139,74 @@ pub fn push_emptied(
 }
 
 /// Whether a commit of the actor may change a file of this name.
-pub fn may_change(name: &[u8]) -> bool {
+pub fn may_change(name: &[u8]) -> bool
+    ensures { result ≡ is_file_name (codes "/h/m") name.now }
+{
     is_file_name(ACTOR, name)
 }
 
-/// An error in its words.
+fn may_change_all(changes: &[Change]) -> bool
+    ensures { result ≡ list_all (λ c. is_file_name (codes "/h/m") (name_of c)) changes.now }
+{
+    changes.iter().all(|change| may_change(change_name(change)))
+}
+
+// Commits changes: an error comes in its words.
+fn push_committed(
+    alloc: Global,
+    host: &mut MemHost,
+    changes: &[Change],
+    base: &Folder,
+    text: &mut Text,
+) -> Result<(), Memory> {
+    if !may_change_all(changes) {
+        return text.push(b"no name");
+    }
+    match commit(alloc, ACTOR, 1, changes, Some(base), host) {
+        Ok(()) => text.push(b"done"),
+        Err(error) => push_error(alloc, &error, text),
+    }
+}
+
+fn push_committed_over(
+    alloc: Global,
+    host: &mut MemHost,
+    line: &str,
+    base: Text,
+    text: &mut Text,
+) -> Result<(), Memory> {
+    match Folder::open(alloc, base) {
+        Ok(base) => {
+            let changes = changes(alloc, line)?;
+            push_committed(alloc, host, changes.items(), &base, text)
+        }
+        Err(_) => text.push(b"no folder"),
+    }
+}
+
+/// Commits the changes of a line; behind a slash stands the text that the folder of rewrites was read from.
+pub fn push_commit(
+    alloc: Global,
+    host: &mut MemHost,
+    line: &str,
+    text: &mut Text,
+) -> Result<(), Memory> {
+    let (line, base) = line.split_once(" / ").unwrap_or((line, ""));
+    let base = decoded(alloc, base)?;
+    push_committed_over(alloc, host, line, base, text)
+}
+
+// An error in its words.
+fn push_error(alloc: Global, error: &CommitError, text: &mut Text) -> Result<(), Memory> {
+    let words = format!(in alloc; "{error}")?;
+    text.push(words.as_bytes())
+}
+
+/// The words of an error.
 pub fn push_words(alloc: Global, text: &mut Text) -> Result<(), Memory> {
     let error = CommitError::TooLarge {
         name: Text::copy(alloc, b"/h/a")?,
         length: 5,
     };
-    let words = format!(in alloc; "{error}")?;
-    text.push(words.as_bytes())
+    push_error(alloc, &error, text)
 }

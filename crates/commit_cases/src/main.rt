@@ -12,6 +12,7 @@
 //! | `do load NAME` | what was seen |
 //! | `do recover`, `do add NAME TEXT` | how the recovery, or the commit that adds the text to the file, ended |
 //! | `do empty NAME TEXT` | how the commit ended that leaves a file without a message, read before as the text |
+//! | `do commit CHANGE ; CHANGE.. / BASE` | how the commit of these changes ended, an error in its words; a change is `KIND NAME TEXT\|TEXT..`, and BASE, which may be left out with its slash, the text that the rewrites were made for |
 //! | `letters` | a letter for each event so far |
 //! | `stop N PART` | what a stop inside the event of this number leaves, of which this part was done |
 //! | `stops` | for a stop inside each event, with each part done, what a recovery leaves; and a line where another stop inside that recovery, recovered again, leaves something else |
