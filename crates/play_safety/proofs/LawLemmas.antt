@@ -8,7 +8,10 @@ use Rattle.host_port.specs.declared.event.Event.TheVariants as event
 use Rattle.host_port.specs.Disk.{Disk, disk}
 use Rattle.host_port.specs.Ends.{stopped}
 use Rattle.host_port.specs.Own.{own, OnlyLooks}
+use Rattle.host_port.specs.Calls.{Counts}
+use Rattle.host_port.specs.Ran.{Honest, Ran}
 use Rattle.host_port.proofs.RanLemmas.{disk-append}
+use Rattle.std.proofs.lemmas.List.{append_cancel_left}
 use Rattle.folder_change.specs.declared.change.Change.{Change}
 use Rattle.commit_machine.specs.Names.{is_record_name, record_name}
 use Rattle.commit_machine.specs.Records.{record_in}
@@ -29,11 +32,12 @@ use Rattle.folder_commit.specs.Plans.{AreFiles}
 use Rattle.folder_commit.proofs.PlanLemmas.{is-job}
 use Rattle.session_play.specs.declared.changing.Committed.TheVariants as committed
 use Rattle.session_play.specs.declared.stop.Stop.{Stop}
+use Rattle.session_play.specs.Acts.{AllActs, AllEnds, is_neutral}
 use Rattle.session_play.specs.Committing.{Commit}
-use Rattle.session_play.specs.Play.{Act, Answer, Changes, Play, Ret, Ask, Did, Partly, Goes, Next, Go, Last, Loop}
+use Rattle.session_play.specs.Play.{Act, Answer, Changes, Play, Ret, Ask, Did, Partly, Goes, Next, Go, Last, Loop, Line, Say, Read, Try, Know}
 use Rattle.session_play.specs.Play as plays
 use Rattle.play_safety.specs.Passes.{decided_in, accepted_by, Commits, no_commits, behind, at_cut, Passes, PassesAll, again, last, cut}
-use Rattle.play_safety.specs.Safe.{IsBy, EachCommit, MayRun, queue, IsCalm, IsCrashSafe, is_output, PlaysAreSafe, TracesAreRead, DoneIsDecided}
+use Rattle.play_safety.specs.Safe.{IsBy, OfCommit, EachCommit, NextKeeps, MayRun, queue, IsCalm, IsCrashSafe, is_output, PlaysAreSafe, TracesAreRead, DoneIsDecided}
 use Rattle.play_safety.proofs.RowParts.{Stands, Due, between}
 use Rattle.play_safety.proofs.TraceLemmas.{parted, looks-undecided, decisions-then}
 use Rattle.play_safety.proofs.CoverLemmas.{looks-covered, covers-then}
@@ -107,9 +111,10 @@ plays_are_safe p actor token d es commits out each may passes =
     safe-of actor token d es may commits out (play-passed actor token may.fits p d es commits out [] (settled_files actor d) (settled_locks actor d) each (begins actor token d es may) may.honest may.lawful passes)
 
 -- rounds, with events behind them that only look
-pub run-safe : {X R : Type 0} (round : X → Play (Next X R)) (x : X) (actor : List ℕ) (token : ℕ) (d : Disk) (front rest : List Event) (commits : Commits) (out : Result R Stop) → ((y : X) → EachCommit (IsBy actor token) (round y))
+pub run-safe : {X R : Type 0} (round : X → Play (Next X R)) (x : X) (actor : List ℕ) (token : ℕ) (d : Disk) (front rest : List Event) (commits : Commits) (out : Result R Stop) (Keeps : X → Type 0)
+    → ((y : X) → Keeps y → EachCommit (IsBy actor token) (round y)) → ((y : X) → Keeps y → AllEnds (NextKeeps Keeps) (round y)) → Keeps x
     → MayRun actor token d (front ++ rest) → PassesAll round x d front commits out → OnlyLooks (own rest) → IsCrashSafe actor token d (front ++ rest) commits out
-run-safe round x actor token d front rest commits out each may all looks =
+run-safe round x actor token d front rest commits out Keeps each ends keeps may all looks =
     let files = settled_files actor d in
     let owners = settled_locks actor d in
     let q = queue commits ++ [] in
@@ -117,7 +122,7 @@ run-safe round x actor token d front rest commits out each may all looks =
     let files_now = run_files actor token d q files front in
     let owners_now = run_locks actor token d owners front in
     let lawful = lawful-back actor token front rest d may.lawful in
-    let p = loop-passed actor token may.fits round each [] files owners (begins actor token d (front ++ rest) may) (honest-front front rest d may.honest) (lawful_front (first_job actor token []) front rest d may.lawful) all in
+    let p = loop-passed actor token may.fits round Keeps each ends [] files owners keeps (begins actor token d (front ++ rest) may) (honest-front front rest d may.honest) (lawful_front (first_job actor token []) front rest d may.lawful) all in
     let now = p.covers.moments front [] (sym (append-nil front)) in
     let count = p.count in
     let none = looks-undecided (first_job actor token []) rest (disk d front) 0 looks in
@@ -183,3 +188,29 @@ pub done_is_decided : DoneIsDecided
 done_is_decided c actor token d es by may some did =
     let P : Commit → Type 0 = λ c. Did (Changes c) committed.Done (own es) → (decided_in c d es ≡ 1) × (list_any is_output es ≡ false) in
     subst P (sym (same-commit c actor token by)) (λ h. done-of c.changes c.base actor token d es by.files may some h) did
+
+-- acts that change nothing make no commit
+neutral-commit : (P : Commit → Type 0) (act : Act) → is_neutral act ≡ true → OfCommit P act
+neutral-commit P (Line i) h = tt
+neutral-commit P (Say bytes) h = tt
+neutral-commit P (Read name) h = tt
+neutral-commit P (Try name) h = tt
+neutral-commit P (Know texts) h = tt
+neutral-commit P (Changes c) h = absurd (cc h)
+
+pub neutral-commits : {R : Type 0} (P : Commit → Type 0) (p : Play R) → AllActs is_neutral p → EachCommit P p
+neutral-commits P (Ret r) all = tt
+neutral-commits P (Ask act go) all = (neutral-commit P act all.0, λ a. neutral-commits P (go a) (all.1 a))
+
+-- a run that is told, of rounds and then of events that only look
+pub ran-safe : {H : Type 0} {start : H → Disk} {told : H → Option (List Event)} {counts : H → Counts} {old new : H} {W : List Event → Type 0} (before es : List Event) → Ran start told counts old new W
+    → told old ≡ Some before → told new ≡ Some (before ++ es) → Honest (disk (start old) before) es × W (own es)
+ran-safe {start = start} {told = told} {old = old} {W = W} before es ran at to =
+    let t = ran.told_is (before ++ es) to in
+    let same : Some before ≡ Some t.0 = sym at ∙ t.1 in
+    let first : before ≡ t.0 = cc in
+    let added : es ≡ t.2.added = append_cancel_left before es t.2.added (t.2.is ∙ ap (λ (r : List Event). r ++ t.2.added) (sym first)) in
+    let D : Disk → Type 0 = λ d. Honest d t.2.added in
+    let E : List Event → Type 0 = λ xs. Honest (disk (start old) before) xs in
+    let P : List Event → Type 0 = λ xs. W (own xs) in
+    (subst E (sym added) (subst D (ap (disk (start old)) (sym first)) t.2.honest), subst P (sym added) t.2.own_ones)

@@ -38,11 +38,12 @@ use Rattle.session_play.specs.declared.changing.Committed.TheVariants as committ
 use Rattle.session_play.specs.declared.stop.Stop.{Stop}
 use Rattle.session_play.specs.declared.stop.Stop.TheVariants as stop
 use Rattle.session_play.specs.Committing.{Commit, answer_as}
-use Rattle.session_play.specs.Acts.{is_neutral}
+use Rattle.session_play.specs.Acts.{is_neutral, AllEnds}
+use Rattle.session_play.proofs.ShapeLemmas.{came-same}
 use Rattle.session_play.specs.Play.{Act, Answer, Line, Say, Read, Try, Changes, Know, Play, Ret, Ask, Did, Partly, Next, Go, Last}
 use Rattle.session_play.proofs.LooksLemmas.{neutral-did, neutral-part}
 use Rattle.play_safety.specs.Passes.{decided_in, accepted_by, Commits, behind, at_cut, Passes, PassesAll, again, last, cut}
-use Rattle.play_safety.specs.Safe.{IsBy, OfCommit, EachCommit, queue_of, queue, IsCalm}
+use Rattle.play_safety.specs.Safe.{IsBy, OfCommit, EachCommit, queue_of, queue, IsCalm, NextKeeps}
 use Rattle.play_safety.proofs.RowParts.{Stands, Due, Leaves, between, not-decided, was-decided, after-piece, due-then, queue-split, honest-back, run-of}
 use Rattle.play_safety.proofs.TraceLemmas.{looks-undecided, decisions-then, decisions-same}
 use Rattle.play_safety.proofs.CoverLemmas.{Covers, looks-covered, covers-then, bracket-covered}
@@ -366,29 +367,38 @@ module _ (actor : List ℕ) (token : ℕ) where
         (subst (λ (commits : Commits). Plays {R = R} (Err cause) d commits more files owners es) (sym commits_is)
         (record { covers = x.covers; leaves = λ never. absurd never; count = x.count; fresh = λ c. x.fresh (calm-cut R cause c) }))
 
-    pub loop-passed : {X R : Type 0} (round : X → Play (Next X R)) → ((x : X) → EachCommit (IsBy actor token) (round x)) → {x : X} {d : Disk} {es : List Event} {commits : Commits} {out : Result R Stop}
-        → (more : List (List Edit)) (files : Files) (owners : Locks) → Stands actor token d files owners → Honest d es → OthersAreLawful actor token d es → PassesAll round x d es commits out → Plays out d commits more files owners es
-    loop-passed round each {x = x} {d = d} {es = es} {commits = commits} {out = out} more files owners s honest lawful (again {y = y} front rest first later is commits_is goes all) =
-        let honest_so = subst (Honest d) is honest in
-        let lawful_so = subst (OthersAreLawful actor token d) is lawful in
-        let one = play-passed (round x) d front (record { accepted = first; pending = [] }) (Ok (Go y)) (queue later ++ more) files owners (each x) s (honest-front front rest d honest_so) (lawful_front (first_job actor token []) front rest d lawful_so) goes in
-        let q = queue_of first ++ (queue later ++ more) in
-        let whole : queue (record { accepted = first; pending = [] }) ++ (queue later ++ more) ≡ q = ap (λ (cs : List Commit). queue_of cs ++ (queue later ++ more)) (append-nil first) in
-        let z = passed-as d (queue (record { accepted = first; pending = [] }) ++ (queue later ++ more)) q (queue later ++ more) (length first) (length first) files owners front whole refl one in
-        let now = after-piece actor token d q (queue later ++ more) files owners front (z.leaves tt) in
-        let rest_of = loop-passed round each more (run_files actor token d q files front) (run_locks actor token d owners front) now (honest-back front rest d honest_so) (lawful-back actor token front rest d lawful_so) all in
-        subst (λ (es : List Event). Plays out d commits more files owners es) (sym is)
-        (subst (λ (commits : Commits). Plays out d commits more files owners (front ++ rest)) (sym commits_is) (plays-then out d first later more files owners front rest z rest_of))
-    loop-passed round each {x = x} {d = d} {es = es} {commits = commits} more files owners s honest lawful (last {r = r} goes) =
-        let one = play-passed (round x) d es commits (Ok (Last r)) more files owners (each x) s honest lawful goes in
-        record { covers = one.covers; leaves = one.leaves; count = one.count; fresh = one.fresh }
-    loop-passed {X = X} {R = R} round each {x = x} {d = d} {es = es} {commits = commits} more files owners s honest lawful (cut {cause = cause} goes) =
-        let one = play-passed (round x) d es commits (Err cause) more files owners (each x) s honest lawful goes in
-        record { covers = one.covers; leaves = one.leaves; count = one.count; fresh = λ c. one.fresh (calm-back cause c) }
-      where
-        calm-back : (cause : Stop) → IsCalm {R = R} (Err cause) → IsCalm {R = Next X R} (Err cause)
-        calm-back stop.Disk never = never
-        calm-back stop.Input c = tt
-        calm-back stop.Output c = tt
-        calm-back stop.TooMuch c = tt
-        calm-back stop.Memory c = tt
+    -- where a play comes to its end, that is such an end
+    passes-ends : {R : Type 0} (P : R → Type 0) (p : Play R) (d : Disk) (es : List Event) (commits : Commits) (r : R) → AllEnds P p → Passes p d es commits (Ok r) → P r
+    passes-ends P (Ret q) d es commits r ends (none, is, inl same) = subst P (sym (came-same r q same)) ends
+    passes-ends P (Ret q) d es commits r ends (none, is, inr other) = absurd (cc other)
+    passes-ends P (Ask act go) d es commits r ends (inl (answer, front, rest, later, is, did, commits_is, goes)) = passes-ends P (go answer) (disk d front) rest later r (ends answer) goes
+    passes-ends P (Ask act go) d es commits r ends (inr (cause, other, is, how)) = absurd (cc other)
+
+    module _ {X R : Type 0} (round : X → Play (Next X R)) (Keeps : X → Type 0) (each : (x : X) → Keeps x → EachCommit (IsBy actor token) (round x)) (ends : (x : X) → Keeps x → AllEnds (NextKeeps Keeps) (round x)) where
+      pub loop-passed : {x : X} {d : Disk} {es : List Event} {commits : Commits} {out : Result R Stop} (more : List (List Edit)) (files : Files) (owners : Locks) → Keeps x → Stands actor token d files owners
+          → Honest d es → OthersAreLawful actor token d es → PassesAll round x d es commits out → Plays out d commits more files owners es
+      loop-passed {x = x} {d = d} {es = es} {commits = commits} {out = out} more files owners keeps s honest lawful (again {y = y} front rest first later is commits_is goes all) =
+          let honest_so = subst (Honest d) is honest in
+          let lawful_so = subst (OthersAreLawful actor token d) is lawful in
+          let one = play-passed (round x) d front (record { accepted = first; pending = [] }) (Ok (Go y)) (queue later ++ more) files owners (each x keeps) s (honest-front front rest d honest_so) (lawful_front (first_job actor token []) front rest d lawful_so) goes in
+          let kept : Keeps y = passes-ends (NextKeeps Keeps) (round x) d front (record { accepted = first; pending = [] }) (Go y) (ends x keeps) goes in
+          let q = queue_of first ++ (queue later ++ more) in
+          let whole : queue (record { accepted = first; pending = [] }) ++ (queue later ++ more) ≡ q = ap (λ (cs : List Commit). queue_of cs ++ (queue later ++ more)) (append-nil first) in
+          let z = passed-as d (queue (record { accepted = first; pending = [] }) ++ (queue later ++ more)) q (queue later ++ more) (length first) (length first) files owners front whole refl one in
+          let now = after-piece actor token d q (queue later ++ more) files owners front (z.leaves tt) in
+          let rest_of = loop-passed more (run_files actor token d q files front) (run_locks actor token d owners front) kept now (honest-back front rest d honest_so) (lawful-back actor token front rest d lawful_so) all in
+          subst (λ (es : List Event). Plays out d commits more files owners es) (sym is)
+          (subst (λ (commits : Commits). Plays out d commits more files owners (front ++ rest)) (sym commits_is) (plays-then out d first later more files owners front rest z rest_of))
+      loop-passed {x = x} {d = d} {es = es} {commits = commits} more files owners keeps s honest lawful (last {r = r} goes) =
+          let one = play-passed (round x) d es commits (Ok (Last r)) more files owners (each x keeps) s honest lawful goes in
+          record { covers = one.covers; leaves = one.leaves; count = one.count; fresh = one.fresh }
+      loop-passed {x = x} {d = d} {es = es} {commits = commits} more files owners keeps s honest lawful (cut {cause = cause} goes) =
+          let one = play-passed (round x) d es commits (Err cause) more files owners (each x keeps) s honest lawful goes in
+          record { covers = one.covers; leaves = one.leaves; count = one.count; fresh = λ c. one.fresh (calm-back cause c) }
+        where
+          calm-back : (cause : Stop) → IsCalm {R = R} (Err cause) → IsCalm {R = Next X R} (Err cause)
+          calm-back stop.Disk never = never
+          calm-back stop.Input c = tt
+          calm-back stop.Output c = tt
+          calm-back stop.TooMuch c = tt
+          calm-back stop.Memory c = tt

@@ -23,7 +23,7 @@ use Rattle.session_play.specs.declared.stop.Stop.{Stop}
 use Rattle.session_play.specs.declared.stop.Stop.TheVariants as stop
 use Rattle.session_play.specs.Committing.{Commit}
 use Rattle.session_play.specs.declared.changing.Committed.TheVariants as committed
-use Rattle.session_play.specs.Play.{Act, Answer, Changes, Play, Ret, Ask, Did, Goes}
+use Rattle.session_play.specs.Play.{Act, Answer, Changes, Play, Ret, Ask, Did, Goes, Next, Go, Last}
 use Rattle.play_safety.specs.Passes.{decided_in, Commits, Passes}
 
 -- a commit of this actor under this token, of files that it may change
@@ -46,6 +46,11 @@ OfCommit P act = Unit {0}
 abbrev pub EachCommit : {R : Type 0} → (Commit → Type 0) → Play R → Type 0
 EachCommit P (Ret r) = Unit {0}
 EachCommit P (Ask act go) = OfCommit P act × ((answer : Answer act) → EachCommit P (go answer))
+
+-- the next state keeps what its states keep
+abbrev pub NextKeeps : {X R : Type 0} → (X → Type 0) → Next X R → Type 0
+NextKeeps Keeps (Go x) = Keeps x
+NextKeeps Keeps (Last r) = Unit {0}
 
 -- a run begins on a disk that is sound and carries nothing of its token, its events say what is so, and others do only what is lawful
 pub record MayRun (actor : List ℕ) (token : ℕ) (d : Disk) (es : List Event) : Type 0 where
