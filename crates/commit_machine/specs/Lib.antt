@@ -10,5 +10,6 @@ pub mod Edits
 pub mod Laws
 pub mod Worked
 pub mod Restraints
+pub mod Events
 pub mod Troubles
 pub mod Rows

@@ -1,5 +1,6 @@
 ghost use Rattle.commit_machine.specs.Laws.{CrashSafe, FrontIsRun, StretchesJoin, StopSafe, OnlyDecisions, DecisionsApply, NothingLeft, NoRecordStands, RecoverySettles, DecisionsAreTold};
 ghost use Rattle.commit_machine.specs.Edits.{EditsAreChanges};
+ghost use Rattle.commit_machine.specs.Events.{WorkedEvents};
 ghost use Rattle.commit_machine.specs.Restraints.{RightIsGivenUp, NothingAfterAFault, NoRefusedIsDecided};
 ghost use Rattle.commit_machine.specs.Rows.{RowIsSafe, RowMoments, RowStops, RowStopsBetween};
 ghost use Rattle.commit_machine.specs.Troubles.{TroubledRuns};
@@ -74,8 +75,7 @@ pub fn no_refused_is_decided()
     ensures { NoRefusedIsDecided }
 {}
 
-/// The edits of changes make of files what the changes, one after the other, make of them, where each
-/// file that they name stands afterwards.
+/// The edits of changes make of files what the changes, one after the other, make of them.
 pub fn edits_are_changes()
     ensures { EditsAreChanges }
 {}
@@ -91,6 +91,11 @@ pub fn alone_goes()
 /// work meanwhile: there is a run among lawful steps.
 pub fn worked_runs()
     ensures { WorkedRuns }
+{}
+
+/// What each event answers, whether it failed and whether it may act.
+pub fn worked_events()
+    ensures { WorkedEvents }
 {}
 
 /// How a commit of one file may end where the record or the file is too long, where memory is wanting, and

@@ -4,7 +4,6 @@ use Rattle.std.proofs.lemmas.Bool.{cond-true}
 use Rattle.std.proofs.lemmas.List.Elements.{All-head, All-tail}
 use Rattle.std.proofs.lemmas.Slice.Eq.{bytes_eq-Decides}
 use Rattle.std.specs.Option.{option_map}
-use Rattle.commit_record.specs.declared.record.EntryKind.TheVariants.{Replace}
 use Rattle.folder_change.specs.declared.change.Change.{Change}
 use Rattle.folder_change.specs.Changes.{name_of}
 use Rattle.folder_change.specs.Outcomes.{bytes_of}
@@ -13,11 +12,12 @@ use Rattle.commit_machine.specs.Settled.{Files}
 use Rattle.commit_machine.specs.Jobs.{Refusal, Edit, Job, Made, seen_files, seen_of}
 use Rattle.commit_machine.specs.Edits.{first_names, without, edit_for, outcome_for, cause_of}
 use Rattle.commit_machine.specs.Machine.{loaded, judged}
+use Rattle.commit_driver.specs.Places.{file_kind}
 use Rattle.folder_commit.specs.OneFile.{AllOf, job_of}
 
 -- what was loaded for changes
 abbrev pub made_of : List Change → List (List ℕ) → List ℕ → Option (List ℕ) → Made
-made_of changes base name seen = record { edit = edit_for changes base name; seen = seen; kind = Replace; content = bytes_of (apply changes base (λ n. seen) name) }
+made_of changes base name seen = record { edit = edit_for changes base name; seen = seen; kind = file_kind (apply changes base (λ n. seen) name); content = bytes_of (apply changes base (λ n. seen) name) }
 
 module _ (actor : List ℕ) (token : ℕ) (changes : List Change) (base : List (List ℕ)) (name : List ℕ) where
   abbrev job_one : Job
@@ -33,7 +33,7 @@ module _ (actor : List ℕ) (token : ℕ) (changes : List Change) (base : List (
   loaded-one c = go (apply changes base (λ n. c) name)
     where
       with_one : Option (List ℕ) → Made
-      with_one o = record { edit = edit_one; seen = c; kind = Replace; content = bytes_of o }
+      with_one o = record { edit = edit_one; seen = c; kind = file_kind o; content = bytes_of o }
 
       go : (o : Option (List ℕ)) → loaded job_one [] edit_one [] c (outcome_for o) ≡ judged job_one (with_one o ∷ []) (refusal_one (seen_files (with_one o ∷ [])))
       go None = refl

@@ -42,11 +42,14 @@ by_load changes base name (Load n (seen.Bytes c held) ∷ es) = by_changes (firs
 by_load changes base name (Load n (seen.TooLarge length) ∷ es) = Refused (TooLarge name length)
 by_load changes base name es = NoMemory
 
--- once no record stands any more: the first record is published, and the file is locked
+-- Once the record that stands is read: it is done with, where a staged file may be too long to load or want memory; then the first record is
+-- published, and the file is locked.
 abbrev pub by_lock : List ℕ → List Change → List (List ℕ) → List ℕ → List Event → Ending
 by_lock actor changes base name [] = NoMemory
 by_lock actor changes base name (Lock n t true failed ∷ es) = by_load changes base name es
 by_lock actor changes base name (Lock n t false failed ∷ es) = Refused (Busy name)
+by_lock actor changes base name (Load n (seen.TooLarge length) ∷ es) = Refused (TooLarge n length)
+by_lock actor changes base name (Load n seen.Memory ∷ es) = NoMemory
 by_lock actor changes base name (Publish from to false failed ∷ es) = if bytes_eq from (new_name actor) then Refused NotARecord else by_lock actor changes base name es
 by_lock actor changes base name (e ∷ es) = by_lock actor changes base name es
 
