@@ -98,43 +98,39 @@ module _ (actor : List ℕ) (token : ℕ) where
   abbrev Stays : Ending → State → Event → Type 0
   Stays x s e = GoesWith x s e ⊎ Cuts x s e
 
-  -- a call that failed
-  cut : {s : State} {e : Event} (x : Ending) → after_reply job s (reply e) ≡ Releasing (Failed Before) → ((n : List ℕ) → ended (e ∷ event.Release n ∷ []) x ≡ Failed Before) → Stays x s e
-  cut x is same = inr (Failed Before, is, same)
-
   undoing-stays : (x : Ending) (r : Record) (n : List ℕ) (ns ls : List (List ℕ)) → x ≡ Recovered (found_of r) → (done failed : Bool) → Stays x (Undoing r n ns ls GoOn) (event.Erase (staged_name r.token n) done failed)
-  undoing-stays x r n ns ls h done true = cut x refl (λ m. refl)
+  undoing-stays x r n ns ls h done true = inr (Failed Before, refl, λ m. refl)
   undoing-stays x r n ns ls h done false = inl (heads_undoing x r ns ls h, λ es. refl)
 
   placing-stays : (x : Ending) (r : Record) (n : List ℕ) (ns ls : List (List ℕ)) → x ≡ Recovered (found_of r) → (done failed : Bool) → Stays x (Placing r n ns ls GoOn) (event.Publish (staged_name r.token n) n done failed)
-  placing-stays x r n ns ls h done true = cut x refl (λ m. refl)
+  placing-stays x r n ns ls h done true = inr (Failed Before, refl, λ m. refl)
   placing-stays x r n ns ls h done false = inl (heads_placing x r ns ls h, λ es. refl)
 
   testing-stays : (x : Ending) (r : Record) (n : List ℕ) (ns ls : List (List ℕ)) → x ≡ Recovered (found_of r) → (s : Seen) → (Stays x (Testing r n ns ls) (event.Load (staged_name r.token n) s)) ⊎ (s ≡ seen.Memory)
   testing-stays x r n ns ls h (seen.Bytes None held) = inl (inl (heads_placing x r ns ls h, λ es. refl))
   testing-stays x r n ns ls h (seen.Bytes (Some bytes) held) = inl (inl (h, λ es. refl))
   testing-stays x r n ns ls h (seen.TooLarge k) = inl (inr (Refused (TooLarge (staged_name r.token n) k), refl, λ m. refl))
-  testing-stays x r n ns ls h seen.Failed = inl (cut x refl (λ m. refl))
+  testing-stays x r n ns ls h seen.Failed = inl (inr (Failed Before, refl, λ m. refl))
   testing-stays x r n ns ls h seen.Memory = inr refl
 
   removing-stays : (x : Ending) (r : Record) (n : List ℕ) (ns ls : List (List ℕ)) → x ≡ Recovered (found_of r) → (done failed : Bool) → Stays x (Removing r n ns ls GoOn) (event.Erase n done failed)
-  removing-stays x r n ns ls h done true = cut x refl (λ m. refl)
+  removing-stays x r n ns ls h done true = inr (Failed Before, refl, λ m. refl)
   removing-stays x r n ns ls h done false = inl (h, λ es. refl)
 
   discarding-stays : (x : Ending) (r : Record) (n : List ℕ) (ns ls : List (List ℕ)) → x ≡ Recovered (found_of r) → (done failed : Bool) → Stays x (Discarding r n ns ls GoOn) (event.Erase (staged_name r.token n) done failed)
-  discarding-stays x r n ns ls h done true = cut x refl (λ m. refl)
+  discarding-stays x r n ns ls h done true = inr (Failed Before, refl, λ m. refl)
   discarding-stays x r n ns ls h done false = inl (heads_placing x r ns ls h, λ es. refl)
 
   unlocking-stays : (x : Ending) (r : Record) (n : List ℕ) (ns : List (List ℕ)) → x ≡ Recovered (found_of r) → (done failed : Bool) → Stays x (Unlocking r n ns GoOn) (event.Unlock n r.token done failed)
-  unlocking-stays x r n ns h done true = cut x refl (λ m. refl)
+  unlocking-stays x r n ns h done true = inr (Failed Before, refl, λ m. refl)
   unlocking-stays x r n ns h done false = inl (heads_unlocking x r ns h, λ es. refl)
 
   erasing-stays : (x : Ending) (r : Record) → x ≡ Recovered (found_of r) → (done failed : Bool) → Stays x (Erasing r GoOn) (event.Erase (record_name actor) done failed)
-  erasing-stays x r h done true = cut x refl (λ m. refl)
+  erasing-stays x r h done true = inr (Failed Before, refl, λ m. refl)
   erasing-stays x r h done false = inl (h, λ es. refl)
 
   clearing-stays : (x : Ending) (f : Found) → x ≡ Recovered f → (done failed : Bool) → Stays x (Clearing f) (event.Erase (new_name actor) done failed)
-  clearing-stays x f h done true = cut x refl (λ m. refl)
+  clearing-stays x f h done true = inr (Failed Before, refl, λ m. refl)
   clearing-stays x f h done false = inr (Recovered f, refl, λ m. h)
 
   -- an event of the next call stays on the way, or it is a load that wants memory

@@ -28,13 +28,13 @@ pub returns-in_err-files-clause-ran : goal.returns-in_err-files-clause-ran
 returns-in_err-files-clause-ran g c =
     Ran-none (of-memory c.args.actor.now c.args.token c.args.changes.now (base_list (option_copied c.args.base)) c.from_residual-in_err-files.result c.requires.some (err_from_is_err_and c.from_residual-in_err-files.result c.from_residual-in_err-files.ensures.1))
 
-pub drive-requires-clause-safe : goal.drive-requires-clause-safe
-drive-requires-clause-safe g c =
+pub drive-end-requires-clause-safe : goal.drive-end-requires-clause-safe
+drive-end-requires-clause-safe g c =
     let few = c.in_ok-plan.ensures.0 in
     subst IsSafe (sym c.in_ok-plan.ensures.1) (is-safe c.args.actor.now c.args.token c.args.changes.now c.requires.short c.requires.no_zero c.requires.files c.requires.some few)
 
-pub drive-requires-clause-named : goal.drive-requires-clause-named
-drive-requires-clause-named g c =
+pub drive-end-requires-clause-named : goal.drive-end-requires-clause-named
+drive-end-requires-clause-named g c =
     let P : Plan → Type 0 = λ q. All (λ (x : Change). has (names_of q.value) (name_of x) ≡ true) c.args.changes.now in
     subst P (sym c.in_ok-plan.ensures.1) (all-named c.args.actor.now c.args.token c.args.changes.now)
 
@@ -45,30 +45,30 @@ returns-clause-ran g c =
     let cs = c.args.changes.now in
     let base = base_list (option_copied c.args.base) in
     let j = job_for actor token cs base in
-    let e = c.drive.result.0 in
+    let e = c.drive-end.result.0 in
     let is = c.in_ok-plan.ensures.1 in
     let P : Plan → Type 0 = λ q. IsPlan j q in
-    let place = c.drive.result.1 in
+    let place = c.drive-end.result.1 in
     let F : Plan → Type 0 = λ q. EndFits (files_of q) (entries_of place) e in
     let A : List Event → Plan → Type 0 = λ es q. IsCommit actor token cs base es (answer_of e q place) in
     let R : List Event → Result Unit CommitError → Type 0 = λ es r. IsCommit actor token cs base es r in
-    Ran-map (λ es d. subst (R es) (sym c.answer.ensures) (subst (A es) (sym is) (is-commit actor token cs base place e es c.requires.some c.in_ok-plan.ensures.0 c.drive.ensures.place.staged_are (subst F is c.drive.ensures.fits) d)))
-    (c.drive.ensures.ran j (subst P (sym is) (is-plan actor token cs base)) (inr (is-for actor token cs base)))
+    Ran-map (λ es d. subst (R es) (sym c.answer.ensures) (subst (A es) (sym is) (is-commit actor token cs base place e es c.requires.some c.in_ok-plan.ensures.0 c.drive-end.ensures.place.staged_are (subst F is c.drive-end.ensures.fits) d)))
+    (c.drive-end.ensures.ran j (subst P (sym is) (is-plan actor token cs base)) (inr (is-for actor token cs base)))
 
 pub returns-clause-named : goal.returns-clause-named
 returns-clause-named g c =
     let actor = c.args.actor.now in
     let cs = c.args.changes.now in
-    let e = c.drive.result.0 in
+    let e = c.drive-end.result.0 in
     let is = c.in_ok-plan.ensures.1 in
-    let place = c.drive.result.1 in
+    let place = c.drive-end.result.1 in
     let F : Plan → Type 0 = λ q. EndFits (files_of q) (entries_of place) e in
     let A : Plan → Type 0 = λ q. IsNamed actor cs (answer_of e q place) in
     let R : Result Unit CommitError → Type 0 = λ r. IsNamed actor cs r in
-    subst R (sym c.answer.ensures) (subst A (sym is) (is-named actor c.args.token cs place e c.requires.some c.drive.ensures.place.staged_are (subst F is c.drive.ensures.fits)))
+    subst R (sym c.answer.ensures) (subst A (sym is) (is-named actor c.args.token cs place e c.requires.some c.drive-end.ensures.place.staged_are (subst F is c.drive-end.ensures.fits)))
 
 pub answer-requires : goal.answer-requires
 answer-requires g c =
-    let e = c.drive.result.0 in
-    let place = c.drive.result.1 in
-    subst (λ (m : ℕ). EndFits (files_of c.in_ok-plan.plan) m e) (sym (staged-long place c.drive.ensures.place.staged_are)) c.drive.ensures.fits
+    let e = c.drive-end.result.0 in
+    let place = c.drive-end.result.1 in
+    subst (λ (m : ℕ). EndFits (files_of c.in_ok-plan.plan) m e) (sym (staged-long place c.drive-end.ensures.place.staged_are)) c.drive-end.ensures.fits
