@@ -1,51 +1,71 @@
--- Each event, with what it answers, whether it failed and whether it may act: so that no case of a definition over events takes in one that it
--- isn't meant for.
-use Rattle.std.specs.Prelude.{◌≡◌, ℕ, Bool, true, false, List, [], ◌∷◌, map, codes}
-use Rattle.std.specs.declared.option.Option.TheVariants.{Some, None}
+-- What each event says, one row an event: no event is left to a row for the others.
+use Rattle.std.specs.Prelude.{◌≡◌, Bool, true, false}
 use Rattle.host_port.specs.declared.event.Event.{Event}
-use Rattle.host_port.specs.declared.event.Event.TheVariants.{In, Out, Load, Stage, Publish, Erase, Lock, Unlock, Seize, Release, Foreign}
-use Rattle.host_port.specs.declared.event.ForeignStep.TheVariants as step
+use Rattle.host_port.specs.declared.event.Event.TheVariants as event
+use Rattle.host_port.specs.declared.event.Seen.{Seen}
 use Rattle.host_port.specs.declared.event.Seen.TheVariants as seen
+use Rattle.host_port.specs.Disk.{Disk, after}
+use Rattle.host_port.specs.Own.{may_change}
 use Rattle.commit_machine.specs.Machine.{Reply, Went, Saw, Long, Short, Fault}
 use Rattle.commit_machine.specs.Goes.{reply}
+use Rattle.commit_machine.specs.Laws.{is_foreign}
 use Rattle.commit_machine.specs.Restraints.{is_failed, may_act}
 
-abbrev pub a : List ℕ
-a = codes "/h/a"
+-- the answer of an event, whether its call failed, whether its call may change a file or a lock or take a right, and whether it may change the disk
+pub record EventRow : Type 0 where
+  pub answer : Reply
+  pub failed : Bool
+  pub acts : Bool
+  pub changes : Bool
 
--- an event of each call that went so: done or taken, and not
-abbrev pub went_events : List Event
-went_events =
-    Load a (seen.Bytes (Some a) false)
-    ∷ Load a (seen.TooLarge 5)
-    ∷ Load a seen.Memory
-    ∷ Stage a (Some a) false
-    ∷ Publish a a true false
-    ∷ Publish a a false false
-    ∷ Erase a true false
-    ∷ Lock a 1 true false
-    ∷ Lock a 1 false false
-    ∷ Unlock a 1 true false
-    ∷ Unlock a 1 false false
-    ∷ Seize a true false
-    ∷ Seize a false false
-    ∷ Release a
-    ∷ []
+abbrev pub row : Reply → Bool → Bool → Bool → EventRow
+row answer failed acts changes = record { answer = answer; failed = failed; acts = acts; changes = changes }
 
--- an event of each call that failed
-abbrev pub failed_events : List Event
-failed_events = Load a seen.Failed ∷ Stage a None true ∷ Publish a a true true ∷ Erase a true true ∷ Lock a 1 true true ∷ Unlock a 1 true true ∷ Seize a true true ∷ []
+abbrev pub load_row : Seen → EventRow
+load_row (seen.Bytes bytes held) = row (Saw bytes) false false false
+load_row (seen.TooLarge length) = row (Long length) false false false
+load_row seen.Failed = row Fault true false false
+load_row seen.Memory = row Short false false false
 
--- events that are of no call of the machine
-abbrev pub other_events : List Event
-other_events = In a false ∷ In a true ∷ Out a false ∷ Out a true ∷ Foreign (step.Remove a) ∷ []
+-- a call that may be done, and may fail
+abbrev pub call_row : Bool → Bool → EventRow
+call_row done true = row Fault true true true
+call_row done false = row (Went done) false true true
 
-pub record WorkedEvents : Type 0 where
-  pub answers : map reply went_events ≡ Saw (Some a) ∷ Long 5 ∷ Short ∷ Went true ∷ Went true ∷ Went false ∷ Went true ∷ Went true ∷ Went false ∷ Went true ∷ Went false ∷ Went true ∷ Went false ∷ Went true ∷ []
-  pub faults : map reply failed_events ≡ Fault ∷ Fault ∷ Fault ∷ Fault ∷ Fault ∷ Fault ∷ Fault ∷ []
-  pub went_well : map is_failed went_events ≡ false ∷ false ∷ false ∷ false ∷ false ∷ false ∷ false ∷ false ∷ false ∷ false ∷ false ∷ false ∷ false ∷ false ∷ []
-  pub failed : map is_failed failed_events ≡ true ∷ true ∷ true ∷ true ∷ true ∷ true ∷ true ∷ []
-  pub acted : map may_act went_events ≡ false ∷ false ∷ false ∷ true ∷ true ∷ true ∷ true ∷ true ∷ true ∷ true ∷ true ∷ true ∷ true ∷ false ∷ []
-  pub acted_too : map may_act failed_events ≡ false ∷ true ∷ true ∷ true ∷ true ∷ true ∷ true ∷ []
-  pub others_fail_not : map is_failed other_events ≡ false ∷ false ∷ false ∷ false ∷ false ∷ []
-  pub others_act_not : map may_act other_events ≡ false ∷ false ∷ false ∷ false ∷ false ∷ []
+abbrev pub event_row : Event → EventRow
+event_row (event.In bytes failed) = row (Went true) false false false
+event_row (event.Out bytes failed) = row (Went true) false false false
+event_row (event.Load name seen) = load_row seen
+event_row (event.Stage name bytes failed) = call_row true failed
+event_row (event.Publish from to done failed) = call_row done failed
+event_row (event.Erase name done failed) = call_row done failed
+event_row (event.Lock name token got failed) = call_row got failed
+event_row (event.Unlock name token done failed) = call_row done failed
+event_row (event.Seize name got failed) = call_row got failed
+event_row (event.Release name) = row (Went true) false false true
+event_row (event.Foreign step) = row (Went true) false false false
+
+-- the event is a call on the disk
+abbrev pub is_disk : Event → Bool
+is_disk (event.In bytes failed) = false
+is_disk (event.Out bytes failed) = false
+is_disk (event.Load name seen) = true
+is_disk (event.Stage name bytes failed) = true
+is_disk (event.Publish from to done failed) = true
+is_disk (event.Erase name done failed) = true
+is_disk (event.Lock name token got failed) = true
+is_disk (event.Unlock name token done failed) = true
+is_disk (event.Seize name got failed) = true
+is_disk (event.Release name) = true
+is_disk (event.Foreign step) = false
+
+-- each event is as its row says, and an own one that may not change the disk leaves it
+pub record IsAsItsRow (e : Event) : Type 0 where
+  pub answer : reply e ≡ (event_row e).answer
+  pub failed : is_failed e ≡ (event_row e).failed
+  pub acts : may_act e ≡ (event_row e).acts
+  pub changes : may_change e ≡ (event_row e).changes
+  pub keeps : (d : Disk) → is_foreign e ≡ false → (event_row e).changes ≡ false → after d e ≡ d
+
+abbrev pub EventsHaveRows : Type 0
+EventsHaveRows = (e : Event) → IsAsItsRow e

@@ -10,6 +10,7 @@ pub mod Edits
 pub mod Laws
 pub mod Worked
 pub mod Restraints
-pub mod Events
 pub mod Troubles
 pub mod Rows
+pub mod Events
+pub mod Runs

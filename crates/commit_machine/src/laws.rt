@@ -1,6 +1,5 @@
 ghost use Rattle.commit_machine.specs.Laws.{CrashSafe, FrontIsRun, StretchesJoin, StopSafe, OnlyDecisions, DecisionsApply, NothingLeft, NoRecordStands, RecoverySettles, DecisionsAreTold};
 ghost use Rattle.commit_machine.specs.Edits.{EditsAreChanges};
-ghost use Rattle.commit_machine.specs.Events.{WorkedEvents};
 ghost use Rattle.commit_machine.specs.Restraints.{RightIsGivenUp, NothingAfterAFault, NoRefusedIsDecided};
 ghost use Rattle.commit_machine.specs.Rows.{RowIsSafe, RowMoments, RowStops, RowStopsBetween};
 ghost use Rattle.commit_machine.specs.Troubles.{TroubledRuns};
@@ -91,11 +90,6 @@ pub fn alone_goes()
 /// work meanwhile: there is a run among lawful steps.
 pub fn worked_runs()
     ensures { WorkedRuns }
-{}
-
-/// What each event answers, whether it failed and whether it may act.
-pub fn worked_events()
-    ensures { WorkedEvents }
 {}
 
 /// How a commit of one file may end where the record or the file is too long, where memory is wanting, and
