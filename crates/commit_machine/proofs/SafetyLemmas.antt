@@ -11,7 +11,7 @@ use Rattle.commit_machine.specs.Settled.{Files, Mem}
 use Rattle.commit_machine.specs.Jobs.{Edit, Job, edits_of, outcome_of}
 use Rattle.commit_machine.specs.Machine.{State, Seizing, Ended, Call, next, after_reply}
 use Rattle.commit_machine.specs.Goes.{IsOf, loads, stages, stage_fails, publishes, erases, locks, unlocks, seizes, releases, IsNext, Goes, reply}
-use Rattle.commit_machine.specs.Events.{is_disk, EventsHaveRows}
+use Rattle.commit_machine.specs.EventRows.{is_disk, EventsHaveRows}
 use Rattle.commit_machine.specs.Due.{settled_files, applied, same_file, renewed, is_decision, files_then, files_after}
 use Rattle.commit_machine.specs.Laws.{IsRun, IsDue, in_flight}
 use Rattle.commit_machine.specs.Runs.{made_then, made_after, IsDueAs, RunsAreSafe}

@@ -12,5 +12,5 @@ pub mod Worked
 pub mod Restraints
 pub mod Troubles
 pub mod Rows
-pub mod Events
+pub mod EventRows
 pub mod Runs

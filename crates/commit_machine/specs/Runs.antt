@@ -21,7 +21,7 @@ use Rattle.commit_machine.specs.Lawful.{HasRight}
 use Rattle.commit_machine.specs.Due.{settled_files, settled_locks, applied, same_file, renewed, is_decision, locks_after}
 use Rattle.commit_machine.specs.Laws.{IsRun, IsSettledAs, in_flight}
 use Rattle.commit_machine.specs.Restraints.{is_failed, may_act}
-use Rattle.commit_machine.specs.Events.{is_disk}
+use Rattle.commit_machine.specs.EventRows.{is_disk}
 
 -- the files due after one more event, where a decision makes this of them
 abbrev pub made_then : (Files → Files) → Job → Event → Disk → Files → Files
