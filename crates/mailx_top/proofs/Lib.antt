@@ -1,6 +1,7 @@
-pub mod OrderLemmas
-pub mod LineLemmas
 pub mod EndLemmas
 pub mod FolderLemmas
-pub mod RoundLemmas
+pub mod LineLemmas
 pub mod OpeningLemmas
+pub mod OrderLemmas
+pub mod RoundLemmas
+pub mod WaitingLemmas
