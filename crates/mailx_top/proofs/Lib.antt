@@ -1,3 +1,4 @@
+pub mod CrashLemmas
 pub mod EndLemmas
 pub mod FolderLemmas
 pub mod LineLemmas
