@@ -1,4 +1,6 @@
 pub mod AskLemmas
 pub mod NameLemmas
 pub mod OpeningLemmas
+pub mod PendingLemmas
+pub mod RoundLemmas
 pub mod StateLemmas

@@ -1,4 +1,7 @@
 pub mod Statuses
+pub mod Waits
+pub mod Pending
 pub mod States
 pub mod Sessions
+pub mod Rounds
 pub mod Openings

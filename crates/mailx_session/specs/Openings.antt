@@ -40,6 +40,8 @@ state_with places terminal token = record {
   actor = places.home ++ codes "/.mailx";
   token = token;
   terminal = terminal;
+  frames = [];
+  count = 0;
 }
 
 abbrev pub first_state : Pairs → Bool → ℕ → SessionState

@@ -11,7 +11,6 @@ use Rattle.command_desk.specs.declared.steps.Ask as asked_of
 use Rattle.command_desk.specs.declared.steps.Ask.TheVariants as asks
 use Rattle.command_desk.specs.declared.steps.Steps.{Steps}
 use Rattle.command_desk.specs.Answers.{OrFault}
-use Rattle.read_commands.specs.Commands.{commanded}
 use Rattle.mailx_session.specs.declared.asks.Asked.{Asked}
 use Rattle.mailx_session.specs.declared.asks.Asked.TheVariants as answered
 use Rattle.mailx_session.specs.declared.error.RunError.{RunError}
@@ -32,10 +31,6 @@ asked s asks.Exit = Ret (Ended Done)
 abbrev pub carried_out : SessionState → OrFault Steps → Play (Next SessionState Status)
 carried_out s (Ok steps) = bind (in_order asked s steps.asks) (concluded s (λ t. settled t steps.effects))
 carried_out s (Err line) = refused s line
-
--- what an input line does
-abbrev pub line_play : SessionState → List ℕ → Play (Next SessionState Status)
-line_play s line = carried_out s (commanded s.desk line)
 
 -- what the answers to a command's asks leave
 abbrev pub after_asks : SessionState → Asked → After SessionState Status
@@ -82,3 +77,8 @@ StaysAtEnd old new (flow.End s) = new ≡ old
 abbrev pub IsDoneAfter : Asked → Type 0
 IsDoneAfter (answered.Ended s) = s ≡ Done
 IsDoneAfter a = Unit {0}
+
+-- nothing is done, and the session goes on
+abbrev pub DoesNothing : SessionState → SessionState → Result Flow RunError → Type 0
+DoesNothing old new (Ok went) = (new ≡ old) × (went ≡ flow.Go)
+DoesNothing old new (Err e) = ⊥

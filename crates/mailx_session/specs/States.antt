@@ -1,11 +1,12 @@
 -- What a session knows between two lines.
-use Rattle.std.specs.Prelude.{◌≡◌, ◌≤◌, ℕ, Bool, true, List, length}
+use Rattle.std.specs.Prelude.{◌≡◌, ◌≤◌, ℕ, Bool, true, List, [], length}
 use Rattle.host_port.specs.Names.{has_no_zero}
 use Rattle.command_desk.specs.declared.desk.Desk.{Desk}
 use Rattle.command_desk.specs.declared.effects.Effects.{Effects}
 use Rattle.command_desk.specs.Desks.{IsDesk}
 use Rattle.command_desk.specs.Effects.{effect}
 use Rattle.mailx_session.specs.declared.state.SessionState.{SessionState}
+use Rattle.mailx_session.specs.Waits.{Pending}
 
 -- the most bytes that the name of an actor has, so that its files can have their names
 abbrev pub actor_limit : ℕ
@@ -17,14 +18,40 @@ pub record IsActor (name : List ℕ) : Type 0 where
   pub no_zero : has_no_zero name ≡ true
 
 -- the state is valid
-pub record IsSession (s : SessionState) : Type 0 where
+pub record IsState (s : SessionState) : Type 0 where
   pub desk : IsDesk s.desk
   pub actor : IsActor s.actor
+
+-- Between two lines of the input the state is valid, no line waits, and no command is counted.
+pub record IsSession (s : SessionState) : Type 0 where
+  pub state : IsState s
+  pub frames : s.frames ≡ []
+  pub count : s.count ≡ 0
+
+-- the most commands that one line of the input gives
+abbrev pub command_limit : ℕ
+command_limit = 100000
 
 -- the state with another desk
 abbrev pub with_desk : SessionState → Desk → SessionState
 with_desk s desk = record s { desk = desk }
 
+-- the state with other lines that wait
+abbrev pub with_frames : SessionState → List Pending → SessionState
+with_frames s frames = record s { frames = frames }
+
+-- the state with another count of commands
+abbrev pub with_count : SessionState → ℕ → SessionState
+with_count s count = record s { count = count }
+
+-- the state without lines that wait, and with no command counted
+abbrev pub rested : SessionState → SessionState
+rested s = record s { frames = []; count = 0 }
+
 -- the state after a command: what its effects don't name stays
 abbrev pub settled : SessionState → Effects → SessionState
 settled s effects = with_desk s (effect s.desk effects)
+
+-- only the desk changed
+abbrev pub KeepsLines : SessionState → SessionState → Type 0
+KeepsLines old new = new ≡ with_desk old new.desk

@@ -5,7 +5,7 @@ ghost use Rattle.host_port.specs.Ran.{Ran};
 ghost use Rattle.session_play.specs.Play.{Play, Ask, Ret, Say, Goes};
 ghost use Rattle.session_play.specs.Steps.{in_order};
 ghost use Rattle.mailx_session.specs.declared.state.SessionState.{SessionState};
-ghost use Rattle.mailx_session.specs.States.{IsSession};
+ghost use Rattle.mailx_session.specs.States.{IsState};
 ghost use Rattle.mailx_session.specs.Sessions.{asked, after_asks, in_play, LineCaused, IsDoneAfter};
 
 use crate::{RunError, SessionState, Status};
@@ -38,7 +38,7 @@ pub(crate) fn say<H: Host>(host: &mut H, bytes: &[u8]) -> Result<(), RunError>
 
 // Does one thing that is asked for.
 fn do_ask<H: Host>(state: &SessionState, host: &mut H, ask: &Wanted) -> Result<Asked, RunError>
-    requires { IsSession state.now }
+    requires { IsState state.now }
     ensures ran { Ran H.start H.told H.counts host.old host.new
         (λ es. Goes (asked state.now ask.now) es (in_play (after_asks state.now) result)) }
     ensures fall { NeverFall (H.counts host.old) (H.counts host.new) }
@@ -71,7 +71,7 @@ pub(crate) fn do_asks<H: Host>(
     host: &mut H,
     asks: &[Wanted],
 ) -> Result<Asked, RunError>
-    requires { IsSession state.now }
+    requires { IsState state.now }
     ensures ran { Ran H.start H.told H.counts host.old host.new
         (λ es. Goes (in_order asked state.now asks.now) es (in_play (after_asks state.now) result)) }
     ensures fall { NeverFall (H.counts host.old) (H.counts host.new) }

@@ -4,7 +4,9 @@
 mod asks;
 mod error;
 mod flow;
+mod frames;
 mod greeting;
+mod lines;
 mod opening;
 mod session;
 mod state;
@@ -12,6 +14,7 @@ mod status;
 
 pub use error::RunError;
 pub use flow::Flow;
+pub use frames::{Frame, Frames, WaitingLine};
 pub use session::Session;
 pub use state::SessionState;
 pub use status::Status;

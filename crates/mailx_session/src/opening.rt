@@ -9,7 +9,7 @@ ghost use Rattle.message_state.specs.declared.row.Row.{Row};
 ghost use Rattle.mailx_session.specs.Openings.{is_in, first_current, desk_with, state_with, IsKnownSize, plain, with_folder, with_page};
 ghost use Rattle.command_desk.specs.Desks.{IsDesk};
 
-use crate::SessionState;
+use crate::{Frames, SessionState};
 use mail_text::{Items, Memory, Text};
 use mailx_vars::{Places, Vars};
 use mbox_scan::Folder;
@@ -72,6 +72,8 @@ pub(crate) fn first_state(
         actor,
         token,
         terminal,
+        frames: Frames::new(alloc),
+        count: 0,
     })
 }
 

@@ -1,31 +1,29 @@
 // A session and its lines.
 ghost use Rattle.std.specs.Prelude.{◌≡◌, true, List, ℕ, Ok, Err, IfOk, OnOk, OnErr};
 ghost use Rattle.host_port.specs.Ran.{Ran};
-ghost use Rattle.session_play.specs.Play.{Play, Goes};
-ghost use Rattle.session_play.specs.Steps.{refused, concluded};
-ghost use Rattle.mailx_session.specs.declared.state.SessionState.{SessionState};
 ghost use Rattle.mailx_session.specs.declared.status.Status.{Status};
 ghost use Rattle.mailx_vars.specs.Environment.{knows_user};
 ghost use Rattle.command_desk.specs.Desks.{IsDesk};
-ghost use Rattle.read_commands.specs.Commands.{commanded};
-ghost use Rattle.command_desk.specs.Effects.{effect};
-ghost use Rattle.mailx_session.specs.States.{IsSession, settled};
-ghost use Rattle.mailx_session.specs.Sessions.{carried_out, after_asks, line_play, next_of, in_play, LineCaused, IsDoneAfter, EndsDone, StaysAtEnd};
+ghost use Rattle.read_commands.specs.declared.origin.Origin.{Origin};
+ghost use Rattle.read_commands.specs.Origins.{commanded};
+ghost use Rattle.mailx_session.specs.States.{IsSession, rested};
+ghost use Rattle.mailx_session.specs.Rounds.{LineGoes};
+ghost use Rattle.mailx_session.specs.Sessions.{next_of, in_play, LineCaused, EndsDone, StaysAtEnd};
 ghost use Rattle.mailx_session.specs.Openings.{first_state, greeting, Opens};
 
-use crate::asks::{Asked, do_asks, say};
 use crate::greeting::greeting;
+use crate::lines::input_line;
 use crate::opening::{first_state, known_page_size, marks_of, plain_view, put_folder, rows_of};
-use crate::{Flow, RunError, SessionState, Status};
+use crate::{Flow, Frames, RunError, SessionState, Status};
 use host_port::Host;
 use mail_text::{Memory, Text};
 use mailx_vars::Places;
 use mbox_scan::Folder;
-use read_commands::{Desk, Effects, Open, Refusal, Steps, perform_line};
+use read_commands::{Desk, Open};
 use std::alloc::Global;
 use std::marker::Model;
 
-/// A session. Contracts see it as its state, which is valid.
+/// A session between two lines of the input. Contracts see it as its state, which is valid.
 #[derive(Drop)]
 pub struct Session {
     state: SessionState,
@@ -41,6 +39,14 @@ impl Model for Session {
     ghost view = { λ s. s.state };
 
     ghost invariant = { λ s. IsSession s.state };
+}
+
+// Drops the lines that wait, and counts no command any more.
+fn rest(alloc: Global, state: &mut SessionState)
+    ensures { state.new ≡ rested state.old }
+{
+    state.frames = Frames::new(alloc);
+    state.count = 0;
 }
 
 impl Session {
@@ -106,79 +112,23 @@ impl Session {
         &self.state
     }
 
-    // Carries out a command's steps.
-    fn carry_out<H: Host>(&mut self, host: &mut H, steps: Steps) -> Result<Flow, RunError>
-        requires { IsDesk (effect self.old.desk steps.effects) }
-        ensures ran { Ran H.start H.told H.counts host.old host.new
-            (λ es. Goes (carried_out self.old (Ok steps)) es (in_play (next_of self.new) result)) }
-        ensures done { IfOk result EndsDone }
-        ensures end { IfOk result (StaysAtEnd self.old self.new) }
-        ensures err { OnErr result (self.new ≡ self.old) }
-        ensures cause { LineCaused (H.counts host.old) (H.counts host.new) result }
-    {
-        let Steps { asks, effects } = steps;
-        let asked = do_asks(&self.state, host, asks.items())?;
-        self.finish(host, effects, asked)
-    }
-
-    // Makes the changes of a command, unless an answer refused it or the run ends.
-    fn finish<H: Host>(
-        &mut self,
-        host: &mut H,
-        effects: Effects,
-        asked: Asked,
-    ) -> Result<Flow, RunError>
-        requires desk { IsDesk (effect self.old.desk effects) }
-        requires done { IsDoneAfter asked }
-        ensures ran { Ran H.start H.told H.counts host.old host.new
-            (λ es. Goes (concluded self.old (λ t. settled t effects) (after_asks self.old asked)) es
-            (in_play (next_of self.new) result)) }
-        ensures done { IfOk result EndsDone }
-        ensures end { IfOk result (StaysAtEnd self.old self.new) }
-        ensures err { OnErr result (self.new ≡ self.old) }
-        ensures cause { LineCaused (H.counts host.old) (H.counts host.new) result }
-    {
-        match asked {
-            Asked::On => {
-                self.state.desk.settle(effects);
-                Ok(Flow::Go)
-            }
-            Asked::Refused { line } => self.refuse(host, &line),
-            Asked::Ended(status) => Ok(Flow::End(status)),
-        }
-    }
-
-    // Says the line that refuses a command.
-    fn refuse<H: Host>(&self, host: &mut H, line: &Text) -> Result<Flow, RunError>
-        ensures ran { Ran H.start H.told H.counts host.old host.new
-            (λ es. Goes (refused self.now line.now) es (in_play (next_of self.now) result)) }
-        ensures go { IfOk result (λ flow. flow ≡ Flow.Go) }
-        ensures cause { LineCaused (H.counts host.old) (H.counts host.new) result }
-    {
-        match say(host, line.bytes()) {
-            Ok(()) => Ok(Flow::Go),
-            Err(error) => Err(error),
-        }
-    }
-
-    /// Takes one input line, without its line feed. The state changes only where the run goes on, and not where the
-    /// line is refused.
+    /// Takes one input line, without its line feed, and carries out the lines that it brings too. The state changes only
+    /// where the run goes on, and not where the line is refused.
     pub fn step<H: Host>(&mut self, line: &[u8], host: &mut H) -> Result<Flow, RunError>
         ensures ran { Ran H.start H.told H.counts host.old host.new
-            (λ es. Goes (line_play self.old line.now) es (in_play (next_of self.new) result)) }
-        ensures refused { (fault : List ℕ) → commanded self.old.desk line.now ≡ Err fault → self.new ≡ self.old }
-        ensures goes_on { (fault : List ℕ) → commanded self.old.desk line.now ≡ Err fault
+            (λ es. LineGoes self.old line.now es (in_play (next_of self.new) result)) }
+        ensures refused { (fault : List ℕ) → commanded Origin.Input self.old.desk line.now ≡ Err fault
+            → self.new ≡ self.old }
+        ensures goes_on { (fault : List ℕ) → commanded Origin.Input self.old.desk line.now ≡ Err fault
             → IfOk result (λ flow. flow ≡ Flow.Go) }
         ensures done { IfOk result EndsDone }
         ensures end { IfOk result (StaysAtEnd self.old self.new) }
         ensures err { OnErr result (self.new ≡ self.old) }
         ensures cause { LineCaused (H.counts host.old) (H.counts host.new) result }
     {
-        match perform_line(self.alloc, line, &self.state.desk) {
-            Ok(steps) => self.carry_out(host, steps),
-            Err(Refusal::Fault { line: fault }) => self.refuse(host, &fault),
-            Err(Refusal::Memory) => Err(RunError::Memory),
-        }
+        let result = input_line(self.alloc, &mut self.state, host, line);
+        rest(self.alloc, &mut self.state);
+        result
     }
 
     /// The end of input, which ends the run as `exit` does.

@@ -1,3 +1,4 @@
+use crate::Frames;
 use mail_text::Text;
 use read_commands::Desk;
 
@@ -13,4 +14,8 @@ pub struct SessionState {
     pub token: u64,
     /// Whether the input is a terminal.
     pub terminal: bool,
+    /// The lines from elsewhere that wait to be carried out.
+    pub frames: Frames,
+    /// How many commands the last line of the input has given so far, itself among them.
+    pub count: u32,
 }

@@ -1,7 +1,8 @@
-pub mod OrderLemmas
-pub mod LineLemmas
+pub mod CrashLemmas
 pub mod EndLemmas
 pub mod FolderLemmas
-pub mod RoundLemmas
+pub mod LineLemmas
 pub mod OpeningLemmas
-pub mod CrashLemmas
+pub mod OrderLemmas
+pub mod RoundLemmas
+pub mod WaitingLemmas

@@ -1,5 +1,5 @@
 -- A line of a session takes no input, and its acts and ends pass what its asks pass.
-use Rattle.std.proofs.Common.{◌≡◌, ℕ, Bool, true, List, [], ◌∷◌, refl, subst}
+use Rattle.std.proofs.Common.{◌≡◌, ℕ, Bool, true, false, List, [], ◌∷◌, refl, subst}
 use Rattle.std.specs.declared.result.Result.TheVariants.{Ok, Err}
 use Rattle.session_play.specs.Input.{Input}
 use Rattle.session_play.specs.Acts.{AllActs, AllEnds, Threads, loads_nothing}
@@ -13,11 +13,18 @@ use Rattle.command_desk.specs.declared.steps.Ask as asked_of
 use Rattle.command_desk.specs.declared.steps.Ask.TheVariants as asks
 use Rattle.command_desk.specs.declared.steps.Steps.{Steps}
 use Rattle.command_desk.specs.Answers.{OrFault}
-use Rattle.read_commands.specs.Commands.{commanded}
+use Rattle.read_commands.specs.declared.origin.Origin.TheVariants as origin
+use Rattle.read_commands.specs.Origins.{commanded}
 use Rattle.mailx_session.specs.declared.status.Status.{Status}
 use Rattle.mailx_session.specs.declared.status.Status.TheVariants.{Done}
-use Rattle.mailx_session.specs.States.{settled}
-use Rattle.mailx_session.specs.Sessions.{asked, carried_out, line_play}
+use Rattle.mail_text.specs.Ascii.{is_blank}
+use Rattle.std.specs.List.{list_all}
+use Rattle.std.specs.Prelude.{nat_lt, if◌then◌else◌, ◌+◌}
+use Rattle.session_play.specs.Play.{Ret}
+use Rattle.mailx_session.specs.declared.frames.WaitingLine.{WaitingLine}
+use Rattle.mailx_session.specs.States.{settled, with_count, rested, command_limit}
+use Rattle.mailx_session.specs.Sessions.{asked, carried_out}
+use Rattle.mailx_session.specs.Rounds.{line_play, typed_play, dropped_play, counted_play, waiting_play}
 
 abbrev pub After-line : Type 0
 After-line = After SessionState Status
@@ -87,11 +94,49 @@ carried-threads s i (Ok steps) =
     (concluded s (changed steps.effects)) i (asks-threads s steps.asks i) (finished-threads s steps.effects i)
 carried-threads s i (Err line) = (tt, λ u. refl)
 
-pub line-acts : (s : SessionState) (line : List ℕ) → AllActs loads_nothing (line_play s line)
-line-acts s line = carried-acts s (commanded s.desk line)
+-- a line of the input
+pub typed-acts : (s : SessionState) (line : List ℕ) → AllActs loads_nothing (typed_play s line)
+typed-acts s line = carried-acts (with_count (rested s) 1) (commanded origin.Input s.desk line)
 
-pub line-ends : (s : SessionState) (line : List ℕ) → AllEnds EndsDone (line_play s line)
-line-ends s line = carried-ends s (commanded s.desk line)
+pub typed-ends : (s : SessionState) (line : List ℕ) → AllEnds EndsDone (typed_play s line)
+typed-ends s line = carried-ends (with_count (rested s) 1) (commanded origin.Input s.desk line)
 
-pub line-threads : (s : SessionState) (line : List ℕ) (i : Input) → Threads (λ n j. j ≡ i) i (line_play s line)
-line-threads s line i = carried-threads s i (commanded s.desk line)
+pub typed-threads : (s : SessionState) (line : List ℕ) (i : Input) → Threads (λ n j. j ≡ i) i (typed_play s line)
+typed-threads s line i = carried-threads (with_count (rested s) 1) i (commanded origin.Input s.desk line)
+
+-- a line from elsewhere
+counted-acts : (b : Bool) (s : SessionState) (line : WaitingLine)
+    → AllActs loads_nothing (if b then line_play line.origin (with_count s (s.count + 1)) line.text else dropped_play s)
+counted-acts true s line = carried-acts (with_count s (s.count + 1)) (commanded line.origin s.desk line.text)
+counted-acts false s line = (refl, λ u. tt)
+
+counted-ends : (b : Bool) (s : SessionState) (line : WaitingLine)
+    → AllEnds EndsDone (if b then line_play line.origin (with_count s (s.count + 1)) line.text else dropped_play s)
+counted-ends true s line = carried-ends (with_count s (s.count + 1)) (commanded line.origin s.desk line.text)
+counted-ends false s line = λ u. tt
+
+counted-threads : (b : Bool) (s : SessionState) (line : WaitingLine) (i : Input)
+    → Threads (λ n j. j ≡ i) i (if b then line_play line.origin (with_count s (s.count + 1)) line.text else dropped_play s)
+counted-threads true s line i = carried-threads (with_count s (s.count + 1)) i (commanded line.origin s.desk line.text)
+counted-threads false s line i = (tt, λ u. refl)
+
+empty-acts : (b : Bool) (s : SessionState) (line : WaitingLine) → AllActs loads_nothing (if b then Ret (Go s) else counted_play s line)
+empty-acts true s line = tt
+empty-acts false s line = counted-acts (nat_lt s.count command_limit) s line
+
+empty-ends : (b : Bool) (s : SessionState) (line : WaitingLine) → AllEnds EndsDone (if b then Ret (Go s) else counted_play s line)
+empty-ends true s line = tt
+empty-ends false s line = counted-ends (nat_lt s.count command_limit) s line
+
+empty-threads : (b : Bool) (s : SessionState) (line : WaitingLine) (i : Input) → Threads (λ n j. j ≡ i) i (if b then Ret (Go s) else counted_play s line)
+empty-threads true s line i = refl
+empty-threads false s line i = counted-threads (nat_lt s.count command_limit) s line i
+
+pub waiting-acts : (s : SessionState) (line : WaitingLine) → AllActs loads_nothing (waiting_play s line)
+waiting-acts s line = empty-acts (list_all is_blank line.text) s line
+
+pub waiting-ends : (s : SessionState) (line : WaitingLine) → AllEnds EndsDone (waiting_play s line)
+waiting-ends s line = empty-ends (list_all is_blank line.text) s line
+
+pub waiting-threads : (s : SessionState) (line : WaitingLine) (i : Input) → Threads (λ n j. j ≡ i) i (waiting_play s line)
+waiting-threads s line i = empty-threads (list_all is_blank line.text) s line i

@@ -24,15 +24,19 @@ use Rattle.mailx_session.specs.declared.state.SessionState.{SessionState}
 use Rattle.mailx_session.specs.declared.status.Status.{Status}
 use Rattle.mailx_session.specs.declared.status.Status.TheVariants as status
 use Rattle.mailx_session.specs.Openings.{with_opened}
-use Rattle.mailx_session.specs.Sessions.{line_play}
+use Rattle.mailx_session.specs.declared.frames.WaitingLine.{WaitingLine}
+use Rattle.mailx_session.specs.Waits.{Pending}
+use Rattle.mailx_session.specs.Pending.{taken}
+use Rattle.mailx_session.specs.States.{with_frames}
+use Rattle.mailx_session.specs.Rounds.{typed_play, waiting_play}
 use Rattle.mailx_top.specs.declared.environment.Environment.{Environment}
 use Rattle.mailx_top.specs.Words.{Start}
-use Rattle.mailx_top.specs.Meaning.{RunState, first_of, Opening, Reading, round, opening, loaded, with_list, greeted, turn, with_input, prompted, says_and_ends, is_opening, usage, message_limit}
+use Rattle.mailx_top.specs.Meaning.{RunState, first_of, Opening, Reading, round, opening, loaded, with_list, greeted, turn, next_turn, line_round, with_input, prompted, says_and_ends, is_opening, usage, message_limit}
 use Rattle.session_play.specs.Acts.{AllActs, AllEnds, loads_nothing}
 use Rattle.session_play.specs.Causes.{some_load_saw, counted, events_at}
 use Rattle.session_play.proofs.SawLemmas.{Unseen, unseen-then, goes-unseen}
 use Rattle.session_play.proofs.ShapeLemmas.{came-same, goes-ends, bind-ends}
-use Rattle.mailx_top.proofs.LineLemmas.{EndsDone, line-ends}
+use Rattle.mailx_top.proofs.LineLemmas.{EndsDone, typed-ends, waiting-ends}
 use Rattle.mailx_top.proofs.RoundLemmas.{loaded-acts}
 use Rattle.mailx_top.specs.Openings.{saw_held, is_no_list, saw_no_folder, IsBadName, OpensNone, EndsOrIsCut, IsOpeningExplained}
 
@@ -51,17 +55,25 @@ ends-with j (Last e) done = done
 
 ends-turn : (s : SessionState) (j : Input) (line : Option (List ℕ)) → AllEnds ReadsOn (turn s j line)
 ends-turn s j None = refl
-ends-turn s j (Some line) = bind-ends EndsDone ReadsOn (line_play s line) (with_input j) (line-ends s line) (ends-with j)
+ends-turn s j (Some line) = bind-ends EndsDone ReadsOn (typed_play s line) (with_input j) (typed-ends s line) (ends-with j)
 
 ends-prompted : (terminal : Bool) (desk : Desk) → AllEnds (λ (u : Unit {0}). Unit {0}) (prompted terminal desk)
 ends-prompted true desk = λ u. tt
 ends-prompted false desk = tt
 
-ends-round : (env : Environment) (x : RunState) → IsReadingState x → AllEnds ReadsOn (round env x)
-ends-round env (Opening start) never = absurd never
-ends-round env (Reading s i) reading =
+ends-next : (s : SessionState) (i : Input) → AllEnds ReadsOn (next_turn s i)
+ends-next s i =
     bind-ends (λ (u : Unit {0}). Unit {0}) ReadsOn (prompted s.terminal s.desk) (λ u. Ask (Line i) (λ a. turn s a.1 a.0))
     (ends-prompted s.terminal s.desk) (λ u t a. ends-turn s a.1 a.0)
+
+ends-line-round : (s : SessionState) (i : Input) (next : Option (WaitingLine × List Pending)) → AllEnds ReadsOn (line_round s i next)
+ends-line-round s i None = ends-next s i
+ends-line-round s i (Some p) =
+    let t = with_frames s p.1 in bind-ends EndsDone ReadsOn (waiting_play t p.0) (with_input i) (waiting-ends t p.0) (ends-with i)
+
+ends-round : (env : Environment) (x : RunState) → IsReadingState x → AllEnds ReadsOn (round env x)
+ends-round env (Opening start) never = absurd never
+ends-round env (Reading s i) reading = ends-line-round s i (taken s.frames)
 
 reads-nothing : (x : RunState) → IsReadingState x → is_opening x ≡ false
 reads-nothing (Opening start) never = absurd never

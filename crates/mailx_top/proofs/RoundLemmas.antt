@@ -15,12 +15,16 @@ use Rattle.command_desk.specs.declared.desk.Desk.{Desk}
 use Rattle.mailx_session.specs.declared.state.SessionState.{SessionState}
 use Rattle.mailx_session.specs.declared.status.Status.{Status}
 use Rattle.mailx_session.specs.Openings.{with_opened}
-use Rattle.mailx_session.specs.Sessions.{line_play}
+use Rattle.mailx_session.specs.declared.frames.WaitingLine.{WaitingLine}
+use Rattle.mailx_session.specs.Waits.{Pending}
+use Rattle.mailx_session.specs.Pending.{taken}
+use Rattle.mailx_session.specs.States.{with_frames}
+use Rattle.mailx_session.specs.Rounds.{typed_play, waiting_play}
 use Rattle.mailx_top.specs.declared.environment.Environment.{Environment}
 use Rattle.mailx_top.specs.Words.{Start}
-use Rattle.mailx_top.specs.Meaning.{RunState, first_of, Opening, Reading, round, opening, loaded, with_list, greeted, turn, with_input, prompted, input_of, is_opening, message_limit}
+use Rattle.mailx_top.specs.Meaning.{RunState, first_of, Opening, Reading, round, opening, loaded, with_list, greeted, turn, next_turn, line_round, with_input, prompted, input_of, is_opening, message_limit}
 use Rattle.session_play.proofs.ShapeLemmas.{bind-acts, bind-threads, weaker-acts, may-all, may-neutral, silent-neutral}
-use Rattle.mailx_top.proofs.LineLemmas.{line-acts, line-threads}
+use Rattle.mailx_top.proofs.LineLemmas.{typed-acts, typed-threads, waiting-acts, waiting-threads}
 
 abbrev On : Input → Play (Next RunState Status) → Type 0
 On i p = Threads (NextFrom input_of) i p
@@ -55,17 +59,26 @@ threads-with i (Last e) j same = tt
 threads-turn : (s : SessionState) (j : Input) (line : Option (List ℕ)) → On j (turn s j line)
 threads-turn s j None = tt
 threads-turn s j (Some line) =
-    bind-threads (λ (n : Next SessionState Status) (k : Input). k ≡ j) (NextFrom input_of) (line_play s line) (with_input j) j (line-threads s line j) (threads-with j)
+    bind-threads (λ (n : Next SessionState Status) (k : Input). k ≡ j) (NextFrom input_of) (typed_play s line) (with_input j) j (typed-threads s line j) (threads-with j)
 
 threads-prompted : (terminal : Bool) (desk : Desk) (i : Input) → Threads (λ (u : Unit {0}) (j : Input). j ≡ i) i (prompted terminal desk)
 threads-prompted true desk i = (tt, λ u. refl)
 threads-prompted false desk i = refl
 
-pub threads-round : (env : Environment) (x : RunState) → On (input_of x) (round env x)
-threads-round env (Opening start) = threads-opening env start
-threads-round env (Reading s i) =
+threads-turn-next : (s : SessionState) (i : Input) → On i (next_turn s i)
+threads-turn-next s i =
     bind-threads (λ (u : Unit {0}) (j : Input). j ≡ i) (NextFrom input_of) (prompted s.terminal s.desk) (λ u. Ask (Line i) (λ a. turn s a.1 a.0)) i (threads-prompted s.terminal s.desk i)
     (λ u j same. (sym same, λ a. threads-turn s a.1 a.0))
+
+threads-line-round : (s : SessionState) (i : Input) (next : Option (WaitingLine × List Pending)) → On i (line_round s i next)
+threads-line-round s i None = threads-turn-next s i
+threads-line-round s i (Some p) =
+    let t = with_frames s p.1 in
+    bind-threads (λ (n : Next SessionState Status) (k : Input). k ≡ i) (NextFrom input_of) (waiting_play t p.0) (with_input i) i (waiting-threads t p.0 i) (threads-with i)
+
+pub threads-round : (env : Environment) (x : RunState) → On (input_of x) (round env x)
+threads-round env (Opening start) = threads-opening env start
+threads-round env (Reading s i) = threads-line-round s i (taken s.frames)
 
 -- acts that pass a test on either side
 either : (test : Act → Bool) (b : Bool) (p q : Play (Next RunState Status)) → AllActs test p → AllActs test q → AllActs test (if b then p else q)
@@ -102,15 +115,23 @@ with-acts i (Last e) = tt
 
 turn-acts : (s : SessionState) (j : Input) (line : Option (List ℕ)) → AllActs loads_nothing (turn s j line)
 turn-acts s j None = tt
-turn-acts s j (Some line) = bind-acts loads_nothing (line_play s line) (with_input j) (line-acts s line) (with-acts j)
+turn-acts s j (Some line) = bind-acts loads_nothing (typed_play s line) (with_input j) (typed-acts s line) (with-acts j)
 
 prompted-acts : (terminal : Bool) (desk : Desk) → AllActs loads_nothing (prompted terminal desk)
 prompted-acts true desk = (refl, λ u. tt)
 prompted-acts false desk = tt
 
-pub reading-acts : (env : Environment) (s : SessionState) (i : Input) → AllActs loads_nothing (round env (Reading s i))
-reading-acts env s i =
+next-acts : (s : SessionState) (i : Input) → AllActs loads_nothing (next_turn s i)
+next-acts s i =
     bind-acts loads_nothing (prompted s.terminal s.desk) (λ u. Ask (Line i) (λ a. turn s a.1 a.0)) (prompted-acts s.terminal s.desk) (λ u. (refl, λ a. turn-acts s a.1 a.0))
+
+line-round-acts : (s : SessionState) (i : Input) (next : Option (WaitingLine × List Pending)) → AllActs loads_nothing (line_round s i next)
+line-round-acts s i None = next-acts s i
+line-round-acts s i (Some p) =
+    let t = with_frames s p.1 in bind-acts loads_nothing (waiting_play t p.0) (with_input i) (waiting-acts t p.0) (with-acts i)
+
+pub reading-acts : (env : Environment) (s : SessionState) (i : Input) → AllActs loads_nothing (round env (Reading s i))
+reading-acts env s i = line-round-acts s i (taken s.frames)
 
 -- where a folder is opened each load that fails cuts the run off, and elsewhere none does
 pub loads-round : (env : Environment) (x : RunState) → AllActs (may_load (is_opening x)) (round env x)

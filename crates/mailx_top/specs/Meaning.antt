@@ -10,7 +10,8 @@ use Rattle.session_play.specs.declared.act.Found.{Found}
 use Rattle.session_play.specs.declared.act.Found.TheVariants as found
 use Rattle.session_play.specs.declared.stop.Stop.{Stop}
 use Rattle.session_play.specs.Input.{Input, no_input}
-use Rattle.session_play.specs.Play.{Play, Ret, Ask, Line, Say, Read, Know, Next, Go, Last, bind}
+use Rattle.session_play.specs.Play.{Play, Ret, Ask, Line, Say, Read, Know, Next, Go, Last, Goes, Loop, bind}
+use Rattle.host_port.specs.declared.event.Event.{Event}
 use Rattle.mailx_vars.specs.Names.{is_short_name}
 use Rattle.mailx_vars.specs.Settings.{value_of}
 use Rattle.command_desk.specs.declared.desk.Desk.{Desk}
@@ -18,7 +19,11 @@ use Rattle.mailx_session.specs.declared.state.SessionState.{SessionState}
 use Rattle.mailx_session.specs.declared.status.Status.{Status}
 use Rattle.mailx_session.specs.declared.status.Status.TheVariants as status
 use Rattle.mailx_session.specs.Openings.{first_state, with_opened, greeting}
-use Rattle.mailx_session.specs.Sessions.{line_play}
+use Rattle.mailx_session.specs.declared.frames.WaitingLine.{WaitingLine}
+use Rattle.mailx_session.specs.Waits.{Pending}
+use Rattle.mailx_session.specs.Pending.{taken}
+use Rattle.mailx_session.specs.States.{with_frames}
+use Rattle.mailx_session.specs.Rounds.{typed_play, waiting_play}
 use Rattle.mailx_top.specs.declared.environment.Environment.{Environment}
 use Rattle.mailx_top.specs.Words.{Start}
 
@@ -32,19 +37,24 @@ abbrev pub with_input : Input → Next SessionState Status → Play (Next RunSta
 with_input j (Go s) = Ret (Go (Reading s j))
 with_input j (Last e) = Ret (Last e)
 
--- what a line does; without one the run ends
+-- what a line of the input does; without one the run ends
 abbrev pub turn : SessionState → Input → Option (List ℕ) → Play (Next RunState Status)
 turn s j None = Ret (Last status.Done)
-turn s j (Some line) = bind (line_play s line) (with_input j)
+turn s j (Some line) = bind (typed_play s line) (with_input j)
 
 -- what is said before a line is asked for: on a terminal the value of `prompt`
 abbrev pub prompted : Bool → Desk → Play (Unit {0})
 prompted true desk = Ask (Say (unwrap_or (value_of desk.vars (codes "prompt")) [])) Ret
 prompted false desk = Ret tt
 
--- the next line is asked for, and carried out
+-- the next line of the input is asked for, and carried out
 abbrev pub next_turn : SessionState → Input → Play (Next RunState Status)
 next_turn s i = bind (prompted s.terminal s.desk) (λ u. Ask (Line i) (λ a. turn s a.1 a.0))
+
+-- a line that waits is taken first; where none does, the input is asked for one
+abbrev pub line_round : SessionState → Input → Option (WaitingLine × List Pending) → Play (Next RunState Status)
+line_round s i None = next_turn s i
+line_round s i (Some (line, frames)) = bind (waiting_play (with_frames s frames) line) (with_input i)
 
 abbrev pub says_and_ends : List ℕ → Status → Play (Next RunState Status)
 says_and_ends text e = Ask (Say text) (λ _. Ret (Last e))
@@ -99,7 +109,7 @@ opening env (Some start) = starting (first_of env) start
 -- what a run in this environment does from a state on, to its next state or its end
 abbrev pub round : Environment → RunState → Play (Next RunState Status)
 round env (Opening start) = opening env start
-round env (Reading s i) = next_turn s i
+round env (Reading s i) = line_round s i (taken s.frames)
 
 -- a folder is to be opened
 abbrev pub is_opening : RunState → Bool
@@ -116,3 +126,19 @@ abbrev pub next_state : SessionState → Input → Result (Option Status) Stop �
 next_state s j (Ok None) = Ok (Go (Reading s j))
 next_state s j (Ok (Some e)) = Ok (Last e)
 next_state s j (Err cause) = Err cause
+
+-- From a state on, these events lead in rounds to the next state, to the end or to a cut.
+abbrev pub LeadsTo : Environment → RunState → List Event → Result (Next RunState Status) Stop → Type 0
+LeadsTo env x es (Ok (Go y)) = (rest : List Event) (out : Result Status Stop) → Loop (round env) y rest out → Loop (round env) x (es ++ rest) out
+LeadsTo env x es (Ok (Last e)) = Loop (round env) x es (Ok e)
+LeadsTo env x es (Err cause) = Loop (round env) x es (Err cause)
+
+-- the same, for events that follow the prompt
+abbrev pub LeadsAfterPrompt : Environment → SessionState → Input → List Event → Result (Next RunState Status) Stop → Type 0
+LeadsAfterPrompt env s i es out = (said : List Event) → Goes (prompted s.terminal s.desk) said (Ok tt) → LeadsTo env (Reading s i) (said ++ es) out
+
+-- the session after a line, or the end
+abbrev pub after_line : SessionState → Result (Option Status) Stop → Result (Next SessionState Status) Stop
+after_line s (Ok None) = Ok (Go s)
+after_line s (Ok (Some e)) = Ok (Last e)
+after_line s (Err cause) = Err cause

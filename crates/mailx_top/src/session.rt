@@ -2,11 +2,13 @@
 ghost use Rattle.std.specs.Prelude.{◌≡◌, ◌<◌, Some, IfOk, IfNone, IfSome, unwrap_or, [], codes};
 ghost use Rattle.mailx_vars.specs.Settings.{value_of};
 ghost use Rattle.host_port.specs.Ran.{Ran};
-ghost use Rattle.session_play.specs.Input.{Input, left, no_input};
-ghost use Rattle.session_play.specs.Play.{Play, Ask, Line, Goes, Loop, Caused};
+ghost use Rattle.host_port.specs.Calls.{NeverFall};
+ghost use Rattle.session_play.specs.Input.{left, no_input};
+ghost use Rattle.session_play.specs.Play.{Play, Goes, Loop, Caused};
+ghost use Rattle.mailx_session.specs.Rounds.{LineGoes};
 ghost use Rattle.mailx_session.specs.Sessions.{stop_of};
 ghost use Rattle.mailx_top.specs.declared.environment.Environment.{Environment};
-ghost use Rattle.mailx_top.specs.Meaning.{round, Reading, next_state, turn, next_turn, prompted};
+ghost use Rattle.mailx_top.specs.Meaning.{round, Reading, next_state, prompted, after_line, LeadsTo, LeadsAfterPrompt};
 
 use host_port::Host;
 use mailx_session::{Flow, RunError, Session, Status};
@@ -27,6 +29,7 @@ fn prompt(session: &Session) -> &[u8]
 fn say_prompt<H: Host>(host: &mut H, session: &Session) -> Result<(), Stop>
     ensures ran { Ran H.start H.told H.counts host.old host.new
         (λ es. Goes (prompted session.now.terminal session.now.desk) es result) }
+    ensures idle { session.now.frames ≡ [] }
     ensures cause { Caused (H.counts host.old) (H.counts host.new) result }
 {
     if session.state().terminal {
@@ -50,8 +53,8 @@ fn stop_of(error: &RunError) -> Stop
 
 // Takes a line.
 fn step<H: Host>(host: &mut H, session: &mut Session, line: &[u8]) -> Result<Option<Status>, Stop>
-    ensures ran { (j : Input) → Ran H.start H.told H.counts host.old host.new
-        (λ es. Goes (turn session.old j (Some line.now)) es (next_state session.new j result)) }
+    ensures ran { Ran H.start H.told H.counts host.old host.new
+        (λ es. LineGoes session.old line.now es (after_line session.new result)) }
     ensures cause { Caused (H.counts host.old) (H.counts host.new) result }
     ensures done { IfOk result (λ end. IfSome end (λ e. e ≡ Status.Done)) }
 {
@@ -62,16 +65,17 @@ fn step<H: Host>(host: &mut H, session: &mut Session, line: &[u8]) -> Result<Opt
     }
 }
 
-// Takes the next line, or the end of input.
+// Takes the next line, or the end of input, once the prompt was said.
 fn next_line<H: Host>(
     alloc: Global,
     host: &mut H,
     reader: &mut Reader,
     session: &mut Session,
 ) -> Result<Option<Status>, Stop>
-    ensures ran { Ran H.start H.told H.counts host.old host.new
-        (λ es. Goes (Ask (Line reader.old) (λ a. turn session.old a.1 a.0))
-        es (next_state session.new reader.new result)) }
+    requires { session.old.frames ≡ [] }
+    ensures ran { (env : Environment) → Ran H.start H.told H.counts host.old host.new
+        (λ es. LeadsAfterPrompt env session.old reader.old es (next_state session.new reader.new result)) }
+    ensures fall { NeverFall (H.counts host.old) (H.counts host.new) }
     ensures cause { Caused (H.counts host.old) (H.counts host.new) result }
     ensures progress { IfOk result (λ end. IfNone end (left reader.new < left reader.old)) }
     ensures done { IfOk result (λ end. IfSome end (λ e. e ≡ Status.Done)) }
@@ -89,8 +93,9 @@ fn one_line<H: Host>(
     reader: &mut Reader,
     session: &mut Session,
 ) -> Result<Option<Status>, Stop>
-    ensures ran { Ran H.start H.told H.counts host.old host.new
-        (λ es. Goes (next_turn session.old reader.old) es (next_state session.new reader.new result)) }
+    ensures ran { (env : Environment) → Ran H.start H.told H.counts host.old host.new
+        (λ es. LeadsTo env (Reading session.old reader.old) es (next_state session.new reader.new result)) }
+    ensures fall { NeverFall (H.counts host.old) (H.counts host.new) }
     ensures cause { Caused (H.counts host.old) (H.counts host.new) result }
     ensures progress { IfOk result (λ end. IfNone end (left reader.new < left reader.old)) }
     ensures done { IfOk result (λ end. IfSome end (λ e. e ≡ Status.Done)) }

@@ -1,5 +1,5 @@
 -- What each command comes to.
-use Rattle.std.specs.Prelude.{ℕ, List, [], ◌∷◌, codes, unwrap_or}
+use Rattle.std.specs.Prelude.{ℕ, Bool, true, false, List, [], ◌∷◌, codes, unwrap_or}
 use Rattle.std.specs.Str.{bytes_eq}
 use Rattle.std.specs.declared.result.Result.{Result}
 use Rattle.std.specs.declared.result.Result.TheVariants.{Ok, Err}
@@ -9,12 +9,11 @@ use Rattle.line_words.specs.declared.line.LineError.TheVariants as error
 use Rattle.line_words.specs.declared.command.Command.{Command}
 use Rattle.line_words.specs.declared.command.Command.TheVariants as command
 use Rattle.line_words.specs.Spellings.{whole_name}
-use Rattle.line_words.specs.Line.{reading}
 use Rattle.message_show.specs.declared.text.How.TheVariants.{Kept, All}
 use Rattle.command_desk.specs.declared.desk.Desk.{Desk}
 use Rattle.command_desk.specs.declared.steps.Ask.TheVariants.{Exit}
 use Rattle.command_desk.specs.declared.steps.Steps.{Steps}
-use Rattle.command_desk.specs.Answers.{OrFault, next, quietly}
+use Rattle.command_desk.specs.Answers.{OrFault, quietly}
 use Rattle.command_desk.specs.Effects.{unchanged}
 use Rattle.command_desk.specs.Faults.{bad_arguments, not_built, unknown_command, open_quote, line_too_long}
 use Rattle.show_commands.specs.Printing.{print, top, print_following}
@@ -62,6 +61,28 @@ meaning_of command.Comment line desk = quietly unchanged
 meaning_of command.Exit line desk = alone line exit
 meaning_of other line desk = Err (not_built (name_of line.word))
 
+-- the commands that are built
+abbrev pub is_built : Command → Bool
+is_built command.Print = true
+is_built command.PrintAll = true
+is_built command.Top = true
+is_built command.From = true
+is_built command.Headers = true
+is_built command.Scroll = true
+is_built command.Next = true
+is_built command.Number = true
+is_built command.Echo = true
+is_built command.Size = true
+is_built command.Delete = true
+is_built command.DeleteAndPrint = true
+is_built command.Undelete = true
+is_built command.Set = true
+is_built command.Unset = true
+is_built command.Help = true
+is_built command.Comment = true
+is_built command.Exit = true
+is_built other = false
+
 abbrev pub meaning : CommandLine → Desk → OrFault Steps
 meaning line desk = meaning_of line.command line desk
 
@@ -76,7 +97,3 @@ fault_of error.Memory = []
 abbrev pub read_or_fault : Result CommandLine LineError → OrFault CommandLine
 read_or_fault (Ok line) = Ok line
 read_or_fault (Err e) = Err (fault_of e)
-
--- what an input line comes to: its form is looked at first, then its command is carried out
-abbrev pub commanded : Desk → List ℕ → OrFault Steps
-commanded desk line = next (read_or_fault (reading line)) (λ command. meaning command desk)

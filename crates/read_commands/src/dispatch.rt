@@ -6,7 +6,7 @@ ghost use Rattle.command_desk.specs.Answers.{OrFault, Means, IsRefused};
 ghost use Rattle.show_commands.specs.Paging.{scroll};
 ghost use Rattle.command_desk.specs.Desks.{IsDesk, IsWithin};
 ghost use Rattle.command_desk.specs.Effects.{effect};
-ghost use Rattle.read_commands.specs.Commands.{name_of, alone, exit, meaning, read_or_fault, commanded};
+ghost use Rattle.read_commands.specs.Commands.{name_of, alone, exit, is_built, meaning, read_or_fault};
 ghost use Rattle.show_commands.specs.Telling.{number, help};
 
 use command_desk::{Ask, Desk, Refusal, Steps, fault, quietly, unchanged};
@@ -129,7 +129,34 @@ fn carry_out(alloc: Global, line: &CommandLine, desk: &Desk) -> Result<Steps, Re
     }
 }
 
-// Reads a line, or refuses it by its form.
+/// Whether a command is built.
+pub(crate) fn is_built(command: Command) -> bool
+    ensures { result ≡ is_built command }
+{
+    match command {
+        Command::Print
+        | Command::PrintAll
+        | Command::Top
+        | Command::From
+        | Command::Headers
+        | Command::Scroll
+        | Command::Next
+        | Command::Number
+        | Command::Echo
+        | Command::Size
+        | Command::Delete
+        | Command::DeleteAndPrint
+        | Command::Undelete
+        | Command::Set
+        | Command::Unset
+        | Command::Help
+        | Command::Comment
+        | Command::Exit => true,
+        _ => false,
+    }
+}
+
+/// Reads a line, or refuses it by its form.
 pub(crate) fn command_line(alloc: Global, line: &[u8]) -> Result<CommandLine, Refusal>
     ensures { Means result (read_or_fault (reading line.now)) }
 {
@@ -140,14 +167,4 @@ pub(crate) fn command_line(alloc: Global, line: &[u8]) -> Result<CommandLine, Re
         Err(LineError::OpenQuote) => Err(fault(alloc, b"", b"open quote")),
         Err(LineError::Memory) => Err(Refusal::Memory),
     }
-}
-
-/// What a line of the run's input comes to: its form is looked at first, and then its command is performed.
-pub fn perform_line(alloc: Global, line: &[u8], desk: &Desk) -> Result<Steps, Refusal>
-    requires { IsDesk desk.now }
-    ensures means { Means result (commanded desk.now line.now) }
-    ensures desk { IfOk result (λ steps. IsDesk (effect desk.now steps.effects)) }
-{
-    let line = command_line(alloc, line)?;
-    perform(alloc, &line, desk)
 }

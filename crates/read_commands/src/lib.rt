@@ -5,6 +5,6 @@ mod dispatch;
 mod origin;
 
 pub use command_desk::{Ask, Desk, Effects, Marking, Open, Refusal, Steps};
-pub use dispatch::{perform, perform_line};
-pub use origin::{Origin, read_command};
+pub use dispatch::perform;
+pub use origin::{Origin, perform_line, read_command};
 pub use show_commands::{current_page, page_of, page_size};

@@ -1,10 +1,12 @@
 // Where a line comes from, and the commands that may stand there.
-ghost use Rattle.std.specs.Prelude.{◌≡◌, None, IfErr, OnOk};
+ghost use Rattle.std.specs.Prelude.{◌≡◌, None, IfErr, IfOk, OnOk};
 ghost use Rattle.command_desk.specs.Answers.{Means, IsRefusedBy};
-ghost use Rattle.read_commands.specs.Origins.{is_of_startup, leaves_draft, line_of_origin, read_from};
+ghost use Rattle.command_desk.specs.Desks.{IsDesk};
+ghost use Rattle.command_desk.specs.Effects.{effect};
+ghost use Rattle.read_commands.specs.Origins.{is_of_startup, leaves_draft, line_if_unbuilt, line_of_origin, read_from, commanded};
 
-use crate::dispatch::{command_line, name_of};
-use command_desk::{Refusal, fault};
+use crate::dispatch::{command_line, is_built, name_of, perform};
+use command_desk::{Desk, Refusal, Steps, fault};
 use line_words::{Command, CommandLine};
 use std::alloc::Global;
 
@@ -81,13 +83,42 @@ fn allows(alloc: Global, origin: Origin, line: &CommandLine) -> Result<(), Refus
     }
 }
 
-/// Reads a line from somewhere. It is refused by its form, and else where its command may not stand there: a start-up
-/// file holds settings, aliases, macros, conditions, `echo` and comments alone, and a draft can't leave itself.
+// Refuses a command that isn't built.
+fn built(alloc: Global, line: &CommandLine) -> Result<(), Refusal>
+    ensures ok { OnOk result (line_if_unbuilt line.now ≡ None) }
+    ensures err { IfErr result (λ refusal. IsRefusedBy refusal (line_if_unbuilt line.now)) }
+{
+    if is_built(line.command) {
+        Ok(())
+    } else {
+        Err(fault(alloc, name_of(line.word.bytes()), b": not built"))
+    }
+}
+
+/// Reads a line from somewhere. It is refused by its form, then where its command isn't built, and else where it may not
+/// stand there: a start-up file holds settings, sets of fields, aliases, macros, conditions, `source`, `echo` and comments
+/// alone, and a draft can't leave itself.
 #[tactic(auto, using(command_desk::proofs::MeansLemmas::means_refused_by, command_desk::proofs::MeansLemmas::unless_none))]
 pub fn read_command(alloc: Global, origin: Origin, line: &[u8]) -> Result<CommandLine, Refusal>
     ensures { Means result (read_from origin line.now) }
 {
     let line = command_line(alloc, line)?;
+    built(alloc, &line)?;
     allows(alloc, origin, &line)?;
     Ok(line)
+}
+
+/// What a line from somewhere comes to: it is read first, and then its command is performed.
+pub fn perform_line(
+    alloc: Global,
+    origin: Origin,
+    line: &[u8],
+    desk: &Desk,
+) -> Result<Steps, Refusal>
+    requires { IsDesk desk.now }
+    ensures means { Means result (commanded origin desk.now line.now) }
+    ensures desk { IfOk result (λ steps. IsDesk (effect desk.now steps.effects)) }
+{
+    let line = read_command(alloc, origin, line)?;
+    perform(alloc, &line, desk)
 }

@@ -1,13 +1,20 @@
-use Rattle.std.specs.declared.option.Option.TheVariants.{Some}
 use Rattle.host_port.proofs.RanLemmas.{Ran-then, Ran-map}
-use Rattle.session_play.specs.Play.{Ask, Ret, Line}
-use Rattle.session_play.proofs.PlayLemmas.{goes-then, goes-cut}
-use Rattle.mailx_top.specs.Meaning.{turn}
+use Rattle.mailx_session.proofs.AskLemmas.{never-fall-then}
+use Rattle.mailx_top.proofs.WaitingLemmas.{step-leads, end-leads, take-cut-leads}
 use Rattle.mailx_top.proofs.session.next_line.Goals as goal
 
 pub returns-in-Ok-Some-clause-ran : goal.returns-in-Ok-Some-clause-ran
-returns-in-Ok-Some-clause-ran g c =
-    Ran-then (goes-then (Ask (Line c.args.reader.now) Ret) (λ a. turn c.args.session.now a.1 a.0) (Some c.in-Ok-Some.line, c.line.new.self) _) (rw c.in-Ok-Some.field-0-is at c.in-Ok-Some.ensures.ran) (rw c.bytes.ensures at c.step.ensures.ran c.line.new.self)
+returns-in-Ok-Some-clause-ran g c = λ env.
+    Ran-then (step-leads env c.args.session.now c.step.new.session c.args.reader.now c.line.new.self c.in-Ok-Some.line c.step.result c.requires)
+    (rw c.in-Ok-Some.field-0-is at c.in-Ok-Some.ensures.ran) (rw c.bytes.ensures at c.step.ensures.ran)
+
+pub returns-in-Ok-None-clause-ran : goal.returns-in-Ok-None-clause-ran
+returns-in-Ok-None-clause-ran g c = λ env.
+    rw c.end.ensures (Ran-map (end-leads env c.args.session.now c.args.reader.now c.line.new.self c.requires) (rw c.in-Ok-None.field-0-is at c.in-Ok-None.ensures.ran))
 
 pub returns-in-Err-clause-ran : goal.returns-in-Err-clause-ran
-returns-in-Err-clause-ran g c = Ran-map (goes-cut (Ask (Line c.args.reader.now) Ret) (λ a. turn c.args.session.now a.1 a.0) _) (rw c.in-Err.is at c.line.ensures.ran)
+returns-in-Err-clause-ran g c = λ env.
+    Ran-map (take-cut-leads env c.args.session.now c.args.reader.now c.in-Err.cause c.requires) (rw c.in-Err.is at c.line.ensures.ran)
+
+pub returns-in-Ok-Some-clause-fall : goal.returns-in-Ok-Some-clause-fall
+returns-in-Ok-Some-clause-fall g c = never-fall-then _ _ _ c.line.ensures.ran.never_fall c.step.ensures.ran.never_fall

@@ -1,10 +1,13 @@
-use Rattle.host_port.proofs.RanLemmas.{Ran-then}
-use Rattle.session_play.specs.Play.{Ask, Line}
-use Rattle.session_play.proofs.PlayLemmas.{goes-then}
-use Rattle.mailx_top.specs.Meaning.{turn, prompted}
+use Rattle.host_port.proofs.RanLemmas.{Ran-then, Ran-map}
+use Rattle.mailx_session.proofs.AskLemmas.{never-fall-then}
+use Rattle.mailx_top.proofs.WaitingLemmas.{prompt-cut-leads}
 use Rattle.mailx_top.proofs.session.one_line.Goals as goal
 
 pub returns-in-Ok-clause-ran : goal.returns-in-Ok-clause-ran
-returns-in-Ok-clause-ran g c =
-    let s = c.args.session.now in
-    Ran-then (goes-then (prompted s.terminal s.desk) (λ u. Ask (Line c.args.reader.now) (λ a. turn s a.1 a.0)) tt _) c.in-Ok.ensures.ran c.next_line.ensures.ran
+returns-in-Ok-clause-ran g c = λ env. Ran-then (λ said es says leads. leads said says) c.in-Ok.ensures.ran (c.next_line.ensures.ran env)
+
+pub returns-in-Err-clause-ran : goal.returns-in-Err-clause-ran
+returns-in-Err-clause-ran g c = λ env. Ran-map (prompt-cut-leads env c.args.session.now c.args.reader.now c.in-Err.cause c.in-Err.ensures.idle) c.in-Err.ensures.ran
+
+pub returns-in-Ok-clause-fall : goal.returns-in-Ok-clause-fall
+returns-in-Ok-clause-fall g c = never-fall-then _ _ _ c.in-Ok.ensures.ran.never_fall c.next_line.ensures.fall

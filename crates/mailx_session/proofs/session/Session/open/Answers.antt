@@ -15,7 +15,7 @@ put_folder-requires-clause-desk c =
     let desk = c.self.inside.state.desk in
     let marks : c.in_ok-marks.marks ≡ map (λ (row : Row). row.mark) rows = c.in_ok-marks.ensures ∙ ap (map (λ (row : Row). row.mark)) c.items.ensures in
     let within : first_current rows ≤ length rows = subst (λ (s : Shown). s.current ≤ length rows) c.in_ok-shown.ensures.shown c.in_ok-shown.ensures.current in
-    let plainly = opened-desk desk c.args.name c.args.folder rows c.self.invariant.desk.width c.in_ok-rows.ensures.rows c.in_ok-rows.ensures.years c.in_ok-rows.ensures.few within in
+    let plainly = opened-desk desk c.args.name c.args.folder rows c.self.invariant.state.desk.width c.in_ok-rows.ensures.rows c.in_ok-rows.ensures.years c.in_ok-rows.ensures.few within in
     subst (λ (s : Shown). IsDesk (with_folder desk (record { name = c.args.name; system = _; folder = c.args.folder; marks = c.in_ok-marks.marks }) s)) (sym c.in_ok-shown.ensures.shown)
     (subst (λ (ms : List Mark). IsDesk (with_folder desk (record { name = c.args.name; system = _; folder = c.args.folder; marks = ms }) (plain rows))) (sym marks) plainly)
 

@@ -1,0 +1,67 @@
+-- The lines of a session: one of the input, and those that wait.
+use Rattle.std.specs.Prelude.{◌≡◌, ◌+◌, nat_lt, ℕ, List, [], ◌++◌, codes, if◌then◌else◌}
+use Rattle.std.specs.List.{list_all}
+use Rattle.std.specs.declared.option.Option.TheVariants.{Some, None}
+use Rattle.std.specs.declared.result.Result.{Result}
+use Rattle.std.specs.declared.result.Result.TheVariants.{Ok, Err}
+use Rattle.host_port.specs.declared.event.Event.{Event}
+use Rattle.mail_text.specs.Ascii.{is_blank}
+use Rattle.mail_text.specs.Lines.{with_feed}
+use Rattle.session_play.specs.declared.stop.Stop.{Stop}
+use Rattle.session_play.specs.declared.stop.Stop.TheVariants as stop
+use Rattle.session_play.specs.Play.{Play, Ret, Ask, Say, Next, Go, Last, Goes}
+use Rattle.read_commands.specs.declared.origin.Origin.{Origin}
+use Rattle.read_commands.specs.declared.origin.Origin.TheVariants.{Input}
+use Rattle.read_commands.specs.Origins.{commanded}
+use Rattle.mailx_session.specs.declared.frames.WaitingLine.{WaitingLine}
+use Rattle.mailx_session.specs.declared.state.SessionState.{SessionState}
+use Rattle.mailx_session.specs.declared.status.Status.{Status}
+use Rattle.mailx_session.specs.Waits.{Pending}
+use Rattle.mailx_session.specs.Pending.{taken}
+use Rattle.mailx_session.specs.States.{command_limit, with_frames, with_count, rested}
+use Rattle.mailx_session.specs.Sessions.{carried_out}
+
+-- what a line from somewhere does
+abbrev pub line_play : Origin → SessionState → List ℕ → Play (Next SessionState Status)
+line_play from s line = carried_out s (commanded from s.desk line)
+
+-- a line of the input begins the count of commands anew, and is the first of them
+abbrev pub typed_play : SessionState → List ℕ → Play (Next SessionState Status)
+typed_play s line = line_play Input (with_count (rested s) 1) line
+
+abbrev pub too_many_commands : List ℕ
+too_many_commands = with_feed (codes "too many commands")
+
+-- this is said, and the lines that wait are dropped
+abbrev pub dropped_play : SessionState → Play (Next SessionState Status)
+dropped_play s = Ask (Say too_many_commands) (λ _. Ret (Go (with_frames s [])))
+
+-- a line from elsewhere is a command more, unless that passes the limit: then all lines that wait are dropped
+abbrev pub counted_play : SessionState → WaitingLine → Play (Next SessionState Status)
+counted_play s line =
+    if nat_lt s.count command_limit then line_play line.origin (with_count s (s.count + 1)) line.text
+    else dropped_play s
+
+-- a line from elsewhere; an empty one is passed over
+abbrev pub waiting_play : SessionState → WaitingLine → Play (Next SessionState Status)
+waiting_play s line = if list_all is_blank line.text then Ret (Go s) else counted_play s line
+
+-- The lines that wait are carried out, each on the state that the one before it left, until none is left, the run ends or is
+-- cut off.
+pub data WaitingGo : SessionState → List Event → Result (Next SessionState Status) Stop → Type 0 where
+  none : {s : SessionState} → taken s.frames ≡ None → WaitingGo s [] (Ok (Go (rested s)))
+  more : {s t : SessionState} {es : List Event} {out : Result (Next SessionState Status) Stop} (line : WaitingLine) (frames : List Pending) (front rest : List Event)
+      → taken s.frames ≡ Some (line, frames) → es ≡ front ++ rest → Goes (waiting_play (with_frames s frames) line) front (Ok (Go t))
+      → WaitingGo t rest out → WaitingGo s es out
+  ended : {s : SessionState} {es : List Event} {e : Status} (line : WaitingLine) (frames : List Pending) → taken s.frames ≡ Some (line, frames)
+      → Goes (waiting_play (with_frames s frames) line) es (Ok (Last e)) → WaitingGo s es (Ok (Last e))
+  cut : {s : SessionState} {es : List Event} {cause : Stop} (line : WaitingLine) (frames : List Pending) → taken s.frames ≡ Some (line, frames)
+      → Goes (waiting_play (with_frames s frames) line) es (Err cause) → WaitingGo s es (Err cause)
+  short : {s : SessionState} → WaitingGo s [] (Err stop.Memory)
+
+-- A line of the input is carried out, and then the lines that it brings.
+pub data LineGoes (s : SessionState) (line : List ℕ) : List Event → Result (Next SessionState Status) Stop → Type 0 where
+  typed : {t : SessionState} {es : List Event} {out : Result (Next SessionState Status) Stop} (front rest : List Event) → es ≡ front ++ rest
+      → Goes (typed_play s line) front (Ok (Go t)) → WaitingGo t rest out → LineGoes s line es out
+  last : {es : List Event} {e : Status} → Goes (typed_play s line) es (Ok (Last e)) → LineGoes s line es (Ok (Last e))
+  cut_short : {es : List Event} {cause : Stop} → Goes (typed_play s line) es (Err cause) → LineGoes s line es (Err cause)

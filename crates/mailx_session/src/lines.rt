@@ -1,0 +1,275 @@
+// Lines as they are carried out: one of the input, and then those that wait.
+ghost use Rattle.std.specs.Prelude.{◌≡◌, ◌≤◌, ◌≢◌, List, ℕ, [], Ok, Err, IfOk, OnErr};
+ghost use Rattle.std.specs.List.{list_all};
+ghost use Rattle.mail_text.specs.Ascii.{is_blank};
+ghost use Rattle.host_port.specs.Ran.{Ran};
+ghost use Rattle.session_play.specs.Play.{Play, Goes};
+ghost use Rattle.session_play.specs.Steps.{refused, concluded};
+ghost use Rattle.command_desk.specs.Desks.{IsDesk};
+ghost use Rattle.command_desk.specs.Effects.{effect};
+ghost use Rattle.read_commands.specs.Origins.{commanded};
+ghost use Rattle.read_commands.specs.declared.origin.Origin.{Origin};
+ghost use Rattle.mailx_session.specs.States.{IsState, settled, rested, KeepsLines};
+ghost use Rattle.mailx_session.specs.Pending.{lines_left};
+ghost use Rattle.mailx_session.specs.Rounds.{line_play, typed_play, dropped_play, counted_play, waiting_play, WaitingGo, LineGoes};
+ghost use Rattle.mailx_session.specs.Sessions.{carried_out, after_asks, next_of, in_play, LineCaused, IsDoneAfter, EndsDone, StaysAtEnd, DoesNothing};
+
+use crate::asks::{Asked, do_asks, say};
+use crate::frames::Frames;
+use crate::{Flow, RunError, SessionState, WaitingLine};
+use host_port::Host;
+use mail_text::{Memory, Text, is_blank};
+use read_commands::{Effects, Origin, Refusal, Steps, perform_line};
+use std::alloc::Global;
+
+/// The most commands that one input line gives.
+const COMMAND_LIMIT: u32 = 100_000;
+
+// Says the line that refuses a command.
+fn refuse<H: Host>(state: &SessionState, host: &mut H, line: &Text) -> Result<Flow, RunError>
+    ensures ran { Ran H.start H.told H.counts host.old host.new
+        (λ es. Goes (refused state.now line.now) es (in_play (next_of state.now) result)) }
+    ensures go { IfOk result (λ flow. flow ≡ Flow.Go) }
+    ensures cause { LineCaused (H.counts host.old) (H.counts host.new) result }
+{
+    match say(host, line.bytes()) {
+        Ok(()) => Ok(Flow::Go),
+        Err(error) => Err(error),
+    }
+}
+
+// Makes the changes of a command, unless an answer refused it or the run ends.
+fn finish<H: Host>(
+    state: &mut SessionState,
+    host: &mut H,
+    effects: Effects,
+    asked: Asked,
+) -> Result<Flow, RunError>
+    requires state { IsState state.old }
+    requires desk { IsDesk (effect state.old.desk effects) }
+    requires done { IsDoneAfter asked }
+    ensures ran { Ran H.start H.told H.counts host.old host.new
+        (λ es. Goes (concluded state.old (λ t. settled t effects) (after_asks state.old asked)) es
+        (in_play (next_of state.new) result)) }
+    ensures state { IsState state.new }
+    ensures lines { KeepsLines state.old state.new }
+    ensures done { IfOk result EndsDone }
+    ensures end { IfOk result (StaysAtEnd state.old state.new) }
+    ensures err { OnErr result (state.new ≡ state.old) }
+    ensures cause { LineCaused (H.counts host.old) (H.counts host.new) result }
+{
+    match asked {
+        Asked::On => {
+            state.desk.settle(effects);
+            Ok(Flow::Go)
+        }
+        Asked::Refused { line } => refuse(state, host, &line),
+        Asked::Ended(status) => Ok(Flow::End(status)),
+    }
+}
+
+// Carries out a command's steps.
+fn carry_out<H: Host>(
+    state: &mut SessionState,
+    host: &mut H,
+    steps: Steps,
+) -> Result<Flow, RunError>
+    requires state { IsState state.old }
+    requires desk { IsDesk (effect state.old.desk steps.effects) }
+    ensures ran { Ran H.start H.told H.counts host.old host.new
+        (λ es. Goes (carried_out state.old (Ok steps)) es (in_play (next_of state.new) result)) }
+    ensures state { IsState state.new }
+    ensures lines { KeepsLines state.old state.new }
+    ensures done { IfOk result EndsDone }
+    ensures end { IfOk result (StaysAtEnd state.old state.new) }
+    ensures err { OnErr result (state.new ≡ state.old) }
+    ensures cause { LineCaused (H.counts host.old) (H.counts host.new) result }
+{
+    let Steps { asks, effects } = steps;
+    let asked = do_asks(state, host, asks.items())?;
+    finish(state, host, effects, asked)
+}
+
+// Carries out a line from somewhere, without its line feed. The desk changes only where the run goes on, and not where
+// the line is refused; nothing else changes.
+fn carry_line<H: Host>(
+    alloc: Global,
+    state: &mut SessionState,
+    host: &mut H,
+    origin: Origin,
+    line: &[u8],
+) -> Result<Flow, RunError>
+    requires { IsState state.old }
+    ensures ran { Ran H.start H.told H.counts host.old host.new
+        (λ es. Goes (line_play origin state.old line.now) es (in_play (next_of state.new) result)) }
+    ensures state { IsState state.new }
+    ensures lines { KeepsLines state.old state.new }
+    ensures refused { (fault : List ℕ) → commanded origin state.old.desk line.now ≡ Err fault → state.new ≡ state.old }
+    ensures goes_on { (fault : List ℕ) → commanded origin state.old.desk line.now ≡ Err fault
+        → IfOk result (λ flow. flow ≡ Flow.Go) }
+    ensures done { IfOk result EndsDone }
+    ensures end { IfOk result (StaysAtEnd state.old state.new) }
+    ensures err { OnErr result (state.new ≡ state.old) }
+    ensures cause { LineCaused (H.counts host.old) (H.counts host.new) result }
+{
+    match perform_line(alloc, origin, line, &state.desk) {
+        Ok(steps) => carry_out(state, host, steps),
+        Err(Refusal::Fault { line: fault }) => refuse(state, host, &fault),
+        Err(Refusal::Memory) => Err(RunError::Memory),
+    }
+}
+
+// Carries out a line of the input, which begins the count of commands anew.
+fn typed_line<H: Host>(
+    alloc: Global,
+    state: &mut SessionState,
+    host: &mut H,
+    line: &[u8],
+) -> Result<Flow, RunError>
+    requires { IsState state.old }
+    ensures ran { Ran H.start H.told H.counts host.old host.new
+        (λ es. Goes (typed_play state.old line.now) es (in_play (next_of state.new) result)) }
+    ensures state { IsState state.new }
+    ensures none_wait { state.new.frames ≡ [] }
+    ensures refused { (fault : List ℕ) → commanded Origin.Input state.old.desk line.now ≡ Err fault
+        → rested state.new ≡ rested state.old }
+    ensures goes_on { (fault : List ℕ) → commanded Origin.Input state.old.desk line.now ≡ Err fault
+        → IfOk result (λ flow. flow ≡ Flow.Go) }
+    ensures done { IfOk result EndsDone }
+    ensures end { IfOk result (StaysAtEnd (rested state.old) (rested state.new)) }
+    ensures err { OnErr result (rested state.new ≡ rested state.old) }
+    ensures cause { LineCaused (H.counts host.old) (H.counts host.new) result }
+{
+    state.frames = Frames::new(alloc);
+    state.count = 1;
+    carry_line(alloc, state, host, Origin::Input, line)
+}
+
+// Says that there are too many commands, and drops the lines that wait.
+fn drop_waiting<H: Host>(
+    alloc: Global,
+    state: &mut SessionState,
+    host: &mut H,
+) -> Result<Flow, RunError>
+    requires { IsState state.old }
+    ensures ran { Ran H.start H.told H.counts host.old host.new
+        (λ es. Goes (dropped_play state.old) es (in_play (next_of state.new) result)) }
+    ensures state { IsState state.new }
+    ensures fewer { lines_left state.new.frames ≤ lines_left state.old.frames }
+    ensures done { IfOk result EndsDone }
+    ensures cause { LineCaused (H.counts host.old) (H.counts host.new) result }
+{
+    match say(host, b"too many commands\n") {
+        Ok(()) => {
+            state.frames = Frames::new(alloc);
+            Ok(Flow::Go)
+        }
+        Err(error) => Err(error),
+    }
+}
+
+// Carries out a line from elsewhere that isn't empty, if the input line may give one command more.
+fn counted_line<H: Host>(
+    alloc: Global,
+    state: &mut SessionState,
+    host: &mut H,
+    line: &WaitingLine,
+) -> Result<Flow, RunError>
+    requires { IsState state.old }
+    ensures ran { Ran H.start H.told H.counts host.old host.new
+        (λ es. Goes (counted_play state.old line.now) es (in_play (next_of state.new) result)) }
+    ensures state { IsState state.new }
+    ensures fewer { lines_left state.new.frames ≤ lines_left state.old.frames }
+    ensures done { IfOk result EndsDone }
+    ensures cause { LineCaused (H.counts host.old) (H.counts host.new) result }
+{
+    if state.count < COMMAND_LIMIT {
+        state.count += 1;
+        carry_line(alloc, state, host, line.origin, line.text.bytes())
+    } else {
+        drop_waiting(alloc, state, host)
+    }
+}
+
+// Whether a line has nothing but blanks.
+fn is_empty(line: &[u8]) -> bool
+    ensures { result ≡ list_all is_blank line.now }
+{
+    line.iter().all(|byte| is_blank(*byte))
+}
+
+// Carries out a line from elsewhere.
+fn waiting_line<H: Host>(
+    alloc: Global,
+    state: &mut SessionState,
+    host: &mut H,
+    line: &WaitingLine,
+) -> Result<Flow, RunError>
+    requires { IsState state.old }
+    ensures ran { Ran H.start H.told H.counts host.old host.new
+        (λ es. Goes (waiting_play state.old line.now) es (in_play (next_of state.new) result)) }
+    ensures state { IsState state.new }
+    ensures fewer { lines_left state.new.frames ≤ lines_left state.old.frames }
+    ensures done { IfOk result EndsDone }
+    ensures cause { LineCaused (H.counts host.old) (H.counts host.new) result }
+{
+    if is_empty(line.text.bytes()) {
+        Ok(Flow::Go)
+    } else {
+        counted_line(alloc, state, host, line)
+    }
+}
+
+// Carries out the lines that wait.
+fn waiting_lines<H: Host>(
+    alloc: Global,
+    state: &mut SessionState,
+    host: &mut H,
+) -> Result<Flow, RunError>
+    requires { IsState state.old }
+    ensures ran { Ran H.start H.told H.counts host.old host.new
+        (λ es. WaitingGo state.old es (in_play (next_of (rested state.new)) result)) }
+    ensures state { IsState state.new }
+    ensures nothing { state.old.frames ≡ [] → DoesNothing (rested state.old) (rested state.new) result }
+    ensures done { IfOk result EndsDone }
+    ensures cause { LineCaused (H.counts host.old) (H.counts host.new) result }
+{
+    'lines: loop {
+        match state.frames.next_line(alloc) {
+            Ok(Some(line)) => match waiting_line(alloc, state, host, &line) {
+                Ok(Flow::Go) => {}
+                Ok(Flow::End(status)) => return Ok(Flow::End(status)),
+                Err(error) => return Err(error),
+            },
+            Ok(None) => return Ok(Flow::Go),
+            Err(Memory) => return Err(RunError::Memory),
+        }
+    }
+}
+
+/// Carries out a line of the input, and then the lines that it brings, until none waits.
+pub(crate) fn input_line<H: Host>(
+    alloc: Global,
+    state: &mut SessionState,
+    host: &mut H,
+    line: &[u8],
+) -> Result<Flow, RunError>
+    requires { IsState state.old }
+    ensures ran { Ran H.start H.told H.counts host.old host.new
+        (λ es. LineGoes state.old line.now es (in_play (next_of (rested state.new)) result)) }
+    ensures state { IsState state.new }
+    ensures refused { (fault : List ℕ) → commanded Origin.Input state.old.desk line.now ≡ Err fault
+        → rested state.new ≡ rested state.old }
+    ensures goes_on { (fault : List ℕ) → commanded Origin.Input state.old.desk line.now ≡ Err fault
+        → IfOk result (λ flow. flow ≡ Flow.Go) }
+    ensures done { IfOk result EndsDone }
+    ensures end { IfOk result (StaysAtEnd (rested state.old) (rested state.new)) }
+    ensures err { OnErr result (rested state.new ≡ rested state.old) }
+    ensures cause { LineCaused (H.counts host.old) (H.counts host.new) result }
+{
+    match typed_line(alloc, state, host, line) {
+        Ok(Flow::Go) => waiting_lines(alloc, state, host),
+        Ok(Flow::End(status)) => Ok(Flow::End(status)),
+        Err(error) => Err(error),
+    }
+}

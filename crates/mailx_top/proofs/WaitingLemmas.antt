@@ -1,0 +1,128 @@
+-- A line of the input, and the lines that it brings, are rounds of a run.
+use Rattle.std.proofs.Common.{◌≡◌, ℕ, List, [], ◌∷◌, ◌++◌, refl, sym, ◌∙◌, ap, subst, inl, append_assoc}
+use Rattle.std.proofs.lemmas.List.{append-nil}
+use Rattle.std.specs.declared.option.Option.{Option}
+use Rattle.std.specs.declared.option.Option.TheVariants.{Some, None}
+use Rattle.std.specs.declared.result.Result.{Result}
+use Rattle.std.specs.declared.result.Result.TheVariants.{Ok, Err}
+use Rattle.host_port.specs.declared.event.Event.{Event}
+use Rattle.session_play.specs.declared.stop.Stop.{Stop}
+use Rattle.session_play.specs.Input.{Input}
+use Rattle.session_play.specs.Play.{Play, Ret, Ask, Line, Goes, Next, Go, Last, Loop, again, last, cut}
+use Rattle.session_play.proofs.PlayLemmas.{at-memory, goes-then, goes-cut, goes-as}
+use Rattle.session_play.proofs.LoopLemmas.{SoFar}
+use Rattle.mailx_session.specs.declared.frames.WaitingLine.{WaitingLine}
+use Rattle.mailx_session.specs.declared.state.SessionState.{SessionState}
+use Rattle.mailx_session.specs.declared.status.Status.{Status}
+use Rattle.mailx_session.specs.declared.status.Status.TheVariants.{Done}
+use Rattle.mailx_session.specs.Waits.{Pending}
+use Rattle.mailx_session.specs.Pending.{taken}
+use Rattle.mailx_session.specs.States.{with_frames, rested}
+use Rattle.mailx_session.specs.Rounds.{typed_play, waiting_play, WaitingGo, none, more, ended, LineGoes, typed}
+use Rattle.mailx_session.specs.Rounds as rounds
+use Rattle.mailx_top.specs.declared.environment.Environment.{Environment}
+use Rattle.mailx_top.specs.Meaning.{RunState, Reading, round, line_round, next_turn, turn, prompted, with_input, next_state, after_line, LeadsTo, LeadsAfterPrompt}
+
+-- a result of a session's line, with the input that is left
+abbrev pub onward : Input → Result (Next SessionState Status) Stop → Result (Next RunState Status) Stop
+onward j (Ok (Go s)) = Ok (Go (Reading s j))
+onward j (Ok (Last e)) = Ok (Last e)
+onward j (Err cause) = Err cause
+
+-- a loop whose first round is the same
+same-round : (env : Environment) (x y : RunState) → round env x ≡ round env y → {es : List Event} {out : Result Status Stop} → Loop (round env) y es out → Loop (round env) x es out
+same-round env x y same (again {y = z} front rest is goes later) =
+    again front rest is (subst (λ (p : Play (Next RunState Status)). Goes p front (Ok (Go z))) (sym same) goes) later
+same-round env x y same {es = es} (last {r = r} goes) = last (subst (λ (p : Play (Next RunState Status)). Goes p es (Ok (Last r))) (sym same) goes)
+same-round env x y same {es = es} (cut {cause = cause} goes) = cut (subst (λ (p : Play (Next RunState Status)). Goes p es (Err cause)) (sym same) goes)
+
+-- a round, and then what leads on from there
+leads-more : (env : Environment) (x y : RunState) (front rest es : List Event) (out : Result (Next RunState Status) Stop) → es ≡ front ++ rest → Goes (round env x) front (Ok (Go y))
+    → LeadsTo env y rest out → LeadsTo env x es out
+leads-more env x y front rest es (Ok (Go z)) is goes leads = λ later end loop.
+    again front (rest ++ later) (ap (λ (l : List Event). l ++ later) is ∙ append_assoc front rest later) goes (leads later end loop)
+leads-more env x y front rest es (Ok (Last e)) is goes loop = again front rest is goes loop
+leads-more env x y front rest es (Err cause) is goes loop = again front rest is goes loop
+
+-- where no line waits, the state is as good as one at rest
+rested-round : (env : Environment) (s : SessionState) (i : Input) → taken s.frames ≡ None → round env (Reading s i) ≡ round env (Reading (rested s) i)
+rested-round env s i none_left = ap (line_round s i) none_left
+
+-- the lines that wait are rounds
+pub waiting-leads : (env : Environment) (i : Input) {s : SessionState} {es : List Event} {out : Result (Next SessionState Status) Stop} → WaitingGo s es out → LeadsTo env (Reading s i) es (onward i out)
+waiting-leads env i {s = s} (none none_left) = λ rest out loop. same-round env (Reading s i) (Reading (rested s) i) (rested-round env s i none_left) loop
+waiting-leads env i {s = s} {es = es} (more {t = t} {out = out} line frames front rest is_next is goes later) =
+    leads-more env (Reading s i) (Reading t i) front rest es (onward i out) is
+    (subst (λ (p : Play (Next RunState Status)). Goes p front (Ok (Go (Reading t i)))) (sym (ap (line_round s i) is_next))
+    (goes-as (waiting_play (with_frames s frames) line) (with_input i) (Go t) (Go (Reading t i)) front refl goes))
+    (waiting-leads env i later)
+waiting-leads env i {s = s} {es = es} (ended {e = e} line frames is_next goes) =
+    last (subst (λ (p : Play (Next RunState Status)). Goes p es (Ok (Last e))) (sym (ap (line_round s i) is_next))
+    (goes-as (waiting_play (with_frames s frames) line) (with_input i) (Last e) (Last e) es refl goes))
+waiting-leads env i {s = s} {es = es} (rounds.cut {cause = cause} line frames is_next goes) =
+    cut (subst (λ (p : Play (Next RunState Status)). Goes p es (Err cause)) (sym (ap (line_round s i) is_next))
+    (goes-cut (waiting_play (with_frames s frames) line) (with_input i) cause es goes))
+waiting-leads env i {s = s} rounds.short = cut (at-memory (round env (Reading s i)))
+
+-- a line is asked for and taken, where none waits
+asked-round : (env : Environment) (s : SessionState) (i j : Input) (line : Option (List ℕ)) (said took es : List Event) (out : Result (Next RunState Status) Stop) → s.frames ≡ []
+    → Goes (prompted s.terminal s.desk) said (Ok tt) → Goes (Ask (Line i) Ret) took (Ok (line, j)) → Goes (turn s j line) es out
+    → Goes (round env (Reading s i)) (said ++ (took ++ es)) out
+asked-round env s i j line said took es out idle says takes goes =
+    let same : round env (Reading s i) ≡ next_turn s i = ap (line_round s i) (ap taken idle) in
+    subst (λ (p : Play (Next RunState Status)). Goes p (said ++ (took ++ es)) out) (sym same)
+    (goes-then (prompted s.terminal s.desk) (λ u. Ask (Line i) (λ a. turn s a.1 a.0)) tt out said (took ++ es) says
+    (goes-then (Ask (Line i) Ret) (λ a. turn s a.1 a.0) (line, j) out took es takes goes))
+
+joined : (said took front rest es : List Event) → es ≡ front ++ rest → said ++ (took ++ es) ≡ (said ++ (took ++ front)) ++ rest
+joined said took front rest es is =
+    ap (λ (l : List Event). said ++ (took ++ l)) is
+    ∙ (ap (λ (l : List Event). said ++ l) (sym (append_assoc took front rest)) ∙ sym (append_assoc said (took ++ front) rest))
+
+-- what a line of the input leads to, once the prompt was said and the line was taken
+pub line-leads : (env : Environment) (s : SessionState) (i j : Input) (line : List ℕ) (said took es : List Event) (out : Result (Next SessionState Status) Stop) → s.frames ≡ []
+    → Goes (prompted s.terminal s.desk) said (Ok tt) → Goes (Ask (Line i) Ret) took (Ok (Some line, j)) → LineGoes s line es out → LeadsTo env (Reading s i) (said ++ (took ++ es)) (onward j out)
+line-leads env s i j line said took es out idle says takes (typed {t = t} front rest is goes waits) =
+    leads-more env (Reading s i) (Reading t j) (said ++ (took ++ front)) rest (said ++ (took ++ es)) (onward j out) (joined said took front rest es is)
+    (asked-round env s i j (Some line) said took front (Ok (Go (Reading t j))) idle says takes (goes-as (typed_play s line) (with_input j) (Go t) (Go (Reading t j)) front refl goes))
+    (waiting-leads env j waits)
+line-leads env s i j line said took es out idle says takes (rounds.last {e = e} goes) =
+    last (asked-round env s i j (Some line) said took es (Ok (Last e)) idle says takes (goes-as (typed_play s line) (with_input j) (Last e) (Last e) es refl goes))
+line-leads env s i j line said took es out idle says takes (rounds.cut_short {cause = cause} goes) =
+    cut (asked-round env s i j (Some line) said took es (Err cause) idle says takes (goes-cut (typed_play s line) (with_input j) cause es goes))
+
+-- the same, of a session's line in a run
+pub step-leads : (env : Environment) (s t : SessionState) (i j : Input) (line : List ℕ) (r : Result (Option Status) Stop) → s.frames ≡ [] → (took es : List Event)
+    → Goes (Ask (Line i) Ret) took (Ok (Some line, j)) → LineGoes s line es (after_line t r) → LeadsAfterPrompt env s i (took ++ es) (next_state t j r)
+step-leads env s t i j line (Ok None) idle took es takes goes = λ said says. line-leads env s i j line said took es (Ok (Go t)) idle says takes goes
+step-leads env s t i j line (Ok (Some e)) idle took es takes goes = λ said says. line-leads env s i j line said took es (Ok (Last e)) idle says takes goes
+step-leads env s t i j line (Err cause) idle took es takes goes = λ said says. line-leads env s i j line said took es (Err cause) idle says takes goes
+
+-- the end of the input
+pub end-leads : (env : Environment) (s : SessionState) (i j : Input) → s.frames ≡ [] → (took : List Event) → Goes (Ask (Line i) Ret) took (Ok (None, j))
+    → LeadsAfterPrompt env s i took (Ok (Last Done))
+end-leads env s i j idle took takes = λ said says.
+    last (subst (λ (l : List Event). Goes (round env (Reading s i)) (said ++ l) (Ok (Last Done))) (append-nil took)
+    (asked-round env s i j None said took [] (Ok (Last Done)) idle says takes (refl, inl refl)))
+
+-- a line that isn't taken
+pub take-cut-leads : (env : Environment) (s : SessionState) (i : Input) (cause : Stop) → s.frames ≡ [] → (took : List Event) → Goes {R = Option (List ℕ) × Input} (Ask (Line i) Ret) took (Err cause)
+    → LeadsAfterPrompt env s i took (Err cause)
+take-cut-leads env s i cause idle took takes = λ said says.
+    let same : round env (Reading s i) ≡ next_turn s i = ap (line_round s i) (ap taken idle) in
+    cut (subst (λ (p : Play (Next RunState Status)). Goes p (said ++ took) (Err cause)) (sym same)
+    (goes-then (prompted s.terminal s.desk) (λ u. Ask (Line i) (λ a. turn s a.1 a.0)) tt (Err cause) said took says (goes-cut (Ask (Line i) Ret) (λ a. turn s a.1 a.0) cause took takes)))
+
+-- a prompt that isn't said
+pub prompt-cut-leads : (env : Environment) (s : SessionState) (i : Input) (cause : Stop) → s.frames ≡ [] → (said : List Event) → Goes (prompted s.terminal s.desk) said (Err cause)
+    → LeadsTo env (Reading s i) said (Err cause)
+prompt-cut-leads env s i cause idle said says =
+    let same : round env (Reading s i) ≡ next_turn s i = ap (line_round s i) (ap taken idle) in
+    cut (subst (λ (p : Play (Next RunState Status)). Goes p said (Err cause)) (sym same) (goes-cut (prompted s.terminal s.desk) (λ u. Ask (Line i) (λ a. turn s a.1 a.0)) cause said says))
+
+-- rounds so far, and what leads on from there
+pub so-far-leads : (env : Environment) (x y z : RunState) (es fs : List Event) → SoFar (round env) x y es → LeadsTo env y fs (Ok (Go z)) → SoFar (round env) x z (es ++ fs)
+so-far-leads env x y z es fs so leads = record {
+  whole = λ rest out loop.
+      subst (λ (l : List Event). Loop (round env) x l out) (sym (append_assoc es fs rest)) (so.whole (fs ++ rest) out (leads rest out loop));
+}
