@@ -1,5 +1,6 @@
 -- The lines that refuse a command.
 use Rattle.std.specs.Prelude.{ℕ, List, ◌++◌, codes}
+use Rattle.std.specs.Fmt.{decimal}
 use Rattle.mail_text.specs.Lines.{with_feed}
 
 -- the command of this name has the wrong number or form of words
@@ -53,3 +54,23 @@ not_in_startup name = with_feed (name ++ codes ": not in a start-up file")
 -- a draft can't give the command
 abbrev pub not_composing : List ℕ → List ℕ
 not_composing name = with_feed (name ++ codes ": not while composing")
+
+-- no file that commands make can have this name, since a commit uses it
+abbrev pub reserved_name : List ℕ → List ℕ
+reserved_name name = with_feed (name ++ codes ": reserved name")
+
+-- another holds the file or the right of this name
+abbrev pub busy : List ℕ → List ℕ
+busy name = with_feed (name ++ codes ": busy")
+
+-- the file isn't as it was loaded, from this message on
+abbrev pub changed_at : List ℕ → ℕ → List ℕ
+changed_at name at = with_feed (name ++ codes ": changed at message " ++ decimal at)
+
+-- the file has or would have more bytes than a file may have
+abbrev pub too_large : List ℕ → List ℕ
+too_large name = with_feed (name ++ codes ": too large")
+
+-- more files than one commit takes
+abbrev pub too_many_names : List ℕ
+too_many_names = with_feed (codes "too many names")

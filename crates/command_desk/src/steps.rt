@@ -2,6 +2,7 @@ ghost use Rattle.std.specs.Prelude.{◌≡◌, IfOk, Ok};
 ghost use Rattle.command_desk.specs.Answers.{Means, says, quietly};
 
 use crate::Effects;
+use folder_change::Change;
 use mail_text::{Items, Memory, Text};
 use std::alloc::{AllocError, Global};
 use thiserror::Error;
@@ -11,6 +12,8 @@ use thiserror::Error;
 pub enum Ask {
     /// These bytes are said.
     Say(Text),
+    /// This change of a file is committed. Its name may be one that no file can have.
+    Save { change: Change },
     /// The run ends without changes.
     Exit,
 }

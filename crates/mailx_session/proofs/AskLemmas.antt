@@ -12,10 +12,16 @@ use Rattle.mailx_session.specs.declared.state.SessionState.{SessionState}
 use Rattle.command_desk.specs.declared.steps.Ask as asked_of
 use Rattle.command_desk.specs.declared.steps.Ask.TheVariants as asks
 use Rattle.mailx_session.specs.declared.status.Status.TheVariants.{Done}
+use Rattle.folder_change.specs.declared.change.Change.{Change}
+use Rattle.folder_change.specs.Changes.{name_of}
+use Rattle.mailx_session.specs.Saving.{name_fault, saved}
 use Rattle.mailx_session.specs.Sessions.{asked, LineCaused}
 
 pub asked-say : (s : SessionState) (ask : asked_of.Ask) (bytes : List ℕ) → ask ≡ asks.Say bytes → asked s ask ≡ Ask (Say bytes) (λ _. Ret (On s))
 asked-say s ask bytes is = ap (asked s) is
+
+pub asked-save : (s : SessionState) (ask : asked_of.Ask) (change : Change) → ask ≡ asks.Save change → asked s ask ≡ saved s change (name_fault s.actor (name_of change))
+asked-save s ask change is = ap (asked s) is
 
 pub asked-exit : (s : SessionState) (ask : asked_of.Ask) → ask ≡ asks.Exit → asked s ask ≡ Ret (Ended Done)
 asked-exit s ask is = ap (asked s) is
@@ -32,6 +38,5 @@ rose-later a b c le rose = omega arith
 -- a cause in a later call is one in the whole stretch
 pub caused-later : (a b c : Counts) (e : RunError) → NeverFall a b → LineCaused {T = Asked} b c (Err e) → LineCaused {T = Asked} a c (Err e)
 caused-later a b c error.Output fall rose = rose-later a.outs b.outs c.outs fall.outs rose
-caused-later a b c error.Disk fall never = never
-caused-later a b c (error.BadRecord name) fall never = never
+caused-later a b c error.Disk fall rose = rose-later a.disks b.disks c.disks fall.disks rose
 caused-later a b c error.Memory fall t = tt

@@ -20,11 +20,15 @@ use Rattle.mailx_session.specs.declared.flow.Flow.TheVariants as flow
 use Rattle.mailx_session.specs.declared.state.SessionState.{SessionState}
 use Rattle.mailx_session.specs.declared.status.Status.{Status}
 use Rattle.mailx_session.specs.declared.status.Status.TheVariants.{Done}
+use Rattle.folder_change.specs.Changes.{name_of}
 use Rattle.mailx_session.specs.States.{settled}
+use Rattle.mailx_session.specs.Statuses.{IsLineEnd}
+use Rattle.mailx_session.specs.Saving.{name_fault, saved}
 
 -- what is asked for, and what its answer leaves
 abbrev pub asked : SessionState → asked_of.Ask → Play (After SessionState Status)
 asked s (asks.Say bytes) = Ask (Say bytes) (λ _. Ret (On s))
+asked s (asks.Save change) = saved s change (name_fault s.actor (name_of change))
 asked s asks.Exit = Ret (Ended Done)
 
 -- a command's steps are carried out, or the line that refuses it is said
@@ -43,11 +47,10 @@ abbrev pub next_of : SessionState → Flow → Next SessionState Status
 next_of s flow.Go = Go s
 next_of s (flow.End e) = Last e
 
--- the cut that an error is; a bad record is none yet, since no line answers it
+-- the cut that an error is
 abbrev pub stop_of : RunError → Stop
 stop_of error.Output = stop.Output
 stop_of error.Disk = stop.Disk
-stop_of (error.BadRecord name) = stop.Disk
 stop_of error.Memory = stop.Memory
 
 -- a result of a play, or the cut
@@ -55,28 +58,27 @@ abbrev pub in_play : {A B : Type 0} → (A → B) → Result A RunError → Resu
 in_play to (Ok a) = Ok (to a)
 in_play to (Err e) = Err (stop_of e)
 
--- a line is cut off by a fault of the output only where its count rose; no line uses the disk yet
+-- a line is cut off by a fault only where the count of its kind rose
 abbrev pub LineCaused : {T : Type 0} → Counts → Counts → Result T RunError → Type 0
 LineCaused old new (Err error.Output) = Rose old.outs new.outs
-LineCaused old new (Err error.Disk) = ⊥
-LineCaused old new (Err (error.BadRecord name)) = ⊥
+LineCaused old new (Err error.Disk) = Rose old.disks new.disks
 LineCaused old new (Err error.Memory) = Unit {0}
 LineCaused old new (Ok t) = Unit {0}
 
--- where the run ends, the session is done
-abbrev pub EndsDone : Flow → Type 0
-EndsDone flow.Go = Unit {0}
-EndsDone (flow.End s) = s ≡ Done
+-- where the run ends, it ends as a line ends it
+abbrev pub EndsByLine : Flow → Type 0
+EndsByLine flow.Go = Unit {0}
+EndsByLine (flow.End s) = IsLineEnd s
 
 -- where the run ends, the state stays
 abbrev pub StaysAtEnd : SessionState → SessionState → Flow → Type 0
 StaysAtEnd old new flow.Go = Unit {0}
 StaysAtEnd old new (flow.End s) = new ≡ old
 
--- where an ask ended the run, the session is done
-abbrev pub IsDoneAfter : Asked → Type 0
-IsDoneAfter (answered.Ended s) = s ≡ Done
-IsDoneAfter a = Unit {0}
+-- where an ask ended the run, it ends as a line ends it
+abbrev pub EndsByAsk : Asked → Type 0
+EndsByAsk (answered.Ended s) = IsLineEnd s
+EndsByAsk a = Unit {0}
 
 -- nothing is done, and the session goes on
 abbrev pub DoesNothing : SessionState → SessionState → Result Flow RunError → Type 0

@@ -14,10 +14,18 @@ status_number status.Refused = 7
 status_number status.Memory = 8
 status_number status.InputLimit = 9
 status_number status.NoFolder = 10
+status_number status.BadRecord = 11
 
 -- a run ends so that isn't cut off, and whose words aren't refused
 abbrev pub IsEnd : Status → Type 0
 IsEnd status.Done = Unit {0}
 IsEnd status.Refused = Unit {0}
 IsEnd status.NoFolder = Unit {0}
+IsEnd status.BadRecord = Unit {0}
 IsEnd s = ⊥
+
+-- a line of a session ends the run so: it is done, or what stands as the record is none
+abbrev pub IsLineEnd : Status → Type 0
+IsLineEnd status.Done = Unit {0}
+IsLineEnd status.BadRecord = Unit {0}
+IsLineEnd s = ⊥

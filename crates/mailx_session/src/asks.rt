@@ -6,12 +6,14 @@ ghost use Rattle.session_play.specs.Play.{Play, Ask, Ret, Say, Goes};
 ghost use Rattle.session_play.specs.Steps.{in_order};
 ghost use Rattle.mailx_session.specs.declared.state.SessionState.{SessionState};
 ghost use Rattle.mailx_session.specs.States.{IsState};
-ghost use Rattle.mailx_session.specs.Sessions.{asked, after_asks, in_play, LineCaused, IsDoneAfter};
+ghost use Rattle.mailx_session.specs.Sessions.{asked, after_asks, in_play, LineCaused, EndsByAsk};
 
+use crate::saving::save;
 use crate::{RunError, SessionState, Status};
 use host_port::Host;
 use mail_text::Text;
 use read_commands::Ask as Wanted;
+use std::alloc::Global;
 
 /// What the answers to a command's asks leave.
 #[derive(Drop)]
@@ -37,16 +39,22 @@ pub(crate) fn say<H: Host>(host: &mut H, bytes: &[u8]) -> Result<(), RunError>
 }
 
 // Does one thing that is asked for.
-fn do_ask<H: Host>(state: &SessionState, host: &mut H, ask: &Wanted) -> Result<Asked, RunError>
+fn do_ask<H: Host>(
+    alloc: Global,
+    state: &SessionState,
+    host: &mut H,
+    ask: &Wanted,
+) -> Result<Asked, RunError>
     requires { IsState state.now }
     ensures ran { Ran H.start H.told H.counts host.old host.new
         (λ es. Goes (asked state.now ask.now) es (in_play (after_asks state.now) result)) }
     ensures fall { NeverFall (H.counts host.old) (H.counts host.new) }
-    ensures done { IfOk result IsDoneAfter }
+    ensures done { IfOk result EndsByAsk }
     ensures cause { LineCaused (H.counts host.old) (H.counts host.new) result }
 {
     match ask {
         Wanted::Say(bytes) => say_line(host, bytes),
+        Wanted::Save { change } => save(alloc, state, host, change),
         Wanted::Exit => Ok(Asked::Ended(Status::Done)),
     }
 }
@@ -56,7 +64,7 @@ fn say_line<H: Host>(host: &mut H, bytes: &Text) -> Result<Asked, RunError>
     ensures ran { (s : SessionState) → Ran H.start H.told H.counts host.old host.new
         (λ es. Goes (Ask (Say bytes.now) (λ _. Ret (after_asks s Asked.On))) es (in_play (after_asks s) result)) }
     ensures fall { NeverFall (H.counts host.old) (H.counts host.new) }
-    ensures done { IfOk result IsDoneAfter }
+    ensures done { IfOk result EndsByAsk }
     ensures cause { LineCaused (H.counts host.old) (H.counts host.new) result }
 {
     match say(host, bytes.bytes()) {
@@ -67,6 +75,7 @@ fn say_line<H: Host>(host: &mut H, bytes: &Text) -> Result<Asked, RunError>
 
 /// Does what is asked for, in order, up to an answer that refuses what follows or ends the run.
 pub(crate) fn do_asks<H: Host>(
+    alloc: Global,
     state: &SessionState,
     host: &mut H,
     asks: &[Wanted],
@@ -75,11 +84,11 @@ pub(crate) fn do_asks<H: Host>(
     ensures ran { Ran H.start H.told H.counts host.old host.new
         (λ es. Goes (in_order asked state.now asks.now) es (in_play (after_asks state.now) result)) }
     ensures fall { NeverFall (H.counts host.old) (H.counts host.new) }
-    ensures done { IfOk result IsDoneAfter }
+    ensures done { IfOk result EndsByAsk }
     ensures cause { LineCaused (H.counts host.old) (H.counts host.new) result }
 {
     for ask in asks {
-        match do_ask(state, host, ask) {
+        match do_ask(alloc, state, host, ask) {
             Ok(Asked::On) => {}
             Ok(Asked::Refused { line }) => return Ok(Asked::Refused { line }),
             Ok(Asked::Ended(status)) => return Ok(Asked::Ended(status)),

@@ -12,7 +12,7 @@ ghost use Rattle.read_commands.specs.declared.origin.Origin.{Origin};
 ghost use Rattle.mailx_session.specs.States.{IsState, settled, rested, KeepsLines};
 ghost use Rattle.mailx_session.specs.Pending.{lines_left};
 ghost use Rattle.mailx_session.specs.Rounds.{line_play, typed_play, dropped_play, counted_play, waiting_play, WaitingGo, LineGoes};
-ghost use Rattle.mailx_session.specs.Sessions.{carried_out, after_asks, next_of, in_play, LineCaused, IsDoneAfter, EndsDone, StaysAtEnd, DoesNothing};
+ghost use Rattle.mailx_session.specs.Sessions.{carried_out, after_asks, next_of, in_play, LineCaused, EndsByAsk, EndsByLine, StaysAtEnd, DoesNothing};
 
 use crate::asks::{Asked, do_asks, say};
 use crate::frames::Frames;
@@ -47,13 +47,13 @@ fn finish<H: Host>(
 ) -> Result<Flow, RunError>
     requires state { IsState state.old }
     requires desk { IsDesk (effect state.old.desk effects) }
-    requires done { IsDoneAfter asked }
+    requires done { EndsByAsk asked }
     ensures ran { Ran H.start H.told H.counts host.old host.new
         (λ es. Goes (concluded state.old (λ t. settled t effects) (after_asks state.old asked)) es
         (in_play (next_of state.new) result)) }
     ensures state { IsState state.new }
     ensures lines { KeepsLines state.old state.new }
-    ensures done { IfOk result EndsDone }
+    ensures done { IfOk result EndsByLine }
     ensures end { IfOk result (StaysAtEnd state.old state.new) }
     ensures err { OnErr result (state.new ≡ state.old) }
     ensures cause { LineCaused (H.counts host.old) (H.counts host.new) result }
@@ -70,6 +70,7 @@ fn finish<H: Host>(
 
 // Carries out a command's steps.
 fn carry_out<H: Host>(
+    alloc: Global,
     state: &mut SessionState,
     host: &mut H,
     steps: Steps,
@@ -80,13 +81,13 @@ fn carry_out<H: Host>(
         (λ es. Goes (carried_out state.old (Ok steps)) es (in_play (next_of state.new) result)) }
     ensures state { IsState state.new }
     ensures lines { KeepsLines state.old state.new }
-    ensures done { IfOk result EndsDone }
+    ensures done { IfOk result EndsByLine }
     ensures end { IfOk result (StaysAtEnd state.old state.new) }
     ensures err { OnErr result (state.new ≡ state.old) }
     ensures cause { LineCaused (H.counts host.old) (H.counts host.new) result }
 {
     let Steps { asks, effects } = steps;
-    let asked = do_asks(state, host, asks.items())?;
+    let asked = do_asks(alloc, state, host, asks.items())?;
     finish(state, host, effects, asked)
 }
 
@@ -107,13 +108,13 @@ fn carry_line<H: Host>(
     ensures refused { (fault : List ℕ) → commanded origin state.old.desk line.now ≡ Err fault → state.new ≡ state.old }
     ensures goes_on { (fault : List ℕ) → commanded origin state.old.desk line.now ≡ Err fault
         → IfOk result (λ flow. flow ≡ Flow.Go) }
-    ensures done { IfOk result EndsDone }
+    ensures done { IfOk result EndsByLine }
     ensures end { IfOk result (StaysAtEnd state.old state.new) }
     ensures err { OnErr result (state.new ≡ state.old) }
     ensures cause { LineCaused (H.counts host.old) (H.counts host.new) result }
 {
     match perform_line(alloc, origin, line, &state.desk) {
-        Ok(steps) => carry_out(state, host, steps),
+        Ok(steps) => carry_out(alloc, state, host, steps),
         Err(Refusal::Fault { line: fault }) => refuse(state, host, &fault),
         Err(Refusal::Memory) => Err(RunError::Memory),
     }
@@ -135,7 +136,7 @@ fn typed_line<H: Host>(
         → rested state.new ≡ rested state.old }
     ensures goes_on { (fault : List ℕ) → commanded Origin.Input state.old.desk line.now ≡ Err fault
         → IfOk result (λ flow. flow ≡ Flow.Go) }
-    ensures done { IfOk result EndsDone }
+    ensures done { IfOk result EndsByLine }
     ensures end { IfOk result (StaysAtEnd (rested state.old) (rested state.new)) }
     ensures err { OnErr result (rested state.new ≡ rested state.old) }
     ensures cause { LineCaused (H.counts host.old) (H.counts host.new) result }
@@ -156,7 +157,7 @@ fn drop_waiting<H: Host>(
         (λ es. Goes (dropped_play state.old) es (in_play (next_of state.new) result)) }
     ensures state { IsState state.new }
     ensures fewer { lines_left state.new.frames ≤ lines_left state.old.frames }
-    ensures done { IfOk result EndsDone }
+    ensures done { IfOk result EndsByLine }
     ensures cause { LineCaused (H.counts host.old) (H.counts host.new) result }
 {
     match say(host, b"too many commands\n") {
@@ -180,7 +181,7 @@ fn counted_line<H: Host>(
         (λ es. Goes (counted_play state.old line.now) es (in_play (next_of state.new) result)) }
     ensures state { IsState state.new }
     ensures fewer { lines_left state.new.frames ≤ lines_left state.old.frames }
-    ensures done { IfOk result EndsDone }
+    ensures done { IfOk result EndsByLine }
     ensures cause { LineCaused (H.counts host.old) (H.counts host.new) result }
 {
     if state.count < COMMAND_LIMIT {
@@ -210,7 +211,7 @@ fn waiting_line<H: Host>(
         (λ es. Goes (waiting_play state.old line.now) es (in_play (next_of state.new) result)) }
     ensures state { IsState state.new }
     ensures fewer { lines_left state.new.frames ≤ lines_left state.old.frames }
-    ensures done { IfOk result EndsDone }
+    ensures done { IfOk result EndsByLine }
     ensures cause { LineCaused (H.counts host.old) (H.counts host.new) result }
 {
     if is_empty(line.text.bytes()) {
@@ -231,7 +232,7 @@ fn waiting_lines<H: Host>(
         (λ es. WaitingGo state.old es (in_play (next_of (rested state.new)) result)) }
     ensures state { IsState state.new }
     ensures nothing { state.old.frames ≡ [] → DoesNothing (rested state.old) (rested state.new) result }
-    ensures done { IfOk result EndsDone }
+    ensures done { IfOk result EndsByLine }
     ensures cause { LineCaused (H.counts host.old) (H.counts host.new) result }
 {
     'lines: loop {
@@ -262,7 +263,7 @@ pub(crate) fn input_line<H: Host>(
         → rested state.new ≡ rested state.old }
     ensures goes_on { (fault : List ℕ) → commanded Origin.Input state.old.desk line.now ≡ Err fault
         → IfOk result (λ flow. flow ≡ Flow.Go) }
-    ensures done { IfOk result EndsDone }
+    ensures done { IfOk result EndsByLine }
     ensures end { IfOk result (StaysAtEnd (rested state.old) (rested state.new)) }
     ensures err { OnErr result (rested state.new ≡ rested state.old) }
     ensures cause { LineCaused (H.counts host.old) (H.counts host.new) result }

@@ -48,8 +48,8 @@ fn first_desk(alloc: Global, places: Places) -> Result<Desk, Memory>
     })
 }
 
-// The name of the actor of a home folder.
-fn actor_of(alloc: Global, home: &[u8]) -> Result<Text, Memory>
+/// The name of the actor of a home folder.
+pub fn actor_of(alloc: Global, home: &[u8]) -> Result<Text, Memory>
     ensures { IfOk result (λ actor. actor ≡ home.now ++ codes "/.mailx") }
 {
     let mut actor = Text::copy(alloc, home)?;

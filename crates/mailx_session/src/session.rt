@@ -8,7 +8,7 @@ ghost use Rattle.read_commands.specs.declared.origin.Origin.{Origin};
 ghost use Rattle.read_commands.specs.Origins.{commanded};
 ghost use Rattle.mailx_session.specs.States.{IsSession, rested};
 ghost use Rattle.mailx_session.specs.Rounds.{LineGoes};
-ghost use Rattle.mailx_session.specs.Sessions.{next_of, in_play, LineCaused, EndsDone, StaysAtEnd};
+ghost use Rattle.mailx_session.specs.Sessions.{next_of, in_play, LineCaused, EndsByLine, StaysAtEnd};
 ghost use Rattle.mailx_session.specs.Openings.{first_state, greeting, Opens};
 
 use crate::greeting::greeting;
@@ -121,7 +121,7 @@ impl Session {
             → self.new ≡ self.old }
         ensures goes_on { (fault : List ℕ) → commanded Origin.Input self.old.desk line.now ≡ Err fault
             → IfOk result (λ flow. flow ≡ Flow.Go) }
-        ensures done { IfOk result EndsDone }
+        ensures done { IfOk result EndsByLine }
         ensures end { IfOk result (StaysAtEnd self.old self.new) }
         ensures err { OnErr result (self.new ≡ self.old) }
         ensures cause { LineCaused (H.counts host.old) (H.counts host.new) result }

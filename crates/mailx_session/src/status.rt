@@ -19,6 +19,8 @@ pub enum Status {
     InputLimit,
     /// There is no folder of that name to open.
     NoFolder,
+    /// What stands as the record of commits can't be read as one, or it or a staged file is too large to load.
+    BadRecord,
 }
 
 impl Status {
@@ -39,6 +41,7 @@ impl Status {
             Status::Memory => 8,
             Status::InputLimit => 9,
             Status::NoFolder => 10,
+            Status::BadRecord => 11,
         }
     }
 }

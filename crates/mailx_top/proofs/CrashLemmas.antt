@@ -1,42 +1,280 @@
 -- A run is crash safe.
-use Rattle.std.proofs.Common.{◌≡◌, ◌<◌, ◌^◌, ℕ, Bool, List, [], ◌++◌, refl, sym, subst}
+use Rattle.std.proofs.Common.{◌≡◌, ◌<◌, ◌^◌, ◌+◌, ℕ, Bool, true, false, List, [], ◌∷◌, ◌++◌, length, refl, sym, subst}
+use Rattle.std.specs.Prelude.{nat_lt, if◌then◌else◌}
+use Rattle.std.specs.List.{list_all}
+use Rattle.std.specs.Str.{bytes_eq}
+use Rattle.std.specs.declared.option.Option.{Option}
+use Rattle.std.specs.declared.option.Option.TheVariants.{Some, None}
 use Rattle.std.specs.declared.result.Result.{Result}
 use Rattle.std.specs.declared.result.Result.TheVariants.{Ok, Err}
+use Rattle.mail_text.specs.Ascii.{is_blank}
 use Rattle.host_port.specs.declared.event.Event.{Event}
 use Rattle.host_port.specs.Disk.{Disk}
 use Rattle.host_port.specs.Own.{own, OnlyLooks}
 use Rattle.host_port.specs.Ran.{Honest}
+use Rattle.mbox_scan.specs.Mailbox.{list_of}
+use Rattle.folder_change.specs.declared.change.Change.{Change}
+use Rattle.folder_change.specs.Changes.{name_of}
 use Rattle.commit_machine.specs.Lawful.{OthersAreLawful}
+use Rattle.folder_commit.specs.Names.{is_file_name}
+use Rattle.folder_commit.specs.Plans.{AreFiles}
 use Rattle.folder_commit.specs.Safe.{MayCommit}
+use Rattle.session_play.specs.declared.act.Found.{Found}
+use Rattle.session_play.specs.declared.act.Found.TheVariants as found
+use Rattle.session_play.specs.declared.changing.Committed.{Committed}
+use Rattle.session_play.specs.declared.changing.Committed.TheVariants as committed
 use Rattle.session_play.specs.declared.stop.Stop.{Stop}
-use Rattle.session_play.specs.Acts.{AllEnds}
-use Rattle.session_play.specs.Play.{Play, Ret, Ask, Next, Go, Last}
-use Rattle.play_safety.specs.Safe.{IsBy, NextKeeps, MayRun, IsCrashSafe}
+use Rattle.session_play.specs.Input.{Input}
+use Rattle.session_play.specs.Acts.{AllEnds, is_neutral, may_load}
+use Rattle.session_play.specs.Committing.{Commit}
+use Rattle.session_play.specs.Play.{Play, Ret, Ask, Line, Next, Go, Last, bind}
+use Rattle.session_play.specs.Steps.{After, On, Refused, Ended, onward, in_order, concluded}
+use Rattle.session_play.proofs.ShapeLemmas.{bind-ends, weaker-acts, may-neutral}
+use Rattle.play_safety.specs.Safe.{IsBy, EachCommit, NextKeeps, MayRun, IsCrashSafe}
 use Rattle.play_safety.proofs.TraceLemmas.{parted}
 use Rattle.play_safety.proofs.LawLemmas.{read-loop, run-safe, neutral-commits}
+use Rattle.mailx_vars.specs.Names.{is_short_name}
+use Rattle.command_desk.specs.declared.desk.Desk.{Desk}
+use Rattle.command_desk.specs.declared.effects.Effects.{Effects}
+use Rattle.command_desk.specs.declared.steps.Ask as asked_of
+use Rattle.command_desk.specs.declared.steps.Ask.TheVariants as asks
+use Rattle.command_desk.specs.declared.steps.Steps.{Steps}
+use Rattle.command_desk.specs.Answers.{OrFault}
+use Rattle.command_desk.specs.Faults.{bad_name, reserved_name, too_large}
+use Rattle.read_commands.specs.declared.origin.Origin.TheVariants as origin
+use Rattle.read_commands.specs.Origins.{commanded}
+use Rattle.mailx_session.specs.declared.frames.WaitingLine.{WaitingLine}
+use Rattle.mailx_session.specs.declared.state.SessionState.{SessionState}
 use Rattle.mailx_session.specs.declared.status.Status.{Status}
+use Rattle.mailx_session.specs.declared.status.Status.TheVariants.{BadRecord}
+use Rattle.mailx_session.specs.Openings.{with_opened}
+use Rattle.mailx_session.specs.Waits.{Pending}
+use Rattle.mailx_session.specs.Pending.{taken}
+use Rattle.mailx_session.specs.States.{settled, with_frames, with_count, rested, command_limit}
+use Rattle.mailx_session.specs.Saving.{name_fault, commit_of, after_commit, saved}
+use Rattle.mailx_session.specs.Sessions.{asked, carried_out}
+use Rattle.mailx_session.specs.Rounds.{line_play, typed_play, dropped_play, counted_play, waiting_play}
 use Rattle.mailx_top.specs.declared.environment.Environment.{Environment}
-use Rattle.mailx_top.specs.Words.{are_read, start_of}
-use Rattle.mailx_top.specs.Meaning.{RunState, Opening, round}
-use Rattle.mailx_top.specs.Statuses.{line_at_stop}
+use Rattle.mailx_top.specs.Words.{Start, are_read, start_of}
+use Rattle.mailx_top.specs.Meaning.{RunState, Opening, Reading, round, opening, loaded, with_list, greeted, turn, line_round, with_input, prompted, message_limit, first_of, actor_in}
+use Rattle.mailx_top.specs.Statuses.{line_at_stop, line_at_end}
 use Rattle.mailx_top.specs.Runs.{Ending, IsRun}
-use Rattle.mailx_top.specs.Crash.{actor_in, IsSafe}
-use Rattle.mailx_top.proofs.EndLemmas.{last-looks}
-use Rattle.mailx_top.proofs.RoundLemmas.{neutral-round}
+use Rattle.mailx_top.specs.Crash.{IsSafe}
+use Rattle.mailx_top.proofs.EndLemmas.{last-looks, end-looks}
+use Rattle.mailx_top.proofs.RoundLemmas.{loads-round}
 
--- nothing has to be kept yet, since no round commits
-abbrev Keeps : RunState → Type 0
-Keeps x = Unit {0}
+-- a state of this actor and this token
+abbrev IsOf : List ℕ → ℕ → SessionState → Type 0
+IsOf actor token s = (s.actor ≡ actor) × (s.token ≡ token)
 
-kept : (p : Play (Next RunState Status)) → AllEnds (NextKeeps Keeps) p
-kept (Ret (Go x)) = tt
-kept (Ret (Last r)) = tt
-kept (Ask act go) = λ a. kept (go a)
+-- what an ask or a line leaves is such a state
+abbrev AfterOf : List ℕ → ℕ → After SessionState Status → Type 0
+AfterOf actor token (On s) = IsOf actor token s
+AfterOf actor token (Refused line) = Unit {0}
+AfterOf actor token (Ended e) = Unit {0}
+
+abbrev NextOf : List ℕ → ℕ → Next SessionState Status → Type 0
+NextOf actor token (Go s) = IsOf actor token s
+NextOf actor token (Last e) = Unit {0}
+
+abbrev StateOf : List ℕ → ℕ → RunState → Type 0
+StateOf actor token (Opening start) = Unit {0}
+StateOf actor token (Reading s i) = IsOf actor token s
+
+-- one play after another commits as both do
+bind-commits : {A B : Type 0} (P : Commit → Type 0) (E : A → Type 0) (p : Play A) (k : A → Play B) → EachCommit P p → AllEnds E p → ((a : A) → E a → EachCommit P (k a)) → EachCommit P (bind p k)
+bind-commits P E (Ret a) k each ends more = more a ends
+bind-commits P E (Ask act go) k each ends more = (each.0, λ a. bind-commits P E (go a) k (each.1 a) (ends a) more)
+
+module _ (actor : List ℕ) (token : ℕ) where
+  -- a change that is committed has a file's name
+  named-file : (a name : List ℕ) → name_fault a name ≡ None → is_file_name a name ≡ true
+  named-file a name h = go (is_short_name name) (is_file_name a name) h
+    where
+      go : (short file : Bool) → (if short then (if file then None else Some (reserved_name name)) else Some (bad_name name)) ≡ None → file ≡ true
+      go true true h = refl
+      go true false h = absurd (cc h)
+      go false file h = absurd (cc h)
+
+  commit-by : (s : SessionState) (change : Change) → IsOf actor token s → name_fault s.actor (name_of change) ≡ None → IsBy actor token (commit_of s change)
+  commit-by s change of plain = record {
+    actor_is = of.0;
+    token_is = of.1;
+    files = subst (λ (a : List ℕ). AreFiles a (change ∷ [])) of.0 (named-file s.actor (name_of change) plain, tt);
+  }
+
+  saved-commits : (s : SessionState) (change : Change) (fault : Option (List ℕ)) → name_fault s.actor (name_of change) ≡ fault → IsOf actor token s → EachCommit (IsBy actor token) (saved s change fault)
+  saved-commits s change (Some line) is of = tt
+  saved-commits s change None is of = (commit-by s change of is, λ a. tt)
+
+  large-of : (b : Bool) (line : List ℕ) → AfterOf actor token (if b then Refused line else Ended BadRecord)
+  large-of true line = tt
+  large-of false line = tt
+
+  commit-of : (s : SessionState) (file : List ℕ) (a : Committed) → IsOf actor token s → AfterOf actor token (after_commit s file a)
+  commit-of s file committed.Done of = of
+  commit-of s file (committed.Busy name) of = tt
+  commit-of s file committed.NotARecord of = tt
+  commit-of s file (committed.Changed name at) of = tt
+  commit-of s file (committed.TooLarge name length) of = large-of (bytes_eq name file) (too_large name)
+  commit-of s file (committed.TooManyNames count) of = tt
+
+  saved-of : (s : SessionState) (change : Change) (fault : Option (List ℕ)) → IsOf actor token s → AllEnds (AfterOf actor token) (saved s change fault)
+  saved-of s change (Some line) of = tt
+  saved-of s change None of = λ a. commit-of s (name_of change) a of
+
+  ask-commits : (s : SessionState) (ask : asked_of.Ask) → IsOf actor token s → EachCommit (IsBy actor token) (asked s ask)
+  ask-commits s (asks.Say bytes) of = (tt, λ u. tt)
+  ask-commits s (asks.Save change) of = saved-commits s change (name_fault s.actor (name_of change)) refl of
+  ask-commits s asks.Exit of = tt
+
+  ask-of : (s : SessionState) (ask : asked_of.Ask) → IsOf actor token s → AllEnds (AfterOf actor token) (asked s ask)
+  ask-of s (asks.Say bytes) of = λ u. of
+  ask-of s (asks.Save change) of = saved-of s change (name_fault s.actor (name_of change)) of
+  ask-of s asks.Exit of = tt
+
+  onward-commits : (l : List asked_of.Ask) → ((t : SessionState) → IsOf actor token t → EachCommit (IsBy actor token) (in_order asked t l)) → (a : After SessionState Status) → AfterOf actor token a
+      → EachCommit (IsBy actor token) (onward (λ (t : SessionState). in_order asked t l) a)
+  onward-commits l each (On t) of = each t of
+  onward-commits l each (Refused line) of = tt
+  onward-commits l each (Ended e) of = tt
+
+  order-commits : (s : SessionState) (l : List asked_of.Ask) → IsOf actor token s → EachCommit (IsBy actor token) (in_order asked s l)
+  order-commits s [] of = tt
+  order-commits s (a ∷ rest) of =
+      bind-commits (IsBy actor token) (AfterOf actor token) (asked s a) (onward (λ (t : SessionState). in_order asked t rest)) (ask-commits s a of) (ask-of s a of)
+      (onward-commits rest (λ t. order-commits t rest))
+
+  onward-of : (l : List asked_of.Ask) → ((t : SessionState) → IsOf actor token t → AllEnds (AfterOf actor token) (in_order asked t l)) → (a : After SessionState Status) → AfterOf actor token a
+      → AllEnds (AfterOf actor token) (onward (λ (t : SessionState). in_order asked t l) a)
+  onward-of l each (On t) of = each t of
+  onward-of l each (Refused line) of = tt
+  onward-of l each (Ended e) of = tt
+
+  order-of : (s : SessionState) (l : List asked_of.Ask) → IsOf actor token s → AllEnds (AfterOf actor token) (in_order asked s l)
+  order-of s [] of = of
+  order-of s (a ∷ rest) of =
+      bind-ends (AfterOf actor token) (AfterOf actor token) (asked s a) (onward (λ (t : SessionState). in_order asked t rest)) (ask-of s a of) (onward-of rest (λ t. order-of t rest))
+
+  finished-commits : (s : SessionState) (effects : Effects) (a : After SessionState Status) → AfterOf actor token a → EachCommit (IsBy actor token) (concluded s (λ (t : SessionState). settled t effects) a)
+  finished-commits s effects (On t) of = tt
+  finished-commits s effects (Refused line) of = (tt, λ u. tt)
+  finished-commits s effects (Ended e) of = tt
+
+  finished-of : (s : SessionState) (effects : Effects) → IsOf actor token s → (a : After SessionState Status) → AfterOf actor token a → AllEnds (NextOf actor token) (concluded s (λ (t : SessionState). settled t effects) a)
+  finished-of s effects begins (On t) of = of
+  finished-of s effects begins (Refused line) of = λ u. begins
+  finished-of s effects begins (Ended e) of = tt
+
+  carried-commits : (s : SessionState) (m : OrFault Steps) → IsOf actor token s → EachCommit (IsBy actor token) (carried_out s m)
+  carried-commits s (Ok steps) of =
+      bind-commits (IsBy actor token) (AfterOf actor token) (in_order asked s steps.asks) (concluded s (λ (t : SessionState). settled t steps.effects)) (order-commits s steps.asks of) (order-of s steps.asks of)
+      (finished-commits s steps.effects)
+  carried-commits s (Err line) of = (tt, λ u. tt)
+
+  carried-of : (s : SessionState) (m : OrFault Steps) → IsOf actor token s → AllEnds (NextOf actor token) (carried_out s m)
+  carried-of s (Ok steps) of =
+      bind-ends (AfterOf actor token) (NextOf actor token) (in_order asked s steps.asks) (concluded s (λ (t : SessionState). settled t steps.effects)) (order-of s steps.asks of) (finished-of s steps.effects of)
+  carried-of s (Err line) of = λ u. of
+
+  counted-commits : (b : Bool) (s : SessionState) (line : WaitingLine) → IsOf actor token s
+      → EachCommit (IsBy actor token) (if b then line_play line.origin (with_count s (s.count + 1)) line.text else dropped_play s)
+  counted-commits true s line of = carried-commits (with_count s (s.count + 1)) (commanded line.origin s.desk line.text) of
+  counted-commits false s line of = (tt, λ u. tt)
+
+  counted-of : (b : Bool) (s : SessionState) (line : WaitingLine) → IsOf actor token s
+      → AllEnds (NextOf actor token) (if b then line_play line.origin (with_count s (s.count + 1)) line.text else dropped_play s)
+  counted-of true s line of = carried-of (with_count s (s.count + 1)) (commanded line.origin s.desk line.text) of
+  counted-of false s line of = λ u. of
+
+  waiting-commits : (b : Bool) (s : SessionState) (line : WaitingLine) → IsOf actor token s → EachCommit (IsBy actor token) (if b then Ret (Go s) else counted_play s line)
+  waiting-commits true s line of = tt
+  waiting-commits false s line of = counted-commits (nat_lt s.count command_limit) s line of
+
+  waiting-of : (b : Bool) (s : SessionState) (line : WaitingLine) → IsOf actor token s → AllEnds (NextOf actor token) (if b then Ret (Go s) else counted_play s line)
+  waiting-of true s line of = of
+  waiting-of false s line of = counted-of (nat_lt s.count command_limit) s line of
+
+  with-commits : (i : Input) (n : Next SessionState Status) → NextOf actor token n → EachCommit (IsBy actor token) (with_input i n)
+  with-commits i (Go s) of = tt
+  with-commits i (Last e) of = tt
+
+  with-of : (i : Input) (n : Next SessionState Status) → NextOf actor token n → AllEnds (NextKeeps (StateOf actor token)) (with_input i n)
+  with-of i (Go s) of = of
+  with-of i (Last e) of = tt
+
+  turn-commits : (s : SessionState) (j : Input) (line : Option (List ℕ)) → IsOf actor token s → EachCommit (IsBy actor token) (turn s j line)
+  turn-commits s j None of = tt
+  turn-commits s j (Some line) of =
+      bind-commits (IsBy actor token) (NextOf actor token) (typed_play s line) (with_input j) (carried-commits (with_count (rested s) 1) (commanded origin.Input s.desk line) of)
+      (carried-of (with_count (rested s) 1) (commanded origin.Input s.desk line) of) (with-commits j)
+
+  turn-of : (s : SessionState) (j : Input) (line : Option (List ℕ)) → IsOf actor token s → AllEnds (NextKeeps (StateOf actor token)) (turn s j line)
+  turn-of s j None of = tt
+  turn-of s j (Some line) of =
+      bind-ends (NextOf actor token) (NextKeeps (StateOf actor token)) (typed_play s line) (with_input j) (carried-of (with_count (rested s) 1) (commanded origin.Input s.desk line) of) (with-of j)
+
+  prompted-commits : (terminal : Bool) (desk : Desk) → EachCommit (IsBy actor token) (prompted terminal desk)
+  prompted-commits true desk = (tt, λ u. tt)
+  prompted-commits false desk = tt
+
+  prompted-ends : (terminal : Bool) (desk : Desk) → AllEnds (λ (u : Unit {0}). Unit {0}) (prompted terminal desk)
+  prompted-ends true desk = λ u. tt
+  prompted-ends false desk = tt
+
+  line-commits : (s : SessionState) (i : Input) (next : Option (WaitingLine × List Pending)) → IsOf actor token s → EachCommit (IsBy actor token) (line_round s i next)
+  line-commits s i None of =
+      bind-commits (IsBy actor token) (λ (u : Unit {0}). Unit {0}) (prompted s.terminal s.desk) (λ u. Ask (Line i) (λ a. turn s a.1 a.0)) (prompted-commits s.terminal s.desk) (prompted-ends s.terminal s.desk)
+      (λ u t. (tt, λ a. turn-commits s a.1 a.0 of))
+  line-commits s i (Some p) of =
+      let t = with_frames s p.1 in
+      let b = list_all is_blank p.0.text in
+      bind-commits (IsBy actor token) (NextOf actor token) (waiting_play t p.0) (with_input i) (waiting-commits b t p.0 of) (waiting-of b t p.0 of) (with-commits i)
+
+  line-of : (s : SessionState) (i : Input) (next : Option (WaitingLine × List Pending)) → IsOf actor token s → AllEnds (NextKeeps (StateOf actor token)) (line_round s i next)
+  line-of s i None of =
+      bind-ends (λ (u : Unit {0}). Unit {0}) (NextKeeps (StateOf actor token)) (prompted s.terminal s.desk) (λ u. Ask (Line i) (λ a. turn s a.1 a.0)) (prompted-ends s.terminal s.desk)
+      (λ u t a. turn-of s a.1 a.0 of)
+  line-of s i (Some p) of =
+      let t = with_frames s p.1 in
+      bind-ends (NextOf actor token) (NextKeeps (StateOf actor token)) (waiting_play t p.0) (with_input i) (waiting-of (list_all is_blank p.0.text) t p.0 of) (with-of i)
+
+  greeted-of : (quiet : Bool) (s : SessionState) → IsOf actor token s → AllEnds (NextKeeps (StateOf actor token)) (greeted quiet s)
+  greeted-of true s of = of
+  greeted-of false s of = λ u. of
+
+  either-of : (b : Bool) (p q : Play (Next RunState Status)) → AllEnds (NextKeeps (StateOf actor token)) p → AllEnds (NextKeeps (StateOf actor token)) q → AllEnds (NextKeeps (StateOf actor token)) (if b then p else q)
+  either-of true p q x y = x
+  either-of false p q x y = y
+
+  list-of : (s : SessionState) (start : Start) (bytes : List ℕ) (l : Option (List (List ℕ))) → IsOf actor token s → AllEnds (NextKeeps (StateOf actor token)) (with_list s start bytes l)
+  list-of s start bytes None of = λ u. tt
+  list-of s start bytes (Some texts) of =
+      either-of (nat_lt message_limit (length texts)) _ _ (λ u. tt) (λ rows. greeted-of start.quiet (with_opened s start.file bytes rows) of)
+
+  loaded-of : (s : SessionState) (start : Start) (f : Found) → IsOf actor token s → AllEnds (NextKeeps (StateOf actor token)) (loaded s start f)
+  loaded-of s start (found.Bytes bytes true) of = λ u. tt
+  loaded-of s start (found.Bytes None false) of = λ u. tt
+  loaded-of s start (found.Bytes (Some bytes) false) of = list-of s start bytes (list_of bytes) of
+  loaded-of s start (found.TooLarge n) of = λ u. tt
+
+-- each commit of a round is one of the run
+round-commits : (env : Environment) (x : RunState) → StateOf (actor_in env) env.token x → EachCommit (IsBy (actor_in env) env.token) (round env x)
+round-commits env (Opening start) of =
+    neutral-commits (IsBy (actor_in env) env.token) (opening env start) (weaker-acts (may_load true) is_neutral may-neutral (opening env start) (loads-round env (Opening start)))
+round-commits env (Reading s i) of = line-commits (actor_in env) env.token s i (taken s.frames) of
+
+-- and each round leaves a state of its actor and token
+round-of : (env : Environment) (x : RunState) → StateOf (actor_in env) env.token x → AllEnds (NextKeeps (StateOf (actor_in env) env.token)) (round env x)
+round-of env (Opening None) of = λ u. tt
+round-of env (Opening (Some start)) of =
+    either-of (actor_in env) env.token (is_short_name start.file) _ _ (λ f. loaded-of (actor_in env) env.token (first_of env) start f (refl, refl)) (λ u. tt)
+round-of env (Reading s i) of = line-of (actor_in env) env.token s i (taken s.frames) of
 
 -- what an ending adds only looks
-ending-looks : (read : Bool) (s : Status) (out : Result Status Stop) (es : List Event) → Ending read s out es → OnlyLooks es
-ending-looks read s (Ok e) es end = subst OnlyLooks (sym end.0) tt
-ending-looks read s (Err cause) es end = last-looks read (line_at_stop cause) es end.1
+ending-looks : (actor : List ℕ) (read : Bool) (s : Status) (out : Result Status Stop) (es : List Event) → Ending actor read s out es → OnlyLooks es
+ending-looks actor read s (Ok e) es end = end-looks read (line_at_end actor e) es end.1
+ending-looks actor read s (Err cause) es end = last-looks read (line_at_stop cause) es end.1
 
 pub safely : (words : List (List ℕ)) (env : Environment) (s : Status) (d : Disk) (es : List Event) → env.token < 2 ^ 64 → Honest d es → MayCommit (actor_in env) env.token d es → IsRun words env s (own es) → IsSafe words env s d es
 safely words env s d es fits honest may run =
@@ -46,7 +284,7 @@ safely words env s d es fits honest may run =
     let front = parts.0 in
     let rest = parts.1 in
     let read = read-loop (round env) d front parts.3 w.plays in
-    let ending = subst (Ending (are_read words) s w.out) (sym parts.4) w.ending in
+    let ending = subst (Ending actor (are_read words) s w.out) (sym parts.4) w.ending in
     let run_so : MayRun actor env.token d (front ++ rest) = record {
       fits = fits;
       fresh = may.fresh;
@@ -63,6 +301,6 @@ safely words env s d es fits honest may run =
       is = parts.2;
       plays = read.1;
       ending = ending;
-      safe = subst C (sym parts.2) (run-safe (round env) (Opening (start_of words env.pairs)) actor env.token d front rest read.0 w.out Keeps
-          (λ y k. neutral-commits (IsBy actor env.token) (round env y) (neutral-round env y)) (λ y k. kept (round env y)) tt run_so read.1 (ending-looks (are_read words) s w.out (own rest) ending));
+      safe = subst C (sym parts.2) (run-safe (round env) (Opening (start_of words env.pairs)) actor env.token d front rest read.0 w.out (StateOf actor env.token)
+          (round-commits env) (round-of env) tt run_so read.1 (ending-looks actor (are_read words) s w.out (own rest) ending));
     }

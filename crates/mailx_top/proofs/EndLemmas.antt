@@ -12,7 +12,12 @@ use Rattle.host_port.specs.Own.{own, OnlyLooks}
 use Rattle.host_port.specs.Calls.{Counts}
 use Rattle.session_play.specs.declared.stop.Stop.{Stop}
 use Rattle.session_play.specs.declared.stop.Stop.TheVariants as stop
-use Rattle.session_play.specs.Play.{Caused}
+use Rattle.std.specs.Prelude.{codes, ◌++◌, if◌then◌else◌}
+use Rattle.session_play.specs.Play.{Caused, Play, Ret, Ask, Goes, Next, Go, Last, Loop, again, last, cut}
+use Rattle.mailx_vars.specs.declared.environment.Places.{Places}
+use Rattle.mailx_vars.specs.Environment.{knows_user, places_in, places_of}
+use Rattle.mailx_top.specs.declared.environment.Environment.{Environment}
+use Rattle.mailx_top.specs.Meaning.{actor_in}
 use Rattle.mailx_session.specs.declared.error.RunError.{RunError}
 use Rattle.mailx_session.specs.declared.error.RunError.TheVariants as error
 use Rattle.mailx_session.specs.declared.flow.Flow.{Flow}
@@ -26,7 +31,7 @@ use Rattle.mailx_top.specs.Openings.{IsBadName}
 use Rattle.mailx_top.specs.Statuses.{status_at_stop}
 use Rattle.mailx_top.specs.Usage.{IsSayCut, EndsAsNamed, IsOrCut}
 use Rattle.mailx_top.specs.Words.{Start}
-use Rattle.mailx_top.specs.Runs.{AsFar, SaysLast}
+use Rattle.mailx_top.specs.Runs.{AsFar, SaysLast, SaysAtEnd}
 
 pub said-far : (r : Result Unit OutFault) (bytes line : List ℕ) → bytes ≡ line → (d : Disk) (e : Event) → Said r bytes d e → Agrees d e × AsFar line (own (e ∷ []))
 said-far (Ok u) bytes line same d e is =
@@ -46,11 +51,39 @@ last-looks false bytes es is = subst OnlyLooks (sym is) tt
 last-looks true bytes es (inl is) = subst OnlyLooks (sym is) (refl, tt)
 last-looks true bytes es (inr cut) = subst OnlyLooks (sym cut.1) (refl, tt)
 
+-- so does the line of an end
+pub end-looks : (read : Bool) (line : Option (List ℕ)) (es : List Event) → SaysAtEnd read line es → OnlyLooks es
+end-looks read None es is = subst OnlyLooks (sym is) tt
+end-looks read (Some line) es is = last-looks read line es is
+
+-- where memory is wanting at an end, the play is cut off there
+goes-short : {R : Type 0} (p : Play R) (es : List Event) (r : R) → Goes p es (Ok r) → Goes p es (Err stop.Memory)
+goes-short (Ret q) es r (none, end) = (none, inr refl)
+goes-short (Ask act go) es r (inl (answer, front, rest, is, did, goes)) = inl (answer, front, rest, is, did, goes-short (go answer) rest r goes)
+goes-short (Ask act go) es r (inr (cause, other, part)) = absurd (cc other)
+
+pub loop-short : {X R : Type 0} (round : X → Play (Next X R)) (e : R) {x : X} {es : List Event} {out : Result R Stop} → out ≡ Ok e → Loop round x es out → Loop round x es (Err stop.Memory)
+loop-short round e is (again front rest same goes more) = again front rest same goes (loop-short round e is more)
+loop-short round e is {x = x} {es = es} (last {r = r} goes) = cut (goes-short (round x) es (Last r) goes)
+loop-short round e is (cut goes) = absurd (cc is)
+
+-- where memory is wanting at an end, it is named so too
+pub named-short : (start : Option Start) (s : Status) → EndsAsNamed start (Ok s) → EndsAsNamed start (Err stop.Memory)
+named-short None s named = tt
+named-short (Some start) s named = (tt, λ bad. tt)
+
+-- the actor of a run whose places are read
+pub actor-read : (env : Environment) (places : Places) → Some places ≡ places_of env.pairs → places.home ++ codes "/.mailx" ≡ actor_in env
+actor-read env places is = ap (λ (p : Places). p.home ++ codes "/.mailx") (go (knows_user env.pairs) is)
+  where
+    go : (b : Bool) → Some places ≡ (if b then Some (places_in env.pairs) else None) → places ≡ places_in env.pairs
+    go true same = cc same
+    go false same = absurd (cc same)
+
 -- a line's error has the cause of its cut
 pub caused-line : (old new : Counts) (e : RunError) → LineCaused {T = Flow} old new (Err e) → Caused {T = Option Status} old new (Err (stop_of e))
 caused-line old new error.Output rose = rose
-caused-line old new error.Disk never = absurd never
-caused-line old new (error.BadRecord name) never = absurd never
+caused-line old new error.Disk rose = rose
 caused-line old new error.Memory c = tt
 
 -- the status of a fault
@@ -69,6 +102,7 @@ end-no-fault {A = A} (Some start) s f named fault is = go f (subst IsEnd is name
     go status.Done e never = absurd never
     go status.Refused e never = absurd never
     go status.NoFolder e never = absurd never
+    go status.BadRecord e never = absurd never
     go status.Usage never f = absurd never
     go status.InputFault never f = absurd never
     go status.OutputFault never f = absurd never
@@ -90,6 +124,7 @@ or-same wanted status.Refused is = is
 or-same wanted status.Memory is = tt
 or-same wanted status.InputLimit is = is
 or-same wanted status.NoFolder is = is
+or-same wanted status.BadRecord is = is
 
 or-cut : (wanted : Status) (cause : Stop) → IsSayCut cause → IsOrCut wanted (status_at_stop cause)
 or-cut wanted stop.Output c = tt

@@ -2,7 +2,7 @@
 use Rattle.std.proofs.Common.{◌≡◌, ℕ, Bool, true, false, List, [], ◌∷◌, refl, subst}
 use Rattle.std.specs.declared.result.Result.TheVariants.{Ok, Err}
 use Rattle.session_play.specs.Input.{Input}
-use Rattle.session_play.specs.Acts.{AllActs, AllEnds, Threads, loads_nothing}
+use Rattle.session_play.specs.Acts.{AllActs, AllEnds, Threads, may_load}
 use Rattle.session_play.specs.Play.{Next, Go, Last}
 use Rattle.session_play.specs.Steps.{After, On, Refused, Ended, onward, in_order, concluded}
 use Rattle.session_play.proofs.ShapeLemmas.{bind-acts, bind-ends, bind-threads}
@@ -16,7 +16,17 @@ use Rattle.command_desk.specs.Answers.{OrFault}
 use Rattle.read_commands.specs.declared.origin.Origin.TheVariants as origin
 use Rattle.read_commands.specs.Origins.{commanded}
 use Rattle.mailx_session.specs.declared.status.Status.{Status}
-use Rattle.mailx_session.specs.declared.status.Status.TheVariants.{Done}
+use Rattle.mailx_session.specs.declared.status.Status.TheVariants.{Done, BadRecord}
+use Rattle.mailx_session.specs.Statuses.{IsLineEnd}
+use Rattle.mailx_session.specs.Saving.{name_fault, after_commit, saved}
+use Rattle.std.specs.Str.{bytes_eq}
+use Rattle.std.specs.declared.option.Option.{Option}
+use Rattle.std.specs.declared.option.Option.TheVariants.{Some, None}
+use Rattle.folder_change.specs.declared.change.Change.{Change}
+use Rattle.folder_change.specs.Changes.{name_of}
+use Rattle.session_play.specs.declared.changing.Committed.{Committed}
+use Rattle.session_play.specs.declared.changing.Committed.TheVariants as committed
+use Rattle.command_desk.specs.Faults.{too_large}
 use Rattle.mail_text.specs.Ascii.{is_blank}
 use Rattle.std.specs.List.{list_all}
 use Rattle.std.specs.Prelude.{nat_lt, if◌then◌else◌, ◌+◌}
@@ -29,32 +39,60 @@ use Rattle.mailx_session.specs.Rounds.{line_play, typed_play, dropped_play, coun
 abbrev pub After-line : Type 0
 After-line = After SessionState Status
 
--- where an ask ends the run, the session is done
+-- where an ask ends the run, it ends as a line ends it
 abbrev IsDone : After-line → Type 0
 IsDone (On s) = Unit {0}
 IsDone (Refused line) = Unit {0}
-IsDone (Ended s) = s ≡ Done
+IsDone (Ended s) = IsLineEnd s
 
-abbrev pub EndsDone : Next SessionState Status → Type 0
-EndsDone (Go s) = Unit {0}
-EndsDone (Last s) = s ≡ Done
+abbrev pub EndsByLine : Next SessionState Status → Type 0
+EndsByLine (Go s) = Unit {0}
+EndsByLine (Last s) = IsLineEnd s
+
+-- a change that is committed, or refused by its name
+saved-acts : (s : SessionState) (change : Change) (fault : Option (List ℕ)) → AllActs (may_load false) (saved s change fault)
+saved-acts s change (Some line) = tt
+saved-acts s change None = (refl, λ a. tt)
+
+large-ends : (b : Bool) (line : List ℕ) → IsDone (if b then Refused line else Ended BadRecord)
+large-ends true line = tt
+large-ends false line = tt
+
+commit-ends : (s : SessionState) (file : List ℕ) (a : Committed) → IsDone (after_commit s file a)
+commit-ends s file committed.Done = tt
+commit-ends s file (committed.Busy name) = tt
+commit-ends s file committed.NotARecord = tt
+commit-ends s file (committed.Changed name at) = tt
+commit-ends s file (committed.TooLarge name length) = large-ends (bytes_eq name file) (too_large name)
+commit-ends s file (committed.TooManyNames count) = tt
+
+saved-ends : (s : SessionState) (change : Change) (fault : Option (List ℕ)) → AllEnds IsDone (saved s change fault)
+saved-ends s change (Some line) = tt
+saved-ends s change None = λ a. commit-ends s (name_of change) a
+
+saved-threads : (s : SessionState) (change : Change) (fault : Option (List ℕ)) (i : Input) → Threads (Keeps i) i (saved s change fault)
+saved-threads s change (Some line) i = refl
+saved-threads s change None i = (tt, λ a. refl)
 
 -- one ask
-ask-acts : (s : SessionState) (ask : asked_of.Ask) → AllActs loads_nothing (asked s ask)
+ask-acts : (s : SessionState) (ask : asked_of.Ask) → AllActs (may_load false) (asked s ask)
 ask-acts s (asks.Say bytes) = (refl, λ u. tt)
+ask-acts s (asks.Save change) = saved-acts s change (name_fault s.actor (name_of change))
 ask-acts s asks.Exit = tt
 
 ask-ends : (s : SessionState) (ask : asked_of.Ask) → AllEnds IsDone (asked s ask)
 ask-ends s (asks.Say bytes) = λ u. tt
-ask-ends s asks.Exit = refl
+ask-ends s (asks.Save change) = saved-ends s change (name_fault s.actor (name_of change))
+ask-ends s asks.Exit = tt
 
 ask-threads : (s : SessionState) (ask : asked_of.Ask) (i : Input) → Threads (Keeps i) i (asked s ask)
 ask-threads s (asks.Say bytes) i = (tt, λ u. refl)
+ask-threads s (asks.Save change) i = saved-threads s change (name_fault s.actor (name_of change)) i
 ask-threads s asks.Exit i = refl
 
 -- asks in order
-asks-acts : (s : SessionState) (l : List asked_of.Ask) → AllActs loads_nothing (in_order asked s l)
-asks-acts s l = order-acts loads_nothing asked ask-acts s l
+asks-acts : (s : SessionState) (l : List asked_of.Ask) → AllActs (may_load false) (in_order asked s l)
+asks-acts s l = order-acts (may_load false) asked ask-acts s l
 
 asks-ends : (s : SessionState) (l : List asked_of.Ask) → AllEnds IsDone (in_order asked s l)
 asks-ends s l = order-ends IsDone asked (λ t. tt) ask-ends s l
@@ -65,12 +103,12 @@ asks-threads s l i = order-threads asked ask-threads s l i
 abbrev changed : Effects → SessionState → SessionState
 changed effects s = settled s effects
 
-finished-acts : (s : SessionState) (effects : Effects) (a : After-line) → AllActs loads_nothing (concluded s (changed effects) a)
+finished-acts : (s : SessionState) (effects : Effects) (a : After-line) → AllActs (may_load false) (concluded s (changed effects) a)
 finished-acts s effects (On t) = tt
 finished-acts s effects (Refused line) = (refl, λ u. tt)
 finished-acts s effects (Ended e) = tt
 
-finished-ends : (s : SessionState) (effects : Effects) (a : After-line) → IsDone a → AllEnds EndsDone (concluded s (changed effects) a)
+finished-ends : (s : SessionState) (effects : Effects) (a : After-line) → IsDone a → AllEnds EndsByLine (concluded s (changed effects) a)
 finished-ends s effects (On t) d = tt
 finished-ends s effects (Refused line) d = λ u. tt
 finished-ends s effects (Ended e) d = d
@@ -80,12 +118,12 @@ finished-threads s effects i (On t) j same = same
 finished-threads s effects i (Refused line) j same = (tt, λ u. same)
 finished-threads s effects i (Ended e) j same = same
 
-carried-acts : (s : SessionState) (m : OrFault Steps) → AllActs loads_nothing (carried_out s m)
-carried-acts s (Ok steps) = bind-acts loads_nothing (in_order asked s steps.asks) (concluded s (changed steps.effects)) (asks-acts s steps.asks) (finished-acts s steps.effects)
+carried-acts : (s : SessionState) (m : OrFault Steps) → AllActs (may_load false) (carried_out s m)
+carried-acts s (Ok steps) = bind-acts (may_load false) (in_order asked s steps.asks) (concluded s (changed steps.effects)) (asks-acts s steps.asks) (finished-acts s steps.effects)
 carried-acts s (Err line) = (refl, λ u. tt)
 
-carried-ends : (s : SessionState) (m : OrFault Steps) → AllEnds EndsDone (carried_out s m)
-carried-ends s (Ok steps) = bind-ends IsDone EndsDone (in_order asked s steps.asks) (concluded s (changed steps.effects)) (asks-ends s steps.asks) (finished-ends s steps.effects)
+carried-ends : (s : SessionState) (m : OrFault Steps) → AllEnds EndsByLine (carried_out s m)
+carried-ends s (Ok steps) = bind-ends IsDone EndsByLine (in_order asked s steps.asks) (concluded s (changed steps.effects)) (asks-ends s steps.asks) (finished-ends s steps.effects)
 carried-ends s (Err line) = λ u. tt
 
 carried-threads : (s : SessionState) (i : Input) (m : OrFault Steps) → Threads (λ n j. j ≡ i) i (carried_out s m)
@@ -95,10 +133,10 @@ carried-threads s i (Ok steps) =
 carried-threads s i (Err line) = (tt, λ u. refl)
 
 -- a line of the input
-pub typed-acts : (s : SessionState) (line : List ℕ) → AllActs loads_nothing (typed_play s line)
+pub typed-acts : (s : SessionState) (line : List ℕ) → AllActs (may_load false) (typed_play s line)
 typed-acts s line = carried-acts (with_count (rested s) 1) (commanded origin.Input s.desk line)
 
-pub typed-ends : (s : SessionState) (line : List ℕ) → AllEnds EndsDone (typed_play s line)
+pub typed-ends : (s : SessionState) (line : List ℕ) → AllEnds EndsByLine (typed_play s line)
 typed-ends s line = carried-ends (with_count (rested s) 1) (commanded origin.Input s.desk line)
 
 pub typed-threads : (s : SessionState) (line : List ℕ) (i : Input) → Threads (λ n j. j ≡ i) i (typed_play s line)
@@ -106,12 +144,12 @@ typed-threads s line i = carried-threads (with_count (rested s) 1) i (commanded 
 
 -- a line from elsewhere
 counted-acts : (b : Bool) (s : SessionState) (line : WaitingLine)
-    → AllActs loads_nothing (if b then line_play line.origin (with_count s (s.count + 1)) line.text else dropped_play s)
+    → AllActs (may_load false) (if b then line_play line.origin (with_count s (s.count + 1)) line.text else dropped_play s)
 counted-acts true s line = carried-acts (with_count s (s.count + 1)) (commanded line.origin s.desk line.text)
 counted-acts false s line = (refl, λ u. tt)
 
 counted-ends : (b : Bool) (s : SessionState) (line : WaitingLine)
-    → AllEnds EndsDone (if b then line_play line.origin (with_count s (s.count + 1)) line.text else dropped_play s)
+    → AllEnds EndsByLine (if b then line_play line.origin (with_count s (s.count + 1)) line.text else dropped_play s)
 counted-ends true s line = carried-ends (with_count s (s.count + 1)) (commanded line.origin s.desk line.text)
 counted-ends false s line = λ u. tt
 
@@ -120,11 +158,11 @@ counted-threads : (b : Bool) (s : SessionState) (line : WaitingLine) (i : Input)
 counted-threads true s line i = carried-threads (with_count s (s.count + 1)) i (commanded line.origin s.desk line.text)
 counted-threads false s line i = (tt, λ u. refl)
 
-empty-acts : (b : Bool) (s : SessionState) (line : WaitingLine) → AllActs loads_nothing (if b then Ret (Go s) else counted_play s line)
+empty-acts : (b : Bool) (s : SessionState) (line : WaitingLine) → AllActs (may_load false) (if b then Ret (Go s) else counted_play s line)
 empty-acts true s line = tt
 empty-acts false s line = counted-acts (nat_lt s.count command_limit) s line
 
-empty-ends : (b : Bool) (s : SessionState) (line : WaitingLine) → AllEnds EndsDone (if b then Ret (Go s) else counted_play s line)
+empty-ends : (b : Bool) (s : SessionState) (line : WaitingLine) → AllEnds EndsByLine (if b then Ret (Go s) else counted_play s line)
 empty-ends true s line = tt
 empty-ends false s line = counted-ends (nat_lt s.count command_limit) s line
 
@@ -132,10 +170,10 @@ empty-threads : (b : Bool) (s : SessionState) (line : WaitingLine) (i : Input) �
 empty-threads true s line i = refl
 empty-threads false s line i = counted-threads (nat_lt s.count command_limit) s line i
 
-pub waiting-acts : (s : SessionState) (line : WaitingLine) → AllActs loads_nothing (waiting_play s line)
+pub waiting-acts : (s : SessionState) (line : WaitingLine) → AllActs (may_load false) (waiting_play s line)
 waiting-acts s line = empty-acts (list_all is_blank line.text) s line
 
-pub waiting-ends : (s : SessionState) (line : WaitingLine) → AllEnds EndsDone (waiting_play s line)
+pub waiting-ends : (s : SessionState) (line : WaitingLine) → AllEnds EndsByLine (waiting_play s line)
 waiting-ends s line = empty-ends (list_all is_blank line.text) s line
 
 pub waiting-threads : (s : SessionState) (line : WaitingLine) (i : Input) → Threads (λ n j. j ≡ i) i (waiting_play s line)

@@ -36,7 +36,8 @@ use Rattle.session_play.specs.Acts.{AllActs, AllEnds, loads_nothing}
 use Rattle.session_play.specs.Causes.{some_load_saw, counted, events_at}
 use Rattle.session_play.proofs.SawLemmas.{Unseen, unseen-then, goes-unseen}
 use Rattle.session_play.proofs.ShapeLemmas.{came-same, goes-ends, bind-ends}
-use Rattle.mailx_top.proofs.LineLemmas.{EndsDone, typed-ends, waiting-ends}
+use Rattle.mailx_session.specs.Statuses.{IsLineEnd}
+use Rattle.mailx_top.proofs.LineLemmas.{EndsByLine, typed-ends, waiting-ends}
 use Rattle.mailx_top.proofs.RoundLemmas.{loaded-acts}
 use Rattle.mailx_top.specs.Openings.{saw_held, is_no_list, saw_no_folder, IsBadName, OpensNone, EndsOrIsCut, IsOpeningExplained}
 
@@ -44,18 +45,52 @@ abbrev IsReadingState : RunState → Type 0
 IsReadingState (Opening start) = ⊥
 IsReadingState (Reading s i) = Unit {0}
 
--- a round goes on reading, or the session is done
+-- once the folder is open a run ends in one of two ways, of which the first stands for both
+abbrev opened_end : Status → Status
+opened_end status.BadRecord = status.Done
+opened_end e = e
+
+line-end : (e : Status) → IsLineEnd e → opened_end e ≡ status.Done
+line-end status.Done is = refl
+line-end status.BadRecord is = refl
+line-end status.Usage never = absurd never
+line-end status.InputFault never = absurd never
+line-end status.OutputFault never = absurd never
+line-end status.DiskFault never = absurd never
+line-end status.Refused never = absurd never
+line-end status.Memory never = absurd never
+line-end status.InputLimit never = absurd never
+line-end status.NoFolder never = absurd never
+
+-- another end is itself
+other-end : (r e : Status) → opened_end r ≡ e → (e ≡ status.Done → ⊥) → r ≡ e
+other-end status.BadRecord e is other = absurd (other (sym is))
+other-end status.Done e is other = is
+other-end status.Usage e is other = is
+other-end status.InputFault e is other = is
+other-end status.OutputFault e is other = is
+other-end status.DiskFault e is other = is
+other-end status.Refused e is other = is
+other-end status.Memory e is other = is
+other-end status.InputLimit e is other = is
+other-end status.NoFolder e is other = is
+
+abbrev EndsLike : Status → Result Status Stop → Type 0
+EndsLike e (Ok r) = opened_end r ≡ e
+EndsLike e (Err cause) = Unit {0}
+
+-- a round goes on reading, or ends as a line does
 abbrev ReadsOn : Next RunState Status → Type 0
 ReadsOn (Go y) = IsReadingState y
-ReadsOn (Last e) = e ≡ status.Done
+ReadsOn (Last e) = opened_end e ≡ status.Done
 
-ends-with : (j : Input) (n : Next SessionState Status) → EndsDone n → AllEnds ReadsOn (with_input j n)
-ends-with j (Go s) done = tt
-ends-with j (Last e) done = done
+ends-with : (j : Input) (n : Next SessionState Status) → EndsByLine n → AllEnds ReadsOn (with_input j n)
+ends-with j (Go s) by_line = tt
+ends-with j (Last e) by_line = line-end e by_line
 
 ends-turn : (s : SessionState) (j : Input) (line : Option (List ℕ)) → AllEnds ReadsOn (turn s j line)
 ends-turn s j None = refl
-ends-turn s j (Some line) = bind-ends EndsDone ReadsOn (typed_play s line) (with_input j) (typed-ends s line) (ends-with j)
+ends-turn s j (Some line) = bind-ends EndsByLine ReadsOn (typed_play s line) (with_input j) (typed-ends s line) (ends-with j)
 
 ends-prompted : (terminal : Bool) (desk : Desk) → AllEnds (λ (u : Unit {0}). Unit {0}) (prompted terminal desk)
 ends-prompted true desk = λ u. tt
@@ -69,7 +104,7 @@ ends-next s i =
 ends-line-round : (s : SessionState) (i : Input) (next : Option (WaitingLine × List Pending)) → AllEnds ReadsOn (line_round s i next)
 ends-line-round s i None = ends-next s i
 ends-line-round s i (Some p) =
-    let t = with_frames s p.1 in bind-ends EndsDone ReadsOn (waiting_play t p.0) (with_input i) (waiting-ends t p.0) (ends-with i)
+    let t = with_frames s p.1 in bind-ends EndsByLine ReadsOn (waiting_play t p.0) (with_input i) (waiting-ends t p.0) (ends-with i)
 
 ends-round : (env : Environment) (x : RunState) → IsReadingState x → AllEnds ReadsOn (round env x)
 ends-round env (Opening start) never = absurd never
@@ -84,7 +119,7 @@ none-counted x es reading = ap (λ (b : Bool). counted b es) (reads-nothing x re
 
 -- a loop of lines opens no folder, and ends only as a session does
 loop-reads : (env : Environment) {x : RunState} {es : List Event} {out : Result Status Stop} → IsReadingState x → (loop : Loop (round env) x es out)
-    → (events_at is_opening loop ≡ []) × EndsOrIsCut status.Done out
+    → (events_at is_opening loop ≡ []) × EndsLike status.Done out
 loop-reads env {x = x} {out = out} reading (again {y = y} front rest is goes more) =
     let on : IsReadingState y = goes-ends ReadsOn (round env x) front (Go y) (ends-round env x reading) goes in
     let later = loop-reads env on more in
@@ -95,20 +130,20 @@ loop-reads env {x = x} {es = es} reading (cut goes) = (none-counted x es reading
 -- the events of a play's first round, and how the run ends after it
 abbrev Continues : Play (Next RunState Status) → List Event → Result Status Stop → Type 0
 Continues p es out =
-    ((y : RunState) × Goes p es (Ok (Go y)) × (IsReadingState y → EndsOrIsCut status.Done out))
+    ((y : RunState) × Goes p es (Ok (Go y)) × (IsReadingState y → EndsLike status.Done out))
     ⊎ (((r : Status) × (out ≡ Ok r) × Goes p es (Ok (Last r))) ⊎ ((cause : Stop) × (out ≡ Err cause) × Goes p es (Err cause)))
 
 -- what follows a round without a load that ends the run so, or goes on to read
 abbrev EndsWith : Status → Next RunState Status → Type 0
 EndsWith e (Go y) = IsReadingState y × (e ≡ status.Done)
-EndsWith e (Last r) = r ≡ e
+EndsWith e (Last r) = opened_end r ≡ e
 
-continues-with : (e : Status) (p : Play (Next RunState Status)) (es : List Event) (out : Result Status Stop) → AllEnds (EndsWith e) p → Continues p es out → EndsOrIsCut e out
+continues-with : (e : Status) (p : Play (Next RunState Status)) (es : List Event) (out : Result Status Stop) → AllEnds (EndsWith e) p → Continues p es out → EndsLike e out
 continues-with e p es out ends (inl (y, goes, reads)) =
     let on = goes-ends (EndsWith e) p es (Go y) ends goes in
-    subst (λ e. EndsOrIsCut e out) (sym on.1) (reads on.0)
-continues-with e p es out ends (inr (inl (r, is, goes))) = subst (EndsOrIsCut e) (sym is) (goes-ends (EndsWith e) p es (Last r) ends goes)
-continues-with e p es out ends (inr (inr (cause, is, goes))) = subst (EndsOrIsCut e) (sym is) tt
+    subst (λ e. EndsLike e out) (sym on.1) (reads on.0)
+continues-with e p es out ends (inr (inl (r, is, goes))) = subst (EndsLike e) (sym is) (goes-ends (EndsWith e) p es (Last r) ends goes)
+continues-with e p es out ends (inr (inr (cause, is, goes))) = subst (EndsLike e) (sym is) tt
 
 -- the end that the load of the folder leads to, if the run isn't cut off
 abbrev end_of_list : Option (List (List ℕ)) → Status
@@ -146,12 +181,12 @@ record Matches (start : Option Start) (es : List Event) (e : Status) : Type 0 wh
   none : e ≡ status.NoFolder → OpensNone start es
   opens_none : OpensNone start es → e ≡ status.NoFolder
 
-explained-as : (start : Option Start) (es : List Event) (out : Result Status Stop) (e : Status) → Matches start es e → EndsOrIsCut e out → IsOpeningExplained start out es
+explained-as : (start : Option Start) (es : List Event) (out : Result Status Stop) (e : Status) → Matches start es e → EndsLike e out → IsOpeningExplained start out es
 explained-as start es (Ok r) e m same = record {
-  refused_only = λ is. m.refused (sym same ∙ came-same r status.Refused is);
-  refused_always = λ h. same ∙ m.held h;
-  no_folder_only = λ is. m.none (sym same ∙ came-same r status.NoFolder is);
-  no_folder_always = λ h. same ∙ m.opens_none h;
+  refused_only = λ is. m.refused (sym same ∙ ap opened_end (came-same r status.Refused is));
+  refused_always = λ h. other-end r status.Refused (same ∙ m.held h) (λ e. absurd (cc e));
+  no_folder_only = λ is. m.none (sym same ∙ ap opened_end (came-same r status.NoFolder is));
+  no_folder_always = λ h. other-end r status.NoFolder (same ∙ m.opens_none h) (λ e. absurd (cc e));
 }
 explained-as start es (Err cause) e m same = record {
   refused_only = λ is. absurd (cc is);
@@ -273,19 +308,19 @@ explained-found s start es out short (inl (f, rest, is, goes)) =
     let E : List Event → Type 0 = λ es. IsOpeningExplained (Some start) out es in
     subst E (sym is) (explained-as (Some start) _ out (end_of f) (matches-found start rest f short x y) (continues-with (end_of f) p rest out (loaded-ends s start f) goes))
 
-explained-said : (start : Option Start) (text : List ℕ) (e : Status) (es : List Event) (out : Result Status Stop) → Continues (says_and_ends text e) es out → (Unseen saw_held es → Unseen saw_no_folder es → Matches start es e) → IsOpeningExplained start out es
-explained-said start text e es out goes to =
+explained-said : (start : Option Start) (text : List ℕ) (e : Status) (es : List Event) (out : Result Status Stop) → opened_end e ≡ e → Continues (says_and_ends text e) es out → (Unseen saw_held es → Unseen saw_no_folder es → Matches start es e) → IsOpeningExplained start out es
+explained-said start text e es out plain goes to =
     let x = continues-unseen saw_held (says_and_ends text e) es out (refl, λ u. tt) goes in
     let y = continues-unseen saw_no_folder (says_and_ends text e) es out (refl, λ u. tt) goes in
-    explained-as start es out e (to x y) (continues-with e (says_and_ends text e) es out (λ u. refl) goes)
+    explained-as start es out e (to x y) (continues-with e (says_and_ends text e) es out (λ u. plain) goes)
 
 explained-opening : (env : Environment) (start : Option Start) (es : List Event) (out : Result Status Stop) → Continues (opening env start) es out → IsOpeningExplained start out es
-explained-opening env None es out goes = explained-said None usage status.Usage es out goes (matches-none es)
+explained-opening env None es out goes = explained-said None usage status.Usage es out refl goes (matches-none es)
 explained-opening env (Some start) es out goes = go (is_short_name start.file) refl goes
   where
     go : (b : Bool) → is_short_name start.file ≡ b → Continues (if b then Ask (Read start.file) (loaded (first_of env) start) else says_and_ends (with_feed (start.file ++ codes ": bad name")) status.NoFolder) es out → IsOpeningExplained (Some start) out es
     go true is goes = explained-found (first_of env) start es out is (after-load start.file (loaded (first_of env) start) es out goes)
-    go false is goes = explained-said (Some start) (with_feed (start.file ++ codes ": bad name")) status.NoFolder es out goes (λ x y. matches-bad start es is x)
+    go false is goes = explained-said (Some start) (with_feed (start.file ++ codes ": bad name")) status.NoFolder es out refl goes (λ x y. matches-bad start es is x)
 
 -- a round that opens a folder is followed by one that reads
 abbrev ReadsNext : Next RunState Status → Type 0

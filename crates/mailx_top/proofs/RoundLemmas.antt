@@ -8,7 +8,7 @@ use Rattle.session_play.specs.declared.act.Found.{Found}
 use Rattle.session_play.specs.declared.act.Found.TheVariants as found
 use Rattle.session_play.specs.Input.{Input, no_input}
 use Rattle.session_play.specs.Play.{Act, Line, Play, Ret, Ask, Next, Go, Last}
-use Rattle.session_play.specs.Acts.{AllActs, Threads, is_neutral, may_load, loads_nothing}
+use Rattle.session_play.specs.Acts.{AllActs, Threads, may_load, loads_nothing}
 use Rattle.session_play.specs.Causes.{NextFrom}
 use Rattle.mailx_vars.specs.Names.{is_short_name}
 use Rattle.command_desk.specs.declared.desk.Desk.{Desk}
@@ -23,7 +23,7 @@ use Rattle.mailx_session.specs.Rounds.{typed_play, waiting_play}
 use Rattle.mailx_top.specs.declared.environment.Environment.{Environment}
 use Rattle.mailx_top.specs.Words.{Start}
 use Rattle.mailx_top.specs.Meaning.{RunState, first_of, Opening, Reading, round, opening, loaded, with_list, greeted, turn, next_turn, line_round, with_input, prompted, input_of, is_opening, message_limit}
-use Rattle.session_play.proofs.ShapeLemmas.{bind-acts, bind-threads, weaker-acts, may-all, may-neutral, silent-neutral}
+use Rattle.session_play.proofs.ShapeLemmas.{bind-acts, bind-threads, weaker-acts, may-all}
 use Rattle.mailx_top.proofs.LineLemmas.{typed-acts, typed-threads, waiting-acts, waiting-threads}
 
 abbrev On : Input → Play (Next RunState Status) → Type 0
@@ -109,36 +109,31 @@ opening-acts env (Some start) =
     let s = first_of env in
     either (may_load true) (is_short_name start.file) _ _ (refl, λ f. loads-less true (loaded s start f) (loaded-acts s start f)) (refl, λ u. tt)
 
-with-acts : (i : Input) (n : Next SessionState Status) → AllActs loads_nothing (with_input i n)
+with-acts : (i : Input) (n : Next SessionState Status) → AllActs (may_load false) (with_input i n)
 with-acts i (Go s) = tt
 with-acts i (Last e) = tt
 
-turn-acts : (s : SessionState) (j : Input) (line : Option (List ℕ)) → AllActs loads_nothing (turn s j line)
+turn-acts : (s : SessionState) (j : Input) (line : Option (List ℕ)) → AllActs (may_load false) (turn s j line)
 turn-acts s j None = tt
-turn-acts s j (Some line) = bind-acts loads_nothing (typed_play s line) (with_input j) (typed-acts s line) (with-acts j)
+turn-acts s j (Some line) = bind-acts (may_load false) (typed_play s line) (with_input j) (typed-acts s line) (with-acts j)
 
-prompted-acts : (terminal : Bool) (desk : Desk) → AllActs loads_nothing (prompted terminal desk)
+prompted-acts : (terminal : Bool) (desk : Desk) → AllActs (may_load false) (prompted terminal desk)
 prompted-acts true desk = (refl, λ u. tt)
 prompted-acts false desk = tt
 
-next-acts : (s : SessionState) (i : Input) → AllActs loads_nothing (next_turn s i)
+next-acts : (s : SessionState) (i : Input) → AllActs (may_load false) (next_turn s i)
 next-acts s i =
-    bind-acts loads_nothing (prompted s.terminal s.desk) (λ u. Ask (Line i) (λ a. turn s a.1 a.0)) (prompted-acts s.terminal s.desk) (λ u. (refl, λ a. turn-acts s a.1 a.0))
+    bind-acts (may_load false) (prompted s.terminal s.desk) (λ u. Ask (Line i) (λ a. turn s a.1 a.0)) (prompted-acts s.terminal s.desk) (λ u. (refl, λ a. turn-acts s a.1 a.0))
 
-line-round-acts : (s : SessionState) (i : Input) (next : Option (WaitingLine × List Pending)) → AllActs loads_nothing (line_round s i next)
+line-round-acts : (s : SessionState) (i : Input) (next : Option (WaitingLine × List Pending)) → AllActs (may_load false) (line_round s i next)
 line-round-acts s i None = next-acts s i
 line-round-acts s i (Some p) =
-    let t = with_frames s p.1 in bind-acts loads_nothing (waiting_play t p.0) (with_input i) (waiting-acts t p.0) (with-acts i)
+    let t = with_frames s p.1 in bind-acts (may_load false) (waiting_play t p.0) (with_input i) (waiting-acts t p.0) (with-acts i)
 
-pub reading-acts : (env : Environment) (s : SessionState) (i : Input) → AllActs loads_nothing (round env (Reading s i))
+pub reading-acts : (env : Environment) (s : SessionState) (i : Input) → AllActs (may_load false) (round env (Reading s i))
 reading-acts env s i = line-round-acts s i (taken s.frames)
 
 -- where a folder is opened each load that fails cuts the run off, and elsewhere none does
 pub loads-round : (env : Environment) (x : RunState) → AllActs (may_load (is_opening x)) (round env x)
 loads-round env (Opening start) = opening-acts env start
-loads-round env (Reading s i) = loads-less false (round env (Reading s i)) (reading-acts env s i)
-
--- each round changes nothing
-pub neutral-round : (env : Environment) (x : RunState) → AllActs is_neutral (round env x)
-neutral-round env (Opening start) = weaker-acts (may_load true) is_neutral may-neutral (opening env start) (opening-acts env start)
-neutral-round env (Reading s i) = weaker-acts loads_nothing is_neutral silent-neutral (round env (Reading s i)) (reading-acts env s i)
+loads-round env (Reading s i) = reading-acts env s i

@@ -3,6 +3,7 @@ pub mod Wants
 pub mod Meaning
 pub mod Statuses
 pub mod Runs
+pub mod Ends
 pub mod Usage
 pub mod Openings
 pub mod Crash

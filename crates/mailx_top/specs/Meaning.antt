@@ -101,6 +101,10 @@ usage = with_feed (codes "usage: mailx [-eHiNnF] [-f [file]] [-u user] [-s subje
 abbrev pub first_of : Environment → SessionState
 first_of env = first_state env.pairs env.terminal env.token
 
+-- the actor of a run's commits
+abbrev pub actor_in : Environment → List ℕ
+actor_in env = (first_of env).actor
+
 -- a run starts in its first state, or its words are refused
 abbrev pub opening : Environment → Option Start → Play (Next RunState Status)
 opening env None = says_and_ends usage status.Usage

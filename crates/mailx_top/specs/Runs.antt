@@ -1,5 +1,7 @@
 -- A whole run, by its own events.
 use Rattle.std.specs.Prelude.{◌≡◌, ◌⊎◌, ℕ, Bool, true, false, List, [], ◌∷◌, take}
+use Rattle.std.specs.declared.option.Option.{Option}
+use Rattle.std.specs.declared.option.Option.TheVariants.{Some, None}
 use Rattle.std.specs.declared.result.Result.{Result}
 use Rattle.std.specs.declared.result.Result.TheVariants.{Ok, Err}
 use Rattle.host_port.specs.declared.event.Event.{Event}
@@ -9,10 +11,10 @@ use Rattle.session_play.specs.Play.{Whole}
 use Rattle.session_play.specs.Causes.{IsExplained, events_at, commits_in}
 use Rattle.mailx_session.specs.declared.status.Status.{Status}
 use Rattle.mailx_top.specs.declared.environment.Environment.{Environment}
-use Rattle.mailx_top.specs.Meaning.{Opening, round, is_opening}
+use Rattle.mailx_top.specs.Meaning.{Opening, round, actor_in, is_opening}
 use Rattle.mailx_top.specs.Openings.{IsOpeningExplained}
 use Rattle.mailx_top.specs.Words.{are_read, start_of}
-use Rattle.mailx_top.specs.Statuses.{status_at_stop, line_at_stop}
+use Rattle.mailx_top.specs.Statuses.{status_at_stop, line_at_stop, line_at_end}
 
 -- bytes are said by one Out, as far as they went
 abbrev pub AsFar : List ℕ → List Event → Type 0
@@ -23,14 +25,19 @@ abbrev pub SaysLast : Bool → List ℕ → List Event → Type 0
 SaysLast true bytes es = AsFar bytes es
 SaysLast false bytes es = es ≡ []
 
--- an end adds nothing; at a cut its line is said, where the words were read
-abbrev pub Ending : Bool → Status → Result Status Stop → List Event → Type 0
-Ending read s (Ok e) es = (es ≡ []) × (s ≡ e)
-Ending read s (Err cause) es = (s ≡ status_at_stop cause) × SaysLast read (line_at_stop cause) es
+-- the same of a line that may be missing
+abbrev pub SaysAtEnd : Bool → Option (List ℕ) → List Event → Type 0
+SaysAtEnd read None es = es ≡ []
+SaysAtEnd read (Some line) es = SaysLast read line es
+
+-- at a cut its line is said, where the words were read; an end adds nothing, but the line of the actor's record where that can't be read
+abbrev pub Ending : List ℕ → Bool → Status → Result Status Stop → List Event → Type 0
+Ending actor read s (Ok e) es = (s ≡ e) × SaysAtEnd read (line_at_end actor e) es
+Ending actor read s (Err cause) es = (s ≡ status_at_stop cause) × SaysLast read (line_at_stop cause) es
 
 -- The own events of a run with these words in this environment, which ends with this status: those of its meaning, with
 -- each cut explained. A load counts as one of the folder where its round opens the folder, and a fault of the disk in a commit counts too.
 pub record IsRun (words : List (List ℕ)) (env : Environment) (s : Status) (es : List Event) : Type 0 where
-  pub whole : Whole (round env) (Opening (start_of words env.pairs)) (Ending (are_read words) s) es
+  pub whole : Whole (round env) (Opening (start_of words env.pairs)) (Ending (actor_in env) (are_read words) s) es
   pub explained : IsExplained whole.out whole.front (events_at is_opening whole.plays) (commits_in whole.plays)
   pub opening : IsOpeningExplained (start_of words env.pairs) whole.out (events_at is_opening whole.plays)

@@ -7,6 +7,7 @@ ghost use Rattle.session_play.specs.Input.{left, no_input};
 ghost use Rattle.session_play.specs.Play.{Play, Goes, Loop, Caused};
 ghost use Rattle.mailx_session.specs.Rounds.{LineGoes};
 ghost use Rattle.mailx_session.specs.Sessions.{stop_of};
+ghost use Rattle.mailx_session.specs.Statuses.{IsLineEnd};
 ghost use Rattle.mailx_top.specs.declared.environment.Environment.{Environment};
 ghost use Rattle.mailx_top.specs.Meaning.{round, Reading, next_state, prompted, after_line, LeadsTo, LeadsAfterPrompt};
 
@@ -46,7 +47,6 @@ fn stop_of(error: &RunError) -> Stop
     match error {
         RunError::Output => Stop::Output,
         RunError::Disk => Stop::Disk,
-        RunError::BadRecord { .. } => Stop::Disk,
         RunError::Memory => Stop::Memory,
     }
 }
@@ -56,7 +56,7 @@ fn step<H: Host>(host: &mut H, session: &mut Session, line: &[u8]) -> Result<Opt
     ensures ran { Ran H.start H.told H.counts host.old host.new
         (λ es. LineGoes session.old line.now es (after_line session.new result)) }
     ensures cause { Caused (H.counts host.old) (H.counts host.new) result }
-    ensures done { IfOk result (λ end. IfSome end (λ e. e ≡ Status.Done)) }
+    ensures line_end { IfOk result (λ end. IfSome end IsLineEnd) }
 {
     match session.step(line, host) {
         Ok(Flow::Go) => Ok(None),
@@ -78,7 +78,7 @@ fn next_line<H: Host>(
     ensures fall { NeverFall (H.counts host.old) (H.counts host.new) }
     ensures cause { Caused (H.counts host.old) (H.counts host.new) result }
     ensures progress { IfOk result (λ end. IfNone end (left reader.new < left reader.old)) }
-    ensures done { IfOk result (λ end. IfSome end (λ e. e ≡ Status.Done)) }
+    ensures line_end { IfOk result (λ end. IfSome end IsLineEnd) }
 {
     match reader.line(alloc, host) {
         Ok(Some(line)) => step(host, session, line.bytes()),
@@ -98,7 +98,7 @@ fn one_line<H: Host>(
     ensures fall { NeverFall (H.counts host.old) (H.counts host.new) }
     ensures cause { Caused (H.counts host.old) (H.counts host.new) result }
     ensures progress { IfOk result (λ end. IfNone end (left reader.new < left reader.old)) }
-    ensures done { IfOk result (λ end. IfSome end (λ e. e ≡ Status.Done)) }
+    ensures line_end { IfOk result (λ end. IfSome end IsLineEnd) }
 {
     match say_prompt(host, session) {
         Ok(()) => next_line(alloc, host, reader, session),
@@ -115,7 +115,7 @@ pub(crate) fn lines<H: Host>(
     ensures ran { (env : Environment) → Ran H.start H.told H.counts host.old host.new
         (λ es. Loop (round env) (Reading session.old no_input) es result) }
     ensures cause { Caused (H.counts host.old) (H.counts host.new) result }
-    ensures done { IfOk result (λ e. e ≡ Status.Done) }
+    ensures line_end { IfOk result IsLineEnd }
 {
     let mut reader = Reader::new(alloc);
     'lines: loop {

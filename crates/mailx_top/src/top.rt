@@ -2,21 +2,21 @@
 ghost use Rattle.std.specs.Prelude.{◌≡◌, ◌++◌, true, false, List, Some, None, IfOk};
 ghost use Rattle.host_port.specs.Calls.{Rose};
 ghost use Rattle.host_port.specs.Disk.{disk};
-ghost use Rattle.host_port.specs.Own.{of_others};
 ghost use Rattle.host_port.specs.Ran.{Ran};
 ghost use Rattle.host_port.specs.declared.event.Event.{Event};
 ghost use Rattle.session_play.specs.Play.{Play, Loop, Caused};
 ghost use Rattle.mailx_vars.specs.Environment.{knows_user};
 ghost use Rattle.mailx_vars.specs.Names.{is_short_name};
-ghost use Rattle.mailx_top.specs.Meaning.{round, first_of, Opening};
-ghost use Rattle.mailx_top.specs.Runs.{IsRun, SaysLast};
-ghost use Rattle.mailx_top.specs.Statuses.{line_at_stop};
+ghost use Rattle.mailx_top.specs.Meaning.{round, first_of, actor_in, Opening};
+ghost use Rattle.mailx_top.specs.Runs.{IsRun, SaysLast, SaysAtEnd};
+ghost use Rattle.mailx_top.specs.Ends.{ended_as};
+ghost use Rattle.mailx_top.specs.Statuses.{line_at_stop, line_at_end, not_a_record};
 ghost use Rattle.mailx_session.specs.Statuses.{IsEnd};
 ghost use Rattle.mailx_top.specs.Openings.{IsBadName};
 ghost use Rattle.mailx_top.specs.Usage.{EndsAsNamed, EndsOr, IsOrCut};
 ghost use Rattle.mailx_top.specs.Wants.{start_from};
 ghost use Rattle.folder_commit.specs.Safe.{MayCommit};
-ghost use Rattle.mailx_top.specs.Crash.{actor_in, IsSafe};
+ghost use Rattle.mailx_top.specs.Crash.{IsSafe};
 ghost use Rattle.mailx_top.specs.Words.{are_read, start_of};
 
 use crate::Environment;
@@ -24,9 +24,11 @@ use crate::open::{end_with_usage, open};
 use crate::session::lines;
 use crate::status::{stop_line, stop_status};
 use crate::words::{Wanted, are_read, start_of};
+use commit_machine::record_name;
 use host_port::Host;
 use mail_text::{Memory, Text};
-use mailx_session::{Session, Status};
+use mailx_session::{Session, Status, actor_of};
+use mailx_vars::Places;
 use session_play::Stop;
 use std::alloc::Global;
 
@@ -88,6 +90,82 @@ fn play<H: Host>(
     }
 }
 
+// How a run that isn't cut off ends, and the line that is said last, where there is one.
+#[derive(Drop)]
+struct End {
+    status: Status,
+    line: Option<Text>,
+}
+
+// The line of an actor's record that can't be read.
+fn not_a_record(alloc: Global, actor: &[u8]) -> Result<Text, Memory>
+    ensures { IfOk result (λ line. line ≡ not_a_record actor.now) }
+{
+    let mut line = record_name(alloc, actor)?;
+    line.push(b": not a commit record")?;
+    line.push(b"\n")?;
+    Ok(line)
+}
+
+// The same of the actor of a run.
+fn record_line(alloc: Global, env: &Environment) -> Result<Text, Memory>
+    ensures { IfOk result (λ line. line ≡ not_a_record (actor_in env.now)) }
+{
+    match Places::read(alloc, env.pairs.items())? {
+        Some(places) => {
+            let actor = actor_of(alloc, places.home.bytes())?;
+            not_a_record(alloc, actor.bytes())
+        }
+        None => Err(Memory),
+    }
+}
+
+// An end with its line.
+fn end_of(alloc: Global, env: &Environment, status: Status) -> Result<End, Memory>
+    ensures status { IfOk result (λ end. end.status ≡ status) }
+    ensures line { IfOk result (λ end. end.line ≡ line_at_end (actor_in env.now) status) }
+{
+    let line = match status {
+        Status::BadRecord => Some(record_line(alloc, env)?),
+        _ => None,
+    };
+    Ok(End { status, line })
+}
+
+// All rounds of a run; where they end its last line is made, or memory is wanting.
+fn play_to_end<H: Host>(
+    alloc: Global,
+    host: &mut H,
+    words: &[Text],
+    env: &Environment,
+) -> Result<End, Stop>
+    ensures ran { Ran H.start H.told H.counts host.old host.new
+        (λ es. Loop (round env.now) (Opening (start_of words.now env.now.pairs)) es (ended_as result)) }
+    ensures cause { Caused (H.counts host.old) (H.counts host.new) result }
+    ensures named { EndsAsNamed (start_of words.now env.now.pairs) (ended_as result) }
+    ensures line { IfOk result (λ end. end.line ≡ line_at_end (actor_in env.now) end.status) }
+{
+    match play(alloc, host, words, env) {
+        Ok(status) => match end_of(alloc, env, status) {
+            Ok(end) => Ok(end),
+            Err(Memory) => Err(Stop::Memory),
+        },
+        Err(cause) => Err(cause),
+    }
+}
+
+// Says the line of an end, where there is one and the words were read.
+fn say_end<H: Host>(host: &mut H, words: &[Text], end: &End)
+    ensures { Ran H.start H.told H.counts host.old host.new (SaysAtEnd (are_read words.now) end.now.line) }
+{
+    match &end.line {
+        Some(line) if are_read(words) => {
+            let _ = host.say(line.bytes());
+        }
+        _ => {}
+    }
+}
+
 // Says why the run is cut off, where its words were read.
 fn say_cut<H: Host>(host: &mut H, words: &[Text], cause: Stop)
     ensures { Ran H.start H.told H.counts host.old host.new (SaysLast (are_read words.now) (line_at_stop cause)) }
@@ -117,15 +195,14 @@ pub fn run<H: Host>(alloc: Global, words: &[Text], env: &Environment, host: &mut
     ensures safe { (before es : List Event) → H.told host.old ≡ Some before → H.told host.new ≡ Some (before ++ es)
         → MayCommit (actor_in env.now) env.now.token (disk (H.start host.old) before) es
         → IsSafe words.now env.now result (disk (H.start host.old) before) es }
-    // At every moment of the run the disk is the one at its start with the steps of others.
-    ensures prefixes { (before front rest : List Event)
-        → H.told host.old ≡ Some before → H.told host.new ≡ Some (before ++ (front ++ rest))
-        → disk (H.start host.new) (before ++ front) ≡ disk (H.start host.new) (before ++ of_others front) }
 {
     // the clause `safe` speaks of a token of 64 bits
     let _token = env.token;
-    match play(alloc, host, words, env) {
-        Ok(status) => status,
+    match play_to_end(alloc, host, words, env) {
+        Ok(end) => {
+            say_end(host, words, &end);
+            end.status
+        }
         Err(cause) => {
             say_cut(host, words, cause);
             stop_status(cause)

@@ -11,15 +11,17 @@ use Rattle.line_words.specs.declared.command.Command.TheVariants as command
 use Rattle.line_words.specs.Spellings.{whole_name}
 use Rattle.message_show.specs.declared.text.How.TheVariants.{Kept, All}
 use Rattle.command_desk.specs.declared.desk.Desk.{Desk}
-use Rattle.command_desk.specs.declared.steps.Ask.TheVariants.{Exit}
+use Rattle.command_desk.specs.declared.steps.Ask.TheVariants as asks
 use Rattle.command_desk.specs.declared.steps.Steps.{Steps}
-use Rattle.command_desk.specs.Answers.{OrFault, quietly}
+use Rattle.command_desk.specs.Answers.{OrFault, next, quietly}
 use Rattle.command_desk.specs.Effects.{unchanged}
 use Rattle.command_desk.specs.Faults.{bad_arguments, not_built, unknown_command, open_quote, line_too_long}
 use Rattle.show_commands.specs.Printing.{print, top, print_following}
 use Rattle.show_commands.specs.Paging.{headers, scroll}
 use Rattle.mark_commands.specs.Deleting.{delete, delete_and_print, undelete}
 use Rattle.setting_commands.specs.Setting.{set, unset}
+use Rattle.folder_commands.specs.declared.wanted.Filing.{Filing}
+use Rattle.folder_commands.specs.Saving.{copy, copy_by_author, save, save_by_author, write}
 use Rattle.show_commands.specs.Telling.{from, size, number, echo, help}
 
 -- the whole name of the command that a word spells
@@ -37,7 +39,15 @@ alone line meant = without_words line.words line.word meant
 
 -- `exit`, `xit`
 abbrev pub exit : OrFault Steps
-exit = Ok (record { asks = Exit ∷ []; effects = unchanged })
+exit = Ok (record { asks = asks.Exit ∷ []; effects = unchanged })
+
+-- a change of a file is committed, and only once that was done the reply is said, and then the rest follows
+abbrev pub steps_of : Filing → Steps
+steps_of filing = record { asks = asks.Save filing.change ∷ asks.Say filing.reply ∷ []; effects = filing.effects }
+
+-- what a command comes to that puts messages into a file
+abbrev pub filed : OrFault Filing → OrFault Steps
+filed meant = next meant (λ filing. Ok (steps_of filing))
 
 -- the command of a line, on a desk
 abbrev pub meaning_of : Command → CommandLine → Desk → OrFault Steps
@@ -58,6 +68,11 @@ meaning_of command.Set line desk = set desk line.words
 meaning_of command.Unset line desk = unset desk line.words
 meaning_of command.Help line desk = alone line (help desk)
 meaning_of command.Comment line desk = quietly unchanged
+meaning_of command.Copy line desk = filed (copy desk line.words)
+meaning_of command.CopyByAuthor line desk = filed (copy_by_author desk line.words)
+meaning_of command.Save line desk = filed (save desk line.words)
+meaning_of command.SaveByAuthor line desk = filed (save_by_author desk line.words)
+meaning_of command.Write line desk = filed (write desk line.words)
 meaning_of command.Exit line desk = alone line exit
 meaning_of other line desk = Err (not_built (name_of line.word))
 
@@ -80,6 +95,11 @@ is_built command.Set = true
 is_built command.Unset = true
 is_built command.Help = true
 is_built command.Comment = true
+is_built command.Copy = true
+is_built command.CopyByAuthor = true
+is_built command.Save = true
+is_built command.SaveByAuthor = true
+is_built command.Write = true
 is_built command.Exit = true
 is_built other = false
 

@@ -6,12 +6,15 @@ ghost use Rattle.command_desk.specs.Answers.{OrFault, Means, IsRefused};
 ghost use Rattle.show_commands.specs.Paging.{scroll};
 ghost use Rattle.command_desk.specs.Desks.{IsDesk, IsWithin};
 ghost use Rattle.command_desk.specs.Effects.{effect};
-ghost use Rattle.read_commands.specs.Commands.{name_of, alone, exit, is_built, meaning, read_or_fault};
+ghost use Rattle.folder_commands.specs.Saving.{IsFilingWithin};
+ghost use Rattle.folder_commands.specs.declared.wanted.Filing.{Filing};
+ghost use Rattle.read_commands.specs.Commands.{name_of, alone, exit, filed, steps_of, is_built, meaning, read_or_fault};
 ghost use Rattle.show_commands.specs.Telling.{number, help};
 
 use command_desk::{Ask, Desk, Refusal, Steps, fault, quietly, unchanged};
+use folder_commands::{Filing, copy, copy_by_author, save, save_by_author, write};
 use line_words::{Command, CommandLine, LineError, read_line, whole_name};
-use mail_text::Items;
+use mail_text::{Items, Memory};
 use mark_commands::{delete, delete_and_print, undelete};
 use message_show::How;
 use setting_commands::{set, unset};
@@ -89,6 +92,33 @@ fn lone_scroll(alloc: Global, line: &CommandLine, desk: &Desk) -> Result<Steps, 
     scroll(alloc, desk, line.word.bytes() == b"z-".as_slice())
 }
 
+// A change of a file is committed, and only once that was done the reply is said, and then the rest follows.
+fn steps_of(alloc: Global, filing: Filing) -> Result<Steps, Memory>
+    ensures { IfOk result (λ steps. steps ≡ steps_of filing) }
+{
+    let Filing {
+        change,
+        reply,
+        effects,
+    } = filing;
+    let mut asks = Items::new(alloc);
+    asks.push(Ask::Save { change })?;
+    asks.push(Ask::Say(reply))?;
+    Ok(Steps { asks, effects })
+}
+
+// What a command comes to that puts messages into a file.
+fn filed(alloc: Global, desk: &Desk, filing: Result<Filing, Refusal>) -> Result<Steps, Refusal>
+    requires { IsFilingWithin desk.now filing }
+    ensures means { (meant : OrFault Filing) → Means filing meant → Means result (filed meant) }
+    ensures within { IsWithin desk.now result }
+{
+    match filing {
+        Ok(filing) => Ok(steps_of(alloc, filing)?),
+        Err(refusal) => Err(refusal),
+    }
+}
+
 /// What the command of a line asks for and what it changes, or the one line that refuses it. A refused command changes
 /// nothing. Nothing is said or done yet: the asks are carried out in order, and then `Desk::settle` carries out the changes.
 pub fn perform(alloc: Global, line: &CommandLine, desk: &Desk) -> Result<Steps, Refusal>
@@ -123,6 +153,11 @@ fn carry_out(alloc: Global, line: &CommandLine, desk: &Desk) -> Result<Steps, Re
         Command::Comment => Ok(quietly(alloc, unchanged(alloc))),
         Command::Number => lone_number(alloc, line, desk),
         Command::Help => lone_help(alloc, line, desk),
+        Command::Copy => filed(alloc, desk, copy(alloc, desk, words)),
+        Command::CopyByAuthor => filed(alloc, desk, copy_by_author(alloc, desk, words)),
+        Command::Save => filed(alloc, desk, save(alloc, desk, words)),
+        Command::SaveByAuthor => filed(alloc, desk, save_by_author(alloc, desk, words)),
+        Command::Write => filed(alloc, desk, write(alloc, desk, words)),
         Command::Exit => lone_exit(alloc, line, desk),
         Command::Scroll => lone_scroll(alloc, line, desk),
         _ => Err(fault(alloc, name_of(line.word.bytes()), b": not built")),
@@ -151,6 +186,11 @@ pub(crate) fn is_built(command: Command) -> bool
         | Command::Unset
         | Command::Help
         | Command::Comment
+        | Command::Copy
+        | Command::CopyByAuthor
+        | Command::Save
+        | Command::SaveByAuthor
+        | Command::Write
         | Command::Exit => true,
         _ => false,
     }

@@ -1,0 +1,156 @@
+// A change of a file that a command asks for, as one commit.
+ghost use Rattle.std.specs.Prelude.{◌≡◌, ◌++◌, None, IfOk};
+ghost use Rattle.mail_text.specs.Lines.{with_feed};
+ghost use Rattle.host_port.specs.Calls.{NeverFall};
+ghost use Rattle.host_port.specs.Ran.{Ran};
+ghost use Rattle.folder_change.specs.Changes.{name_of};
+ghost use Rattle.session_play.specs.Play.{Play, Goes};
+ghost use Rattle.command_desk.specs.Faults.{changed_at};
+ghost use Rattle.mailx_session.specs.declared.state.SessionState.{SessionState};
+ghost use Rattle.mailx_session.specs.States.{IsState};
+ghost use Rattle.mailx_session.specs.Saving.{name_fault, after_commit, saved};
+ghost use Rattle.mailx_session.specs.Sessions.{after_asks, in_play, LineCaused, EndsByAsk};
+
+use crate::asks::Asked;
+use crate::{RunError, SessionState, Status};
+use folder_change::{Change, change_name};
+use folder_commit::is_file_name;
+use host_port::Host;
+use itoa::Buffer;
+use mail_text::{Memory, Text};
+use mailx_vars::is_short_name;
+use session_play::{Committed, Stop, change};
+use std::alloc::Global;
+use std::slice::from_ref;
+
+fn line_of(alloc: Global, word: &[u8], fault: &[u8]) -> Result<Text, Memory>
+    ensures { IfOk result (λ line. line ≡ with_feed (word.now ++ fault.now)) }
+{
+    let mut line = Text::copy(alloc, word)?;
+    line.push(fault)?;
+    line.push(b"\n")?;
+    Ok(line)
+}
+
+// What is wrong with a name, for a file that a commit of this actor is to change.
+fn name_fault(alloc: Global, actor: &[u8], name: &[u8]) -> Result<Option<Text>, Memory>
+    ensures { IfOk result (λ fault. fault ≡ name_fault actor.now name.now) }
+{
+    if !is_short_name(name) {
+        Ok(Some(line_of(alloc, name, b": bad name")?))
+    } else if !is_file_name(actor, name) {
+        Ok(Some(line_of(alloc, name, b": reserved name")?))
+    } else {
+        Ok(None)
+    }
+}
+
+// The line of a file that isn't as it was loaded, from this message on.
+fn changed_line(alloc: Global, name: &[u8], at: u64) -> Result<Text, Memory>
+    ensures { IfOk result (λ line. line ≡ changed_at name.now at) }
+{
+    let mut buffer = Buffer::new();
+    let mut line = Text::copy(alloc, name)?;
+    line.push(b": changed at message ")?;
+    line.push(buffer.format(at).as_bytes())?;
+    line.push(b"\n")?;
+    Ok(line)
+}
+
+// What is too large: the file itself, or the record or a staged file.
+fn too_large(alloc: Global, file: &[u8], name: &[u8], length: u64) -> Result<Asked, Memory>
+    ensures means { (s : SessionState) → IfOk result (λ asked. after_asks s asked ≡ after_commit s file.now (Committed.TooLarge name.now length)) }
+    ensures end { IfOk result EndsByAsk }
+{
+    if name == file {
+        let line = line_of(alloc, name, b": too large")?;
+        Ok(Asked::Refused { line })
+    } else {
+        Ok(Asked::Ended(Status::BadRecord))
+    }
+}
+
+// Refuses by a word and what is wrong with it.
+fn refused(alloc: Global, word: &[u8], fault: &[u8]) -> Result<Asked, Memory>
+    ensures { IfOk result (λ asked. asked ≡ Asked.Refused (with_feed (word.now ++ fault.now))) }
+{
+    let line = line_of(alloc, word, fault)?;
+    Ok(Asked::Refused { line })
+}
+
+fn changed(alloc: Global, name: &[u8], at: u64) -> Result<Asked, Memory>
+    ensures { IfOk result (λ asked. asked ≡ Asked.Refused (changed_at name.now at)) }
+{
+    let line = changed_line(alloc, name, at)?;
+    Ok(Asked::Refused { line })
+}
+
+// What the answer to a commit of a change of this file leaves.
+fn after_commit(alloc: Global, file: &[u8], answer: Committed) -> Result<Asked, Memory>
+    ensures means { (s : SessionState) → IfOk result (λ asked. after_asks s asked ≡ after_commit s file.now answer) }
+    ensures end { IfOk result EndsByAsk }
+{
+    match answer {
+        Committed::Done => Ok(Asked::On),
+        Committed::Busy { name } => refused(alloc, name.bytes(), b": busy"),
+        Committed::NotARecord => Ok(Asked::Ended(Status::BadRecord)),
+        Committed::Changed { name, at } => changed(alloc, name.bytes(), at),
+        Committed::TooLarge { name, length } => too_large(alloc, file, name.bytes(), length),
+        Committed::TooManyNames { .. } => refused(alloc, b"too many names", b""),
+    }
+}
+
+// Commits a change of a file whose name was tested.
+fn commit<H: Host>(
+    alloc: Global,
+    state: &SessionState,
+    host: &mut H,
+    wanted: &Change,
+) -> Result<Asked, RunError>
+    requires state { IsState state.now }
+    requires name { name_fault state.now.actor (name_of wanted.now) ≡ None }
+    ensures ran { Ran H.start H.told H.counts host.old host.new
+        (λ es. Goes (saved state.now wanted.now None) es (in_play (after_asks state.now) result)) }
+    ensures fall { NeverFall (H.counts host.old) (H.counts host.new) }
+    ensures end { IfOk result EndsByAsk }
+    ensures cause { LineCaused (H.counts host.old) (H.counts host.new) result }
+{
+    let folder = Some(&state.desk.folder.folder);
+    match change(
+        alloc,
+        host,
+        state.actor.bytes(),
+        state.token,
+        from_ref(wanted),
+        folder,
+    ) {
+        Ok(answer) => match after_commit(alloc, change_name(wanted), answer) {
+            Ok(asked) => Ok(asked),
+            Err(Memory) => Err(RunError::Memory),
+        },
+        Err(Stop::Disk) => Err(RunError::Disk),
+        Err(_) => Err(RunError::Memory),
+    }
+}
+
+/// Commits a change, unless its file's name is at fault.
+pub(crate) fn save<H: Host>(
+    alloc: Global,
+    state: &SessionState,
+    host: &mut H,
+    wanted: &Change,
+) -> Result<Asked, RunError>
+    requires { IsState state.now }
+    ensures ran { Ran H.start H.told H.counts host.old host.new
+        (λ es. Goes (saved state.now wanted.now (name_fault state.now.actor (name_of wanted.now))) es
+        (in_play (after_asks state.now) result)) }
+    ensures fall { NeverFall (H.counts host.old) (H.counts host.new) }
+    ensures end { IfOk result EndsByAsk }
+    ensures cause { LineCaused (H.counts host.old) (H.counts host.new) result }
+{
+    match name_fault(alloc, state.actor.bytes(), change_name(wanted)) {
+        Ok(Some(line)) => Ok(Asked::Refused { line }),
+        Ok(None) => commit(alloc, state, host, wanted),
+        Err(Memory) => Err(RunError::Memory),
+    }
+}
