@@ -4,3 +4,4 @@ pub mod OpeningLemmas
 pub mod PendingLemmas
 pub mod RoundLemmas
 pub mod StateLemmas
+pub mod SavingLemmas

@@ -4,5 +4,6 @@ pub mod Pending
 pub mod States
 pub mod Saving
 pub mod Sessions
+pub mod Follows
 pub mod Rounds
 pub mod Openings

@@ -1,5 +1,5 @@
 // A change of a file that a command asks for, as one commit.
-ghost use Rattle.std.specs.Prelude.{◌≡◌, ◌++◌, None, IfOk};
+ghost use Rattle.std.specs.Prelude.{◌≡◌, ◌++◌, None, IfOk, IfErr};
 ghost use Rattle.mail_text.specs.Lines.{with_feed};
 ghost use Rattle.host_port.specs.Calls.{NeverFall};
 ghost use Rattle.host_port.specs.Ran.{Ran};
@@ -9,7 +9,9 @@ ghost use Rattle.command_desk.specs.Faults.{changed_at};
 ghost use Rattle.mailx_session.specs.declared.state.SessionState.{SessionState};
 ghost use Rattle.mailx_session.specs.States.{IsState};
 ghost use Rattle.mailx_session.specs.Saving.{name_fault, after_commit, saved};
-ghost use Rattle.mailx_session.specs.Sessions.{after_asks, in_play, LineCaused, EndsByAsk};
+ghost use Rattle.mailx_session.specs.Follows.{Follows};
+ghost use Rattle.session_play.specs.Cuts.{IsLoadCut};
+ghost use Rattle.mailx_session.specs.Sessions.{after_asks, in_play, stop_of, LineCaused, EndsByAsk};
 
 use crate::asks::Asked;
 use crate::{RunError, SessionState, Status};
@@ -100,6 +102,33 @@ fn after_commit(alloc: Global, file: &[u8], answer: Committed) -> Result<Asked, 
     }
 }
 
+// The error that a cut of a commit is.
+fn error_of(cause: Stop) -> RunError
+    requires { IsLoadCut cause }
+    ensures { stop_of result ≡ cause }
+{
+    match cause {
+        Stop::Disk => RunError::Disk,
+        Stop::Output => RunError::Output,
+        Stop::Input | Stop::TooMuch | Stop::Memory => RunError::Memory,
+    }
+}
+
+// What a commit of a change of this file leaves, or the error that cuts the run off.
+fn followed(alloc: Global, file: &[u8], answer: Result<Committed, Stop>) -> Result<Asked, RunError>
+    requires { IfErr answer IsLoadCut }
+    ensures follows { (s : SessionState) → Follows s file.now answer result }
+    ensures end { IfOk result EndsByAsk }
+{
+    match answer {
+        Ok(answer) => match after_commit(alloc, file, answer) {
+            Ok(asked) => Ok(asked),
+            Err(Memory) => Err(RunError::Memory),
+        },
+        Err(cause) => Err(error_of(cause)),
+    }
+}
+
 // Commits a change of a file whose name was tested.
 fn commit<H: Host>(
     alloc: Global,
@@ -116,21 +145,9 @@ fn commit<H: Host>(
     ensures cause { LineCaused (H.counts host.old) (H.counts host.new) result }
 {
     let folder = Some(&state.desk.folder.folder);
-    match change(
-        alloc,
-        host,
-        state.actor.bytes(),
-        state.token,
-        from_ref(wanted),
-        folder,
-    ) {
-        Ok(answer) => match after_commit(alloc, change_name(wanted), answer) {
-            Ok(asked) => Ok(asked),
-            Err(Memory) => Err(RunError::Memory),
-        },
-        Err(Stop::Disk) => Err(RunError::Disk),
-        Err(_) => Err(RunError::Memory),
-    }
+    let actor = state.actor.bytes();
+    let answer = change(alloc, host, actor, state.token, from_ref(wanted), folder);
+    followed(alloc, change_name(wanted), answer)
 }
 
 /// Commits a change, unless its file's name is at fault.

@@ -2,6 +2,7 @@
 use Rattle.std.proofs.Common.{◌≡◌, ◌<◌, ◌^◌, ◌+◌, ℕ, Bool, true, false, List, [], ◌∷◌, ◌++◌, length, refl, sym, subst}
 use Rattle.std.specs.Prelude.{nat_lt, if◌then◌else◌}
 use Rattle.std.specs.List.{list_all}
+use Rattle.std.proofs.lemmas.List.Elements.{All-nil, All-cons}
 use Rattle.std.specs.Str.{bytes_eq}
 use Rattle.std.specs.declared.option.Option.{Option}
 use Rattle.std.specs.declared.option.Option.TheVariants.{Some, None}
@@ -100,7 +101,7 @@ module _ (actor : List ℕ) (token : ℕ) where
   commit-by s change of plain = record {
     actor_is = of.0;
     token_is = of.1;
-    files = subst (λ (a : List ℕ). AreFiles a (change ∷ [])) of.0 (named-file s.actor (name_of change) plain, tt);
+    files = subst (λ (a : List ℕ). AreFiles a (change ∷ [])) of.0 (All-cons (λ (c : Change). is_file_name s.actor (name_of c) ≡ true) change [] (named-file s.actor (name_of change) plain) (All-nil (λ (c : Change). is_file_name s.actor (name_of c) ≡ true)));
   }
 
   saved-commits : (s : SessionState) (change : Change) (fault : Option (List ℕ)) → name_fault s.actor (name_of change) ≡ fault → IsOf actor token s → EachCommit (IsBy actor token) (saved s change fault)

@@ -49,7 +49,7 @@ says-read false bytes es is far = absurd (cc is)
 pub last-looks : (read : Bool) (bytes : List ℕ) (es : List Event) → SaysLast read bytes es → OnlyLooks es
 last-looks false bytes es is = subst OnlyLooks (sym is) tt
 last-looks true bytes es (inl is) = subst OnlyLooks (sym is) (refl, tt)
-last-looks true bytes es (inr cut) = subst OnlyLooks (sym cut.1) (refl, tt)
+last-looks true bytes es (inr part) = subst OnlyLooks (sym part.1) (refl, tt)
 
 -- so does the line of an end
 pub end-looks : (read : Bool) (line : Option (List ℕ)) (es : List Event) → SaysAtEnd read line es → OnlyLooks es
@@ -64,7 +64,7 @@ goes-short (Ask act go) es r (inr (cause, other, part)) = absurd (cc other)
 
 pub loop-short : {X R : Type 0} (round : X → Play (Next X R)) (e : R) {x : X} {es : List Event} {out : Result R Stop} → out ≡ Ok e → Loop round x es out → Loop round x es (Err stop.Memory)
 loop-short round e is (again front rest same goes more) = again front rest same goes (loop-short round e is more)
-loop-short round e is {x = x} {es = es} (last {r = r} goes) = cut (goes-short (round x) es (Last r) goes)
+loop-short round e {x = x} {es = es} is (last {r = r} goes) = cut (goes-short (round x) es (Last r) goes)
 loop-short round e is (cut goes) = absurd (cc is)
 
 -- where memory is wanting at an end, it is named so too

@@ -154,15 +154,22 @@ fn play_to_end<H: Host>(
     }
 }
 
+// Says a last line, where the words were read.
+fn say_last<H: Host>(host: &mut H, words: &[Text], line: &[u8])
+    ensures { Ran H.start H.told H.counts host.old host.new (SaysLast (are_read words.now) line.now) }
+{
+    if are_read(words) {
+        let _ = host.say(line);
+    }
+}
+
 // Says the line of an end, where there is one and the words were read.
 fn say_end<H: Host>(host: &mut H, words: &[Text], end: &End)
     ensures { Ran H.start H.told H.counts host.old host.new (SaysAtEnd (are_read words.now) end.now.line) }
 {
     match &end.line {
-        Some(line) if are_read(words) => {
-            let _ = host.say(line.bytes());
-        }
-        _ => {}
+        Some(line) => say_last(host, words, line.bytes()),
+        None => {}
     }
 }
 
