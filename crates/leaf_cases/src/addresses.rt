@@ -2,7 +2,7 @@
 use crate::answer::{put_bad, put_flag, put_number};
 use crate::case::field;
 use mail_addresses::{
-    Address, AddressError, bare, first_address, local_part, read_list, same_address,
+    Address, AddressError, FoundAddress, bare, first_address, local_part, read_list, same_address,
 };
 use mail_text::{Memory, Text};
 use std::alloc::Global;
@@ -57,7 +57,22 @@ fn put_address(address: &Address, out: &mut Text) -> Result<(), Memory> {
 // The first address of a list.
 fn put_first(alloc: Global, value: &[u8], out: &mut Text) -> Result<(), Memory> {
     match first_address(alloc, value)? {
-        Some(address) => put_address(&address, out),
+        Some(address) => put_found(&address, out),
         None => out.push(b"none"),
     }
+}
+
+fn put_found(address: &FoundAddress<'_>, out: &mut Text) -> Result<(), Memory> {
+    out.push(b"[")?;
+    out.push(address.name())?;
+    out.push(b"]")?;
+    let local = address.local();
+    let spec = address.spec();
+    if local > spec.len() {
+        return put_bad(out);
+    }
+    let (front, rest) = spec.split_at(local);
+    out.push(front)?;
+    out.push(b"+")?;
+    out.push(rest)
 }

@@ -100,16 +100,16 @@ fn put_row(alloc: Global, text: &[u8], out: &mut Text) -> Result<(), Memory> {
 
 fn put_row_texts(row: &Row, out: &mut Text) -> Result<(), Memory> {
     for text in [
-        &row.subject,
-        &row.author,
-        &row.shown_author,
-        &row.to,
-        &row.ids.own,
+        row.texts.subject(),
+        row.texts.author(),
+        row.texts.shown_author(),
+        row.texts.to(),
+        row.texts.own_id(),
     ] {
-        out.push(text.bytes())?;
+        out.push(text)?;
         out.push(b"\n")?;
     }
-    for ids in [&row.ids.references, &row.ids.reply] {
+    for ids in [&row.references, &row.reply] {
         for id in ids.items() {
             out.push(id.bytes())?;
         }
