@@ -1,6 +1,6 @@
 -- An entry that is taken in among the fields of a row: names of different lengths are different.
 use Rattle.std.proofs.Common.{◌≡◌, ℕ, true, false, ◌==◌, List, length, Option, Some, None, codes, refl, sym, ap, ◌∙◌, ⊎_elim}
-use Rattle.std.specs.Str.{bytes_eq, str_to_ascii_lowercase}
+use Rattle.std.specs.Str.{str_to_ascii_lowercase}
 use Rattle.std.specs.Char.{to_ascii_lowercase}
 use Rattle.std.proofs.lemmas.Bool.{cond-false, eq-eqb, false≢true, cases_Bool}
 use Rattle.std.proofs.lemmas.List.{length-map}
@@ -23,12 +23,6 @@ same_ascii-apart a b apart =
     (λ same. absurd (false≢true (sym apart ∙ eq-eqb _ _ (same_ascii-length a b same))))
     (λ different. different)
     (cases_Bool (same_ascii a b))
-
--- texts that are equal are the same
-pub same_equal : (a b : List ℕ) → bytes_eq a b ≡ true → same_ascii a b ≡ true
-same_equal a b same =
-    let is : a ≡ b = (bytes_eq-Decides a b).0 same in
-    (bytes_eq-Decides (str_to_ascii_lowercase a) (str_to_ascii_lowercase b)).1 (ap str_to_ascii_lowercase is)
 
 -- an entry whose name has another length leaves a place as it is
 pub kept : (name : List ℕ) (n : ℕ) (found : Option Field) (e : Entry) → name_length e ≡ n → (n == length name) ≡ false → found ≡ or_entry name found e

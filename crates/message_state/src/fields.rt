@@ -1,5 +1,4 @@
 ghost use Rattle.std.specs.Prelude.{◌≡◌};
-ghost use Rattle.mail_text.specs.Ascii.{same_ascii};
 ghost use Rattle.message_state.specs.Fields.{name_length, or_entry, AreFieldsOf, AreWithEntry};
 
 use mail_headers::{EntryRef, FieldRef, Header};
@@ -75,17 +74,9 @@ fn take_field<'a>(place: &mut Option<FieldRef<'a>>, entry: &EntryRef<'a>, name: 
 {
     if place.is_none() {
         if let Some(field) = entry.field() {
-            if is_named(field.name(), name) {
+            if same_ascii(field.name(), name) {
                 *place = Some(field);
             }
         }
     }
-}
-
-// Whether two names are the same, the case of ASCII letters aside. Most are spelled alike.
-#[tactic(auto, using(crate::proofs::TakenLemmas::same_equal))]
-fn is_named(name: &[u8], wanted: &[u8]) -> bool
-    ensures { result ≡ same_ascii name.now wanted.now }
-{
-    name == wanted || same_ascii(name, wanted)
 }
