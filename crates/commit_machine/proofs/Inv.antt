@@ -9,6 +9,7 @@ use Rattle.commit_machine.specs.Settled.{Mem}
 use Rattle.commit_machine.specs.Jobs.{Ending, Done, Recovered, Refused, Failed, NoMemory, Puts, Edit, Job, Made, edits_of, all_of, prepare_of, go_of}
 use Rattle.commit_machine.specs.Machine.{Then, GoOn, Answer, State, Seizing, Looking, Undoing, Placing, Unlocking, Erasing, Clearing, Preparing, Publishing, Locking, Loading, Staging, Deciding, Committing, Checking, Releasing, Ended}
 use Rattle.commit_machine.specs.Lawful.{standing, HasRight, IsGuarded, IsFresh}
+use Rattle.commit_machine.proofs.Decided.{IsDistinct}
 
 -- A record that is being done with: staged files are left for ns alone, locks for ls alone.
 pub record Closing (actor : List ℕ) (r : Record) (ns ls : List (List ℕ)) (d : Disk) : Type 0 where
@@ -95,6 +96,8 @@ pub record LocksLeft (j : Job) (ls : List (List ℕ)) (left : List Edit) : Type 
   pub all : (m : List ℕ) → Mem m (all_of j) → Mem m ls ⊎ ((e : Edit) × Mem e left × (e.name ≡ m))
   pub back : (m : List ℕ) → Mem m ls → Mem m (all_of j)
   pub within : (e : Edit) → Mem e left → Mem e (edits_of j)
+  pub apart : (m : List ℕ) → Mem m ls → (e : Edit) → Mem e left → m ≢ e.name
+  pub distinct : IsDistinct left
 
 pub record Among (left made : List Made) : Type 0 where
   pub each : (x : Made) → Mem x left → Mem x made

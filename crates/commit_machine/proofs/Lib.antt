@@ -24,5 +24,8 @@ pub mod EditLemmas
 pub mod RestraintLemmas
 pub mod FaultLemmas
 pub mod RefusalLemmas
+pub mod EventLemmas
+pub mod MeetingLemmas
+pub mod SafetyLemmas
 pub mod RowLemmas
 mod TroubleLemmas

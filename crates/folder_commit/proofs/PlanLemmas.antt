@@ -123,7 +123,7 @@ gone y (n ∷ ns) = elim (same_or_not n y) [
       rw p.1 (ap (λ (b : Bool). b || has (without y ns) y) other ∙ gone y ns)
 ]
 
-or-none : (a b : Bool) → (a || b) ≡ false → (a ≡ false) × (b ≡ false)
+pub or-none : (a b : Bool) → (a || b) ≡ false → (a ≡ false) × (b ≡ false)
 or-none true b h = absurd (cc)
 or-none false b h = (refl, h)
 

@@ -3,6 +3,7 @@ ghost use Rattle.std.specs.Prelude.{◌≡◌, ◌≤◌, ◌<◌, ◌++◌, ℕ
 ghost use Rattle.host_port.specs.Names.{has_no_zero};
 ghost use Rattle.host_port.specs.Ran.{Ran};
 ghost use Rattle.host_port.specs.Disk.{disk};
+ghost use Rattle.host_port.specs.Own.{own};
 ghost use Rattle.host_port.specs.declared.event.Event.{Event};
 ghost use Rattle.folder_change.specs.Changes.{is_rewrite};
 ghost use Rattle.folder_change.specs.Outcomes.{base_list};
@@ -12,7 +13,7 @@ ghost use Rattle.commit_driver.specs.Places.{nth, files_of};
 ghost use Rattle.folder_commit.specs.Ends.{CommitCause};
 ghost use Rattle.folder_commit.specs.Plans.{AreFiles};
 ghost use Rattle.folder_commit.specs.Told.{IsTold};
-ghost use Rattle.folder_commit.specs.Safe.{MayCommit, IsSafe};
+ghost use Rattle.folder_commit.specs.Safe.{MayCommit, IsSafe, IsComplete};
 ghost use Rattle.folder_commit.specs.Commits.{IsCommit, IsNamed, answer_of};
 
 use crate::CommitError;
@@ -145,6 +146,7 @@ pub fn commit<H: Host>(
     ensures ran { Ran H.start H.told H.counts host.old host.new (λ es. IsCommit actor.now token changes.now (base_list (option_copied base.entry)) es result) }
     ensures told { Ran H.start H.told H.counts host.old host.new (λ es. IsTold actor.now changes.now (base_list (option_copied base.entry)) es result) }
     ensures safe { (before es : List Event) → H.told host.old ≡ Some before → H.told host.new ≡ Some (before ++ es) → MayCommit actor.now token (disk (H.start host.old) before) es → IsSafe actor.now token changes.now (base_list (option_copied base.entry)) (disk (H.start host.old) before) es result }
+    ensures complete { (before es : List Event) → H.told host.old ≡ Some before → H.told host.new ≡ Some (before ++ es) → MayCommit actor.now token (disk (H.start host.old) before) es → IsComplete actor.now changes.now (base_list (option_copied base.entry)) (own es) (H.counts host.old) (H.counts host.new) result }
     ensures cause { CommitCause (H.counts host.old) (H.counts host.new) result }
     ensures named { IsNamed actor.now changes.now result }
 {

@@ -1,5 +1,5 @@
 -- The ends that a recovery may come to.
-use Rattle.std.proofs.Common.{◌≡◌, ◌⊎◌, ℕ, Bool, true, false, List, [], ◌∷◌, refl, sym, subst, inl, inr}
+use Rattle.std.proofs.Common.{◌≡◌, ℕ, true, false, List, [], ◌∷◌, refl, sym, subst, inl, inr}
 use Rattle.std.specs.declared.option.Option.{Option}
 use Rattle.std.specs.declared.option.Option.TheVariants.{Some, None}
 use Rattle.std.proofs.lemmas.Bool.{cases_Bool}
@@ -8,7 +8,7 @@ use Rattle.commit_record.specs.declared.record.Record.{Record}
 use Rattle.commit_machine.specs.Records.{record_of, is_go, names_of}
 use Rattle.commit_machine.specs.Jobs.{Passed, Before, Ending, Recovered, Refused, Failed, NoMemory, Job}
 use Rattle.commit_machine.specs.Edits.{recovery_for}
-use Rattle.commit_machine.specs.Machine.{State, Seizing, Looking, Undoing, Placing, Unlocking, Erasing, Clearing, Releasing, Ended, Then, GoOn, Reply, Went, Saw, Long, Short, Fault, unlocking, undoing, placing, mending, record_seen, refused, after_reply, passed_at, passed_ending}
+use Rattle.commit_machine.specs.Machine.{State, Seizing, Looking, Undoing, Placing, Unlocking, Erasing, Clearing, Releasing, Ended, Then, GoOn, Reply, Went, Saw, Long, Short, unlocking, undoing, placing, record_seen, refused, after_reply, passed_at, passed_ending}
 use Rattle.commit_machine.specs.Goes.{reply, Goes}
 use Rattle.commit_driver.proofs.StateLemmas.{placing-cons}
 

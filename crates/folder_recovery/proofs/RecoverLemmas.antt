@@ -1,12 +1,11 @@
 -- A recovery that was driven to its end.
-use Rattle.std.proofs.Common.{◌≡◌, ◌≤◌, ℕ, true, false, List, [], length, Some, map, refl, ap, sym, subst, inl, inr, ◌∙◌, arith}
+use Rattle.std.proofs.Common.{◌≡◌, ◌≤◌, ℕ, true, List, [], length, refl, ap, sym, subst, inl, inr, ◌∙◌, arith}
 use Rattle.std.proofs.lemmas.List.Elements.{All-nil}
 use Rattle.std.specs.declared.result.Result.{Result}
-use Rattle.std.specs.declared.result.Result.TheVariants.{Ok, Err}
+use Rattle.std.specs.declared.result.Result.TheVariants.{Err}
 use Rattle.host_port.specs.declared.event.Event.{Event}
 use Rattle.host_port.specs.Calls.{Counts}
 use Rattle.host_port.specs.Names.{IsFileName, has_no_zero}
-use Rattle.commit_machine.specs.Names.{record_name, new_name, right_name}
 use Rattle.commit_machine.specs.Jobs.{Ending, Before, Refused, Failed, NoMemory, Job}
 use Rattle.commit_machine.specs.Jobs as jobs
 use Rattle.commit_machine.specs.Edits.{recovery_for}
@@ -14,7 +13,6 @@ use Rattle.commit_driver.specs.declared.step.Passed.TheVariants as passed
 use Rattle.commit_driver.specs.declared.step.Recovered.{Recovered}
 use Rattle.commit_driver.specs.declared.step.End.{End}
 use Rattle.commit_driver.specs.declared.step.End.TheVariants as end
-use Rattle.commit_driver.specs.declared.place.Plan.{Plan}
 use Rattle.commit_driver.specs.Steps.{EndFits}
 use Rattle.commit_driver.specs.Places.{WantedAs, IsPlan, IsSafe}
 use Rattle.commit_driver.specs.Answers.{EndCaused}
@@ -22,7 +20,7 @@ use Rattle.commit_driver.specs.Drives.{Drives}
 use Rattle.commit_driver.proofs.FileLemmas.{record-file, new-file, right-file}
 use Rattle.folder_recovery.specs.declared.error.RecoverError.{RecoverError}
 use Rattle.folder_recovery.specs.declared.error.RecoverError.TheVariants as error
-use Rattle.folder_recovery.specs.Recovering.{found, GoesTo, Recovers, RecoverCause, IsNamed, recovery_plan, answer_of}
+use Rattle.folder_recovery.specs.Recovering.{GoesTo, Recovers, RecoverCause, IsNamed, recovery_plan, answer_of}
 use Rattle.folder_recovery.proofs.GoesLemmas.{may-end}
 
 pub is-safe : (actor : List ℕ) → length actor ≤ 4021 → has_no_zero actor ≡ true → IsSafe (recovery_plan actor)

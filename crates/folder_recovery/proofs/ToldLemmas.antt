@@ -68,13 +68,13 @@ publish-is from to e (publishes {done = done} {failed = failed}) = (done, failed
 unlock-is : (n : List ℕ) (t : ℕ) (e : Event) → IsOf (ToUnlock n t) e → (done : Bool) × (failed : Bool) × (e ≡ event.Unlock n t done failed)
 unlock-is n t e (unlocks {done = done} {failed = failed}) = (done, failed, refl)
 
-seize-is : (n : List ℕ) (e : Event) → IsOf (ToSeize n) e → (got : Bool) × (failed : Bool) × (e ≡ event.Seize n got failed)
+pub seize-is : (n : List ℕ) (e : Event) → IsOf (ToSeize n) e → (got : Bool) × (failed : Bool) × (e ≡ event.Seize n got failed)
 seize-is n e (seizes {got = got} {failed = failed}) = (got, failed, refl)
 
-load-is : (n : List ℕ) (e : Event) → IsOf (ToLoad n) e → (s : Seen) × (e ≡ event.Load n s)
+pub load-is : (n : List ℕ) (e : Event) → IsOf (ToLoad n) e → (s : Seen) × (e ≡ event.Load n s)
 load-is n e (loads {s = s}) = (s, refl)
 
-release-is : (n : List ℕ) (e : Event) → IsOf (ToRelease n) e → e ≡ event.Release n
+pub release-is : (n : List ℕ) (e : Event) → IsOf (ToRelease n) e → e ≡ event.Release n
 release-is n e releases = refl
 
 -- a failure now or later
@@ -208,12 +208,12 @@ module _ (actor : List ℕ) (token : ℕ) where
       let more' = subst (λ (z : Event). G Looking z) w.1 (subst (λ (s : State). G s e) p more) in
       subst (λ (z : Event). Is (told_end actor (event.Seize n true false ∷ z ∷ es)) end) (sym w.1) (saw-on n (record_name actor) w.0 es end more')
 
-  seized : (n : List ℕ) (got failed : Bool) (es : List Event) (end : Ending) → Goes job (after_reply job Seizing (reply (event.Seize n got failed))) es (Ended end) → Is (told_end actor (event.Seize n got failed ∷ es)) end
-  seized n got true es end goes = inl (releasing (Failed Before) end es goes)
-  seized n true false es end goes = looking n es end goes
-  seized n false false es end goes = busy es goes
+  seized : (got failed : Bool) (es : List Event) (end : Ending) → Goes job (after_reply job Seizing (reply (event.Seize (right_name actor) got failed))) es (Ended end) → Is (told_end actor (event.Seize (right_name actor) got failed ∷ es)) end
+  seized got true es end goes = inl (releasing (Failed Before) end es goes)
+  seized true false es end goes = looking (right_name actor) es end goes
+  seized false false es end goes = busy es goes
     where
-      busy : (es : List Event) → Goes job (Ended (Refused (Busy (right_name actor)))) es (Ended end) → Is (told_end actor (event.Seize n false false ∷ es)) end
+      busy : (es : List Event) → Goes job (Ended (Refused (Busy (right_name actor)))) es (Ended end) → Is (told_end actor (event.Seize (right_name actor) false false ∷ es)) end
       busy [] goes = inl (at-end (Refused (Busy (right_name actor))) end [] goes)
       busy (e ∷ es) (now, inl p, is, more) = absurd (subst (λ (s : State). IsNext (next job s) e) p is)
       busy (e ∷ es) (now, inr p, is, more) = absurd (subst (λ (s : State). IsNext (next job s) e) p is)
@@ -227,7 +227,7 @@ module _ (actor : List ℕ) (token : ℕ) where
       let w = seize-is (right_name actor) e is' in
       let G : State → Event → Type 0 = λ s e. Goes job (after_reply job s (reply e)) es (Ended end) in
       let more' = subst (λ (z : Event). G Seizing z) w.2 (subst (λ (s : State). G s e) p more) in
-      subst (λ (z : Event). Is (told_end actor (z ∷ es)) end) (sym w.2) (seized (right_name actor) w.0 w.1 es end more')
+      subst (λ (z : Event). Is (told_end actor (z ∷ es)) end) (sym w.2) (seized w.0 w.1 es end more')
 
   not-short : (x end : Ending) → Is x end → (end ≡ NoMemory → ⊥) → x ≡ end
   not-short x end (inl p) other = sym p

@@ -10,7 +10,7 @@ use Rattle.host_port.specs.declared.event.Event.TheVariants.{Load, Seize}
 use Rattle.host_port.specs.declared.event.Seen.{Seen}
 use Rattle.host_port.specs.declared.event.Seen.TheVariants as seen
 use Rattle.commit_record.specs.declared.record.Record.{Record}
-use Rattle.commit_machine.specs.Names.{record_name, right_name}
+use Rattle.commit_machine.specs.Names.{record_name}
 use Rattle.commit_machine.specs.Records.{record_of, is_go}
 use Rattle.commit_machine.specs.Jobs.{Before, Nothing, RolledBack, Finished, Busy, NotARecord, TooLarge, Ending, Recovered, Refused, Failed, NoMemory}
 use Rattle.commit_machine.specs.Restraints.{is_failed}
@@ -41,7 +41,7 @@ end_seen actor s = NoMemory
 
 -- the end by the seizure and the load
 abbrev pub end_by : List ℕ → List Event → Ending
-end_by actor (Seize n false failed ∷ es) = Refused (Busy (right_name actor))
+end_by actor (Seize n false failed ∷ es) = Refused (Busy n)
 end_by actor (Seize n true failed ∷ Load m s ∷ es) = end_seen actor s
 end_by actor es = NoMemory
 

@@ -7,7 +7,7 @@ ghost use Rattle.host_port.specs.declared.event.Event.{Event};
 ghost use Rattle.commit_machine.specs.Edits.{recovery_for};
 ghost use Rattle.commit_driver.specs.Steps.{EndFits};
 ghost use Rattle.folder_recovery.specs.Told.{IsTold};
-ghost use Rattle.folder_recovery.specs.Safe.{MayRecover, RecoversSafely};
+ghost use Rattle.folder_recovery.specs.Safe.{MayRecover, RecoversSafely, IsComplete};
 ghost use Rattle.folder_recovery.specs.Recovering.{Recovers, RecoverCause, IsNamed, recovery_plan, answer_of};
 
 use crate::RecoverError;
@@ -88,6 +88,7 @@ pub fn recover<H: Host>(
     ensures ran { (token : ℕ) → Ran H.start H.told H.counts host.old host.new (λ es. Recovers (recovery_for actor.now token) es result) }
     ensures told { Ran H.start H.told H.counts host.old host.new (λ es. IsTold actor.now es result) }
     ensures safe { (token : ℕ) (before es : List Event) → H.told host.old ≡ Some before → H.told host.new ≡ Some (before ++ es) → MayRecover actor.now token (disk (H.start host.old) before) es → RecoversSafely actor.now token (disk (H.start host.old) before) es result }
+    ensures complete { Ran H.start H.told H.counts host.old host.new (λ es. IsComplete actor.now es (H.counts host.old) (H.counts host.new) result) }
     ensures named { IsNamed actor.now result }
     ensures cause { RecoverCause (H.counts host.old) (H.counts host.new) result }
 {

@@ -1,8 +1,7 @@
 use Rattle.std.proofs.Common.{List, refl, subst, sym, inl}
-use Rattle.std.proofs.lemmas.Result.{err_from_is_err_and}
 use Rattle.std.specs.declared.result.Result.{Result}
 use Rattle.host_port.specs.declared.event.Event.{Event}
-use Rattle.host_port.proofs.RanLemmas.{Ran-none, Ran-map}
+use Rattle.host_port.proofs.RanLemmas.{Ran-map}
 use Rattle.commit_machine.specs.Edits.{recovery_for}
 use Rattle.commit_driver.specs.declared.place.Plan.{Plan}
 use Rattle.commit_driver.specs.declared.step.Recovered.{Recovered}
@@ -10,7 +9,7 @@ use Rattle.commit_driver.specs.Steps.{EndFits}
 use Rattle.commit_driver.specs.Places.{files_of, IsPlan, IsSafe}
 use Rattle.folder_recovery.specs.declared.error.RecoverError.{RecoverError}
 use Rattle.folder_recovery.specs.Recovering.{Recovers, answer_of}
-use Rattle.folder_recovery.proofs.RecoverLemmas.{is-safe, is-plan, not-begun, recovers, is-named, is-caused}
+use Rattle.folder_recovery.proofs.RecoverLemmas.{is-safe, is-plan, recovers}
 use Rattle.folder_recovery.proofs.recovery.run.Goals as goal
 
 pub drive-end-requires-clause-safe : goal.drive-end-requires-clause-safe
