@@ -12,7 +12,10 @@ use mail_text::{Memory, Text, lines_make_the_text};
 use mailx_vars::variables_are_kept;
 use mbox_scan::{list_of_join, texts_are_proper};
 use message_show::all_fields_make_the_text;
-use message_state::{a_text_has_one_row, acts_by_the_table, each_text_has_a_row, stamps_read_back};
+use message_state::{
+    a_text_has_one_row, acts_by_the_table, comments_are_the_same, each_text_has_a_row,
+    stamps_keep_texts_proper, stamps_read_back,
+};
 
 pub fn put(out: &mut Text) -> Result<(), Memory> {
     speak_of_texts();
@@ -39,6 +42,8 @@ fn speak_of_texts() {
 fn speak_of_sessions() {
     acts_by_the_table();
     stamps_read_back();
+    stamps_keep_texts_proper();
+    comments_are_the_same();
     a_text_has_one_row();
     each_text_has_a_row();
     line_words::a_word_names_one_command();
