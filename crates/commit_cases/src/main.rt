@@ -39,29 +39,15 @@ mod records;
 mod script;
 mod stops;
 
-use mail_text::Memory;
+use case_blocks::told;
+use script::Script;
 use std::io;
 use std::process::ExitCode;
 
-fn tell(rt: &HostRuntime, cases: &str) -> Result<(), Memory> {
-    laws::call();
-    let mut always = "";
-    for block in cases.split("\n\n") {
-        if block.lines().any(|line| line == "always") {
-            always = block;
-        }
-        let told = script::told(rt.alloc(), case_blocks::first(block, always))?;
-        let _ = rt.write_all(told.bytes());
-    }
-    Ok(())
-}
-
 fn main(rt: HostRuntime) -> ExitCode {
+    laws::call();
     match io::read_to_string(rt.alloc(), rt.reader()) {
-        Ok(cases) => match tell(&rt, cases.as_str()) {
-            Ok(()) => ExitCode::from(0),
-            Err(_) => ExitCode::from(8),
-        },
+        Ok(blocks) => ExitCode::from(told(rt.alloc(), &Script, blocks.as_str()).write(&rt)),
         Err(_) => ExitCode::from(3),
     }
 }
