@@ -8,17 +8,17 @@ use Rattle.mailx_session.specs.declared.error.RunError.TheVariants as error
 use Rattle.mailx_session.specs.declared.asks.Asked.{Asked}
 use Rattle.session_play.specs.Play.{Ret, Ask, Say}
 use Rattle.session_play.specs.Steps.{On, Ended}
-use Rattle.command_desk.specs.declared.desk.Desk.{Desk}
+use Rattle.mailx_session.specs.declared.state.SessionState.{SessionState}
 use Rattle.command_desk.specs.declared.steps.Ask as asked_of
 use Rattle.command_desk.specs.declared.steps.Ask.TheVariants as asks
 use Rattle.mailx_session.specs.declared.status.Status.TheVariants.{Done}
 use Rattle.mailx_session.specs.Sessions.{asked, LineCaused}
 
-pub asked-say : (desk : Desk) (ask : asked_of.Ask) (bytes : List ℕ) → ask ≡ asks.Say bytes → asked desk ask ≡ Ask (Say bytes) (λ _. Ret (On desk))
-asked-say desk ask bytes is = ap (asked desk) is
+pub asked-say : (s : SessionState) (ask : asked_of.Ask) (bytes : List ℕ) → ask ≡ asks.Say bytes → asked s ask ≡ Ask (Say bytes) (λ _. Ret (On s))
+asked-say s ask bytes is = ap (asked s) is
 
-pub asked-exit : (desk : Desk) (ask : asked_of.Ask) → ask ≡ asks.Exit → asked desk ask ≡ Ret (Ended Done)
-asked-exit desk ask is = ap (asked desk) is
+pub asked-exit : (s : SessionState) (ask : asked_of.Ask) → ask ≡ asks.Exit → asked s ask ≡ Ret (Ended Done)
+asked-exit s ask is = ap (asked s) is
 
 pub never-fall-none : (c : Counts) → NeverFall c c
 never-fall-none c = record { ins = omega arith; outs = omega arith; disks = omega arith; children = omega arith }

@@ -1,3 +1,4 @@
 pub mod AskLemmas
-pub mod OpeningLemmas
 pub mod NameLemmas
+pub mod OpeningLemmas
+pub mod StateLemmas

@@ -1,3 +1,4 @@
 pub mod Statuses
+pub mod States
 pub mod Sessions
 pub mod Openings

@@ -18,6 +18,8 @@ use Rattle.command_desk.specs.declared.desk.Desk.{Desk}
 use Rattle.command_desk.specs.declared.desk.Open.{Open}
 use Rattle.command_desk.specs.Answers.{OrFault}
 use Rattle.show_commands.specs.Paging.{page_size, page_of, current_page}
+use Rattle.mailx_session.specs.declared.state.SessionState.{SessionState}
+use Rattle.mailx_session.specs.States.{with_desk}
 
 -- a desk without messages, with the variables that are set at the start
 abbrev pub desk_with : Places → Desk
@@ -31,9 +33,17 @@ desk_with places = record {
   places = places;
 }
 
--- the desk before a folder is opened
-abbrev pub first_desk : Pairs → Desk
-first_desk pairs = desk_with (places_in pairs)
+-- the state before a folder is opened, in a run of this token: the name of the actor is `.mailx` in the home folder
+abbrev pub state_with : Places → Bool → ℕ → SessionState
+state_with places terminal token = record {
+  desk = desk_with places;
+  actor = places.home ++ codes "/.mailx";
+  token = token;
+  terminal = terminal;
+}
+
+abbrev pub first_state : Pairs → Bool → ℕ → SessionState
+first_state pairs terminal token = state_with (places_in pairs) terminal token
 
 -- the row's message is in this state
 abbrev pub is_in : State → Row → Bool
@@ -73,9 +83,13 @@ with_folder desk folder shown = record desk { folder = folder; shown = shown; fr
 unfoldable pub opened : Desk → List ℕ → List ℕ → List Row → Desk
 opened desk name bytes rows = with_page (with_folder desk (record { name = name; system = false; folder = bytes; marks = map (λ row. row.mark) rows }) (plain rows))
 
+-- the state once a folder was opened on its desk
+abbrev pub with_opened : SessionState → List ℕ → List ℕ → List Row → SessionState
+with_opened s name bytes rows = with_desk s (opened s.desk name bytes rows)
+
 -- a folder was opened
-abbrev pub Opens : Desk → List ℕ → List ℕ → Desk → Type 0
-Opens old name bytes new = (rows : List Row) × AreRows (texts_of bytes) rows × (new ≡ opened old name bytes rows)
+abbrev pub Opens : SessionState → List ℕ → List ℕ → SessionState → Type 0
+Opens old name bytes new = (rows : List Row) × AreRows (texts_of bytes) rows × (new ≡ with_opened old name bytes rows)
 
 -- the opening line: the folder's name, how many messages it has, and how many are new and unread
 abbrev pub opening_line : Desk → List ℕ

@@ -7,12 +7,10 @@ use Rattle.session_play.specs.declared.stop.Stop.{Stop}
 use Rattle.session_play.specs.declared.stop.Stop.TheVariants as stop
 use Rattle.session_play.specs.Play.{Play, Ret, Ask, Say, Next, Go, Last, bind}
 use Rattle.session_play.specs.Steps.{After, On, Refused, Ended, in_order, refused, concluded}
-use Rattle.command_desk.specs.declared.desk.Desk.{Desk}
 use Rattle.command_desk.specs.declared.steps.Ask as asked_of
 use Rattle.command_desk.specs.declared.steps.Ask.TheVariants as asks
 use Rattle.command_desk.specs.declared.steps.Steps.{Steps}
 use Rattle.command_desk.specs.Answers.{OrFault}
-use Rattle.command_desk.specs.Effects.{effect}
 use Rattle.read_commands.specs.Commands.{commanded}
 use Rattle.mailx_session.specs.declared.asks.Asked.{Asked}
 use Rattle.mailx_session.specs.declared.asks.Asked.TheVariants as answered
@@ -20,33 +18,35 @@ use Rattle.mailx_session.specs.declared.error.RunError.{RunError}
 use Rattle.mailx_session.specs.declared.error.RunError.TheVariants as error
 use Rattle.mailx_session.specs.declared.flow.Flow.{Flow}
 use Rattle.mailx_session.specs.declared.flow.Flow.TheVariants as flow
+use Rattle.mailx_session.specs.declared.state.SessionState.{SessionState}
 use Rattle.mailx_session.specs.declared.status.Status.{Status}
 use Rattle.mailx_session.specs.declared.status.Status.TheVariants.{Done}
+use Rattle.mailx_session.specs.States.{settled}
 
 -- what is asked for, and what its answer leaves
-abbrev pub asked : Desk → asked_of.Ask → Play (After Desk Status)
-asked desk (asks.Say bytes) = Ask (Say bytes) (λ _. Ret (On desk))
-asked desk asks.Exit = Ret (Ended Done)
+abbrev pub asked : SessionState → asked_of.Ask → Play (After SessionState Status)
+asked s (asks.Say bytes) = Ask (Say bytes) (λ _. Ret (On s))
+asked s asks.Exit = Ret (Ended Done)
 
 -- a command's steps are carried out, or the line that refuses it is said
-abbrev pub carried_out : Desk → OrFault Steps → Play (Next Desk Status)
-carried_out desk (Ok steps) = bind (in_order asked desk steps.asks) (concluded desk (λ d. effect d steps.effects))
-carried_out desk (Err line) = refused desk line
+abbrev pub carried_out : SessionState → OrFault Steps → Play (Next SessionState Status)
+carried_out s (Ok steps) = bind (in_order asked s steps.asks) (concluded s (λ t. settled t steps.effects))
+carried_out s (Err line) = refused s line
 
 -- what an input line does
-abbrev pub line_play : Desk → List ℕ → Play (Next Desk Status)
-line_play desk line = carried_out desk (commanded desk line)
+abbrev pub line_play : SessionState → List ℕ → Play (Next SessionState Status)
+line_play s line = carried_out s (commanded s.desk line)
 
 -- what the answers to a command's asks leave
-abbrev pub after_asks : Desk → Asked → After Desk Status
-after_asks desk answered.On = On desk
-after_asks desk (answered.Refused line) = Refused line
-after_asks desk (answered.Ended s) = Ended s
+abbrev pub after_asks : SessionState → Asked → After SessionState Status
+after_asks s answered.On = On s
+after_asks s (answered.Refused line) = Refused line
+after_asks s (answered.Ended e) = Ended e
 
--- the next desk, or the end
-abbrev pub next_of : Desk → Flow → Next Desk Status
-next_of desk flow.Go = Go desk
-next_of desk (flow.End s) = Last s
+-- the next state, or the end
+abbrev pub next_of : SessionState → Flow → Next SessionState Status
+next_of s flow.Go = Go s
+next_of s (flow.End e) = Last e
 
 -- the cut that an error is; a bad record is none yet, since no line answers it
 abbrev pub stop_of : RunError → Stop
@@ -73,8 +73,8 @@ abbrev pub EndsDone : Flow → Type 0
 EndsDone flow.Go = Unit {0}
 EndsDone (flow.End s) = s ≡ Done
 
--- where the run ends, the desk stays
-abbrev pub StaysAtEnd : Desk → Desk → Flow → Type 0
+-- where the run ends, the state stays
+abbrev pub StaysAtEnd : SessionState → SessionState → Flow → Type 0
 StaysAtEnd old new flow.Go = Unit {0}
 StaysAtEnd old new (flow.End s) = new ≡ old
 

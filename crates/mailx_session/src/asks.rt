@@ -4,10 +4,11 @@ ghost use Rattle.host_port.specs.Calls.{NeverFall};
 ghost use Rattle.host_port.specs.Ran.{Ran};
 ghost use Rattle.session_play.specs.Play.{Play, Ask, Ret, Say, Goes};
 ghost use Rattle.session_play.specs.Steps.{in_order};
-ghost use Rattle.command_desk.specs.declared.desk.Desk.{Desk};
+ghost use Rattle.mailx_session.specs.declared.state.SessionState.{SessionState};
+ghost use Rattle.mailx_session.specs.States.{IsSession};
 ghost use Rattle.mailx_session.specs.Sessions.{asked, after_asks, in_play, LineCaused, IsDoneAfter};
 
-use crate::{RunError, Status};
+use crate::{RunError, SessionState, Status};
 use host_port::Host;
 use mail_text::Text;
 use read_commands::Ask as Wanted;
@@ -36,9 +37,10 @@ pub(crate) fn say<H: Host>(host: &mut H, bytes: &[u8]) -> Result<(), RunError>
 }
 
 // Does one thing that is asked for.
-fn do_ask<H: Host>(host: &mut H, ask: &Wanted) -> Result<Asked, RunError>
-    ensures ran { (desk : Desk) → Ran H.start H.told H.counts host.old host.new
-        (λ es. Goes (asked desk ask.now) es (in_play (after_asks desk) result)) }
+fn do_ask<H: Host>(state: &SessionState, host: &mut H, ask: &Wanted) -> Result<Asked, RunError>
+    requires { IsSession state.now }
+    ensures ran { Ran H.start H.told H.counts host.old host.new
+        (λ es. Goes (asked state.now ask.now) es (in_play (after_asks state.now) result)) }
     ensures fall { NeverFall (H.counts host.old) (H.counts host.new) }
     ensures done { IfOk result IsDoneAfter }
     ensures cause { LineCaused (H.counts host.old) (H.counts host.new) result }
@@ -51,8 +53,8 @@ fn do_ask<H: Host>(host: &mut H, ask: &Wanted) -> Result<Asked, RunError>
 
 // Says bytes that a command asks for.
 fn say_line<H: Host>(host: &mut H, bytes: &Text) -> Result<Asked, RunError>
-    ensures ran { (desk : Desk) → Ran H.start H.told H.counts host.old host.new
-        (λ es. Goes (Ask (Say bytes.now) (λ _. Ret (after_asks desk Asked.On))) es (in_play (after_asks desk) result)) }
+    ensures ran { (s : SessionState) → Ran H.start H.told H.counts host.old host.new
+        (λ es. Goes (Ask (Say bytes.now) (λ _. Ret (after_asks s Asked.On))) es (in_play (after_asks s) result)) }
     ensures fall { NeverFall (H.counts host.old) (H.counts host.new) }
     ensures done { IfOk result IsDoneAfter }
     ensures cause { LineCaused (H.counts host.old) (H.counts host.new) result }
@@ -64,15 +66,20 @@ fn say_line<H: Host>(host: &mut H, bytes: &Text) -> Result<Asked, RunError>
 }
 
 /// Does what is asked for, in order, up to an answer that refuses what follows or ends the run.
-pub(crate) fn do_asks<H: Host>(host: &mut H, asks: &[Wanted]) -> Result<Asked, RunError>
-    ensures ran { (desk : Desk) → Ran H.start H.told H.counts host.old host.new
-        (λ es. Goes (in_order asked desk asks.now) es (in_play (after_asks desk) result)) }
+pub(crate) fn do_asks<H: Host>(
+    state: &SessionState,
+    host: &mut H,
+    asks: &[Wanted],
+) -> Result<Asked, RunError>
+    requires { IsSession state.now }
+    ensures ran { Ran H.start H.told H.counts host.old host.new
+        (λ es. Goes (in_order asked state.now asks.now) es (in_play (after_asks state.now) result)) }
     ensures fall { NeverFall (H.counts host.old) (H.counts host.new) }
     ensures done { IfOk result IsDoneAfter }
     ensures cause { LineCaused (H.counts host.old) (H.counts host.new) result }
 {
     for ask in asks {
-        match do_ask(host, ask) {
+        match do_ask(state, host, ask) {
             Ok(Asked::On) => {}
             Ok(Asked::Refused { line }) => return Ok(Asked::Refused { line }),
             Ok(Asked::Ended(status)) => return Ok(Asked::Ended(status)),

@@ -7,9 +7,11 @@ mod flow;
 mod greeting;
 mod opening;
 mod session;
+mod state;
 mod status;
 
 pub use error::RunError;
 pub use flow::Flow;
 pub use session::Session;
+pub use state::SessionState;
 pub use status::Status;

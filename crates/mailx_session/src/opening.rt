@@ -1,14 +1,15 @@
-// The rows and the view of a folder that is opened.
-ghost use Rattle.std.specs.Prelude.{◌≡◌, ◌<◌, ◌≤◌, length, map, All, IfOk, IfSome, replicate};
+// The state that a session begins with, and the rows and the view of a folder that is opened.
+ghost use Rattle.std.specs.Prelude.{◌≡◌, ◌++◌, ◌<◌, ◌≤◌, length, map, All, IfOk, IfSome, replicate, codes};
 ghost use Rattle.std.specs.List.{range_with_len, position};
 ghost use Rattle.show_commands.specs.Paging.{page_size};
 ghost use Rattle.mail_dates.specs.Clock.{IsInYears};
 ghost use Rattle.mbox_scan.specs.Mailbox.{texts_of};
 ghost use Rattle.session_play.specs.Knowing.{AreRows};
 ghost use Rattle.message_state.specs.declared.row.Row.{Row};
-ghost use Rattle.mailx_session.specs.Openings.{is_in, first_current, desk_with, IsKnownSize, plain, with_folder, with_page};
+ghost use Rattle.mailx_session.specs.Openings.{is_in, first_current, desk_with, state_with, IsKnownSize, plain, with_folder, with_page};
 ghost use Rattle.command_desk.specs.Desks.{IsDesk};
 
+use crate::SessionState;
 use mail_text::{Items, Memory, Text};
 use mailx_vars::{Places, Vars};
 use mbox_scan::Folder;
@@ -17,8 +18,8 @@ use message_state::{Mark, Order, Row, RowList, Shown, State, row_of};
 use read_commands::{Desk, Open, Refusal, page_of, page_size};
 use std::alloc::Global;
 
-/// The desk before a folder is opened.
-pub(crate) fn first_desk(alloc: Global, places: Places) -> Result<Desk, Memory>
+// The desk before a folder is opened.
+fn first_desk(alloc: Global, places: Places) -> Result<Desk, Memory>
     ensures { IfOk result (λ desk. desk ≡ desk_with places) }
 {
     let none = Text::new(alloc);
@@ -44,6 +45,33 @@ pub(crate) fn first_desk(alloc: Global, places: Places) -> Result<Desk, Memory>
         page: 0,
         fresh: true,
         places,
+    })
+}
+
+// The name of the actor of a home folder.
+fn actor_of(alloc: Global, home: &[u8]) -> Result<Text, Memory>
+    ensures { IfOk result (λ actor. actor ≡ home.now ++ codes "/.mailx") }
+{
+    let mut actor = Text::copy(alloc, home)?;
+    actor.push(b"/.mailx")?;
+    Ok(actor)
+}
+
+/// The state before a folder is opened.
+pub(crate) fn first_state(
+    alloc: Global,
+    places: Places,
+    terminal: bool,
+    token: u64,
+) -> Result<SessionState, Memory>
+    ensures { IfOk result (λ state. state ≡ state_with places terminal token) }
+{
+    let actor = actor_of(alloc, places.home.bytes())?;
+    Ok(SessionState {
+        desk: first_desk(alloc, places)?,
+        actor,
+        token,
+        terminal,
     })
 }
 

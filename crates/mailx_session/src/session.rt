@@ -3,19 +3,20 @@ ghost use Rattle.std.specs.Prelude.{◌≡◌, true, List, ℕ, Ok, Err, IfOk, O
 ghost use Rattle.host_port.specs.Ran.{Ran};
 ghost use Rattle.session_play.specs.Play.{Play, Goes};
 ghost use Rattle.session_play.specs.Steps.{refused, concluded};
-ghost use Rattle.command_desk.specs.declared.desk.Desk.{Desk};
+ghost use Rattle.mailx_session.specs.declared.state.SessionState.{SessionState};
 ghost use Rattle.mailx_session.specs.declared.status.Status.{Status};
 ghost use Rattle.mailx_vars.specs.Environment.{knows_user};
 ghost use Rattle.command_desk.specs.Desks.{IsDesk};
 ghost use Rattle.read_commands.specs.Commands.{commanded};
 ghost use Rattle.command_desk.specs.Effects.{effect};
+ghost use Rattle.mailx_session.specs.States.{IsSession, settled};
 ghost use Rattle.mailx_session.specs.Sessions.{carried_out, after_asks, line_play, next_of, in_play, LineCaused, IsDoneAfter, EndsDone, StaysAtEnd};
-ghost use Rattle.mailx_session.specs.Openings.{first_desk, greeting, Opens};
+ghost use Rattle.mailx_session.specs.Openings.{first_state, greeting, Opens};
 
 use crate::asks::{Asked, do_asks, say};
 use crate::greeting::greeting;
-use crate::opening::{first_desk, known_page_size, marks_of, plain_view, put_folder, rows_of};
-use crate::{Flow, RunError, Status};
+use crate::opening::{first_state, known_page_size, marks_of, plain_view, put_folder, rows_of};
+use crate::{Flow, RunError, SessionState, Status};
 use host_port::Host;
 use mail_text::{Memory, Text};
 use mailx_vars::Places;
@@ -24,35 +25,39 @@ use read_commands::{Desk, Effects, Open, Refusal, Steps, perform_line};
 use std::alloc::Global;
 use std::marker::Model;
 
-/// A session. Contracts see it as its desk, which is valid.
+/// A session. Contracts see it as its state, which is valid.
 #[derive(Drop)]
 pub struct Session {
-    desk: Desk,
+    state: SessionState,
     alloc: Global,
 }
 
 impl Model for Session {
-    ghost use Rattle.command_desk.specs.declared.desk.Desk.{Desk};
-    ghost use Rattle.command_desk.specs.Desks.{IsDesk};
+    ghost use Rattle.mailx_session.specs.declared.state.SessionState.{SessionState};
+    ghost use Rattle.mailx_session.specs.States.{IsSession};
 
-    ghost Value = { Desk };
+    ghost Value = { SessionState };
 
-    ghost view = { λ s. s.desk };
+    ghost view = { λ s. s.state };
 
-    ghost invariant = { λ s. IsDesk s.desk };
+    ghost invariant = { λ s. IsSession s.state };
 }
 
 impl Session {
-    /// A session with an empty folder and the variables that are set at the start. HOME and LOGNAME are set in the
-    /// environment.
-    pub fn new(alloc: Global, pairs: &[(Text, Text)]) -> Result<Session, Memory>
+    /// A session with an empty folder and the variables that are set at the start, in a run of this token. HOME and
+    /// LOGNAME are set in the environment.
+    pub fn new(
+        alloc: Global,
+        pairs: &[(Text, Text)],
+        terminal: bool,
+        token: u64,
+    ) -> Result<Session, Memory>
         requires { knows_user pairs.now ≡ true }
-        ensures { IfOk result (λ session. session ≡ first_desk pairs.now) }
+        ensures { IfOk result (λ session. session ≡ first_state pairs.now terminal token) }
     {
-        let places = Places::read(alloc, pairs)?;
-        match places {
+        match Places::read(alloc, pairs)? {
             Some(places) => Ok(Session {
-                desk: first_desk(alloc, places)?,
+                state: first_state(alloc, places, terminal, token)?,
                 alloc,
             }),
             None => Err(Memory),
@@ -64,7 +69,7 @@ impl Session {
         ensures ok { OnOk result (Opens self.old name folder self.new) }
         ensures err { OnErr result (self.new ≡ self.old) }
     {
-        let size = known_page_size(self.alloc, &self.desk)?;
+        let size = known_page_size(self.alloc, &self.state.desk)?;
         let rows = rows_of(self.alloc, &folder)?;
         let marks = marks_of(self.alloc, rows.items())?;
         let shown = plain_view(self.alloc, rows)?;
@@ -74,28 +79,36 @@ impl Session {
             folder,
             marks,
         };
-        put_folder(&mut self.desk, size, folder, shown);
+        put_folder(&mut self.state.desk, size, folder, shown);
         Ok(())
     }
 
     /// What is said at the start: with `header` set the opening line and the page of the current message.
     pub fn greeting(&self) -> Result<Text, Memory>
-        ensures { IfOk result (λ text. text ≡ greeting self.now) }
+        ensures { IfOk result (λ text. text ≡ greeting self.now.desk) }
     {
-        greeting(self.alloc, &self.desk)
+        greeting(self.alloc, &self.state.desk)
     }
 
     /// The desk.
     pub fn desk(&self) -> &Desk
-        ensures desk { result.now ≡ self.now }
-        ensures valid { IsDesk self.now }
+        ensures desk { result.now ≡ self.now.desk }
+        ensures valid { IsDesk self.now.desk }
     {
-        &self.desk
+        &self.state.desk
+    }
+
+    /// What the session knows between two lines.
+    pub fn state(&self) -> &SessionState
+        ensures state { result.now ≡ self.now }
+        ensures valid { IsSession self.now }
+    {
+        &self.state
     }
 
     // Carries out a command's steps.
     fn carry_out<H: Host>(&mut self, host: &mut H, steps: Steps) -> Result<Flow, RunError>
-        requires { IsDesk (effect self.old steps.effects) }
+        requires { IsDesk (effect self.old.desk steps.effects) }
         ensures ran { Ran H.start H.told H.counts host.old host.new
             (λ es. Goes (carried_out self.old (Ok steps)) es (in_play (next_of self.new) result)) }
         ensures done { IfOk result EndsDone }
@@ -104,7 +117,7 @@ impl Session {
         ensures cause { LineCaused (H.counts host.old) (H.counts host.new) result }
     {
         let Steps { asks, effects } = steps;
-        let asked = do_asks(host, asks.items())?;
+        let asked = do_asks(&self.state, host, asks.items())?;
         self.finish(host, effects, asked)
     }
 
@@ -115,10 +128,10 @@ impl Session {
         effects: Effects,
         asked: Asked,
     ) -> Result<Flow, RunError>
-        requires desk { IsDesk (effect self.old effects) }
+        requires desk { IsDesk (effect self.old.desk effects) }
         requires done { IsDoneAfter asked }
         ensures ran { Ran H.start H.told H.counts host.old host.new
-            (λ es. Goes (concluded self.old (λ d. effect d effects) (after_asks self.old asked)) es
+            (λ es. Goes (concluded self.old (λ t. settled t effects) (after_asks self.old asked)) es
             (in_play (next_of self.new) result)) }
         ensures done { IfOk result EndsDone }
         ensures end { IfOk result (StaysAtEnd self.old self.new) }
@@ -127,7 +140,7 @@ impl Session {
     {
         match asked {
             Asked::On => {
-                self.desk.settle(effects);
+                self.state.desk.settle(effects);
                 Ok(Flow::Go)
             }
             Asked::Refused { line } => self.refuse(host, &line),
@@ -148,20 +161,20 @@ impl Session {
         }
     }
 
-    /// Takes one input line, without its line feed. The desk changes only where the run goes on, and not where the line
-    /// is refused.
+    /// Takes one input line, without its line feed. The state changes only where the run goes on, and not where the
+    /// line is refused.
     pub fn step<H: Host>(&mut self, line: &[u8], host: &mut H) -> Result<Flow, RunError>
         ensures ran { Ran H.start H.told H.counts host.old host.new
             (λ es. Goes (line_play self.old line.now) es (in_play (next_of self.new) result)) }
-        ensures refused { (fault : List ℕ) → commanded self.old line.now ≡ Err fault → self.new ≡ self.old }
-        ensures goes_on { (fault : List ℕ) → commanded self.old line.now ≡ Err fault
+        ensures refused { (fault : List ℕ) → commanded self.old.desk line.now ≡ Err fault → self.new ≡ self.old }
+        ensures goes_on { (fault : List ℕ) → commanded self.old.desk line.now ≡ Err fault
             → IfOk result (λ flow. flow ≡ Flow.Go) }
         ensures done { IfOk result EndsDone }
         ensures end { IfOk result (StaysAtEnd self.old self.new) }
         ensures err { OnErr result (self.new ≡ self.old) }
         ensures cause { LineCaused (H.counts host.old) (H.counts host.new) result }
     {
-        match perform_line(self.alloc, line, &self.desk) {
+        match perform_line(self.alloc, line, &self.state.desk) {
             Ok(steps) => self.carry_out(host, steps),
             Err(Refusal::Fault { line: fault }) => self.refuse(host, &fault),
             Err(Refusal::Memory) => Err(RunError::Memory),

@@ -20,13 +20,14 @@ use Rattle.session_play.specs.Play.{Line, Say, Read, Know, Play, Ret, Ask, Says,
 use Rattle.mail_text.specs.Lines.{with_feed}
 use Rattle.mailx_vars.specs.Names.{is_short_name}
 use Rattle.command_desk.specs.declared.desk.Desk.{Desk}
+use Rattle.mailx_session.specs.declared.state.SessionState.{SessionState}
 use Rattle.mailx_session.specs.declared.status.Status.{Status}
 use Rattle.mailx_session.specs.declared.status.Status.TheVariants as status
-use Rattle.mailx_session.specs.Openings.{first_desk, opened}
+use Rattle.mailx_session.specs.Openings.{with_opened}
 use Rattle.mailx_session.specs.Sessions.{line_play}
 use Rattle.mailx_top.specs.declared.environment.Environment.{Environment}
 use Rattle.mailx_top.specs.Words.{Start}
-use Rattle.mailx_top.specs.Meaning.{State, Opening, Reading, round, opening, loaded, with_list, greeted, turn, with_input, prompted, says_and_ends, is_opening, usage, message_limit}
+use Rattle.mailx_top.specs.Meaning.{RunState, first_of, Opening, Reading, round, opening, loaded, with_list, greeted, turn, with_input, prompted, says_and_ends, is_opening, usage, message_limit}
 use Rattle.session_play.specs.Acts.{AllActs, AllEnds, loads_nothing}
 use Rattle.session_play.specs.Causes.{some_load_saw, counted, events_at}
 use Rattle.session_play.proofs.SawLemmas.{Unseen, unseen-then, goes-unseen}
@@ -35,42 +36,42 @@ use Rattle.mailx_top.proofs.LineLemmas.{EndsDone, line-ends}
 use Rattle.mailx_top.proofs.RoundLemmas.{loaded-acts}
 use Rattle.mailx_top.specs.Openings.{saw_held, is_no_list, saw_no_folder, IsBadName, OpensNone, EndsOrIsCut, IsOpeningExplained}
 
-abbrev IsReadingState : State → Type 0
+abbrev IsReadingState : RunState → Type 0
 IsReadingState (Opening start) = ⊥
-IsReadingState (Reading desk i) = Unit {0}
+IsReadingState (Reading s i) = Unit {0}
 
 -- a round goes on reading, or the session is done
-abbrev ReadsOn : Next State Status → Type 0
+abbrev ReadsOn : Next RunState Status → Type 0
 ReadsOn (Go y) = IsReadingState y
 ReadsOn (Last e) = e ≡ status.Done
 
-ends-with : (j : Input) (n : Next Desk Status) → EndsDone n → AllEnds ReadsOn (with_input j n)
-ends-with j (Go desk) done = tt
+ends-with : (j : Input) (n : Next SessionState Status) → EndsDone n → AllEnds ReadsOn (with_input j n)
+ends-with j (Go s) done = tt
 ends-with j (Last e) done = done
 
-ends-turn : (desk : Desk) (j : Input) (line : Option (List ℕ)) → AllEnds ReadsOn (turn desk j line)
-ends-turn desk j None = refl
-ends-turn desk j (Some line) = bind-ends EndsDone ReadsOn (line_play desk line) (with_input j) (line-ends desk line) (ends-with j)
+ends-turn : (s : SessionState) (j : Input) (line : Option (List ℕ)) → AllEnds ReadsOn (turn s j line)
+ends-turn s j None = refl
+ends-turn s j (Some line) = bind-ends EndsDone ReadsOn (line_play s line) (with_input j) (line-ends s line) (ends-with j)
 
 ends-prompted : (terminal : Bool) (desk : Desk) → AllEnds (λ (u : Unit {0}). Unit {0}) (prompted terminal desk)
 ends-prompted true desk = λ u. tt
 ends-prompted false desk = tt
 
-ends-round : (env : Environment) (x : State) → IsReadingState x → AllEnds ReadsOn (round env x)
+ends-round : (env : Environment) (x : RunState) → IsReadingState x → AllEnds ReadsOn (round env x)
 ends-round env (Opening start) never = absurd never
-ends-round env (Reading desk i) reading =
-    bind-ends (λ (u : Unit {0}). Unit {0}) ReadsOn (prompted env.terminal desk) (λ u. Ask (Line i) (λ a. turn desk a.1 a.0))
-    (ends-prompted env.terminal desk) (λ u t a. ends-turn desk a.1 a.0)
+ends-round env (Reading s i) reading =
+    bind-ends (λ (u : Unit {0}). Unit {0}) ReadsOn (prompted s.terminal s.desk) (λ u. Ask (Line i) (λ a. turn s a.1 a.0))
+    (ends-prompted s.terminal s.desk) (λ u t a. ends-turn s a.1 a.0)
 
-reads-nothing : (x : State) → IsReadingState x → is_opening x ≡ false
+reads-nothing : (x : RunState) → IsReadingState x → is_opening x ≡ false
 reads-nothing (Opening start) never = absurd never
-reads-nothing (Reading desk i) reading = refl
+reads-nothing (Reading s i) reading = refl
 
-none-counted : (x : State) (es : List Event) → IsReadingState x → counted (is_opening x) es ≡ []
+none-counted : (x : RunState) (es : List Event) → IsReadingState x → counted (is_opening x) es ≡ []
 none-counted x es reading = ap (λ (b : Bool). counted b es) (reads-nothing x reading)
 
 -- a loop of lines opens no folder, and ends only as a session does
-loop-reads : (env : Environment) {x : State} {es : List Event} {out : Result Status Stop} → IsReadingState x → (loop : Loop (round env) x es out)
+loop-reads : (env : Environment) {x : RunState} {es : List Event} {out : Result Status Stop} → IsReadingState x → (loop : Loop (round env) x es out)
     → (events_at is_opening loop ≡ []) × EndsOrIsCut status.Done out
 loop-reads env {x = x} {out = out} reading (again {y = y} front rest is goes more) =
     let on : IsReadingState y = goes-ends ReadsOn (round env x) front (Go y) (ends-round env x reading) goes in
@@ -80,17 +81,17 @@ loop-reads env {x = x} {es = es} reading (last {r = r} goes) = (none-counted x e
 loop-reads env {x = x} {es = es} reading (cut goes) = (none-counted x es reading, tt)
 
 -- the events of a play's first round, and how the run ends after it
-abbrev Continues : Play (Next State Status) → List Event → Result Status Stop → Type 0
+abbrev Continues : Play (Next RunState Status) → List Event → Result Status Stop → Type 0
 Continues p es out =
-    ((y : State) × Goes p es (Ok (Go y)) × (IsReadingState y → EndsOrIsCut status.Done out))
+    ((y : RunState) × Goes p es (Ok (Go y)) × (IsReadingState y → EndsOrIsCut status.Done out))
     ⊎ (((r : Status) × (out ≡ Ok r) × Goes p es (Ok (Last r))) ⊎ ((cause : Stop) × (out ≡ Err cause) × Goes p es (Err cause)))
 
 -- what follows a round without a load that ends the run so, or goes on to read
-abbrev EndsWith : Status → Next State Status → Type 0
+abbrev EndsWith : Status → Next RunState Status → Type 0
 EndsWith e (Go y) = IsReadingState y × (e ≡ status.Done)
 EndsWith e (Last r) = r ≡ e
 
-continues-with : (e : Status) (p : Play (Next State Status)) (es : List Event) (out : Result Status Stop) → AllEnds (EndsWith e) p → Continues p es out → EndsOrIsCut e out
+continues-with : (e : Status) (p : Play (Next RunState Status)) (es : List Event) (out : Result Status Stop) → AllEnds (EndsWith e) p → Continues p es out → EndsOrIsCut e out
 continues-with e p es out ends (inl (y, goes, reads)) =
     let on = goes-ends (EndsWith e) p es (Go y) ends goes in
     subst (λ e. EndsOrIsCut e out) (sym on.1) (reads on.0)
@@ -107,24 +108,24 @@ end_of (found.Bytes None false) = status.NoFolder
 end_of (found.Bytes (Some bytes) false) = end_of_list (list_of bytes)
 end_of (found.TooLarge n) = status.NoFolder
 
-greeted-ends : (quiet : Bool) (desk : Desk) → AllEnds (EndsWith status.Done) (greeted quiet desk)
-greeted-ends true desk = (tt, refl)
-greeted-ends false desk = λ u. (tt, refl)
+greeted-ends : (quiet : Bool) (s : SessionState) → AllEnds (EndsWith status.Done) (greeted quiet s)
+greeted-ends true s = (tt, refl)
+greeted-ends false s = λ u. (tt, refl)
 
-list-ends : (desk : Desk) (start : Start) (bytes : List ℕ) (l : Option (List (List ℕ))) → AllEnds (EndsWith (end_of_list l)) (with_list desk start bytes l)
-list-ends desk start bytes None = λ u. refl
-list-ends desk start bytes (Some texts) = go (nat_lt message_limit (length texts))
+list-ends : (s : SessionState) (start : Start) (bytes : List ℕ) (l : Option (List (List ℕ))) → AllEnds (EndsWith (end_of_list l)) (with_list s start bytes l)
+list-ends s start bytes None = λ u. refl
+list-ends s start bytes (Some texts) = go (nat_lt message_limit (length texts))
   where
     go : (b : Bool) → AllEnds (EndsWith (if b then status.NoFolder else status.Done))
-        (if b then says_and_ends (with_feed (start.file ++ codes ": too many messages")) status.NoFolder else Ask (Know texts) (λ rows. greeted start.quiet (opened desk start.file bytes rows)))
+        (if b then says_and_ends (with_feed (start.file ++ codes ": too many messages")) status.NoFolder else Ask (Know texts) (λ rows. greeted start.quiet (with_opened s start.file bytes rows)))
     go true = λ u. refl
-    go false = λ rows. greeted-ends start.quiet (opened desk start.file bytes rows)
+    go false = λ rows. greeted-ends start.quiet (with_opened s start.file bytes rows)
 
-loaded-ends : (desk : Desk) (start : Start) (f : Found) → AllEnds (EndsWith (end_of f)) (loaded desk start f)
-loaded-ends desk start (found.Bytes bytes true) = λ u. refl
-loaded-ends desk start (found.Bytes None false) = λ u. refl
-loaded-ends desk start (found.Bytes (Some bytes) false) = list-ends desk start bytes (list_of bytes)
-loaded-ends desk start (found.TooLarge n) = λ u. refl
+loaded-ends : (s : SessionState) (start : Start) (f : Found) → AllEnds (EndsWith (end_of f)) (loaded s start f)
+loaded-ends s start (found.Bytes bytes true) = λ u. refl
+loaded-ends s start (found.Bytes None false) = λ u. refl
+loaded-ends s start (found.Bytes (Some bytes) false) = list-ends s start bytes (list_of bytes)
+loaded-ends s start (found.TooLarge n) = λ u. refl
 
 -- how an end and what was seen belong together
 record Matches (start : Option Start) (es : List Event) (e : Status) : Type 0 where
@@ -221,7 +222,7 @@ matches-found start rest (found.Bytes (Some bytes) false) short x y = record {
     opens false (inr h) = no-end _ y h
 
 -- the load, and what follows it
-abbrev AfterLoad : List ℕ → (Found → Play (Next State Status)) → List Event → Result Status Stop → Type 0
+abbrev AfterLoad : List ℕ → (Found → Play (Next RunState Status)) → List Event → Result Status Stop → Type 0
 AfterLoad name go es out =
     ((f : Found) × (rest : List Event) × (es ≡ event.Load name (seen_of f) ∷ rest) × Continues (go f) rest out)
     ⊎ ((cause : Stop) × (out ≡ Err cause))
@@ -229,7 +230,7 @@ AfterLoad name go es out =
 joined : (name : List ℕ) (f : Found) (es front rest : List Event) → es ≡ front ++ rest → front ≡ event.Load name (seen_of f) ∷ [] → es ≡ event.Load name (seen_of f) ∷ rest
 joined name f es front rest is did = is ∙ ap (λ (l : List Event). l ++ rest) did
 
-after-load : (name : List ℕ) (go : Found → Play (Next State Status)) (es : List Event) (out : Result Status Stop) → Continues (Ask (Read name) go) es out → AfterLoad name go es out
+after-load : (name : List ℕ) (go : Found → Play (Next RunState Status)) (es : List Event) (out : Result Status Stop) → Continues (Ask (Read name) go) es out → AfterLoad name go es out
 after-load name go es out (inl (y, inl (f, front, rest, is, did, goes), reads)) = inl (f, rest, joined name f es front rest is did, inl (y, goes, reads))
 after-load name go es out (inl (y, inr (cause, other, part), reads)) = absurd (cc other)
 after-load name go es out (inr (inl (r, ended, inl (f, front, rest, is, did, goes)))) = inl (f, rest, joined name f es front rest is did, inr (inl (r, ended, goes)))
@@ -237,7 +238,7 @@ after-load name go es out (inr (inl (r, ended, inr (cause, other, part)))) = abs
 after-load name go es out (inr (inr (cause, is, goes))) = inr (cause, is)
 
 -- what a play that loads nothing saw
-continues-unseen : (test : Seen → Bool) (p : Play (Next State Status)) (es : List Event) (out : Result Status Stop) → AllActs loads_nothing p → Continues p es out → Unseen test es
+continues-unseen : (test : Seen → Bool) (p : Play (Next RunState Status)) (es : List Event) (out : Result Status Stop) → AllActs loads_nothing p → Continues p es out → Unseen test es
 continues-unseen test p es out all (inl (y, goes, reads)) = goes-unseen test p es (Ok (Go y)) all goes
 continues-unseen test p es out all (inr (inl (r, is, goes))) = goes-unseen test p es (Ok (Last r)) all goes
 continues-unseen test p es out all (inr (inr (cause, is, goes))) = goes-unseen test p es (Err cause) all goes
@@ -250,15 +251,15 @@ explained-cut start es out cause is = subst (λ o. IsOpeningExplained start o es
   no_folder_always = λ h. tt;
 })
 
-explained-found : (desk : Desk) (start : Start) (es : List Event) (out : Result Status Stop) → is_short_name start.file ≡ true → AfterLoad start.file (loaded desk start) es out → IsOpeningExplained (Some start) out es
-explained-found desk start es out short (inr (cause, is)) = explained-cut (Some start) es out cause is
-explained-found desk start es out short (inl (f, rest, is, goes)) =
-    let p = loaded desk start f in
-    let all = loaded-acts desk start f in
+explained-found : (s : SessionState) (start : Start) (es : List Event) (out : Result Status Stop) → is_short_name start.file ≡ true → AfterLoad start.file (loaded s start) es out → IsOpeningExplained (Some start) out es
+explained-found s start es out short (inr (cause, is)) = explained-cut (Some start) es out cause is
+explained-found s start es out short (inl (f, rest, is, goes)) =
+    let p = loaded s start f in
+    let all = loaded-acts s start f in
     let x = continues-unseen saw_held p rest out all goes in
     let y = continues-unseen saw_no_folder p rest out all goes in
     let E : List Event → Type 0 = λ es. IsOpeningExplained (Some start) out es in
-    subst E (sym is) (explained-as (Some start) _ out (end_of f) (matches-found start rest f short x y) (continues-with (end_of f) p rest out (loaded-ends desk start f) goes))
+    subst E (sym is) (explained-as (Some start) _ out (end_of f) (matches-found start rest f short x y) (continues-with (end_of f) p rest out (loaded-ends s start f) goes))
 
 explained-said : (start : Option Start) (text : List ℕ) (e : Status) (es : List Event) (out : Result Status Stop) → Continues (says_and_ends text e) es out → (Unseen saw_held es → Unseen saw_no_folder es → Matches start es e) → IsOpeningExplained start out es
 explained-said start text e es out goes to =
@@ -270,16 +271,16 @@ explained-opening : (env : Environment) (start : Option Start) (es : List Event)
 explained-opening env None es out goes = explained-said None usage status.Usage es out goes (matches-none es)
 explained-opening env (Some start) es out goes = go (is_short_name start.file) refl goes
   where
-    go : (b : Bool) → is_short_name start.file ≡ b → Continues (if b then Ask (Read start.file) (loaded (first_desk env.pairs) start) else says_and_ends (with_feed (start.file ++ codes ": bad name")) status.NoFolder) es out → IsOpeningExplained (Some start) out es
-    go true is goes = explained-found (first_desk env.pairs) start es out is (after-load start.file (loaded (first_desk env.pairs) start) es out goes)
+    go : (b : Bool) → is_short_name start.file ≡ b → Continues (if b then Ask (Read start.file) (loaded (first_of env) start) else says_and_ends (with_feed (start.file ++ codes ": bad name")) status.NoFolder) es out → IsOpeningExplained (Some start) out es
+    go true is goes = explained-found (first_of env) start es out is (after-load start.file (loaded (first_of env) start) es out goes)
     go false is goes = explained-said (Some start) (with_feed (start.file ++ codes ": bad name")) status.NoFolder es out goes (λ x y. matches-bad start es is x)
 
 -- a round that opens a folder is followed by one that reads
-abbrev ReadsNext : Next State Status → Type 0
+abbrev ReadsNext : Next RunState Status → Type 0
 ReadsNext (Go y) = IsReadingState y
 ReadsNext (Last e) = Unit {0}
 
-next-of : (e : Status) (p : Play (Next State Status)) → AllEnds (EndsWith e) p → AllEnds ReadsNext p
+next-of : (e : Status) (p : Play (Next RunState Status)) → AllEnds (EndsWith e) p → AllEnds ReadsNext p
 next-of e (Ret (Go y)) ends = ends.0
 next-of e (Ret (Last r)) ends = tt
 next-of e (Ask act go) ends = λ a. next-of e (go a) (ends a)
@@ -288,11 +289,11 @@ opening-next : (env : Environment) (start : Option Start) → AllEnds ReadsNext 
 opening-next env None = λ u. tt
 opening-next env (Some start) = go (is_short_name start.file)
   where
-    go : (b : Bool) → AllEnds ReadsNext (if b then Ask (Read start.file) (loaded (first_desk env.pairs) start) else says_and_ends (with_feed (start.file ++ codes ": bad name")) status.NoFolder)
-    go true = λ f. next-of (end_of f) (loaded (first_desk env.pairs) start f) (loaded-ends (first_desk env.pairs) start f)
+    go : (b : Bool) → AllEnds ReadsNext (if b then Ask (Read start.file) (loaded (first_of env) start) else says_and_ends (with_feed (start.file ++ codes ": bad name")) status.NoFolder)
+    go true = λ f. next-of (end_of f) (loaded (first_of env) start f) (loaded-ends (first_of env) start f)
     go false = λ u. tt
 
-opening-reads : (env : Environment) (start : Option Start) (y : State) (es : List Event) → Goes (opening env start) es (Ok (Go y)) → IsReadingState y
+opening-reads : (env : Environment) (start : Option Start) (y : RunState) (es : List Event) → Goes (opening env start) es (Ok (Go y)) → IsReadingState y
 opening-reads env start y es goes = goes-ends ReadsNext (opening env start) es (Go y) (opening-next env start) goes
 
 -- a run from its opening tells why it opened no folder

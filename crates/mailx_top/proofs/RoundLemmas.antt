@@ -12,62 +12,63 @@ use Rattle.session_play.specs.Acts.{AllActs, Threads, may_load, loads_nothing}
 use Rattle.session_play.specs.Causes.{NextFrom}
 use Rattle.mailx_vars.specs.Names.{is_short_name}
 use Rattle.command_desk.specs.declared.desk.Desk.{Desk}
+use Rattle.mailx_session.specs.declared.state.SessionState.{SessionState}
 use Rattle.mailx_session.specs.declared.status.Status.{Status}
-use Rattle.mailx_session.specs.Openings.{first_desk, opened}
+use Rattle.mailx_session.specs.Openings.{with_opened}
 use Rattle.mailx_session.specs.Sessions.{line_play}
 use Rattle.mailx_top.specs.declared.environment.Environment.{Environment}
 use Rattle.mailx_top.specs.Words.{Start}
-use Rattle.mailx_top.specs.Meaning.{State, Opening, Reading, round, opening, loaded, with_list, greeted, turn, with_input, prompted, input_of, is_opening, message_limit}
+use Rattle.mailx_top.specs.Meaning.{RunState, first_of, Opening, Reading, round, opening, loaded, with_list, greeted, turn, with_input, prompted, input_of, is_opening, message_limit}
 use Rattle.session_play.proofs.ShapeLemmas.{bind-acts, bind-threads}
 use Rattle.mailx_top.proofs.LineLemmas.{line-acts, line-threads}
 
-abbrev On : Input → Play (Next State Status) → Type 0
+abbrev On : Input → Play (Next RunState Status) → Type 0
 On i p = Threads (NextFrom input_of) i p
 
-both : (b : Bool) (p q : Play (Next State Status)) (i : Input) → On i p → On i q → On i (if b then p else q)
+both : (b : Bool) (p q : Play (Next RunState Status)) (i : Input) → On i p → On i q → On i (if b then p else q)
 both true p q i x y = x
 both false p q i x y = y
 
-threads-greeted : (quiet : Bool) (desk : Desk) → On no_input (greeted quiet desk)
-threads-greeted true desk = refl
-threads-greeted false desk = (tt, λ u. refl)
+threads-greeted : (quiet : Bool) (s : SessionState) → On no_input (greeted quiet s)
+threads-greeted true s = refl
+threads-greeted false s = (tt, λ u. refl)
 
-threads-list : (desk : Desk) (start : Start) (bytes : List ℕ) (l : Option (List (List ℕ))) → On no_input (with_list desk start bytes l)
-threads-list desk start bytes None = (tt, λ u. tt)
-threads-list desk start bytes (Some texts) =
-    both (nat_lt message_limit (length texts)) _ _ no_input (tt, λ u. tt) (tt, λ rows. threads-greeted start.quiet (opened desk start.file bytes rows))
+threads-list : (s : SessionState) (start : Start) (bytes : List ℕ) (l : Option (List (List ℕ))) → On no_input (with_list s start bytes l)
+threads-list s start bytes None = (tt, λ u. tt)
+threads-list s start bytes (Some texts) =
+    both (nat_lt message_limit (length texts)) _ _ no_input (tt, λ u. tt) (tt, λ rows. threads-greeted start.quiet (with_opened s start.file bytes rows))
 
-threads-loaded : (desk : Desk) (start : Start) (f : Found) → On no_input (loaded desk start f)
-threads-loaded desk start (found.Bytes bytes true) = (tt, λ u. tt)
-threads-loaded desk start (found.Bytes None false) = (tt, λ u. tt)
-threads-loaded desk start (found.Bytes (Some bytes) false) = threads-list desk start bytes (list_of bytes)
-threads-loaded desk start (found.TooLarge n) = (tt, λ u. tt)
+threads-loaded : (s : SessionState) (start : Start) (f : Found) → On no_input (loaded s start f)
+threads-loaded s start (found.Bytes bytes true) = (tt, λ u. tt)
+threads-loaded s start (found.Bytes None false) = (tt, λ u. tt)
+threads-loaded s start (found.Bytes (Some bytes) false) = threads-list s start bytes (list_of bytes)
+threads-loaded s start (found.TooLarge n) = (tt, λ u. tt)
 
 threads-opening : (env : Environment) (start : Option Start) → On no_input (opening env start)
 threads-opening env None = (tt, λ u. tt)
-threads-opening env (Some start) = both (is_short_name start.file) _ _ no_input (tt, threads-loaded (first_desk env.pairs) start) (tt, λ u. tt)
+threads-opening env (Some start) = both (is_short_name start.file) _ _ no_input (tt, threads-loaded (first_of env) start) (tt, λ u. tt)
 
-threads-with : (i : Input) (n : Next Desk Status) (j : Input) → j ≡ i → On j (with_input i n)
-threads-with i (Go desk) j same = same
+threads-with : (i : Input) (n : Next SessionState Status) (j : Input) → j ≡ i → On j (with_input i n)
+threads-with i (Go s) j same = same
 threads-with i (Last e) j same = tt
 
-threads-turn : (desk : Desk) (j : Input) (line : Option (List ℕ)) → On j (turn desk j line)
-threads-turn desk j None = tt
-threads-turn desk j (Some line) =
-    bind-threads (λ (n : Next Desk Status) (k : Input). k ≡ j) (NextFrom input_of) (line_play desk line) (with_input j) j (line-threads desk line j) (threads-with j)
+threads-turn : (s : SessionState) (j : Input) (line : Option (List ℕ)) → On j (turn s j line)
+threads-turn s j None = tt
+threads-turn s j (Some line) =
+    bind-threads (λ (n : Next SessionState Status) (k : Input). k ≡ j) (NextFrom input_of) (line_play s line) (with_input j) j (line-threads s line j) (threads-with j)
 
 threads-prompted : (terminal : Bool) (desk : Desk) (i : Input) → Threads (λ (u : Unit {0}) (j : Input). j ≡ i) i (prompted terminal desk)
 threads-prompted true desk i = (tt, λ u. refl)
 threads-prompted false desk i = refl
 
-pub threads-round : (env : Environment) (x : State) → On (input_of x) (round env x)
+pub threads-round : (env : Environment) (x : RunState) → On (input_of x) (round env x)
 threads-round env (Opening start) = threads-opening env start
-threads-round env (Reading desk i) =
-    bind-threads (λ (u : Unit {0}) (j : Input). j ≡ i) (NextFrom input_of) (prompted env.terminal desk) (λ u. Ask (Line i) (λ a. turn desk a.1 a.0)) i (threads-prompted env.terminal desk i)
-    (λ u j same. (sym same, λ a. threads-turn desk a.1 a.0))
+threads-round env (Reading s i) =
+    bind-threads (λ (u : Unit {0}) (j : Input). j ≡ i) (NextFrom input_of) (prompted s.terminal s.desk) (λ u. Ask (Line i) (λ a. turn s a.1 a.0)) i (threads-prompted s.terminal s.desk i)
+    (λ u j same. (sym same, λ a. threads-turn s a.1 a.0))
 
 -- acts that pass a test on either side
-either : (test : Act → Bool) (b : Bool) (p q : Play (Next State Status)) → AllActs test p → AllActs test q → AllActs test (if b then p else q)
+either : (test : Act → Bool) (b : Bool) (p q : Play (Next RunState Status)) → AllActs test p → AllActs test q → AllActs test (if b then p else q)
 either test true p q x y = x
 either test false p q x y = y
 
@@ -86,44 +87,44 @@ loads-less : {R : Type 0} (b : Bool) (p : Play R) → AllActs loads_nothing p �
 loads-less b (Ret r) all = tt
 loads-less b (Ask act go) all = (may-all b act all.0, λ a. loads-less b (go a) (all.1 a))
 
-greeted-acts : (quiet : Bool) (desk : Desk) → AllActs loads_nothing (greeted quiet desk)
-greeted-acts true desk = tt
-greeted-acts false desk = (refl, λ u. tt)
+greeted-acts : (quiet : Bool) (s : SessionState) → AllActs loads_nothing (greeted quiet s)
+greeted-acts true s = tt
+greeted-acts false s = (refl, λ u. tt)
 
-list-acts : (desk : Desk) (start : Start) (bytes : List ℕ) (l : Option (List (List ℕ))) → AllActs loads_nothing (with_list desk start bytes l)
-list-acts desk start bytes None = (refl, λ u. tt)
-list-acts desk start bytes (Some texts) =
-    either loads_nothing (nat_lt message_limit (length texts)) _ _ (refl, λ u. tt) (refl, λ rows. greeted-acts start.quiet (opened desk start.file bytes rows))
+list-acts : (s : SessionState) (start : Start) (bytes : List ℕ) (l : Option (List (List ℕ))) → AllActs loads_nothing (with_list s start bytes l)
+list-acts s start bytes None = (refl, λ u. tt)
+list-acts s start bytes (Some texts) =
+    either loads_nothing (nat_lt message_limit (length texts)) _ _ (refl, λ u. tt) (refl, λ rows. greeted-acts start.quiet (with_opened s start.file bytes rows))
 
-pub loaded-acts : (desk : Desk) (start : Start) (f : Found) → AllActs loads_nothing (loaded desk start f)
-loaded-acts desk start (found.Bytes bytes true) = (refl, λ u. tt)
-loaded-acts desk start (found.Bytes None false) = (refl, λ u. tt)
-loaded-acts desk start (found.Bytes (Some bytes) false) = list-acts desk start bytes (list_of bytes)
-loaded-acts desk start (found.TooLarge n) = (refl, λ u. tt)
+pub loaded-acts : (s : SessionState) (start : Start) (f : Found) → AllActs loads_nothing (loaded s start f)
+loaded-acts s start (found.Bytes bytes true) = (refl, λ u. tt)
+loaded-acts s start (found.Bytes None false) = (refl, λ u. tt)
+loaded-acts s start (found.Bytes (Some bytes) false) = list-acts s start bytes (list_of bytes)
+loaded-acts s start (found.TooLarge n) = (refl, λ u. tt)
 
 opening-acts : (env : Environment) (start : Option Start) → AllActs (may_load true) (opening env start)
 opening-acts env None = (refl, λ u. tt)
 opening-acts env (Some start) =
-    let desk = first_desk env.pairs in
-    either (may_load true) (is_short_name start.file) _ _ (refl, λ f. loads-less true (loaded desk start f) (loaded-acts desk start f)) (refl, λ u. tt)
+    let s = first_of env in
+    either (may_load true) (is_short_name start.file) _ _ (refl, λ f. loads-less true (loaded s start f) (loaded-acts s start f)) (refl, λ u. tt)
 
-with-acts : (i : Input) (n : Next Desk Status) → AllActs loads_nothing (with_input i n)
-with-acts i (Go desk) = tt
+with-acts : (i : Input) (n : Next SessionState Status) → AllActs loads_nothing (with_input i n)
+with-acts i (Go s) = tt
 with-acts i (Last e) = tt
 
-turn-acts : (desk : Desk) (j : Input) (line : Option (List ℕ)) → AllActs loads_nothing (turn desk j line)
-turn-acts desk j None = tt
-turn-acts desk j (Some line) = bind-acts loads_nothing (line_play desk line) (with_input j) (line-acts desk line) (with-acts j)
+turn-acts : (s : SessionState) (j : Input) (line : Option (List ℕ)) → AllActs loads_nothing (turn s j line)
+turn-acts s j None = tt
+turn-acts s j (Some line) = bind-acts loads_nothing (line_play s line) (with_input j) (line-acts s line) (with-acts j)
 
 prompted-acts : (terminal : Bool) (desk : Desk) → AllActs loads_nothing (prompted terminal desk)
 prompted-acts true desk = (refl, λ u. tt)
 prompted-acts false desk = tt
 
-pub reading-acts : (env : Environment) (desk : Desk) (i : Input) → AllActs loads_nothing (round env (Reading desk i))
-reading-acts env desk i =
-    bind-acts loads_nothing (prompted env.terminal desk) (λ u. Ask (Line i) (λ a. turn desk a.1 a.0)) (prompted-acts env.terminal desk) (λ u. (refl, λ a. turn-acts desk a.1 a.0))
+pub reading-acts : (env : Environment) (s : SessionState) (i : Input) → AllActs loads_nothing (round env (Reading s i))
+reading-acts env s i =
+    bind-acts loads_nothing (prompted s.terminal s.desk) (λ u. Ask (Line i) (λ a. turn s a.1 a.0)) (prompted-acts s.terminal s.desk) (λ u. (refl, λ a. turn-acts s a.1 a.0))
 
 -- where a folder is opened each load that fails cuts the run off, and elsewhere none does
-pub loads-round : (env : Environment) (x : State) → AllActs (may_load (is_opening x)) (round env x)
+pub loads-round : (env : Environment) (x : RunState) → AllActs (may_load (is_opening x)) (round env x)
 loads-round env (Opening start) = opening-acts env start
-loads-round env (Reading desk i) = loads-less false (round env (Reading desk i)) (reading-acts env desk i)
+loads-round env (Reading s i) = loads-less false (round env (Reading s i)) (reading-acts env s i)

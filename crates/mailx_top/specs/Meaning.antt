@@ -14,96 +14,105 @@ use Rattle.session_play.specs.Play.{Play, Ret, Ask, Line, Say, Read, Know, Next,
 use Rattle.mailx_vars.specs.Names.{is_short_name}
 use Rattle.mailx_vars.specs.Settings.{value_of}
 use Rattle.command_desk.specs.declared.desk.Desk.{Desk}
+use Rattle.mailx_session.specs.declared.state.SessionState.{SessionState}
 use Rattle.mailx_session.specs.declared.status.Status.{Status}
 use Rattle.mailx_session.specs.declared.status.Status.TheVariants as status
-use Rattle.mailx_session.specs.Openings.{first_desk, opened, greeting}
+use Rattle.mailx_session.specs.Openings.{first_state, with_opened, greeting}
 use Rattle.mailx_session.specs.Sessions.{line_play}
 use Rattle.mailx_top.specs.declared.environment.Environment.{Environment}
 use Rattle.mailx_top.specs.Words.{Start}
 
 -- where a run is between two rounds: at the opening of a folder, if one is named, or before a line
-pub data State : Type 0 where
-  Opening : Option Start → State
-  Reading : Desk → Input → State
+pub data RunState : Type 0 where
+  Opening : Option Start → RunState
+  Reading : SessionState → Input → RunState
 
 -- the state after a line, whose input is left, or the end
-abbrev pub with_input : Input → Next Desk Status → Play (Next State Status)
-with_input j (Go desk) = Ret (Go (Reading desk j))
+abbrev pub with_input : Input → Next SessionState Status → Play (Next RunState Status)
+with_input j (Go s) = Ret (Go (Reading s j))
 with_input j (Last e) = Ret (Last e)
 
 -- what a line does; without one the run ends
-abbrev pub turn : Desk → Input → Option (List ℕ) → Play (Next State Status)
-turn desk j None = Ret (Last status.Done)
-turn desk j (Some line) = bind (line_play desk line) (with_input j)
+abbrev pub turn : SessionState → Input → Option (List ℕ) → Play (Next RunState Status)
+turn s j None = Ret (Last status.Done)
+turn s j (Some line) = bind (line_play s line) (with_input j)
 
 -- what is said before a line is asked for: on a terminal the value of `prompt`
 abbrev pub prompted : Bool → Desk → Play (Unit {0})
 prompted true desk = Ask (Say (unwrap_or (value_of desk.vars (codes "prompt")) [])) Ret
 prompted false desk = Ret tt
 
-abbrev pub says_and_ends : List ℕ → Status → Play (Next State Status)
+-- the next line is asked for, and carried out
+abbrev pub next_turn : SessionState → Input → Play (Next RunState Status)
+next_turn s i = bind (prompted s.terminal s.desk) (λ u. Ask (Line i) (λ a. turn s a.1 a.0))
+
+abbrev pub says_and_ends : List ℕ → Status → Play (Next RunState Status)
 says_and_ends text e = Ask (Say text) (λ _. Ret (Last e))
 
 -- the first line is read, after a greeting unless it is to be quiet
-abbrev pub greeted : Bool → Desk → Play (Next State Status)
-greeted true desk = Ret (Go (Reading desk no_input))
-greeted false desk = Ask (Say (greeting desk)) (λ _. Ret (Go (Reading desk no_input)))
+abbrev pub greeted : Bool → SessionState → Play (Next RunState Status)
+greeted true s = Ret (Go (Reading s no_input))
+greeted false s = Ask (Say (greeting s.desk)) (λ _. Ret (Go (Reading s no_input)))
 
 -- the most messages of a folder
 abbrev pub message_limit : ℕ
 message_limit = 1000000
 
 -- a folder with these texts is opened
-abbrev pub begun : Desk → Start → List ℕ → List (List ℕ) → Play (Next State Status)
-begun desk start bytes texts = Ask (Know texts) (λ rows. greeted start.quiet (opened desk start.file bytes rows))
+abbrev pub begun : SessionState → Start → List ℕ → List (List ℕ) → Play (Next RunState Status)
+begun s start bytes texts = Ask (Know texts) (λ rows. greeted start.quiet (with_opened s start.file bytes rows))
 
 -- a folder of these bytes is opened, where its texts are defined and not too many
-abbrev pub with_list : Desk → Start → List ℕ → Option (List (List ℕ)) → Play (Next State Status)
-with_list desk start bytes None = says_and_ends (with_feed (start.file ++ codes ": not a mailbox")) status.NoFolder
-with_list desk start bytes (Some texts) =
+abbrev pub with_list : SessionState → Start → List ℕ → Option (List (List ℕ)) → Play (Next RunState Status)
+with_list s start bytes None = says_and_ends (with_feed (start.file ++ codes ": not a mailbox")) status.NoFolder
+with_list s start bytes (Some texts) =
     if nat_lt message_limit (length texts)
     then says_and_ends (with_feed (start.file ++ codes ": too many messages")) status.NoFolder
-    else begun desk start bytes texts
+    else begun s start bytes texts
 
 -- what follows the load of the folder
-abbrev pub loaded : Desk → Start → Found → Play (Next State Status)
-loaded desk start (found.Bytes bytes true) = says_and_ends (with_feed (start.file ++ codes ": busy")) status.Refused
-loaded desk start (found.Bytes None false) = says_and_ends (with_feed (start.file ++ codes ": no such file")) status.NoFolder
-loaded desk start (found.Bytes (Some bytes) false) = with_list desk start bytes (list_of bytes)
-loaded desk start (found.TooLarge n) = says_and_ends (with_feed (start.file ++ codes ": too large")) status.NoFolder
+abbrev pub loaded : SessionState → Start → Found → Play (Next RunState Status)
+loaded s start (found.Bytes bytes true) = says_and_ends (with_feed (start.file ++ codes ": busy")) status.Refused
+loaded s start (found.Bytes None false) = says_and_ends (with_feed (start.file ++ codes ": no such file")) status.NoFolder
+loaded s start (found.Bytes (Some bytes) false) = with_list s start bytes (list_of bytes)
+loaded s start (found.TooLarge n) = says_and_ends (with_feed (start.file ++ codes ": too large")) status.NoFolder
 
 -- the folder is loaded, where its name can be a file's
-abbrev pub starting : Desk → Start → Play (Next State Status)
-starting desk start =
-    if is_short_name start.file then Ask (Read start.file) (loaded desk start)
+abbrev pub starting : SessionState → Start → Play (Next RunState Status)
+starting s start =
+    if is_short_name start.file then Ask (Read start.file) (loaded s start)
     else says_and_ends (with_feed (start.file ++ codes ": bad name")) status.NoFolder
 
 -- the usage
 abbrev pub usage : List ℕ
 usage = with_feed (codes "usage: mailx [-eHiNnF] [-f [file]] [-u user] [-s subject] [-b names] [-c names] [address...]")
 
--- a run starts on its first desk, or its words are refused
-abbrev pub opening : Environment → Option Start → Play (Next State Status)
+-- the state of a session that begins in an environment
+abbrev pub first_of : Environment → SessionState
+first_of env = first_state env.pairs env.terminal env.token
+
+-- a run starts in its first state, or its words are refused
+abbrev pub opening : Environment → Option Start → Play (Next RunState Status)
 opening env None = says_and_ends usage status.Usage
-opening env (Some start) = starting (first_desk env.pairs) start
+opening env (Some start) = starting (first_of env) start
 
 -- what a run in this environment does from a state on, to its next state or its end
-abbrev pub round : Environment → State → Play (Next State Status)
+abbrev pub round : Environment → RunState → Play (Next RunState Status)
 round env (Opening start) = opening env start
-round env (Reading desk i) = bind (prompted env.terminal desk) (λ u. Ask (Line i) (λ a. turn desk a.1 a.0))
+round env (Reading s i) = next_turn s i
 
 -- a folder is to be opened
-abbrev pub is_opening : State → Bool
+abbrev pub is_opening : RunState → Bool
 is_opening (Opening start) = true
-is_opening (Reading desk i) = false
+is_opening (Reading s i) = false
 
 -- the input that a state begins with
-abbrev pub input_of : State → Input
+abbrev pub input_of : RunState → Input
 input_of (Opening start) = no_input
-input_of (Reading desk i) = i
+input_of (Reading s i) = i
 
 -- the state after a line, or the end
-abbrev pub next_state : Desk → Input → Result (Option Status) Stop → Result (Next State Status) Stop
-next_state desk j (Ok None) = Ok (Go (Reading desk j))
-next_state desk j (Ok (Some e)) = Ok (Last e)
-next_state desk j (Err cause) = Err cause
+abbrev pub next_state : SessionState → Input → Result (Option Status) Stop → Result (Next RunState Status) Stop
+next_state s j (Ok None) = Ok (Go (Reading s j))
+next_state s j (Ok (Some e)) = Ok (Last e)
+next_state s j (Err cause) = Err cause

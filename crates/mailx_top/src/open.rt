@@ -6,7 +6,7 @@ ghost use Rattle.mbox_scan.specs.Mailbox.{texts_of, list_of};
 ghost use Rattle.session_play.specs.Input.{no_input};
 ghost use Rattle.session_play.specs.Play.{Play, Ask, Read, Goes, Loop, Caused};
 ghost use Rattle.mailx_vars.specs.Names.{is_short_name};
-ghost use Rattle.command_desk.specs.declared.desk.Desk.{Desk};
+ghost use Rattle.mailx_session.specs.declared.state.SessionState.{SessionState};
 ghost use Rattle.mailx_session.specs.Openings.{Opens};
 ghost use Rattle.mailx_top.specs.declared.environment.Environment.{Environment};
 ghost use Rattle.mailx_top.specs.Meaning.{starting, loaded, with_list, begun, greeted, says_and_ends, round, Opening, next_state};
@@ -41,8 +41,8 @@ pub(crate) fn end_with_usage<H: Host>(host: &mut H) -> Result<Status, Stop>
 
 // Says a line and ends.
 fn end_with<H: Host>(host: &mut H, line: &[u8], end: Status) -> Result<Option<Status>, Stop>
-    ensures ran { (desk : Desk) → Ran H.start H.told H.counts host.old host.new
-        (λ es. Goes (says_and_ends line.now end) es (next_state desk no_input result)) }
+    ensures ran { (s : SessionState) → Ran H.start H.told H.counts host.old host.new
+        (λ es. Goes (says_and_ends line.now end) es (next_state s no_input result)) }
     ensures cause { Caused (H.counts host.old) (H.counts host.new) result }
     ensures same_end { IfOk result (λ e. e ≡ Some end) }
     ensures ends { EndsOrOpens end result }
@@ -70,8 +70,8 @@ fn end_at_file<H: Host>(
     fault: &[u8],
     end: Status,
 ) -> Result<Option<Status>, Stop>
-    ensures ran { (desk : Desk) → Ran H.start H.told H.counts host.old host.new
-        (λ es. Goes (says_and_ends (with_feed (name.now ++ fault.now)) end) es (next_state desk no_input result)) }
+    ensures ran { (s : SessionState) → Ran H.start H.told H.counts host.old host.new
+        (λ es. Goes (says_and_ends (with_feed (name.now ++ fault.now)) end) es (next_state s no_input result)) }
     ensures cause { Caused (H.counts host.old) (H.counts host.new) result }
     ensures same_end { IfOk result (λ e. e ≡ Some end) }
     ensures ends { EndsOrOpens end result }

@@ -5,9 +5,9 @@ ghost use Rattle.host_port.specs.Ran.{Ran};
 ghost use Rattle.session_play.specs.Input.{Input, left, no_input};
 ghost use Rattle.session_play.specs.Play.{Play, Ask, Line, Goes, Loop, Caused};
 ghost use Rattle.mailx_session.specs.Sessions.{stop_of};
-ghost use Rattle.mailx_top.specs.Meaning.{round, State, Reading, next_state, turn, prompted};
+ghost use Rattle.mailx_top.specs.declared.environment.Environment.{Environment};
+ghost use Rattle.mailx_top.specs.Meaning.{round, Reading, next_state, turn, next_turn, prompted};
 
-use crate::Environment;
 use host_port::Host;
 use mailx_session::{Flow, RunError, Session, Status};
 use session_play::{Reader, Stop, say};
@@ -15,7 +15,7 @@ use std::alloc::Global;
 
 // The value of `prompt`; one that is unset counts as empty.
 fn prompt(session: &Session) -> &[u8]
-    ensures { result.now ≡ unwrap_or (value_of session.now.vars (codes "prompt")) [] }
+    ensures { result.now ≡ unwrap_or (value_of session.now.desk.vars (codes "prompt")) [] }
 {
     match session.desk().vars.get(b"prompt") {
         Some(prompt) => prompt,
@@ -24,11 +24,12 @@ fn prompt(session: &Session) -> &[u8]
 }
 
 // Says the prompt on a terminal.
-fn say_prompt<H: Host>(host: &mut H, terminal: bool, session: &Session) -> Result<(), Stop>
-    ensures ran { Ran H.start H.told H.counts host.old host.new (λ es. Goes (prompted terminal session.now) es result) }
+fn say_prompt<H: Host>(host: &mut H, session: &Session) -> Result<(), Stop>
+    ensures ran { Ran H.start H.told H.counts host.old host.new
+        (λ es. Goes (prompted session.now.terminal session.now.desk) es result) }
     ensures cause { Caused (H.counts host.old) (H.counts host.new) result }
 {
-    if terminal {
+    if session.state().terminal {
         say(host, prompt(session))
     } else {
         Ok(())
@@ -85,17 +86,16 @@ fn next_line<H: Host>(
 fn one_line<H: Host>(
     alloc: Global,
     host: &mut H,
-    env: &Environment,
     reader: &mut Reader,
     session: &mut Session,
 ) -> Result<Option<Status>, Stop>
     ensures ran { Ran H.start H.told H.counts host.old host.new
-        (λ es. Goes (round env.now (Reading session.old reader.old)) es (next_state session.new reader.new result)) }
+        (λ es. Goes (next_turn session.old reader.old) es (next_state session.new reader.new result)) }
     ensures cause { Caused (H.counts host.old) (H.counts host.new) result }
     ensures progress { IfOk result (λ end. IfNone end (left reader.new < left reader.old)) }
     ensures done { IfOk result (λ end. IfSome end (λ e. e ≡ Status.Done)) }
 {
-    match say_prompt(host, env.terminal, session) {
+    match say_prompt(host, session) {
         Ok(()) => next_line(alloc, host, reader, session),
         Err(cause) => Err(cause),
     }
@@ -105,17 +105,16 @@ fn one_line<H: Host>(
 pub(crate) fn lines<H: Host>(
     alloc: Global,
     host: &mut H,
-    env: &Environment,
     session: &mut Session,
 ) -> Result<Status, Stop>
-    ensures ran { Ran H.start H.told H.counts host.old host.new
-        (λ es. Loop (round env.now) (Reading session.old no_input) es result) }
+    ensures ran { (env : Environment) → Ran H.start H.told H.counts host.old host.new
+        (λ es. Loop (round env) (Reading session.old no_input) es result) }
     ensures cause { Caused (H.counts host.old) (H.counts host.new) result }
     ensures done { IfOk result (λ e. e ≡ Status.Done) }
 {
     let mut reader = Reader::new(alloc);
     'lines: loop {
-        if let Some(end) = one_line(alloc, host, env, &mut reader, session)? {
+        if let Some(end) = one_line(alloc, host, &mut reader, session)? {
             return Ok(end);
         }
     }

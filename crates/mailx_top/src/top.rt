@@ -8,8 +8,7 @@ ghost use Rattle.host_port.specs.declared.event.Event.{Event};
 ghost use Rattle.session_play.specs.Play.{Play, Loop, Caused};
 ghost use Rattle.mailx_vars.specs.Environment.{knows_user};
 ghost use Rattle.mailx_vars.specs.Names.{is_short_name};
-ghost use Rattle.mailx_session.specs.Openings.{first_desk};
-ghost use Rattle.mailx_top.specs.Meaning.{round, Opening};
+ghost use Rattle.mailx_top.specs.Meaning.{round, first_of, Opening};
 ghost use Rattle.mailx_top.specs.Runs.{IsRun, SaysLast};
 ghost use Rattle.mailx_top.specs.Statuses.{line_at_stop};
 ghost use Rattle.mailx_session.specs.Statuses.{IsEnd};
@@ -37,7 +36,7 @@ fn play_session<H: Host>(
     start: Wanted<'_>,
     session: &mut Session,
 ) -> Result<Status, Stop>
-    requires { session.old ≡ first_desk env.now.pairs }
+    requires { session.old ≡ first_of env.now }
     ensures ran { Ran H.start H.told H.counts host.old host.new
         (λ es. Loop (round env.now) (Opening (Some (start_from start.entry))) es result) }
     ensures cause { Caused (H.counts host.old) (H.counts host.new) result }
@@ -45,7 +44,7 @@ fn play_session<H: Host>(
     ensures bad_name { is_short_name start.entry.file.now ≡ false → EndsOr Status.NoFolder result }
 {
     match open(alloc, host, start, session) {
-        Ok(None) => lines(alloc, host, env, session),
+        Ok(None) => lines(alloc, host, session),
         Ok(Some(end)) => Ok(end),
         Err(cause) => Err(cause),
     }
@@ -64,7 +63,7 @@ fn start_session<H: Host>(
     ensures plain { IfOk result (λ e. IsEnd e) }
     ensures bad_name { is_short_name start.entry.file.now ≡ false → EndsOr Status.NoFolder result }
 {
-    match Session::new(alloc, env.pairs.items()) {
+    match Session::new(alloc, env.pairs.items(), env.terminal, env.token) {
         Ok(mut session) => play_session(alloc, host, env, start, &mut session),
         Err(Memory) => Err(Stop::Memory),
     }

@@ -4,7 +4,7 @@ use Rattle.mailx_session.proofs.AskLemmas.{asked-say, asked-exit}
 use Rattle.mailx_session.proofs.asks.do_ask.Goals as goal
 
 pub returns-in-Say-clause-ran : goal.returns-in-Say-clause-ran
-returns-in-Say-clause-ran g c = λ desk. rw (asked-say desk c.args.ask.now _ c.in-Say.is) (c.say_line.ensures.ran desk)
+returns-in-Say-clause-ran g c = rw (asked-say c.args.state.now c.args.ask.now _ c.in-Say.is) (c.say_line.ensures.ran c.args.state.now)
 
 pub returns-in-Exit-clause-ran : goal.returns-in-Exit-clause-ran
-returns-in-Exit-clause-ran g c = λ desk. rw (asked-exit desk c.args.ask.now c.in-Exit.is) (Ran-none (refl, inl refl))
+returns-in-Exit-clause-ran g c = rw (asked-exit c.args.state.now c.args.ask.now c.in-Exit.is) (Ran-none (refl, inl refl))

@@ -9,34 +9,40 @@ use Rattle.mailx_session.proofs.asks.do_asks.Goals as goal
 pub loop-ask-init : goal.loop-ask-init
 loop-ask-init g c = record {
   fall = never-fall-none _;
-  ran = λ desk. Ran-none (leads-none (in_order asked desk c.args.asks.now));
+  ran = Ran-none (leads-none (in_order asked c.args.state.now c.args.asks.now));
 }
 
 pub loop-ask-preserved : goal.loop-ask-preserved
 loop-ask-preserved g c = record {
   fall = never-fall-then _ _ _ c.loop-ask.invariant.fall c.in-Ok-On.ensures.fall;
-  ran = λ desk.
-      Ran-then (asked-on asked desk desk desk c.args.asks.now c.loop-ask.ask-index c.ask-item.result c.ask-item.result c.loop-ask-test.true (sym c.ask-item.is))
-      (c.loop-ask.invariant.ran desk) (rw c.in-Ok-On.field-0-is at c.in-Ok-On.ensures.ran desk);
+  ran =
+      let s = c.args.state.now in
+      Ran-then (asked-on asked s s s c.args.asks.now c.loop-ask.ask-index c.ask-item.result c.ask-item.result c.loop-ask-test.true (sym c.ask-item.is))
+      c.loop-ask.invariant.ran (rw c.in-Ok-On.field-0-is at c.in-Ok-On.ensures.ran);
 }
 
 pub returns-in-Ok-Refused-clause-ran : goal.returns-in-Ok-Refused-clause-ran
-returns-in-Ok-Refused-clause-ran g c = λ desk.
-    Ran-then (asked-refused asked desk desk _ c.args.asks.now c.loop-ask.ask-index c.ask-item.result c.ask-item.result c.loop-ask-test.true (sym c.ask-item.is))
-    (c.loop-ask.invariant.ran desk) (rw c.in-Ok-Refused.field-0-is at c.in-Ok-Refused.ensures.ran desk)
+returns-in-Ok-Refused-clause-ran g c =
+    let s = c.args.state.now in
+    Ran-then (asked-refused asked s s _ c.args.asks.now c.loop-ask.ask-index c.ask-item.result c.ask-item.result c.loop-ask-test.true (sym c.ask-item.is))
+    c.loop-ask.invariant.ran (rw c.in-Ok-Refused.field-0-is at c.in-Ok-Refused.ensures.ran)
 
 pub returns-in-Ok-Ended-clause-ran : goal.returns-in-Ok-Ended-clause-ran
-returns-in-Ok-Ended-clause-ran g c = λ desk.
-    Ran-then (asked-ended asked desk desk _ c.args.asks.now c.loop-ask.ask-index c.ask-item.result c.ask-item.result c.loop-ask-test.true (sym c.ask-item.is))
-    (c.loop-ask.invariant.ran desk) (rw c.in-Ok-Ended.field-0-is at c.in-Ok-Ended.ensures.ran desk)
+returns-in-Ok-Ended-clause-ran g c =
+    let s = c.args.state.now in
+    Ran-then (asked-ended asked s s _ c.args.asks.now c.loop-ask.ask-index c.ask-item.result c.ask-item.result c.loop-ask-test.true (sym c.ask-item.is))
+    c.loop-ask.invariant.ran (rw c.in-Ok-Ended.field-0-is at c.in-Ok-Ended.ensures.ran)
 
 pub returns-in-Err-clause-ran : goal.returns-in-Err-clause-ran
-returns-in-Err-clause-ran g c = λ desk.
-    Ran-then (asked-cut asked desk desk _ c.args.asks.now c.loop-ask.ask-index c.ask-item.result c.ask-item.result c.loop-ask-test.true (sym c.ask-item.is))
-    (c.loop-ask.invariant.ran desk) (c.in-Err.ensures.ran desk)
+returns-in-Err-clause-ran g c =
+    let s = c.args.state.now in
+    Ran-then (asked-cut asked s s _ c.args.asks.now c.loop-ask.ask-index c.ask-item.result c.ask-item.result c.loop-ask-test.true (sym c.ask-item.is))
+    c.loop-ask.invariant.ran c.in-Err.ensures.ran
 
 pub returns-clause-ran : goal.returns-clause-ran
-returns-clause-ran g c = λ desk. Ran-map (asked-all asked desk desk c.args.asks.now c.loop-ask.ask-index c.loop-ask-test.false) (c.loop-ask.invariant.ran desk)
+returns-clause-ran g c =
+    let s = c.args.state.now in
+    Ran-map (asked-all asked s s c.args.asks.now c.loop-ask.ask-index c.loop-ask-test.false) c.loop-ask.invariant.ran
 
 pub returns-in-Err-clause-cause : goal.returns-in-Err-clause-cause
 returns-in-Err-clause-cause g c = caused-later (g.H.Host.counts c.args.host.now) (g.H.Host.counts c.loop-ask.host) (g.H.Host.counts c.do_ask.new.host) c.in-Err.error c.loop-ask.invariant.fall c.in-Err.ensures.cause

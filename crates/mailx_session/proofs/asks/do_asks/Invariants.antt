@@ -1,6 +1,5 @@
 use Rattle.host_port.specs.Calls.{NeverFall}
 use Rattle.host_port.specs.Ran.{Ran}
-use Rattle.command_desk.specs.declared.desk.Desk.{Desk}
 use Rattle.session_play.proofs.LeadLemmas.{LeftAt}
 use Rattle.mailx_session.specs.Sessions.{asked}
 use Rattle.mailx_session.proofs.asks.do_asks.Given as goal
@@ -8,5 +7,5 @@ use Rattle.mailx_session.proofs.asks.do_asks.Given as goal
 abbrev pub invariant-loop-ask : goal.invariant-loop-ask
 invariant-loop-ask g l = record {
   fall : NeverFall (g.H.Host.counts l.fn.host) (g.H.Host.counts l.host);
-  ran : (desk : Desk) → Ran g.H.Host.start g.H.Host.told g.H.Host.counts l.fn.host l.host (LeftAt asked desk l.asks l.ask-index desk);
+  ran : Ran g.H.Host.start g.H.Host.told g.H.Host.counts l.fn.host l.host (LeftAt asked l.state l.asks l.ask-index l.state);
 }

@@ -6,9 +6,9 @@ use Rattle.session_play.proofs.PlayLemmas.{goes-as, goes-cut}
 use Rattle.mailx_session.proofs.asks.say_line.Goals as goal
 
 pub returns-in-Ok-clause-ran : goal.returns-in-Ok-clause-ran
-returns-in-Ok-clause-ran g c = λ desk.
-    Ran-map (λ es went. goes-as (Ask (Say c.args.bytes.now) Ret) (λ u. Ret (On desk)) tt (On desk) es refl went) (rw c.bytes.ensures at c.in-Ok.ensures.ran)
+returns-in-Ok-clause-ran g c = λ s.
+    Ran-map (λ es went. goes-as (Ask (Say c.args.bytes.now) Ret) (λ u. Ret (On s)) tt (On s) es refl went) (rw c.bytes.ensures at c.in-Ok.ensures.ran)
 
 pub returns-in-Err-clause-ran : goal.returns-in-Err-clause-ran
-returns-in-Err-clause-ran g c = λ desk.
-    Ran-map (λ es went. goes-cut (Ask (Say c.args.bytes.now) Ret) (λ u. Ret (On desk)) _ es went) (rw c.bytes.ensures at c.in-Err.ensures.ran)
+returns-in-Err-clause-ran g c = λ s.
+    Ran-map (λ es went. goes-cut (Ask (Say c.args.bytes.now) Ret) (λ u. Ret (On s)) _ es went) (rw c.bytes.ensures at c.in-Err.ensures.ran)

@@ -1,15 +1,28 @@
+use Rattle.std.proofs.Common.{[], refl}
 use Rattle.std.proofs.lemmas.Result.{err_from_is_err_and}
-use Rattle.host_port.proofs.RanLemmas.{Ran-then}
-use Rattle.session_play.proofs.LoopLemmas.{so-far-more, so-far-last, so-far-cut}
+use Rattle.host_port.proofs.RanLemmas.{Ran-none, Ran-then}
+use Rattle.session_play.proofs.LoopLemmas.{so-far-none, so-far-more, so-far-last, so-far-cut}
+use Rattle.mailx_session.proofs.AskLemmas.{never-fall-none, never-fall-then}
+use Rattle.mailx_top.specs.Meaning.{Reading, round}
+use Rattle.session_play.specs.Input.{no_input}
 use Rattle.mailx_top.proofs.session.lines.Goals as goal
 
+pub lines-init : goal.lines-init
+lines-init g c = record {
+  fall = never-fall-none _;
+  ran = λ env. rw c.new-reader.ensures (Ran-none (so-far-none (round env) (Reading c.args.session.now no_input) [] refl));
+}
+
 pub returns-in_err-end-clause-ran : goal.returns-in_err-end-clause-ran
-returns-in_err-end-clause-ran g c =
+returns-in_err-end-clause-ran g c = λ env.
     let p = err_from_is_err_and c.from_residual.result c.from_residual.ensures.1 in
-    rw (p.1, p.2) (Ran-then (so-far-cut _ _ _ _) c.lines.invariant c.in_err-end.ensures.ran)
+    rw (p.1, p.2) (Ran-then (so-far-cut _ _ _ _) (c.lines.invariant.ran env) c.in_err-end.ensures.ran)
 
 pub returns-in-Some-clause-ran : goal.returns-in-Some-clause-ran
-returns-in-Some-clause-ran g c = Ran-then (so-far-last _ _ _ _) c.lines.invariant (rw c.in-Some.is at c.in_ok-end.ensures.ran)
+returns-in-Some-clause-ran g c = λ env. Ran-then (so-far-last _ _ _ _) (c.lines.invariant.ran env) (rw c.in-Some.is at c.in_ok-end.ensures.ran)
 
 pub lines-preserved : goal.lines-preserved
-lines-preserved g c = Ran-then (so-far-more _ _ _ _) c.lines.invariant (rw c.in_default.is at c.in_ok-end.ensures.ran)
+lines-preserved g c = record {
+  fall = never-fall-then _ _ _ c.lines.invariant.fall c.in_ok-end.ensures.ran.never_fall;
+  ran = λ env. Ran-then (so-far-more _ _ _ _) (c.lines.invariant.ran env) (rw c.in_default.is at c.in_ok-end.ensures.ran);
+}

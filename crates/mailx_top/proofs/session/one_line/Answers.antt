@@ -6,5 +6,5 @@ use Rattle.mailx_top.proofs.session.one_line.Goals as goal
 
 pub returns-in-Ok-clause-ran : goal.returns-in-Ok-clause-ran
 returns-in-Ok-clause-ran g c =
-    let desk = c.args.session.now in
-    Ran-then (goes-then (prompted c.args.env.now.terminal desk) (λ u. Ask (Line c.args.reader.now) (λ a. turn desk a.1 a.0)) tt _) c.in-Ok.ensures.ran c.next_line.ensures.ran
+    let s = c.args.session.now in
+    Ran-then (goes-then (prompted s.terminal s.desk) (λ u. Ask (Line c.args.reader.now) (λ a. turn s a.1 a.0)) tt _) c.in-Ok.ensures.ran c.next_line.ensures.ran

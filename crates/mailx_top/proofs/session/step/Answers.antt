@@ -9,8 +9,8 @@ use Rattle.mailx_top.proofs.session.step.Goals as goal
 
 pub returns-in-Ok-Go-clause-ran : goal.returns-in-Ok-Go-clause-ran
 returns-in-Ok-Go-clause-ran g c = λ j.
-    let desk = c.step.new.self in
-    Ran-map (λ es went. goes-as (line_play c.args.session.now c.args.line.now) (with_input j) (Go desk) (Go (Reading desk j)) es refl went) (rw c.in-Ok-Go.field-0-is at c.in-Ok-Go.ensures.ran)
+    let s = c.step.new.self in
+    Ran-map (λ es went. goes-as (line_play c.args.session.now c.args.line.now) (with_input j) (Go s) (Go (Reading s j)) es refl went) (rw c.in-Ok-Go.field-0-is at c.in-Ok-Go.ensures.ran)
 
 pub returns-in-Ok-End-clause-ran : goal.returns-in-Ok-End-clause-ran
 returns-in-Ok-End-clause-ran g c = λ j.

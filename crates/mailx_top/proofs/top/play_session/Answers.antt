@@ -4,7 +4,7 @@ use Rattle.session_play.specs.Play.{again, last, cut}
 use Rattle.mailx_top.proofs.top.play_session.Goals as goal
 
 pub returns-in-Ok-None-clause-ran : goal.returns-in-Ok-None-clause-ran
-returns-in-Ok-None-clause-ran g c = Ran-then (λ front rest x y. again front rest refl x y) (rw (c.requires, c.in-Ok-None.field-0-is) at c.in-Ok-None.ensures.ran) c.lines.ensures.ran
+returns-in-Ok-None-clause-ran g c = Ran-then (λ front rest x y. again front rest refl x y) (rw (c.requires, c.in-Ok-None.field-0-is) at c.in-Ok-None.ensures.ran) (c.lines.ensures.ran c.args.env.now)
 
 pub returns-in-Ok-Some-clause-ran : goal.returns-in-Ok-Some-clause-ran
 returns-in-Ok-Some-clause-ran g c = Ran-map (λ es x. last x) (rw (c.requires, c.in-Ok-Some.field-0-is) at c.in-Ok-Some.ensures.ran)

@@ -2,21 +2,21 @@ use Rattle.std.proofs.lemmas.Result.{err_from_is_err_and}
 use Rattle.host_port.proofs.RanLemmas.{Ran-then, Ran-map}
 use Rattle.session_play.specs.Steps.{in_order, concluded}
 use Rattle.session_play.proofs.PlayLemmas.{goes-then, goes-cut}
-use Rattle.command_desk.specs.declared.desk.Desk.{Desk}
-use Rattle.command_desk.specs.Effects.{effect}
+use Rattle.mailx_session.specs.declared.state.SessionState.{SessionState}
+use Rattle.mailx_session.specs.States.{settled}
 use Rattle.mailx_session.specs.Sessions.{asked, after_asks}
 use Rattle.mailx_session.proofs.session.Session.carry_out.Goals as goal
 
 pub returns-in_err-asked-clause-ran : goal.returns-in_err-asked-clause-ran
 returns-in_err-asked-clause-ran g c =
-    let desk = c.args.self.now in
+    let s = c.args.self.now in
     let p = err_from_is_err_and c.from_residual.result c.from_residual.ensures.1 in
     rw (p.1, p.2)
-    (Ran-map (goes-cut (in_order asked desk c.args.steps.asks) (concluded desk (λ (d : Desk). effect d c.args.steps.effects)) _)
-    (rw c.items.ensures at c.in_err-asked.ensures.ran desk))
+    (Ran-map (goes-cut (in_order asked s c.args.steps.asks) (concluded s (λ (t : SessionState). settled t c.args.steps.effects)) _)
+    (rw (c.items.ensures, c.self.view_is) at c.in_err-asked.ensures.ran))
 
 pub returns-clause-ran : goal.returns-clause-ran
 returns-clause-ran g c =
-    let desk = c.args.self.now in
-    Ran-then (goes-then (in_order asked desk c.args.steps.asks) (concluded desk (λ (d : Desk). effect d c.args.steps.effects)) (after_asks desk c.in_ok-asked.asked) _)
-    (rw c.items.ensures at c.in_ok-asked.ensures.ran desk) c.finish.ensures.ran
+    let s = c.args.self.now in
+    Ran-then (goes-then (in_order asked s c.args.steps.asks) (concluded s (λ (t : SessionState). settled t c.args.steps.effects)) (after_asks s c.in_ok-asked.asked) _)
+    (rw (c.items.ensures, c.self.view_is) at c.in_ok-asked.ensures.ran) c.finish.ensures.ran

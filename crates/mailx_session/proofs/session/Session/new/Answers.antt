@@ -1,10 +1,12 @@
-use Rattle.std.proofs.Common.{sym, subst, ◌≤◌, arith}
-use Rattle.command_desk.specs.declared.desk.Desk.{Desk}
-use Rattle.command_desk.specs.Desks.{IsDesk}
-use Rattle.mailx_session.proofs.OpeningLemmas.{empty-desk}
+use Rattle.std.proofs.Common.{◌≤◌, sym, subst, arith}
+use Rattle.mailx_session.specs.declared.state.SessionState.{SessionState}
+use Rattle.mailx_session.specs.States.{IsSession}
+use Rattle.mailx_session.proofs.StateLemmas.{first-valid, home-short}
 use Rattle.mailx_session.proofs.session.Session.new.Goals as goal
 
 pub invariant_of-result : goal.invariant_of-result
 invariant_of-result c =
-    let wide : 2 ≤ c.in-Some.places.width = let within = rw c.in-Some.is at c.in_ok-places.ensures.width in let low = within.0 in omega arith in
-    subst (λ (d : Desk). IsDesk d) (sym c.in_ok-first_desk-in-Some.ensures) (empty-desk c.in-Some.places wide)
+    let places = c.in-Some.places in
+    let wide : 2 ≤ places.width = let within = rw c.in-Some.is at c.in_ok-places.ensures.width in let low = within.0 in omega arith in
+    let home = home-short c.args.pairs.now places (rw c.in-Some.is at c.in_ok-places.ensures.places) c.requires in
+    subst (λ (s : SessionState). IsSession s) (sym c.in_ok-first_state-in-Some.ensures) (first-valid places c.args.terminal c.args.token wide home)

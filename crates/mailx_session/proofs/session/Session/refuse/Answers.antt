@@ -6,10 +6,10 @@ use Rattle.mailx_session.proofs.session.Session.refuse.Goals as goal
 
 pub returns-in-Ok-clause-ran : goal.returns-in-Ok-clause-ran
 returns-in-Ok-clause-ran g c =
-    let desk = c.args.self.now in
-    Ran-map (λ es went. goes-as (Ask (Say c.args.line.now) Ret) (λ u. Ret (Go desk)) tt (Go desk) es refl went) (rw c.bytes.ensures at c.in-Ok.ensures.ran)
+    let s = c.args.self.now in
+    Ran-map (λ es went. goes-as (Ask (Say c.args.line.now) Ret) (λ u. Ret (Go s)) tt (Go s) es refl went) (rw c.bytes.ensures at c.in-Ok.ensures.ran)
 
 pub returns-in-Err-clause-ran : goal.returns-in-Err-clause-ran
 returns-in-Err-clause-ran g c =
-    let desk = c.args.self.now in
-    Ran-map (λ es went. goes-cut (Ask (Say c.args.line.now) Ret) (λ u. Ret (Go desk)) _ es went) (rw c.bytes.ensures at c.in-Err.ensures.ran)
+    let s = c.args.self.now in
+    Ran-map (λ es went. goes-cut (Ask (Say c.args.line.now) Ret) (λ u. Ret (Go s)) _ es went) (rw c.bytes.ensures at c.in-Err.ensures.ran)

@@ -1,0 +1,14 @@
+//! Aliases: names that stand for lists of names, and their expansion.
+#![tactic(auto)]
+
+mod aliases;
+mod error;
+mod laws;
+mod names;
+mod own;
+mod walk;
+
+pub use aliases::Aliases;
+pub use error::{AliasError, ExpandError};
+pub use laws::{aliases_are_kept, each_name_once};
+pub use own::Own;

@@ -1,0 +1,27 @@
+ghost use Rattle.std.specs.Prelude.{◌≡◌, IfOk};
+ghost use Rattle.alias_groups.specs.Expansion.{dropped_names};
+
+use crate::names::Names;
+use mail_text::{Items, Memory, Text};
+use std::alloc::Global;
+
+/// The user's own names.
+#[derive(Drop)]
+pub struct Own {
+    /// The user.
+    pub user: Text,
+    /// Other names of the user.
+    pub alternates: Items<Text>,
+}
+
+// The own names that are left out where an alias leads to them: none with `metoo`.
+pub(crate) fn dropped_names(alloc: Global, own: &Own, metoo: bool) -> Result<Names, Memory>
+    ensures { IfOk result (λ names. names ≡ dropped_names own.now metoo) }
+{
+    let mut names = Names::new(alloc);
+    if !metoo {
+        names.put(own.user.bytes())?;
+        names.put_all(own.alternates.items())?;
+    }
+    Ok(names)
+}

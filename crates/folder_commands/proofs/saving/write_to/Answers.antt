@@ -1,0 +1,7 @@
+use Rattle.folder_commands.proofs.NextLemmas.{write-to}
+use Rattle.folder_commands.proofs.saving.write_to.Goals as goal
+
+pub returns-clause-means : goal.returns-clause-means
+returns-clause-means c =
+    write-to c.args.desk.now c.args.list.now c.args.word.now c.in_ok-numbers.numbers c.in_ok-name.name c.in_ok-writing.field-0
+    c.in_ok-numbers.ensures.means c.in_ok-name.ensures (rw c.items.ensures at c.in_ok-writing.ensures.filing)
