@@ -4,8 +4,8 @@ use mail_text::{Memory, Text, lines};
 use std::alloc::Global;
 use std::fmt::{Debug, Display};
 
-/// The answers so far, to whose end parts are put. What memory was wanting for, here or to read a case, is left out, and then
-/// they aren't whole.
+/// The answers so far, to whose end parts are put. What memory was wanting for, here or to read a case, is left out,
+/// and then they aren't whole.
 #[derive(Drop)]
 pub struct Answer {
     alloc: Global,
@@ -38,7 +38,8 @@ impl Answer {
         self.whole
     }
 
-    /// Writes the answers. The status of a program that did: 0, 3 where they couldn't be written, or 8 where memory was wanting.
+    /// Writes the answers. The status of a program that did: 0, 3 where they couldn't be written, or 8 where memory was
+    /// wanting.
     pub fn write(&self, rt: &impl Print) -> u8 {
         match rt.write_all(self.text.bytes()) {
             Ok(()) if self.whole => 0,

@@ -49,8 +49,8 @@ fn put_locks(locks: &[(Text, u64)], out: &mut Answer) {
 }
 
 /// Puts what became of a disk: a line `file NAME` with its bytes for each file that is new or has other bytes, a line
-/// `gone NAME` for each that is gone, and a line `lock NAME TOKEN` for each lock that stands, with the last digit of its
-/// token.
+/// `gone NAME` for each that is gone, and a line `lock NAME TOKEN` for each lock that stands, with the last digit of
+/// its token.
 pub fn put_changes(before: &DiskView, after: &DiskView, out: &mut Answer) {
     put_written(before.files.items(), after.files.items(), out);
     put_gone(before.files.items(), after.files.items(), out);

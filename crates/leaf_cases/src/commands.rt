@@ -18,7 +18,8 @@ pub fn put(case: &[Text], out: &mut Answer) {
     }
 }
 
-// What a line is read as: its command, its command word, its words, each with a semicolon, and its rest; or why it isn't.
+// What a line is read as: its command, its command word, its words, each with a semicolon, and its rest; or why it
+// isn't.
 fn put_line(text: &[u8], out: &mut Answer) {
     match read_line(out.alloc(), text) {
         Ok(line) => put_read(&line, out),

@@ -1,9 +1,9 @@
 //! The cases of the leaf crates: one a line of the input, and what the libraries answer to each a line of the output.
 //!
-//! A case is fields with `|` between them: its topic, its kind, and what the kind takes. In a field and in an answer `\n`
-//! is a line feed, `\t` a tab, `\\` a backslash and `\x` with two digits any byte. In a field `\*N;` repeats what stands
-//! before it, back to the last such mark, so that it stands there N times. An empty line and one that begins with `#`
-//! are written as they are.
+//! A case is fields with `|` between them: its topic, its kind, and what the kind takes. In a field and in an answer
+//! `\n` is a line feed, `\t` a tab, `\\` a backslash and `\x` with two digits any byte. In a field `\*N;` repeats what
+//! stands before it, back to the last such mark, so that it stands there N times. An empty line and one that begins
+//! with `#` are written as they are.
 #![tactic(auto)]
 
 mod addresses;

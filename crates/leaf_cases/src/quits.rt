@@ -11,8 +11,8 @@ use mailx_vars::Vars;
 use message_state::Mark;
 use quit_rules::{Open, boxed, kept, quit_changes};
 
-/// The folder of a text with these marks, the system mailbox where the kind says so: how many messages stay and how many go to
-/// mbox, and the changes.
+/// The folder of a text with these marks, the system mailbox where the kind says so: how many messages stay and how
+/// many go to mbox, and the changes.
 pub fn put(vars: &Vars, case: &[Text], out: &mut Answer) {
     match folder_of(out.alloc(), field(case, 2)) {
         Ok(folder) => {

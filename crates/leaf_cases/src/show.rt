@@ -22,7 +22,8 @@ pub fn put(messages: &[Text], case: &[Text], out: &mut Answer) {
     }
 }
 
-// A case over a view: the pairs of places that turn it, its depths, its current message, the width, and what the kind takes.
+// A case over a view: the pairs of places that turn it, its depths, its current message, the width, and what the kind
+// takes.
 fn put_in_view(messages: &[Text], case: &[Text], out: &mut Answer) {
     let turns = numbers(words(case, 2), out);
     let depths = numbers(words(case, 3), out);
@@ -109,8 +110,8 @@ fn put_names(out: &mut Answer, names: &[Text]) {
     out.put(b".");
 }
 
-// The ignored and the retained names, where they are asked for; and for each name of the last field whether its fields are
-// kept. Names are ignored in two calls.
+// The ignored and the retained names, where they are asked for; and for each name of the last field whether its fields
+// are kept. Names are ignored in two calls.
 fn put_told(case: &[Text], names: bool, out: &mut Answer) {
     let mut sets = FieldSets::new(out.alloc());
     name_fields(&mut sets, words(case, 2), false, out);

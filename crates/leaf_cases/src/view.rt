@@ -13,9 +13,9 @@ use memchr::memchr;
 use message_state::{Order, Row, RowList, Shown, row_of};
 use std::alloc::Global;
 
-/// The messages that are kept, in the order that comes of changing places by pairs in turn, so deep and with this current
-/// message; none where there are more than 100, or the current message isn't one of them. Where no depth is given, a message
-/// isn't deep.
+/// The messages that are kept, in the order that comes of changing places by pairs in turn, so deep and with this
+/// current message; none where there are more than 100, or the current message isn't one of them. Where no depth is
+/// given, a message isn't deep.
 pub fn shown_of(
     messages: &[Text],
     turns: &[u32],
@@ -49,7 +49,8 @@ fn depths_of(alloc: Global, count: usize, depths: &[u32]) -> Result<Vec<u32>, Me
     Ok(depth)
 }
 
-// A row of a message, which is written as the letter of its state, its size where it isn't its own, a space and the text.
+// A row of a message, which is written as the letter of its state, its size where it isn't its own, a space and the
+// text.
 fn message_row(alloc: Global, message: &[u8]) -> Result<Row, Memory>
     ensures { IfOk result (λ row. IfSome row.moment IsInYears) }
 {

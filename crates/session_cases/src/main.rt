@@ -10,9 +10,9 @@
 //! | `terminal` | the input is a terminal |
 //! | `token N` | the word that no other run has; without it 1 |
 //!
-//! For each case come `case TITLE`, the output in lines `|TEXT` (the last `:TEXT` where it has no line feed), `status N`,
-//! what became of the disk (`file NAME` with its bytes, `gone NAME`, `lock NAME TOKEN`), `lost` where memory was refused,
-//! and an empty line.
+//! For each case come `case TITLE`, the output in lines `|TEXT` (the last `:TEXT` where it has no line feed), `status
+//! N`, what became of the disk (`file NAME` with its bytes, `gone NAME`, `lock NAME TOKEN`), `lost` where memory was
+//! refused, and an empty line.
 #![tactic(auto)]
 
 mod run;
