@@ -5,13 +5,22 @@ use mail_text::{Items, Memory};
 use std::alloc::Global;
 use std::str;
 
+// An entry by its name; an exclamation mark before it removes the file.
+fn entry(marked: &str, out: &mut Answer) -> Entry {
+    let (kind, name) = match marked.strip_prefix('!') {
+        Some(name) => (EntryKind::Remove, name),
+        None => (EntryKind::Replace, marked),
+    };
+    let name = out.decoded(name);
+    Entry { kind, name }
+}
+
 fn entries(names: &str, out: &mut Answer) -> Items<Entry> {
     let mut entries = Items::new(out.alloc());
     if names != "-" {
         for name in names.split('|') {
-            let name = out.decoded(name);
-            let kind = EntryKind::Replace;
-            out.note(entries.push(Entry { kind, name }));
+            let entry = entry(name, out);
+            out.note(entries.push(entry));
         }
     }
     entries

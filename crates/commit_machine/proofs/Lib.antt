@@ -10,6 +10,7 @@ pub mod States
 pub mod LawfulLemmas
 pub mod Others
 pub mod Steps
+pub mod Removals
 pub mod Steps2
 pub mod JobLemmas
 pub mod Steps3
@@ -24,5 +25,8 @@ pub mod EditLemmas
 pub mod RestraintLemmas
 pub mod FaultLemmas
 pub mod RefusalLemmas
+pub mod EventLemmas
+pub mod MeetingLemmas
+pub mod SafetyLemmas
 pub mod RowLemmas
 mod TroubleLemmas

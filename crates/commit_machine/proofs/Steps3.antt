@@ -89,7 +89,7 @@ module _ (j : Job) (job : IsJob j) (d : Disk) (files : Files) (owners : Locks) (
     }
 
     publish_knows : Knows j (locking j [] (edits_of j)) (after d (event.Publish (new_name j.actor) (record_name j.actor) true false))
-    publish_knows = knows_locking j (after d (event.Publish (new_name j.actor) (record_name j.actor) true false)) [] (edits_of j) publish_own (record { all = λ m h. inr (named (edits_of j) m h); back = λ m h. absurd h; within = λ e m. m })
+    publish_knows = knows_locking j (after d (event.Publish (new_name j.actor) (record_name j.actor) true false)) [] (edits_of j) publish_own (record { all = λ m h. inr (named (edits_of j) m h); back = λ m h. absurd h; within = λ e m. m; apart = λ m h. absurd h; distinct = valid-distinct j (stands-valid (renamed d.files (new_name j.actor) (record_name j.actor) (record_name j.actor)) (prepare_of j) now_stands).0 })
 
   pub step_publishing : {e : Event} → IsOf (ToPublish (new_name j.actor) (record_name j.actor)) e → Agrees d e → Knows j Publishing d → Kept j Publishing e d files owners
   step_publishing (publishes {done = true} {failed = true}) agrees k = record { shows = publish_shows k true; knows = tt }
@@ -132,6 +132,9 @@ module _ (j : Job) (job : IsJob j) (d : Disk) (files : Files) (owners : Locks) (
     lock_back : (m : List ℕ) → Mem m (ls ++ (e.name ∷ [])) → Mem m (all_of j)
     lock_back m h = elim (end_or_before ls e.name m h) [ inl p ↦ subst (λ (z : List ℕ). Mem z (all_of j)) (sym p) lock_mem | inr a ↦ k.1.back m a ]
 
+    lock_apart : (m : List ℕ) → Mem m (ls ++ (e.name ∷ [])) → (x : Edit) → Mem x left → m ≢ x.name
+    lock_apart m h x n = elim (end_or_before ls e.name m h) [ inl p ↦ (λ same. k.1.distinct.0 x n (sym p ∙ same)) | inr a ↦ k.1.apart m a x (inr n) ]
+
     lock_knows : Knows j (locking j (ls ++ (e.name ∷ [])) left) (after d (event.Lock e.name j.token true false))
     lock_knows = knows_locking j (after d (event.Lock e.name j.token true false)) (ls ++ (e.name ∷ [])) left
         (record {
@@ -141,7 +144,7 @@ module _ (j : Job) (job : IsJob j) (d : Disk) (files : Files) (owners : Locks) (
           seen = λ x h. absurd h;
           staged = λ x h. absurd h;
         })
-        (record { all = λ m h. lock_all m (k.1.all m h); back = lock_back; within = λ x h. k.1.within x (inr h) })
+        (record { all = λ m h. lock_all m (k.1.all m h); back = lock_back; within = λ x h. k.1.within x (inr h); apart = lock_apart; distinct = k.1.distinct.1 })
 
   pub step_locking : (ls : List (List ℕ)) (x : Edit) (left : List Edit) {e : Event} → IsOf (ToLock x.name j.token) e → Agrees d e → Knows j (Locking ls x left) d → Kept j (Locking ls x left) e d files owners
   step_locking ls x left (locks {got = true} {failed = true}) agrees k = record { shows = lock_shows ls x left k true (agrees refl); knows = tt }

@@ -12,3 +12,5 @@ pub mod Worked
 pub mod Restraints
 pub mod Troubles
 pub mod Rows
+pub mod EventRows
+pub mod Runs

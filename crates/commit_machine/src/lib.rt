@@ -3,6 +3,7 @@
 
 mod laws;
 mod names;
+mod safety;
 
 pub use laws::{
     alone_goes, crash_safe, decisions_apply, decisions_are_told, edits_are_changes, front_is_run,
@@ -11,3 +12,4 @@ pub use laws::{
     stop_safe, stretches_join, troubled_runs, worked_runs,
 };
 pub use names::{is_record_name, new_name, record_name, right_name, staged_name};
+pub use safety::{events_have_rows, runs_are_safe};

@@ -1,5 +1,4 @@
 pub mod CleanLemmas
-pub mod OneLemmas
 pub mod EndLemmas
 pub mod LookLemmas
 pub mod NameLemmas
@@ -7,3 +6,6 @@ pub mod PlanLemmas
 pub mod RunLemmas
 pub mod SafeLemmas
 pub mod ToldLemmas
+pub mod TellLemmas
+pub mod BusyLemmas
+pub mod WalkLemmas

@@ -1,5 +1,5 @@
 -- A commit answers that it isn't known whether its decision was passed exactly where its events say so.
-use Rattle.std.proofs.Common.{◌≡◌, ◌⊎◌, ℕ, length, arith, Bool, true, false, nat_eq, List, [], ◌∷◌, map, Option, Some, None, ◌||◌, if◌then◌else◌, refl, ap, sym, subst, inl, inr, ◌∙◌}
+use Rattle.std.proofs.Common.{◌≡◌, ◌⊎◌, ◌<◌, ◌≤◌, ◌^◌, ℕ, length, arith, Bool, true, false, nat_eq, List, [], ◌∷◌, Option, Some, None, ◌||◌, if◌then◌else◌, refl, ap, sym, subst, inl, inr, ◌∙◌}
 use Rattle.std.proofs.lemmas.Bool.{cases_Bool}
 use Rattle.std.specs.List.{starts_with}
 use Rattle.std.specs.declared.result.Result.{Result}
@@ -9,23 +9,23 @@ use Rattle.host_port.specs.declared.event.Event.TheVariants as event
 use Rattle.host_port.specs.declared.event.Seen.{Seen}
 use Rattle.host_port.specs.declared.event.Seen.TheVariants as seen
 use Rattle.folder_change.specs.declared.change.Change.{Change}
-use Rattle.folder_change.specs.Changes.{name_of}
 use Rattle.commit_machine.specs.Names.{record_name, new_name, right_name}
 use Rattle.commit_machine.specs.Jobs.{Before, After, Unknown, Ending, Done, Failed, Job, Made, all_of}
-use Rattle.commit_machine.specs.Machine.{State, Seizing, Placing, Unlocking, Erasing, Committing, Checking, Releasing, Ended, Then, GoOn, Answer, Fault, next, refused, after_reply, faulted, passed_at, passed_then, passed_ending, passed_by, go_front}
+use Rattle.commit_machine.specs.Machine.{State, Seizing, Placing, Removing, Discarding, Unlocking, Erasing, Committing, Checking, Releasing, Ended, Then, GoOn, Answer, Fault, next, refused, after_reply, faulted, passed_at, passed_then, passed_ending, passed_by, go_front}
 use Rattle.commit_machine.specs.Goes.{IsNext, Goes, reply}
-use Rattle.commit_machine.specs.Edits.{first_names, job_for, edit_for}
+use Rattle.commit_machine.specs.Edits.{first_names, job_for}
 use Rattle.commit_machine.specs.Restraints.{is_failed}
 use Rattle.commit_driver.specs.declared.step.Passed.TheVariants as passed
 use Rattle.folder_commit.specs.declared.error.CommitError.{CommitError}
 use Rattle.folder_commit.specs.declared.error.CommitError.TheVariants as error
 use Rattle.folder_commit.specs.Ends.{AnswersAs, Commits}
-use Rattle.folder_commit.specs.OneFile.{AllOf}
 use Rattle.folder_commit.specs.Commits.{IsCommit}
-use Rattle.folder_commit.specs.Told.{load_failed, look_failed, by_right, is_fault, is_unknown, TellsFaults, TellsUnknown, TellsEnd, IsTold}
-use Rattle.folder_commit.proofs.OneLemmas.{named-once}
+use Rattle.folder_commit.specs.Plans.{AreFiles}
+use Rattle.folder_commit.specs.Told.{load_failed, look_failed, is_fault, is_unknown, TellsFaults, TellsUnknown, IsTold}
 use Rattle.folder_commit.proofs.CleanLemmas.{load-is, publish-is, release-is}
-use Rattle.folder_commit.proofs.ToldLemmas.{is_failed_end, is_bad, CleanThen, Clean, AsBad, refused_bad, step-bad, committing-bad, tells-faults, tells-end}
+use Rattle.folder_commit.proofs.PlanLemmas.{is-job}
+use Rattle.folder_commit.proofs.ToldLemmas.{is_failed_end, is_bad, CleanThen, Clean, AsBad, refused_bad, step-bad, committing-bad, tells-faults}
+use Rattle.folder_commit.proofs.TellLemmas.{end-told}
 
 -- the end where it isn't known whether the decision was passed
 abbrev is_unknown_end : Ending → Bool
@@ -55,6 +55,8 @@ known-then (Answer a) h = known-passed a h
 -- a call that fails at any state but that of the decision
 known-at : (s : State) → Clean s → is_bad s ≡ false → is_unknown_end (Failed (passed_at s)) ≡ false
 known-at (Placing r n ns ls th) h b = known-then th h
+known-at (Removing r n ns ls th) h b = known-then th h
+known-at (Discarding r n ns ls th) h b = known-then th h
 known-at (Unlocking r n ns th) h b = known-then th h
 known-at (Erasing r th) h b = known-then th h
 known-at (Releasing a) h b = known-passed a b
@@ -200,27 +202,22 @@ tells-unknown : (j : Job) (es : List Event) (result : Result Unit CommitError) �
 tells-unknown j es result h = sym (look-told j es Seizing h.end tt h.goes) ∙ unknown-so (all_of j) result h.end h.is_as
 
 -- no event, and an answer that tells of no failed call
-quiet-told : (actor : List ℕ) (c : Change) (cs : List Change) (base : List (List ℕ)) (result : Result Unit CommitError) → is_fault result ≡ false → is_unknown result ≡ false → (AllOf (name_of c) (c ∷ cs) → ⊥) → IsTold actor (c ∷ cs) base [] result
-quiet-told actor c cs base result f u many = (sym f, sym u, λ all. absurd (many all))
+quiet-told : (actor : List ℕ) (c : Change) (cs : List Change) (base : List (List ℕ)) (result : Result Unit CommitError) → is_fault result ≡ false → is_unknown result ≡ false → (length (first_names (c ∷ cs)) ≤ 16 → ⊥) → IsTold actor (c ∷ cs) base [] result
+quiet-told actor c cs base result f u many = (sym f, sym u, λ few. absurd (many few))
 
-pub is-told : (actor : List ℕ) (token : ℕ) (changes : List Change) (base : List (List ℕ)) (es : List Event) (result : Result Unit CommitError) → IsCommit actor token changes base es result → IsTold actor changes base es result
-is-told actor token [] base es result h =
+pub is-told : (actor : List ℕ) (token : ℕ) (changes : List Change) (base : List (List ℕ)) (es : List Event) (result : Result Unit CommitError) → token < 2 ^ 64 → AreFiles actor changes → IsCommit actor token changes base es result → IsTold actor changes base es result
+is-told actor token [] base es result fits files h =
     let T : List Event → Result Unit CommitError → Type 0 = λ es r. TellsFaults es r × TellsUnknown es r in
     subst (λ (z : List Event). T z result) (sym h.0) (subst (T []) (sym h.1) (refl, refl))
-is-told actor token (c ∷ cs) base es result (inl many) =
+is-told actor token (c ∷ cs) base es result fits files (inl many) =
     let T : List Event → Result Unit CommitError → Type 0 = λ es r. IsTold actor (c ∷ cs) base es r in
-    let one : AllOf (name_of c) (c ∷ cs) → ⊥ = λ all. let n = ap length (named-once c cs all) in absurd (omega (arith, n, many.0)) in
+    let not : length (first_names (c ∷ cs)) ≤ 16 → ⊥ = λ few. absurd (omega (arith, few, many.0)) in
     subst (λ (z : List Event). T z result) (sym many.1.0) (elim many.1.1 [
-      | inl e ↦ subst (T []) (sym e) (quiet-told actor c cs base (Err (error.TooManyNames (length (first_names (c ∷ cs))))) refl refl one)
-      | inr e ↦ subst (T []) (sym e) (quiet-told actor c cs base (Err error.Memory) refl refl one)
+      | inl e ↦ subst (T []) (sym e) (quiet-told actor c cs base (Err (error.TooManyNames (length (first_names (c ∷ cs))))) refl refl not)
+      | inr e ↦ subst (T []) (sym e) (quiet-told actor c cs base (Err error.Memory) refl refl not)
     ])
-is-told actor token (c ∷ cs) base es result (inr few) =
+is-told actor token (c ∷ cs) base es result fits files (inr few) =
     let h = few.1 in
     let j = job_for actor token (c ∷ cs) base in
     let faults = tells-faults j es result h in
-    let one : AllOf (name_of c) (c ∷ cs) → TellsEnd (name_of c) (by_right actor (c ∷ cs) base (name_of c) es) result = λ all.
-    let P : List (List ℕ) → Type 0 = λ ns. Commits (record { actor = actor; token = token; edits = Some (map (edit_for (c ∷ cs) base) ns); refusal = j.refusal }) es result in
-    let k = subst P (named-once c cs all) h in
-    tells-end actor token (c ∷ cs) base (name_of c) all es result k.end k.is_as k.goes faults
-    in
-    (faults, tells-unknown j es result h, one)
+    (faults, tells-unknown j es result h, λ l. end-told actor token c cs base (is-job actor token (c ∷ cs) base fits files (omega arith) l) es result h faults)

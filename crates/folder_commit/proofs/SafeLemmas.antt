@@ -10,35 +10,32 @@ use Rattle.host_port.specs.Calls.{Counts}
 use Rattle.host_port.specs.Own.{own}
 use Rattle.host_port.specs.Ran.{Honest, Ran}
 use Rattle.folder_change.specs.declared.change.Change.{Change}
-use Rattle.folder_change.specs.Changes.{name_of}
-use Rattle.folder_change.specs.Outcomes.{outcome_of}
-use Rattle.folder_change.specs.Apply.{Refusal as ChangeRefusal, apply, after, first_refusal, refusal_of, or_else}
+use Rattle.folder_change.specs.Apply.{Refusal as ChangeRefusal, apply, first_refusal}
 use Rattle.commit_machine.specs.Settled.{Files}
 use Rattle.commit_machine.specs.Settled.{Mem}
-use Rattle.commit_machine.specs.Jobs.{Ending, IsJob, all_of}
-use Rattle.commit_machine.specs.Due.{settled_files, files_after}
+use Rattle.commit_machine.specs.Jobs.{Ending, IsJob, edits_of, all_of}
+use Rattle.commit_machine.specs.Due.{settled_files, applied}
 use Rattle.commit_machine.specs.Edits.{cause_of, job_for}
 use Rattle.commit_machine.specs.Machine.{Ended}
 use Rattle.commit_machine.specs.Laws.{IsRun, TellsDecisions}
 use Rattle.commit_machine.specs.Laws as laws
-use Rattle.commit_machine.proofs.RunLemmas.{crash_safe, nothing_left}
-use Rattle.commit_machine.proofs.StopLemmas.{stop_safe}
-use Rattle.commit_machine.proofs.EndLemmas.{front_is_run}
+use Rattle.commit_machine.specs.Runs.{made_after}
+use Rattle.commit_machine.proofs.RunLemmas.{nothing_left}
+use Rattle.commit_machine.proofs.EditLemmas.{edits_are_changes}
 use Rattle.commit_machine.proofs.ToldLemmas.{decisions_are_told}
-use Rattle.commit_machine.proofs.FaultLemmas.{nothing_after_a_fault}
 use Rattle.commit_machine.proofs.RefusalLemmas.{no_refused_is_decided}
-use Rattle.commit_machine.proofs.RestraintLemmas.{right_is_given_up}
+use Rattle.commit_machine.proofs.SafetyLemmas.{after_made, runs_are_safe}
 use Rattle.commit_driver.specs.declared.step.Passed.TheVariants as passed
 use Rattle.folder_commit.specs.declared.error.CommitError.{CommitError}
 use Rattle.folder_commit.specs.declared.error.CommitError.TheVariants as error
-use Rattle.folder_commit.specs.Ends.{AnswersAs, Commits}
+use Rattle.folder_commit.specs.Ends.{AnswersAs, Commits, CommitCause}
 use Rattle.folder_commit.specs.Plans.{AreFiles}
 use Rattle.folder_commit.specs.Commits.{IsCommit}
-use Rattle.folder_commit.specs.Safe.{MayCommit, DecidedSo, MetNoFault, CommitsSafely, IsSafe}
-use Rattle.commit_driver.proofs.SawLemmas.{AreNamed}
+use Rattle.folder_commit.specs.Safe.{MayCommit, DecidedSo, MetNoFault, CommitsSafely, IsSafe, IsOkOrMemory, IsComplete}
 use Rattle.commit_driver.proofs.JudgeLemmas.{are-named}
-use Rattle.folder_change.proofs.ApplyLemmas.{apply-alone}
 use Rattle.folder_commit.proofs.PlanLemmas.{is-job, all-of-job}
+use Rattle.folder_commit.proofs.TellLemmas.{alike}
+use Rattle.folder_commit.proofs.BusyLemmas.{busy-met, completes}
 
 -- the answer says how often there was a decision
 decided-so : (files : List (List ℕ)) (result : Result Unit CommitError) (end : Ending) (n : ℕ) → AnswersAs files result end → TellsDecisions end n → DecidedSo result n
@@ -70,35 +67,27 @@ no-cause : (o : Option ChangeRefusal) → option_map cause_of o ≡ None → o �
 no-cause None h = refl
 no-cause (Some why) h = absurd (cc)
 
--- what changes are refused for depends on the files that they name
-alike : (names : List (List ℕ)) (cs : List Change) (base : List (List ℕ)) (files others : Files) → AreNamed names cs → ((n : List ℕ) → Mem n names → files n ≡ others n) → first_refusal cs base files ≡ first_refusal cs base others
-unfolding first_refusal apply
-alike names [] base files others named same = refl
-alike names (c ∷ cs) base files others named same =
-    let here : files (name_of c) ≡ others (name_of c) = same (name_of c) named.0 in
-    let later = alike names cs base (after files c base) (after others c base) named.1 (λ n m. apply-alone (c ∷ []) base files others n (same n m)) in
-    ap (λ (f : Option (List ℕ)). or_else (refusal_of (name_of c) (outcome_of f c base)) (first_refusal cs base (after files c base))) here
-    ∙ ap (λ (o : Option ChangeRefusal). or_else (refusal_of (name_of c) (outcome_of (others (name_of c)) c base)) o) later
-
 safely : (actor : List ℕ) (token : ℕ) (c : Change) (cs : List Change) (base : List (List ℕ)) (d : Disk) (es : List Event) (result : Result Unit CommitError) → IsJob (job_for actor token (c ∷ cs) base)
     → MayCommit actor token d es → Honest d es → Commits (job_for actor token (c ∷ cs) base) (own es) result → CommitsSafely (job_for actor token (c ∷ cs) base) (c ∷ cs) base d es result
 safely actor token c cs base d es result job may honest h =
     let j = job_for actor token (c ∷ cs) base in
+    let make = apply (c ∷ cs) base in
     let run : IsRun j d es (Ended h.end) = record { job = job; fresh = may.fresh; sound = may.sound; goes = h.goes; honest = honest; lawful = may.lawful } in
     let G : List Event → Type 0 = λ es. IsRun j d es (Ended h.end) in
     let names = all_of j in
     let named = are-named names (c ∷ cs) (all-of-job actor token (c ∷ cs) base) in
+    let makes : (files : Files) (n : List ℕ) → applied (edits_of j) files n ≡ make files n = λ files n. edits_are_changes (c ∷ cs) base files n in
+    let safe = runs_are_safe make j d es h.end makes run in
     record {
-      moments = λ front rest is. let x = front_is_run j d front rest (Ended h.end) (subst G is run) in crash_safe j d front x.0 x.1;
-      stops = λ front rest e part is. stop_safe j d front e rest (Ended h.end) part (subst G is run);
+      run = safe;
       decided = decided-so names result h.end _ h.is_as (decisions_are_told j d es h.end run);
       fits = λ front rest e is at.
           let (files, due, none) = no_refused_is_decided j d front e rest (Ended h.end) (subst G is run) at in
-          let now = files_after j d (settled_files j.actor d) front in
-          alike names (c ∷ cs) base now files named (λ n m. sym (due n m)) ∙ no-cause (first_refusal (c ∷ cs) base files) none;
+          let now = made_after make j d (settled_files j.actor d) front in
+          let same : (n : List ℕ) → Mem n names → now n ≡ files n = λ n m. sym (due n m ∙ after_made make j makes front d (settled_files j.actor d) (settled_files j.actor d) (λ k. refl) n) in
+          alike names (c ∷ cs) base now files named same ∙ no-cause (first_refusal (c ∷ cs) base files) none;
       nothing_left = λ m. nothing_left j d es h.end (no-fault names result h.end h.is_as m) run;
-      right_given_up = right_is_given_up j d es h.end run;
-      nothing_after_a_fault = λ front rest e is. nothing_after_a_fault j d front e rest (Ended h.end) (subst G is run);
+      busy = λ name is. busy-met make actor token c cs base d es job safe name (subst (Commits j (own es)) is h);
     }
 
 is-safe : (actor : List ℕ) (token : ℕ) (changes : List Change) (base : List (List ℕ)) (d : Disk) (es : List Event) (result : Result Unit CommitError) → token < 2 ^ 64 → AreFiles actor changes
@@ -107,16 +96,39 @@ is-safe actor token [] base d es result fits files may honest h = tt
 is-safe actor token (c ∷ cs) base d es result fits files may honest (inl many) = λ few. absurd (omega (arith, few, many.0))
 is-safe actor token (c ∷ cs) base d es result fits files may honest (inr h) = λ few. safely actor token c cs base d es result (is-job actor token (c ∷ cs) base fits files (omega arith) few) may honest h.1
 
--- of a host that tells its trace
-pub ran-safely : {H : Type 0} {start : H → Disk} {told : H → Option (List Event)} {counts : H → Counts} {old new : H} (actor : List ℕ) (token : ℕ) (changes : List Change) (base : List (List ℕ)) (result : Result Unit CommitError) (before es : List Event)
-    → token < 2 ^ 64 → AreFiles actor changes → Ran start told counts old new (λ own_ones. IsCommit actor token changes base own_ones result)
-    → told old ≡ Some before → told new ≡ Some (before ++ es) → MayCommit actor token (disk (start old) before) es → IsSafe actor token changes base (disk (start old) before) es result
-ran-safely {start = start} {told = told} {old = old} actor token changes base result before es fits files ran at to may =
+is-complete : (actor : List ℕ) (token : ℕ) (changes : List Change) (base : List (List ℕ)) (d : Disk) (es : List Event) (before now : Counts) (result : Result Unit CommitError) → token < 2 ^ 64 → AreFiles actor changes
+    → CommitCause before now result → MayCommit actor token d es → Honest d es → IsCommit actor token changes base (own es) result → IsComplete actor changes base (own es) before now result
+is-complete actor token [] base d es before now result fits files cause may honest h quiet free = subst IsOkOrMemory (sym h.1) tt
+is-complete actor token (c ∷ cs) base d es before now result fits files cause may honest (inl many) quiet free = let few = free.few in absurd (omega (arith, few, many.0))
+is-complete actor token (c ∷ cs) base d es before now result fits files cause may honest (inr h) quiet free =
+    let job = is-job actor token (c ∷ cs) base fits files (omega arith) free.few in
+    let safe = safely actor token c cs base d es result job may honest h.1 in
+    completes (apply (c ∷ cs) base) actor token c cs base d es job safe.run before now result h.1 cause quiet free
+
+-- the events that a host has told since
+told-since : {H : Type 0} {start : H → Disk} {told : H → Option (List Event)} {counts : H → Counts} {old new : H} (P : List Event → Type 0) (before es : List Event) → Ran start told counts old new P
+    → told old ≡ Some before → told new ≡ Some (before ++ es) → Honest (disk (start old) before) es × P (own es)
+told-since {start = start} {told = told} {old = old} P before es ran at to =
     let t = ran.told_is (before ++ es) to in
     let same : Some before ≡ Some t.0 = sym at ∙ t.1 in
     let first : before ≡ t.0 = cc in
     let added : es ≡ t.2.added = append_cancel_left before es t.2.added (t.2.is ∙ ap (λ (r : List Event). r ++ t.2.added) (sym first)) in
     let D : Disk → Type 0 = λ d. Honest d t.2.added in
     let E : List Event → Type 0 = λ xs. Honest (disk (start old) before) xs in
-    let P : List Event → Type 0 = λ xs. IsCommit actor token changes base (own xs) result in
-    is-safe actor token changes base (disk (start old) before) es result fits files may (subst E (sym added) (subst D (ap (disk (start old)) (sym first)) t.2.honest)) (subst P (sym added) t.2.own_ones)
+    let O : List Event → Type 0 = λ xs. P (own xs) in
+    (subst E (sym added) (subst D (ap (disk (start old)) (sym first)) t.2.honest), subst O (sym added) t.2.own_ones)
+
+-- of a host that tells its trace
+pub ran-safely : {H : Type 0} {start : H → Disk} {told : H → Option (List Event)} {counts : H → Counts} {old new : H} (actor : List ℕ) (token : ℕ) (changes : List Change) (base : List (List ℕ)) (result : Result Unit CommitError) (before es : List Event)
+    → token < 2 ^ 64 → AreFiles actor changes → Ran start told counts old new (λ own_ones. IsCommit actor token changes base own_ones result)
+    → told old ≡ Some before → told new ≡ Some (before ++ es) → MayCommit actor token (disk (start old) before) es → IsSafe actor token changes base (disk (start old) before) es result
+ran-safely {start = start} {old = old} actor token changes base result before es fits files ran at to may =
+    let t = told-since (λ own_ones. IsCommit actor token changes base own_ones result) before es ran at to in
+    is-safe actor token changes base (disk (start old) before) es result fits files may t.0 t.1
+
+pub ran-completely : {H : Type 0} {start : H → Disk} {told : H → Option (List Event)} {counts : H → Counts} {old new : H} (actor : List ℕ) (token : ℕ) (changes : List Change) (base : List (List ℕ)) (result : Result Unit CommitError) (before es : List Event)
+    → token < 2 ^ 64 → AreFiles actor changes → CommitCause (counts old) (counts new) result → Ran start told counts old new (λ own_ones. IsCommit actor token changes base own_ones result)
+    → told old ≡ Some before → told new ≡ Some (before ++ es) → MayCommit actor token (disk (start old) before) es → IsComplete actor changes base (own es) (counts old) (counts new) result
+ran-completely {start = start} {counts = counts} {old = old} {new = new} actor token changes base result before es fits files cause ran at to may =
+    let t = told-since (λ own_ones. IsCommit actor token changes base own_ones result) before es ran at to in
+    is-complete actor token changes base (disk (start old) before) es (counts old) (counts new) result fits files cause may t.0 t.1

@@ -1,7 +1,6 @@
 pub mod Names
 pub mod Ends
-pub mod OneFile
 pub mod Plans
 pub mod Commits
-pub mod Safe
 pub mod Told
+pub mod Safe

@@ -3,6 +3,7 @@ ghost use Rattle.std.specs.Prelude.{◌≡◌, ◌≤◌, ◌<◌, ◌++◌, ℕ
 ghost use Rattle.host_port.specs.Names.{has_no_zero};
 ghost use Rattle.host_port.specs.Ran.{Ran};
 ghost use Rattle.host_port.specs.Disk.{disk};
+ghost use Rattle.host_port.specs.Own.{own};
 ghost use Rattle.host_port.specs.declared.event.Event.{Event};
 ghost use Rattle.folder_change.specs.Changes.{is_rewrite};
 ghost use Rattle.folder_change.specs.Outcomes.{base_list};
@@ -12,7 +13,7 @@ ghost use Rattle.commit_driver.specs.Places.{nth, files_of};
 ghost use Rattle.folder_commit.specs.Ends.{CommitCause};
 ghost use Rattle.folder_commit.specs.Plans.{AreFiles};
 ghost use Rattle.folder_commit.specs.Told.{IsTold};
-ghost use Rattle.folder_commit.specs.Safe.{MayCommit, IsSafe};
+ghost use Rattle.folder_commit.specs.Safe.{MayCommit, IsSafe, IsComplete};
 ghost use Rattle.folder_commit.specs.Commits.{IsCommit, IsNamed, answer_of};
 
 use crate::CommitError;
@@ -45,10 +46,19 @@ fn file_name(plan: Plan, at: usize) -> Text
     entries.remove(at).name
 }
 
+// Where the file of this entry of the record that was found is made.
+fn staged_file(place: Place, at: usize) -> Text
+    requires { at < length place.found_staged }
+    ensures { result ≡ nth place.found_staged at }
+{
+    let mut staged = place.found_staged.into_vec();
+    staged.remove(at)
+}
+
 // The answer of a commit that ended so.
-fn answer(end: End, plan: Plan) -> Result<(), CommitError>
-    requires { EndFits (files_of plan) end }
-    ensures { result ≡ answer_of end plan }
+fn answer(end: End, plan: Plan, place: Place) -> Result<(), CommitError>
+    requires { EndFits (files_of plan) (length place.found_staged) end }
+    ensures { result ≡ answer_of end plan place }
 {
     match end {
         End::Done => Ok(()),
@@ -58,6 +68,10 @@ fn answer(end: End, plan: Plan) -> Result<(), CommitError>
         }),
         End::RecordTooLarge(length) => Err(CommitError::TooLarge {
             name: plan.record,
+            length,
+        }),
+        End::StagedTooLarge(at, length) => Err(CommitError::TooLarge {
+            name: staged_file(place, at),
             length,
         }),
         End::TooLarge(at, length) => Err(CommitError::TooLarge {
@@ -95,8 +109,8 @@ fn some_changes<H: Host>(
     let plan = plan_for(alloc, actor, token, changes)?;
     let files = room(alloc, plan.value.entries.items().len())?;
     let place = Place::new(alloc, files);
-    let end = drive(alloc, &plan, place, changes, base, host);
-    answer(end, plan)
+    let (end, place) = drive(alloc, &plan, place, changes, base, host);
+    answer(end, plan, place)
 }
 
 // The whole of it.
@@ -128,7 +142,7 @@ fn whole<H: Host>(
 ///
 /// `TooManyNames` comes where the changes name more than 16 files; then nothing is done. `Busy` comes where another has the right or a file's lock, `Record` where what stands as the record is none, `Changed`
 /// where the file's messages don't begin with those of `base`, and `TooLarge` where a file that is loaded or would be staged
-/// is too large. Then, as where memory is wanting, nothing is changed and nothing of this commit is left. `Disk` comes where a
+/// is too large. A file that the changes leave absent is removed. Then, as where memory is wanting, nothing is changed and nothing of this commit is left. `Disk` comes where a
 /// call failed; then nothing more is done but that the right is given up, and `passed` says whether the commit was decided.
 pub fn commit<H: Host>(
     alloc: Global,
@@ -145,6 +159,7 @@ pub fn commit<H: Host>(
     ensures ran { Ran H.start H.told H.counts host.old host.new (λ es. IsCommit actor.now token changes.now (base_list (option_copied base.entry)) es result) }
     ensures told { Ran H.start H.told H.counts host.old host.new (λ es. IsTold actor.now changes.now (base_list (option_copied base.entry)) es result) }
     ensures safe { (before es : List Event) → H.told host.old ≡ Some before → H.told host.new ≡ Some (before ++ es) → MayCommit actor.now token (disk (H.start host.old) before) es → IsSafe actor.now token changes.now (base_list (option_copied base.entry)) (disk (H.start host.old) before) es result }
+    ensures complete { (before es : List Event) → H.told host.old ≡ Some before → H.told host.new ≡ Some (before ++ es) → MayCommit actor.now token (disk (H.start host.old) before) es → IsComplete actor.now changes.now (base_list (option_copied base.entry)) (own es) (H.counts host.old) (H.counts host.new) result }
     ensures cause { CommitCause (H.counts host.old) (H.counts host.new) result }
     ensures named { IsNamed actor.now changes.now result }
 {

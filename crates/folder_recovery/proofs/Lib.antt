@@ -2,3 +2,4 @@ pub mod GoesLemmas
 pub mod RecoverLemmas
 pub mod SafeLemmas
 pub mod ToldLemmas
+pub mod BusyLemmas

@@ -1,5 +1,5 @@
 -- The laws of the machine, of a recovery.
-use Rattle.std.proofs.Common.{◌≡◌, ◌<◌, ◌^◌, ℕ, List, [], ◌∷◌, ◌++◌, Option, Some, ap, sym, subst, inl, inr, ◌∙◌, append_assoc}
+use Rattle.std.proofs.Common.{◌≡◌, ◌<◌, ◌^◌, ℕ, List, [], ◌∷◌, ◌++◌, Option, Some, refl, ap, sym, subst, inl, inr, ◌∙◌, append_assoc}
 use Rattle.std.proofs.lemmas.List.{append_cancel_left, append-nil}
 use Rattle.std.specs.declared.result.Result.{Result}
 use Rattle.std.specs.declared.result.Result.TheVariants.{Ok, Err}
@@ -17,16 +17,16 @@ use Rattle.commit_machine.specs.Jobs as jobs
 use Rattle.commit_machine.specs.Machine.{Seizing, Ended}
 use Rattle.commit_machine.specs.Goes.{Goes}
 use Rattle.commit_machine.specs.Laws.{IsRun}
-use Rattle.commit_machine.proofs.RunLemmas.{crash_safe}
-use Rattle.commit_machine.proofs.StopLemmas.{stop_safe}
 use Rattle.commit_machine.proofs.EndLemmas.{front_is_run, no_record_stands, recovery_settles}
-use Rattle.commit_machine.proofs.FaultLemmas.{nothing_after_a_fault}
-use Rattle.commit_machine.proofs.RestraintLemmas.{right_is_given_up}
+use Rattle.commit_machine.proofs.SafetyLemmas.{runs_are_safe}
 use Rattle.commit_driver.specs.declared.step.Recovered.{Recovered}
 use Rattle.folder_recovery.specs.declared.error.RecoverError.{RecoverError}
 use Rattle.folder_recovery.specs.declared.error.RecoverError.TheVariants as error
 use Rattle.folder_recovery.specs.Recovering.{found, Recovers, GoesTo}
+use Rattle.folder_recovery.specs.Told.{IsTold}
 use Rattle.folder_recovery.specs.Safe.{MayRecover, IsSettled, RecoversSafely}
+use Rattle.folder_recovery.proofs.ToldLemmas.{is-told}
+use Rattle.folder_recovery.proofs.BusyLemmas.{busy-met}
 
 recovery-is-job : (actor : List ℕ) (token : ℕ) → token < 2 ^ 64 → IsJob (recovery_for actor token)
 recovery-is-job actor token fits = record { token_fits = fits; valid = λ es is. absurd (cc); plain = λ e m. absurd m }
@@ -78,17 +78,15 @@ module _ (actor : List ℕ) (token : ℕ) (d : Disk) where
       let j = recovery_for actor token in
       let w = ends-somewhere j (own es) result h in
       let run = run-of es w.0 may honest w.1 in
-      let G : List Event → Type 0 = λ es. IsRun j d es (Ended w.0) in
+      let safe = runs_are_safe (λ files. files) j d es w.0 (λ files n. refl) run in
       record {
-        moments = λ front rest is. let x = front_is_run j d front rest (Ended w.0) (subst G is run) in crash_safe j d front x.0 x.1;
-        stops = λ front rest e part is. stop_safe j d front e rest (Ended w.0) part (subst G is run);
+        run = safe;
         ends = λ front rest f is none done.
             let R : Result Recovered RecoverError → Type 0 = λ r. Recovers j (own es) r in
             let goes = subst R done h in
             let D : List Event → Type 0 = λ es. IsRun j d es (Ended (jobs.Recovered (found f))) in
             settled-at front rest f none (subst D is (run-of es (jobs.Recovered (found f)) may honest goes));
-        right_given_up = right_is_given_up j d es w.0 run;
-        nothing_after_a_fault = λ front rest e is. nothing_after_a_fault j d front e rest (Ended w.0) (subst G is run);
+        busy = λ name is. busy-met actor token d es safe name (subst (λ (r : Result Recovered RecoverError). IsTold actor (own es) r) is (is-told actor token (own es) result h));
       }
 
 -- of a host that tells its trace

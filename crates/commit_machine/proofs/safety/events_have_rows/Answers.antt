@@ -1,0 +1,5 @@
+use Rattle.commit_machine.proofs.SafetyLemmas.{events_have_rows}
+use Rattle.commit_machine.proofs.safety.events_have_rows.Goals as goal
+
+pub returns : goal.returns
+returns c = events_have_rows
