@@ -1,5 +1,5 @@
-//! Commands that put messages into files: copy, Copy, save, Save and write. Each comes to one change of one file, or to the
-//! line that refuses it; nothing is changed yet.
+//! Commands that put messages into files: copy, Copy, save, Save and write. Each comes to one change of one file, or
+//! to the line that refuses it; nothing is changed yet.
 #![tactic(auto)]
 
 mod file_names;

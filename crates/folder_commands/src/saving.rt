@@ -178,8 +178,9 @@ fn by_author(alloc: Global, act: Act, desk: &Desk, words: &[Text]) -> Result<Fil
     Ok(adding(alloc, act, desk, numbers.items(), name)?)
 }
 
-/// `copy`: the selected messages are added to a file, the last word's, or to mbox where there is no word; then they are looked
-/// at. Refused are, in this order: what `chosen` refuses, `#`, since there is no previous file, and `+` where no folder is set.
+/// `copy`: the selected messages are added to a file, the last word's, or to mbox where there is no word; then they are
+/// looked at. Refused are, in this order: what `chosen` refuses, `#`, since there is no previous file, and `+` where no
+/// folder is set.
 pub fn copy(alloc: Global, desk: &Desk, words: &[Text]) -> Result<Filing, Refusal>
     requires { IsDesk desk.now }
     ensures means { Means result (copy desk.now words.now) }
@@ -188,8 +189,8 @@ pub fn copy(alloc: Global, desk: &Desk, words: &[Text]) -> Result<Filing, Refusa
     into_file(alloc, Act::Look, desk, words)
 }
 
-/// `Copy`: the same with a list alone, to the file that is named after the author of the first message. Refused are, behind what
-/// `chosen` refuses, the lack of an author, and a name that is empty or holds `/`.
+/// `Copy`: adds the messages of a list to the file that is named after the author of the first of them. Refused are,
+/// behind what `chosen` refuses, the lack of an author, and a name that is empty or holds `/`.
 pub fn copy_by_author(alloc: Global, desk: &Desk, words: &[Text]) -> Result<Filing, Refusal>
     requires { IsDesk desk.now }
     ensures means { Means result (copy_by_author desk.now words.now) }
@@ -227,8 +228,8 @@ fn write_to(alloc: Global, desk: &Desk, list: &[Text], word: &[u8]) -> Result<Fi
     Ok(writing(alloc, desk, numbers.items(), name)?)
 }
 
-/// `write`: the bodies of the selected messages, each with a line feed, are put behind the file of the last word; then they are
-/// marked as saved. Refused is first a line without a word, and then as in `copy`.
+/// `write`: the bodies of the selected messages, each with a line feed, are put behind the file of the last word; then
+/// they are marked as saved. Refused is first a line without a word, and then as in `copy`.
 pub fn write(alloc: Global, desk: &Desk, words: &[Text]) -> Result<Filing, Refusal>
     requires { IsDesk desk.now }
     ensures means { Means result (write desk.now words.now) }

@@ -4,3 +4,4 @@ pub mod EndLemmas
 pub mod FolderLemmas
 pub mod RoundLemmas
 pub mod OpeningLemmas
+pub mod CrashLemmas

@@ -7,8 +7,8 @@ use Rattle.mbox_scan.specs.Mailbox.{list_of}
 use Rattle.session_play.specs.declared.act.Found.{Found}
 use Rattle.session_play.specs.declared.act.Found.TheVariants as found
 use Rattle.session_play.specs.Input.{Input, no_input}
-use Rattle.session_play.specs.Play.{Act, Line, Say, Read, Try, Know, Play, Ret, Ask, Next, Go, Last}
-use Rattle.session_play.specs.Acts.{AllActs, Threads, may_load, loads_nothing}
+use Rattle.session_play.specs.Play.{Act, Line, Play, Ret, Ask, Next, Go, Last}
+use Rattle.session_play.specs.Acts.{AllActs, Threads, is_neutral, may_load, loads_nothing}
 use Rattle.session_play.specs.Causes.{NextFrom}
 use Rattle.mailx_vars.specs.Names.{is_short_name}
 use Rattle.command_desk.specs.declared.desk.Desk.{Desk}
@@ -19,7 +19,7 @@ use Rattle.mailx_session.specs.Sessions.{line_play}
 use Rattle.mailx_top.specs.declared.environment.Environment.{Environment}
 use Rattle.mailx_top.specs.Words.{Start}
 use Rattle.mailx_top.specs.Meaning.{RunState, first_of, Opening, Reading, round, opening, loaded, with_list, greeted, turn, with_input, prompted, input_of, is_opening, message_limit}
-use Rattle.session_play.proofs.ShapeLemmas.{bind-acts, bind-threads}
+use Rattle.session_play.proofs.ShapeLemmas.{bind-acts, bind-threads, weaker-acts, may-all, may-neutral}
 use Rattle.mailx_top.proofs.LineLemmas.{line-acts, line-threads}
 
 abbrev On : Input → Play (Next RunState Status) → Type 0
@@ -72,20 +72,8 @@ either : (test : Act → Bool) (b : Bool) (p q : Play (Next RunState Status)) �
 either test true p q x y = x
 either test false p q x y = y
 
--- an act that loads nothing may stand anywhere
-may-all : (b : Bool) (act : Act) → loads_nothing act ≡ true → may_load b act ≡ true
-may-all true (Line i) l = refl
-may-all false (Line i) l = refl
-may-all true (Say bytes) l = refl
-may-all false (Say bytes) l = refl
-may-all true (Know texts) l = refl
-may-all false (Know texts) l = refl
-may-all b (Read name) l = absurd (cc l)
-may-all b (Try name) l = absurd (cc l)
-
 loads-less : {R : Type 0} (b : Bool) (p : Play R) → AllActs loads_nothing p → AllActs (may_load b) p
-loads-less b (Ret r) all = tt
-loads-less b (Ask act go) all = (may-all b act all.0, λ a. loads-less b (go a) (all.1 a))
+loads-less b p all = weaker-acts loads_nothing (may_load b) (may-all b) p all
 
 greeted-acts : (quiet : Bool) (s : SessionState) → AllActs loads_nothing (greeted quiet s)
 greeted-acts true s = tt
@@ -128,3 +116,7 @@ reading-acts env s i =
 pub loads-round : (env : Environment) (x : RunState) → AllActs (may_load (is_opening x)) (round env x)
 loads-round env (Opening start) = opening-acts env start
 loads-round env (Reading s i) = loads-less false (round env (Reading s i)) (reading-acts env s i)
+
+-- each round changes nothing
+pub neutral-round : (env : Environment) (x : RunState) → AllActs is_neutral (round env x)
+neutral-round env x = weaker-acts (may_load (is_opening x)) is_neutral (may-neutral (is_opening x)) (round env x) (loads-round env x)

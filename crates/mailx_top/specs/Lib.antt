@@ -5,3 +5,4 @@ pub mod Statuses
 pub mod Runs
 pub mod Usage
 pub mod Openings
+pub mod Crash

@@ -15,6 +15,8 @@ ghost use Rattle.mailx_session.specs.Statuses.{IsEnd};
 ghost use Rattle.mailx_top.specs.Openings.{IsBadName};
 ghost use Rattle.mailx_top.specs.Usage.{EndsAsNamed, EndsOr, IsOrCut};
 ghost use Rattle.mailx_top.specs.Wants.{start_from};
+ghost use Rattle.folder_commit.specs.Safe.{MayCommit};
+ghost use Rattle.mailx_top.specs.Crash.{actor_in, IsSafe};
 ghost use Rattle.mailx_top.specs.Words.{are_read, start_of};
 
 use crate::Environment;
@@ -110,11 +112,18 @@ pub fn run<H: Host>(alloc: Global, words: &[Text], env: &Environment, host: &mut
     ensures usage_always { start_of words.now env.now.pairs ≡ None → IsOrCut Status.Usage result }
     // A folder whose name can't be a file's is none, whatever the host tells.
     ensures bad_name { IsBadName (start_of words.now env.now.pairs) → IsOrCut Status.NoFolder result }
+    // From a disk that is sound and carries nothing of the token, with lawful steps of others: at every moment, and wherever
+    // the run stops, what recovery would make of the files is what the accepted commits and others give.
+    ensures safe { (before es : List Event) → H.told host.old ≡ Some before → H.told host.new ≡ Some (before ++ es)
+        → MayCommit (actor_in env.now) env.now.token (disk (H.start host.old) before) es
+        → IsSafe words.now env.now result (disk (H.start host.old) before) es }
     // At every moment of the run the disk is the one at its start with the steps of others.
     ensures prefixes { (before front rest : List Event)
         → H.told host.old ≡ Some before → H.told host.new ≡ Some (before ++ (front ++ rest))
         → disk (H.start host.new) (before ++ front) ≡ disk (H.start host.new) (before ++ of_others front) }
 {
+    // the clause `safe` speaks of a token of 64 bits
+    let _token = env.token;
     match play(alloc, host, words, env) {
         Ok(status) => status,
         Err(cause) => {

@@ -11,9 +11,11 @@ use Rattle.session_play.specs.declared.act.Found.TheVariants as found
 use Rattle.session_play.specs.declared.stop.Stop.{Stop}
 use Rattle.session_play.specs.declared.stop.Stop.TheVariants as stop
 use Rattle.session_play.specs.Input.{Input, input_limit, first_line, last_line, next_of, next_line, took, Reads}
-use Rattle.session_play.specs.Play.{Act, Answer, Line, Say, Read, Try, Know, Play, Ret, Ask, Says, SaysInPart, seen_of, seen_at, Did, Partly, Goes, Next, Go, Last, Loop, again, last, cut}
+use Rattle.session_play.specs.Play.{Act, Answer, Line, Say, Read, Try, Changes, Know, Play, Ret, Ask, Says, SaysInPart, seen_of, seen_at, Did, Partly, Goes, Next, Go, Last, Loop, again, last, cut}
 use Rattle.session_play.specs.Acts.{AllActs, TakesFrom, input_after, Threads, may_load}
 use Rattle.session_play.specs.Causes.{some_in_failed, some_out_failed, some_load_saw, is_failed, bytes_in, counted, events_at, IsExplained, NextFrom}
+use Rattle.session_play.proofs.CommitLemmas.{HasNoStreams, commit-streams}
+use Rattle.session_play.specs.Committing.{answer_as}
 use Rattle.session_play.proofs.SawLemmas.{saw-append, Unseen, unseen-none, unseen-did, unseen-cut}
 
 abbrev is_in : Stop → Bool
@@ -124,6 +126,13 @@ say-part-cut bytes (event.Out front true ∷ es) i le (rest, is, none) =
     subst (λ (es : List Event). IsCutBy stop.Output (event.Out front true ∷ es) i) (sym none) (record { in_is = refl; out_is = refl; amount = omega arith })
 say-part-cut bytes (e ∷ es) i le never = absurd never
 
+-- events on the disk alone
+streams-clean : (es : List Event) (i : Input) → i.taken ≤ input_limit → HasNoStreams es → IsClean es i i
+streams-clean es i le h = let b = h.bytes in record { in_ok = h.in_ok; out_ok = h.out_ok; bytes = omega (arith, b); within = le }
+
+streams-cut : (cause : Stop) (es : List Event) (i : Input) → is_in cause ≡ false → is_out cause ≡ false → Amount cause (i.taken + bytes_in es) → HasNoStreams es → IsCutBy cause es i
+streams-cut cause es i in_no out_no amount h = record { in_is = h.in_ok ∙ sym in_no; out_is = h.out_ok ∙ sym out_no; amount = amount }
+
 load-cut-by : (cause : Stop) (es : List Event) (i : Input) (e : Event) → i.taken ≤ input_limit → es ≡ e ∷ [] → IsCutBy cause (e ∷ []) i → IsCutBy cause es i
 load-cut-by cause es i e le is c = subst (λ (es : List Event). IsCutBy cause es i) (sym is) c
 
@@ -145,6 +154,11 @@ cut-by (Try name) stop.Disk es i le same never = absurd never
 cut-by (Try name) stop.Input es i le same never = absurd never
 cut-by (Try name) stop.Output es i le same never = absurd never
 cut-by (Try name) stop.TooMuch es i le same never = absurd never
+cut-by (Changes c) stop.Disk es i le same (passed, h) = let s = commit-streams c es _ h in streams-cut stop.Disk es i refl refl (let b = s.bytes in omega (arith, b)) s
+cut-by (Changes c) stop.Memory es i le same h = let s = commit-streams c es _ h in streams-cut stop.Memory es i refl refl (let b = s.bytes in omega (arith, b)) s
+cut-by (Changes c) stop.Input es i le same never = absurd never
+cut-by (Changes c) stop.Output es i le same never = absurd never
+cut-by (Changes c) stop.TooMuch es i le same never = absurd never
 cut-by (Know texts) cause es i le same never = absurd never
 
 some-same : {A : Type 0} {a b : A} → Some a ≡ Some b → a ≡ b
@@ -187,6 +201,7 @@ did-clean (Line k) a es i le same did = line-clean i a es le (subst (λ (k : Inp
 did-clean (Say bytes) u es i le same did = says-clean bytes es i le did
 did-clean (Read name) f es i le same did = load-clean name (Some f) es i le did
 did-clean (Try name) f es i le same did = load-clean name f es i le did
+did-clean (Changes c) a es i le same did = streams-clean es i le (commit-streams c es (answer_as a) did)
 did-clean (Know texts) rows es i le same did = none-clean es i le did.0
 
 -- a play that came to its end is clean
@@ -242,6 +257,7 @@ did-quiet true (Line i) a es may did = unseen-did is_failed (Line i) a es refl d
 did-quiet true (Say bytes) u es may did = unseen-did is_failed (Say bytes) u es refl did
 did-quiet true (Read name) f es may did = subst (Unseen is_failed) (sym did) (load-found name f)
 did-quiet true (Try name) f es may did = absurd (cc may)
+did-quiet true (Changes c) a es may did = absurd (cc may)
 did-quiet true (Know texts) rows es may did = unseen-did is_failed (Know texts) rows es refl did
 
 cut-loads : (b : Bool) (act : Act) (cause : Stop) (es : List Event) → may_load b act ≡ true → Partly act cause es → Loads b (is_disk cause) es
@@ -273,6 +289,8 @@ cut-loads false (Try name) stop.Disk es may never = absurd never
 cut-loads false (Try name) stop.Input es may never = absurd never
 cut-loads false (Try name) stop.Output es may never = absurd never
 cut-loads false (Try name) stop.TooMuch es may never = absurd never
+cut-loads true (Changes c) cause es may part = absurd (cc may)
+cut-loads false (Changes c) cause es may part = absurd (cc may)
 cut-loads b (Know texts) cause es may never = absurd never
 
 loads-none : (b is_cut : Bool) (es : List Event) → is_cut ≡ false → es ≡ [] → Loads b is_cut es

@@ -1,4 +1,5 @@
 pub mod PlayLemmas
+pub mod CommitLemmas
 pub mod ActLemmas
 pub mod InputLemmas
 pub mod LoopLemmas

@@ -1,12 +1,12 @@
 -- What holds of the acts and ends of a play, and of one play after another.
-use Rattle.std.proofs.Common.{◌≡◌, Bool, List, refl, sym, subst, inl, inr}
+use Rattle.std.proofs.Common.{◌≡◌, Bool, true, false, List, refl, sym, subst, inl, inr}
 use Rattle.std.specs.declared.result.Result.{Result}
 use Rattle.std.specs.declared.result.Result.TheVariants.{Ok}
 use Rattle.host_port.specs.declared.event.Event.{Event}
 use Rattle.session_play.specs.declared.stop.Stop.{Stop}
 use Rattle.session_play.specs.Input.{Input}
-use Rattle.session_play.specs.Acts.{AllActs, AllEnds, Threads, is_neutral, input_after}
-use Rattle.session_play.specs.Play.{Act, Play, Ret, Ask, Goes, bind}
+use Rattle.session_play.specs.Acts.{AllActs, AllEnds, Threads, is_neutral, loads_nothing, may_load, input_after}
+use Rattle.session_play.specs.Play.{Act, Line, Say, Read, Try, Changes, Know, Play, Ret, Ask, Goes, bind}
 
 abbrev pub came : {R : Type 0} → R → Result R Stop
 came r = Ok r
@@ -35,7 +35,29 @@ pub bind-threads : {A B : Type 0} (E : A → Input → Type 0) (F : B → Input 
 bind-threads E F (Ret a) k i t more = more a i t
 bind-threads E F (Ask act go) k i t more = (t.0, λ a. bind-threads E F (go a) k (input_after act a i) (t.1 a) more)
 
--- every play is of acts that change nothing
-pub all-neutral : {R : Type 0} (p : Play R) → AllActs is_neutral p
-all-neutral (Ret r) = tt
-all-neutral (Ask act go) = (refl, λ a. all-neutral (go a))
+-- acts that pass a test pass a weaker one
+pub weaker-acts : {R : Type 0} (test other : Act → Bool) → ((act : Act) → test act ≡ true → other act ≡ true) → (p : Play R) → AllActs test p → AllActs other p
+weaker-acts test other weaker (Ret r) all = tt
+weaker-acts test other weaker (Ask act go) all = (weaker act all.0, λ a. weaker-acts test other weaker (go a) (all.1 a))
+
+-- an act that loads nothing may stand anywhere
+pub may-all : (b : Bool) (act : Act) → loads_nothing act ≡ true → may_load b act ≡ true
+may-all true (Line i) l = refl
+may-all false (Line i) l = refl
+may-all true (Say bytes) l = refl
+may-all false (Say bytes) l = refl
+may-all true (Know texts) l = refl
+may-all false (Know texts) l = refl
+may-all b (Read name) l = absurd (cc l)
+may-all b (Try name) l = absurd (cc l)
+may-all b (Changes c) l = absurd (cc l)
+
+-- where nothing is committed each act is neutral
+pub may-neutral : (b : Bool) (act : Act) → may_load b act ≡ true → is_neutral act ≡ true
+may-neutral b (Line i) l = refl
+may-neutral b (Say bytes) l = refl
+may-neutral b (Read name) l = refl
+may-neutral b (Try name) l = refl
+may-neutral true (Changes c) l = absurd (cc l)
+may-neutral false (Changes c) l = absurd (cc l)
+may-neutral b (Know texts) l = refl

@@ -1,5 +1,6 @@
 pub mod Input
 pub mod Knowing
+pub mod Committing
 pub mod Play
 pub mod Steps
 pub mod Acts

@@ -10,7 +10,10 @@ use Rattle.host_port.specs.declared.event.Seen.{Seen}
 use Rattle.host_port.specs.declared.event.Seen.TheVariants as seen
 use Rattle.host_port.specs.Calls.{Counts, Rose}
 use Rattle.message_state.specs.declared.row.Row.{Row}
+use Rattle.folder_commit.specs.declared.error.CommitError.TheVariants as error
 use Rattle.session_play.specs.Knowing.{AreRows}
+use Rattle.session_play.specs.Committing.{Commit, answer_as, IsCommitOf, FailsIn}
+use Rattle.session_play.specs.declared.changing.Committed.{Committed}
 use Rattle.session_play.specs.declared.act.Found.{Found}
 use Rattle.session_play.specs.declared.act.Found.TheVariants as found
 use Rattle.session_play.specs.declared.stop.Stop.{Stop}
@@ -18,21 +21,24 @@ use Rattle.session_play.specs.declared.stop.Stop.TheVariants as stop
 use Rattle.session_play.specs.Input.{Input, input_limit, buffer_size, next_line, Reads}
 
 -- What a run asks: the next line of its input; to say bytes; to load a file, where a failure cuts the run off; to try to load one, where a
--- failure is an answer; and the rows of some texts, which it finds without the outside.
+-- failure is an answer; to commit changes of files, where a fault of the disk cuts the run off; and the rows of some texts, which it finds
+-- without the outside.
 pub data Act : Type 0 where
   Line : Input → Act
   Say : List ℕ → Act
   Read : List ℕ → Act
   Try : List ℕ → Act
+  Changes : Commit → Act
   Know : List (List ℕ) → Act
 
 -- what it is answered: the line, or none at the end, with the input that is left; nothing; what the load found; the same, or none where the
--- load failed; the rows
+-- load failed; what the commit answers; the rows
 abbrev pub Answer : Act → Type 0
 Answer (Line i) = Option (List ℕ) × Input
 Answer (Say bytes) = Unit {0}
 Answer (Read name) = Found
 Answer (Try name) = Option Found
+Answer (Changes c) = Committed
 Answer (Know texts) = List Row
 
 -- acts, each followed by what its answer calls for, to a result
@@ -74,6 +80,7 @@ Did (Line i) a es = (j : Input) × Reads i es j × (next_line j ≡ Some a)
 Did (Say bytes) u es = Says bytes es
 Did (Read name) f es = es ≡ event.Load name (seen_of f) ∷ []
 Did (Try name) f es = es ≡ event.Load name (seen_at f) ∷ []
+Did (Changes c) a es = IsCommitOf c es (answer_as a)
 Did (Know texts) rows es = (es ≡ []) × AreRows texts rows
 
 -- bytes that fit the buffer and pass the limit
@@ -95,6 +102,8 @@ Partly (Say bytes) stop.Output es = SaysInPart bytes es
 Partly (Read name) stop.Disk es = es ≡ event.Load name seen.Failed ∷ []
 Partly (Read name) stop.Memory es = es ≡ event.Load name seen.Memory ∷ []
 Partly (Try name) stop.Memory es = es ≡ event.Load name seen.Memory ∷ []
+Partly (Changes c) stop.Disk es = FailsIn c es
+Partly (Changes c) stop.Memory es = IsCommitOf c es (Err error.Memory)
 Partly act cause es = ⊥
 
 -- The events are those of the play, to its end or to where it was cut off. Want of memory may come at any place.

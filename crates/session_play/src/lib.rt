@@ -2,9 +2,11 @@
 #![tactic(auto)]
 
 mod act;
+mod changing;
 mod reader;
 mod stop;
 
 pub use act::{Found, load, say, try_load};
+pub use changing::{Committed, change};
 pub use reader::Reader;
 pub use stop::Stop;

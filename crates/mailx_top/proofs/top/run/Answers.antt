@@ -1,14 +1,15 @@
-use Rattle.std.proofs.Common.{refl, sym, Ok, Err, []}
+use Rattle.std.proofs.Common.{◌<◌, ◌^◌, arith, refl, sym, Ok, Err, []}
 use Rattle.std.proofs.lemmas.List.{append-nil}
 use Rattle.host_port.proofs.RanLemmas.{Ran-then, Ran-map}
 use Rattle.session_play.proofs.CauseLemmas.{loop-explained}
 use Rattle.session_play.proofs.LooksLemmas.{loop-looks, looked, looks-both}
-use Rattle.session_play.proofs.ShapeLemmas.{all-neutral}
 use Rattle.mailx_top.specs.Meaning.{round, input_of, is_opening}
 use Rattle.host_port.specs.Own.{OnlyLooks}
 use Rattle.mailx_top.proofs.EndLemmas.{last-looks, end-no-fault, only-usage, usage-ended, usage-cut, bad-ended, bad-cut}
 use Rattle.mailx_top.proofs.OpeningLemmas.{opening-explained}
-use Rattle.mailx_top.proofs.RoundLemmas.{threads-round, loads-round}
+use Rattle.mailx_top.proofs.RoundLemmas.{threads-round, loads-round, neutral-round}
+use Rattle.play_safety.proofs.LawLemmas.{ran-safe}
+use Rattle.mailx_top.proofs.CrashLemmas.{safely}
 use Rattle.mailx_top.proofs.top.run.Goals as goal
 
 pub returns-in-Ok-clause-run : goal.returns-in-Ok-clause-run
@@ -22,7 +23,7 @@ returns-in-Ok-clause-run g c =
 
 pub returns-in-Ok-clause-prefixes : goal.returns-in-Ok-clause-prefixes
 returns-in-Ok-clause-prefixes g c = λ before front rest.
-    looked (λ es loop. loop-looks (λ x. all-neutral (round c.args.env.now x)) loop) c.in-Ok.ensures.ran before front rest
+    looked (λ es loop. loop-looks (neutral-round c.args.env.now) loop) c.in-Ok.ensures.ran before front rest
 
 pub returns-in-Ok-clause-input_fault : goal.returns-in-Ok-clause-input_fault
 returns-in-Ok-clause-input_fault g c = λ is. end-no-fault _ _ _ c.in-Ok.ensures.named tt is
@@ -60,4 +61,16 @@ returns-in-Err-clause-run g c =
 pub returns-in-Err-clause-prefixes : goal.returns-in-Err-clause-prefixes
 returns-in-Err-clause-prefixes g c = λ before front rest.
     looked {P = OnlyLooks} (λ es looks. looks)
-    (Ran-then (λ front rest loop said. looks-both front rest (loop-looks (λ x. all-neutral (round c.args.env.now x)) loop) (last-looks _ _ rest said)) c.in-Err.ensures.ran c.say_cut.ensures) before front rest
+    (Ran-then (λ front rest loop said. looks-both front rest (loop-looks (neutral-round c.args.env.now) loop) (last-looks _ _ rest said)) c.in-Err.ensures.ran c.say_cut.ensures) before front rest
+
+pub returns-in-Ok-clause-safe : goal.returns-in-Ok-clause-safe
+returns-in-Ok-clause-safe g c = λ before es at to may.
+    let r = ran-safe before es (returns-in-Ok-clause-run g c) at to in
+    let fits : c.args.env.now.token < 2 ^ 64 = omega arith in
+    safely c.args.words.now c.args.env.now c.in-Ok.status _ es fits r.0 may r.1
+
+pub returns-in-Err-clause-safe : goal.returns-in-Err-clause-safe
+returns-in-Err-clause-safe g c = λ before es at to may.
+    let r = ran-safe before es (returns-in-Err-clause-run g c) at to in
+    let fits : c.args.env.now.token < 2 ^ 64 = omega arith in
+    safely c.args.words.now c.args.env.now c.stop_status.result _ es fits r.0 may r.1

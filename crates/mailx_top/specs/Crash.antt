@@ -1,0 +1,30 @@
+-- What a run leaves on the disk, whatever others lawfully do meanwhile and wherever it stops.
+use Rattle.std.specs.Prelude.{◌≡◌, ℕ, List, ◌++◌}
+use Rattle.std.specs.declared.result.Result.{Result}
+use Rattle.host_port.specs.declared.event.Event.{Event}
+use Rattle.host_port.specs.Disk.{Disk}
+use Rattle.host_port.specs.Own.{own}
+use Rattle.session_play.specs.declared.stop.Stop.{Stop}
+use Rattle.play_safety.specs.Passes.{Commits, PassesAll}
+use Rattle.play_safety.specs.Safe.{IsCrashSafe}
+use Rattle.mailx_session.specs.declared.status.Status.{Status}
+use Rattle.mailx_top.specs.declared.environment.Environment.{Environment}
+use Rattle.mailx_top.specs.Words.{are_read, start_of}
+use Rattle.mailx_top.specs.Meaning.{Opening, round, first_of}
+use Rattle.mailx_top.specs.Runs.{Ending}
+
+-- the actor of a run's commits
+abbrev pub actor_in : Environment → List ℕ
+actor_in env = (first_of env).actor
+
+-- The events of a run, steps of others among them, carry out its meaning, and then what its ending adds. The commits that are accepted are read
+-- off the same stretches, and with them the run is crash safe.
+pub record IsSafe (words : List (List ℕ)) (env : Environment) (s : Status) (d : Disk) (es : List Event) : Type 0 where
+  pub out : Result Status Stop
+  pub front : List Event
+  pub rest : List Event
+  pub commits : Commits
+  pub is : es ≡ front ++ rest
+  pub plays : PassesAll (round env) (Opening (start_of words env.pairs)) d front commits out
+  pub ending : Ending (are_read words) s out (own rest)
+  pub safe : IsCrashSafe (actor_in env) env.token d es commits out

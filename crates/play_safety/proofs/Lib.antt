@@ -1,0 +1,5 @@
+pub mod RowParts
+pub mod TraceLemmas
+pub mod CoverLemmas
+pub mod SafeLemmas
+pub mod LawLemmas

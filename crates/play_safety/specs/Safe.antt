@@ -1,0 +1,102 @@
+-- What the traces of plays leave, whatever others lawfully do meanwhile and wherever a run stops.
+use Rattle.std.specs.Prelude.{◌≡◌, ◌<◌, ◌^◌, ℕ, Bool, true, false, List, [], ◌∷◌, ◌++◌, map, length}
+use Rattle.std.specs.declared.option.Option.TheVariants.{None}
+use Rattle.std.specs.declared.result.Result.{Result}
+use Rattle.std.specs.declared.result.Result.TheVariants.{Err}
+use Rattle.host_port.specs.declared.event.Event.{Event}
+use Rattle.host_port.specs.declared.event.Event.TheVariants as event
+use Rattle.host_port.specs.declared.event.Part.{Part}
+use Rattle.host_port.specs.Disk.{Disk, disk}
+use Rattle.host_port.specs.Ends.{stopped}
+use Rattle.host_port.specs.Own.{own}
+use Rattle.std.specs.List.{list_any}
+use Rattle.host_port.specs.Ran.{Honest}
+use Rattle.commit_machine.specs.Names.{is_record_name}
+use Rattle.commit_machine.specs.Jobs.{Edit}
+use Rattle.commit_machine.specs.Edits.{edits_for}
+use Rattle.commit_machine.specs.Lawful.{IsSound, IsFresh, OthersAreLawful, standing}
+use Rattle.commit_machine.specs.Due.{settled_files}
+use Rattle.commit_machine.specs.Laws.{in_flight, decisions}
+use Rattle.commit_machine.specs.Rows.{first_job, run_files, IsRunDue}
+use Rattle.folder_commit.specs.Plans.{AreFiles}
+use Rattle.session_play.specs.declared.stop.Stop.{Stop}
+use Rattle.session_play.specs.declared.stop.Stop.TheVariants as stop
+use Rattle.session_play.specs.Committing.{Commit}
+use Rattle.session_play.specs.declared.changing.Committed.TheVariants as committed
+use Rattle.session_play.specs.Play.{Act, Answer, Changes, Play, Ret, Ask, Did, Goes, Next, Go, Last}
+use Rattle.play_safety.specs.Passes.{decided_in, Commits, Passes}
+
+-- a commit of this actor under this token, of files that it may change
+pub record IsBy (actor : List ℕ) (token : ℕ) (c : Commit) : Type 0 where
+  pub actor_is : c.actor ≡ actor
+  pub token_is : c.token ≡ token
+  pub files : AreFiles actor c.changes
+
+-- the event of an output
+abbrev pub is_output : Event → Bool
+is_output (event.Out bytes failed) = true
+is_output e = false
+
+-- each commit of an act is such
+abbrev pub OfCommit : (Commit → Type 0) → Act → Type 0
+OfCommit P (Changes c) = P c
+OfCommit P act = Unit {0}
+
+-- each commit of a play is such
+abbrev pub EachCommit : {R : Type 0} → (Commit → Type 0) → Play R → Type 0
+EachCommit P (Ret r) = Unit {0}
+EachCommit P (Ask act go) = OfCommit P act × ((answer : Answer act) → EachCommit P (go answer))
+
+-- the next state keeps what its states keep
+abbrev pub NextKeeps : {X R : Type 0} → (X → Type 0) → Next X R → Type 0
+NextKeeps Keeps (Go x) = Keeps x
+NextKeeps Keeps (Last r) = Unit {0}
+
+-- a run begins on a disk that is sound and carries nothing of its token, its events say what is so, and others do only what is lawful
+pub record MayRun (actor : List ℕ) (token : ℕ) (d : Disk) (es : List Event) : Type 0 where
+  pub fits : token < 2 ^ 64
+  pub fresh : IsFresh actor token d
+  pub sound : IsSound actor d
+  pub honest : Honest d es
+  pub lawful : OthersAreLawful actor token d es
+
+-- the edits of commits, in order
+abbrev pub queue_of : List Commit → List (List Edit)
+queue_of cs = map (λ c. edits_for c.changes c.base) cs
+
+-- The edits of what was accepted. Behind them stand those of the commit that was under way where a fault cut the run off: only a decision that a
+-- stop catches in flight can take them.
+abbrev pub queue : Commits → List (List Edit)
+queue commits = queue_of (commits.accepted ++ commits.pending)
+
+-- no fault of the disk cut the run off
+abbrev pub IsCalm : {R : Type 0} → Result R Stop → Type 0
+IsCalm (Err stop.Disk) = ⊥
+IsCalm out = Unit {0}
+
+-- At every moment, and at every image of a stop, the settled files are those that the accepted commits, each from its decision on, and others
+-- give, the settled locks are those of others, and the disk is sound. As many decisions were passed as commits are accepted. Where no fault of
+-- the disk cut the run off nothing carries the token in the end, and where no record stands then, the files themselves are these.
+pub record IsCrashSafe {R : Type 0} (actor : List ℕ) (token : ℕ) (d : Disk) (es : List Event) (commits : Commits) (out : Result R Stop) : Type 0 where
+  pub moments : (front rest : List Event) → es ≡ front ++ rest → IsRunDue actor token d (queue commits) front (disk d front)
+  pub stops : (front rest : List Event) (e : Event) (part : Part) → es ≡ front ++ e ∷ rest
+      → IsRunDue actor token d (queue commits) (front ++ in_flight (disk d front) e part) (stopped (disk d front) e part)
+  pub decided : decisions (first_job actor token []) d 0 es ≡ length commits.accepted
+  pub nothing_left : IsCalm out → IsFresh actor token (disk d es)
+  pub files : standing actor (disk d es) ≡ None → (n : List ℕ) → is_record_name actor n ≡ false
+      → (disk d es).files n ≡ run_files actor token d (queue commits) (settled_files actor d) es n
+
+-- Plays whose commits are all of this actor and token are safe.
+abbrev pub PlaysAreSafe : Type 0
+PlaysAreSafe = (p : Play (Unit {0})) (actor : List ℕ) (token : ℕ) (d : Disk) (es : List Event) (commits : Commits) (out : Result Unit Stop)
+    → EachCommit (IsBy actor token) p → MayRun actor token d es → Passes p d es commits out
+    → IsCrashSafe actor token d es commits out
+
+-- Own events that carry out a play are those of whole traces that do, in which the accepted commits can be read.
+abbrev pub TracesAreRead : Type 0
+TracesAreRead = (p : Play (Unit {0})) (d : Disk) (es : List Event) (out : Result Unit Stop) → Goes p (own es) out → (commits : Commits) × Passes p d es commits out
+
+-- An answered commit that was done is decided in its own stretch, which holds no output. So what is said of it is said behind its decision.
+abbrev pub DoneIsDecided : Type 0
+DoneIsDecided = (c : Commit) (actor : List ℕ) (token : ℕ) (d : Disk) (es : List Event) → IsBy actor token c → MayRun actor token d es → 0 < length c.changes
+    → Did (Changes c) committed.Done (own es) → (decided_in c d es ≡ 1) × (list_any is_output es ≡ false)

@@ -1,0 +1,18 @@
+ghost use Rattle.play_safety.specs.Safe.{PlaysAreSafe, TracesAreRead, DoneIsDecided};
+
+/// The trace of a play whose commits are all of one actor and one token, from a disk that is sound and carries nothing
+/// of the token, among lawful steps of others: at each moment and at each disk that a stop leaves, what recovery would
+/// make of the files is what the accepted commits give, each from its decision on.
+pub fn plays_are_safe()
+    ensures { PlaysAreSafe }
+{}
+
+/// In each trace whose own events carry out a play it can be read which commits were accepted.
+pub fn traces_are_read()
+    ensures { TracesAreRead }
+{}
+
+/// A commit that is answered as done is decided in its own stretch of events, which holds no output.
+pub fn done_is_decided()
+    ensures { DoneIsDecided }
+{}

@@ -1,0 +1,6 @@
+//! What the traces of plays leave, whatever others lawfully do meanwhile and wherever a run stops.
+#![tactic(auto)]
+
+mod laws;
+
+pub use laws::{done_is_decided, plays_are_safe, traces_are_read};

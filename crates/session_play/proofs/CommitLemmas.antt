@@ -1,0 +1,108 @@
+-- A commit carries out its act, and neither takes input nor says anything.
+use Rattle.std.proofs.Common.{◌≡◌, ◌⊎◌, ℕ, false, List, [], ◌∷◌, ◌++◌, refl, sym, subst, inl, inr}
+use Rattle.std.proofs.lemmas.List.{append-nil}
+use Rattle.std.specs.Prelude.{IfErr}
+use Rattle.session_play.specs.Cuts.{IsLoadCut}
+use Rattle.std.specs.declared.option.Option.{Option}
+use Rattle.std.specs.declared.option.Option.TheVariants.{Some, None}
+use Rattle.std.specs.declared.result.Result.{Result}
+use Rattle.std.specs.declared.result.Result.TheVariants.{Ok, Err}
+use Rattle.host_port.specs.declared.event.Event.{Event}
+use Rattle.host_port.specs.Calls.{Counts}
+use Rattle.folder_change.specs.declared.change.Change.{Change}
+use Rattle.commit_machine.specs.Jobs.{Job}
+use Rattle.commit_machine.specs.Machine.{State, Seizing, Ended, Call, next, after_reply}
+use Rattle.commit_machine.specs.Edits.{job_for}
+use Rattle.commit_machine.specs.Goes.{IsOf, loads, stages, stage_fails, publishes, erases, locks, unlocks, seizes, releases, IsNext, reply}
+use Rattle.commit_machine.specs.Goes as machine
+use Rattle.folder_commit.specs.declared.error.CommitError.{CommitError}
+use Rattle.folder_commit.specs.declared.error.CommitError.TheVariants as error
+use Rattle.folder_commit.specs.Ends.{CommitCause}
+use Rattle.folder_commit.specs.Commits.{IsCommit}
+use Rattle.session_play.specs.declared.changing.Committed.{Committed}
+use Rattle.session_play.specs.declared.changing.Committed.TheVariants as committed
+use Rattle.session_play.specs.declared.stop.Stop.TheVariants as stop
+use Rattle.session_play.specs.Causes.{some_in_failed, some_out_failed, bytes_in}
+use Rattle.session_play.specs.Committing.{Commit, IsCommitOf, taken}
+use Rattle.session_play.specs.Play.{Ask, Ret, Changes, Goes, Caused}
+
+did : (c : Commit) (es : List Event) (a : Committed) (answer : Result Unit CommitError) → taken answer ≡ Ok a → IsCommitOf c es answer → Goes {R = Committed} (Ask (Changes c) Ret) es (taken answer)
+did c es a (Ok u) is h = inl (committed.Done, es, [], sym (append-nil es), h, (refl, inl refl))
+did c es a (Err (error.Busy name)) is h = inl (committed.Busy name, es, [], sym (append-nil es), h, (refl, inl refl))
+did c es a (Err error.Record) is h = inl (committed.NotARecord, es, [], sym (append-nil es), h, (refl, inl refl))
+did c es a (Err (error.Changed name at)) is h = inl (committed.Changed name at, es, [], sym (append-nil es), h, (refl, inl refl))
+did c es a (Err (error.TooLarge name n)) is h = inl (committed.TooLarge name n, es, [], sym (append-nil es), h, (refl, inl refl))
+did c es a (Err (error.TooManyNames n)) is h = inl (committed.TooManyNames n, es, [], sym (append-nil es), h, (refl, inl refl))
+did c es a (Err (error.Disk passed)) is h = absurd (cc is)
+did c es a (Err error.Memory) is h = absurd (cc is)
+
+pub commit-goes : (c : Commit) (answer : Result Unit CommitError) (es : List Event) → IsCommitOf c es answer → Goes {R = Committed} (Ask (Changes c) Ret) es (taken answer)
+commit-goes c (Ok u) es h = did c es committed.Done (Ok u) refl h
+commit-goes c (Err (error.Busy name)) es h = did c es (committed.Busy name) (Err (error.Busy name)) refl h
+commit-goes c (Err error.Record) es h = did c es committed.NotARecord (Err error.Record) refl h
+commit-goes c (Err (error.Changed name at)) es h = did c es (committed.Changed name at) (Err (error.Changed name at)) refl h
+commit-goes c (Err (error.TooLarge name n)) es h = did c es (committed.TooLarge name n) (Err (error.TooLarge name n)) refl h
+commit-goes c (Err (error.TooManyNames n)) es h = did c es (committed.TooManyNames n) (Err (error.TooManyNames n)) refl h
+commit-goes c (Err (error.Disk passed)) es h = inr (stop.Disk, refl, inr (passed, h))
+commit-goes c (Err error.Memory) es h = inr (stop.Memory, refl, inr h)
+
+pub commit-caused : (old now : Counts) (answer : Result Unit CommitError) → CommitCause old now answer → Caused old now (taken answer)
+commit-caused old now (Ok u) h = tt
+commit-caused old now (Err (error.Busy name)) h = tt
+commit-caused old now (Err error.Record) h = tt
+commit-caused old now (Err (error.Changed name at)) h = tt
+commit-caused old now (Err (error.TooLarge name n)) h = tt
+commit-caused old now (Err (error.TooManyNames n)) h = tt
+commit-caused old now (Err (error.Disk passed)) h = h
+commit-caused old now (Err error.Memory) h = tt
+
+-- a fault of the disk and want of memory alone cut off
+pub commit-cut : (answer : Result Unit CommitError) → IfErr (taken answer) IsLoadCut
+commit-cut (Ok u) = tt
+commit-cut (Err (error.Busy name)) = tt
+commit-cut (Err error.Record) = tt
+commit-cut (Err (error.Changed name at)) = tt
+commit-cut (Err (error.TooLarge name n)) = tt
+commit-cut (Err (error.TooManyNames n)) = tt
+commit-cut (Err (error.Disk passed)) = tt
+commit-cut (Err error.Memory) = tt
+
+-- events that neither take input nor say anything
+pub record HasNoStreams (es : List Event) : Type 0 where
+  pub in_ok : some_in_failed es ≡ false
+  pub out_ok : some_out_failed es ≡ false
+  pub bytes : bytes_in es ≡ 0
+
+no-streams : HasNoStreams []
+no-streams = record { in_ok = refl; out_ok = refl; bytes = refl }
+
+call-streams : (c : Call) (e : Event) (es : List Event) → IsOf c e → HasNoStreams es → HasNoStreams (e ∷ es)
+call-streams c e es loads h = record { in_ok = h.in_ok; out_ok = h.out_ok; bytes = h.bytes }
+call-streams c e es stages h = record { in_ok = h.in_ok; out_ok = h.out_ok; bytes = h.bytes }
+call-streams c e es stage_fails h = record { in_ok = h.in_ok; out_ok = h.out_ok; bytes = h.bytes }
+call-streams c e es publishes h = record { in_ok = h.in_ok; out_ok = h.out_ok; bytes = h.bytes }
+call-streams c e es erases h = record { in_ok = h.in_ok; out_ok = h.out_ok; bytes = h.bytes }
+call-streams c e es locks h = record { in_ok = h.in_ok; out_ok = h.out_ok; bytes = h.bytes }
+call-streams c e es unlocks h = record { in_ok = h.in_ok; out_ok = h.out_ok; bytes = h.bytes }
+call-streams c e es seizes h = record { in_ok = h.in_ok; out_ok = h.out_ok; bytes = h.bytes }
+call-streams c e es releases h = record { in_ok = h.in_ok; out_ok = h.out_ok; bytes = h.bytes }
+
+next-streams : (o : Option Call) (e : Event) (es : List Event) → IsNext o e → HasNoStreams es → HasNoStreams (e ∷ es)
+next-streams None e es never h = absurd never
+next-streams (Some c) e es of h = call-streams c e es of h
+
+machine-streams : (j : Job) (s : State) (es : List Event) (last : State) → machine.Goes j s es last → HasNoStreams es
+machine-streams j s [] last g = no-streams
+machine-streams j s (e ∷ es) last g = next-streams (next j g.0) e es g.2 (machine-streams j (after_reply j g.0 (reply e)) es last g.3)
+
+none-streams : (es : List Event) → es ≡ [] → HasNoStreams es
+none-streams es is = subst HasNoStreams (sym is) no-streams
+
+changes-streams : (actor : List ℕ) (token : ℕ) (cs : List Change) (base : List (List ℕ)) (es : List Event) (answer : Result Unit CommitError) → IsCommit actor token cs base es answer → HasNoStreams es
+changes-streams actor token [] base es answer h = none-streams es h.0
+changes-streams actor token (x ∷ cs) base es answer (inl many) = none-streams es many.1.0
+changes-streams actor token (x ∷ cs) base es answer (inr (few, h)) = machine-streams (job_for actor token (x ∷ cs) base) Seizing es (Ended h.end) h.goes
+
+-- the own events of a commit
+pub commit-streams : (c : Commit) (es : List Event) (answer : Result Unit CommitError) → IsCommitOf c es answer → HasNoStreams es
+commit-streams c es answer h = changes-streams c.actor c.token c.changes c.base es answer h
