@@ -1,0 +1,4 @@
+pub mod Words
+pub mod Options
+pub mod Modes
+pub mod Readings

@@ -1,0 +1,15 @@
+//! The words of the command line: which mode they ask for, and with which options.
+#![tactic(auto)]
+
+mod error;
+mod mode;
+mod options;
+mod parse;
+mod reading;
+mod refused;
+mod texts;
+
+pub use error::WordsError;
+pub use mode::Mode;
+pub use options::Options;
+pub use reading::{Wanted, read_words};
