@@ -1,9 +1,10 @@
 // Each law is called once.
 use commit_machine::{
-    alone_goes, crash_safe, decisions_apply, decisions_are_told, edits_are_changes, front_is_run,
-    no_record_stands, no_refused_is_decided, nothing_after_a_fault, nothing_left, only_decisions,
-    recovery_settles, right_is_given_up, row_is_safe, row_moments, row_stops, row_stops_between,
-    stop_safe, stretches_join, troubled_runs, worked_runs,
+    alone_goes, crash_safe, decisions_apply, decisions_are_told, edits_are_changes,
+    events_have_rows, front_is_run, no_record_stands, no_refused_is_decided, nothing_after_a_fault,
+    nothing_left, only_decisions, recovery_settles, right_is_given_up, row_is_safe, row_moments,
+    row_stops, row_stops_between, runs_are_safe, stop_safe, stretches_join, troubled_runs,
+    worked_runs,
 };
 use commit_record::a_text_has_one_record;
 use folder_change::{
@@ -28,6 +29,8 @@ fn machine() {
     no_refused_is_decided();
     alone_goes();
     worked_runs();
+    runs_are_safe();
+    events_have_rows();
     troubled_runs();
     row_is_safe();
     row_moments();

@@ -4,14 +4,23 @@ use commit_record::{Entry, EntryKind, Phase, Record, RecordError, is_valid, read
 use mail_text::{Items, Memory, Text};
 use std::alloc::Global;
 
+// An entry by its name; an exclamation mark before it removes the file.
+fn entry(alloc: Global, marked: &str) -> Result<Entry, Memory> {
+    let (kind, name) = match marked.strip_prefix('!') {
+        Some(name) => (EntryKind::Remove, name),
+        None => (EntryKind::Replace, marked),
+    };
+    Ok(Entry {
+        kind,
+        name: decoded(alloc, name)?,
+    })
+}
+
 fn entries(alloc: Global, names: &str) -> Result<Items<Entry>, Memory> {
     let mut entries = Items::new(alloc);
     if names != "-" {
         for name in names.split('|') {
-            entries.push(Entry {
-                kind: EntryKind::Replace,
-                name: decoded(alloc, name)?,
-            })?;
+            entries.push(entry(alloc, name)?)?;
         }
     }
     Ok(entries)

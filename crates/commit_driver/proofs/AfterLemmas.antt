@@ -15,7 +15,8 @@ use Rattle.commit_record.specs.declared.record.Record.{Record}
 use Rattle.commit_machine.specs.Names.{staged_name}
 use Rattle.commit_machine.specs.Records.{is_go, names_of}
 use Rattle.commit_machine.specs.Jobs.{Ending, NoMemory, Edit, Job, Made, edits_of}
-use Rattle.commit_machine.specs.Machine.{State, Looking, loading, after_reply, went_on, faulted, too_long, wanted, saw}
+use Rattle.commit_machine.specs.Machine.{State, Looking, loading, after_reply, went_on, faulted, too_long, wanted, saw, go_front}
+use Rattle.commit_machine.proofs.RecordLemmas.{valid-names}
 use Rattle.commit_driver.specs.declared.step.Passed.{Passed}
 use Rattle.commit_driver.specs.declared.step.End.{End}
 use Rattle.commit_driver.specs.declared.step.End.TheVariants as end
@@ -29,22 +30,23 @@ use Rattle.commit_driver.specs.declared.judge.Trouble.{Trouble}
 use Rattle.commit_driver.specs.declared.judge.Trouble.TheVariants as trouble
 use Rattle.commit_driver.specs.declared.place.Plan.{Plan}
 use Rattle.commit_driver.specs.declared.place.Place.{Place}
-use Rattle.commit_driver.specs.Steps.{call_at, Fits, weight, went_at, faulted_at, long_at, short_at}
+use Rattle.commit_driver.specs.Steps.{call_at, Fits, weight, tested_at, went_at, faulted_at, long_at, short_at}
 use Rattle.commit_driver.specs.Judging.{TroubleFits}
-use Rattle.commit_driver.specs.Places.{files_of, entries_of, made_from, state_as, Holds, IsPlan, IsPlace, IsSafe, StandsFor}
+use Rattle.commit_driver.specs.Places.{files_of, entries_of, kinds_in, kinds_of, made_from, state_as, Holds, IsPlan, IsPlace, IsSafe, StandsFor}
 use Rattle.commit_driver.specs.Answers.{IsAnswer, reply_as, mending_at, judged_at, Finds, PassedSo, LooksAt, Looks, Takes, SawSo, Answered, at_step, IsCommitOf, Follows, is_long, is_settled, Caused, ReplyCaused, IsAfter}
 use Rattle.commit_driver.proofs.StateLemmas.{unlocking-all, drop-some}
 use Rattle.commit_driver.proofs.NextLemmas.{files-long, edits-long}
-use Rattle.commit_driver.proofs.FitLemmas.{of-if, of-staging, fits-went, fits-fault, fits-long, fits-short, fits-placing, fits-undoing, fits-unlocking, fits-staging, lighter-went, lighter-fault, lighter-long, lighter-short, under-placing, under-undoing, under-unlocking, under-staging, settled-went, settled-fault, settled-long, settled-short, caused-went, caused-fault, caused-long, caused-short, caused-placing, caused-undoing, caused-unlocking, Loads}
+use Rattle.commit_driver.proofs.FitLemmas.{of-if, of-staging, fits-went, fits-fault, fits-long, fits-short, fits-placing, fits-tested, fits-undoing, fits-unlocking, fits-staging, lighter-went, lighter-fault, lighter-long, lighter-short, under-placing, under-tested, under-undoing, under-unlocking, under-staging, settled-went, settled-fault, settled-long, settled-short, caused-went, caused-fault, caused-long, caused-short, caused-placing, caused-tested, caused-undoing, caused-unlocking, Loads}
 use Rattle.commit_driver.proofs.AnswerLemmas.{went-same, fault-same, long-same, holds-went, holds-fault, holds-long, holds-short}
 use Rattle.commit_driver.proofs.FileLemmas.{record-files, record-staged}
-use Rattle.commit_driver.proofs.SawLemmas.{AreNamed, length-set, look-follows, check-follows, take-follows}
+use Rattle.commit_driver.proofs.SawLemmas.{AreNamed, length-set, look-follows, test-follows, check-follows, take-follows}
 
 false-true : true ≡ false → ⊥
 false-true h = let x : true ≡ false = h in absurd (cc)
 
 loads-of : (s : Step) (r : Reply) → IsAnswer (call_at s) r → (is_loaded : Bool) → ((b : Bool) → r ≡ reply.Went b → ⊥) → (r ≡ reply.Fault → ⊥) → Loads s
 loads-of step.Looking r a b h g = tt
+loads-of (step.Testing at) r a b h g = tt
 loads-of (step.Loading at) r a b h g = tt
 loads-of step.Checking r a b h g = tt
 loads-of s (reply.Went x) a b h g = absurd (h x refl)
@@ -64,7 +66,7 @@ loads-saw s c a = loads-of s (reply.Saw c) a true (λ b e. absurd (cc)) (λ e. a
 
 -- the same place with another step
 place-step : (plan : Plan) (old : Place) (s : Step) → IsPlace plan old → Fits (files_of plan) (entries_of old) s → IsPlace plan (at_step old s)
-place-step plan old s q f = record { fits = f; staged_are = q.staged_are; few = q.few; files_are = q.files_are; names = q.names; staged = q.staged }
+place-step plan old s q f = record { fits = f; staged_are = q.staged_are; few = q.few; files_are = q.files_are; distinct = q.distinct; names = q.names; staged = q.staged }
 
 pub names-staged : (token : ℕ) (es : List Entry) → map (λ e. staged_name token e.name) es ≡ map (staged_name token) (map (λ e. e.name) es)
 names-staged token [] = refl
@@ -96,10 +98,11 @@ module _ (plan : Plan) (old : Place) (q : IsPlace plan old) (safe : IsSafe plan)
 
   after-went : (b : Bool) → IsAnswer (call_at old.step) (reply.Went b) → (now : Place) → Answered plan (reply.Went b) changes base old now → After (reply.Went b) now
   after-went b a now is =
-      let s = went_at plan.commits n m (is_go old.found) old.step b in
-      by-step (reply.Went b) s (fits-went plan.commits n m (is_go old.found) old.step b (λ e. safe.some e) q.fits a) (lighter-went plan.commits n m (is_go old.found) old.step b safe.few q.few q.fits a)
-      (λ e. (settled-went plan.commits n m (is_go old.found) old.step b a e, refl))
-      (λ before after c x. caused-went before after plan.commits n m (is_go old.found) old.step b a c)
+      let ks = kinds_of old in
+      let s = went_at ks plan.commits n m (is_go old.found) old.step b in
+      by-step (reply.Went b) s (fits-went ks plan.commits n m (is_go old.found) old.step b (λ e. safe.some e) q.fits a) (lighter-went ks plan.commits n m (is_go old.found) old.step b safe.few q.few q.fits a)
+      (λ e. (settled-went ks plan.commits n m (is_go old.found) old.step b a e, refl))
+      (λ before after c x. caused-went before after ks plan.commits n m (is_go old.found) old.step b a c)
       (λ j t p for st. (
         went_on j t b,
         inl refl,
@@ -154,6 +157,8 @@ module _ (plan : Plan) (old : Place) (q : IsPlace plan old) (safe : IsSafe plan)
   short-follows : (j : Job) (s : Step) (t : State) (hidden : Ending) (made : List Made) → IsPlan j plan → Fits n m s → Loads s → state_as j hidden made old.found old.files s ≡ t → StandsFor j (at_step old (short_at n s)) (wanted j t)
   short-follows j step.Looking t hidden made p f l is =
       record { hidden = NoMemory; wanted = inl refl; made = made; holds = tt; is = ap (wanted j) is }
+  short-follows j (step.Testing at) t hidden made p f l is =
+      record { hidden = NoMemory; wanted = inl refl; made = made; holds = tt; is = ap (wanted j) is }
   short-follows j (step.Loading at) t hidden made p f l is =
       let es = edits_of j in
       let ms = made_from es (take at old.files) in
@@ -188,10 +193,10 @@ module _ (plan : Plan) (old : Place) (q : IsPlace plan old) (safe : IsSafe plan)
     was-open : is_settled old.step ≡ false
     was-open = ap is_settled looking
 
-    lighter-than : (s : Step) → weight s < 19 * 17 → weight s < weight old.step
+    lighter-than : (s : Step) → weight s < 19 * 51 → weight s < weight old.step
     lighter-than s l = subst (λ (z : Step). weight s < weight z) (sym looking) l
 
-    look-step : (file : Option (List ℕ)) (s : Step) (now : Place) → Fits n m s → weight s < 19 * 17 → ((before after : ℕ) → Caused before after s) → now ≡ at_step old s → Looks plan file old now → After (reply.Saw file) now
+    look-step : (file : Option (List ℕ)) (s : Step) (now : Place) → Fits n m s → weight s < 19 * 51 → ((before after : ℕ) → Caused before after s) → now ≡ at_step old s → Looks plan file old now → After (reply.Saw file) now
     look-step file s now f l c is looks =
         record {
           place = subst (IsPlace plan) (sym is) (place-step plan old s q f);
@@ -207,16 +212,17 @@ module _ (plan : Plan) (old : Place) (q : IsPlace plan old) (safe : IsSafe plan)
         let valid = finds.0.valid in
         let le : length r.entries ≤ length r.entries = omega arith in
         record {
-          fits = of-if (Fits n (length r.entries)) (is_go r) _ _ (λ e. fits-placing n (length r.entries) 0 then.GoOn tt) (λ e. fits-undoing n (length r.entries) 0 (length r.entries) (length r.entries) then.GoOn le le tt);
+          fits = of-if (Fits n (length r.entries)) (is_go r) _ _ (λ e. fits-placing (kinds_in r.entries []) n (length r.entries) 0 then.GoOn tt) (λ e. fits-undoing n (length r.entries) 0 (length r.entries) (length r.entries) then.GoOn le le tt);
           staged_are = finds.1 ∙ names-staged r.token r.entries;
           few = valid-few r valid;
+          distinct = valid-names r valid;
           files_are = q.files_are;
           names = all-names r.entries (record-files r valid);
           staged = subst (All IsFileName) (sym finds.1) (record-staged r valid);
         }
 
-    mending-light : (r : Record) → length r.entries ≤ 16 → weight (mending_at r) < 19 * 17
-    mending-light r few = of-if (λ (s : Step). weight s < 19 * 17) (is_go r) _ _ (λ e. under-placing (19 * 17) 0 (length r.entries) then.GoOn (omega arith)) (λ e. under-undoing (19 * 17) 0 (length r.entries) (length r.entries) then.GoOn few (omega arith))
+    mending-light : (r : Record) → length r.entries ≤ 16 → weight (mending_at r) < 19 * 51
+    mending-light r few = of-if (λ (s : Step). weight s < 19 * 51) (is_go r) _ _ (λ e. under-placing (kinds_in r.entries []) (19 * 51) 0 (length r.entries) then.GoOn (omega arith)) (λ e. under-undoing (19 * 51) 0 (length r.entries) (length r.entries) then.GoOn few (omega arith))
 
     after-found : (bytes : List ℕ) (result : Result Found End) (now : Place) → Finds bytes result → LooksAt result old now → Looks plan (Some bytes) old now → After (reply.Saw (Some bytes)) now
     after-found bytes (Ok found) now finds is looks =
@@ -226,7 +232,7 @@ module _ (plan : Plan) (old : Place) (q : IsPlace plan old) (safe : IsSafe plan)
           lighter = subst (λ (z : Place). weight z.step < weight old.step) (sym is) (lighter-than (mending_at r) (mending-light r (valid-few r finds.0.valid)));
           settled = λ e. (was-open, refl);
           caused = λ before after x y. subst (λ (z : Place). Caused before after z.step) (sym is)
-              (of-if (Caused before after) (is_go r) _ _ (λ e. caused-placing before after 0 (length r.entries) then.GoOn tt) (λ e. caused-undoing before after 0 (length r.entries) (length r.entries) then.GoOn tt));
+              (of-if (Caused before after) (is_go r) _ _ (λ e. caused-placing before after (kinds_in r.entries []) 0 (length r.entries) then.GoOn tt) (λ e. caused-undoing before after 0 (length r.entries) (length r.entries) then.GoOn tt));
           follows = look-goes (Some bytes) now looks;
         }
     after-found bytes (Err end.NotARecord) now finds is looks = look-step (Some bytes) (step.Releasing end.NotARecord) now tt (omega arith) (λ before after. tt) is looks
@@ -235,7 +241,7 @@ module _ (plan : Plan) (old : Place) (q : IsPlace plan old) (safe : IsSafe plan)
 
     after-looking : (file : Option (List ℕ)) (now : Place) → Looks plan file old now → After (reply.Saw file) now
     after-looking None now is =
-        look-step None _ now (of-if (Fits n m) plan.commits _ _ (λ e. safe.some e) (λ e. tt)) (of-if (λ (s : Step). weight s < 19 * 17) plan.commits _ _ (λ e. omega arith) (λ e. omega arith))
+        look-step None _ now (of-if (Fits n m) plan.commits _ _ (λ e. safe.some e) (λ e. tt)) (of-if (λ (s : Step). weight s < 19 * 51) plan.commits _ _ (λ e. omega arith) (λ e. omega arith))
         (λ before after. of-if (Caused before after) plan.commits _ _ (λ e. tt) (λ e. tt)) is is
     after-looking (Some bytes) now looks = after-found bytes looks.0 now looks.1 looks.2 looks
 
@@ -246,7 +252,7 @@ module _ (plan : Plan) (old : Place) (q : IsPlace plan old) (safe : IsSafe plan)
 
     load-goes : (file : Option (List ℕ)) (now : Place) → Takes plan at file changes base old now → (j : Job) (t : State) → IsPlan j plan → (j.edits ≡ None) ⊎ IsCommitOf j changes base → StandsFor j old t → Follows j now (saw j t file)
     load-goes file now takes j t p (inl none) st =
-        let some : is_some j.edits ≡ true = subst (Holds j st.made old.files) at-loading st.holds in
+        let some : is_some j.edits ≡ true = subst (Holds j st.made old.files old.go) at-loading st.holds in
         absurd (false-true (sym some ∙ ap is_some none))
     load-goes file now takes j t p (inr of) st =
         let is = sym (ap (state_as j st.hidden st.made old.found old.files) at-loading) ∙ st.is in
@@ -261,11 +267,11 @@ module _ (plan : Plan) (old : Place) (q : IsPlace plan old) (safe : IsSafe plan)
     judged-fits (Err (trouble.TooLarge k x)) t = fits-unlocking n m 0 n (then.Answer (end.TooLarge k x)) (omega arith) t.0
     judged-fits (Err trouble.Memory) t = fits-unlocking n m 0 n (then.Answer end.NoMemory) (omega arith) tt
 
-    judged-light : (result : Result Unit Trouble) → weight (judged_at n result) < 9 * 17 + (16 - at)
-    judged-light (Ok u) = under-staging (9 * 17 + (16 - at)) 0 n (omega (arith, at-some, safe.few))
-    judged-light (Err (trouble.Changed k x)) = under-unlocking (9 * 17 + (16 - at)) 0 n (then.Answer (end.Changed k x)) safe.few (omega arith)
-    judged-light (Err (trouble.TooLarge k x)) = under-unlocking (9 * 17 + (16 - at)) 0 n (then.Answer (end.TooLarge k x)) safe.few (omega arith)
-    judged-light (Err trouble.Memory) = under-unlocking (9 * 17 + (16 - at)) 0 n (then.Answer end.NoMemory) safe.few (omega arith)
+    judged-light : (result : Result Unit Trouble) → weight (judged_at n result) < 9 * 51 + (16 - at)
+    judged-light (Ok u) = under-staging (9 * 51 + (16 - at)) 0 n (omega (arith, at-some, safe.few))
+    judged-light (Err (trouble.Changed k x)) = under-unlocking (9 * 51 + (16 - at)) 0 n (then.Answer (end.Changed k x)) safe.few (omega arith)
+    judged-light (Err (trouble.TooLarge k x)) = under-unlocking (9 * 51 + (16 - at)) 0 n (then.Answer (end.TooLarge k x)) safe.few (omega arith)
+    judged-light (Err trouble.Memory) = under-unlocking (9 * 51 + (16 - at)) 0 n (then.Answer end.NoMemory) safe.few (omega arith)
 
     judged-caused : (before after : ℕ) (result : Result Unit Trouble) → TroubleFits n result → Caused before after (judged_at n result)
     judged-caused before after (Ok u) t = of-staging (Caused before after) 0 n (λ l. tt) tt
@@ -273,12 +279,12 @@ module _ (plan : Plan) (old : Place) (q : IsPlace plan old) (safe : IsSafe plan)
     judged-caused before after (Err (trouble.TooLarge k x)) t = caused-unlocking before after 0 n (then.Answer (end.TooLarge k x)) t.1
     judged-caused before after (Err trouble.Memory) t = caused-unlocking before after 0 n (then.Answer end.NoMemory) tt
 
-    load-place : (s : Step) (fs : List (Option (List ℕ))) → Fits n m s → length fs ≡ n → IsPlace plan (record old { step = s; files = fs })
-    load-place s fs f l = record { fits = f; staged_are = q.staged_are; few = q.few; files_are = l; names = q.names; staged = q.staged }
+    load-place : (s : Step) (fs : List (Option (List ℕ))) (go : List ℕ) → Fits n m s → length fs ≡ n → IsPlace plan (record old { step = s; files = fs; go = go })
+    load-place s fs go f l = record { fits = f; staged_are = q.staged_are; few = q.few; files_are = l; distinct = q.distinct; names = q.names; staged = q.staged }
 
-    load-step : (file : Option (List ℕ)) (s : Step) (fs : List (Option (List ℕ))) (now : Place) → Fits n m s → length fs ≡ n → weight s < 9 * 17 + (16 - at) → ((before after : ℕ) → Caused before after s) → now ≡ record old { step = s; files = fs } → Takes plan at file changes base old now → After (reply.Saw file) now
-    load-step file s fs now f l w c is takes = record {
-      place = subst (IsPlace plan) (sym is) (load-place s fs f l);
+    load-step : (file : Option (List ℕ)) (s : Step) (fs : List (Option (List ℕ))) (go : List ℕ) (now : Place) → Fits n m s → length fs ≡ n → weight s < 9 * 51 + (16 - at) → ((before after : ℕ) → Caused before after s) → now ≡ record old { step = s; files = fs; go = go } → Takes plan at file changes base old now → After (reply.Saw file) now
+    load-step file s fs go now f l w c is takes = record {
+      place = subst (IsPlace plan) (sym is) (load-place s fs go f l);
       lighter = subst (λ (z : Place). weight z.step < weight old.step) (sym is) (subst (λ (z : Step). weight s < weight z) (sym at-loading) w);
       settled = λ e. (load-open, refl);
       caused = λ before after x y. subst (λ (z : Place). Caused before after z.step) (sym is) (c before after);
@@ -287,25 +293,40 @@ module _ (plan : Plan) (old : Place) (q : IsPlace plan old) (safe : IsSafe plan)
 
     after-loading : (file : Option (List ℕ)) (now : Place) → Takes plan at file changes base old now → After (reply.Saw file) now
     after-loading file now (inl more) =
-        load-step file (step.Loading (at + 1)) (slice_set old.files at file) now more.0 (length-set old.files at file ∙ q.files_are) (omega (arith, at-some, safe.few)) (λ before after. tt) more.1 (inl more)
+        load-step file (step.Loading (at + 1)) (slice_set old.files at file) old.go now more.0 (length-set old.files at file ∙ q.files_are) (omega (arith, at-some, safe.few)) (λ before after. tt) more.1 (inl more)
     after-loading file now (inr over) =
         let t = over.1 in
-        load-step file (judged_at n t.result) t.made now (judged-fits t.result t.fits) (t.long ∙ length-set old.files at file ∙ q.files_are) (judged-light t.result) (λ before after. judged-caused before after t.result t.fits) t.is (inr over)
+        load-step file (judged_at n t.result) t.made t.go now (judged-fits t.result t.fits) (t.long ∙ length-set old.files at file ∙ q.files_are) (judged-light t.result) (λ before after. judged-caused before after t.result t.fits) t.is (inr over)
 
   -- what a look at the record after a failed decision saw
-  after-checking : (file : Option (List ℕ)) (now : Place) → old.step ≡ step.Checking → (x : Passed) → PassedSo plan.go file x → now ≡ at_step old (step.Releasing (end.Failed x)) → After (reply.Saw file) now
+  after-checking : (file : Option (List ℕ)) (now : Place) → old.step ≡ step.Checking → (x : Passed) → PassedSo old.go file x → now ≡ at_step old (step.Releasing (end.Failed x)) → After (reply.Saw file) now
   after-checking file now at x so is =
-      by-step (reply.Saw file) (step.Releasing (end.Failed x)) tt (subst (λ (z : Step). 17 < weight z) (sym at) (omega arith)) (λ e. absurd (false-true e))
+      by-step (reply.Saw file) (step.Releasing (end.Failed x)) tt (subst (λ (z : Step). 51 < weight z) (sym at) (omega arith)) (λ e. absurd (false-true e))
       (λ before after c y. subst (Caused before after) at c)
       (λ j t p for st.
       let same = sym (ap (state_as j st.hidden st.made old.found old.files) at) ∙ st.is in
-      let some : is_some j.edits ≡ true = subst (Holds j st.made old.files) at st.holds in
-      subst (λ (z : State). Follows j (at_step old (step.Releasing (end.Failed x))) (saw j z file)) same (check-follows j plan old p q st.hidden st.wanted st.made file (at_step old (step.Releasing (end.Failed x))) x some so refl))
+      let front : take 47 old.go ≡ go_front j.token = subst (Holds j st.made old.files old.go) at st.holds in
+      subst (λ (z : State). Follows j (at_step old (step.Releasing (end.Failed x))) (saw j z file)) same (check-follows j plan old p q st.hidden st.wanted st.made file (at_step old (step.Releasing (end.Failed x))) x front so refl))
+      now is
+
+  -- what a look for the staged file of a removal saw
+  after-testing : (at : ℕ) (file : Option (List ℕ)) (now : Place) → old.step ≡ step.Testing at → now ≡ at_step old (tested_at (kinds_of old) m at (is_some file)) → After (reply.Saw file) now
+  after-testing at file now e is =
+      let s = tested_at (kinds_of old) m at (is_some file) in
+      let l : at < m = subst (Fits n m) e q.fits in
+      by-step (reply.Saw file) s (fits-tested (kinds_of old) n m at (is_some file) l)
+      (subst (λ (z : Step). weight s < weight z) (sym e) (under-tested (kinds_of old) m at (is_some file) l q.few))
+      (λ u. (ap is_settled e, refl))
+      (λ before after c y. caused-tested before after (kinds_of old) m at (is_some file))
+      (λ j t p for st.
+      let same = sym (ap (state_as j st.hidden st.made old.found old.files) e) ∙ st.is in
+      subst (λ (z : State). Follows j (at_step old s) (saw j z file)) same (test-follows j plan old p q st.hidden st.wanted st.made at file (at_step old s) l refl))
       now is
 
   after-saw : (file : Option (List ℕ)) (s : Step) (now : Place) → old.step ≡ s → IsAnswer (call_at s) (reply.Saw file) → SawSo plan file changes base old s now → After (reply.Saw file) now
   after-saw file step.Looking now e a is = after-looking e file now is
   after-saw file (step.Loading at) now e a is = after-loading at e file now is
+  after-saw file (step.Testing at) now e a is = after-testing at file now e is
   after-saw file step.Checking now e a is = after-checking file now e is.0 is.1 is.2
   after-saw file s now e a is = absurd (loads-saw s file a)
 

@@ -1,10 +1,10 @@
 -- The state after an answer is the machine's.
-use Rattle.std.proofs.Common.{◌≡◌, ℕ, ◌+◌, ◌<◌, Bool, true, false, List, [], ◌∷◌, ◌++◌, Option, Some, None, length, map, take, drop, is_some, refl, ap, sym, inl, inr, ◌∙◌, arith, if◌then◌else◌}
+use Rattle.std.proofs.Common.{◌≡◌, ℕ, ◌+◌, ◌<◌, Bool, true, false, List, [], ◌∷◌, ◌++◌, Option, Some, None, length, map, take, drop, is_some, refl, ap, sym, subst, inl, inr, ◌∙◌, arith, if◌then◌else◌}
 use Rattle.commit_record.specs.declared.record.Record.{Record}
-use Rattle.commit_machine.specs.Records.{is_go}
-use Rattle.commit_machine.specs.Jobs.{Ending, Edit, Job, Made, edits_of, all_of, prepare_of, go_of}
+use Rattle.commit_machine.specs.Records.{is_go, names_of, AreDistinct}
+use Rattle.commit_machine.specs.Jobs.{Ending, Edit, Job, Made, edits_of, all_of, prepare_of, go_of, made_at, kind_made}
 use Rattle.commit_machine.specs.Jobs as jobs
-use Rattle.commit_machine.specs.Machine.{State, locking, loading, staging, unlocking, undoing, placing, refusing, went_on, faulted, too_long, mended, none_stands}
+use Rattle.commit_machine.specs.Machine.{State, locking, loading, staging, unlocking, undoing, placing, tested, refusing, went_on, faulted, too_long, mended, none_stands}
 use Rattle.commit_machine.specs.Machine as machine
 use Rattle.commit_driver.specs.declared.step.Recovered.{Recovered}
 use Rattle.commit_driver.specs.declared.step.Recovered.TheVariants as recovered
@@ -13,14 +13,17 @@ use Rattle.commit_driver.specs.declared.step.End.TheVariants as end
 use Rattle.commit_driver.specs.declared.step.Then.{Then}
 use Rattle.commit_driver.specs.declared.step.Then.TheVariants.{GoOn, Answer}
 use Rattle.commit_driver.specs.declared.step.Step.{Step}
-use Rattle.commit_driver.specs.declared.step.Step.TheVariants.{Seizing, Looking, Undoing, Placing, Unlocking, Erasing, Clearing, Preparing, Publishing, Locking, Loading, Staging, Deciding, Committing, Checking, Releasing, Ended}
+use Rattle.commit_driver.specs.declared.step.Step.TheVariants.{Seizing, Looking, Undoing, Placing, Testing, Removing, Discarding, Unlocking, Erasing, Clearing, Preparing, Publishing, Locking, Loading, Staging, Deciding, Committing, Checking, Releasing, Ended}
 use Rattle.commit_driver.specs.declared.answers.Reply.TheVariants as reply
 use Rattle.commit_driver.specs.declared.place.Plan.{Plan}
 use Rattle.commit_driver.specs.declared.place.Place.{Place}
-use Rattle.commit_driver.specs.Steps.{call_at, count_at, passed_end, passed_then, unlocking_at, undoing_at, placing_at, faulted_at, long_at, short_at, closed_at, went_at, Fits}
-use Rattle.commit_driver.specs.Places.{nth, files_of, entries_of, passed_as, found_as, end_as, then_as, made_from, names_as, state_as, WantedAs, IsMade, Holds, IsPlan, IsPlace}
+use Rattle.commit_driver.specs.Steps.{Kinds, call_at, count_at, passed_end, passed_then, unlocking_at, undoing_at, placing_at, tested_at, faulted_at, long_at, short_at, closed_at, went_at, Fits}
+use Rattle.commit_driver.specs.Places.{nth, files_of, entries_of, kinds_of, PlacesSo, passed_as, found_as, end_as, then_as, made_from, names_as, state_as, WantedAs, IsMade, Holds, IsPlan, IsPlace}
 use Rattle.commit_driver.specs.Answers.{IsAnswer}
-use Rattle.commit_driver.proofs.StateLemmas.{drop-some, drop-map, nth-map, take-next, unlocking-view, undoing-view, placing-view, unlocking-is, unlocking-all, undoing-is, placing-is, locking-is, staging-is}
+use Rattle.commit_driver.proofs.StateLemmas.{drop-some, drop-map, nth-map, take-next, unlocking-view, undoing-view, KindsAre, unlocking-is, unlocking-all, undoing-is, placing-is, locking-is, staging-is}
+use Rattle.commit_machine.proofs.FrontLemmas.{front-taken}
+use Rattle.commit_machine.proofs.JobLemmas.{kind_of_entries}
+use Rattle.commit_driver.proofs.KindLemmas.{kind-nth, kind-made, nth-Mem}
 use Rattle.commit_driver.proofs.NextLemmas.{files-long, edits-long, made-long, names-count}
 use Rattle.commit_driver.proofs.FitLemmas.{of-if, of-unlocking, of-undoing, of-placing, of-locking, of-staging, Loads}
 
@@ -28,22 +31,23 @@ found-same : (b : Bool) → found_as (if b then recovered.Finished else recovere
 found-same true = refl
 found-same false = refl
 
-end-passed : (j : Job) (hidden : Ending) (files : List (List ℕ)) (e : End) → WantedAs files hidden → passed_as (passed_end e) ≡ machine.passed_ending (end_as j hidden e)
-end-passed j hidden files end.Done w = refl
-end-passed j hidden files (end.Failed p) w = refl
-end-passed j hidden files end.NoMemory (inl is) = sym (ap machine.passed_ending is)
-end-passed j hidden files end.NoMemory (inr is) = sym (ap machine.passed_ending is.2)
-end-passed j hidden files (end.Recovered f) w = refl
-end-passed j hidden files end.RightBusy w = refl
-end-passed j hidden files (end.Busy k) w = refl
-end-passed j hidden files end.NotARecord w = refl
-end-passed j hidden files (end.RecordTooLarge n) w = refl
-end-passed j hidden files (end.TooLarge k n) w = refl
-end-passed j hidden files (end.Changed k m) w = refl
+end-passed : (j : Job) (hidden : Ending) (files : List (List ℕ)) (found : Record) (e : End) → WantedAs files hidden → passed_as (passed_end e) ≡ machine.passed_ending (end_as j hidden found e)
+end-passed j hidden files found end.Done w = refl
+end-passed j hidden files found (end.Failed p) w = refl
+end-passed j hidden files found end.NoMemory (inl is) = sym (ap machine.passed_ending is)
+end-passed j hidden files found end.NoMemory (inr is) = sym (ap machine.passed_ending is.2)
+end-passed j hidden files found (end.Recovered f) w = refl
+end-passed j hidden files found end.RightBusy w = refl
+end-passed j hidden files found (end.Busy k) w = refl
+end-passed j hidden files found end.NotARecord w = refl
+end-passed j hidden files found (end.RecordTooLarge n) w = refl
+end-passed j hidden files found (end.StagedTooLarge k n) w = refl
+end-passed j hidden files found (end.TooLarge k n) w = refl
+end-passed j hidden files found (end.Changed k m) w = refl
 
-then-passed : (j : Job) (hidden : Ending) (files : List (List ℕ)) (th : Then) → WantedAs files hidden → passed_as (passed_then th) ≡ machine.passed_then (then_as j hidden th)
-then-passed j hidden files GoOn w = refl
-then-passed j hidden files (Answer e) w = end-passed j hidden files e w
+then-passed : (j : Job) (hidden : Ending) (files : List (List ℕ)) (found : Record) (th : Then) → WantedAs files hidden → passed_as (passed_then th) ≡ machine.passed_then (then_as j hidden found th)
+then-passed j hidden files found GoOn w = refl
+then-passed j hidden files found (Answer e) w = end-passed j hidden files found e w
 
 module _ (j : Job) (plan : Plan) (place : Place) (hidden : Ending) (made : List Made) (p : IsPlan j plan) (q : IsPlace plan place) where
   abbrev found : Record
@@ -76,8 +80,22 @@ module _ (j : Job) (plan : Plan) (place : Place) (hidden : Ending) (made : List 
   looked-none None e = ap (λ (b : Bool). at_step (if b then Preparing else Clearing recovered.Nothing)) e
   looked-none (Some es) e = ap (λ (b : Bool). at_step (if b then Preparing else Clearing recovered.Nothing)) e
 
+  -- the kinds of entries that are put in place are those of their record
+  kinds-are : (th : Then) → PlacesSo j made place.files place.go th → KindsAre j hidden made found place.files (kinds_of place) th (count_at (files_of plan) (entries_of place) th)
+  kinds-are GoOn h at l = kind-nth found.entries at q.distinct l
+  kinds-are (Answer end.Done) h at l =
+      kind-made made place.files at (subst AreDistinct (sym h.names_are) h.distinct) h.kinds_are (omega (arith, l, made-long j plan made place.files place.go p h))
+      ∙ ap (λ (ns : List (List ℕ)). kind_made (made_at made (nth ns at))) h.names_are
+      ∙ sym (kind_of_entries (all_of j) (λ n. kind_made (made_at made n)) (nth (all_of j) at) (nth-Mem (all_of j) at (omega (arith, l, n-is))))
+  kinds-are (Answer (end.Recovered f)) h at l = absurd h
+  kinds-are (Answer e) h at l = absurd h
+
+  pub tested-same : (at : ℕ) (file : Option (List ℕ)) → at < entries_of place → at_step (tested_at (kinds_of place) (entries_of place) at (is_some file)) ≡ tested found (nth (names_of found) at) (drop (at + 1) (names_of found)) (names_of found) file
+  tested-same at None l = placing-is j hidden made found place.files (kinds_of place) (at + 1) (entries_of place) GoOn (count GoOn) (kinds-are GoOn tt)
+  tested-same at (Some bytes) l = refl
+
   abbrev Went : Step → Bool → Type 0
-  Went s b = at_step (went_at plan.commits (files_of plan) (entries_of place) (is_go found) s b) ≡ went_on j (at_step s) b
+  Went s b = at_step (went_at (kinds_of place) plan.commits (files_of plan) (entries_of place) (is_go found) s b) ≡ went_on j (at_step s) b
 
   went-erasing : (th : Then) (b : Bool) → Went (Erasing th) b
   went-erasing GoOn b = ap machine.Clearing (found-same (is_go found))
@@ -95,26 +113,25 @@ module _ (j : Job) (plan : Plan) (place : Place) (hidden : Ending) (made : List 
       ∙ ap (λ (n : List ℕ). unlocking (prepare_of j) (take at (all_of j)) (machine.Answer (jobs.Refused (jobs.Busy n)))) (edit-name at w.0 (drop (at + 1) (edits_of j)) w.1)
       ∙ sym (ap (λ (es : List Edit). went_on j (locking j (take at (all_of j)) es) false) w.1)
 
-  went-staging : (at : ℕ) (b : Bool) → at < files_of plan → IsMade j made place.files → Went (Staging at) b
+  went-staging : (at : ℕ) (b : Bool) → at < files_of plan → IsMade j made place.files place.go → Went (Staging at) b
   went-staging at b l m =
-      let long = made-long j plan made place.files p m in
+      let long = made-long j plan made place.files place.go p m in
       let w = drop-some made at (omega (arith, l, long)) in
       let taken = take-next (all_of j) at w.0.edit.name (map (λ (x : Made). x.edit.name) (drop (at + 1) made)) (ap (drop at) (sym m.names_are) ∙ drop-map (λ (x : Made). x.edit.name) made at ∙ ap (map (λ (x : Made). x.edit.name)) w.1) in
       staging-is j hidden made found place.files (at + 1) (files_of plan) long
       ∙ ap (λ (ns : List (List ℕ)). staging ns made (drop (at + 1) made)) taken
       ∙ sym (ap (λ (ms : List Made). went_on j (staging (take at (all_of j)) made ms) b) w.1)
 
-  pub went-same : (s : Step) (b : Bool) → Fits (files_of plan) (entries_of place) s → Holds j made place.files s → IsAnswer (call_at s) (reply.Went b) → Went s b
+  pub went-same : (s : Step) (b : Bool) → Fits (files_of plan) (entries_of place) s → Holds j made place.files place.go s → IsAnswer (call_at s) (reply.Went b) → Went s b
   went-same Seizing true f h a = refl
   went-same Seizing false f h a = refl
   went-same (Undoing at e locks th) b f h a =
       let c = count th in
       undoing-is j hidden made found place.files (at + 1) e locks th (omega (arith, f.1, c)) (omega (arith, f.2, c))
       ∙ sym (ap (λ (s : State). went_on j s b) (undoing-view j hidden made found place.files at e locks th f.0 (omega (arith, f.1, c))))
-  went-same (Placing at th) b f h a =
-      let c = count th in
-      placing-is j hidden made found place.files (at + 1) (count_at (files_of plan) (entries_of place) th) th c
-      ∙ sym (ap (λ (s : State). went_on j s b) (placing-view j hidden made found place.files at th (omega (arith, f.0, c))))
+  went-same (Placing at th) b f h a = placing-is j hidden made found place.files (kinds_of place) (at + 1) (count_at (files_of plan) (entries_of place) th) th (count th) (kinds-are th h)
+  went-same (Removing at th) b f h a = refl
+  went-same (Discarding at th) b f h a = placing-is j hidden made found place.files (kinds_of place) (at + 1) (count_at (files_of plan) (entries_of place) th) th (count th) (kinds-are th h)
   went-same (Unlocking at e th) b f h a =
       let c = count th in
       unlocking-is j hidden made found place.files (at + 1) e th (omega (arith, f.1, c))
@@ -125,13 +142,14 @@ module _ (j : Job) (plan : Plan) (place : Place) (hidden : Ending) (made : List 
   went-same Publishing true f h a = locking-is j hidden made found place.files 0 (files_of plan) n-is
   went-same Publishing false f h a = refl
   went-same (Locking at) b f h a = went-locking at b f
-  went-same (Staging at) b f h a = went-staging at b f h.1
+  went-same (Staging at) b f h a = went-staging at b f h
   went-same Deciding b f h a = refl
-  went-same Committing true f h a = placing-is j hidden made found place.files 0 (files_of plan) (Answer end.Done) n-is
+  went-same Committing true f h a = placing-is j hidden made found place.files (kinds_of place) 0 (files_of plan) (Answer end.Done) n-is (kinds-are (Answer end.Done) h)
   went-same Committing false f h a = refl
   went-same (Releasing e) b f h a = refl
   went-same Looking b f h a = absurd a
   went-same (Loading at) b f h a = absurd a
+  went-same (Testing at) b f h a = absurd a
   went-same Checking b f h a = absurd a
   went-same (Ended e) b f h a = absurd a
 
@@ -139,14 +157,17 @@ module _ (j : Job) (plan : Plan) (place : Place) (hidden : Ending) (made : List 
     abbrev Faults : Step → Type 0
     Faults s = at_step (faulted_at s) ≡ faulted (at_step s)
 
-    failed-then : (th : Then) → machine.Releasing (jobs.Failed (passed_as (passed_then th))) ≡ machine.Releasing (jobs.Failed (machine.passed_then (then_as j hidden th)))
-    failed-then th = ap (λ (x : jobs.Passed). machine.Releasing (jobs.Failed x)) (then-passed j hidden (all_of j) th wanted)
+    failed-then : (th : Then) → machine.Releasing (jobs.Failed (passed_as (passed_then th))) ≡ machine.Releasing (jobs.Failed (machine.passed_then (then_as j hidden found th)))
+    failed-then th = ap (λ (x : jobs.Passed). machine.Releasing (jobs.Failed x)) (then-passed j hidden (all_of j) found th wanted)
 
-    pub fault-same : (s : Step) → Fits (files_of plan) (entries_of place) s → Holds j made place.files s → IsAnswer (call_at s) reply.Fault → Faults s
+    pub fault-same : (s : Step) → Fits (files_of plan) (entries_of place) s → Holds j made place.files place.go s → IsAnswer (call_at s) reply.Fault → Faults s
     fault-same Seizing f h a = refl
     fault-same Looking f h a = refl
     fault-same (Undoing at e locks th) f h a = let c = count th in sym (ap faulted (undoing-view j hidden made found place.files at e locks th f.0 (omega (arith, f.1, c))))
-    fault-same (Placing at th) f h a = let c = count th in failed-then th ∙ sym (ap faulted (placing-view j hidden made found place.files at th (omega (arith, f.0, c))))
+    fault-same (Placing at th) f h a = failed-then th
+    fault-same (Testing at) f h a = refl
+    fault-same (Removing at th) f h a = failed-then th
+    fault-same (Discarding at th) f h a = failed-then th
     fault-same (Unlocking at e th) f h a = let c = count th in failed-then th ∙ sym (ap faulted (unlocking-view j hidden made found place.files at e th f.0 (omega (arith, f.1, c))))
     fault-same (Erasing th) f h a = failed-then th
     fault-same (Clearing c) f h a = refl
@@ -154,7 +175,7 @@ module _ (j : Job) (plan : Plan) (place : Place) (hidden : Ending) (made : List 
     fault-same Publishing f h a = refl
     fault-same (Locking at) f h a = let w = edit-at at f in sym (ap (λ (es : List Edit). faulted (locking j (take at (all_of j)) es)) w.1)
     fault-same (Loading at) f h a = let w = edit-at at f in sym (ap (λ (es : List Edit). faulted (loading j (made_from (edits_of j) (take at place.files)) es)) w.1)
-    fault-same (Staging at) f h a = let w = drop-some made at (omega (arith, f, made-long j plan made place.files p h.1)) in sym (ap (λ (ms : List Made). faulted (staging (take at (all_of j)) made ms)) w.1)
+    fault-same (Staging at) f h a = let w = drop-some made at (omega (arith, f, made-long j plan made place.files place.go p h)) in sym (ap (λ (ms : List Made). faulted (staging (take at (all_of j)) made ms)) w.1)
     fault-same Deciding f h a = refl
     fault-same Committing f h a = refl
     fault-same Checking f h a = refl
@@ -163,6 +184,7 @@ module _ (j : Job) (plan : Plan) (place : Place) (hidden : Ending) (made : List 
 
   pub long-same : (s : Step) (k : ℕ) → Fits (files_of plan) (entries_of place) s → Loads s → at_step (long_at (files_of plan) s k) ≡ too_long j (at_step s) k
   long-same Looking k f l = refl
+  long-same (Testing at) k f l = refl
   long-same (Loading at) k f l =
       let w = edit-at at f in
       unlocking-all j hidden made found place.files (files_of plan) (Answer (end.TooLarge at k)) n-is
@@ -173,54 +195,63 @@ module _ (j : Job) (plan : Plan) (place : Place) (hidden : Ending) (made : List 
 
   -- what a step takes for granted holds at the next
   abbrev Held : Step → Type 0
-  Held s = Holds j made place.files s
+  Held s = Holds j made place.files place.go s
 
   pub holds-undoing : (at e locks : ℕ) (th : Then) → Held (undoing_at at e locks th)
-  holds-undoing at e locks th = of-undoing (Holds j made place.files) at e locks th (λ x. tt) (λ x. tt) tt
+  holds-undoing at e locks th = of-undoing (Holds j made place.files place.go) at e locks th (λ x. tt) (λ x. tt) tt
 
-  pub holds-placing : (at e : ℕ) (th : Then) → Held (placing_at at e th)
-  holds-placing at e th = of-placing (Holds j made place.files) at e th (λ x. tt) (λ x. tt) tt
+  pub holds-placing : (kinds : Kinds) (at e : ℕ) (th : Then) → PlacesSo j made place.files place.go th → Held (placing_at kinds at e th)
+  holds-placing kinds at e th h = of-placing (Holds j made place.files place.go) kinds at e th (λ x. record { places = h; tests = λ e. tt; removes = h }) (λ x. tt) tt
+
+  pub holds-tested : (kinds : Kinds) (m at : ℕ) (stands : Bool) → Held (tested_at kinds m at stands)
+  holds-tested kinds m at true = tt
+  holds-tested kinds m at false = holds-placing kinds (at + 1) m GoOn tt
 
   pub holds-unlocking : (at e : ℕ) (th : Then) → Held (unlocking_at at e th)
-  holds-unlocking at e th = of-unlocking (Holds j made place.files) at e th (λ x. tt) tt
+  holds-unlocking at e th = of-unlocking (Holds j made place.files place.go) at e th (λ x. tt) tt
 
   holds-closed : (decided : Bool) (th : Then) → Held (closed_at decided th)
   holds-closed decided GoOn = tt
   holds-closed decided (Answer e) = tt
 
-  pub holds-went : (decided : Bool) (s : Step) (b : Bool) → Held s → IsAnswer (call_at s) (reply.Went b) → Held (went_at plan.commits (files_of plan) (entries_of place) decided s b)
+  pub holds-went : (decided : Bool) (s : Step) (b : Bool) → Held s → IsAnswer (call_at s) (reply.Went b) → Held (went_at (kinds_of place) plan.commits (files_of plan) (entries_of place) decided s b)
   holds-went decided Seizing true h a = tt
   holds-went decided Seizing false h a = tt
   holds-went decided (Undoing at e locks th) b h a = holds-undoing (at + 1) e locks th
-  holds-went decided (Placing at th) b h a = holds-placing (at + 1) (count_at (files_of plan) (entries_of place) th) th
+  holds-went decided (Placing at th) b h a = holds-placing (kinds_of place) (at + 1) (count_at (files_of plan) (entries_of place) th) th h
+  holds-went decided (Removing at th) b h a = h
+  holds-went decided (Discarding at th) b h a = holds-placing (kinds_of place) (at + 1) (count_at (files_of plan) (entries_of place) th) th h
   holds-went decided (Unlocking at e th) b h a = holds-unlocking (at + 1) e th
   holds-went decided (Erasing th) b h a = holds-closed decided th
-  holds-went decided (Clearing c) b h a = of-if (Holds j made place.files) plan.commits Preparing _ (λ e. sym p.commits_is ∙ e) (λ e. tt)
+  holds-went decided (Clearing c) b h a = of-if (Holds j made place.files place.go) plan.commits Preparing _ (λ e. sym p.commits_is ∙ e) (λ e. tt)
   holds-went decided Preparing b h a = h
-  holds-went decided Publishing true h a = of-locking (Holds j made place.files) 0 (files_of plan) (λ x. h) h
+  holds-went decided Publishing true h a = of-locking (Holds j made place.files place.go) 0 (files_of plan) (λ x. h) h
   holds-went decided Publishing false h a = tt
-  holds-went decided (Locking at) true h a = of-locking (Holds j made place.files) (at + 1) (files_of plan) (λ x. h) h
+  holds-went decided (Locking at) true h a = of-locking (Holds j made place.files place.go) (at + 1) (files_of plan) (λ x. h) h
   holds-went decided (Locking at) false h a = holds-unlocking 0 at (Answer (end.Busy at))
-  holds-went decided (Staging at) b h a = of-staging (Holds j made place.files) (at + 1) (files_of plan) (λ x. h) h.0
+  holds-went decided (Staging at) b h a = of-staging (Holds j made place.files place.go) (at + 1) (files_of plan) (λ x. h) h
   holds-went decided Deciding b h a = h
-  holds-went decided Committing true h a = holds-placing 0 (files_of plan) (Answer end.Done)
+  holds-went decided Committing true h a = holds-placing (kinds_of place) 0 (files_of plan) (Answer end.Done) h
   holds-went decided Committing false h a = tt
   holds-went decided (Releasing e) b h a = tt
   holds-went decided Looking b h a = absurd a
   holds-went decided (Loading at) b h a = absurd a
+  holds-went decided (Testing at) b h a = absurd a
   holds-went decided Checking b h a = absurd a
   holds-went decided (Ended e) b h a = absurd a
 
   pub holds-fault : (s : Step) → Held s → Held (faulted_at s)
-  holds-fault Committing h = h
+  holds-fault Committing h = ap (take 47) h.go_is ∙ front-taken j.token (go_of j made).entries
   holds-fault s h = tt
 
   pub holds-long : (s : Step) (k : ℕ) → Held (long_at (files_of plan) s k)
   holds-long (Loading at) k = holds-unlocking 0 (files_of plan) (Answer (end.TooLarge at k))
+  holds-long (Testing at) k = tt
   holds-long Looking k = tt
   holds-long s k = tt
 
   pub holds-short : (s : Step) → Held (short_at (files_of plan) s)
   holds-short (Loading at) = holds-unlocking 0 (files_of plan) (Answer end.NoMemory)
+  holds-short (Testing at) = tt
   holds-short Looking = tt
   holds-short s = tt

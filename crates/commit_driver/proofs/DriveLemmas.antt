@@ -13,7 +13,7 @@ use Rattle.host_port.specs.Ran.{Ran}
 use Rattle.host_port.proofs.RanLemmas.{Ran-none, Ran-then, Ran-map}
 use Rattle.folder_change.specs.declared.change.Change.{Change}
 use Rattle.commit_machine.specs.Jobs.{NoMemory, Job}
-use Rattle.commit_machine.specs.Machine.{State, Seizing, Looking, Undoing, Placing, Unlocking, Erasing, Clearing, Preparing, Publishing, Locking, Loading, Staging, Deciding, Committing, Checking, Releasing, Ended, Then, GoOn, Answer, Reply, Went, Saw, Long, Short, Fault, next, refused, after_reply}
+use Rattle.commit_machine.specs.Machine.{State, Seizing, Looking, Undoing, Placing, Testing, Removing, Discarding, Unlocking, Erasing, Clearing, Preparing, Publishing, Locking, Loading, Staging, Deciding, Committing, Checking, Releasing, Ended, Then, GoOn, Answer, Reply, Went, Saw, Long, Short, Fault, next, refused, after_reply}
 use Rattle.commit_machine.specs.Machine as machine
 use Rattle.commit_machine.specs.Goes.{IsNext, Goes, reply}
 use Rattle.commit_machine.proofs.GoesLemmas.{stretches_join, refused_twice}
@@ -57,6 +57,9 @@ same-after j Seizing a b h = ap (after_reply j Seizing) h
 same-after j Looking a b h = ap (after_reply j Looking) h
 same-after j (Undoing r n ns ls th) a b h = ap (after_reply j (Undoing r n ns ls th)) h
 same-after j (Placing r n ns ls th) a b h = ap (after_reply j (Placing r n ns ls th)) h
+same-after j (Testing r n ns ls) a b h = ap (after_reply j (Testing r n ns ls)) h
+same-after j (Removing r n ns ls th) a b h = ap (after_reply j (Removing r n ns ls th)) h
+same-after j (Discarding r n ns ls th) a b h = ap (after_reply j (Discarding r n ns ls th)) h
 same-after j (Erasing r th) a b h = ap (after_reply j (Erasing r th)) h
 same-after j (Clearing f) a b h = ap (after_reply j (Clearing f)) h
 same-after j Preparing a b h = ap (after_reply j Preparing) h
@@ -165,6 +168,9 @@ no-call step.Seizing h = absurd (cc)
 no-call step.Looking h = absurd (cc)
 no-call (step.Undoing at e locks th) h = absurd (cc)
 no-call (step.Placing at th) h = absurd (cc)
+no-call (step.Testing at) h = absurd (cc)
+no-call (step.Removing at th) h = absurd (cc)
+no-call (step.Discarding at th) h = absurd (cc)
 no-call (step.Unlocking at e th) h = absurd (cc)
 no-call (step.Erasing th) h = absurd (cc)
 no-call (step.Clearing f) h = absurd (cc)
@@ -178,10 +184,10 @@ no-call step.Committing h = absurd (cc)
 no-call step.Checking h = absurd (cc)
 no-call (step.Releasing e) h = absurd (cc)
 
-pub finished : (j : Job) (place : Place) (e : End) (es : List Event) → place.step ≡ step.Ended e → Reached j place es → Drives j es e
+pub finished : (j : Job) (place : Place) (e : End) (es : List Event) → place.step ≡ step.Ended e → Reached j place es → Drives j place.found es e
 finished j place e es is r =
     let st = r.stands in
-    let to : Ended (end_as j st.hidden e) ≡ r.state = sym (ap (state_as j st.hidden st.made place.found place.files) is) ∙ st.is in
+    let to : Ended (end_as j st.hidden place.found e) ≡ r.state = sym (ap (state_as j st.hidden st.made place.found place.files) is) ∙ st.is in
     record {
       hidden = st.hidden;
       wanted = st.wanted;
@@ -199,6 +205,7 @@ rose-back a b c l r = omega (arith, l, r)
 end-on : (a b c : ℕ) (e : End) → b ≤ c → EndCaused a b e → EndCaused a c e
 end-on a b c (end.Failed p) l h = rose-on a b c l h
 end-on a b c (end.RecordTooLarge n) l h = h
+end-on a b c (end.StagedTooLarge k n) l h = h
 end-on a b c (end.TooLarge k n) l h = h
 end-on a b c e l h = tt
 
@@ -209,6 +216,8 @@ then-on a b c (then.Answer e) l h = end-on a b c e l h
 caused-on : (a b c : ℕ) (s : Step) → b ≤ c → Caused a b s → Caused a c s
 caused-on a b c (step.Undoing at e locks th) l h = then-on a b c th l h
 caused-on a b c (step.Placing at th) l h = then-on a b c th l h
+caused-on a b c (step.Removing at th) l h = then-on a b c th l h
+caused-on a b c (step.Discarding at th) l h = then-on a b c th l h
 caused-on a b c (step.Unlocking at e th) l h = then-on a b c th l h
 caused-on a b c (step.Erasing th) l h = then-on a b c th l h
 caused-on a b c step.Checking l h = rose-on a b c l h
@@ -230,7 +239,7 @@ pub record Driving {H : Type 0} (start : H → Disk) (told : H → Option (List 
 
 pub driving-start : {H : Type 0} {start : H → Disk} {told : H → Option (List Event)} {counts : H → Counts} {at : H} (plan : Plan) (changes : List Change) (base : List (List ℕ)) (files : List (Option (List ℕ))) → length files ≡ files_of plan → Driving start told counts plan changes base at at (begun files)
 driving-start plan changes base files long = record {
-  place_is = record { fits = tt; staged_are = refl; few = omega arith; files_are = long; names = All-nil IsFileName; staged = All-nil IsFileName };
+  place_is = record { fits = tt; staged_are = refl; few = omega arith; files_are = long; distinct = tt; names = All-nil IsFileName; staged = All-nil IsFileName };
   fall = omega arith;
   caused = tt;
   ran = λ j p f. Ran-none (begin j files);
@@ -253,16 +262,16 @@ driving-more {counts = counts} {old = old} {mid = mid} {now = now} plan changes 
 
 -- at the end
 pub driven : {H : Type 0} {start : H → Disk} {told : H → Option (List Event)} {counts : H → Counts} {old now : H} (plan : Plan) (changes : List Change) (base : List (List ℕ)) (place : Place) (result : End)
-    → Driving start told counts plan changes base old now place → call_at place.step ≡ None → ((e : End) → place.step ≡ step.Ended e → result ≡ e) → (j : Job) → IsPlan j plan → IsFor j changes base → Ran start told counts old now (λ es. Drives j es result)
+    → Driving start told counts plan changes base old now place → call_at place.step ≡ None → ((e : End) → place.step ≡ step.Ended e → result ≡ e) → (j : Job) → IsPlan j plan → IsFor j changes base → Ran start told counts old now (λ es. Drives j place.found es result)
 driven plan changes base place result d none is j p f =
     let w = no-call place.step none in
-    Ran-map (λ es h. subst (Drives j es) (sym (is w.0 w.1)) (finished j place w.0 es w.1 h)) (d.ran j p f)
+    Ran-map (λ es h. subst (Drives j place.found es) (sym (is w.0 w.1)) (finished j place w.0 es w.1 h)) (d.ran j p f)
 
 pub driven-fits : {H : Type 0} {start : H → Disk} {told : H → Option (List Event)} {counts : H → Counts} {old now : H} (plan : Plan) (changes : List Change) (base : List (List ℕ)) (place : Place) (result : End)
-    → Driving start told counts plan changes base old now place → call_at place.step ≡ None → ((e : End) → place.step ≡ step.Ended e → result ≡ e) → EndFits (files_of plan) result
+    → Driving start told counts plan changes base old now place → call_at place.step ≡ None → ((e : End) → place.step ≡ step.Ended e → result ≡ e) → EndFits (files_of plan) (entries_of place) result
 driven-fits plan changes base place result d none is =
     let w = no-call place.step none in
-    subst (EndFits (files_of plan)) (sym (is w.0 w.1)) (subst (Fits (files_of plan) (entries_of place)) w.1 d.place_is.fits)
+    subst (EndFits (files_of plan) (entries_of place)) (sym (is w.0 w.1)) (subst (Fits (files_of plan) (entries_of place)) w.1 d.place_is.fits)
 
 pub driven-caused : {H : Type 0} {start : H → Disk} {told : H → Option (List Event)} {counts : H → Counts} {old now : H} (plan : Plan) (changes : List Change) (base : List (List ℕ)) (place : Place) (result : End)
     → Driving start told counts plan changes base old now place → call_at place.step ≡ None → ((e : End) → place.step ≡ step.Ended e → result ≡ e) → EndCaused (counts old).disks (counts now).disks result

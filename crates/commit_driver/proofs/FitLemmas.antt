@@ -1,13 +1,15 @@
 -- The numbers of steps: they fit, each answer leaves less to do, and an end stays settled and caused.
-use Rattle.std.proofs.Common.{◌≡◌, ℕ, ◌+◌, ◌-◌, ◌*◌, ◌<◌, ◌≤◌, Bool, true, false, refl, sym, inl, inr, ◌∙◌, arith, if◌then◌else◌}
+use Rattle.std.proofs.Common.{◌≡◌, ℕ, ◌+◌, ◌-◌, ◌*◌, ◌<◌, ◌≤◌, Bool, true, false, refl, sym, subst, inl, inr, ◌∙◌, arith, if◌then◌else◌}
 use Rattle.host_port.specs.Calls.{Rose, load_limit}
+use Rattle.commit_record.specs.declared.record.EntryKind.{EntryKind}
+use Rattle.commit_record.specs.declared.record.EntryKind.TheVariants.{Replace, Remove}
 use Rattle.commit_driver.specs.declared.step.End.TheVariants as end
 use Rattle.commit_driver.specs.declared.step.Then.{Then}
 use Rattle.commit_driver.specs.declared.step.Then.TheVariants.{GoOn, Answer}
 use Rattle.commit_driver.specs.declared.step.Step.{Step}
-use Rattle.commit_driver.specs.declared.step.Step.TheVariants.{Seizing, Looking, Undoing, Placing, Unlocking, Erasing, Clearing, Preparing, Publishing, Locking, Loading, Staging, Deciding, Committing, Checking, Releasing, Ended}
+use Rattle.commit_driver.specs.declared.step.Step.TheVariants.{Seizing, Looking, Undoing, Placing, Testing, Removing, Discarding, Unlocking, Erasing, Clearing, Preparing, Publishing, Locking, Loading, Staging, Deciding, Committing, Checking, Releasing, Ended}
 use Rattle.commit_driver.specs.declared.answers.Reply.TheVariants as reply
-use Rattle.commit_driver.specs.Steps.{call_at, count_at, ThenFits, Fits, unlocking_at, undoing_at, placing_at, locking_at, staging_at, faulted_at, long_at, short_at, closed_at, went_at, then_rank, weight}
+use Rattle.commit_driver.specs.Steps.{Kinds, call_at, count_at, EndFits, ThenFits, Fits, unlocking_at, undoing_at, removing_at, place_at, placing_at, tested_at, locking_at, staging_at, faulted_at, long_at, short_at, closed_at, went_at, then_rank, weight}
 use Rattle.commit_driver.specs.Answers.{IsAnswer, settled_then, is_settled, ThenCaused, Caused}
 use Rattle.commit_driver.proofs.StateLemmas.{lt-or}
 
@@ -19,8 +21,22 @@ module _ (P : Step → Type 0) where
   pub of-undoing : (at end locks : ℕ) (th : Then) → (at < end → P (Undoing at end locks th)) → (0 < locks → P (Unlocking 0 locks th)) → P (Erasing th) → P (undoing_at at end locks th)
   of-undoing at end locks th more unlock done = elim (lt-or at end) [ inl y ↦ rw y.1 (more y.0) | inr n ↦ rw n.1 (of-unlocking 0 locks th unlock done) ]
 
-  pub of-placing : (at end : ℕ) (th : Then) → (at < end → P (Placing at th)) → (0 < end → P (Unlocking 0 end th)) → P (Erasing th) → P (placing_at at end th)
-  of-placing at end th more unlock done = elim (lt-or at end) [ inl y ↦ rw y.1 (more y.0) | inr n ↦ rw n.1 (of-unlocking 0 end th unlock done) ]
+  -- the first step for an entry is a publication, the look for a removal, or the removal
+  pub record Starts (at : ℕ) (th : Then) : Type 0 where
+    pub places : P (Placing at th)
+    pub tests : th ≡ GoOn → P (Testing at)
+    pub removes : P (Removing at th)
+
+  of-removing : (at : ℕ) (th : Then) → Starts at th → P (removing_at at th)
+  of-removing at GoOn s = s.tests refl
+  of-removing at (Answer e) s = s.removes
+
+  of-place : (kind : EntryKind) (at : ℕ) (th : Then) → Starts at th → P (place_at kind at th)
+  of-place Replace at th s = s.places
+  of-place Remove at th s = of-removing at th s
+
+  pub of-placing : (kinds : Kinds) (at end : ℕ) (th : Then) → (at < end → Starts at th) → (0 < end → P (Unlocking 0 end th)) → P (Erasing th) → P (placing_at kinds at end th)
+  of-placing kinds at end th more unlock done = elim (lt-or at end) [ inl y ↦ rw y.1 (of-place (kinds th at) at th (more y.0)) | inr n ↦ rw n.1 (of-unlocking 0 end th unlock done) ]
 
   pub of-locking : (at n : ℕ) → (at < n → P (Locking at)) → P (Loading 0) → P (locking_at at n)
   of-locking at n more done = elim (lt-or at n) [ inl y ↦ rw y.1 (more y.0) | inr m ↦ rw m.1 done ]
@@ -33,44 +49,54 @@ module _ (P : Step → Type 0) where
   of-if false x y more other = other refl
 
 -- the numbers fit
-pub fits-unlocking : (n m at end : ℕ) (th : Then) → end ≤ count_at n m th → ThenFits n th → Fits n m (unlocking_at at end th)
+pub fits-unlocking : (n m at end : ℕ) (th : Then) → end ≤ count_at n m th → ThenFits n m th → Fits n m (unlocking_at at end th)
 fits-unlocking n m at end th l t = of-unlocking (Fits n m) at end th (λ a. (a, l, t)) t
 
-pub fits-undoing : (n m at end locks : ℕ) (th : Then) → end ≤ count_at n m th → locks ≤ count_at n m th → ThenFits n th → Fits n m (undoing_at at end locks th)
+pub fits-undoing : (n m at end locks : ℕ) (th : Then) → end ≤ count_at n m th → locks ≤ count_at n m th → ThenFits n m th → Fits n m (undoing_at at end locks th)
 fits-undoing n m at end locks th l k t = of-undoing (Fits n m) at end locks th (λ a. (a, l, k, t)) (λ a. (a, k, t)) t
 
-pub fits-placing : (n m at : ℕ) (th : Then) → ThenFits n th → Fits n m (placing_at at (count_at n m th) th)
-fits-placing n m at th t = of-placing (Fits n m) at (count_at n m th) th (λ a. (a, t)) (λ a. (a, omega arith, t)) t
+found-count : (n m at : ℕ) (th : Then) → at < count_at n m th → th ≡ GoOn → at < m
+found-count n m at th l e = subst (λ (z : Then). at < count_at n m z) e l
+
+pub fits-placing : (kinds : Kinds) (n m at : ℕ) (th : Then) → ThenFits n m th → Fits n m (placing_at kinds at (count_at n m th) th)
+fits-placing kinds n m at th t = of-placing (Fits n m) kinds at (count_at n m th) th (λ a. record { places = (a, t); tests = found-count n m at th a; removes = (a, t) }) (λ a. (a, omega arith, t)) t
+
+pub fits-tested : (kinds : Kinds) (n m at : ℕ) (stands : Bool) → at < m → Fits n m (tested_at kinds m at stands)
+fits-tested kinds n m at true l = (l, tt)
+fits-tested kinds n m at false l = fits-placing kinds n m (at + 1) GoOn tt
 
 pub fits-staging : (n m at : ℕ) → Fits n m (staging_at at n)
 fits-staging n m at = of-staging (Fits n m) at n (λ a. a) tt
 
-fits-closed : (n m : ℕ) (decided : Bool) (th : Then) → ThenFits n th → Fits n m (closed_at decided th)
+fits-closed : (n m : ℕ) (decided : Bool) (th : Then) → ThenFits n m th → Fits n m (closed_at decided th)
 fits-closed n m decided GoOn t = tt
 fits-closed n m decided (Answer e) t = t
 
-pub fits-went : (commits : Bool) (n m : ℕ) (decided : Bool) (s : Step) (did : Bool) → (commits ≡ true → 0 < n) → Fits n m s → IsAnswer (call_at s) (reply.Went did) → Fits n m (went_at commits n m decided s did)
-fits-went commits n m decided Seizing true some f a = tt
-fits-went commits n m decided Seizing false some f a = tt
-fits-went commits n m decided (Undoing at end locks th) did some f a = fits-undoing n m (at + 1) end locks th f.1 f.2 f.3
-fits-went commits n m decided (Placing at th) did some f a = fits-placing n m (at + 1) th f.1
-fits-went commits n m decided (Unlocking at end th) did some f a = fits-unlocking n m (at + 1) end th f.1 f.2
-fits-went commits n m decided (Erasing th) did some f a = fits-closed n m decided th f
-fits-went commits n m decided (Clearing x) did some f a = of-if (Fits n m) commits Preparing _ some (λ e. tt)
-fits-went commits n m decided Preparing did some f a = f
-fits-went commits n m decided Publishing true some f a = of-locking (Fits n m) 0 n (λ l. l) f
-fits-went commits n m decided Publishing false some f a = tt
-fits-went commits n m decided (Locking at) true some f a = of-locking (Fits n m) (at + 1) n (λ l. l) (omega (arith, f))
-fits-went commits n m decided (Locking at) false some f a = fits-unlocking n m 0 at (Answer (end.Busy at)) (omega (arith, f)) f
-fits-went commits n m decided (Staging at) did some f a = fits-staging n m (at + 1)
-fits-went commits n m decided Deciding did some f a = tt
-fits-went commits n m decided Committing true some f a = fits-placing n m 0 (Answer end.Done) tt
-fits-went commits n m decided Committing false some f a = tt
-fits-went commits n m decided (Releasing e) did some f a = f
-fits-went commits n m decided Looking did some f a = absurd a
-fits-went commits n m decided (Loading at) did some f a = absurd a
-fits-went commits n m decided Checking did some f a = absurd a
-fits-went commits n m decided (Ended e) did some f a = absurd a
+pub fits-went : (kinds : Kinds) (commits : Bool) (n m : ℕ) (decided : Bool) (s : Step) (did : Bool) → (commits ≡ true → 0 < n) → Fits n m s → IsAnswer (call_at s) (reply.Went did) → Fits n m (went_at kinds commits n m decided s did)
+fits-went kinds commits n m decided Seizing true some f a = tt
+fits-went kinds commits n m decided Seizing false some f a = tt
+fits-went kinds commits n m decided (Undoing at end locks th) did some f a = fits-undoing n m (at + 1) end locks th f.1 f.2 f.3
+fits-went kinds commits n m decided (Placing at th) did some f a = fits-placing kinds n m (at + 1) th f.1
+fits-went kinds commits n m decided (Removing at th) did some f a = f
+fits-went kinds commits n m decided (Discarding at th) did some f a = fits-placing kinds n m (at + 1) th f.1
+fits-went kinds commits n m decided (Unlocking at end th) did some f a = fits-unlocking n m (at + 1) end th f.1 f.2
+fits-went kinds commits n m decided (Erasing th) did some f a = fits-closed n m decided th f
+fits-went kinds commits n m decided (Clearing x) did some f a = of-if (Fits n m) commits Preparing _ some (λ e. tt)
+fits-went kinds commits n m decided Preparing did some f a = f
+fits-went kinds commits n m decided Publishing true some f a = of-locking (Fits n m) 0 n (λ l. l) f
+fits-went kinds commits n m decided Publishing false some f a = tt
+fits-went kinds commits n m decided (Locking at) true some f a = of-locking (Fits n m) (at + 1) n (λ l. l) (omega (arith, f))
+fits-went kinds commits n m decided (Locking at) false some f a = fits-unlocking n m 0 at (Answer (end.Busy at)) (omega (arith, f)) f
+fits-went kinds commits n m decided (Staging at) did some f a = fits-staging n m (at + 1)
+fits-went kinds commits n m decided Deciding did some f a = tt
+fits-went kinds commits n m decided Committing true some f a = fits-placing kinds n m 0 (Answer end.Done) tt
+fits-went kinds commits n m decided Committing false some f a = tt
+fits-went kinds commits n m decided (Releasing e) did some f a = f
+fits-went kinds commits n m decided Looking did some f a = absurd a
+fits-went kinds commits n m decided (Loading at) did some f a = absurd a
+fits-went kinds commits n m decided (Testing at) did some f a = absurd a
+fits-went kinds commits n m decided Checking did some f a = absurd a
+fits-went kinds commits n m decided (Ended e) did some f a = absurd a
 
 pub fits-fault : (n m : ℕ) (s : Step) → Fits n m (faulted_at s)
 fits-fault n m Committing = tt
@@ -78,6 +104,7 @@ fits-fault n m s = tt
 
 pub fits-long : (n m : ℕ) (s : Step) (k : ℕ) → Fits n m s → Fits n m (long_at n s k)
 fits-long n m (Loading at) k f = fits-unlocking n m 0 n (Answer (end.TooLarge at k)) (omega arith) f
+fits-long n m (Testing at) k f = f
 fits-long n m Looking k f = tt
 fits-long n m s k f = tt
 
@@ -94,19 +121,28 @@ rank-few : (th : Then) → then_rank th ≤ 10
 rank-few GoOn = omega arith
 rank-few (Answer e) = omega arith
 
-pub under-unlocking : (k at end : ℕ) (th : Then) → end ≤ 16 → (then_rank th + 4) * 17 + (16 - at) < k → Under k (unlocking_at at end th)
+pub under-unlocking : (k at end : ℕ) (th : Then) → end ≤ 16 → (then_rank th + 4) * 51 + (16 - at) < k → Under k (unlocking_at at end th)
 under-unlocking k at end th l u = of-unlocking (Under k) at end th (λ a. u) (omega (arith, u))
 
-pub under-undoing : (k at end locks : ℕ) (th : Then) → end ≤ 16 → (then_rank th + 5) * 17 + (16 - at) < k → Under k (undoing_at at end locks th)
+pub under-undoing : (k at end locks : ℕ) (th : Then) → end ≤ 16 → (then_rank th + 5) * 51 + (16 - at) < k → Under k (undoing_at at end locks th)
 under-undoing k at end locks th l u = of-undoing (Under k) at end locks th (λ a. u) (λ a. omega (arith, u)) (omega (arith, u))
 
-pub under-placing : (k at end : ℕ) (th : Then) → (then_rank th + 5) * 17 + (16 - at) < k → Under k (placing_at at end th)
-under-placing k at end th u = of-placing (Under k) at end th (λ a. u) (λ a. omega (arith, u)) (omega (arith, u))
+-- the look for a removal weighs as much as the publication of a record that was found
+under-testing : (k at : ℕ) (th : Then) → (then_rank th + 5) * 51 + (3 * (16 - at) + 2) < k → th ≡ GoOn → Under k (Testing at)
+under-testing k at GoOn u e = u
+under-testing k at (Answer a) u e = absurd (cc)
 
-pub under-staging : (k at n : ℕ) → 8 * 17 + (16 - at) < k → Under k (staging_at at n)
+pub under-placing : (kinds : Kinds) (k at end : ℕ) (th : Then) → (then_rank th + 5) * 51 + (3 * (16 - at) + 2) < k → Under k (placing_at kinds at end th)
+under-placing kinds k at end th u = of-placing (Under k) kinds at end th (λ a. record { places = u; tests = under-testing k at th u; removes = omega (arith, u) }) (λ a. omega (arith, u)) (omega (arith, u))
+
+pub under-tested : (kinds : Kinds) (m at : ℕ) (stands : Bool) → at < m → m ≤ 16 → Under (weight (Testing at)) (tested_at kinds m at stands)
+under-tested kinds m at true l few = omega arith
+under-tested kinds m at false l few = under-placing kinds (weight (Testing at)) (at + 1) m GoOn (omega (arith, l, few))
+
+pub under-staging : (k at n : ℕ) → 8 * 51 + (16 - at) < k → Under k (staging_at at n)
 under-staging k at n u = of-staging (Under k) at n (λ a. u) (omega (arith, u))
 
-under-locking : (k at n : ℕ) → 10 * 17 + (16 - at) < k → Under k (locking_at at n)
+under-locking : (k at n : ℕ) → 10 * 51 + (16 - at) < k → Under k (locking_at at n)
 under-locking k at n u = of-locking (Under k) at n (λ a. u) (omega (arith, u))
 
 count-few : (n m : ℕ) (th : Then) → n ≤ 16 → m ≤ 16 → count_at n m th ≤ 16
@@ -117,31 +153,35 @@ lighter-closed : (decided : Bool) (th : Then) → Under (weight (Erasing th)) (c
 lighter-closed decided GoOn = omega arith
 lighter-closed decided (Answer e) = omega arith
 
-pub lighter-went : (commits : Bool) (n m : ℕ) (decided : Bool) (s : Step) (did : Bool) → n ≤ 16 → m ≤ 16 → Fits n m s → IsAnswer (call_at s) (reply.Went did) → weight (went_at commits n m decided s did) < weight s
-lighter-went commits n m decided Seizing true fn fm f a = omega arith
-lighter-went commits n m decided Seizing false fn fm f a = omega arith
-lighter-went commits n m decided (Undoing at end locks th) did fn fm f a =
+pub lighter-went : (kinds : Kinds) (commits : Bool) (n m : ℕ) (decided : Bool) (s : Step) (did : Bool) → n ≤ 16 → m ≤ 16 → Fits n m s → IsAnswer (call_at s) (reply.Went did) → weight (went_at kinds commits n m decided s did) < weight s
+lighter-went kinds commits n m decided Seizing true fn fm f a = omega arith
+lighter-went kinds commits n m decided Seizing false fn fm f a = omega arith
+lighter-went kinds commits n m decided (Undoing at end locks th) did fn fm f a =
     let few = count-few n m th fn fm in let lt = f.0 in let le = f.1 in under-undoing (weight (Undoing at end locks th)) (at + 1) end locks th (omega (arith, few, le)) (omega (arith, few, le, lt))
-lighter-went commits n m decided (Placing at th) did fn fm f a =
-    let few = count-few n m th fn fm in let lt = f.0 in under-placing (weight (Placing at th)) (at + 1) (count_at n m th) th (omega (arith, few, lt))
-lighter-went commits n m decided (Unlocking at end th) did fn fm f a =
+lighter-went kinds commits n m decided (Placing at th) did fn fm f a =
+    let few = count-few n m th fn fm in let lt = f.0 in under-placing kinds (weight (Placing at th)) (at + 1) (count_at n m th) th (omega (arith, few, lt))
+lighter-went kinds commits n m decided (Removing at th) did fn fm f a = omega arith
+lighter-went kinds commits n m decided (Discarding at th) did fn fm f a =
+    let few = count-few n m th fn fm in let lt = f.0 in under-placing kinds (weight (Discarding at th)) (at + 1) (count_at n m th) th (omega (arith, few, lt))
+lighter-went kinds commits n m decided (Unlocking at end th) did fn fm f a =
     let few = count-few n m th fn fm in let lt = f.0 in let le = f.1 in under-unlocking (weight (Unlocking at end th)) (at + 1) end th (omega (arith, few, le)) (omega (arith, few, le, lt))
-lighter-went commits n m decided (Erasing th) did fn fm f a = lighter-closed decided th
-lighter-went commits n m decided (Clearing x) did fn fm f a = of-if (Under (weight (Clearing x))) commits Preparing _ (λ e. omega arith) (λ e. omega arith)
-lighter-went commits n m decided Preparing did fn fm f a = omega arith
-lighter-went commits n m decided Publishing true fn fm f a = under-locking (weight Publishing) 0 n (omega arith)
-lighter-went commits n m decided Publishing false fn fm f a = omega arith
-lighter-went commits n m decided (Locking at) true fn fm f a = under-locking (weight (Locking at)) (at + 1) n (omega (arith, f, fn))
-lighter-went commits n m decided (Locking at) false fn fm f a = under-unlocking (weight (Locking at)) 0 at (Answer (end.Busy at)) (omega (arith, f, fn)) (omega (arith, f, fn))
-lighter-went commits n m decided (Staging at) did fn fm f a = under-staging (weight (Staging at)) (at + 1) n (omega (arith, f, fn))
-lighter-went commits n m decided Deciding did fn fm f a = omega arith
-lighter-went commits n m decided Committing true fn fm f a = under-placing (weight Committing) 0 n (Answer end.Done) (omega arith)
-lighter-went commits n m decided Committing false fn fm f a = omega arith
-lighter-went commits n m decided (Releasing e) did fn fm f a = omega arith
-lighter-went commits n m decided Looking did fn fm f a = absurd a
-lighter-went commits n m decided (Loading at) did fn fm f a = absurd a
-lighter-went commits n m decided Checking did fn fm f a = absurd a
-lighter-went commits n m decided (Ended e) did fn fm f a = absurd a
+lighter-went kinds commits n m decided (Erasing th) did fn fm f a = lighter-closed decided th
+lighter-went kinds commits n m decided (Clearing x) did fn fm f a = of-if (Under (weight (Clearing x))) commits Preparing _ (λ e. omega arith) (λ e. omega arith)
+lighter-went kinds commits n m decided Preparing did fn fm f a = omega arith
+lighter-went kinds commits n m decided Publishing true fn fm f a = under-locking (weight Publishing) 0 n (omega arith)
+lighter-went kinds commits n m decided Publishing false fn fm f a = omega arith
+lighter-went kinds commits n m decided (Locking at) true fn fm f a = under-locking (weight (Locking at)) (at + 1) n (omega (arith, f, fn))
+lighter-went kinds commits n m decided (Locking at) false fn fm f a = under-unlocking (weight (Locking at)) 0 at (Answer (end.Busy at)) (omega (arith, f, fn)) (omega (arith, f, fn))
+lighter-went kinds commits n m decided (Staging at) did fn fm f a = under-staging (weight (Staging at)) (at + 1) n (omega (arith, f, fn))
+lighter-went kinds commits n m decided Deciding did fn fm f a = omega arith
+lighter-went kinds commits n m decided Committing true fn fm f a = under-placing kinds (weight Committing) 0 n (Answer end.Done) (omega arith)
+lighter-went kinds commits n m decided Committing false fn fm f a = omega arith
+lighter-went kinds commits n m decided (Releasing e) did fn fm f a = omega arith
+lighter-went kinds commits n m decided Looking did fn fm f a = absurd a
+lighter-went kinds commits n m decided (Loading at) did fn fm f a = absurd a
+lighter-went kinds commits n m decided (Testing at) did fn fm f a = absurd a
+lighter-went kinds commits n m decided Checking did fn fm f a = absurd a
+lighter-went kinds commits n m decided (Ended e) did fn fm f a = absurd a
 
 pub lighter-fault : (s : Step) → IsAnswer (call_at s) reply.Fault → weight (faulted_at s) < weight s
 lighter-fault Committing a = omega arith
@@ -149,6 +189,9 @@ lighter-fault Seizing a = omega arith
 lighter-fault Looking a = omega arith
 lighter-fault (Undoing at end locks th) a = omega arith
 lighter-fault (Placing at th) a = omega arith
+lighter-fault (Testing at) a = omega arith
+lighter-fault (Removing at th) a = omega arith
+lighter-fault (Discarding at th) a = omega arith
 lighter-fault (Unlocking at end th) a = omega arith
 lighter-fault (Erasing th) a = omega arith
 lighter-fault (Clearing x) a = omega arith
@@ -165,18 +208,21 @@ lighter-fault (Ended e) a = absurd a
 -- the steps that load
 abbrev pub Loads : Step → Type 0
 Loads Looking = Unit {0}
+Loads (Testing at) = Unit {0}
 Loads (Loading at) = Unit {0}
 Loads Checking = Unit {0}
 Loads s = ⊥
 
 pub lighter-long : (n m : ℕ) (s : Step) (k : ℕ) → n ≤ 16 → Fits n m s → Loads s → weight (long_at n s k) < weight s
 lighter-long n m Looking k fn f l = omega arith
+lighter-long n m (Testing at) k fn f l = omega arith
 lighter-long n m (Loading at) k fn f l = under-unlocking (weight (Loading at)) 0 n (Answer (end.TooLarge at k)) fn (omega arith)
 lighter-long n m Checking k fn f l = omega arith
 lighter-long n m s k fn f l = absurd l
 
 pub lighter-short : (n m : ℕ) (s : Step) → n ≤ 16 → Fits n m s → Loads s → weight (short_at n s) < weight s
 lighter-short n m Looking fn f l = omega arith
+lighter-short n m (Testing at) fn f l = omega arith
 lighter-short n m (Loading at) fn f l = under-unlocking (weight (Loading at)) 0 n (Answer end.NoMemory) fn (omega arith)
 lighter-short n m Checking fn f l = omega arith
 lighter-short n m s fn f l = absurd l
@@ -185,19 +231,28 @@ lighter-short n m s fn f l = absurd l
 abbrev Kept : Then → Step → Type 0
 Kept th s = is_settled s ≡ settled_then th
 
+kept-testing : (at : ℕ) (th : Then) → th ≡ GoOn → Kept th (Testing at)
+kept-testing at GoOn e = refl
+kept-testing at (Answer a) e = absurd (cc)
+
+kept-placing : (kinds : Kinds) (at end : ℕ) (th : Then) → is_settled (placing_at kinds at end th) ≡ false → settled_then th ≡ false
+kept-placing kinds at end th e = sym (of-placing (Kept th) kinds at end th (λ x. record { places = refl; tests = kept-testing at th; removes = refl }) (λ x. refl) refl) ∙ e
+
 kept-closed : (decided : Bool) (th : Then) → Kept th (closed_at decided th)
 kept-closed decided GoOn = refl
 kept-closed decided (Answer e) = refl
 
-pub settled-went : (commits : Bool) (n m : ℕ) (decided : Bool) (s : Step) (did : Bool) → IsAnswer (call_at s) (reply.Went did) → is_settled (went_at commits n m decided s did) ≡ false → is_settled s ≡ false
-settled-went commits n m decided (Undoing at end locks th) did a e = sym (of-undoing (Kept th) (at + 1) end locks th (λ x. refl) (λ x. refl) refl) ∙ e
-settled-went commits n m decided (Placing at th) did a e = sym (of-placing (Kept th) (at + 1) (count_at n m th) th (λ x. refl) (λ x. refl) refl) ∙ e
-settled-went commits n m decided (Unlocking at end th) did a e = sym (of-unlocking (Kept th) (at + 1) end th (λ x. refl) refl) ∙ e
-settled-went commits n m decided (Erasing th) did a e = sym (kept-closed decided th) ∙ e
-settled-went commits n m decided (Releasing x) did a e = e
-settled-went commits n m decided Checking did a e = absurd a
-settled-went commits n m decided (Ended x) did a e = absurd a
-settled-went commits n m decided s did a e = refl
+pub settled-went : (kinds : Kinds) (commits : Bool) (n m : ℕ) (decided : Bool) (s : Step) (did : Bool) → IsAnswer (call_at s) (reply.Went did) → is_settled (went_at kinds commits n m decided s did) ≡ false → is_settled s ≡ false
+settled-went kinds commits n m decided (Undoing at end locks th) did a e = sym (of-undoing (Kept th) (at + 1) end locks th (λ x. refl) (λ x. refl) refl) ∙ e
+settled-went kinds commits n m decided (Placing at th) did a e = kept-placing kinds (at + 1) (count_at n m th) th e
+settled-went kinds commits n m decided (Removing at th) did a e = e
+settled-went kinds commits n m decided (Discarding at th) did a e = kept-placing kinds (at + 1) (count_at n m th) th e
+settled-went kinds commits n m decided (Unlocking at end th) did a e = sym (of-unlocking (Kept th) (at + 1) end th (λ x. refl) refl) ∙ e
+settled-went kinds commits n m decided (Erasing th) did a e = sym (kept-closed decided th) ∙ e
+settled-went kinds commits n m decided (Releasing x) did a e = e
+settled-went kinds commits n m decided Checking did a e = absurd a
+settled-went kinds commits n m decided (Ended x) did a e = absurd a
+settled-went kinds commits n m decided s did a e = refl
 
 pub settled-fault : (s : Step) → is_settled (faulted_at s) ≡ true
 settled-fault Committing = refl
@@ -206,10 +261,12 @@ settled-fault s = refl
 pub settled-long : (n : ℕ) (s : Step) (k : ℕ) → is_settled (long_at n s k) ≡ true
 settled-long n (Loading at) k = of-unlocking (Kept (Answer (end.TooLarge at k))) 0 n (Answer (end.TooLarge at k)) (λ x. refl) refl
 settled-long n Looking k = refl
+settled-long n (Testing at) k = refl
 settled-long n s k = refl
 
 pub settled-short : (n : ℕ) (s : Step) → Loads s → is_settled (short_at n s) ≡ false → is_settled s ≡ false
 settled-short n Looking l e = refl
+settled-short n (Testing at) l e = refl
 settled-short n (Loading at) l e = refl
 settled-short n Checking l e = e
 settled-short n s l e = absurd l
@@ -222,35 +279,42 @@ module _ (before after : ℕ) where
   pub caused-undoing : (at end locks : ℕ) (th : Then) → ThenCaused before after th → Caused before after (undoing_at at end locks th)
   caused-undoing at end locks th c = of-undoing (Caused before after) at end locks th (λ x. c) (λ x. c) c
 
-  pub caused-placing : (at end : ℕ) (th : Then) → ThenCaused before after th → Caused before after (placing_at at end th)
-  caused-placing at end th c = of-placing (Caused before after) at end th (λ x. c) (λ x. c) c
+  pub caused-placing : (kinds : Kinds) (at end : ℕ) (th : Then) → ThenCaused before after th → Caused before after (placing_at kinds at end th)
+  caused-placing kinds at end th c = of-placing (Caused before after) kinds at end th (λ x. record { places = c; tests = λ e. tt; removes = c }) (λ x. c) c
+
+  pub caused-tested : (kinds : Kinds) (m at : ℕ) (stands : Bool) → Caused before after (tested_at kinds m at stands)
+  caused-tested kinds m at true = tt
+  caused-tested kinds m at false = caused-placing kinds (at + 1) m GoOn tt
 
   caused-closed : (decided : Bool) (th : Then) → ThenCaused before after th → Caused before after (closed_at decided th)
   caused-closed decided GoOn c = tt
   caused-closed decided (Answer e) c = c
 
-  pub caused-went : (commits : Bool) (n m : ℕ) (decided : Bool) (s : Step) (did : Bool) → IsAnswer (call_at s) (reply.Went did) → Caused before after s → Caused before after (went_at commits n m decided s did)
-  caused-went commits n m decided Seizing true a c = tt
-  caused-went commits n m decided Seizing false a c = tt
-  caused-went commits n m decided (Undoing at end locks th) did a c = caused-undoing (at + 1) end locks th c
-  caused-went commits n m decided (Placing at th) did a c = caused-placing (at + 1) (count_at n m th) th c
-  caused-went commits n m decided (Unlocking at end th) did a c = caused-unlocking (at + 1) end th c
-  caused-went commits n m decided (Erasing th) did a c = caused-closed decided th c
-  caused-went commits n m decided (Clearing x) did a c = of-if (Caused before after) commits Preparing _ (λ e. tt) (λ e. tt)
-  caused-went commits n m decided Preparing did a c = tt
-  caused-went commits n m decided Publishing true a c = of-locking (Caused before after) 0 n (λ l. tt) tt
-  caused-went commits n m decided Publishing false a c = tt
-  caused-went commits n m decided (Locking at) true a c = of-locking (Caused before after) (at + 1) n (λ l. tt) tt
-  caused-went commits n m decided (Locking at) false a c = caused-unlocking 0 at (Answer (end.Busy at)) tt
-  caused-went commits n m decided (Staging at) did a c = of-staging (Caused before after) (at + 1) n (λ l. tt) tt
-  caused-went commits n m decided Deciding did a c = tt
-  caused-went commits n m decided Committing true a c = caused-placing 0 n (Answer end.Done) tt
-  caused-went commits n m decided Committing false a c = tt
-  caused-went commits n m decided (Releasing e) did a c = c
-  caused-went commits n m decided Looking did a c = absurd a
-  caused-went commits n m decided (Loading at) did a c = absurd a
-  caused-went commits n m decided Checking did a c = absurd a
-  caused-went commits n m decided (Ended e) did a c = absurd a
+  pub caused-went : (kinds : Kinds) (commits : Bool) (n m : ℕ) (decided : Bool) (s : Step) (did : Bool) → IsAnswer (call_at s) (reply.Went did) → Caused before after s → Caused before after (went_at kinds commits n m decided s did)
+  caused-went kinds commits n m decided Seizing true a c = tt
+  caused-went kinds commits n m decided Seizing false a c = tt
+  caused-went kinds commits n m decided (Undoing at end locks th) did a c = caused-undoing (at + 1) end locks th c
+  caused-went kinds commits n m decided (Placing at th) did a c = caused-placing kinds (at + 1) (count_at n m th) th c
+  caused-went kinds commits n m decided (Removing at th) did a c = c
+  caused-went kinds commits n m decided (Discarding at th) did a c = caused-placing kinds (at + 1) (count_at n m th) th c
+  caused-went kinds commits n m decided (Unlocking at end th) did a c = caused-unlocking (at + 1) end th c
+  caused-went kinds commits n m decided (Erasing th) did a c = caused-closed decided th c
+  caused-went kinds commits n m decided (Clearing x) did a c = of-if (Caused before after) commits Preparing _ (λ e. tt) (λ e. tt)
+  caused-went kinds commits n m decided Preparing did a c = tt
+  caused-went kinds commits n m decided Publishing true a c = of-locking (Caused before after) 0 n (λ l. tt) tt
+  caused-went kinds commits n m decided Publishing false a c = tt
+  caused-went kinds commits n m decided (Locking at) true a c = of-locking (Caused before after) (at + 1) n (λ l. tt) tt
+  caused-went kinds commits n m decided (Locking at) false a c = caused-unlocking 0 at (Answer (end.Busy at)) tt
+  caused-went kinds commits n m decided (Staging at) did a c = of-staging (Caused before after) (at + 1) n (λ l. tt) tt
+  caused-went kinds commits n m decided Deciding did a c = tt
+  caused-went kinds commits n m decided Committing true a c = caused-placing kinds 0 n (Answer end.Done) tt
+  caused-went kinds commits n m decided Committing false a c = tt
+  caused-went kinds commits n m decided (Releasing e) did a c = c
+  caused-went kinds commits n m decided Looking did a c = absurd a
+  caused-went kinds commits n m decided (Loading at) did a c = absurd a
+  caused-went kinds commits n m decided (Testing at) did a c = absurd a
+  caused-went kinds commits n m decided Checking did a c = absurd a
+  caused-went kinds commits n m decided (Ended e) did a c = absurd a
 
   pub caused-fault : (s : Step) → Rose before after → Caused before after (faulted_at s)
   caused-fault Committing r = r
@@ -258,12 +322,14 @@ module _ (before after : ℕ) where
 
   pub caused-long : (n : ℕ) (s : Step) (k : ℕ) → Loads s → load_limit < k → Caused before after s → Caused before after (long_at n s k)
   caused-long n Looking k l past c = past
+  caused-long n (Testing at) k l past c = past
   caused-long n (Loading at) k l past c = caused-unlocking 0 n (Answer (end.TooLarge at k)) past
   caused-long n Checking k l past c = c
   caused-long n s k l past c = absurd l
 
   pub caused-short : (n : ℕ) (s : Step) → Loads s → Caused before after s → Caused before after (short_at n s)
   caused-short n Looking l c = tt
+  caused-short n (Testing at) l c = tt
   caused-short n (Loading at) l c = caused-unlocking 0 n (Answer end.NoMemory) tt
   caused-short n Checking l c = c
   caused-short n s l c = absurd l

@@ -1,10 +1,12 @@
 pub mod CallLemmas
 pub mod StateLemmas
+pub mod KindLemmas
 pub mod NextLemmas
 pub mod FitLemmas
 pub mod AnswerLemmas
 pub mod FileLemmas
 pub mod SawLemmas
+pub mod DecisionLemmas
 pub mod AfterLemmas
 pub mod JudgeLemmas
 pub mod FrontLemmas

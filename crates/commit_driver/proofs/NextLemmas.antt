@@ -14,14 +14,14 @@ use Rattle.commit_driver.specs.declared.step.End.TheVariants as end
 use Rattle.commit_driver.specs.declared.step.Then.{Then}
 use Rattle.commit_driver.specs.declared.step.Then.TheVariants.{GoOn, Answer}
 use Rattle.commit_driver.specs.declared.step.Step.{Step}
-use Rattle.commit_driver.specs.declared.step.Step.TheVariants.{Seizing, Looking, Undoing, Placing, Unlocking, Erasing, Clearing, Preparing, Publishing, Locking, Loading, Staging, Deciding, Committing, Checking, Releasing, Ended}
+use Rattle.commit_driver.specs.declared.step.Step.TheVariants.{Seizing, Looking, Undoing, Placing, Testing, Removing, Discarding, Unlocking, Erasing, Clearing, Preparing, Publishing, Locking, Loading, Staging, Deciding, Committing, Checking, Releasing, Ended}
 use Rattle.commit_driver.specs.declared.place.Plan.{Plan}
 use Rattle.commit_driver.specs.declared.place.Place.{Place}
 use Rattle.commit_driver.specs.Steps.{call_at, count_at, staged_at, file_at, Fits}
 use Rattle.commit_driver.specs.Places.{nth, name_in, content_at, call_in, files_of, entries_of, made_from, own_record, record_as, names_as, state_as, IsMade, Holds, IsPlan, IsPlace, NextOf}
-use Rattle.commit_driver.proofs.StateLemmas.{drop-some, nth-drop, nth-map, length-map, unlocking-view, undoing-view, placing-view}
+use Rattle.commit_driver.proofs.StateLemmas.{drop-some, nth-drop, nth-map, length-map, unlocking-view, undoing-view}
 
-nth-of : (f : List ℕ → List ℕ) (xs : List (List ℕ)) (at : ℕ) → at < length xs → nth (map f xs) at ≡ f (nth xs at)
+pub nth-of : (f : List ℕ → List ℕ) (xs : List (List ℕ)) (at : ℕ) → at < length xs → nth (map f xs) at ≡ f (nth xs at)
 nth-of f xs at l = let w = drop-some xs at l in nth-map f xs at w.0 (drop (at + 1) xs) w.1 ∙ ap f (sym (nth-drop xs at w.0 (drop (at + 1) xs) w.1))
 
 content-nth : (files : List (Option (List ℕ))) (at : ℕ) → content_at files at ≡ nth (map bytes_of files) at
@@ -42,8 +42,8 @@ files-long j plan p = sym (names-long plan.value) ∙ ap length p.names_are
 pub edits-long : (j : Job) (plan : Plan) → IsPlan j plan → files_of plan ≡ length (edits_of j)
 edits-long j plan p = files-long j plan p ∙ length-map (λ (e : Edit). e.name) (edits_of j)
 
-pub made-long : (j : Job) (plan : Plan) (made : List Made) (files : List (Option (List ℕ))) → IsPlan j plan → IsMade j made files → files_of plan ≡ length made
-made-long j plan made files p m = files-long j plan p ∙ ap length (sym m.names_are) ∙ length-map (λ (x : Made). x.edit.name) made
+pub made-long : (j : Job) (plan : Plan) (made : List Made) (files : List (Option (List ℕ))) (go : List ℕ) → IsPlan j plan → IsMade j made files go → files_of plan ≡ length made
+made-long j plan made files go p m = files-long j plan p ∙ ap length (sym m.names_are) ∙ length-map (λ (x : Made). x.edit.name) made
 
 module _ (j : Job) (plan : Plan) (place : Place) (hidden : Ending) (made : List Made) (p : IsPlan j plan) (q : IsPlace plan place) where
   abbrev found : Record
@@ -78,7 +78,15 @@ module _ (j : Job) (plan : Plan) (place : Place) (hidden : Ending) (made : List 
   next-placing at th l =
       ap (λ (n : List ℕ). Some (machine.ToPublish n (name_in plan place (file_at th at)))) (staged-is th at l)
       ∙ ap (λ (n : List ℕ). Some (machine.ToPublish (staged_name (record_as j made found th).token (nth (names_as j found th) at)) n)) (file-is th at)
-      ∙ sym (ap (next j) (placing-view j hidden made found place.files at th l))
+
+  next-testing : (at : ℕ) → at < length (names_of found) → Same (Testing at)
+  next-testing at l = ap (λ (n : List ℕ). Some (machine.ToLoad n)) (staged-is GoOn at l)
+
+  next-removing : (at : ℕ) (th : Then) → Same (Removing at th)
+  next-removing at th = ap (λ (n : List ℕ). Some (machine.ToErase n)) (file-is th at)
+
+  next-discarding : (at : ℕ) (th : Then) → at < length (names_as j found th) → Same (Discarding at th)
+  next-discarding at th l = ap (λ (n : List ℕ). Some (machine.ToErase n)) (staged-is th at l)
 
   next-unlocking : (at end : ℕ) (th : Then) → at < end → end ≤ length (names_as j found th) → Same (Unlocking at end th)
   next-unlocking at end GoOn l m = sym (ap (next j) (unlocking-view j hidden made found place.files at end GoOn l m))
@@ -100,9 +108,9 @@ module _ (j : Job) (plan : Plan) (place : Place) (hidden : Ending) (made : List 
       ap (λ (n : List ℕ). Some (machine.ToLoad n)) (own-file at ∙ nth-map (λ (e : Edit). e.name) (edits_of j) at w.0 (drop (at + 1) (edits_of j)) w.1)
       ∙ sym (ap (λ (es : List Edit). next j (loading j (made_from (edits_of j) (take at place.files)) es)) w.1)
 
-  next-staging : (at : ℕ) → at < files_of plan → IsMade j made place.files → Same (Staging at)
+  next-staging : (at : ℕ) → at < files_of plan → IsMade j made place.files place.go → Same (Staging at)
   next-staging at l m =
-      let w = drop-some made at (omega (arith, l, made-long j plan made place.files p m)) in
+      let w = drop-some made at (omega (arith, l, made-long j plan made place.files place.go p m)) in
       let name : nth plan.staged at ≡ staged_name j.token w.0.edit.name =
       ap (λ (ns : List (List ℕ)). nth ns at) p.staged_are
       ∙ nth-of (staged_name j.token) (all_of j) at (omega (arith, l, files-long j plan p))
@@ -121,11 +129,14 @@ module _ (j : Job) (plan : Plan) (place : Place) (hidden : Ending) (made : List 
   to-stage : (a b : List ℕ) → a ≡ b → Some (machine.ToStage plan.new a) ≡ Some (machine.ToStage (new_name j.actor) b)
   to-stage a b e = ap (λ (n : List ℕ). Some (machine.ToStage n a)) p.new_is ∙ ap (λ (c : List ℕ). Some (machine.ToStage (new_name j.actor) c)) e
 
-  next-same : (s : Step) → Fits (files_of plan) (entries_of place) s → Holds j made place.files s → Same s
+  next-same : (s : Step) → Fits (files_of plan) (entries_of place) s → Holds j made place.files place.go s → Same s
   next-same Seizing f h = ap (λ (n : List ℕ). Some (machine.ToSeize n)) p.right_is
   next-same Looking f h = ap (λ (n : List ℕ). Some (machine.ToLoad n)) p.record_is
   next-same (Undoing at end locks th) f h = next-undoing at end locks th f.0 (omega (arith, f.1, names-count th))
   next-same (Placing at th) f h = next-placing at th (omega (arith, f.0, names-count th))
+  next-same (Testing at) f h = next-testing at (omega (arith, f, names-count GoOn))
+  next-same (Removing at th) f h = next-removing at th
+  next-same (Discarding at th) f h = next-discarding at th (omega (arith, f.0, names-count th))
   next-same (Unlocking at end th) f h = next-unlocking at end th f.0 (omega (arith, f.1, names-count th))
   next-same (Erasing th) f h = ap (λ (n : List ℕ). Some (machine.ToErase n)) p.record_is
   next-same (Clearing c) f h = ap (λ (n : List ℕ). Some (machine.ToErase n)) p.new_is
@@ -133,8 +144,8 @@ module _ (j : Job) (plan : Plan) (place : Place) (hidden : Ending) (made : List 
   next-same Publishing f h = to-publish
   next-same (Locking at) f h = next-locking at f
   next-same (Loading at) f h = next-loading at f
-  next-same (Staging at) f h = next-staging at f h.1
-  next-same Deciding f h = to-stage plan.go _ ((p.texts_are h).go_is made)
+  next-same (Staging at) f h = next-staging at f h
+  next-same Deciding f h = to-stage place.go _ h.go_is
   next-same Committing f h = to-publish
   next-same Checking f h = ap (λ (n : List ℕ). Some (machine.ToLoad n)) p.record_is
   next-same (Releasing e) f h = ap (λ (n : List ℕ). Some (machine.ToRelease n)) p.right_is

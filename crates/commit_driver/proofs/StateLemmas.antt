@@ -4,16 +4,17 @@ use Rattle.std.proofs.lemmas.Grind.{common_steps}
 use Rattle.std.proofs.lemmas.Bool.{cases_Bool, ltb-true}
 use Rattle.std.proofs.lemmas.List.{take_all, drop_all}
 use Rattle.commit_record.specs.declared.record.EntryKind.{EntryKind}
-use Rattle.commit_record.specs.declared.record.EntryKind.TheVariants.{Replace}
+use Rattle.commit_record.specs.declared.record.EntryKind.TheVariants.{Replace, Remove}
 use Rattle.commit_record.specs.declared.record.Record.{Record}
 use Rattle.commit_machine.specs.Records.{kind_of}
 use Rattle.commit_machine.specs.Jobs.{Ending, Outcome, Puts, Edit, Job, Made, edits_of, all_of}
 use Rattle.commit_machine.specs.Machine.{State, unlocking, undoing, placing, place_one, locking, loading, loaded, staging}
 use Rattle.commit_machine.specs.Machine as machine
 use Rattle.commit_driver.specs.declared.step.Then.{Then}
+use Rattle.commit_driver.specs.declared.step.Then.TheVariants.{GoOn, Answer}
 use Rattle.commit_driver.specs.declared.step.Step.{Step}
-use Rattle.commit_driver.specs.declared.step.Step.TheVariants.{Undoing, Placing, Unlocking}
-use Rattle.commit_driver.specs.Steps.{unlocking_at, undoing_at, placing_at, locking_at, staging_at}
+use Rattle.commit_driver.specs.declared.step.Step.TheVariants.{Undoing, Unlocking}
+use Rattle.commit_driver.specs.Steps.{Kinds, unlocking_at, undoing_at, place_at, placing_at, locking_at, staging_at}
 use Rattle.commit_driver.specs.Places.{nth, then_as, record_as, names_as, made_by, made_from, state_as}
 
 -- what stands at a place of a list, and what is behind it
@@ -66,13 +67,6 @@ next-taken (z ∷ zs) (suc at) x ys e = ap (λ (l : List (List ℕ)). z ∷ l) (
 pub take-next : (xs : List (List ℕ)) (at : ℕ) (x : List ℕ) (ys : List (List ℕ)) → drop at xs ≡ x ∷ ys → take (at + 1) xs ≡ take at xs ++ x ∷ []
 take-next xs at x ys e = ap (λ (k : ℕ). take k xs) (add-one at) ∙ next-taken xs at x ys e
 
--- a file is put in place by one publication
-pub placing-cons : (r : Record) (n : List ℕ) (ns ls : List (List ℕ)) (th : machine.Then) → placing r (n ∷ ns) ls th ≡ machine.Placing r n ns ls th
-placing-cons r n ns ls th = go (kind_of r n)
-  where
-    go : (k : EntryKind) → place_one k r n ns ls th ≡ machine.Placing r n ns ls th
-    go Replace = refl
-
 pub lt-or : (a b : ℕ) → ((a < b) × (nat_lt a b ≡ true)) ⊎ ((b ≤ a) × (nat_lt a b ≡ false))
 lt-or a b = elim (cases_Bool (nat_lt a b)) [ inl y ↦ inl (ltb-true a b y, y) | inr n ↦ inr (grind (arith, common_steps), n) ]
 
@@ -101,53 +95,64 @@ module _ (j : Job) (hidden : Ending) (made : List Made) (found : Record) (files 
 
   -- a step, seen as the machine's state
   pub unlocking-view : (at end : ℕ) (th : Then) → at < end → end ≤ length (names_as j found th)
-      → st (Unlocking at end th) ≡ machine.Unlocking (record_as j made found th) (nth (names_as j found th) at) (drop (at + 1) (take end (names_as j found th))) (then_as j hidden th)
+      → st (Unlocking at end th) ≡ machine.Unlocking (record_as j made found th) (nth (names_as j found th) at) (drop (at + 1) (take end (names_as j found th))) (then_as j hidden found th)
   unlocking-view at end th l m =
       let ns = take end (names_as j found th) in
       let w = drop-some ns at (omega (arith, l, length-take-le end (names_as j found th) m)) in
-      ap (λ (xs : List (List ℕ)). unlocking (record_as j made found th) xs (then_as j hidden th)) w.1
-      ∙ ap (λ (n : List ℕ). machine.Unlocking (record_as j made found th) n (drop (at + 1) ns) (then_as j hidden th)) (sym (nth-drop ns at w.0 (drop (at + 1) ns) w.1) ∙ nth-take (names_as j found th) at end l)
+      ap (λ (xs : List (List ℕ)). unlocking (record_as j made found th) xs (then_as j hidden found th)) w.1
+      ∙ ap (λ (n : List ℕ). machine.Unlocking (record_as j made found th) n (drop (at + 1) ns) (then_as j hidden found th)) (sym (nth-drop ns at w.0 (drop (at + 1) ns) w.1) ∙ nth-take (names_as j found th) at end l)
 
   pub undoing-view : (at end locks : ℕ) (th : Then) → at < end → end ≤ length (names_as j found th)
-      → st (Undoing at end locks th) ≡ machine.Undoing (record_as j made found th) (nth (names_as j found th) at) (drop (at + 1) (take end (names_as j found th))) (take locks (names_as j found th)) (then_as j hidden th)
+      → st (Undoing at end locks th) ≡ machine.Undoing (record_as j made found th) (nth (names_as j found th) at) (drop (at + 1) (take end (names_as j found th))) (take locks (names_as j found th)) (then_as j hidden found th)
   undoing-view at end locks th l m =
       let ns = take end (names_as j found th) in
       let ls = take locks (names_as j found th) in
       let w = drop-some ns at (omega (arith, l, length-take-le end (names_as j found th) m)) in
-      ap (λ (xs : List (List ℕ)). undoing (record_as j made found th) xs ls (then_as j hidden th)) w.1
-      ∙ ap (λ (n : List ℕ). machine.Undoing (record_as j made found th) n (drop (at + 1) ns) ls (then_as j hidden th)) (sym (nth-drop ns at w.0 (drop (at + 1) ns) w.1) ∙ nth-take (names_as j found th) at end l)
-
-  pub placing-view : (at : ℕ) (th : Then) → at < length (names_as j found th)
-      → st (Placing at th) ≡ machine.Placing (record_as j made found th) (nth (names_as j found th) at) (drop (at + 1) (names_as j found th)) (names_as j found th) (then_as j hidden th)
-  placing-view at th l =
-      let ns = names_as j found th in
-      let w = drop-some ns at l in
-      ap (λ (xs : List (List ℕ)). placing (record_as j made found th) xs ns (then_as j hidden th)) w.1
-      ∙ placing-cons (record_as j made found th) w.0 (drop (at + 1) ns) ns (then_as j hidden th)
-      ∙ ap (λ (n : List ℕ). machine.Placing (record_as j made found th) n (drop (at + 1) ns) ns (then_as j hidden th)) (sym (nth-drop ns at w.0 (drop (at + 1) ns) w.1))
+      ap (λ (xs : List (List ℕ)). undoing (record_as j made found th) xs ls (then_as j hidden found th)) w.1
+      ∙ ap (λ (n : List ℕ). machine.Undoing (record_as j made found th) n (drop (at + 1) ns) ls (then_as j hidden found th)) (sym (nth-drop ns at w.0 (drop (at + 1) ns) w.1) ∙ nth-take (names_as j found th) at end l)
 
   -- the steps that numbers lead to
-  pub unlocking-is : (at end : ℕ) (th : Then) → end ≤ length (names_as j found th) → st (unlocking_at at end th) ≡ unlocking (record_as j made found th) (drop at (take end (names_as j found th))) (then_as j hidden th)
+  pub unlocking-is : (at end : ℕ) (th : Then) → end ≤ length (names_as j found th) → st (unlocking_at at end th) ≡ unlocking (record_as j made found th) (drop at (take end (names_as j found th))) (then_as j hidden found th)
   unlocking-is at end th m = elim (lt-or at end) [
     | inl y ↦ rw y.1 refl
-    | inr n ↦ rw n.1 (sym (ap (λ (xs : List (List ℕ)). unlocking (record_as j made found th) xs (then_as j hidden th)) (none-left (take end (names_as j found th)) at (omega (arith, n.0, length-take-le end (names_as j found th) m)))))
+    | inr n ↦ rw n.1 (sym (ap (λ (xs : List (List ℕ)). unlocking (record_as j made found th) xs (then_as j hidden found th)) (none-left (take end (names_as j found th)) at (omega (arith, n.0, length-take-le end (names_as j found th) m)))))
   ]
 
-  pub unlocking-all : (end : ℕ) (th : Then) → end ≡ length (names_as j found th) → st (unlocking_at 0 end th) ≡ unlocking (record_as j made found th) (names_as j found th) (then_as j hidden th)
+  pub unlocking-all : (end : ℕ) (th : Then) → end ≡ length (names_as j found th) → st (unlocking_at 0 end th) ≡ unlocking (record_as j made found th) (names_as j found th) (then_as j hidden found th)
   unlocking-all end th e =
-      unlocking-is 0 end th (omega (arith, e)) ∙ ap (λ (xs : List (List ℕ)). unlocking (record_as j made found th) xs (then_as j hidden th)) (take_all end (names_as j found th) (omega (arith, e)))
+      unlocking-is 0 end th (omega (arith, e)) ∙ ap (λ (xs : List (List ℕ)). unlocking (record_as j made found th) xs (then_as j hidden found th)) (take_all end (names_as j found th) (omega (arith, e)))
 
   pub undoing-is : (at end locks : ℕ) (th : Then) → end ≤ length (names_as j found th) → locks ≤ length (names_as j found th)
-      → st (undoing_at at end locks th) ≡ undoing (record_as j made found th) (drop at (take end (names_as j found th))) (take locks (names_as j found th)) (then_as j hidden th)
+      → st (undoing_at at end locks th) ≡ undoing (record_as j made found th) (drop at (take end (names_as j found th))) (take locks (names_as j found th)) (then_as j hidden found th)
   undoing-is at end locks th m k = elim (lt-or at end) [
     | inl y ↦ rw y.1 refl
-    | inr n ↦ rw n.1 (unlocking-is 0 locks th k ∙ sym (ap (λ (xs : List (List ℕ)). undoing (record_as j made found th) xs (take locks (names_as j found th)) (then_as j hidden th)) (none-left (take end (names_as j found th)) at (omega (arith, n.0, length-take-le end (names_as j found th) m)))))
+    | inr n ↦ rw n.1 (unlocking-is 0 locks th k ∙ sym (ap (λ (xs : List (List ℕ)). undoing (record_as j made found th) xs (take locks (names_as j found th)) (then_as j hidden found th)) (none-left (take end (names_as j found th)) at (omega (arith, n.0, length-take-le end (names_as j found th) m)))))
   ]
 
-  pub placing-is : (at end : ℕ) (th : Then) → end ≡ length (names_as j found th) → st (placing_at at end th) ≡ placing (record_as j made found th) (drop at (names_as j found th)) (names_as j found th) (then_as j hidden th)
-  placing-is at end th e = elim (lt-or at end) [
-    | inl y ↦ rw y.1 refl
-    | inr n ↦ rw n.1 (unlocking-all end th e ∙ sym (ap (λ (xs : List (List ℕ)). placing (record_as j made found th) xs (names_as j found th) (then_as j hidden th)) (none-left (names_as j found th) at (omega (arith, n.0, e)))))
+  -- the first step for an entry is that of its kind
+  place-is : (kind : EntryKind) (at : ℕ) (th : Then) → st (place_at kind at th) ≡ place_one kind (record_as j made found th) (nth (names_as j found th) at) (drop (at + 1) (names_as j found th)) (names_as j found th) (then_as j hidden found th)
+  place-is Replace at th = refl
+  place-is Remove at GoOn = refl
+  place-is Remove at (Answer e) = refl
+
+  -- the kinds of the entries are those that their record says
+  abbrev pub KindsAre : Kinds → Then → ℕ → Type 0
+  KindsAre kinds th end = (at : ℕ) → at < end → kinds th at ≡ kind_of (record_as j made found th) (nth (names_as j found th) at)
+
+  pub placing-is : (kinds : Kinds) (at end : ℕ) (th : Then) → end ≡ length (names_as j found th) → KindsAre kinds th end
+      → st (placing_at kinds at end th) ≡ placing (record_as j made found th) (drop at (names_as j found th)) (names_as j found th) (then_as j hidden found th)
+  placing-is kinds at end th e same = elim (lt-or at end) [
+    | inl y ↦
+        let r = record_as j made found th in
+        let ns = names_as j found th in
+        let w = drop-some ns at (omega (arith, y.0, e)) in
+        let name = nth-drop ns at w.0 (drop (at + 1) ns) w.1 in
+        rw y.1 (
+        ap (λ (k : EntryKind). st (place_at k at th)) (same at y.0)
+        ∙ place-is (kind_of r (nth ns at)) at th
+        ∙ ap (λ (n : List ℕ). place_one (kind_of r n) r n (drop (at + 1) ns) ns (then_as j hidden found th)) name
+        ∙ sym (ap (λ (xs : List (List ℕ)). placing r xs ns (then_as j hidden found th)) w.1))
+    | inr n ↦ rw n.1 (unlocking-all end th e ∙ sym (ap (λ (xs : List (List ℕ)). placing (record_as j made found th) xs (names_as j found th) (then_as j hidden found th)) (none-left (names_as j found th) at (omega (arith, n.0, e)))))
   ]
 
   pub locking-is : (at n : ℕ) → n ≡ length (all_of j) → st (locking_at at n) ≡ locking j (take at (all_of j)) (drop at (edits_of j))

@@ -1,5 +1,5 @@
 -- The place after an answer.
-use Rattle.std.specs.Prelude.{◌≡◌, ◌⊎◌, ◌<◌, ◌≤◌, ◌+◌, ℕ, Bool, true, false, nat_eq, List, map, take, slice_set, length, if◌then◌else◌}
+use Rattle.std.specs.Prelude.{◌≡◌, ◌⊎◌, ◌<◌, ◌≤◌, ◌+◌, ℕ, Bool, true, false, nat_eq, List, [], map, take, slice_set, length, is_some, if◌then◌else◌}
 use Rattle.std.specs.declared.option.Option.{Option}
 use Rattle.std.specs.declared.option.Option.TheVariants.{Some, None}
 use Rattle.std.specs.declared.result.Result.{Result}
@@ -8,7 +8,7 @@ use Rattle.std.specs.List.{starts_with}
 use Rattle.std.specs.Option.{option_map}
 use Rattle.folder_change.specs.declared.change.Change.{Change}
 use Rattle.folder_change.specs.Apply.{first_refusal}
-use Rattle.commit_record.specs.Format.{IsWritten}
+use Rattle.commit_record.specs.Format.{IsWritten, written}
 use Rattle.commit_record.specs.declared.record.Record.{Record}
 use Rattle.host_port.specs.Calls.{Rose, load_limit}
 use Rattle.commit_machine.specs.Names.{staged_name}
@@ -36,9 +36,9 @@ use Rattle.commit_driver.specs.declared.answers.Reply.{Reply}
 use Rattle.commit_driver.specs.declared.answers.Reply.TheVariants as reply
 use Rattle.commit_driver.specs.declared.place.Plan.{Plan}
 use Rattle.commit_driver.specs.declared.place.Place.{Place}
-use Rattle.commit_driver.specs.Steps.{passed_at, placing_at, undoing_at, unlocking_at, staging_at, faulted_at, long_at, short_at, went_at, weight}
+use Rattle.commit_driver.specs.Steps.{passed_at, placing_at, tested_at, undoing_at, unlocking_at, staging_at, faulted_at, long_at, short_at, went_at, weight}
 use Rattle.commit_driver.specs.Judging.{Judges, TroubleFits}
-use Rattle.commit_driver.specs.Places.{files_of, entries_of, IsPlan, IsPlace, StandsFor}
+use Rattle.commit_driver.specs.Places.{files_of, entries_of, kinds_in, kinds_of, decided_record, IsPlan, IsPlace, StandsFor}
 
 -- the answer as the machine has it
 abbrev pub reply_as : Reply → machine.Reply
@@ -61,7 +61,7 @@ IsAnswer (Some c) r = ⊥
 
 -- the first step of closing a record that was found
 abbrev pub mending_at : Record → Step
-mending_at r = if is_go r then placing_at 0 (length r.entries) GoOn else undoing_at 0 (length r.entries) (length r.entries) GoOn
+mending_at r = if is_go r then placing_at (kinds_in r.entries []) 0 (length r.entries) GoOn else undoing_at 0 (length r.entries) (length r.entries) GoOn
 
 -- the step once all of so many files are loaded and judged
 abbrev pub judged_at : ℕ → Result Unit Trouble → Step
@@ -94,14 +94,23 @@ abbrev pub Looks : Plan → Option (List ℕ) → Place → Place → Type 0
 Looks plan None old now = now ≡ at_step old (if plan.commits then step.Preparing else step.Clearing recovered.Nothing)
 Looks plan (Some bytes) old now = (result : Result Found End) × Finds bytes result × LooksAt result old now
 
--- what is made of the files once all are loaded
+-- The text of the decision is written where the files were judged so, unless memory is wanting.
+pub record WritesGo (plan : Plan) (judged : Result Unit Trouble) (old : Place) (result : Result Unit Trouble) (now : Place) : Type 0 where
+  pub same : (result ≡ judged) ⊎ (result ≡ Err trouble.Memory)
+  pub go : List ℕ
+  pub go_is : result ≡ Ok tt → go ≡ written (decided_record plan.value old.files)
+  pub is : now ≡ record old { go = go }
+
+-- What is made of the files once all are loaded. Then the text of the decision is written.
 pub record TakesAll (plan : Plan) (files : List (Option (List ℕ))) (changes : List Change) (base : List (List ℕ)) (old now : Place) : Type 0 where
   pub result : Result Unit Trouble
   pub made : List (Option (List ℕ))
   pub judged : Judges changes base (names_of plan.value) files result made
   pub fits : TroubleFits (files_of plan) result
   pub long : length made ≡ length files
-  pub is : now ≡ record old { step = judged_at (files_of plan) result; files = made }
+  pub go : List ℕ
+  pub go_is : result ≡ Ok tt → go ≡ written (decided_record plan.value made)
+  pub is : now ≡ record old { step = judged_at (files_of plan) result; files = made; go = go }
 
 abbrev pub Takes : Plan → ℕ → Option (List ℕ) → List Change → List (List ℕ) → Place → Place → Type 0
 Takes plan at file changes base old now =
@@ -111,12 +120,13 @@ Takes plan at file changes base old now =
 abbrev pub SawSo : Plan → Option (List ℕ) → List Change → List (List ℕ) → Place → Step → Place → Type 0
 SawSo plan file changes base old step.Looking now = Looks plan file old now
 SawSo plan file changes base old (step.Loading at) now = Takes plan at file changes base old now
-SawSo plan file changes base old step.Checking now = (p : Passed) × PassedSo plan.go file p × (now ≡ at_step old (step.Releasing (end.Failed p)))
+SawSo plan file changes base old (step.Testing at) now = now ≡ at_step old (tested_at (kinds_of old) (entries_of old) at (is_some file))
+SawSo plan file changes base old step.Checking now = (p : Passed) × PassedSo old.go file p × (now ≡ at_step old (step.Releasing (end.Failed p)))
 SawSo plan file changes base old s now = now ≡ at_step old (step.Releasing (end.Failed (passed_at s)))
 
 -- the place after an answer, by numbers
 abbrev pub Answered : Plan → Reply → List Change → List (List ℕ) → Place → Place → Type 0
-Answered plan (reply.Went did) changes base old now = now ≡ at_step old (went_at plan.commits (files_of plan) (entries_of old) (is_go old.found) old.step did)
+Answered plan (reply.Went did) changes base old now = now ≡ at_step old (went_at (kinds_of old) plan.commits (files_of plan) (entries_of old) (is_go old.found) old.step did)
 Answered plan (reply.Saw file) changes base old now = SawSo plan file changes base old old.step now
 Answered plan (reply.Long n) changes base old now = now ≡ at_step old (long_at (files_of plan) old.step n)
 Answered plan reply.Short changes base old now = now ≡ at_step old (short_at (files_of plan) old.step)
@@ -143,6 +153,8 @@ settled_then (Answer e) = settled_end e
 abbrev pub is_settled : Step → Bool
 is_settled (step.Undoing at e locks th) = settled_then th
 is_settled (step.Placing at th) = settled_then th
+is_settled (step.Removing at th) = settled_then th
+is_settled (step.Discarding at th) = settled_then th
 is_settled (step.Unlocking at e th) = settled_then th
 is_settled (step.Erasing th) = settled_then th
 is_settled step.Checking = true
@@ -158,6 +170,7 @@ is_long r = false
 abbrev pub EndCaused : ℕ → ℕ → End → Type 0
 EndCaused before now (end.Failed p) = Rose before now
 EndCaused before now (end.RecordTooLarge n) = load_limit < n
+EndCaused before now (end.StagedTooLarge k n) = load_limit < n
 EndCaused before now (end.TooLarge k n) = load_limit < n
 EndCaused before now e = Unit {0}
 
@@ -168,6 +181,8 @@ ThenCaused before now (Answer e) = EndCaused before now e
 abbrev pub Caused : ℕ → ℕ → Step → Type 0
 Caused before now (step.Undoing at e locks th) = ThenCaused before now th
 Caused before now (step.Placing at th) = ThenCaused before now th
+Caused before now (step.Removing at th) = ThenCaused before now th
+Caused before now (step.Discarding at th) = ThenCaused before now th
 Caused before now (step.Unlocking at e th) = ThenCaused before now th
 Caused before now (step.Erasing th) = ThenCaused before now th
 Caused before now step.Checking = Rose before now

@@ -1,6 +1,5 @@
 -- What changes make of files, in order.
 use Rattle.std.specs.Prelude.{◌≡◌, ◌+◌, ◌<◌, ℕ, List, [], ◌∷◌, map, get_or, slice_set, nat_le, length, if◌then◌else◌}
-use Rattle.std.specs.Prelude as prelude
 use Rattle.std.specs.declared.option.Option.{Option}
 use Rattle.std.specs.declared.option.Option.TheVariants.{Some, None}
 use Rattle.std.specs.declared.result.Result.{Result}
@@ -9,7 +8,7 @@ use Rattle.std.specs.Str.{bytes_eq}
 use Rattle.folder_change.specs.declared.change.Change.{Change}
 use Rattle.folder_change.specs.Outcomes.{outcome_of}
 use Rattle.folder_change.specs.Apply.{Files, ChangedAt, TooLong, apply, first_refusal, most_bytes}
-use Rattle.commit_machine.specs.Records.{has}
+use Rattle.commit_machine.specs.Records.{AreDistinct}
 use Rattle.commit_driver.specs.declared.judge.Trouble.{Trouble}
 use Rattle.commit_driver.specs.declared.judge.Trouble.TheVariants as trouble
 
@@ -22,11 +21,6 @@ excess_of (Some bytes) = if nat_le (length bytes) most_bytes then None else Some
 abbrev pub number_in : List (List ℕ) → List ℕ → ℕ
 number_in [] n = 0
 number_in (m ∷ ms) n = if bytes_eq n m then 0 else number_in ms n + 1
-
--- no name stands twice
-abbrev pub AreDistinct : List (List ℕ) → Type 0
-AreDistinct [] = Unit {0}
-AreDistinct (n ∷ ns) = (has ns n ≡ prelude.false) × AreDistinct ns
 
 -- what a change makes of the file with this number, or why it can't be made
 abbrev pub JudgesOne : Change → List (List ℕ) → ℕ → List (Option (List ℕ)) → Result Unit Trouble → List (Option (List ℕ)) → Type 0

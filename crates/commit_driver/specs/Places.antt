@@ -1,20 +1,22 @@
 -- The machine's state that a place stands for.
-use Rattle.std.specs.Prelude.{◌≡◌, ◌⊎◌, ◌≤◌, ℕ, true, List, [], ◌∷◌, map, take, drop, get_or, length, is_some, All}
+use Rattle.std.specs.Prelude.{◌≡◌, ◌⊎◌, ◌≤◌, ◌+◌, ℕ, true, List, [], ◌∷◌, map, take, drop, get_or, length, is_some, All}
 use Rattle.std.specs.declared.option.Option.{Option}
-use Rattle.std.specs.declared.option.Option.TheVariants.{None}
+use Rattle.std.specs.declared.option.Option.TheVariants.{Some, None}
 use Rattle.std.specs.Option.{option_map}
 use Rattle.host_port.specs.Names.{IsFileName}
 use Rattle.folder_change.specs.Outcomes.{bytes_of}
-use Rattle.commit_record.specs.Format.{written}
-use Rattle.commit_record.specs.declared.record.Phase.TheVariants.{Prepare}
+use Rattle.commit_record.specs.Format.{is_valid, written}
+use Rattle.commit_record.specs.declared.record.Phase.TheVariants.{Prepare, Go}
 use Rattle.commit_record.specs.declared.record.EntryKind.{EntryKind}
+use Rattle.commit_record.specs.declared.record.EntryKind.TheVariants.{Replace, Remove}
+use Rattle.commit_record.specs.declared.record.Entry.{Entry}
 use Rattle.commit_record.specs.declared.record.Record.{Record}
 use Rattle.commit_machine.specs.Names.{record_name, new_name, right_name, staged_name}
-use Rattle.commit_machine.specs.Records.{names_of}
+use Rattle.commit_machine.specs.Records.{names_of, AreDistinct}
 use Rattle.commit_machine.specs.Settled.{Mem}
 use Rattle.commit_machine.specs.Jobs.{Ending, Outcome, Puts, Edit, Job, Made, edits_of, all_of, prepare_of, go_of}
 use Rattle.commit_machine.specs.Jobs as jobs
-use Rattle.commit_machine.specs.Machine.{State, next, go_front, undoing, placing, unlocking, locking, loading, staging}
+use Rattle.commit_machine.specs.Machine.{State, next, go_front, undoing, unlocking, locking, loading, staging}
 use Rattle.commit_machine.specs.Machine as machine
 use Rattle.commit_driver.specs.declared.step.Passed.{Passed}
 use Rattle.commit_driver.specs.declared.step.Passed.TheVariants as passed
@@ -32,12 +34,11 @@ use Rattle.commit_driver.specs.declared.next.Call.{Call}
 use Rattle.commit_driver.specs.declared.next.Call.TheVariants as call
 use Rattle.commit_driver.specs.declared.place.Plan.{Plan}
 use Rattle.commit_driver.specs.declared.place.Place.{Place}
-use Rattle.commit_driver.specs.Judging.{AreDistinct}
-use Rattle.commit_driver.specs.Steps.{Fits}
+use Rattle.commit_driver.specs.Steps.{Kinds, Fits}
 
 -- a place before the first call, with room for so many files
 abbrev pub begun : List (Option (List ℕ)) → Place
-begun files = record { step = step.Seizing; found = record { phase = Prepare; token = 0; entries = [] }; found_staged = []; files = files }
+begun files = record { step = step.Seizing; found = record { phase = Prepare; token = 0; entries = [] }; found_staged = []; files = files; go = [] }
 
 -- how many files a plan has, and how many entries the record that was found
 abbrev pub files_of : Plan → ℕ
@@ -45,6 +46,33 @@ files_of plan = length plan.value.entries
 
 abbrev pub entries_of : Place → ℕ
 entries_of place = length place.found.entries
+
+-- what becomes of a file that is to be so
+abbrev pub file_kind : Option (List ℕ) → EntryKind
+file_kind None = Remove
+file_kind (Some bytes) = Replace
+
+-- what becomes of the file of the entry with this number
+abbrev pub nth_kind : List Entry → ℕ → EntryKind
+nth_kind entries k = get_or (map (λ e. e.kind) entries) k Replace
+
+-- what becomes of the files of entries that were found, and of those of a plan
+abbrev pub kinds_in : List Entry → List (Option (List ℕ)) → Kinds
+kinds_in entries files then.GoOn k = nth_kind entries k
+kinds_in entries files (then.Answer e) k = file_kind (get_or files k None)
+
+abbrev pub kinds_of : Place → Kinds
+kinds_of place = kinds_in place.found.entries place.files
+
+-- the entries of files that are to be so
+abbrev pub decided_entries : List Entry → List (Option (List ℕ)) → List Entry
+decided_entries [] files = []
+decided_entries (e ∷ es) [] = []
+decided_entries (e ∷ es) (file ∷ files) = record { kind = file_kind file; name = e.name } ∷ decided_entries es files
+
+-- the record of the decision, of files that are to be so
+abbrev pub decided_record : Record → List (Option (List ℕ)) → Record
+decided_record value files = record { phase = Go; token = value.token; entries = decided_entries value.entries files }
 
 -- the name with this number
 abbrev pub nth : List (List ℕ) → ℕ → List ℕ
@@ -67,7 +95,7 @@ content_at files k = bytes_of (get_or files k None)
 abbrev pub call_in : Plan → Place → Call → machine.Call
 call_in plan place (call.Load x) = machine.ToLoad (name_in plan place x)
 call_in plan place call.StagePrepare = machine.ToStage plan.new plan.prepare
-call_in plan place call.StageGo = machine.ToStage plan.new plan.go
+call_in plan place call.StageGo = machine.ToStage plan.new place.go
 call_in plan place (call.StageFile k) = machine.ToStage (nth plan.staged k) (content_at place.files k)
 call_in plan place (call.Publish x y) = machine.ToPublish (name_in plan place x) (name_in plan place y)
 call_in plan place (call.Erase x) = machine.ToErase (name_in plan place x)
@@ -87,22 +115,23 @@ found_as recovered.Nothing = jobs.Nothing
 found_as recovered.RolledBack = jobs.RolledBack
 found_as recovered.Finished = jobs.Finished
 
--- The machine's end that an end is. Want of memory may stand for another end, which it hides.
-abbrev pub end_as : Job → Ending → End → Ending
-end_as j hidden end.Done = jobs.Done
-end_as j hidden (end.Recovered f) = jobs.Recovered (found_as f)
-end_as j hidden end.RightBusy = jobs.Refused (jobs.Busy (right_name j.actor))
-end_as j hidden (end.Busy k) = jobs.Refused (jobs.Busy (nth (all_of j) k))
-end_as j hidden end.NotARecord = jobs.Refused jobs.NotARecord
-end_as j hidden (end.RecordTooLarge n) = jobs.Refused (jobs.TooLarge (record_name j.actor) n)
-end_as j hidden (end.TooLarge k n) = jobs.Refused (jobs.TooLarge (nth (all_of j) k) n)
-end_as j hidden (end.Changed k at) = jobs.Refused (jobs.Changed (nth (all_of j) k) at)
-end_as j hidden (end.Failed p) = jobs.Failed (passed_as p)
-end_as j hidden end.NoMemory = hidden
+-- The machine's end that an end is, where this record was found. Want of memory may stand for another end, which it hides.
+abbrev pub end_as : Job → Ending → Record → End → Ending
+end_as j hidden found end.Done = jobs.Done
+end_as j hidden found (end.Recovered f) = jobs.Recovered (found_as f)
+end_as j hidden found end.RightBusy = jobs.Refused (jobs.Busy (right_name j.actor))
+end_as j hidden found (end.Busy k) = jobs.Refused (jobs.Busy (nth (all_of j) k))
+end_as j hidden found end.NotARecord = jobs.Refused jobs.NotARecord
+end_as j hidden found (end.RecordTooLarge n) = jobs.Refused (jobs.TooLarge (record_name j.actor) n)
+end_as j hidden found (end.StagedTooLarge k n) = jobs.Refused (jobs.TooLarge (staged_name found.token (nth (names_of found) k)) n)
+end_as j hidden found (end.TooLarge k n) = jobs.Refused (jobs.TooLarge (nth (all_of j) k) n)
+end_as j hidden found (end.Changed k at) = jobs.Refused (jobs.Changed (nth (all_of j) k) at)
+end_as j hidden found (end.Failed p) = jobs.Failed (passed_as p)
+end_as j hidden found end.NoMemory = hidden
 
-abbrev pub then_as : Job → Ending → Then → machine.Then
-then_as j hidden then.GoOn = machine.GoOn
-then_as j hidden (then.Answer e) = machine.Answer (end_as j hidden e)
+abbrev pub then_as : Job → Ending → Record → Then → machine.Then
+then_as j hidden found then.GoOn = machine.GoOn
+then_as j hidden found (then.Answer e) = machine.Answer (end_as j hidden found e)
 
 -- the record that is done with, and its names
 abbrev pub own_record : Job → List Made → End → Record
@@ -138,12 +167,17 @@ abbrev pub state_as : Job → Ending → List Made → Record → List (Option (
 state_as j hidden made found files step.Seizing = machine.Seizing
 state_as j hidden made found files step.Looking = machine.Looking
 state_as j hidden made found files (step.Undoing at end locks th) =
-    undoing (record_as j made found th) (drop at (take end (names_as j found th))) (take locks (names_as j found th)) (then_as j hidden th)
+    undoing (record_as j made found th) (drop at (take end (names_as j found th))) (take locks (names_as j found th)) (then_as j hidden found th)
 state_as j hidden made found files (step.Placing at th) =
-    placing (record_as j made found th) (drop at (names_as j found th)) (names_as j found th) (then_as j hidden th)
+    machine.Placing (record_as j made found th) (nth (names_as j found th) at) (drop (at + 1) (names_as j found th)) (names_as j found th) (then_as j hidden found th)
+state_as j hidden made found files (step.Testing at) = machine.Testing found (nth (names_of found) at) (drop (at + 1) (names_of found)) (names_of found)
+state_as j hidden made found files (step.Removing at th) =
+    machine.Removing (record_as j made found th) (nth (names_as j found th) at) (drop (at + 1) (names_as j found th)) (names_as j found th) (then_as j hidden found th)
+state_as j hidden made found files (step.Discarding at th) =
+    machine.Discarding (record_as j made found th) (nth (names_as j found th) at) (drop (at + 1) (names_as j found th)) (names_as j found th) (then_as j hidden found th)
 state_as j hidden made found files (step.Unlocking at end th) =
-    unlocking (record_as j made found th) (drop at (take end (names_as j found th))) (then_as j hidden th)
-state_as j hidden made found files (step.Erasing th) = machine.Erasing (record_as j made found th) (then_as j hidden th)
+    unlocking (record_as j made found th) (drop at (take end (names_as j found th))) (then_as j hidden found th)
+state_as j hidden made found files (step.Erasing th) = machine.Erasing (record_as j made found th) (then_as j hidden found th)
 state_as j hidden made found files (step.Clearing f) = machine.Clearing (found_as f)
 state_as j hidden made found files step.Preparing = machine.Preparing
 state_as j hidden made found files step.Publishing = machine.Publishing
@@ -153,8 +187,8 @@ state_as j hidden made found files (step.Staging at) = staging (take at (all_of 
 state_as j hidden made found files step.Deciding = machine.Deciding made
 state_as j hidden made found files step.Committing = machine.Committing made
 state_as j hidden made found files step.Checking = machine.Checking
-state_as j hidden made found files (step.Releasing e) = machine.Releasing (end_as j hidden e)
-state_as j hidden made found files (step.Ended e) = machine.Ended (end_as j hidden e)
+state_as j hidden made found files (step.Releasing e) = machine.Releasing (end_as j hidden found e)
+state_as j hidden made found files (step.Ended e) = machine.Ended (end_as j hidden found e)
 
 -- What want of memory may hide, in a commit of files of these names. To read the record takes memory, and so does to judge the changes of a
 -- file. A right or a lock that another has is seen without memory.
@@ -172,8 +206,6 @@ WantedAs files e = (e ≡ jobs.NoMemory) ⊎ ((why : jobs.Refusal) × MayHide fi
 pub record AreTexts (j : Job) (plan : Plan) : Type 0 where
   pub distinct : AreDistinct (all_of j)
   pub prepare_is : plan.prepare ≡ written (prepare_of j)
-  pub go_is : (made : List Made) → plan.go ≡ written (go_of j made)
-  pub front_is : take 47 plan.go ≡ go_front j.token
 
 -- the plan is that of a job
 pub record IsPlan (j : Job) (plan : Plan) : Type 0 where
@@ -186,29 +218,41 @@ pub record IsPlan (j : Job) (plan : Plan) : Type 0 where
   pub staged_are : plan.staged ≡ map (staged_name j.token) (all_of j)
   pub texts_are : is_some j.edits ≡ true → AreTexts j plan
 
--- what was made is what is staged
-pub record IsMade (j : Job) (made : List Made) (files : List (Option (List ℕ))) : Type 0 where
+-- what was made is what is staged, by the record of the decision
+pub record IsMade (j : Job) (made : List Made) (files : List (Option (List ℕ))) (go : List ℕ) : Type 0 where
+  pub distinct : AreDistinct (all_of j)
   pub names_are : map (λ x. x.edit.name) made ≡ all_of j
+  pub kinds_are : map file_kind files ≡ map (λ x. x.kind) made
   pub contents_are : map bytes_of files ≡ map (λ x. x.content) made
+  pub go_is : go ≡ written (go_of j made)
+
+-- an entry is put in place of a record that was found, or of the own one once it is decided
+abbrev pub PlacesSo : Job → List Made → List (Option (List ℕ)) → List ℕ → Then → Type 0
+PlacesSo j made files go then.GoOn = Unit {0}
+PlacesSo j made files go (then.Answer end.Done) = IsMade j made files go
+PlacesSo j made files go (then.Answer e) = ⊥
 
 -- what a step takes for granted: some belong to a commit, and a file is staged once all are made
-abbrev pub Holds : Job → List Made → List (Option (List ℕ)) → Step → Type 0
-Holds j made files step.Preparing = is_some j.edits ≡ true
-Holds j made files step.Publishing = is_some j.edits ≡ true
-Holds j made files (step.Locking at) = is_some j.edits ≡ true
-Holds j made files (step.Loading at) = is_some j.edits ≡ true
-Holds j made files (step.Staging at) = (is_some j.edits ≡ true) × IsMade j made files
-Holds j made files step.Deciding = is_some j.edits ≡ true
-Holds j made files step.Committing = is_some j.edits ≡ true
-Holds j made files step.Checking = is_some j.edits ≡ true
-Holds j made files s = Unit {0}
+abbrev pub Holds : Job → List Made → List (Option (List ℕ)) → List ℕ → Step → Type 0
+Holds j made files go (step.Placing at th) = PlacesSo j made files go th
+Holds j made files go (step.Removing at th) = PlacesSo j made files go th
+Holds j made files go (step.Discarding at th) = PlacesSo j made files go th
+Holds j made files go step.Preparing = is_some j.edits ≡ true
+Holds j made files go step.Publishing = is_some j.edits ≡ true
+Holds j made files go (step.Locking at) = is_some j.edits ≡ true
+Holds j made files go (step.Loading at) = is_some j.edits ≡ true
+Holds j made files go (step.Staging at) = IsMade j made files go
+Holds j made files go step.Deciding = IsMade j made files go
+Holds j made files go step.Committing = IsMade j made files go
+Holds j made files go step.Checking = take 47 go ≡ go_front j.token
+Holds j made files go s = Unit {0}
 
 -- The place stands for this state of the job.
 pub record StandsFor (j : Job) (place : Place) (s : State) : Type 0 where
   pub hidden : Ending
   pub wanted : WantedAs (all_of j) hidden
   pub made : List Made
-  pub holds : Holds j made place.files place.step
+  pub holds : Holds j made place.files place.go place.step
   pub is : state_as j hidden made place.found place.files place.step ≡ s
 
 -- what a place keeps in order, for a plan
@@ -217,6 +261,7 @@ pub record IsPlace (plan : Plan) (place : Place) : Type 0 where
   pub staged_are : place.found_staged ≡ map (staged_name place.found.token) (names_of place.found)
   pub few : entries_of place ≤ 16
   pub files_are : length place.files ≡ files_of plan
+  pub distinct : AreDistinct (names_of place.found)
   pub names : All IsFileName (names_of place.found)
   pub staged : All IsFileName place.found_staged
 
@@ -230,6 +275,7 @@ pub record IsSafe (plan : Plan) : Type 0 where
   pub staged_long : length plan.staged ≡ files_of plan
   pub few : files_of plan ≤ 16
   pub some : plan.commits ≡ true → 1 ≤ files_of plan
+  pub valid : 1 ≤ files_of plan → is_valid plan.value ≡ true
 
 -- a call is the machine's next
 abbrev pub NextOf : Plan → Place → Option Call → Type 0

@@ -1,14 +1,16 @@
 -- How far a job has come, by numbers alone.
 use Rattle.std.specs.Prelude.{◌<◌, ◌≤◌, ◌+◌, ◌-◌, ◌*◌, ℕ, Bool, true, false, Option, Some, None, nat_lt, if◌then◌else◌}
+use Rattle.commit_record.specs.declared.record.EntryKind.{EntryKind}
+use Rattle.commit_record.specs.declared.record.EntryKind.TheVariants.{Replace, Remove}
 use Rattle.commit_driver.specs.declared.step.Passed.{Passed}
 use Rattle.commit_driver.specs.declared.step.Passed.TheVariants.{Before, After, Unknown}
 use Rattle.commit_driver.specs.declared.step.Recovered.TheVariants as recovered
 use Rattle.commit_driver.specs.declared.step.End.{End}
-use Rattle.commit_driver.specs.declared.step.End.TheVariants.{Done, Recovered, RightBusy, Busy, NotARecord, RecordTooLarge, TooLarge, Changed, Failed, NoMemory}
+use Rattle.commit_driver.specs.declared.step.End.TheVariants.{Done, Recovered, RightBusy, Busy, NotARecord, RecordTooLarge, StagedTooLarge, TooLarge, Changed, Failed, NoMemory}
 use Rattle.commit_driver.specs.declared.step.Then.{Then}
 use Rattle.commit_driver.specs.declared.step.Then.TheVariants.{GoOn, Answer}
 use Rattle.commit_driver.specs.declared.step.Step.{Step}
-use Rattle.commit_driver.specs.declared.step.Step.TheVariants.{Seizing, Looking, Undoing, Placing, Unlocking, Erasing, Clearing, Preparing, Publishing, Locking, Loading, Staging, Deciding, Committing, Checking, Releasing, Ended}
+use Rattle.commit_driver.specs.declared.step.Step.TheVariants.{Seizing, Looking, Undoing, Placing, Testing, Removing, Discarding, Unlocking, Erasing, Clearing, Preparing, Publishing, Locking, Loading, Staging, Deciding, Committing, Checking, Releasing, Ended}
 use Rattle.commit_driver.specs.declared.next.Name.{Name}
 use Rattle.commit_driver.specs.declared.next.Name.TheVariants as name
 use Rattle.commit_driver.specs.declared.next.Call.{Call}
@@ -33,6 +35,9 @@ call_at Seizing = Some call.Seize
 call_at Looking = Some (call.Load name.Record)
 call_at (Undoing at end locks th) = Some (call.Erase (staged_at th at))
 call_at (Placing at th) = Some (call.Publish (staged_at th at) (file_at th at))
+call_at (Testing at) = Some (call.Load (name.FoundStaged at))
+call_at (Removing at th) = Some (call.Erase (file_at th at))
+call_at (Discarding at th) = Some (call.Erase (staged_at th at))
 call_at (Unlocking at end th) = Some (unlock_at th at)
 call_at (Erasing th) = Some (call.Erase name.Record)
 call_at (Clearing found) = Some (call.Erase name.New)
@@ -53,28 +58,32 @@ count_at n m GoOn = m
 count_at n m (Answer e) = n
 
 -- the numbers of files are those of n files, and of entries those of m
-abbrev pub EndFits : ℕ → End → Type 0
-EndFits n (Busy k) = k < n
-EndFits n (TooLarge k length) = k < n
-EndFits n (Changed k message) = k < n
-EndFits n e = Unit {0}
+abbrev pub EndFits : ℕ → ℕ → End → Type 0
+EndFits n m (Busy k) = k < n
+EndFits n m (StagedTooLarge k length) = k < m
+EndFits n m (TooLarge k length) = k < n
+EndFits n m (Changed k message) = k < n
+EndFits n m e = Unit {0}
 
-abbrev pub ThenFits : ℕ → Then → Type 0
-ThenFits n GoOn = Unit {0}
-ThenFits n (Answer e) = EndFits n e
+abbrev pub ThenFits : ℕ → ℕ → Then → Type 0
+ThenFits n m GoOn = Unit {0}
+ThenFits n m (Answer e) = EndFits n m e
 
 abbrev pub Fits : ℕ → ℕ → Step → Type 0
-Fits n m (Undoing at end locks th) = (at < end) × (end ≤ count_at n m th) × (locks ≤ count_at n m th) × ThenFits n th
-Fits n m (Placing at th) = (at < count_at n m th) × ThenFits n th
-Fits n m (Unlocking at end th) = (at < end) × (end ≤ count_at n m th) × ThenFits n th
-Fits n m (Erasing th) = ThenFits n th
+Fits n m (Undoing at end locks th) = (at < end) × (end ≤ count_at n m th) × (locks ≤ count_at n m th) × ThenFits n m th
+Fits n m (Placing at th) = (at < count_at n m th) × ThenFits n m th
+Fits n m (Testing at) = at < m
+Fits n m (Removing at th) = (at < count_at n m th) × ThenFits n m th
+Fits n m (Discarding at th) = (at < count_at n m th) × ThenFits n m th
+Fits n m (Unlocking at end th) = (at < end) × (end ≤ count_at n m th) × ThenFits n m th
+Fits n m (Erasing th) = ThenFits n m th
 Fits n m Preparing = 0 < n
 Fits n m Publishing = 0 < n
 Fits n m (Locking at) = at < n
 Fits n m (Loading at) = at < n
 Fits n m (Staging at) = at < n
-Fits n m (Releasing e) = EndFits n e
-Fits n m (Ended e) = EndFits n e
+Fits n m (Releasing e) = EndFits n m e
+Fits n m (Ended e) = EndFits n m e
 Fits n m s = Unit {0}
 
 abbrev pub NameFits : ℕ → ℕ → Name → Type 0
@@ -101,8 +110,21 @@ unlocking_at at end th = if nat_lt at end then Unlocking at end th else Erasing 
 abbrev pub undoing_at : ℕ → ℕ → ℕ → Then → Step
 undoing_at at end locks th = if nat_lt at end then Undoing at end locks th else unlocking_at 0 locks th
 
-abbrev pub placing_at : ℕ → ℕ → Then → Step
-placing_at at end th = if nat_lt at end then Placing at th else unlocking_at 0 end th
+-- a removal of a record that was found may be done already
+abbrev pub removing_at : ℕ → Then → Step
+removing_at at GoOn = Testing at
+removing_at at (Answer e) = Removing at (Answer e)
+
+abbrev pub place_at : EntryKind → ℕ → Then → Step
+place_at Replace at th = Placing at th
+place_at Remove at th = removing_at at th
+
+-- what becomes of the files: of the entries that were found, and of those of the plan
+abbrev pub Kinds : Type 0
+Kinds = Then → ℕ → EntryKind
+
+abbrev pub placing_at : Kinds → ℕ → ℕ → Then → Step
+placing_at kinds at end th = if nat_lt at end then place_at (kinds th at) at th else unlocking_at 0 end th
 
 abbrev pub locking_at : ℕ → ℕ → Step
 locking_at at n = if nat_lt at n then Locking at else Loading 0
@@ -123,6 +145,8 @@ passed_then (Answer e) = passed_end e
 abbrev pub passed_at : Step → Passed
 passed_at (Undoing at end locks th) = Before
 passed_at (Placing at th) = passed_then th
+passed_at (Removing at th) = passed_then th
+passed_at (Discarding at th) = passed_then th
 passed_at (Unlocking at end th) = passed_then th
 passed_at (Erasing th) = passed_then th
 passed_at (Releasing e) = passed_end e
@@ -138,14 +162,21 @@ faulted_at s = Releasing (Failed (passed_at s))
 -- after a load that met so many bytes, where there are n files
 abbrev pub long_at : ℕ → Step → ℕ → Step
 long_at n Looking length = Releasing (RecordTooLarge length)
+long_at n (Testing at) length = Releasing (StagedTooLarge at length)
 long_at n (Loading at) length = unlocking_at 0 n (Answer (TooLarge at length))
 long_at n s length = Releasing (Failed (passed_at s))
 
 -- after a load that wants memory
 abbrev pub short_at : ℕ → Step → Step
 short_at n Looking = Releasing NoMemory
+short_at n (Testing at) = Releasing NoMemory
 short_at n (Loading at) = unlocking_at 0 n (Answer NoMemory)
 short_at n s = Releasing (Failed (passed_at s))
+
+-- after a look for the staged file of a removal, where m entries were found
+abbrev pub tested_at : Kinds → ℕ → ℕ → Bool → Step
+tested_at kinds m at true = Removing at GoOn
+tested_at kinds m at false = placing_at kinds (at + 1) m GoOn
 
 -- after a record was closed that was decided or wasn't
 abbrev pub closed_at : Bool → Then → Step
@@ -153,25 +184,27 @@ closed_at decided GoOn = Clearing (if decided then recovered.Finished else recov
 closed_at decided (Answer e) = Releasing e
 
 -- After a call that went so: in a commit or not, of n files, where a record of m entries was found that was decided or wasn't.
-abbrev pub went_at : Bool → ℕ → ℕ → Bool → Step → Bool → Step
-went_at commits n m decided Seizing true = Looking
-went_at commits n m decided Seizing false = Ended RightBusy
-went_at commits n m decided (Undoing at end locks th) did = undoing_at (at + 1) end locks th
-went_at commits n m decided (Placing at th) did = placing_at (at + 1) (count_at n m th) th
-went_at commits n m decided (Unlocking at end th) did = unlocking_at (at + 1) end th
-went_at commits n m decided (Erasing th) did = closed_at decided th
-went_at commits n m decided (Clearing found) did = if commits then Preparing else Releasing (Recovered found)
-went_at commits n m decided Preparing did = Publishing
-went_at commits n m decided Publishing true = locking_at 0 n
-went_at commits n m decided Publishing false = Releasing NotARecord
-went_at commits n m decided (Locking at) true = locking_at (at + 1) n
-went_at commits n m decided (Locking at) false = unlocking_at 0 at (Answer (Busy at))
-went_at commits n m decided (Staging at) did = staging_at (at + 1) n
-went_at commits n m decided Deciding did = Committing
-went_at commits n m decided Committing true = placing_at 0 n (Answer Done)
-went_at commits n m decided Committing false = Releasing NotARecord
-went_at commits n m decided (Releasing e) did = Ended e
-went_at commits n m decided s did = Releasing (Failed (passed_at s))
+abbrev pub went_at : Kinds → Bool → ℕ → ℕ → Bool → Step → Bool → Step
+went_at kinds commits n m decided Seizing true = Looking
+went_at kinds commits n m decided Seizing false = Ended RightBusy
+went_at kinds commits n m decided (Undoing at end locks th) did = undoing_at (at + 1) end locks th
+went_at kinds commits n m decided (Placing at th) did = placing_at kinds (at + 1) (count_at n m th) th
+went_at kinds commits n m decided (Removing at th) did = Discarding at th
+went_at kinds commits n m decided (Discarding at th) did = placing_at kinds (at + 1) (count_at n m th) th
+went_at kinds commits n m decided (Unlocking at end th) did = unlocking_at (at + 1) end th
+went_at kinds commits n m decided (Erasing th) did = closed_at decided th
+went_at kinds commits n m decided (Clearing found) did = if commits then Preparing else Releasing (Recovered found)
+went_at kinds commits n m decided Preparing did = Publishing
+went_at kinds commits n m decided Publishing true = locking_at 0 n
+went_at kinds commits n m decided Publishing false = Releasing NotARecord
+went_at kinds commits n m decided (Locking at) true = locking_at (at + 1) n
+went_at kinds commits n m decided (Locking at) false = unlocking_at 0 at (Answer (Busy at))
+went_at kinds commits n m decided (Staging at) did = staging_at (at + 1) n
+went_at kinds commits n m decided Deciding did = Committing
+went_at kinds commits n m decided Committing true = placing_at kinds 0 n (Answer Done)
+went_at kinds commits n m decided Committing false = Releasing NotARecord
+went_at kinds commits n m decided (Releasing e) did = Ended e
+went_at kinds commits n m decided s did = Releasing (Failed (passed_at s))
 
 -- how much is left to do, at most: each answer makes it less
 abbrev pub then_rank : Then → ℕ
@@ -179,20 +212,23 @@ then_rank GoOn = 10
 then_rank (Answer e) = 0
 
 abbrev pub weight : Step → ℕ
-weight Seizing = 20 * 17
-weight Looking = 19 * 17
-weight (Undoing at end locks th) = (then_rank th + 5) * 17 + (16 - at)
-weight (Placing at th) = (then_rank th + 5) * 17 + (16 - at)
-weight (Unlocking at end th) = (then_rank th + 4) * 17 + (16 - at)
-weight (Erasing th) = (then_rank th + 3) * 17
-weight (Clearing found) = 12 * 17 + 8
-weight Preparing = 12 * 17
-weight Publishing = 11 * 17
-weight (Locking at) = 10 * 17 + (16 - at)
-weight (Loading at) = 9 * 17 + (16 - at)
-weight (Staging at) = 8 * 17 + (16 - at)
-weight Deciding = 7 * 17
-weight Committing = 6 * 17 + 16
-weight Checking = 2 * 17
-weight (Releasing e) = 17
+weight Seizing = 20 * 51
+weight Looking = 19 * 51
+weight (Undoing at end locks th) = (then_rank th + 5) * 51 + (16 - at)
+weight (Placing at th) = (then_rank th + 5) * 51 + (3 * (16 - at) + 2)
+weight (Testing at) = 15 * 51 + (3 * (16 - at) + 2)
+weight (Removing at th) = (then_rank th + 5) * 51 + (3 * (16 - at) + 1)
+weight (Discarding at th) = (then_rank th + 5) * 51 + 3 * (16 - at)
+weight (Unlocking at end th) = (then_rank th + 4) * 51 + (16 - at)
+weight (Erasing th) = (then_rank th + 3) * 51
+weight (Clearing found) = 12 * 51 + 8
+weight Preparing = 12 * 51
+weight Publishing = 11 * 51
+weight (Locking at) = 10 * 51 + (16 - at)
+weight (Loading at) = 9 * 51 + (16 - at)
+weight (Staging at) = 8 * 51 + (16 - at)
+weight Deciding = 7 * 51
+weight Committing = 6 * 51 + 16
+weight Checking = 2 * 51
+weight (Releasing e) = 51
 weight (Ended e) = 0

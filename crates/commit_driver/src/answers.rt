@@ -7,14 +7,16 @@ ghost use Rattle.commit_machine.specs.Records.{is_go};
 ghost use Rattle.commit_machine.specs.Records.{has, names_of};
 ghost use Rattle.folder_change.specs.Changes.{name_of};
 ghost use Rattle.commit_driver.specs.declared.step.Step.TheVariants as Step;
-ghost use Rattle.commit_driver.specs.Steps.{call_at, unlocking_at, undoing_at, placing_at, locking_at, staging_at, count_at, closed_at, passed_end, passed_then, passed_at, faulted_at, long_at, short_at, went_at, Fits};
-ghost use Rattle.commit_driver.specs.Places.{IsPlace, IsSafe};
-ghost use Rattle.commit_driver.specs.Answers.{Finds, PassedSo, Looks, Takes, SawSo, Answered, IsAnswer, IsAfter, mending_at, judged_at};
+ghost use Rattle.commit_record.specs.Format.{is_valid};
+ghost use Rattle.commit_driver.specs.Steps.{call_at, unlocking_at, undoing_at, place_at, placing_at, tested_at, locking_at, staging_at, count_at, closed_at, passed_end, passed_then, passed_at, faulted_at, long_at, short_at, went_at, Fits};
+ghost use Rattle.commit_driver.specs.Places.{files_of, entries_of, kinds_of, IsPlace, IsSafe};
+ghost use Rattle.commit_driver.specs.Answers.{Finds, PassedSo, Looks, WritesGo, Takes, SawSo, Answered, IsAnswer, IsAfter, mending_at, judged_at};
 
+use crate::decision::{decision, file_kind};
 use crate::judge::{Trouble, judge};
 use crate::{End, Passed, Place, Plan, Recovered, Step, Then};
 use commit_machine::staged_name;
-use commit_record::{Entry, Phase, Record, RecordError, read};
+use commit_record::{Entry, EntryKind, Phase, Record, RecordError, read};
 use folder_change::Change;
 use mail_text::{Items, Memory, Text};
 use mbox_scan::Folder;
@@ -55,16 +57,6 @@ fn undoing(at: usize, end: usize, locks: usize, then: Then) -> Step
     }
 }
 
-fn placing(at: usize, end: usize, then: Then) -> Step
-    ensures { result ≡ placing_at at end then }
-{
-    if at < end {
-        Step::Placing(at, then)
-    } else {
-        unlocking(0, end, then)
-    }
-}
-
 fn locking(at: usize, files: usize) -> Step
     ensures { result ≡ locking_at at files }
 {
@@ -85,6 +77,16 @@ fn staging(at: usize, files: usize) -> Step
     }
 }
 
+// A record was decided.
+fn is_decided(value: &Record) -> bool
+    ensures { result ≡ is_go value.now }
+{
+    match value.phase {
+        Phase::Go => true,
+        Phase::Prepare => false,
+    }
+}
+
 // How many names there are to do: of so many files, or of so many entries that were found.
 fn count(files: usize, entries: usize, then: Then) -> usize
     ensures { result ≡ count_at files entries then }
@@ -92,6 +94,75 @@ fn count(files: usize, entries: usize, then: Then) -> usize
     match then {
         Then::GoOn => entries,
         Then::Answer(_) => files,
+    }
+}
+
+// What becomes of the file with this number: of an entry that was found, or of one that is to stand so.
+fn kind_at(place: &Place, at: usize, then: Then) -> EntryKind
+    requires { at < count_at (length place.now.files) (entries_of place.now) then }
+    ensures { result ≡ kinds_of place.now then at }
+{
+    match then {
+        Then::GoOn => place.found.entries.items()[at].kind,
+        Then::Answer(_) => file_kind(&place.files.items()[at]),
+    }
+}
+
+// The first step for an entry. A removal that was found may be done already, so it is looked for first.
+fn place_one(kind: EntryKind, at: usize, then: Then) -> Step
+    ensures { result ≡ place_at kind at then }
+{
+    match kind {
+        EntryKind::Replace => Step::Placing(at, then),
+        EntryKind::Remove => match then {
+            Then::GoOn => Step::Testing(at),
+            Then::Answer(_) => Step::Removing(at, then),
+        },
+    }
+}
+
+// How many entries there are to do: those that were found, or the plan's files.
+fn end_of(place: &Place, then: Then) -> usize
+    ensures { result ≡ count_at (length place.now.files) (entries_of place.now) then }
+{
+    count(
+        place.files.items().len(),
+        place.found.entries.items().len(),
+        then,
+    )
+}
+
+// The first step for the entry with this number.
+fn placing(place: &Place, at: usize, then: Then) -> Step
+    ensures { result ≡ placing_at (kinds_of place.now) at (count_at (length place.now.files) (entries_of place.now) then) then }
+{
+    let end = end_of(place, then);
+    if at < end {
+        place_one(kind_at(place, at, then), at, then)
+    } else {
+        unlocking(0, end, then)
+    }
+}
+
+// The first step for the entry behind this one.
+fn placing_next(place: &Place, at: usize, then: Then) -> Step
+    requires { at < count_at (length place.now.files) (entries_of place.now) then }
+    ensures { result ≡ placing_at (kinds_of place.now) (at + 1) (count_at (length place.now.files) (entries_of place.now) then) then }
+{
+    let end = end_of(place, then);
+    prove!(at < end);
+    placing(place, at + 1, then)
+}
+
+// After the staged file of a removal was looked for.
+fn tested(place: &Place, at: usize, stands: bool) -> Step
+    requires { at < entries_of place.now }
+    ensures { result ≡ tested_at (kinds_of place.now) (entries_of place.now) at stands }
+{
+    if stands {
+        Step::Removing(at, Then::GoOn)
+    } else {
+        placing_next(place, at, Then::GoOn)
     }
 }
 
@@ -130,9 +201,10 @@ fn passed_at(step: Step) -> Passed
     ensures { result ≡ passed_at step }
 {
     match step {
-        Step::Placing(_, then) | Step::Unlocking(_, _, then) | Step::Erasing(then) => {
+        Step::Placing(_, then) | Step::Removing(_, then) | Step::Discarding(_, then) => {
             passed_then(then)
         }
+        Step::Unlocking(_, _, then) | Step::Erasing(then) => passed_then(then),
         Step::Releasing(end) | Step::Ended(end) => passed_end(end),
         Step::Checking => Passed::Unknown,
         _ => Passed::Before,
@@ -153,6 +225,7 @@ fn long(files: usize, step: Step, length: u64) -> Step
 {
     match step {
         Step::Looking => Step::Releasing(End::RecordTooLarge(length)),
+        Step::Testing(at) => Step::Releasing(End::StagedTooLarge(at, length)),
         Step::Loading(at) => unlocking(0, files, Then::Answer(End::TooLarge(at, length))),
         step => Step::Releasing(End::Failed(passed_at(step))),
     }
@@ -162,24 +235,26 @@ fn short(files: usize, step: Step) -> Step
     ensures { result ≡ short_at files step }
 {
     match step {
-        Step::Looking => Step::Releasing(End::NoMemory),
+        Step::Looking | Step::Testing(_) => Step::Releasing(End::NoMemory),
         Step::Loading(_) => unlocking(0, files, Then::Answer(End::NoMemory)),
         step => Step::Releasing(End::Failed(passed_at(step))),
     }
 }
 
-// After a call that went so, of so many files, where a record of so many entries was found.
-fn went(commits: bool, files: usize, entries: usize, decided: bool, step: Step, did: bool) -> Step
-    requires { Fits files entries step }
-    ensures { result ≡ went_at commits files entries decided step did }
+// After a call that went so, in a commit or not, of so many files.
+fn went(commits: bool, files: usize, place: &Place, did: bool) -> Step
+    requires fits { Fits files (entries_of place.now) place.now.step }
+    requires files { files ≡ length place.now.files }
+    ensures { result ≡ went_at (kinds_of place.now) commits files (entries_of place.now) (is_go place.now.found) place.now.step did }
 {
-    match step {
+    match place.step {
         Step::Seizing if did => Step::Looking,
         Step::Seizing => Step::Ended(End::RightBusy),
         Step::Undoing(at, end, locks, then) => undoing(at + 1, end, locks, then),
-        Step::Placing(at, then) => placing(at + 1, count(files, entries, then), then),
+        Step::Placing(at, then) | Step::Discarding(at, then) => placing_next(place, at, then),
+        Step::Removing(at, then) => Step::Discarding(at, then),
         Step::Unlocking(at, end, then) => unlocking(at + 1, end, then),
-        Step::Erasing(then) => closed(decided, then),
+        Step::Erasing(then) => closed(is_decided(&place.found), then),
         Step::Clearing(_) if commits => Step::Preparing,
         Step::Clearing(found) => Step::Releasing(End::Recovered(found)),
         Step::Preparing => Step::Publishing,
@@ -188,20 +263,10 @@ fn went(commits: bool, files: usize, entries: usize, decided: bool, step: Step, 
         Step::Locking(at) => unlocking(0, at, Then::Answer(End::Busy(at))),
         Step::Staging(at) => staging(at + 1, files),
         Step::Deciding => Step::Committing,
-        Step::Committing if did => placing(0, files, Then::Answer(End::Done)),
+        Step::Committing if did => placing(place, 0, Then::Answer(End::Done)),
         Step::Publishing | Step::Committing => Step::Releasing(End::NotARecord),
         Step::Releasing(end) => Step::Ended(end),
         step => Step::Releasing(End::Failed(passed_at(step))),
-    }
-}
-
-// A record was decided.
-fn is_decided(value: &Record) -> bool
-    ensures { result ≡ is_go value.now }
-{
-    match value.phase {
-        Phase::Go => true,
-        Phase::Prepare => false,
     }
 }
 
@@ -239,14 +304,14 @@ fn read_found(alloc: Global, bytes: &[u8]) -> Result<Found, End>
     }
 }
 
-// The first step of closing a record that was found.
-fn mending(value: &Record) -> Step
-    ensures { result ≡ mending_at value.now }
+// The first step of closing the record that was found.
+fn mending(place: &Place) -> Step
+    ensures { result ≡ mending_at place.now.found }
 {
-    let entries = value.entries.items().len();
-    if is_decided(value) {
-        placing(0, entries, Then::GoOn)
+    if is_decided(&place.found) {
+        placing(place, 0, Then::GoOn)
     } else {
+        let entries = place.found.entries.items().len();
         undoing(0, entries, entries, Then::GoOn)
     }
 }
@@ -260,9 +325,9 @@ fn look(alloc: Global, plan: &Plan, place: &mut Place, file: Option<Text>)
         None => place.step = Step::Clearing(Recovered::Nothing),
         Some(text) => match read_found(alloc, text.bytes()) {
             Ok(found) => {
-                place.step = mending(&found.value);
                 place.found = found.value;
                 place.found_staged = found.staged;
+                place.step = mending(place);
             }
             Err(end) => place.step = Step::Releasing(end),
         },
@@ -302,6 +367,29 @@ fn judged(files: usize, done: Result<(), Trouble>) -> Step
     unlocking(0, files, Then::Answer(why))
 }
 
+// What becomes of the files is settled: the text of the decision is written.
+fn write_decision(
+    alloc: Global,
+    plan: &Plan,
+    place: &mut Place,
+    judged: Result<(), Trouble>,
+) -> Result<(), Trouble>
+    requires files { length place.old.files ≡ files_of plan.now }
+    requires valid { is_valid plan.now.value ≡ true }
+    ensures { WritesGo plan.now judged place.old result place.new }
+{
+    match judged {
+        Ok(()) => match decision(alloc, &plan.value, place.files.items()) {
+            Ok(text) => {
+                place.go = text;
+                Ok(())
+            }
+            Err(Memory) => Err(Trouble::Memory),
+        },
+        Err(why) => Err(why),
+    }
+}
+
 // A file was loaded.
 fn take(
     alloc: Global,
@@ -312,6 +400,7 @@ fn take(
     changes: &[Change],
     base: Option<&Folder>,
 )
+    requires safe { IsSafe plan.now }
     requires place { IsPlace plan.now place.old }
     requires step { place.old.step ≡ Step.Loading at }
     requires named { All (λ c. has (names_of plan.now.value) (name_of c) ≡ true) changes.now }
@@ -324,6 +413,7 @@ fn take(
         place.step = Step::Loading(at + 1);
     } else {
         let result = judge(alloc, changes, base, entries, &mut place.files);
+        let result = write_decision(alloc, plan, place, result);
         place.step = judged(entries.len(), result);
     }
 }
@@ -337,6 +427,7 @@ fn saw(
     changes: &[Change],
     base: Option<&Folder>,
 )
+    requires safe { IsSafe plan.now }
     requires place { IsPlace plan.now place.old }
     requires named { All (λ c. has (names_of plan.now.value) (name_of c) ≡ true) changes.now }
     requires based { All (λ c. IsTrue (is_rewrite c) → IsSome base) changes.now }
@@ -344,9 +435,10 @@ fn saw(
 {
     match place.step {
         Step::Looking => look(alloc, plan, place, file),
+        Step::Testing(at) => place.step = tested(place, at, file.is_some()),
         Step::Loading(at) => take(alloc, plan, place, at, file, changes, base),
         Step::Checking => {
-            let passed = passed_by(plan.go.bytes(), file.as_ref());
+            let passed = passed_by(place.go.bytes(), file.as_ref());
             place.step = Step::Releasing(End::Failed(passed));
         }
         step => place.step = Step::Releasing(End::Failed(passed_at(step))),
@@ -362,6 +454,7 @@ fn answer(
     changes: &[Change],
     base: Option<&Folder>,
 )
+    requires safe { IsSafe plan.now }
     requires place { IsPlace plan.now place.old }
     requires named { All (λ c. has (names_of plan.now.value) (name_of c) ≡ true) changes.now }
     requires based { All (λ c. IsTrue (is_rewrite c) → IsSome base) changes.now }
@@ -371,9 +464,7 @@ fn answer(
     let step = place.step;
     match reply {
         Reply::Went(did) => {
-            let entries = place.found.entries.items().len();
-            let decided = is_decided(&place.found);
-            place.step = went(plan.commits, files, entries, decided, step, did);
+            place.step = went(plan.commits, files, place, did);
         }
         Reply::Saw(file) => saw(alloc, plan, place, file, changes, base),
         Reply::Long(length) => place.step = long(files, step, length),

@@ -78,7 +78,7 @@ pub fn perform<H: Host>(
     match call {
         Call::Load(name) => loaded(load(alloc, host, named(plan, place, name))),
         Call::StagePrepare => done(stage(host, plan.new.bytes(), plan.prepare.bytes())),
-        Call::StageGo => done(stage(host, plan.new.bytes(), plan.go.bytes())),
+        Call::StageGo => done(stage(host, plan.new.bytes(), place.go.bytes())),
         Call::StageFile(at) => {
             let content = content_of(&place.files.items()[at]);
             done(stage(host, named(plan, place, Name::Staged(at)), content))
@@ -112,7 +112,8 @@ fn end_at(step: Step) -> End
     }
 }
 
-/// Drives a job over the host, from its start to its end. Its own events are, one by one, the machine's next calls.
+/// Drives a job over the host, from its start to its end, and gives the end with the last place. Its own events are, one by one, the
+/// machine's next calls.
 pub fn drive<H: Host>(
     alloc: Global,
     plan: &Plan,
@@ -120,20 +121,21 @@ pub fn drive<H: Host>(
     changes: &[Change],
     base: Option<&Folder>,
     host: &mut H,
-) -> End
+) -> (End, Place)
     requires safe { IsSafe plan.now }
     requires begun { start ≡ begun start.files }
     requires room { length start.files ≡ files_of plan.now }
     requires named { All (λ c. has (names_of plan.now.value) (name_of c) ≡ true) changes.now }
     requires based { All (λ c. IsTrue (is_rewrite c) → IsSome base) changes.now }
-    ensures ran { (j : Job) → IsPlan j plan.now → IsFor j changes.now (base_list (option_copied base.entry)) → Ran H.start H.told H.counts host.old host.new (λ es. Drives j es result) }
-    ensures fits { EndFits (files_of plan.now) result }
-    ensures cause { EndCaused (H.counts host.old).disks (H.counts host.new).disks result }
+    ensures ran { (j : Job) → IsPlan j plan.now → IsFor j changes.now (base_list (option_copied base.entry)) → Ran H.start H.told H.counts host.old host.new (λ es. Drives j result.1.found es result.0) }
+    ensures place { IsPlace plan.now result.1 }
+    ensures fits { EndFits (files_of plan.now) (entries_of result.1) result.0 }
+    ensures cause { EndCaused (H.counts host.old).disks (H.counts host.new).disks result.0 }
 {
     let mut place = start;
     while let Some(call) = next_call(plan, &place) {
         let reply = perform(alloc, plan, &place, call, host);
         after(alloc, plan, &mut place, reply, changes, base);
     }
-    end_at(place.step)
+    (end_at(place.step), place)
 }

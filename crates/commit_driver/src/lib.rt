@@ -4,6 +4,7 @@
 
 mod answers;
 pub mod calls;
+mod decision;
 mod driving;
 mod judge;
 mod next;

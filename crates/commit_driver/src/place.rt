@@ -18,14 +18,12 @@ pub struct Plan {
     pub right: Text,
     /// Whether the job is a commit; a recovery has no files.
     pub commits: bool,
-    /// The record of the decision, with the files in order.
+    /// The record of the decision with the files in order, as if all were replaced.
     pub value: Record,
     /// The names where the files are made.
     pub staged: Items<Text>,
     /// The text of the record before the decision.
     pub prepare: Text,
-    /// The text of the record of the decision.
-    pub go: Text,
 }
 
 /// How far a job has come, and what it has found and loaded.
@@ -39,6 +37,8 @@ pub struct Place {
     pub found_staged: Items<Text>,
     /// The files that were loaded so far, and then what is to be staged for them: as many as the plan has.
     pub files: Items<Option<Text>>,
+    /// The text of the record of the decision, once it is known what becomes of the files.
+    pub go: Text,
 }
 
 impl Place {
@@ -55,6 +55,7 @@ impl Place {
             },
             found_staged: Items::new(alloc),
             files,
+            go: Text::new(alloc),
         }
     }
 }

@@ -22,7 +22,7 @@ pub enum Recovered {
     Finished,
 }
 
-/// How a job ends. A file goes by its number in the plan, from 0.
+/// How a job ends. A file goes by its number in the plan, and an entry by that in the record that was found, from 0.
 #[derive(Clone, Copy)]
 pub enum End {
     /// A commit was decided and carried out.
@@ -37,6 +37,8 @@ pub enum End {
     NotARecord,
     /// The record has so many bytes.
     RecordTooLarge(u64),
+    /// The staged file of this entry of the record that was found has so many bytes.
+    StagedTooLarge(usize, u64),
     /// This file has or would have so many bytes.
     TooLarge(usize, u64),
     /// This file has changed at this message.
@@ -68,6 +70,12 @@ pub enum Step {
     Undoing(usize, usize, usize, Then),
     /// The staged file of this entry is put in place.
     Placing(usize, Then),
+    /// The staged file of this entry of a record that was found, which removes a file, is looked for.
+    Testing(usize),
+    /// The file of this entry is taken away.
+    Removing(usize, Then),
+    /// Then its staged file is.
+    Discarding(usize, Then),
     /// The lock of this entry is taken away, up to so many.
     Unlocking(usize, usize, Then),
     /// The record is taken away.

@@ -46,18 +46,18 @@ module _ (changes : List Change) (base : List (List ℕ)) (files : Files) where
   applied_out [] n not = refl
   applied_out (m ∷ ms) n not = let nay = same_false n m (λ e. not (inl e)) in rw nay (applied_out ms n (λ h. not (inr h)))
 
-  outcome_is : (n : List ℕ) (file : Option (List ℕ)) → file ≢ None → file_after (files n) (outcome_for file) ≡ file
-  outcome_is n None some = absurd (some refl)
-  outcome_is n (Some bytes) some = refl
+  outcome_is : (n : List ℕ) (file : Option (List ℕ)) → file_after (files n) (outcome_for file) ≡ file
+  outcome_is n None = refl
+  outcome_is n (Some bytes) = refl
 
-  edit_is : (n : List ℕ) → apply changes base files n ≢ None → outcome_of (edit_for changes base n) (files n) ≡ apply changes base files n
-  edit_is n some =
+  edit_is : (n : List ℕ) → outcome_of (edit_for changes base n) (files n) ≡ apply changes base files n
+  edit_is n =
       let alone : apply changes base (λ m. files n) n ≡ apply changes base files n = apply-alone changes base (λ m. files n) files n refl in
-      ap (λ (file : Option (List ℕ)). file_after (files n) (outcome_for file)) alone ∙ outcome_is n (apply changes base files n) some
+      ap (λ (file : Option (List ℕ)). file_after (files n) (outcome_for file)) alone ∙ outcome_is n (apply changes base files n)
 
 pub edits_are_changes : EditsAreChanges
-edits_are_changes changes base files n stands = elim (cases_Bool (has (first_names changes) n)) [
-  | inl y ↦ (let mem = has_Mem (first_names changes) n y in applied_in changes base files (first_names changes) n mem ∙ edit_is changes base files n (stands n mem))
+edits_are_changes changes base files n = elim (cases_Bool (has (first_names changes) n)) [
+  | inl y ↦ (let mem = has_Mem (first_names changes) n y in applied_in changes base files (first_names changes) n mem ∙ edit_is changes base files n)
   | inr nay ↦ (
       let not : Mem n (first_names changes) → ⊥ = λ h. (let w = Mem_has (first_names changes) n h in absurd (cc)) in
       applied_out changes base files (first_names changes) n not ∙ sym (untouched changes base files n not))

@@ -3,7 +3,7 @@ use Rattle.std.proofs.Common.{◌≡◌, ℕ, List, [], ◌∷◌, ◌++◌, ref
 use Rattle.commit_record.specs.declared.record.Record.{Record}
 use Rattle.host_port.specs.declared.event.Event.{Event}
 use Rattle.commit_machine.specs.Jobs.{NoMemory, Job, all_of, prepare_of}
-use Rattle.commit_machine.specs.Machine.{GoOn, Answer, State, Seizing, Looking, Undoing, Placing, Unlocking, Erasing, Clearing, Preparing, Publishing, Locking, Loading, Staging, Deciding, Committing, Checking, Releasing, Ended, unlocking, undoing, refused, next, after_reply}
+use Rattle.commit_machine.specs.Machine.{GoOn, Answer, State, Seizing, Looking, Undoing, Placing, Testing, Removing, Discarding, Unlocking, Erasing, Clearing, Preparing, Publishing, Locking, Loading, Staging, Deciding, Committing, Checking, Releasing, Ended, unlocking, undoing, refused, next, after_reply}
 use Rattle.commit_machine.specs.Goes.{IsNext, Goes, reply}
 use Rattle.commit_machine.specs.Laws.{StretchesJoin}
 
@@ -24,6 +24,11 @@ module _ (j : Job) where
   refused_twice (Undoing r n ns ls (Answer e)) = refl
   refused_twice (Placing r n ns ls GoOn) = refl
   refused_twice (Placing r n ns ls (Answer e)) = refl
+  refused_twice (Testing r n ns ls) = refl
+  refused_twice (Removing r n ns ls GoOn) = refl
+  refused_twice (Removing r n ns ls (Answer e)) = refl
+  refused_twice (Discarding r n ns ls GoOn) = refl
+  refused_twice (Discarding r n ns ls (Answer e)) = refl
   refused_twice (Unlocking r n ns GoOn) = refl
   refused_twice (Unlocking r n ns (Answer e)) = refl
   refused_twice (Erasing r GoOn) = refl

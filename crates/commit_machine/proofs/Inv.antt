@@ -1,13 +1,14 @@
 -- What a run knows of the disk at each state.
-use Rattle.std.proofs.Common.{◌≡◌, ◌≢◌, ◌⊎◌, ℕ, true, false, List, [], ◌∷◌, Option, Some, None}
+use Rattle.std.proofs.Common.{◌≡◌, ◌≢◌, ◌⊎◌, ℕ, true, false, List, [], ◌∷◌, Option, Some, None, is_some}
 use Rattle.commit_record.specs.Format.{written, IsWritten}
+use Rattle.commit_record.specs.declared.record.EntryKind.TheVariants.{Replace, Remove}
 use Rattle.commit_record.specs.declared.record.Record.{Record}
 use Rattle.host_port.specs.Disk.{Disk}
 use Rattle.commit_machine.specs.Names.{record_name, new_name, staged_name, is_record_name}
-use Rattle.commit_machine.specs.Records.{is_go, names_of}
+use Rattle.commit_machine.specs.Records.{is_go, names_of, kind_of, AreDistinct}
 use Rattle.commit_machine.specs.Settled.{Mem}
 use Rattle.commit_machine.specs.Jobs.{Ending, Done, Recovered, Refused, Failed, NoMemory, Puts, Edit, Job, Made, edits_of, all_of, prepare_of, go_of}
-use Rattle.commit_machine.specs.Machine.{Then, GoOn, Answer, State, Seizing, Looking, Undoing, Placing, Unlocking, Erasing, Clearing, Preparing, Publishing, Locking, Loading, Staging, Deciding, Committing, Checking, Releasing, Ended}
+use Rattle.commit_machine.specs.Machine.{Then, GoOn, Answer, State, Seizing, Looking, Undoing, Placing, Testing, Removing, Discarding, Unlocking, Erasing, Clearing, Preparing, Publishing, Locking, Loading, Staging, Deciding, Committing, Checking, Releasing, Ended}
 use Rattle.commit_machine.specs.Lawful.{standing, HasRight, IsGuarded, IsFresh}
 use Rattle.commit_machine.proofs.Decided.{IsDistinct}
 
@@ -102,12 +103,19 @@ pub record LocksLeft (j : Job) (ls : List (List ℕ)) (left : List Edit) : Type 
 pub record Among (left made : List Made) : Type 0 where
   pub each : (x : Made) → Mem x left → Mem x made
 
+-- All staged files of the own record stand when it is decided; of a record that was found it isn't known.
+abbrev pub AreStaged : Then → Record → List (List ℕ) → Disk → Type 0
+AreStaged GoOn r ns d = Unit {0}
+AreStaged (Answer e) r ns d = (m : List ℕ) → Mem m ns → is_some (d.files (staged_name r.token m)) ≡ true
+
 -- A decided record whose names but ns are in place.
-pub record PartPlaced (actor : List ℕ) (r : Record) (ns ls : List (List ℕ)) (d : Disk) : Type 0 where
+pub record PartPlaced (actor : List ℕ) (r : Record) (ns ls : List (List ℕ)) (th : Then) (d : Disk) : Type 0 where
   pub closing : Closing actor r ns ls d
   pub go : is_go r ≡ true
   pub within : Subset ns (names_of r)
   pub locks_within : Subset ls (names_of r)
+  pub distinct : AreDistinct ns
+  pub staged : AreStaged th r ns d
 
 -- A change by others: what the run's own places and guarded names are stays.
 pub record Keeps (actor : List ℕ) (t : ℕ) (d d' : Disk) : Type 0 where
@@ -123,7 +131,10 @@ abbrev pub Knows : Job → State → Disk → Type 0
 Knows j Seizing d = IsFresh j.actor j.token d
 Knows j Looking d = Clean j d
 Knows j (Undoing r n ns ls th) d = Closing j.actor r (n ∷ ns) ls d × (is_go r ≡ false) × Subset (n ∷ ns) (names_of r) × Subset ls (names_of r) × ThenOk j r th d
-Knows j (Placing r n ns ls th) d = PartPlaced j.actor r (n ∷ ns) ls d × ThenOk j r th d
+Knows j (Placing r n ns ls th) d = PartPlaced j.actor r (n ∷ ns) ls th d × ThenOk j r th d × (kind_of r n ≡ Replace)
+Knows j (Testing r n ns ls) d = PartPlaced j.actor r (n ∷ ns) ls GoOn d × ThenOk j r GoOn d × (kind_of r n ≡ Remove)
+Knows j (Removing r n ns ls th) d = PartPlaced j.actor r (n ∷ ns) ls th d × ThenOk j r th d × (kind_of r n ≡ Remove) × (is_some (d.files (staged_name r.token n)) ≡ true)
+Knows j (Discarding r n ns ls th) d = PartPlaced j.actor r (n ∷ ns) ls th d × ThenOk j r th d × (kind_of r n ≡ Remove) × (d.locks n ≡ Some r.token) × (d.files n ≡ None)
 Knows j (Unlocking r n ns th) d = Closing j.actor r [] (n ∷ ns) d × Subset (n ∷ ns) (names_of r) × ThenOk j r th d
 Knows j (Erasing r th) d = Closing j.actor r [] [] d × ThenOk j r th d
 Knows j (Clearing found) d = Idle j None d

@@ -16,7 +16,8 @@ use Rattle.commit_machine.proofs.RecordLemmas.{valid-lawful}
 use Rattle.commit_machine.proofs.Decided.{IsDistinct, names_Mem}
 use Rattle.commit_machine.proofs.States.{names-prepare}
 use Rattle.std.specs.List.{list_all, list_any}
-use Rattle.commit_record.specs.Format.{are_distinct}
+use Rattle.commit_record.specs.Format.{are_distinct, fit_phase}
+use Rattle.commit_record.specs.declared.record.Phase.TheVariants.{Prepare}
 use Rattle.std.proofs.Common.{not, nat_lt, nat_le, ◌||◌}
 use Rattle.std.proofs.lemmas.Bool.{or_left, or_right}
 
@@ -38,18 +39,36 @@ distinct-entries k l (n ∷ ns) =
     ap (λ (b : Bool). not b && are_distinct (entries_for k ns)) (any-entries k l n ns)
     ∙ ap (λ (b : Bool). not (list_any (λ (e : Entry). bytes_eq n e.name) (entries_for l ns)) && b) (distinct-entries k l ns)
 
-abbrev tests : ℕ → Bool → Bool → Bool
+abbrev pub tests : ℕ → Bool → Bool → Bool
 tests n a b = nat_lt 0 n && (nat_le n 16 && (a && b))
 
-valid-entries : (k l : List ℕ → EntryKind) (ns : List (List ℕ)) → tests (length (entries_for k ns)) (list_all (λ (e : Entry). is_lawful e.name) (entries_for k ns)) (are_distinct (entries_for k ns)) ≡ tests (length (entries_for l ns)) (list_all (λ (e : Entry). is_lawful e.name) (entries_for l ns)) (are_distinct (entries_for l ns))
+-- the tests of a decision's record on entries of these kinds
+abbrev passes : (List ℕ → EntryKind) → List (List ℕ) → Bool
+passes k ns = tests (length (entries_for k ns)) (list_all (λ (e : Entry). is_lawful e.name) (entries_for k ns)) (are_distinct (entries_for k ns) && true)
+
+valid-entries : (k l : List ℕ → EntryKind) (ns : List (List ℕ)) → passes k ns ≡ passes l ns
 valid-entries k l ns =
-    ap (λ (n : ℕ). tests n (list_all (λ (e : Entry). is_lawful e.name) (entries_for k ns)) (are_distinct (entries_for k ns))) (length-entries k l ns)
-    ∙ ap (λ (b : Bool). tests (length (entries_for l ns)) b (are_distinct (entries_for k ns))) (lawful-entries k l ns)
-    ∙ ap (λ (b : Bool). tests (length (entries_for l ns)) (list_all (λ (e : Entry). is_lawful e.name) (entries_for l ns)) b) (distinct-entries k l ns)
+    ap (λ (n : ℕ). tests n (list_all (λ (e : Entry). is_lawful e.name) (entries_for k ns)) (are_distinct (entries_for k ns) && true)) (length-entries k l ns)
+    ∙ ap (λ (b : Bool). tests (length (entries_for l ns)) b (are_distinct (entries_for k ns) && true)) (lawful-entries k l ns)
+    ∙ ap (λ (b : Bool). tests (length (entries_for l ns)) (list_all (λ (e : Entry). is_lawful e.name) (entries_for l ns)) (b && true)) (distinct-entries k l ns)
+
+without-last : (b c : Bool) → (b && c) ≡ true → (b && true) ≡ true
+without-last true c h = refl
+without-last false c h = h
+
+under : (a b c : Bool) → (b ≡ true → c ≡ true) → (a && b) ≡ true → (a && c) ≡ true
+under true b c more h = more h
+under false b c more h = h
+
+-- what a record passes before the decision it passes with it
+pub any-phase : (n : ℕ) (a b c : Bool) → tests n a (b && c) ≡ true → tests n a (b && true) ≡ true
+any-phase n a b c h = under (nat_lt 0 n) (nat_le n 16 && (a && (b && c))) (nat_le n 16 && (a && (b && true))) (under (nat_le n 16) (a && (b && c)) (a && (b && true)) (under a (b && c) (b && true) (without-last b c))) h
 
 -- the record of the decision is valid as the one before it is
 pub valid-go : (j : Job) (made : List Made) → is_valid (prepare_of j) ≡ true → is_valid (go_of j made) ≡ true
-valid-go j made h = valid-entries (λ n. kind_made (made_at made n)) (λ n. Replace) (all_of j) ∙ h
+valid-go j made h =
+    valid-entries (λ n. kind_made (made_at made n)) (λ n. Replace) (all_of j)
+    ∙ any-phase (length (prepare_of j).entries) (list_all (λ (e : Entry). is_lawful e.name) (prepare_of j).entries) (are_distinct (prepare_of j).entries) (fit_phase Prepare (prepare_of j).entries) h
 
 any_name : (n : List ℕ) (es : List Edit) (x : Edit) → Mem x es → n ≡ x.name → list_any (λ (e : Entry). bytes_eq n e.name) (entries_for (λ m. Replace) (all_names es)) ≡ true
 any_name n [] x m e = absurd m
@@ -64,7 +83,9 @@ distinct_edits (e ∷ es) h =
 
 -- each file has one edit
 pub valid-distinct : (j : Job) → is_valid (prepare_of j) ≡ true → IsDistinct (edits_of j)
-valid-distinct j h = distinct_edits (edits_of j) (and_parts (list_all (λ (e : Entry). is_lawful e.name) (prepare_of j).entries) _ (and_parts (nat_le (length (prepare_of j).entries) 16) _ (and_parts (nat_lt 0 (length (prepare_of j).entries)) _ h).1).1).1
+valid-distinct j h =
+    let behind = (and_parts (list_all (λ (e : Entry). is_lawful e.name) (prepare_of j).entries) _ (and_parts (nat_le (length (prepare_of j).entries) 16) _ (and_parts (nat_lt 0 (length (prepare_of j).entries)) _ h).1).1).1 in
+    distinct_edits (edits_of j) (and_parts (are_distinct (prepare_of j).entries) (fit_phase Prepare (prepare_of j).entries) behind).0
 
 -- the edits' files have lawful names, and none is a record name
 pub valid-plain : (j : Job) → IsJob j → is_valid (prepare_of j) ≡ true → (e : Edit) → Mem e (edits_of j) → (is_record_name j.actor e.name ≡ false) × (is_lawful e.name ≡ true)

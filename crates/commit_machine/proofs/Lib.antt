@@ -10,6 +10,7 @@ pub mod States
 pub mod LawfulLemmas
 pub mod Others
 pub mod Steps
+pub mod Removals
 pub mod Steps2
 pub mod JobLemmas
 pub mod Steps3

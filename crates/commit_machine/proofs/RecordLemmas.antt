@@ -1,16 +1,16 @@
 -- The record that a file holds.
-use Rattle.std.proofs.Common.{◌≡◌, ℕ, ◌<◌, ◌^◌, Bool, true, false, ◌&&◌, nat_lt, List, [], ◌∷◌, map, Option, Some, None, if◌then◌else◌, refl, ap, sym, subst, inl, inr, ◌∙◌}
+use Rattle.std.proofs.Common.{◌≡◌, ℕ, ◌<◌, ◌^◌, Bool, true, false, not, ◌&&◌, ◌||◌, nat_lt, nat_le, length, List, [], ◌∷◌, map, Option, Some, None, if◌then◌else◌, refl, ap, sym, subst, inl, inr, ◌∙◌}
 use Rattle.std.proofs.lemmas.Bool.{and_parts, ltb-true, lt-ltb}
-use Rattle.std.specs.List.{list_all}
+use Rattle.std.specs.List.{list_all, list_any}
 use Rattle.std.specs.Option.{option_and_then}
 use Rattle.std.specs.Str.{bytes_eq}
-use Rattle.commit_record.specs.Format.{is_valid, written, IsWritten}
+use Rattle.commit_record.specs.Format.{are_distinct, fit_phase, is_valid, written, IsWritten}
 use Rattle.commit_record.specs.Names.{is_lawful}
 use Rattle.commit_record.specs.Reading.{record_at}
 use Rattle.commit_record.specs.declared.record.Entry.{Entry}
 use Rattle.commit_record.specs.declared.record.Record.{Record}
 use Rattle.commit_record.proofs.ReadingLemmas.{record_at-written}
-use Rattle.commit_machine.specs.Records.{record_of, record_in, if_text, is_text_of, names_of}
+use Rattle.commit_machine.specs.Records.{record_of, record_in, if_text, is_text_of, names_of, has, AreDistinct}
 use Rattle.commit_machine.specs.Settled.{Mem}
 use Rattle.commit_machine.proofs.Same.{same_refl, same_true}
 
@@ -66,3 +66,28 @@ stands-lawful (Some bytes) r n e m = valid-lawful r n (record_of-is bytes r e).v
 pub stands-valid : (c : Option (List ℕ)) (r : Record) → record_in c ≡ Some r → (is_valid r ≡ true) × (r.token < 2 ^ 64)
 stands-valid None r e = absurd (cc)
 stands-valid (Some bytes) r e = let w = record_of-is bytes r e in (w.valid, w.token_fits)
+
+not-true : (b : Bool) → not b ≡ true → b ≡ false
+not-true true h = sym h
+not-true false h = refl
+
+any-has : (n : List ℕ) (es : List Entry) → list_any (λ (e : Entry). bytes_eq n e.name) es ≡ has (map (λ (e : Entry). e.name) es) n
+any-has n [] = refl
+any-has n (e ∷ es) = ap (λ (b : Bool). bytes_eq n e.name || b) (any-has n es)
+
+distinct-names : (es : List Entry) → are_distinct es ≡ true → AreDistinct (map (λ (e : Entry). e.name) es)
+distinct-names [] h = tt
+distinct-names (e ∷ es) h =
+    let p = and_parts (not (list_any (λ (o : Entry). bytes_eq e.name o.name) es)) (are_distinct es) h in
+    (sym (any-has e.name es) ∙ not-true _ p.0, distinct-names es p.1)
+
+-- the names of a valid record are distinct
+pub valid-names : (r : Record) → is_valid r ≡ true → AreDistinct (names_of r)
+valid-names r h =
+    let some = and_parts (nat_lt 0 (length r.entries)) _ h in
+    let few = and_parts (nat_le (length r.entries) 16) _ some.1 in
+    let lawful = and_parts (list_all (λ (e : Entry). is_lawful e.name) r.entries) (are_distinct r.entries && fit_phase r.phase r.entries) few.1 in
+    distinct-names r.entries (and_parts (are_distinct r.entries) (fit_phase r.phase r.entries) lawful.1).0
+
+pub stands-distinct : (c : Option (List ℕ)) (r : Record) → record_in c ≡ Some r → AreDistinct (names_of r)
+stands-distinct c r e = valid-names r (stands-valid c r e).0

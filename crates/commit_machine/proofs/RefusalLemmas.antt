@@ -10,7 +10,7 @@ use Rattle.commit_machine.specs.Names.{record_name, new_name, staged_name}
 use Rattle.commit_machine.specs.Records.{record_in}
 use Rattle.commit_machine.specs.Settled.{Files, Mem}
 use Rattle.commit_machine.specs.Jobs.{Edit, Job, Made, IsJob, edits_of, all_of, seen_files, seen_of, made_at, prepare_of}
-use Rattle.commit_machine.specs.Machine.{State, Seizing, Looking, Undoing, Placing, Unlocking, Erasing, Clearing, Preparing, Publishing, Locking, Loading, Staging, Deciding, Committing, Checking, Releasing, Ended, next, refused}
+use Rattle.commit_machine.specs.Machine.{State, Seizing, Looking, Undoing, Placing, Testing, Removing, Discarding, Unlocking, Erasing, Clearing, Preparing, Publishing, Locking, Loading, Staging, Deciding, Committing, Checking, Releasing, Ended, next, refused}
 use Rattle.commit_machine.specs.Goes.{IsNext, Goes, loads, stages, stage_fails, publishes, erases, locks, unlocks, seizes, releases}
 use Rattle.commit_machine.specs.Due.{settled_files, is_decision, files_after}
 use Rattle.commit_machine.specs.Laws.{IsRun}
@@ -48,6 +48,9 @@ module _ (j : Job) (d : Disk) where
   decides (Undoing r m ns ls th) _ erases k h = absurd (cc)
   decides (Placing r m ns ls th) _ (publishes {done = true} {failed = failed}) k h = let no = not_from (staged_name r.token m) m failed (staged-new r.token m j.actor) in absurd (cc)
   decides (Placing r m ns ls th) _ (publishes {done = false} {failed = failed}) k h = absurd (cc)
+  decides (Testing r m ns ls) _ loads k h = absurd (cc)
+  decides (Removing r m ns ls th) _ erases k h = absurd (cc)
+  decides (Discarding r m ns ls th) _ erases k h = absurd (cc)
   decides (Unlocking r m ns th) _ unlocks k h = absurd (cc)
   decides (Erasing r th) _ erases k h = absurd (cc)
   decides (Clearing found) _ erases k h = absurd (cc)

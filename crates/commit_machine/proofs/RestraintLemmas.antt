@@ -1,7 +1,7 @@
 -- What a run never does, by its states.
 use Rattle.std.proofs.Common.{◌≡◌, ◌≢◌, ◌⊎◌, ℕ, Bool, true, false, List, [], ◌∷◌, ◌++◌, Option, Some, None, if◌then◌else◌, refl, ap, sym, subst, inl, inr, ◌∙◌}
 use Rattle.commit_record.specs.declared.record.EntryKind.{EntryKind}
-use Rattle.commit_record.specs.declared.record.EntryKind.TheVariants.{Replace}
+use Rattle.commit_record.specs.declared.record.EntryKind.TheVariants as kind
 use Rattle.commit_record.specs.declared.record.Record.{Record}
 use Rattle.host_port.specs.declared.event.Event.{Event}
 use Rattle.host_port.specs.declared.event.Event.TheVariants as event
@@ -14,7 +14,7 @@ use Rattle.host_port.specs.Own.{own}
 use Rattle.commit_machine.specs.Names.{right_name}
 use Rattle.commit_machine.specs.Records.{record_of, is_go, names_of, kind_of}
 use Rattle.commit_machine.specs.Jobs.{Ending, Refused, NoMemory, Found, Busy, TooLarge, Refusal, Outcome, Puts, Edit, Job, Made, edits_of, all_of, seen_files, prepare_of, go_of, Done}
-use Rattle.commit_machine.specs.Machine.{Then, GoOn, Answer, State, Seizing, Looking, Undoing, Placing, Unlocking, Erasing, Clearing, Preparing, Publishing, Locking, Loading, Staging, Deciding, Committing, Checking, Releasing, Ended, ToSeize, ToRelease, Reply, Went, Saw, Long, Short, Fault, next, after_reply, unlocking, undoing, place_one, placing, staging, judged, loading, locking, loaded, mended, none_stands, record_seen, looked, faulted, saw, too_long, went_on, refused, wanted}
+use Rattle.commit_machine.specs.Machine.{Then, GoOn, Answer, State, Seizing, Looking, Undoing, Placing, Testing, Removing, Discarding, Unlocking, Erasing, Clearing, Preparing, Publishing, Locking, Loading, Staging, Deciding, Committing, Checking, Releasing, Ended, ToSeize, ToRelease, Reply, Went, Saw, Long, Short, Fault, next, after_reply, unlocking, undoing, removing, tested, place_one, placing, staging, judged, loading, locking, loaded, mended, none_stands, record_seen, looked, faulted, saw, too_long, went_on, refused, wanted}
 use Rattle.commit_machine.specs.Goes.{IsOf, IsNext, Goes, seizes, releases, reply}
 use Rattle.commit_machine.specs.Lawful.{HasRight}
 use Rattle.commit_machine.specs.Restraints.{RightIsGivenUp}
@@ -45,8 +45,13 @@ module _ (Q : Disk → Type 0) (j : Job) (d : Disk) where
   fair_undoing r [] ls th = fair_unlocking r ls th
   fair_undoing r (m ∷ ns) ls th = tt
 
-  fair_place_one : (kind : EntryKind) (r : Record) (m : List ℕ) (ns ls : List (List ℕ)) (th : Then) → Fair Q j (place_one kind r m ns ls th) d
-  fair_place_one Replace r m ns ls th = tt
+  fair_removing : (r : Record) (m : List ℕ) (ns ls : List (List ℕ)) (th : Then) → Fair Q j (removing r m ns ls th) d
+  fair_removing r m ns ls GoOn = tt
+  fair_removing r m ns ls (Answer e) = tt
+
+  fair_place_one : (k : EntryKind) (r : Record) (m : List ℕ) (ns ls : List (List ℕ)) (th : Then) → Fair Q j (place_one k r m ns ls th) d
+  fair_place_one kind.Replace r m ns ls th = tt
+  fair_place_one kind.Remove r m ns ls th = fair_removing r m ns ls th
 
   fair_placing : (r : Record) (ns ls : List (List ℕ)) (th : Then) → Fair Q j (placing r ns ls th) d
   fair_placing r [] ls th = fair_unlocking r ls th
@@ -84,6 +89,10 @@ module _ (Q : Disk → Type 0) (j : Job) (d : Disk) where
   fair_mended found None = tt
   fair_mended found (Some es) = tt
 
+  fair_tested : (r : Record) (m : List ℕ) (ns ls : List (List ℕ)) (c : Option (List ℕ)) → Fair Q j (tested r m ns ls c) d
+  fair_tested r m ns ls None = fair_placing r ns ls GoOn
+  fair_tested r m ns ls (Some bytes) = tt
+
   fair_looked : (c : Option (List ℕ)) → Fair Q j (looked j c) d
   fair_looked None = fair_none j.edits
   fair_looked (Some bytes) = fair_record (record_of bytes)
@@ -96,6 +105,11 @@ module _ (Q : Disk → Type 0) (j : Job) (d : Disk) where
   fair_refused (Undoing r m ns ls (Answer a)) k = tt
   fair_refused (Placing r m ns ls GoOn) k = tt
   fair_refused (Placing r m ns ls (Answer a)) k = tt
+  fair_refused (Testing r m ns ls) k = tt
+  fair_refused (Removing r m ns ls GoOn) k = tt
+  fair_refused (Removing r m ns ls (Answer a)) k = tt
+  fair_refused (Discarding r m ns ls GoOn) k = tt
+  fair_refused (Discarding r m ns ls (Answer a)) k = tt
   fair_refused (Unlocking r m ns GoOn) k = tt
   fair_refused (Unlocking r m ns (Answer a)) k = tt
   fair_refused (Erasing r GoOn) k = tt
@@ -121,12 +135,14 @@ module _ (Q : Disk → Type 0) (j : Job) (d : Disk) where
 
   fair_saw : (s : State) (c : Option (List ℕ)) → Fair Q j (saw j s c) d
   fair_saw Looking c = fair_looked c
+  fair_saw (Testing r m ns ls) c = fair_tested r m ns ls c
   fair_saw (Loading made x left) c = fair_loaded made x left c (x.by c)
   fair_saw Checking c = tt
   fair_saw s c = tt
 
   fair_long : (s : State) (m : ℕ) → Fair Q j (too_long j s m) d
   fair_long Looking m = tt
+  fair_long (Testing r k ns ls) m = tt
   fair_long (Loading made x left) m = fair_undoing (prepare_of j) [] (all_of j) (Answer (Refused (TooLarge x.name m)))
   fair_long s m = tt
 
@@ -134,6 +150,8 @@ module _ (Q : Disk → Type 0) (j : Job) (d : Disk) where
   fair_went Seizing b between k = absurd between
   fair_went (Undoing r m ns ls th) b between k = fair_undoing r ns ls th
   fair_went (Placing r m ns ls th) b between k = fair_placing r ns ls th
+  fair_went (Removing r m ns ls th) b between k = tt
+  fair_went (Discarding r m ns ls th) b between k = fair_placing r ns ls th
   fair_went (Unlocking r m ns th) b between k = fair_unlocking r ns th
   fair_went (Erasing r GoOn) b between k = tt
   fair_went (Erasing r (Answer why)) b between k = tt

@@ -7,7 +7,7 @@ use Rattle.host_port.specs.Disk.{Disk, after}
 use Rattle.host_port.specs.Ran.{Agrees}
 use Rattle.commit_machine.specs.Settled.{Files, Locks}
 use Rattle.commit_machine.specs.Jobs.{Done, Recovered, Refused, Failed, NoMemory, Job, IsJob}
-use Rattle.commit_machine.specs.Machine.{State, Seizing, Looking, Undoing, Placing, Unlocking, Erasing, Clearing, Preparing, Publishing, Locking, Loading, Staging, Deciding, Committing, Checking, Releasing, Ended, after_reply}
+use Rattle.commit_machine.specs.Machine.{State, Seizing, Looking, Undoing, Placing, Testing, Removing, Discarding, Unlocking, Erasing, Clearing, Preparing, Publishing, Locking, Loading, Staging, Deciding, Committing, Checking, Releasing, Ended, after_reply}
 use Rattle.commit_machine.specs.Goes.{reply}
 use Rattle.commit_machine.specs.Lawful.{IsSound}
 use Rattle.commit_machine.specs.Due.{settled_files, settled_locks, files_then}
@@ -23,6 +23,7 @@ use Rattle.commit_machine.specs.Due.{files_after, locks_after, locks_then, renew
 use Rattle.commit_machine.specs.Laws.{IsRun, IsSettledAs, CrashSafe, NothingLeft}
 use Rattle.commit_machine.proofs.Steps
 use Rattle.commit_machine.proofs.Steps2
+use Rattle.commit_machine.proofs.Removals
 use Rattle.commit_machine.proofs.Steps3
 use Rattle.commit_machine.proofs.Steps4
 use Rattle.commit_machine.proofs.Steps.{Shows, Kept}
@@ -51,6 +52,9 @@ module _ (j : Job) (job : IsJob j) where
   own_step d files owners settles locked sound Looking e is agrees k = Steps.step_looking j job d files owners settles locked sound is agrees k
   own_step d files owners settles locked sound (Undoing r n ns ls th) e is agrees k = Steps.step_undoing j job d files owners settles locked sound r n ns ls th is agrees k
   own_step d files owners settles locked sound (Placing r n ns ls th) e is agrees k = Steps.step_placing j job d files owners settles locked sound r n ns ls th is agrees k
+  own_step d files owners settles locked sound (Testing r n ns ls) e is agrees k = Removals.step_testing j job d files owners settles locked sound r n ns ls is agrees k
+  own_step d files owners settles locked sound (Removing r n ns ls th) e is agrees k = Removals.step_removing j job d files owners settles locked sound r n ns ls th is agrees k
+  own_step d files owners settles locked sound (Discarding r n ns ls th) e is agrees k = Removals.step_discarding j job d files owners settles locked sound r n ns ls th is agrees k
   own_step d files owners settles locked sound (Unlocking r n ns th) e is agrees k = Steps2.step_unlocking j job d files owners settles locked sound r n ns th is agrees k
   own_step d files owners settles locked sound (Erasing r th) e is agrees k = Steps2.step_erasing j job d files owners settles locked sound r th is agrees k
   own_step d files owners settles locked sound (Clearing found) e is agrees k = Steps2.step_clearing j job d files owners settles locked sound found is agrees k

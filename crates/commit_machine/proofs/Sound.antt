@@ -54,6 +54,16 @@ pub sound_place : (actor : List ℕ) (f : Files) (l : Locks) (t : ℕ) (m : List
 sound_place actor f l t m plain law s = sound_same actor f (renamed f (staged_name t m) m) l l (renamed_other f (staged_name t m) m (record_name actor) (record-staged t m actor) (λ p. plain (sym p)))
     (λ q n is go mem some. (renamed_some f (staged_name t m) m (staged_name q.token n) (λ w. lawful-staged m q.token n law (sym w)) some, λ e. e)) s
 
+-- the file of an entry is changed
+pub sound_file : (actor : List ℕ) (f : Files) (l : Locks) (c : Option (List ℕ)) (m : List ℕ) → m ≢ record_name actor → is_lawful m ≡ true → IsSoundAt actor f l → IsSoundAt actor (with_at f m c) l
+sound_file actor f l c m plain law s = sound_same actor f (with_at f m c) l l (put_there f m (record_name actor) c (λ p. plain (sym p)))
+    (λ q n is go mem some. (subst (λ (z : Option (List ℕ)). is_some z ≡ true) (put_there f m (staged_name q.token n) c (λ w. lawful-staged m q.token n law (sym w))) some, λ e. e)) s
+
+-- a staged file is taken away
+pub sound_clear : (actor : List ℕ) (f : Files) (l : Locks) (t : ℕ) (m : List ℕ) → IsSoundAt actor f l → IsSoundAt actor (with_at f (staged_name t m) None) l
+sound_clear actor f l t m s = sound_same actor f (with_at f (staged_name t m) None) l l (put_there f (staged_name t m) (record_name actor) None (record-staged t m actor))
+    (λ q n is go mem some. (still_some f (staged_name t m) (staged_name q.token n) some, λ e. e)) s
+
 -- a name whose staged file is gone is unlocked
 pub sound_unlock : (actor : List ℕ) (f : Files) (l : Locks) (r : Record) (m : List ℕ) → record_in (f (record_name actor)) ≡ Some r → f (staged_name r.token m) ≡ None → IsSoundAt actor f l → IsSoundAt actor f (with_at l m None)
 sound_unlock actor f l r m e gone s = sound_same actor f f l (with_at l m None) refl

@@ -1,5 +1,5 @@
 -- Each own event keeps what is known: a record that is done with.
-use Rattle.std.proofs.Common.{◌≡◌, ◌≢◌, ◌⊎◌, ℕ, Bool, true, false, List, ◌∷◌, Option, Some, None, is_some, refl, ap, sym, inl, inr, ◌∙◌}
+use Rattle.std.proofs.Common.{◌≡◌, ◌≢◌, ◌⊎◌, ℕ, Bool, true, false, List, ◌∷◌, Option, Some, None, is_some, refl, ap, sym, subst, inl, inr, ◌∙◌}
 use Rattle.commit_record.specs.Names.{is_lawful}
 use Rattle.commit_record.specs.declared.record.Record.{Record}
 use Rattle.host_port.specs.declared.event.Event.{Event}
@@ -9,16 +9,16 @@ use Rattle.host_port.specs.declared.event.Holder.TheVariants.{Own as OwnRight}
 use Rattle.host_port.specs.Disk.{Disk, with_at, after}
 use Rattle.host_port.specs.Ran.{Agrees}
 use Rattle.commit_machine.specs.Names.{record_name, new_name, right_name, staged_name}
-use Rattle.commit_machine.specs.Records.{record_in, names_of}
+use Rattle.commit_machine.specs.Records.{record_in, names_of, has}
 use Rattle.commit_machine.specs.Settled.{Files, Locks, Mem}
 use Rattle.commit_machine.specs.Jobs.{Job, IsJob}
 use Rattle.commit_machine.specs.Machine.{Then, GoOn, Answer, State, Seizing, Looking, Undoing, Placing, ToLoad, ToPublish, ToErase, ToSeize, after_reply, undoing, placing}
 use Rattle.commit_machine.specs.Goes.{IsOf, loads, publishes, erases, seizes, reply}
 use Rattle.commit_machine.specs.Lawful.{standing, IsSound}
 use Rattle.commit_machine.specs.Due.{settled_files, settled_locks, files_then}
-use Rattle.commit_machine.proofs.Inv.{ThenOk, Knows}
-use Rattle.commit_machine.proofs.Same.{same_false, same_or_not, put_here, put_there}
-use Rattle.commit_machine.proofs.NameLemmas.{staged-new, lawful-staged}
+use Rattle.commit_machine.proofs.Inv.{ThenOk, AreStaged, PartPlaced, Knows}
+use Rattle.commit_machine.proofs.Same.{same_false, same_or_not, put_here, put_there, Mem_has}
+use Rattle.commit_machine.proofs.NameLemmas.{staged-one, staged-new, lawful-staged}
 use Rattle.commit_machine.proofs.RecordLemmas.{stands-lawful}
 use Rattle.commit_machine.proofs.Keep.{keep_staged, keep_place, renamed, renamed_from, renamed_other, record-staged, record_name-not}
 use Rattle.commit_machine.proofs.Sound.{sound_staged, sound_place, lock_same}
@@ -58,9 +58,29 @@ gone_there r n ns f m (inl (inl e)) h = inr (ap (λ (z : List ℕ). f (staged_na
 gone_there r n ns f m (inl (inr a)) h = inl a
 gone_there r n ns f m (inr b) h = inr b
 
+-- a name behind the first is another
+pub another : (n m : List ℕ) (ns : List (List ℕ)) → has ns n ≡ false → Mem m ns → m ≢ n
+another n m ns h mem e = let w : has ns n ≡ true = Mem_has ns n (subst (λ (z : List ℕ). Mem z ns) e mem) in absurd (cc)
+
+-- the staged files of the names that are left stay
+pub staged_left : (th : Then) (r : Record) (ns ms : List (List ℕ)) (d d' : Disk) → ((m : List ℕ) → Mem m ms → Mem m ns × (d'.files (staged_name r.token m) ≡ d.files (staged_name r.token m))) → AreStaged th r ns d → AreStaged th r ms d'
+staged_left GoOn r ns ms d d' h k = tt
+staged_left (Answer e) r ns ms d d' h k = λ m mem. let w = h m mem in ap is_some w.1 ∙ k m w.0
+
 -- a publication from another name is no decision
 pub not_decided : (j : Job) (d : Disk) (files : Files) (from to : List ℕ) (failed : Bool) (n : List ℕ) → from ≢ new_name j.actor → files_then j (event.Publish from to true failed) d files n ≡ files n
 not_decided j d files from to failed n ne = rw (same_false from (new_name j.actor) ne) refl
+
+-- an entry whose staged file is gone is in place
+pub passed_placed : (j : Job) (d : Disk) (r : Record) (n : List ℕ) (ns ls : List (List ℕ)) (th : Then) → PartPlaced j.actor r (n ∷ ns) ls th d → d.files (staged_name r.token n) ≡ None → PartPlaced j.actor r ns ls th d
+passed_placed j d r n ns ls th k none = record {
+  closing = record { right = k.closing.right; stands = k.closing.stands; gone = λ m h. gone_there r n ns d.files m (k.closing.gone m h) none; free = k.closing.free };
+  go = k.go;
+  within = record { each = λ m h. k.within.each m (inr h) };
+  locks_within = k.locks_within;
+  distinct = k.distinct.1;
+  staged = staged_left th r (n ∷ ns) ns d d (λ m h. (inr h, refl)) k.staged;
+}
 
 module _ (j : Job) (job : IsJob j) (d : Disk) (files : Files) (locks : Locks) (settles : (n : List ℕ) → settled_files j.actor d n ≡ files n) (locked : (n : List ℕ) → settled_locks j.actor d n ≡ locks n) (sound : IsSound j.actor d) where
   -- what is known of the own token outlasts a change that puts nothing under it
@@ -143,7 +163,7 @@ module _ (j : Job) (job : IsJob j) (d : Disk) (files : Files) (locks : Locks) (s
 
     placed_shows : (failed : Bool) → is_some (d.files (staged_name r.token n)) ≡ true → Shows j (event.Publish (staged_name r.token n) n true failed) d files locks
     placed_shows failed stands = record {
-      settles = λ q. keep_place j.actor d.files r n q k.0.closing.stands k.0.go mem plain law stands ∙ settles q ∙ sym (not_decided j d files (staged_name r.token n) n failed q (staged-new r.token n j.actor));
+      settles = λ q. keep_place j.actor d.files r n q k.0.closing.stands k.0.go mem plain law k.2 stands ∙ settles q ∙ sym (not_decided j d files (staged_name r.token n) n failed q (staged-new r.token n j.actor));
       locked = λ q. lock_same j.actor d.files (renamed d.files (staged_name r.token n) n) d.locks q placed_record ∙ locked q;
       sound = sound_place j.actor d.files d.locks r.token n plain law sound;
     }
@@ -153,6 +173,9 @@ module _ (j : Job) (job : IsJob j) (d : Disk) (files : Files) (locks : Locks) (s
     placed_gone m (inl (inr h)) = inl h
     placed_gone m (inr h) = inr (absent_renamed d.files (staged_name r.token n) n (staged_name r.token m) (λ w. lawful-staged n r.token m law (sym w)) h)
 
+    placed_left : (m : List ℕ) → Mem m ns → renamed d.files (staged_name r.token n) n (staged_name r.token m) ≡ d.files (staged_name r.token m)
+    placed_left m h = renamed_other d.files (staged_name r.token n) n (staged_name r.token m) (λ w. another n m ns k.0.distinct.0 h (staged-one r.token m n w)) (λ w. lawful-staged n r.token m law (sym w))
+
     placed_knows : Knows j (placing r ns ls th) (after d (event.Publish (staged_name r.token n) n true false))
     placed_knows = knows_placing j (after d (event.Publish (staged_name r.token n) n true false)) r ns ls th
         (record {
@@ -160,17 +183,13 @@ module _ (j : Job) (job : IsJob j) (d : Disk) (files : Files) (locks : Locks) (s
           go = k.0.go;
           within = record { each = λ m h. k.0.within.each m (inr h) };
           locks_within = k.0.locks_within;
+          distinct = k.0.distinct.1;
+          staged = staged_left th r (n ∷ ns) ns d (after d (event.Publish (staged_name r.token n) n true false)) (λ m h. (inr h, placed_left m h)) k.0.staged;
         })
         (then_moves (after d (event.Publish (staged_name r.token n) n true false)) r th (λ m h. absent_renamed d.files (staged_name r.token n) n (staged_name j.token m) (λ w. lawful-staged n j.token m law (sym w)) h) (λ m h. h) (ap record_in placed_record) k.1)
 
     passed_knows : d.files (staged_name r.token n) ≡ None → Knows j (placing r ns ls th) d
-    passed_knows none = knows_placing j d r ns ls th
-        (record {
-          closing = record { right = k.0.closing.right; stands = k.0.closing.stands; gone = λ m h. gone_there r n ns d.files m (k.0.closing.gone m h) none; free = k.0.closing.free };
-          go = k.0.go;
-          within = record { each = λ m h. k.0.within.each m (inr h) };
-          locks_within = k.0.locks_within;
-        }) k.1
+    passed_knows none = knows_placing j d r ns ls th (passed_placed j d r n ns ls th k.0 none) k.1
 
   pub step_placing : (r : Record) (n : List ℕ) (ns ls : List (List ℕ)) (th : Then) {e : Event} → IsOf (ToPublish (staged_name r.token n) n) e → Agrees d e → Knows j (Placing r n ns ls th) d → Kept j (Placing r n ns ls th) e d files locks
   step_placing r n ns ls th (publishes {done = true} {failed = true}) agrees k = record { shows = placed_shows r n ns ls th k true (agrees refl); knows = tt }

@@ -9,7 +9,7 @@ use Rattle.host_port.specs.declared.event.Seen.TheVariants as seen
 use Rattle.host_port.specs.Disk.{Disk, after}
 use Rattle.host_port.specs.Ran.{Agrees}
 use Rattle.commit_machine.specs.Names.{record_name, new_name, right_name, staged_name, is_record_name}
-use Rattle.commit_machine.specs.Records.{record_in, names_of, kind_of}
+use Rattle.commit_machine.specs.Records.{record_in, names_of, kind_of, AreDistinct}
 use Rattle.commit_machine.specs.Settled.{Files, Locks, Mem, put_in, IsSoundAt}
 use Rattle.commit_machine.specs.Jobs.{Ending, Done, Recovered, Refused, Failed, NoMemory, Puts, Edit, Job, Made, IsJob, edits_of, all_of, prepare_of, go_of, made_at, kind_made, file_after, outcome_of}
 use Rattle.commit_machine.specs.Machine.{Answer, Committing, Checking, Releasing, ToLoad, ToPublish, ToRelease, placing}
@@ -23,7 +23,7 @@ use Rattle.commit_machine.proofs.Keep.{renamed, renamed_to, renamed_other}
 use Rattle.commit_machine.proofs.Sound.{lock_commit}
 use Rattle.commit_machine.proofs.Decided.{named, names_Mem, decided}
 use Rattle.commit_machine.proofs.States.{names-entries_for, names-prepare, knows_placing}
-use Rattle.commit_machine.proofs.RecordLemmas.{stands-valid}
+use Rattle.commit_machine.proofs.RecordLemmas.{stands-valid, stands-distinct}
 use Rattle.commit_machine.proofs.JobLemmas.{valid-go, valid-distinct, valid-plain, one_edit, made_first, kind_of_entries}
 use Rattle.commit_machine.proofs.Steps.{Shows, Kept}
 use Rattle.commit_machine.proofs.Steps2.{none_left}
@@ -94,6 +94,17 @@ module _ (j : Job) (job : IsJob j) (d : Disk) (files : Files) (owners : Locks) (
     commit_staged : (m : List ℕ) → renamed d.files (new_name j.actor) (record_name j.actor) (staged_name j.token m) ≡ d.files (staged_name j.token m)
     commit_staged m = renamed_other d.files (new_name j.actor) (record_name j.actor) (staged_name j.token m) (staged-new j.token m j.actor) (staged-record j.token m j.actor)
 
+    all_staged : (m : List ℕ) → Mem m (all_of j) → is_some (renamed d.files (new_name j.actor) (record_name j.actor) (staged_name j.token m)) ≡ true
+    all_staged m h =
+        let (e, e_in, is) = named (edits_of j) m h in
+        elim (k.1.all e e_in) [
+          | inl a ↦ absurd a
+          | inr w ↦
+              let name : w.0.edit.name ≡ m = ap (λ (z : Edit). z.name) w.2 ∙ is in
+              let staged : d.files (staged_name j.token m) ≡ Some w.0.content = ap (λ (z : List ℕ). d.files (staged_name j.token z)) (sym name) ∙ none_left w.0 _ (k.0.staged w.0 w.1) in
+              ap is_some (commit_staged m ∙ staged)
+        ]
+
     in_go : Subset (all_of j) (names_of (go_of j made))
     in_go = record { each = λ m h. subst (Mem m) (sym names_go) h }
 
@@ -104,6 +115,8 @@ module _ (j : Job) (job : IsJob j) (d : Disk) (files : Files) (owners : Locks) (
           go = refl;
           within = in_go;
           locks_within = in_go;
+          distinct = subst AreDistinct (names-prepare j) (stands-distinct (d.files (record_name j.actor)) (prepare_of j) k.0.closing.stands);
+          staged = all_staged;
         })
         (record {
           token = refl;

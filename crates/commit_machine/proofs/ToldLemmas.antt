@@ -5,7 +5,7 @@ use Rattle.std.proofs.lemmas.Grind.{common_steps}
 use Rattle.std.specs.Str.{bytes_eq}
 use Rattle.commit_record.specs.Format.{written}
 use Rattle.commit_record.specs.declared.record.EntryKind.{EntryKind}
-use Rattle.commit_record.specs.declared.record.EntryKind.TheVariants.{Replace}
+use Rattle.commit_record.specs.declared.record.EntryKind.TheVariants.{Replace, Remove}
 use Rattle.commit_record.specs.declared.record.Record.{Record}
 use Rattle.host_port.specs.declared.event.Event.{Event}
 use Rattle.host_port.specs.declared.event.Event.TheVariants as event
@@ -15,7 +15,7 @@ use Rattle.host_port.specs.Ran.{Agrees}
 use Rattle.commit_machine.specs.Names.{record_name, new_name, staged_name}
 use Rattle.commit_machine.specs.Records.{record_in, is_go, names_of, kind_of}
 use Rattle.commit_machine.specs.Jobs.{Ending, Done, Recovered, Refused, Failed, NoMemory, Found, Busy, TooLarge, Outcome, Puts, Edit, Job, Made, IsJob, edits_of, all_of, prepare_of, go_of}
-use Rattle.commit_machine.specs.Machine.{Then, GoOn, Answer, State, Seizing, Looking, Undoing, Placing, Unlocking, Erasing, Clearing, Preparing, Publishing, Locking, Loading, Staging, Deciding, Committing, Checking, Releasing, Ended, ToLoad, ToPublish, after_reply, undoing, placing, unlocking, locking, loaded, loading, judged, staging}
+use Rattle.commit_machine.specs.Machine.{Then, GoOn, Answer, State, Seizing, Looking, Undoing, Placing, Testing, Removing, Discarding, Unlocking, Erasing, Clearing, Preparing, Publishing, Locking, Loading, Staging, Deciding, Committing, Checking, Releasing, Ended, ToLoad, ToPublish, after_reply, undoing, placing, unlocking, locking, loaded, loading, judged, staging}
 use Rattle.commit_machine.specs.Goes.{IsOf, loads, stages, stage_fails, publishes, erases, locks, unlocks, seizes, releases, reply}
 use Rattle.commit_machine.specs.Lawful.{HasRight, IsSound}
 use Rattle.commit_machine.specs.Due.{settled_files, settled_locks, is_decision}
@@ -29,7 +29,7 @@ use Rattle.host_port.specs.Disk.{disk, after_step}
 use Rattle.host_port.specs.Own.{own}
 use Rattle.host_port.specs.Ran.{Honest}
 use Rattle.commit_machine.specs.Jobs.{Passed, Before, After, Unknown, Refusal, seen_files}
-use Rattle.commit_machine.specs.Machine.{Reply, Went, Saw, Long, Short, Fault, refused, wanted, next, faulted, saw, too_long, went_on, passed_at, passed_then, passed_ending, place_one, mended, none_stands, record_seen, looked, is_own_go, passed_by}
+use Rattle.commit_machine.specs.Machine.{Reply, Went, Saw, Long, Short, Fault, refused, wanted, next, faulted, saw, too_long, went_on, passed_at, passed_then, passed_ending, removing, tested, place_one, mended, none_stands, record_seen, looked, is_own_go, passed_by}
 use Rattle.commit_machine.specs.Records.{record_of}
 use Rattle.commit_machine.specs.Goes.{IsNext, Goes}
 use Rattle.commit_machine.specs.Lawful.{IsLawful, OthersAreLawful}
@@ -54,6 +54,8 @@ Looks j d n = ((n ≡ 1) × (passed_by j (d.files (record_name j.actor)) ≡ Aft
 abbrev pub Told : Job → State → Disk → ℕ → Type 0
 Told j (Undoing r m ns ls th) d n = (n ≡ 0) × told_then th n
 Told j (Placing r m ns ls th) d n = told_then th n
+Told j (Removing r m ns ls th) d n = told_then th n
+Told j (Discarding r m ns ls th) d n = told_then th n
 Told j (Unlocking r m ns th) d n = told_then th n
 Told j (Erasing r th) d n = told_then th n
 Told j Checking d n = HasRight j.actor d × Looks j d n
@@ -82,6 +84,8 @@ module _ (j : Job) (d : Disk) (n : ℕ) where
   told_fault : (s : State) → IsPlain s → Told j s d n → TellsDecisions (Failed (passed_at s)) n
   told_fault (Undoing r m ns ls th) plain t = t.0
   told_fault (Placing r m ns ls th) plain t = then_passed th n t
+  told_fault (Removing r m ns ls th) plain t = then_passed th n t
+  told_fault (Discarding r m ns ls th) plain t = then_passed th n t
   told_fault (Unlocking r m ns th) plain t = then_passed th n t
   told_fault (Erasing r th) plain t = then_passed th n t
   told_fault (Releasing e) plain t = tells_passed e n t
@@ -102,8 +106,13 @@ module _ (j : Job) (d : Disk) (n : ℕ) where
   told_undoing r [] ls th z t = told_unlocking r ls th t
   told_undoing r (m ∷ ns) ls th z t = (z, t)
 
+  told_removing : (r : Record) (m : List ℕ) (ns ls : List (List ℕ)) (th : Then) → told_then th n → Told j (removing r m ns ls th) d n
+  told_removing r m ns ls GoOn t = t
+  told_removing r m ns ls (Answer e) t = t
+
   told_place_one : (kind : EntryKind) (r : Record) (m : List ℕ) (ns ls : List (List ℕ)) (th : Then) → told_then th n → Told j (place_one kind r m ns ls th) d n
   told_place_one Replace r m ns ls th t = t
+  told_place_one Remove r m ns ls th t = told_removing r m ns ls th t
 
   told_placing : (r : Record) (ns ls : List (List ℕ)) (th : Then) → told_then th n → Told j (placing r ns ls th) d n
   told_placing r [] ls th t = told_unlocking r ls th t
@@ -141,6 +150,10 @@ module _ (j : Job) (d : Disk) (n : ℕ) where
   told_mended found None t = t
   told_mended found (Some es) t = t
 
+  told_tested : (r : Record) (m : List ℕ) (ns ls : List (List ℕ)) (c : Option (List ℕ)) → n ≡ 0 → Told j (tested r m ns ls c) d n
+  told_tested r m ns ls None t = told_placing r ns ls GoOn t
+  told_tested r m ns ls (Some bytes) t = t
+
   told_looked : (c : Option (List ℕ)) → n ≡ 0 → Told j (looked j c) d n
   told_looked None t = told_none j.edits t
   told_looked (Some bytes) t = told_record (record_of bytes) t
@@ -153,6 +166,10 @@ module _ (j : Job) (d : Disk) (n : ℕ) where
   told_refused (Undoing r m ns ls (Answer a)) t = t
   told_refused (Placing r m ns ls GoOn) t = t
   told_refused (Placing r m ns ls (Answer a)) t = t
+  told_refused (Removing r m ns ls GoOn) t = t
+  told_refused (Removing r m ns ls (Answer a)) t = t
+  told_refused (Discarding r m ns ls GoOn) t = t
+  told_refused (Discarding r m ns ls (Answer a)) t = t
   told_refused (Unlocking r m ns GoOn) t = t
   told_refused (Unlocking r m ns (Answer a)) t = t
   told_refused (Erasing r GoOn) t = t
@@ -171,12 +188,14 @@ module _ (j : Job) (d : Disk) (n : ℕ) where
 
   told_saw : (s : State) (c : Option (List ℕ)) → IsPlain s → Told j s d n → Told j (saw j s c) d n
   told_saw Looking c plain t = told_looked c t
+  told_saw (Testing r m ns ls) c plain t = told_tested r m ns ls c t
   told_saw (Loading made x left) c plain t = told_loaded made x left c (x.by c) t
   told_saw Checking c plain t = absurd plain
   told_saw s c plain t = told_fault s plain t
 
   told_long : (s : State) (m : ℕ) → IsPlain s → Told j s d n → Told j (too_long j s m) d n
   told_long Looking m plain t = t
+  told_long (Testing r k ns ls) m plain t = t
   told_long (Loading made x left) m plain t = told_undoing (prepare_of j) [] (all_of j) (Answer (Refused (TooLarge x.name m))) t t
   told_long s m plain t = told_fault s plain t
 
@@ -185,6 +204,8 @@ module _ (j : Job) (d : Disk) (n : ℕ) where
   told_went Seizing false plain t = t
   told_went (Undoing r m ns ls th) b plain t = told_undoing r ns ls th t.0 t.1
   told_went (Placing r m ns ls th) b plain t = told_placing r ns ls th t
+  told_went (Removing r m ns ls th) b plain t = t
+  told_went (Discarding r m ns ls th) b plain t = told_placing r ns ls th t
   told_went (Unlocking r m ns th) b plain t = told_unlocking r ns th t
   told_went (Erasing r GoOn) b plain t = t
   told_went (Erasing r (Answer why)) b plain t = t
@@ -212,6 +233,8 @@ told_any j d d' n (Committing made) plain t = absurd plain
 told_any j d d' n Checking plain t = absurd plain
 told_any j d d' n (Undoing r m ns ls th) plain t = t
 told_any j d d' n (Placing r m ns ls th) plain t = t
+told_any j d d' n (Removing r m ns ls th) plain t = t
+told_any j d d' n (Discarding r m ns ls th) plain t = t
 told_any j d d' n (Unlocking r m ns th) plain t = t
 told_any j d d' n (Erasing r th) plain t = t
 told_any j d d' n (Releasing e) plain t = t
@@ -244,6 +267,9 @@ module _ (j : Job) (job : IsJob j) (d : Disk) where
   plain_event (Undoing r m ns ls th) _ plain erases k = refl
   plain_event (Placing r m ns ls th) _ plain (publishes {done = true} {failed = failed}) k = from_other j d (staged_name r.token m) m failed (staged-new r.token m j.actor)
   plain_event (Placing r m ns ls th) _ plain (publishes {done = false} {failed = failed}) k = refl
+  plain_event (Testing r m ns ls) _ plain loads k = refl
+  plain_event (Removing r m ns ls th) _ plain erases k = refl
+  plain_event (Discarding r m ns ls th) _ plain erases k = refl
   plain_event (Unlocking r m ns th) _ plain unlocks k = refl
   plain_event (Erasing r th) _ plain erases k = refl
   plain_event (Clearing found) _ plain erases k = refl
@@ -342,6 +368,8 @@ then_few (Answer e) n t = tells_few e n t
 told_few : (j : Job) (s : State) (d : Disk) (n : ℕ) → Told j s d n → (n ≡ 0) ⊎ (n ≡ 1)
 told_few j (Undoing r m ns ls th) d n t = inl t.0
 told_few j (Placing r m ns ls th) d n t = then_few th n t
+told_few j (Removing r m ns ls th) d n t = then_few th n t
+told_few j (Discarding r m ns ls th) d n t = then_few th n t
 told_few j (Unlocking r m ns th) d n t = then_few th n t
 told_few j (Erasing r th) d n t = then_few th n t
 told_few j Checking d n t = elim t.1 [ inl p ↦ inr p.0 | inr p ↦ inl p.0 ]

@@ -19,7 +19,7 @@ use Rattle.commit_machine.specs.Due.{is_decision}
 use Rattle.commit_machine.specs.Settled.{Mem}
 use Rattle.commit_machine.specs.Lawful.{standing, IsSound, IsGuarded, IsFresh, IsLawfulWrite, OthersAreLawful}
 use Rattle.commit_machine.specs.Laws.{IsRun}
-use Rattle.commit_machine.specs.Worked.{carried, alone, alone_last, AloneGoes, Makes, busy_second, commit_of_busy, held_right, run_kept_out, changed_file, commit_of_changed, bad_record, commit_over_bad, later, commit_over_decided, box, commit_among_others, home, out, mbox, nothing, one_file, two_files, recovery, record_for, commit_of_one, commit_of_two, recovery_of_none, stopped_at, recovery_of_decided, recovery_of_undecided, WorkedRuns}
+use Rattle.commit_machine.specs.Worked.{carried, alone, alone_last, AloneGoes, Makes, busy_second, commit_of_busy, held_right, run_kept_out, changed_file, commit_of_changed, bad_record, commit_over_bad, later, commit_over_decided, box, commit_among_others, home, out, mbox, nothing, one_file, two_files, recovery, record_for, commit_of_one, commit_of_two, recovery_of_none, stopped_at, recovery_of_decided, recovery_of_undecided, WorkedRuns, one_removed, out_stands, removal_record, commit_of_removal, removal_stopped_at, recovery_of_removal, recovery_of_removed}
 use Rattle.std.proofs.lemmas.List.{reverse-append}
 use Rattle.commit_machine.proofs.NameLemmas.{lawful-staged}
 use Rattle.commit_machine.proofs.RecordLemmas.{record_of-written}
@@ -92,6 +92,29 @@ undecided = (ap (from_record recovery (stopped_at 11) (written (record_for Prepa
 over_decided : Makes later (stopped_at 13) commit_over_decided Done
 unfolding record_name new_name right_name staged_name encode_with from_record last_from
 over_decided = (ap (from_record later (stopped_at 13) (written (record_for Go (mbox ∷ out ∷ [])))) reads_go, ap (last_from later (stopped_at 13)) reads_go)
+
+removal : Makes one_removed out_stands commit_of_removal Done
+unfolding record_name new_name right_name staged_name encode_with
+removal = (refl, refl)
+
+removed : (disk out_stands commit_of_removal).files out ≡ None
+unfolding record_name new_name right_name staged_name encode_with
+removed = refl
+
+reads_removal : record_of (written removal_record) ≡ Some removal_record
+reads_removal = reads removal_record refl refl
+
+removal_decided : Makes recovery (removal_stopped_at 13) recovery_of_removal (Recovered Finished)
+unfolding record_name new_name right_name staged_name encode_with from_record last_from
+removal_decided = (ap (from_record recovery (removal_stopped_at 13) (written removal_record)) reads_removal, ap (last_from recovery (removal_stopped_at 13)) reads_removal)
+
+removal_half_done : Makes recovery (removal_stopped_at 14) recovery_of_removal (Recovered Finished)
+unfolding record_name new_name right_name staged_name encode_with from_record last_from
+removal_half_done = (ap (from_record recovery (removal_stopped_at 14) (written removal_record)) reads_removal, ap (last_from recovery (removal_stopped_at 14)) reads_removal)
+
+removal_done : Makes recovery (removal_stopped_at 15) recovery_of_removed (Recovered Finished)
+unfolding record_name new_name right_name staged_name encode_with from_record last_from
+removal_done = (ap (from_record recovery (removal_stopped_at 15) (written removal_record)) reads_removal, ap (last_from recovery (removal_stopped_at 15)) reads_removal)
 
 -- an event of a call that is carried out is one of it, and says what is so
 carried_is : (d : Disk) (c : Call) → IsOf c (carried d c)
@@ -285,4 +308,4 @@ among_others : IsRun two_files nothing commit_among_others (Ended Done)
 among_others = record { job = two_job; fresh = nothing_fresh; sound = sound_none nothing refl; goes = two_goes; honest = honest_among; lawful = lawful_among }
 
 pub worked_runs : WorkedRuns
-worked_runs = record { one = one; ninth = ninth; two = two; none = none; decided = decided; undecided = undecided; busy = busy; kept_out = kept_out; recovery_kept_out = recovery_kept_out; changed = changed; over_decided = over_decided; not_a_record = not_a_record; among_others = among_others }
+worked_runs = record { one = one; ninth = ninth; two = two; none = none; decided = decided; undecided = undecided; busy = busy; kept_out = kept_out; recovery_kept_out = recovery_kept_out; changed = changed; over_decided = over_decided; not_a_record = not_a_record; among_others = among_others; removal = removal; removed = removed; removal_decided = removal_decided; removal_half_done = removal_half_done; removal_done = removal_done }

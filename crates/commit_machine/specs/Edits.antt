@@ -1,12 +1,12 @@
 -- The edits that changes ask for.
-use Rattle.std.specs.Prelude.{◌≡◌, ◌≢◌, ℕ, List, [], ◌∷◌, map, Option, Some, None, if◌then◌else◌}
+use Rattle.std.specs.Prelude.{◌≡◌, ℕ, List, [], ◌∷◌, map, Option, Some, None, if◌then◌else◌}
 use Rattle.std.specs.Option.{option_map}
 use Rattle.std.specs.Str.{bytes_eq}
-use Rattle.commit_record.specs.declared.record.EntryKind.TheVariants.{Replace}
+use Rattle.commit_record.specs.declared.record.EntryKind.TheVariants.{Replace, Remove}
 use Rattle.folder_change.specs.declared.change.Change.{Change}
 use Rattle.folder_change.specs.Changes.{name_of}
 use Rattle.folder_change.specs.Apply.{Refusal as ChangeRefusal, ChangedAt, TooLong, apply, first_refusal}
-use Rattle.commit_machine.specs.Settled.{Files, Mem}
+use Rattle.commit_machine.specs.Settled.{Files}
 use Rattle.commit_machine.specs.Jobs.{Refusal, TooLarge, Changed, Outcome, Puts, Edit, Job}
 use Rattle.commit_machine.specs.Due.{applied}
 
@@ -19,9 +19,9 @@ abbrev pub first_names : List Change → List (List ℕ)
 first_names [] = []
 first_names (c ∷ cs) = name_of c ∷ without (name_of c) (first_names cs)
 
--- what is staged for these bytes. An outcome of absence can't be staged yet.
+-- what is staged for these bytes; for a file that is to be absent, the empty file
 abbrev pub outcome_for : Option (List ℕ) → Outcome
-outcome_for None = Puts Replace []
+outcome_for None = Puts Remove []
 outcome_for (Some bytes) = Puts Replace bytes
 
 -- all changes of this name as one edit
@@ -48,8 +48,6 @@ job_for actor token changes base = record {
 abbrev pub recovery_for : List ℕ → ℕ → Job
 recovery_for actor token = record { actor = actor; token = token; edits = None; refusal = λ files. None }
 
--- the edits of changes make of files what the changes make of them, where each file stands afterwards
+-- the edits of changes make of files what the changes make of them
 abbrev pub EditsAreChanges : Type 0
-EditsAreChanges = (changes : List Change) (base : List (List ℕ)) (files : Files) (n : List ℕ)
-    → ((m : List ℕ) → Mem m (first_names changes) → apply changes base files m ≢ None)
-    → applied (edits_for changes base) files n ≡ apply changes base files n
+EditsAreChanges = (changes : List Change) (base : List (List ℕ)) (files : Files) (n : List ℕ) → applied (edits_for changes base) files n ≡ apply changes base files n

@@ -4,7 +4,7 @@ use Rattle.std.specs.List.{starts_with}
 use Rattle.commit_record.specs.Format.{line, phase_word, token_digits, written}
 use Rattle.commit_record.specs.declared.record.Phase.TheVariants.{Go}
 use Rattle.commit_record.specs.declared.record.EntryKind.{EntryKind}
-use Rattle.commit_record.specs.declared.record.EntryKind.TheVariants.{Replace}
+use Rattle.commit_record.specs.declared.record.EntryKind.TheVariants.{Replace, Remove}
 use Rattle.commit_record.specs.declared.record.Record.{Record}
 use Rattle.commit_machine.specs.Names.{record_name, new_name, right_name, staged_name}
 use Rattle.commit_machine.specs.Records.{record_of, is_go, names_of, kind_of}
@@ -21,6 +21,11 @@ pub data State : Type 0 where
   -- a record, the name that is next, the names after it, and the names to unlock then
   Undoing : Record → List ℕ → List (List ℕ) → List (List ℕ) → Then → State
   Placing : Record → List ℕ → List (List ℕ) → List (List ℕ) → Then → State
+  -- The same of a file that is removed. Where the record was found, its staged file is looked for first; then the file is taken away, and
+  -- then its staged file.
+  Testing : Record → List ℕ → List (List ℕ) → List (List ℕ) → State
+  Removing : Record → List ℕ → List (List ℕ) → List (List ℕ) → Then → State
+  Discarding : Record → List ℕ → List (List ℕ) → List (List ℕ) → Then → State
   Unlocking : Record → List ℕ → List (List ℕ) → Then → State
   Erasing : Record → Then → State
   -- what a recovery found
@@ -64,12 +69,23 @@ abbrev pub undoing : Record → List (List ℕ) → List (List ℕ) → Then →
 undoing r [] ls th = unlocking r ls th
 undoing r (n ∷ ns) ls th = Undoing r n ns ls th
 
+-- a removal of a record that was found may be done already
+abbrev pub removing : Record → List ℕ → List (List ℕ) → List (List ℕ) → Then → State
+removing r n ns ls GoOn = Testing r n ns ls
+removing r n ns ls (Answer e) = Removing r n ns ls (Answer e)
+
 abbrev pub place_one : EntryKind → Record → List ℕ → List (List ℕ) → List (List ℕ) → Then → State
 place_one Replace r n ns ls th = Placing r n ns ls th
+place_one Remove r n ns ls th = removing r n ns ls th
 
 abbrev pub placing : Record → List (List ℕ) → List (List ℕ) → Then → State
 placing r [] ls th = unlocking r ls th
 placing r (n ∷ ns) ls th = place_one (kind_of r n) r n ns ls th
+
+-- a removal whose staged file is gone was done before
+abbrev pub tested : Record → List ℕ → List (List ℕ) → List (List ℕ) → Option (List ℕ) → State
+tested r n ns ls None = placing r ns ls GoOn
+tested r n ns ls (Some bytes) = Removing r n ns ls GoOn
 
 abbrev pub staging : List (List ℕ) → List Made → List Made → State
 staging ns done [] = Deciding done
@@ -125,6 +141,9 @@ next j Seizing = Some (ToSeize (right_name j.actor))
 next j Looking = Some (ToLoad (record_name j.actor))
 next j (Undoing r n ns ls th) = Some (ToErase (staged_name r.token n))
 next j (Placing r n ns ls th) = Some (ToPublish (staged_name r.token n) n)
+next j (Testing r n ns ls) = Some (ToLoad (staged_name r.token n))
+next j (Removing r n ns ls th) = Some (ToErase n)
+next j (Discarding r n ns ls th) = Some (ToErase (staged_name r.token n))
 next j (Unlocking r n ns th) = Some (ToUnlock n r.token)
 next j (Erasing r th) = Some (ToErase (record_name j.actor))
 next j (Clearing found) = Some (ToErase (new_name j.actor))
@@ -151,6 +170,8 @@ passed_then (Answer e) = passed_ending e
 
 abbrev pub passed_at : State → Passed
 passed_at (Placing r n ns ls th) = passed_then th
+passed_at (Removing r n ns ls th) = passed_then th
+passed_at (Discarding r n ns ls th) = passed_then th
 passed_at (Unlocking r n ns th) = passed_then th
 passed_at (Erasing r th) = passed_then th
 passed_at (Releasing e) = passed_ending e
@@ -178,12 +199,14 @@ passed_by j (Some bytes) = if starts_with nat_eq bytes (go_front j.token) then A
 
 abbrev pub saw : Job → State → Option (List ℕ) → State
 saw j Looking c = looked j c
+saw j (Testing r n ns ls) c = tested r n ns ls c
 saw j (Loading done e left) c = loaded j done e left c (e.by c)
 saw j Checking c = Releasing (Failed (passed_by j c))
 saw j s c = Releasing (Failed (passed_at s))
 
 abbrev pub too_long : Job → State → ℕ → State
 too_long j Looking n = Releasing (Refused (TooLarge (record_name j.actor) n))
+too_long j (Testing r m ns ls) n = Releasing (Refused (TooLarge (staged_name r.token m) n))
 too_long j (Loading done e left) n = refusing j [] (all_of j) (Refused (TooLarge e.name n))
 too_long j s n = Releasing (Failed (passed_at s))
 
@@ -192,6 +215,8 @@ went_on j Seizing true = Looking
 went_on j Seizing false = Ended (Refused (Busy (right_name j.actor)))
 went_on j (Undoing r n ns ls th) b = undoing r ns ls th
 went_on j (Placing r n ns ls th) b = placing r ns ls th
+went_on j (Removing r n ns ls th) b = Discarding r n ns ls th
+went_on j (Discarding r n ns ls th) b = placing r ns ls th
 went_on j (Unlocking r n ns th) b = unlocking r ns th
 went_on j (Erasing r GoOn) b = Clearing (found_of r)
 went_on j (Erasing r (Answer why)) b = Releasing why
@@ -214,6 +239,9 @@ refused j Seizing = Ended NoMemory
 refused j Looking = Releasing NoMemory
 refused j (Undoing r n ns ls GoOn) = Releasing NoMemory
 refused j (Placing r n ns ls GoOn) = Releasing NoMemory
+refused j (Testing r n ns ls) = Releasing NoMemory
+refused j (Removing r n ns ls GoOn) = Releasing NoMemory
+refused j (Discarding r n ns ls GoOn) = Releasing NoMemory
 refused j (Unlocking r n ns GoOn) = Releasing NoMemory
 refused j (Erasing r GoOn) = Releasing NoMemory
 refused j (Clearing found) = Releasing NoMemory

@@ -1,5 +1,5 @@
 -- The record that a file holds, and its parts.
-use Rattle.std.specs.Prelude.{ℕ, ◌^◌, Bool, true, false, ◌&&◌, ◌||◌, nat_lt, List, [], ◌∷◌, map, Option, Some, None, if◌then◌else◌}
+use Rattle.std.specs.Prelude.{◌≡◌, ℕ, ◌^◌, Bool, true, false, ◌&&◌, ◌||◌, nat_lt, List, [], ◌∷◌, map, Option, Some, None, if◌then◌else◌}
 use Rattle.std.specs.Option.{option_and_then}
 use Rattle.std.specs.Str.{bytes_eq}
 use Rattle.commit_record.specs.Format.{is_valid, written}
@@ -50,3 +50,8 @@ kind_of r name = kind_in r.entries name
 abbrev pub has : List (List ℕ) → List ℕ → Bool
 has [] name = false
 has (n ∷ ns) name = bytes_eq name n || has ns name
+
+-- no name stands twice
+abbrev pub AreDistinct : List (List ℕ) → Type 0
+AreDistinct [] = Unit {0}
+AreDistinct (n ∷ ns) = (has ns n ≡ false) × AreDistinct ns

@@ -3,7 +3,7 @@ use Rattle.std.specs.Prelude.{◌≡◌, ◌⊎◌, ℕ, Bool, true, false, ◌&
 use Rattle.std.specs.List.{list_any}
 use Rattle.std.specs.Str.{bytes_eq}
 use Rattle.commit_record.specs.declared.record.EntryKind.{EntryKind}
-use Rattle.commit_record.specs.declared.record.EntryKind.TheVariants.{Replace}
+use Rattle.commit_record.specs.declared.record.EntryKind.TheVariants.{Replace, Remove}
 use Rattle.commit_record.specs.declared.record.Record.{Record}
 use Rattle.commit_machine.specs.Names.{record_name, staged_name, is_record_name}
 use Rattle.commit_machine.specs.Records.{record_in, is_go, names_of, kind_of, has}
@@ -23,10 +23,11 @@ abbrev pub hides : List ℕ → Option Record → List ℕ → Bool
 hides actor None name = is_record_name actor name
 hides actor (Some r) name = is_record_name actor name || is_staged_of r name
 
--- a file with its staged file put in place, where that one stands
+-- a file with its staged file put in place, where that one stands; for a removal that takes the file away
 abbrev pub put_in : EntryKind → Option (List ℕ) → Option (List ℕ) → Option (List ℕ)
 put_in kind file None = file
 put_in Replace file (Some bytes) = Some bytes
+put_in Remove file (Some bytes) = None
 
 -- where the commit was decided, each staged file is put in place
 abbrev pub placed : Option Record → Files → List ℕ → Option (List ℕ)

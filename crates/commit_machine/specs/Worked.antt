@@ -4,7 +4,7 @@ use Rattle.std.specs.declared.option.Option.TheVariants.{Some, None}
 use Rattle.commit_record.specs.Format.{written}
 use Rattle.commit_record.specs.declared.record.Phase.{Phase}
 use Rattle.commit_record.specs.declared.record.Phase.TheVariants.{Prepare, Go}
-use Rattle.commit_record.specs.declared.record.EntryKind.TheVariants.{Replace}
+use Rattle.commit_record.specs.declared.record.EntryKind.TheVariants.{Replace, Remove}
 use Rattle.commit_record.specs.declared.record.Record.{Record}
 use Rattle.host_port.specs.declared.event.Event.{Event}
 use Rattle.host_port.specs.declared.event.Event.TheVariants.{Load, Stage, Publish, Erase, Lock, Unlock, Seize, Release, Foreign}
@@ -77,6 +77,22 @@ recovery = record { actor = home; token = 2; edits = None; refusal = λ files. N
 abbrev pub record_for : Phase → List (List ℕ) → Record
 record_for phase names = record { phase = phase; token = 1; entries = entries_for (λ n. Replace) names }
 
+-- the file is removed
+abbrev pub goes_away : List ℕ → Edit
+goes_away name = record { name = name; by = λ seen. Puts Remove [] }
+
+-- one file becomes other bytes, the other is removed
+abbrev pub one_removed : Job
+one_removed = record { actor = home; token = 1; edits = Some (becomes mbox (codes "x") ∷ goes_away out ∷ []); refusal = λ files. None }
+
+-- it stands at the start
+abbrev pub out_stands : Disk
+out_stands = record nothing { files = with_at nothing.files out (Some (codes "old")) }
+
+-- the record of its decision
+abbrev pub removal_record : Record
+removal_record = record { phase = Go; token = 1; entries = record { kind = Replace; name = mbox } ∷ record { kind = Remove; name = out } ∷ [] }
+
 -- a commit of one file has thirteen events, the ninth the decision
 abbrev pub commit_of_one : List Event
 commit_of_one =
@@ -126,6 +142,64 @@ recovery_of_none =
     ∷ Erase (new_name home) true false
     ∷ Release (right_name home)
     ∷ []
+
+-- A commit that removes a file stages the empty one for it; after the decision it takes the file away, and then the staged one.
+abbrev pub commit_of_removal : List Event
+commit_of_removal =
+    Seize (right_name home) true false
+    ∷ Load (record_name home) (Bytes None false)
+    ∷ Stage (new_name home) (Some (written (record_for Prepare (mbox ∷ out ∷ [])))) false
+    ∷ Publish (new_name home) (record_name home) true false
+    ∷ Lock mbox 1 true false
+    ∷ Lock out 1 true false
+    ∷ Load mbox (Bytes None true)
+    ∷ Load out (Bytes (Some (codes "old")) true)
+    ∷ Stage (staged_name 1 mbox) (Some (codes "x")) false
+    ∷ Stage (staged_name 1 out) (Some []) false
+    ∷ Stage (new_name home) (Some (written removal_record)) false
+    ∷ Publish (new_name home) (record_name home) true false
+    ∷ Publish (staged_name 1 mbox) mbox true false
+    ∷ Erase out true false
+    ∷ Erase (staged_name 1 out) true false
+    ∷ Unlock mbox 1 true false
+    ∷ Unlock out 1 true false
+    ∷ Erase (record_name home) true false
+    ∷ Release (right_name home)
+    ∷ []
+
+-- the disk that it leaves where it stops before the event of this number, from 0
+abbrev pub removal_stopped_at : ℕ → Disk
+removal_stopped_at n = disk out_stands (take n commit_of_removal)
+
+-- what follows where a decided record of the two files is carried out
+abbrev pub closing_of_removal : List Event
+closing_of_removal =
+    Unlock mbox 1 true false
+    ∷ Unlock out 1 true false
+    ∷ Erase (record_name home) true false
+    ∷ Erase (new_name home) true false
+    ∷ Release (right_name home)
+    ∷ []
+
+-- a recovery removes the file where its staged one stands
+abbrev pub recovery_of_removal : List Event
+recovery_of_removal =
+    Seize (right_name home) true false
+    ∷ Load (record_name home) (Bytes (Some (written removal_record)) false)
+    ∷ Publish (staged_name 1 mbox) mbox false false
+    ∷ Load (staged_name 1 out) (Bytes (Some []) false)
+    ∷ Erase out true false
+    ∷ Erase (staged_name 1 out) true false
+    ∷ closing_of_removal
+
+-- and leaves it alone where that is gone
+abbrev pub recovery_of_removed : List Event
+recovery_of_removed =
+    Seize (right_name home) true false
+    ∷ Load (record_name home) (Bytes (Some (written removal_record)) false)
+    ∷ Publish (staged_name 1 mbox) mbox false false
+    ∷ Load (staged_name 1 out) (Bytes None false)
+    ∷ closing_of_removal
 
 -- the disk that a commit of two files leaves where it stops before the event of this number, from 0
 abbrev pub stopped_at : ℕ → Disk
@@ -290,4 +364,9 @@ pub record WorkedRuns : Type 0 where
   pub changed : Makes changed_file nothing commit_of_changed (Refused (Changed out 0))
   pub not_a_record : Makes one_file bad_record commit_over_bad (Refused NotARecord)
   pub over_decided : Makes later (stopped_at 13) commit_over_decided Done
+  pub removal : Makes one_removed out_stands commit_of_removal Done
+  pub removed : (disk out_stands commit_of_removal).files out ≡ None
+  pub removal_decided : Makes recovery (removal_stopped_at 13) recovery_of_removal (Recovered Finished)
+  pub removal_half_done : Makes recovery (removal_stopped_at 14) recovery_of_removal (Recovered Finished)
+  pub removal_done : Makes recovery (removal_stopped_at 15) recovery_of_removed (Recovered Finished)
   pub among_others : IsRun two_files nothing commit_among_others (Ended Done)

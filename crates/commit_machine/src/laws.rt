@@ -74,8 +74,7 @@ pub fn no_refused_is_decided()
     ensures { NoRefusedIsDecided }
 {}
 
-/// The edits of changes make of files what the changes, one after the other, make of them, where each
-/// file that they name stands afterwards.
+/// The edits of changes make of files what the changes, one after the other, make of them.
 pub fn edits_are_changes()
     ensures { EditsAreChanges }
 {}

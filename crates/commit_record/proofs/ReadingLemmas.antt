@@ -20,7 +20,7 @@ use Rattle.commit_record.specs.Reading.{after, count_at, counted_head, counted_n
 use Rattle.commit_record.specs.declared.reader.Head.{Head}
 use Rattle.commit_record.specs.declared.record.Entry.{Entry}
 use Rattle.commit_record.specs.declared.record.EntryKind.{EntryKind}
-use Rattle.commit_record.specs.declared.record.EntryKind.TheVariants.{Replace}
+use Rattle.commit_record.specs.declared.record.EntryKind.TheVariants.{Replace, Remove}
 use Rattle.commit_record.specs.declared.record.Phase.{Phase}
 use Rattle.commit_record.specs.declared.record.Phase.TheVariants.{Prepare, Go}
 use Rattle.commit_record.specs.declared.record.Record.{Record}
@@ -76,9 +76,16 @@ phase_at-word Go rest =
     ap (λ (o : Option (List ℕ)). or_else (with_value Prepare o) (with_value Go (after (codes "go\n") (codes "go\n" ++ rest)))) (go-not-prepare rest)
     ∙ ap (with_value Go) (after-front (codes "go\n") rest)
 
+remove-not-replace : (rest : List ℕ) → after (codes "replace ") (codes "remove " ++ rest) ≡ None
+unfolding after
+remove-not-replace rest = refl
+
 kind_at-word : (k : EntryKind) (rest : List ℕ) → kind_at ((kind_word k ++ codes " ") ++ rest) ≡ Some (k, rest)
 unfolding kind_at
-kind_at-word Replace rest = ap (with_value Replace) (after-front (codes "replace ") rest)
+kind_at-word Replace rest = ap (λ (o : Option (List ℕ)). or_else (with_value Replace o) (with_value Remove (after (codes "remove ") (codes "replace " ++ rest)))) (after-front (codes "replace ") rest)
+kind_at-word Remove rest =
+    ap (λ (o : Option (List ℕ)). or_else (with_value Replace o) (with_value Remove (after (codes "remove ") (codes "remove " ++ rest)))) (remove-not-replace rest)
+    ∙ ap (with_value Remove) (after-front (codes "remove ") rest)
 
 name_at-name : (name rest : List ℕ) → name_at (length name) (name ++ 10 ∷ rest) ≡ Some (name, rest)
 unfolding name_at

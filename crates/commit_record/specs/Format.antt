@@ -1,5 +1,5 @@
 -- The text of a record of a commit.
-use Rattle.std.specs.Prelude.{◌≡◌, ◌<◌, ◌^◌, ℕ, Bool, true, not, ◌&&◌, nat_le, nat_lt, List, [], ◌∷◌, ◌++◌, length, codes, decimal}
+use Rattle.std.specs.Prelude.{◌≡◌, ◌<◌, ◌^◌, ℕ, Bool, true, false, not, ◌&&◌, nat_le, nat_lt, List, [], ◌∷◌, ◌++◌, length, codes, decimal}
 use Rattle.std.specs.List.{list_all, list_any, flat_map}
 use Rattle.std.specs.Int.{to_be_bytes, w64}
 use Rattle.std.specs.Str.{bytes_eq}
@@ -8,7 +8,7 @@ use Rattle.commit_record.specs.Names.{is_lawful}
 use Rattle.commit_record.specs.declared.record.Phase.{Phase}
 use Rattle.commit_record.specs.declared.record.Phase.TheVariants.{Prepare, Go}
 use Rattle.commit_record.specs.declared.record.EntryKind.{EntryKind}
-use Rattle.commit_record.specs.declared.record.EntryKind.TheVariants.{Replace}
+use Rattle.commit_record.specs.declared.record.EntryKind.TheVariants.{Replace, Remove}
 use Rattle.commit_record.specs.declared.record.Entry.{Entry}
 use Rattle.commit_record.specs.declared.record.Record.{Record}
 
@@ -22,6 +22,7 @@ phase_word Go = codes "go"
 
 abbrev pub kind_word : EntryKind → List ℕ
 kind_word Replace = codes "replace"
+kind_word Remove = codes "remove"
 
 -- the 16 lower case hexadecimal digits of a number of 64 bits
 abbrev pub token_digits : ℕ → List ℕ
@@ -46,9 +47,19 @@ abbrev pub are_distinct : List Entry → Bool
 are_distinct [] = true
 are_distinct (e ∷ es) = not (list_any (λ other. bytes_eq e.name other.name) es) && are_distinct es
 
--- a valid record has 1 to 16 entries with distinct lawful names
+abbrev pub is_replace : EntryKind → Bool
+is_replace Replace = true
+is_replace Remove = false
+
+-- before the decision it isn't known yet what becomes of a file, so all entries say that it is replaced
+abbrev pub fit_phase : Phase → List Entry → Bool
+fit_phase Prepare es = list_all (λ e. is_replace e.kind) es
+fit_phase Go es = true
+
+-- a valid record has 1 to 16 entries with distinct lawful names, and removes files after the decision alone
 abbrev pub is_valid : Record → Bool
-is_valid r = nat_lt 0 (length r.entries) && (nat_le (length r.entries) 16 && (list_all (λ e. is_lawful e.name) r.entries && are_distinct r.entries))
+is_valid r =
+    nat_lt 0 (length r.entries) && (nat_le (length r.entries) 16 && (list_all (λ e. is_lawful e.name) r.entries && (are_distinct r.entries && fit_phase r.phase r.entries)))
 
 -- the bytes are the text of a valid record
 pub record IsWritten (bytes : List ℕ) (r : Record) : Type 0 where

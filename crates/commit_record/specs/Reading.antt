@@ -11,7 +11,7 @@ use Rattle.mail_text.specs.Number.{number_of}
 use Rattle.commit_record.specs.declared.record.Phase.{Phase}
 use Rattle.commit_record.specs.declared.record.Phase.TheVariants.{Prepare, Go}
 use Rattle.commit_record.specs.declared.record.EntryKind.{EntryKind}
-use Rattle.commit_record.specs.declared.record.EntryKind.TheVariants.{Replace}
+use Rattle.commit_record.specs.declared.record.EntryKind.TheVariants.{Replace, Remove}
 use Rattle.commit_record.specs.declared.record.Entry.{Entry}
 use Rattle.commit_record.specs.declared.record.Record.{Record}
 use Rattle.commit_record.specs.declared.reader.Head.{Head}
@@ -45,7 +45,7 @@ phase_at bytes = or_else (with_value Prepare (after (codes "prepare\n") bytes)) 
 
 -- the word of a kind and the space behind it
 unfoldable pub kind_at : List ℕ → Option (EntryKind × List ℕ)
-kind_at bytes = with_value Replace (after (codes "replace ") bytes)
+kind_at bytes = or_else (with_value Replace (after (codes "replace ") bytes)) (with_value Remove (after (codes "remove ") bytes))
 
 -- so many bytes, and a line feed
 unfoldable pub name_at : ℕ → List ℕ → Option (List ℕ × List ℕ)

@@ -94,7 +94,10 @@ fn kind_at(bytes: &[u8]) -> Option<(EntryKind, &[u8])>
 {
     match after(b"replace ", bytes) {
         Some(rest) => Some((EntryKind::Replace, rest)),
-        None => None,
+        None => match after(b"remove ", bytes) {
+            Some(rest) => Some((EntryKind::Remove, rest)),
+            None => None,
+        },
     }
 }
 

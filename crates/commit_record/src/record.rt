@@ -14,6 +14,8 @@ pub enum Phase {
 pub enum EntryKind {
     /// The staged file takes its place.
     Replace,
+    /// It is taken away where its staged file stands.
+    Remove,
 }
 
 /// A file that a commit changes.

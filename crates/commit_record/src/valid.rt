@@ -3,9 +3,9 @@ ghost use Rattle.std.specs.Prelude.{◌≡◌, ◌-◌, length, drop};
 ghost use Rattle.std.specs.List.{list_all, list_any};
 ghost use Rattle.std.specs.Str.{bytes_eq};
 ghost use Rattle.commit_record.specs.Names.{is_lower_hex, is_staged_end, is_lawful};
-ghost use Rattle.commit_record.specs.Format.{are_distinct, is_valid};
+ghost use Rattle.commit_record.specs.Format.{are_distinct, is_replace, fit_phase, is_valid};
 
-use crate::{Entry, Record};
+use crate::{Entry, EntryKind, Phase, Record};
 
 /// The most bytes of a name.
 const LONGEST_NAME: usize = 4_000;
@@ -81,7 +81,33 @@ fn are_distinct(entries: &[Entry]) -> bool
     }
 }
 
-/// Whether the record has 1 to 16 entries with distinct lawful names. It takes no memory.
+fn is_replace(kind: EntryKind) -> bool
+    ensures { result ≡ is_replace kind }
+{
+    match kind {
+        EntryKind::Replace => true,
+        EntryKind::Remove => false,
+    }
+}
+
+fn are_replaced(entries: &[Entry]) -> bool
+    ensures { result ≡ list_all (λ e. is_replace e.kind) entries.now }
+{
+    entries.iter().all(|entry| is_replace(entry.kind))
+}
+
+// Whether a record of this phase may say so of its files.
+fn fit_phase(phase: Phase, entries: &[Entry]) -> bool
+    ensures { result ≡ fit_phase phase entries.now }
+{
+    match phase {
+        Phase::Prepare => are_replaced(entries),
+        Phase::Go => true,
+    }
+}
+
+/// Whether the record has 1 to 16 entries with distinct lawful names, and before the decision removes no file. It takes no
+/// memory.
 pub fn is_valid(value: &Record) -> bool
     ensures { result ≡ is_valid value.now }
 {
@@ -90,4 +116,5 @@ pub fn is_valid(value: &Record) -> bool
         && entries.len() <= MOST_ENTRIES
         && are_lawful(entries)
         && are_distinct(entries)
+        && fit_phase(value.phase, entries)
 }

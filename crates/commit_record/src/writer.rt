@@ -24,6 +24,7 @@ fn kind_word(kind: EntryKind) -> &'static [u8]
 {
     match kind {
         EntryKind::Replace => b"replace",
+        EntryKind::Remove => b"remove",
     }
 }
 

@@ -89,6 +89,7 @@ module _ (actor name : List ℕ) where
         go true h later = absurd (cc)
         go false h later = later h
     lock-met names (n ∷ left) (event.Load m (seen.TooLarge k) ∷ es) h = absurd (cc)
+    lock-met names (n ∷ left) (event.Load m seen.Memory ∷ es) h = absurd (cc)
     lock-met names (n ∷ left) (e ∷ es) h = met-more name e es (lock-met names (n ∷ left) es h)
 
     standing-met : (r : Option Record) (names : List (List ℕ)) (es : List Event) → IsBusy (by_standing r (by_lock actor why names names es)) → Met name es
@@ -186,6 +187,7 @@ module _ (actor : List ℕ) where
   lock-fine names (n ∷ left) (event.Lock m t true failed ∷ es) h p = lock-fine names left es (free-more (event.Lock m t true failed) es h) (made-more (event.Lock m t true failed) es p)
   lock-fine names (n ∷ left) (event.Lock m t false failed ∷ es) h p = absurd (cc)
   lock-fine names (n ∷ left) (event.Load m (seen.TooLarge k) ∷ es) h p = absurd (cc)
+  lock-fine names (n ∷ left) (event.Load m seen.Memory ∷ es) h p = tt
   lock-fine names (n ∷ left) (event.Publish from to false failed ∷ es) h p =
       rw (not-new from to failed es p) (lock-fine names (n ∷ left) es (free-more (event.Publish from to false failed) es h) (made-more (event.Publish from to false failed) es p))
   lock-fine names (n ∷ left) (e ∷ es) h p = lock-fine names (n ∷ left) es (free-more e es h) (made-more e es p)

@@ -11,7 +11,7 @@ use Rattle.host_port.specs.declared.event.Seen.TheVariants as seen
 use Rattle.folder_change.specs.declared.change.Change.{Change}
 use Rattle.commit_machine.specs.Names.{record_name, new_name, right_name}
 use Rattle.commit_machine.specs.Jobs.{Before, After, Unknown, Ending, Done, Failed, Job, Made, all_of}
-use Rattle.commit_machine.specs.Machine.{State, Seizing, Placing, Unlocking, Erasing, Committing, Checking, Releasing, Ended, Then, GoOn, Answer, Fault, next, refused, after_reply, faulted, passed_at, passed_then, passed_ending, passed_by, go_front}
+use Rattle.commit_machine.specs.Machine.{State, Seizing, Placing, Removing, Discarding, Unlocking, Erasing, Committing, Checking, Releasing, Ended, Then, GoOn, Answer, Fault, next, refused, after_reply, faulted, passed_at, passed_then, passed_ending, passed_by, go_front}
 use Rattle.commit_machine.specs.Goes.{IsNext, Goes, reply}
 use Rattle.commit_machine.specs.Edits.{first_names, job_for}
 use Rattle.commit_machine.specs.Restraints.{is_failed}
@@ -55,6 +55,8 @@ known-then (Answer a) h = known-passed a h
 -- a call that fails at any state but that of the decision
 known-at : (s : State) → Clean s → is_bad s ≡ false → is_unknown_end (Failed (passed_at s)) ≡ false
 known-at (Placing r n ns ls th) h b = known-then th h
+known-at (Removing r n ns ls th) h b = known-then th h
+known-at (Discarding r n ns ls th) h b = known-then th h
 known-at (Unlocking r n ns th) h b = known-then th h
 known-at (Erasing r th) h b = known-then th h
 known-at (Releasing a) h b = known-passed a b

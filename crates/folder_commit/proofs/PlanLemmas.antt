@@ -9,7 +9,7 @@ use Rattle.std.proofs.lemmas.List.Elements.{All-head, All-tail}
 use Rattle.host_port.specs.Names.{has_no_zero}
 use Rattle.folder_change.specs.declared.change.Change.{Change}
 use Rattle.folder_change.specs.Changes.{name_of}
-use Rattle.commit_record.specs.Format.{is_valid, are_distinct, written}
+use Rattle.commit_record.specs.Format.{is_valid, is_replace, fit_phase, are_distinct, written}
 use Rattle.commit_record.specs.Names.{is_lawful}
 use Rattle.commit_record.specs.declared.record.Phase.{Phase}
 use Rattle.commit_record.specs.declared.record.Phase.TheVariants.{Prepare, Go}
@@ -17,13 +17,11 @@ use Rattle.commit_record.specs.declared.record.EntryKind.{EntryKind}
 use Rattle.commit_record.specs.declared.record.EntryKind.TheVariants.{Replace}
 use Rattle.commit_record.specs.declared.record.Entry.{Entry}
 use Rattle.commit_machine.specs.Names.{is_record_name, staged_name}
-use Rattle.commit_machine.specs.Records.{names_of, has}
+use Rattle.commit_machine.specs.Records.{names_of, has, AreDistinct}
 use Rattle.commit_machine.specs.Settled.{Mem}
 use Rattle.commit_machine.specs.Jobs.{Edit, IsJob, all_of, entries_for, kind_made, made_at}
 use Rattle.commit_machine.specs.Edits.{first_names, without, edit_for, job_for}
 use Rattle.commit_machine.proofs.Same.{same_refl, same_or_not}
-use Rattle.commit_machine.proofs.FrontLemmas.{front-taken}
-use Rattle.commit_driver.specs.Judging.{AreDistinct}
 use Rattle.commit_driver.specs.Places.{nth, IsPlan, IsSafe}
 use Rattle.commit_driver.specs.Answers.{IsCommitOf}
 use Rattle.commit_driver.proofs.StateLemmas.{length-map}
@@ -171,8 +169,16 @@ all-lawful actor (n ∷ ns) h = let one = (and_parts (is_lawful n) _ h.0).0 in r
 pub length-replaced : (ns : List (List ℕ)) → length (replaced ns) ≡ length ns
 length-replaced ns = length-map (λ (n : List ℕ). record { kind = Replace; name = n }) ns
 
-tests : (a b c d : Bool) → a ≡ true → b ≡ true → c ≡ true → d ≡ true → (a && (b && (c && d))) ≡ true
-tests a b c d p q r s = rw (p, q, r, s) refl
+tests : (a b c d f : Bool) → a ≡ true → b ≡ true → c ≡ true → d ≡ true → f ≡ true → (a && (b && (c && (d && f)))) ≡ true
+tests a b c d f p q r s t = rw (p, q, r, s, t) refl
+
+all-replace : (ns : List (List ℕ)) → list_all (λ (e : Entry). is_replace e.kind) (replaced ns) ≡ true
+all-replace [] = refl
+all-replace (n ∷ ns) = all-replace ns
+
+fits-phase : (phase : Phase) (ns : List (List ℕ)) → fit_phase phase (replaced ns) ≡ true
+fits-phase Prepare ns = all-replace ns
+fits-phase Go ns = refl
 
 some-first : (cs : List Change) → 1 ≤ length cs → 1 ≤ length (first_names cs)
 some-first [] h = absurd (omega (arith, h))
@@ -183,8 +189,8 @@ is-valid-plan actor phase token cs files some few =
     let ns = first_names cs in
     let long = length-replaced ns in
     let least = some-first cs some in
-    tests (nat_lt 0 (length (replaced ns))) (nat_le (length (replaced ns)) 16) (list_all (λ (e : Entry). is_lawful e.name) (replaced ns)) (are_distinct (replaced ns))
-    (grind (arith, common_steps)) (grind (arith, common_steps)) (all-lawful actor ns (names-first (Filed actor) cs files)) (are-distinct ns (distinct-first cs))
+    tests (nat_lt 0 (length (replaced ns))) (nat_le (length (replaced ns)) 16) (list_all (λ (e : Entry). is_lawful e.name) (replaced ns)) (are_distinct (replaced ns)) (fit_phase phase (replaced ns))
+    (grind (arith, common_steps)) (grind (arith, common_steps)) (all-lawful actor ns (names-first (Filed actor) cs files)) (are-distinct ns (distinct-first cs)) (fits-phase phase ns)
 
 -- the names of the plan
 pub plan-names : (ns : List (List ℕ)) → map (λ (e : Entry). e.name) (replaced ns) ≡ ns
@@ -197,13 +203,6 @@ edit-names cs base (n ∷ ns) = ap (λ (ms : List (List ℕ)). n ∷ ms) (edit-n
 
 pub all-first : (actor : List ℕ) (token : ℕ) (cs : List Change) (base : List (List ℕ)) → all_of (job_for actor token cs base) ≡ first_names cs
 all-first actor token cs base = edit-names cs base (first_names cs)
-
-kind-one : (k : EntryKind) → k ≡ Replace
-kind-one Replace = refl
-
-entries-one : (f : List ℕ → EntryKind) (ns : List (List ℕ)) → entries_for f ns ≡ replaced ns
-entries-one f [] = refl
-entries-one f (n ∷ ns) = ap (λ (k : EntryKind). record { kind = k; name = n } ∷ entries_for f ns) (kind-one (f n)) ∙ ap (λ (es : List Entry). record { kind = Replace; name = n } ∷ es) (entries-one f ns)
 
 pub is-plan : (actor : List ℕ) (token : ℕ) (cs : List Change) (base : List (List ℕ)) → IsPlan (job_for actor token cs base) (commit_plan actor token (first_names cs))
 is-plan actor token cs base =
@@ -220,8 +219,6 @@ is-plan actor token cs base =
       texts_are = λ e. record {
         distinct = subst AreDistinct (sym all) (distinct-first cs);
         prepare_is = ap (λ (ns : List (List ℕ)). written (record_for Prepare token ns)) (sym all);
-        go_is = λ made. ap (λ (es : List Entry). written (record { phase = Go; token = token; entries = es })) (ap replaced (sym all) ∙ sym (entries-one (λ n. kind_made (made_at made n)) (all_of j)));
-        front_is = front-taken token (replaced (first_names cs));
       };
     }
 
@@ -243,6 +240,7 @@ is-safe actor token cs short none files some few =
       staged_long = length-map (λ (e : Entry). staged_name token e.name) (replaced (first_names cs));
       few = omega (arith, long, few);
       some = λ e. omega (arith, long, least);
+      valid = λ l. valid;
     }
 
 -- each change is of a file of the plan

@@ -1,5 +1,5 @@
 -- A commit that was driven to its end.
-use Rattle.std.proofs.Common.{◌≡◌, ℕ, ◌<◌, ◌≤◌, List, [], ◌∷◌, length, refl, ap, sym, subst, inl, inr, ◌∙◌, arith}
+use Rattle.std.proofs.Common.{◌≡◌, ℕ, ◌<◌, ◌≤◌, List, [], ◌∷◌, length, map, refl, ap, sym, subst, inl, inr, ◌∙◌, arith}
 use Rattle.std.specs.declared.result.Result.{Result}
 use Rattle.std.specs.declared.result.Result.TheVariants.{Ok, Err}
 use Rattle.std.proofs.lemmas.Bool.{cases_lt}
@@ -7,7 +7,7 @@ use Rattle.host_port.specs.declared.event.Event.{Event}
 use Rattle.host_port.specs.Calls.{Counts}
 use Rattle.folder_change.specs.declared.change.Change.{Change}
 use Rattle.commit_record.specs.declared.record.Entry.{Entry}
-use Rattle.commit_machine.specs.Names.{record_name, right_name}
+use Rattle.commit_machine.specs.Names.{record_name, right_name, staged_name}
 use Rattle.commit_machine.specs.Records.{names_of}
 use Rattle.commit_machine.specs.Settled.{Mem}
 use Rattle.commit_machine.specs.Jobs.{Ending, Refused, Failed, NoMemory, Job, all_of}
@@ -17,6 +17,7 @@ use Rattle.commit_driver.specs.declared.step.Passed.TheVariants as passed
 use Rattle.commit_driver.specs.declared.step.End.{End}
 use Rattle.commit_driver.specs.declared.step.End.TheVariants as end
 use Rattle.commit_driver.specs.declared.place.Plan.{Plan}
+use Rattle.commit_driver.specs.declared.place.Place.{Place}
 use Rattle.commit_driver.specs.Steps.{EndFits}
 use Rattle.commit_driver.specs.Places.{nth}
 use Rattle.commit_driver.specs.Answers.{EndCaused}
@@ -27,6 +28,7 @@ use Rattle.folder_commit.specs.Ends.{Commits, CommitCause, AreNamed}
 use Rattle.folder_commit.specs.Plans.{Plans, commit_plan}
 use Rattle.folder_commit.specs.Commits.{IsCommit, IsNamed, answer_of}
 use Rattle.commit_driver.proofs.StateLemmas.{length-map}
+use Rattle.commit_driver.proofs.NextLemmas.{nth-of, names-long}
 use Rattle.folder_commit.proofs.EndLemmas.{no-recovery}
 use Rattle.folder_commit.proofs.PlanLemmas.{all-first, plan-names, nth-Mem}
 
@@ -72,52 +74,66 @@ module _ (actor : List ℕ) (token : ℕ) (cs : List Change) (base : List (List 
       let long : length plan.value.entries ≡ length (first_names cs) = sym (length-map (λ (e : Entry). e.name) plan.value.entries) ∙ ap length (plan-names (first_names cs)) in
       subst (λ (n : List ℕ). Mem n (first_names cs)) (ap (λ (ns : List (List ℕ)). nth ns k) (sym (plan-names (first_names cs)))) (nth-Mem (first_names cs) k (omega (arith, l, long)))
 
-  commits : (e : End) (es : List Event) → Drives job es e → Commits job es (answer_of e plan)
-  commits end.Done es d = record { end = jobs.Done; is_as = refl; within = tt; goes = d.goes }
-  commits end.RightBusy es d = record { end = Refused (jobs.Busy (right_name actor)); is_as = refl; within = tt; goes = d.goes }
-  commits (end.Busy k) es d = record { end = Refused (jobs.Busy (nth (all_of job) k)); is_as = ap (λ (ns : List (List ℕ)). Refused (jobs.Busy (nth ns k))) same-names; within = tt; goes = d.goes }
-  commits end.NotARecord es d = record { end = Refused jobs.NotARecord; is_as = refl; within = tt; goes = d.goes }
-  commits (end.RecordTooLarge n) es d = record { end = Refused (jobs.TooLarge (record_name actor) n); is_as = refl; within = tt; goes = d.goes }
-  commits (end.TooLarge k n) es d = record { end = Refused (jobs.TooLarge (nth (all_of job) k) n); is_as = ap (λ (ns : List (List ℕ)). Refused (jobs.TooLarge (nth ns k) n)) same-names; within = tt; goes = d.goes }
-  commits (end.Changed k m) es d = record { end = Refused (jobs.Changed (nth (all_of job) k) m); is_as = ap (λ (ns : List (List ℕ)). Refused (jobs.Changed (nth ns k) m)) same-names; within = tt; goes = d.goes }
-  commits (end.Failed passed.Before) es d = record { end = Failed jobs.Before; is_as = refl; within = tt; goes = d.goes }
-  commits (end.Failed passed.After) es d = record { end = Failed jobs.After; is_as = refl; within = tt; goes = d.goes }
-  commits (end.Failed passed.Unknown) es d = record { end = Failed jobs.Unknown; is_as = refl; within = tt; goes = d.goes }
-  commits end.NoMemory es d = record { end = d.hidden; is_as = d.wanted; within = d.within refl; goes = d.goes }
-  commits (end.Recovered f) es d = absurd (no-recovery actor token (edits_for cs base) job.refusal es _ d.goes)
+  -- the name of the staged file of an entry that was found
+  staged-is : (place : Place) (k : ℕ) → place.found_staged ≡ map (staged_name place.found.token) (names_of place.found) → k < length place.found.entries → nth place.found_staged k ≡ staged_name place.found.token (nth (names_of place.found) k)
+  staged-is place k staged l = ap (λ (ns : List (List ℕ)). nth ns k) staged ∙ nth-of (staged_name place.found.token) (names_of place.found) k (omega (arith, l, names-long place.found))
 
-  caused : (e : End) (old now : Counts) → EndCaused old.disks now.disks e → CommitCause old now (answer_of e plan)
-  caused (end.Failed p) old now c = c
-  caused (end.RecordTooLarge n) old now c = c
-  caused (end.TooLarge k n) old now c = c
-  caused end.Done old now c = tt
-  caused end.RightBusy old now c = tt
-  caused (end.Busy k) old now c = tt
-  caused (end.Changed k m) old now c = tt
-  caused end.NoMemory old now c = tt
-  caused e old now c = tt
+  commits : (place : Place) (e : End) (es : List Event) → place.found_staged ≡ map (staged_name place.found.token) (names_of place.found) → EndFits (length plan.value.entries) (length place.found.entries) e → Drives job place.found es e → Commits job es (answer_of e plan place)
+  commits place end.Done es staged fits d = record { end = jobs.Done; is_as = refl; within = tt; goes = d.goes }
+  commits place end.RightBusy es staged fits d = record { end = Refused (jobs.Busy (right_name actor)); is_as = refl; within = tt; goes = d.goes }
+  commits place (end.Busy k) es staged fits d = record { end = Refused (jobs.Busy (nth (all_of job) k)); is_as = ap (λ (ns : List (List ℕ)). Refused (jobs.Busy (nth ns k))) same-names; within = tt; goes = d.goes }
+  commits place end.NotARecord es staged fits d = record { end = Refused jobs.NotARecord; is_as = refl; within = tt; goes = d.goes }
+  commits place (end.RecordTooLarge n) es staged fits d = record { end = Refused (jobs.TooLarge (record_name actor) n); is_as = refl; within = tt; goes = d.goes }
+  commits place (end.StagedTooLarge k n) es staged fits d = record {
+    end = Refused (jobs.TooLarge (staged_name place.found.token (nth (names_of place.found) k)) n);
+    is_as = ap (λ (m : List ℕ). Refused (jobs.TooLarge m n)) (sym (staged-is place k staged fits));
+    within = tt;
+    goes = d.goes;
+  }
+  commits place (end.TooLarge k n) es staged fits d = record { end = Refused (jobs.TooLarge (nth (all_of job) k) n); is_as = ap (λ (ns : List (List ℕ)). Refused (jobs.TooLarge (nth ns k) n)) same-names; within = tt; goes = d.goes }
+  commits place (end.Changed k m) es staged fits d = record { end = Refused (jobs.Changed (nth (all_of job) k) m); is_as = ap (λ (ns : List (List ℕ)). Refused (jobs.Changed (nth ns k) m)) same-names; within = tt; goes = d.goes }
+  commits place (end.Failed passed.Before) es staged fits d = record { end = Failed jobs.Before; is_as = refl; within = tt; goes = d.goes }
+  commits place (end.Failed passed.After) es staged fits d = record { end = Failed jobs.After; is_as = refl; within = tt; goes = d.goes }
+  commits place (end.Failed passed.Unknown) es staged fits d = record { end = Failed jobs.Unknown; is_as = refl; within = tt; goes = d.goes }
+  commits place end.NoMemory es staged fits d = record { end = d.hidden; is_as = d.wanted; within = d.within refl; goes = d.goes }
+  commits place (end.Recovered f) es staged fits d = absurd (no-recovery actor token (edits_for cs base) job.refusal es _ d.goes)
 
-  named : (e : End) → EndFits (length plan.value.entries) e → AreNamed actor (first_names cs) (answer_of e plan)
-  named end.Done f = tt
-  named end.RightBusy f = inl refl
-  named (end.Busy k) f = inr (among k f)
-  named (end.RecordTooLarge n) f = inl refl
-  named (end.TooLarge k n) f = inr (among k f)
-  named (end.Changed k m) f = among k f
-  named (end.Failed p) f = tt
-  named end.NoMemory f = tt
-  named e f = tt
+  caused : (place : Place) (e : End) (old now : Counts) → EndCaused old.disks now.disks e → CommitCause old now (answer_of e plan place)
+  caused place (end.Failed p) old now c = c
+  caused place (end.RecordTooLarge n) old now c = c
+  caused place (end.StagedTooLarge k n) old now c = c
+  caused place (end.TooLarge k n) old now c = c
+  caused place end.Done old now c = tt
+  caused place end.RightBusy old now c = tt
+  caused place (end.Busy k) old now c = tt
+  caused place (end.Changed k m) old now c = tt
+  caused place end.NoMemory old now c = tt
+  caused place e old now c = tt
 
-pub is-commit : (actor : List ℕ) (token : ℕ) (cs : List Change) (base : List (List ℕ)) (e : End) (es : List Event) → 1 ≤ length cs → length (first_names cs) ≤ 16 → Drives (job_for actor token cs base) es e → IsCommit actor token cs base es (answer_of e (commit_plan actor token (first_names cs)))
-is-commit actor token [] base e es some few d = absurd (omega (arith, some))
-is-commit actor token (c ∷ cs) base e es some few d = inr (few, commits actor token (c ∷ cs) base e es d)
+  named : (place : Place) (e : End) → place.found_staged ≡ map (staged_name place.found.token) (names_of place.found) → EndFits (length plan.value.entries) (length place.found.entries) e → AreNamed actor (first_names cs) (answer_of e plan place)
+  named place end.Done staged f = tt
+  named place end.RightBusy staged f = inl refl
+  named place (end.Busy k) staged f = inr (among k f)
+  named place (end.RecordTooLarge n) staged f = inr (inl refl)
+  named place (end.StagedTooLarge k n) staged f = inl (place.found.token, nth (names_of place.found) k, staged-is place k staged f)
+  named place (end.TooLarge k n) staged f = inr (inr (among k f))
+  named place (end.Changed k m) staged f = among k f
+  named place (end.Failed p) staged f = tt
+  named place end.NoMemory staged f = tt
+  named place e staged f = tt
 
-pub is-caused : (actor : List ℕ) (token : ℕ) (cs : List Change) (e : End) (old now : Counts) → EndCaused old.disks now.disks e → CommitCause old now (answer_of e (commit_plan actor token (first_names cs)))
-is-caused actor token cs e old now c = caused actor token cs [] e old now c
+pub is-commit : (actor : List ℕ) (token : ℕ) (cs : List Change) (base : List (List ℕ)) (place : Place) (e : End) (es : List Event) → 1 ≤ length cs → length (first_names cs) ≤ 16
+    → place.found_staged ≡ map (staged_name place.found.token) (names_of place.found) → EndFits (length (commit_plan actor token (first_names cs)).value.entries) (length place.found.entries) e
+    → Drives (job_for actor token cs base) place.found es e → IsCommit actor token cs base es (answer_of e (commit_plan actor token (first_names cs)) place)
+is-commit actor token [] base place e es some few staged fits d = absurd (omega (arith, some))
+is-commit actor token (c ∷ cs) base place e es some few staged fits d = inr (few, commits actor token (c ∷ cs) base place e es staged fits d)
 
-pub is-named : (actor : List ℕ) (token : ℕ) (cs : List Change) (e : End) → 1 ≤ length cs → EndFits (length (commit_plan actor token (first_names cs)).value.entries) e → IsNamed actor cs (answer_of e (commit_plan actor token (first_names cs)))
-is-named actor token [] e some f = absurd (omega (arith, some))
-is-named actor token (c ∷ cs) e some f = named actor token (c ∷ cs) [] e f
+pub is-caused : (actor : List ℕ) (token : ℕ) (cs : List Change) (place : Place) (e : End) (old now : Counts) → EndCaused old.disks now.disks e → CommitCause old now (answer_of e (commit_plan actor token (first_names cs)) place)
+is-caused actor token cs place e old now c = caused actor token cs [] place e old now c
+
+pub is-named : (actor : List ℕ) (token : ℕ) (cs : List Change) (place : Place) (e : End) → 1 ≤ length cs → place.found_staged ≡ map (staged_name place.found.token) (names_of place.found) → EndFits (length (commit_plan actor token (first_names cs)).value.entries) (length place.found.entries) e → IsNamed actor cs (answer_of e (commit_plan actor token (first_names cs)) place)
+is-named actor token [] place e some staged f = absurd (omega (arith, some))
+is-named actor token (c ∷ cs) place e some staged f = named actor token (c ∷ cs) [] place e staged f
 
 pub memory-named : (actor : List ℕ) (cs : List Change) (r : Result Unit CommitError) → 1 ≤ length cs → (y : CommitError) × (r ≡ Err y) × (y ≡ error.Memory) → IsNamed actor cs r
 memory-named actor [] r some h = absurd (omega (arith, some))

@@ -10,17 +10,18 @@ use Rattle.host_port.specs.Calls.{Counts}
 use Rattle.host_port.specs.Own.{own}
 use Rattle.host_port.specs.Ran.{Honest, Ran}
 use Rattle.folder_change.specs.declared.change.Change.{Change}
-use Rattle.folder_change.specs.Apply.{Refusal as ChangeRefusal, first_refusal}
+use Rattle.folder_change.specs.Apply.{Refusal as ChangeRefusal, apply, first_refusal}
 use Rattle.commit_machine.specs.Settled.{Files}
 use Rattle.commit_machine.specs.Settled.{Mem}
 use Rattle.commit_machine.specs.Jobs.{Ending, IsJob, edits_of, all_of}
 use Rattle.commit_machine.specs.Due.{settled_files, applied}
-use Rattle.commit_machine.specs.Edits.{edits_for, cause_of, job_for}
+use Rattle.commit_machine.specs.Edits.{cause_of, job_for}
 use Rattle.commit_machine.specs.Machine.{Ended}
 use Rattle.commit_machine.specs.Laws.{IsRun, TellsDecisions}
 use Rattle.commit_machine.specs.Laws as laws
 use Rattle.commit_machine.specs.Runs.{made_after}
 use Rattle.commit_machine.proofs.RunLemmas.{nothing_left}
+use Rattle.commit_machine.proofs.EditLemmas.{edits_are_changes}
 use Rattle.commit_machine.proofs.ToldLemmas.{decisions_are_told}
 use Rattle.commit_machine.proofs.RefusalLemmas.{no_refused_is_decided}
 use Rattle.commit_machine.proofs.SafetyLemmas.{after_made, runs_are_safe}
@@ -70,12 +71,12 @@ safely : (actor : List ℕ) (token : ℕ) (c : Change) (cs : List Change) (base 
     → MayCommit actor token d es → Honest d es → Commits (job_for actor token (c ∷ cs) base) (own es) result → CommitsSafely (job_for actor token (c ∷ cs) base) (c ∷ cs) base d es result
 safely actor token c cs base d es result job may honest h =
     let j = job_for actor token (c ∷ cs) base in
-    let make = applied (edits_for (c ∷ cs) base) in
+    let make = apply (c ∷ cs) base in
     let run : IsRun j d es (Ended h.end) = record { job = job; fresh = may.fresh; sound = may.sound; goes = h.goes; honest = honest; lawful = may.lawful } in
     let G : List Event → Type 0 = λ es. IsRun j d es (Ended h.end) in
     let names = all_of j in
     let named = are-named names (c ∷ cs) (all-of-job actor token (c ∷ cs) base) in
-    let makes : (files : Files) (n : List ℕ) → applied (edits_of j) files n ≡ make files n = λ files n. refl in
+    let makes : (files : Files) (n : List ℕ) → applied (edits_of j) files n ≡ make files n = λ files n. edits_are_changes (c ∷ cs) base files n in
     let safe = runs_are_safe make j d es h.end makes run in
     record {
       run = safe;
@@ -102,7 +103,7 @@ is-complete actor token (c ∷ cs) base d es before now result fits files cause 
 is-complete actor token (c ∷ cs) base d es before now result fits files cause may honest (inr h) quiet free =
     let job = is-job actor token (c ∷ cs) base fits files (omega arith) free.few in
     let safe = safely actor token c cs base d es result job may honest h.1 in
-    completes (applied (edits_for (c ∷ cs) base)) actor token c cs base d es job safe.run before now result h.1 cause quiet free
+    completes (apply (c ∷ cs) base) actor token c cs base d es job safe.run before now result h.1 cause quiet free
 
 -- the events that a host has told since
 told-since : {H : Type 0} {start : H → Disk} {told : H → Option (List Event)} {counts : H → Counts} {old new : H} (P : List Event → Type 0) (before es : List Event) → Ran start told counts old new P

@@ -1,19 +1,24 @@
 -- A commit of changes answers as its own events give it.
-use Rattle.std.proofs.Common.{◌≡◌, ℕ, false, List, [], ◌∷◌, map, Option, refl, ap, subst, ◌∙◌}
+use Rattle.std.proofs.Common.{◌≡◌, ℕ, true, false, List, [], ◌∷◌, map, Option, refl, ap, subst, ◌∙◌}
 use Rattle.std.specs.Option.{option_map}
 use Rattle.std.specs.Str.{bytes_eq}
 use Rattle.std.specs.declared.result.Result.{Result}
+use Rattle.std.proofs.lemmas.Bool.{false_from_ne_true}
+use Rattle.std.proofs.lemmas.Slice.Eq.{bytes_eq-Decides}
 use Rattle.host_port.specs.declared.event.Event.{Event}
 use Rattle.folder_change.specs.declared.change.Change.{Change}
 use Rattle.folder_change.specs.Changes.{name_of}
 use Rattle.folder_change.specs.Outcomes.{outcome_of}
 use Rattle.folder_change.specs.Apply.{Refusal as ChangeRefusal, apply, after, first_refusal, refusal_of, or_else}
 use Rattle.folder_change.proofs.ApplyLemmas.{apply-alone}
-use Rattle.commit_machine.specs.Names.{record_name, new_name}
+use Rattle.commit_record.specs.Names.{is_lawful}
+use Rattle.commit_machine.specs.Names.{record_name, new_name, staged_name}
 use Rattle.commit_machine.specs.Settled.{Files, Mem}
 use Rattle.commit_machine.specs.Jobs.{Job, IsJob, edits_of, all_of}
 use Rattle.commit_machine.specs.Edits.{without, first_names, job_for, edit_for, cause_of}
+use Rattle.commit_machine.proofs.NameLemmas.{lawful-staged}
 use Rattle.commit_machine.proofs.Decided.{named}
+use Rattle.commit_machine.proofs.JobLemmas.{valid-plain}
 use Rattle.commit_driver.proofs.SawLemmas.{AreNamed}
 use Rattle.commit_driver.proofs.JudgeLemmas.{are-named}
 use Rattle.folder_commit.specs.declared.error.CommitError.{CommitError}
@@ -46,8 +51,15 @@ module _ (actor : List ℕ) (token : ℕ) (c : Change) (cs : List Change) (base 
       let (x, x_in, same) = named (edits_of job) n m in
       subst (λ (z : List ℕ). bytes_eq z (record_name actor) ≡ false) same (or-none (bytes_eq x.name (record_name actor)) (bytes_eq x.name (new_name actor)) (is.plain x x_in)).0
 
+  -- nor is one a staged file
+  no-staged : IsJob job → (n : List ℕ) → Mem n (all_of job) → (t : ℕ) (k : List ℕ) → bytes_eq n (staged_name t k) ≡ false
+  no-staged is n m t k =
+      let (x, x_in, same) = named (edits_of job) n m in
+      let fine : is_lawful n ≡ true = subst (λ (z : List ℕ). is_lawful z ≡ true) same (valid-plain job is (is.valid (edits_of job) refl) x x_in).1 in
+      false_from_ne_true _ (λ e. lawful-staged n t k fine ((bytes_eq-Decides n (staged_name t k)).0 e))
+
   pub end-told : IsJob job → (es : List Event) (result : Result Unit CommitError) → Commits job es result → TellsFaults es result → TellsEnd (first_names (c ∷ cs)) (end_told actor (c ∷ cs) base es) result
   end-told is es result h faults =
       let T : List (List ℕ) → Type 0 = λ ns. TellsEnd ns (by_right actor (refusal_told (c ∷ cs) base es) ns es) result in
       subst T (all-first actor token (c ∷ cs) base)
-      (ends-told actor token (edit_for (c ∷ cs) base (name_of c)) (map (edit_for (c ∷ cs) base) (without (name_of c) (first_names cs))) job.refusal by-names (plain-names is) (seen_in es) es result h.end h.is_as h.goes faults (λ n m. refl))
+      (ends-told actor token (edit_for (c ∷ cs) base (name_of c)) (map (edit_for (c ∷ cs) base) (without (name_of c) (first_names cs))) job.refusal by-names (plain-names is) (no-staged is) (seen_in es) es result h.end h.is_as h.goes faults (λ n m. refl))

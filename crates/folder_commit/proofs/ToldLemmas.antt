@@ -9,14 +9,15 @@ use Rattle.host_port.specs.declared.event.Event.TheVariants as event
 use Rattle.host_port.specs.declared.event.Seen.{Seen}
 use Rattle.host_port.specs.declared.event.Seen.TheVariants as seen
 use Rattle.commit_record.specs.Format.{written}
+use Rattle.commit_record.specs.declared.record.EntryKind.{EntryKind}
+use Rattle.commit_record.specs.declared.record.EntryKind.TheVariants.{Replace, Remove}
 use Rattle.commit_record.specs.declared.record.Record.{Record}
 use Rattle.commit_machine.specs.Names.{record_name, new_name, right_name, staged_name}
-use Rattle.commit_machine.specs.Records.{record_of, is_go, names_of}
+use Rattle.commit_machine.specs.Records.{record_of, is_go, names_of, kind_of}
 use Rattle.commit_machine.specs.Jobs.{Found, Refusal, Busy, TooLarge, Ending, Done, Refused, Failed, NoMemory, Outcome, Puts, Edit, Job, Made, all_of, edits_of, prepare_of, go_of, seen_files}
-use Rattle.commit_machine.specs.Machine.{State, Seizing, Looking, Undoing, Placing, Unlocking, Erasing, Clearing, Preparing, Publishing, Locking, Loading, Staging, Deciding, Committing, Checking, Releasing, Ended, Then, GoOn, Answer, unlocking, undoing, placing, staging, mended, none_stands, mending, record_seen, refusing, judged, loading, locking, loaded, next, refused, after_reply}
+use Rattle.commit_machine.specs.Machine.{State, Seizing, Looking, Undoing, Placing, Testing, Removing, Discarding, Unlocking, Erasing, Clearing, Preparing, Publishing, Locking, Loading, Staging, Deciding, Committing, Checking, Releasing, Ended, Then, GoOn, Answer, unlocking, undoing, removing, tested, place_one, placing, staging, mended, none_stands, mending, record_seen, refusing, judged, loading, locking, loaded, next, refused, after_reply}
 use Rattle.commit_machine.specs.Goes.{IsNext, reply, Goes}
 use Rattle.commit_machine.specs.Restraints.{is_failed}
-use Rattle.commit_driver.proofs.StateLemmas.{placing-cons}
 use Rattle.commit_driver.specs.declared.step.Passed.TheVariants as passed
 use Rattle.folder_commit.specs.declared.error.CommitError.{CommitError}
 use Rattle.folder_commit.specs.declared.error.CommitError.TheVariants as error
@@ -44,6 +45,8 @@ CleanThen (Answer e) = is_failed_end e ≡ false
 abbrev pub Clean : State → Type 0
 Clean (Undoing r n ns ls th) = CleanThen th
 Clean (Placing r n ns ls th) = CleanThen th
+Clean (Removing r n ns ls th) = CleanThen th
+Clean (Discarding r n ns ls th) = CleanThen th
 Clean (Unlocking r n ns th) = CleanThen th
 Clean (Erasing r th) = CleanThen th
 Clean s = Unit {0}
@@ -60,9 +63,17 @@ good_undoing : (r : Record) (ns ls : List (List ℕ)) (th : Then) → CleanThen 
 good_undoing r [] ls th h = good_unlocking r ls th h
 good_undoing r (n ∷ ns) ls th h = (h, refl)
 
+good_removing : (r : Record) (n : List ℕ) (ns ls : List (List ℕ)) (th : Then) → CleanThen th → Good (removing r n ns ls th)
+good_removing r n ns ls GoOn h = (tt, refl)
+good_removing r n ns ls (Answer e) h = (h, refl)
+
+good_one : (kind : EntryKind) (r : Record) (n : List ℕ) (ns ls : List (List ℕ)) (th : Then) → CleanThen th → Good (place_one kind r n ns ls th)
+good_one Replace r n ns ls th h = (h, refl)
+good_one Remove r n ns ls th h = good_removing r n ns ls th h
+
 good_placing : (r : Record) (ns ls : List (List ℕ)) (th : Then) → CleanThen th → Good (placing r ns ls th)
 good_placing r [] ls th h = good_unlocking r ls th h
-good_placing r (n ∷ ns) ls th h = subst Good (sym (placing-cons r n ns ls th)) (h, refl)
+good_placing r (n ∷ ns) ls th h = good_one (kind_of r n) r n ns ls th h
 
 good_mending : (r : Record) → Good (mending r)
 good_mending r = elim (cases_Bool (is_go r)) [ inl y ↦ rw y (good_placing r (names_of r) (names_of r) GoOn tt) | inr nay ↦ rw nay (good_undoing r (names_of r) (names_of r) GoOn tt) ]
@@ -113,6 +124,11 @@ module _ (j : Job) where
   refused_bad (Undoing r n ns ls (Answer e)) h = (h, refl)
   refused_bad (Placing r n ns ls GoOn) h = (tt, refl)
   refused_bad (Placing r n ns ls (Answer e)) h = (h, refl)
+  refused_bad (Testing r n ns ls) h = (tt, refl)
+  refused_bad (Removing r n ns ls GoOn) h = (tt, refl)
+  refused_bad (Removing r n ns ls (Answer e)) h = (h, refl)
+  refused_bad (Discarding r n ns ls GoOn) h = (tt, refl)
+  refused_bad (Discarding r n ns ls (Answer e)) h = (h, refl)
   refused_bad (Unlocking r n ns GoOn) h = (tt, refl)
   refused_bad (Unlocking r n ns (Answer e)) h = (h, refl)
   refused_bad (Erasing r GoOn) h = (tt, refl)
@@ -140,6 +156,21 @@ module _ (j : Job) where
   placing-bad : (r : Record) (n : List ℕ) (ns ls : List (List ℕ)) (th : Then) → CleanThen th → (from to : List ℕ) (done failed : Bool) → Steps (Placing r n ns ls th) (event.Publish from to done failed)
   placing-bad r n ns ls th h from to done true = (tt, refl)
   placing-bad r n ns ls th h from to done false = good_placing r ns ls th h
+
+  testing-bad : (r : Record) (n : List ℕ) (ns ls : List (List ℕ)) (m : List ℕ) (s : Seen) → Steps (Testing r n ns ls) (event.Load m s)
+  testing-bad r n ns ls m (seen.Bytes None held) = good_placing r ns ls GoOn tt
+  testing-bad r n ns ls m (seen.Bytes (Some bytes) held) = (tt, refl)
+  testing-bad r n ns ls m (seen.TooLarge k) = (tt, refl)
+  testing-bad r n ns ls m seen.Failed = (tt, refl)
+  testing-bad r n ns ls m seen.Memory = (tt, refl)
+
+  removing-bad : (r : Record) (n : List ℕ) (ns ls : List (List ℕ)) (th : Then) → CleanThen th → (m : List ℕ) (done failed : Bool) → Steps (Removing r n ns ls th) (event.Erase m done failed)
+  removing-bad r n ns ls th h m done true = (tt, refl)
+  removing-bad r n ns ls th h m done false = (h, refl)
+
+  discarding-bad : (r : Record) (n : List ℕ) (ns ls : List (List ℕ)) (th : Then) → CleanThen th → (m : List ℕ) (done failed : Bool) → Steps (Discarding r n ns ls th) (event.Erase m done failed)
+  discarding-bad r n ns ls th h m done true = (tt, refl)
+  discarding-bad r n ns ls th h m done false = good_placing r ns ls th h
 
   unlocking-bad : (r : Record) (n : List ℕ) (ns : List (List ℕ)) (th : Then) → CleanThen th → (m : List ℕ) (t : ℕ) (done failed : Bool) → Steps (Unlocking r n ns th) (event.Unlock m t done failed)
   unlocking-bad r n ns th h m t done true = (tt, refl)
@@ -217,6 +248,9 @@ module _ (j : Job) where
   step-bad Looking e h is = let w = load-is (record_name j.actor) e is in subst (Steps Looking) (sym w.1) (looking-bad (record_name j.actor) w.0)
   step-bad (Undoing r n ns ls th) e h is = let w = erase-is (staged_name r.token n) e is in subst (Steps (Undoing r n ns ls th)) (sym w.2) (undoing-bad r n ns ls th h (staged_name r.token n) w.0 w.1)
   step-bad (Placing r n ns ls th) e h is = let w = publish-is (staged_name r.token n) n e is in subst (Steps (Placing r n ns ls th)) (sym w.2) (placing-bad r n ns ls th h (staged_name r.token n) n w.0 w.1)
+  step-bad (Testing r n ns ls) e h is = let w = load-is (staged_name r.token n) e is in subst (Steps (Testing r n ns ls)) (sym w.1) (testing-bad r n ns ls (staged_name r.token n) w.0)
+  step-bad (Removing r n ns ls th) e h is = let w = erase-is n e is in subst (Steps (Removing r n ns ls th)) (sym w.2) (removing-bad r n ns ls th h n w.0 w.1)
+  step-bad (Discarding r n ns ls th) e h is = let w = erase-is (staged_name r.token n) e is in subst (Steps (Discarding r n ns ls th)) (sym w.2) (discarding-bad r n ns ls th h (staged_name r.token n) w.0 w.1)
   step-bad (Unlocking r n ns th) e h is = let w = unlock-is n r.token e is in subst (Steps (Unlocking r n ns th)) (sym w.2) (unlocking-bad r n ns th h n r.token w.0 w.1)
   step-bad (Erasing r th) e h is = let w = erase-is (record_name j.actor) e is in subst (Steps (Erasing r th)) (sym w.2) (erasing-bad r th h (record_name j.actor) w.0 w.1)
   step-bad (Clearing f) e h is = let w = erase-is (new_name j.actor) e is in subst (Steps (Clearing f)) (sym w.2) (clearing-bad f (new_name j.actor) w.0 w.1)

@@ -11,17 +11,19 @@ use Rattle.host_port.specs.declared.event.Event.TheVariants as event
 use Rattle.host_port.specs.declared.event.Seen.{Seen}
 use Rattle.host_port.specs.declared.event.Seen.TheVariants as seen
 use Rattle.commit_record.specs.Format.{written}
+use Rattle.commit_record.specs.declared.record.EntryKind.{EntryKind}
+use Rattle.commit_record.specs.declared.record.EntryKind.TheVariants.{Replace, Remove}
 use Rattle.commit_record.specs.declared.record.Record.{Record}
 use Rattle.commit_machine.specs.Names.{record_name, new_name, right_name, staged_name}
-use Rattle.commit_machine.specs.Records.{record_of, is_go, names_of}
+use Rattle.commit_machine.specs.Records.{record_of, is_go, names_of, kind_of}
 use Rattle.commit_machine.specs.Settled.{Files, Mem}
 use Rattle.commit_machine.specs.Jobs.{Found, Refusal, Busy, NotARecord, TooLarge, Ending, Done, Refused, NoMemory, Edit, Job, Made, all_names, all_of, prepare_of, go_of, made_at, seen_files}
-use Rattle.commit_machine.specs.Machine.{State, Seizing, Looking, Undoing, Placing, Unlocking, Erasing, Clearing, Preparing, Publishing, Locking, Loading, Staging, Deciding, Committing, Checking, Releasing, Ended, Then, GoOn, Answer, unlocking, undoing, placing, staging, mending, record_seen, refusing, judged, loading, locking, loaded, next, refused, after_reply}
+use Rattle.commit_machine.specs.Machine.{State, Seizing, Looking, Undoing, Placing, Testing, Removing, Discarding, Unlocking, Erasing, Clearing, Preparing, Publishing, Locking, Loading, Staging, Deciding, Committing, Checking, Releasing, Ended, Then, GoOn, Answer, unlocking, undoing, removing, tested, place_one, placing, staging, mending, record_seen, refusing, judged, loading, locking, loaded, next, refused, after_reply}
 use Rattle.commit_machine.specs.Goes.{IsNext, reply, Goes}
 use Rattle.commit_machine.specs.Restraints.{is_failed}
 use Rattle.commit_machine.proofs.NameLemmas.{staged-new}
 use Rattle.commit_driver.specs.Places.{WantedAs, made_by}
-use Rattle.commit_driver.proofs.StateLemmas.{placing-cons, loaded-by}
+use Rattle.commit_driver.proofs.StateLemmas.{loaded-by}
 use Rattle.folder_commit.specs.declared.error.CommitError.{CommitError}
 use Rattle.folder_commit.specs.declared.error.CommitError.TheVariants as error
 use Rattle.folder_commit.specs.Ends.{AnswersAs}
@@ -65,10 +67,11 @@ names-more (y ∷ ys) x names = ap (λ (ns : List (List ℕ)). y.edit.name ∷ n
 abbrev job_with : List ℕ → ℕ → List Edit → (Files → Option Refusal) → Job
 job_with actor token edits refusal = record { actor = actor; token = token; edits = Some edits; refusal = refusal }
 
--- a commit of one file at least, whose refusal depends on its files alone, none of which is the record
+-- a commit of one file at least, whose refusal depends on its files alone, none of which is the record or a staged file
 module _ (actor : List ℕ) (token : ℕ) (first : Edit) (more : List Edit) (refusal : Files → Option Refusal)
     (by_names : (f g : Files) → ((n : List ℕ) → Mem n (all_names (first ∷ more)) → f n ≡ g n) → refusal f ≡ refusal g)
-    (plain : (n : List ℕ) → Mem n (all_names (first ∷ more)) → bytes_eq n (record_name actor) ≡ false) (files : Files) where
+    (plain : (n : List ℕ) → Mem n (all_names (first ∷ more)) → bytes_eq n (record_name actor) ≡ false)
+    (unstaged : (n : List ℕ) → Mem n (all_names (first ∷ more)) → (t : ℕ) (m : List ℕ) → bytes_eq n (staged_name t m) ≡ false) (files : Files) where
   abbrev job : Job
   job = job_with actor token (first ∷ more) refusal
 
@@ -91,6 +94,9 @@ module _ (actor : List ℕ) (token : ℕ) (first : Edit) (more : List Edit) (ref
   end_from Looking es = by_record actor why names es
   end_from (Undoing r n ns ls th) es = end_then th es
   end_from (Placing r n ns ls th) es = end_then th es
+  end_from (Testing r n ns ls) es = locks_from es
+  end_from (Removing r n ns ls th) es = end_then th es
+  end_from (Discarding r n ns ls th) es = end_then th es
   end_from (Unlocking r n ns th) es = end_then th es
   end_from (Erasing r th) es = end_then th es
   end_from (Clearing f) es = locks_from es
@@ -119,6 +125,9 @@ module _ (actor : List ℕ) (token : ℕ) (first : Edit) (more : List Edit) (ref
   Shape Looking es = Shown [] es
   Shape (Undoing r n ns ls th) es = ShownThen th es
   Shape (Placing r n ns ls th) es = ShownThen th es
+  Shape (Testing r n ns ls) es = Shown [] es
+  Shape (Removing r n ns ls th) es = ShownThen th es
+  Shape (Discarding r n ns ls th) es = ShownThen th es
   Shape (Unlocking r n ns th) es = ShownThen th es
   Shape (Erasing r th) es = ShownThen th es
   Shape (Clearing f) es = Shown [] es
@@ -140,9 +149,17 @@ module _ (actor : List ℕ) (token : ℕ) (first : Edit) (more : List Edit) (ref
   so_undoing r [] ls th es h = so_unlocking r ls th es h
   so_undoing r (n ∷ ns) ls th es h = (h, refl)
 
+  so_removing : (r : Record) (n : List ℕ) (ns ls : List (List ℕ)) (th : Then) (es : List Event) → ShownThen th es → Ends_so (removing r n ns ls th) es (end_then th es)
+  so_removing r n ns ls GoOn es h = (h, refl)
+  so_removing r n ns ls (Answer e) es h = (h, refl)
+
+  so_one : (kind : EntryKind) (r : Record) (n : List ℕ) (ns ls : List (List ℕ)) (th : Then) (es : List Event) → ShownThen th es → Ends_so (place_one kind r n ns ls th) es (end_then th es)
+  so_one Replace r n ns ls th es h = (h, refl)
+  so_one Remove r n ns ls th es h = so_removing r n ns ls th es h
+
   so_placing : (r : Record) (ns ls : List (List ℕ)) (th : Then) (es : List Event) → ShownThen th es → Ends_so (placing r ns ls th) es (end_then th es)
   so_placing r [] ls th es h = so_unlocking r ls th es h
-  so_placing r (n ∷ ns) ls th es h = subst (λ (s : State). Ends_so s es (end_then th es)) (sym (placing-cons r n ns ls th)) (h, refl)
+  so_placing r (n ∷ ns) ls th es h = so_one (kind_of r n) r n ns ls th es h
 
   so_mending : (r : Record) (es : List Event) → Shown [] es → Ends_so (mending r) es (locks_from es)
   so_mending r es h = elim (cases_Bool (is_go r)) [ inl y ↦ rw y (so_placing r (names_of r) (names_of r) GoOn es h) | inr nay ↦ rw nay (so_undoing r (names_of r) (names_of r) GoOn es h) ]
@@ -218,6 +235,26 @@ module _ (actor : List ℕ) (token : ℕ) (first : Edit) (more : List Edit) (ref
   w-placing r n ns ls th m d true h = absurd (cc)
   w-placing r n ns ls th m d false h = λ es k.
       as-end (placing r ns ls th) es (end_then th es) (end_then th (event.Publish (staged_name r.token n) m d false ∷ es)) (so_placing r ns ls th es (shown-publish th (staged_name r.token n) m d false es k)) (skip-publish th r.token n m d false es)
+
+  -- a staged file is none of the files
+  shown-staged : (t : ℕ) (n : List ℕ) (c : Option (List ℕ)) (held : Bool) (es : List Event) → Shown [] (event.Load (staged_name t n) (seen.Bytes c held) ∷ es) → Shown [] es
+  shown-staged t n c held es h = λ k m. h k m ∙ cond-false _ _ _ (unstaged k m t n)
+
+  w-testing : (r : Record) (n : List ℕ) (ns ls : List (List ℕ)) (s : Seen) → is_failed (event.Load (staged_name r.token n) s) ≡ false → Walks (Testing r n ns ls) (event.Load (staged_name r.token n) s)
+  w-testing r n ns ls (seen.Bytes None held) h = λ es k. so_placing r ns ls GoOn es (shown-staged r.token n None held es k)
+  w-testing r n ns ls (seen.Bytes (Some bytes) held) h = λ es k. (shown-staged r.token n (Some bytes) held es k, refl)
+  w-testing r n ns ls (seen.TooLarge k) h = λ es k. (tt, refl)
+  w-testing r n ns ls seen.Failed h = absurd (cc)
+  w-testing r n ns ls seen.Memory h = λ es k. (tt, refl)
+
+  w-removing : (r : Record) (n : List ℕ) (ns ls : List (List ℕ)) (th : Then) (m : List ℕ) (d f : Bool) → f ≡ false → Walks (Removing r n ns ls th) (event.Erase m d f)
+  w-removing r n ns ls th m d true h = absurd (cc)
+  w-removing r n ns ls th m d false h = λ es k. (shown-erase th m d false es k, sym (skip-erase th m d false es))
+
+  w-discarding : (r : Record) (n : List ℕ) (ns ls : List (List ℕ)) (th : Then) (m : List ℕ) (d f : Bool) → f ≡ false → Walks (Discarding r n ns ls th) (event.Erase m d f)
+  w-discarding r n ns ls th m d true h = absurd (cc)
+  w-discarding r n ns ls th m d false h = λ es k.
+      as-end (placing r ns ls th) es (end_then th es) (end_then th (event.Erase m d false ∷ es)) (so_placing r ns ls th es (shown-erase th m d false es k)) (skip-erase th m d false es)
 
   w-unlocking : (r : Record) (n : List ℕ) (ns : List (List ℕ)) (th : Then) (m : List ℕ) (t : ℕ) (d f : Bool) → f ≡ false → Walks (Unlocking r n ns th) (event.Unlock m t d f)
   w-unlocking r n ns th m t d true h = absurd (cc)
@@ -300,6 +337,9 @@ module _ (actor : List ℕ) (token : ℕ) (first : Edit) (more : List Edit) (ref
   walks Looking e is h = let w = load-is (record_name actor) e is in subst (Walks Looking) (sym w.1) (w-looking w.0 (same-failed e _ w.1 h))
   walks (Undoing r n ns ls th) e is h = let w = erase-is (staged_name r.token n) e is in subst (Walks (Undoing r n ns ls th)) (sym w.2) (w-undoing r n ns ls th (staged_name r.token n) w.0 w.1 (same-failed e _ w.2 h))
   walks (Placing r n ns ls th) e is h = let w = publish-is (staged_name r.token n) n e is in subst (Walks (Placing r n ns ls th)) (sym w.2) (w-placing r n ns ls th n w.0 w.1 (same-failed e _ w.2 h))
+  walks (Testing r n ns ls) e is h = let w = load-is (staged_name r.token n) e is in subst (Walks (Testing r n ns ls)) (sym w.1) (w-testing r n ns ls w.0 (same-failed e _ w.1 h))
+  walks (Removing r n ns ls th) e is h = let w = erase-is n e is in subst (Walks (Removing r n ns ls th)) (sym w.2) (w-removing r n ns ls th n w.0 w.1 (same-failed e _ w.2 h))
+  walks (Discarding r n ns ls th) e is h = let w = erase-is (staged_name r.token n) e is in subst (Walks (Discarding r n ns ls th)) (sym w.2) (w-discarding r n ns ls th (staged_name r.token n) w.0 w.1 (same-failed e _ w.2 h))
   walks (Unlocking r n ns th) e is h = let w = unlock-is n r.token e is in subst (Walks (Unlocking r n ns th)) (sym w.2) (w-unlocking r n ns th n r.token w.0 w.1 (same-failed e _ w.2 h))
   walks (Erasing r th) e is h = let w = erase-is (record_name actor) e is in subst (Walks (Erasing r th)) (sym w.2) (w-erasing r th (record_name actor) w.0 w.1 (same-failed e _ w.2 h))
   walks (Clearing f) e is h = let w = erase-is (new_name actor) e is in subst (Walks (Clearing f)) (sym w.2) (w-clearing f (new_name actor) w.0 w.1 (same-failed e _ w.2 h))
@@ -365,6 +405,11 @@ module _ (actor : List ℕ) (token : ℕ) (first : Edit) (more : List Edit) (ref
   wants (Undoing r n ns ls (Answer a)) es end goes k = (tt, refl)
   wants (Placing r n ns ls GoOn) es end goes k = wants-end es end goes
   wants (Placing r n ns ls (Answer a)) es end goes k = (tt, refl)
+  wants (Testing r n ns ls) es end goes k = wants-end es end goes
+  wants (Removing r n ns ls GoOn) es end goes k = wants-end es end goes
+  wants (Removing r n ns ls (Answer a)) es end goes k = (tt, refl)
+  wants (Discarding r n ns ls GoOn) es end goes k = wants-end es end goes
+  wants (Discarding r n ns ls (Answer a)) es end goes k = (tt, refl)
   wants (Unlocking r n ns GoOn) es end goes k = wants-end es end goes
   wants (Unlocking r n ns (Answer a)) es end goes k = (tt, refl)
   wants (Erasing r GoOn) es end goes k = wants-end es end goes

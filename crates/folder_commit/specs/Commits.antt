@@ -9,6 +9,7 @@ use Rattle.commit_machine.specs.Edits.{first_names, job_for}
 use Rattle.commit_driver.specs.declared.step.End.{End}
 use Rattle.commit_driver.specs.declared.step.End.TheVariants as end
 use Rattle.commit_driver.specs.declared.place.Plan.{Plan}
+use Rattle.commit_driver.specs.declared.place.Place.{Place}
 use Rattle.commit_driver.specs.Places.{nth}
 use Rattle.folder_commit.specs.declared.error.CommitError.{CommitError}
 use Rattle.folder_commit.specs.declared.error.CommitError.TheVariants as error
@@ -32,13 +33,14 @@ IsNamed actor [] result = result ≡ Ok tt
 IsNamed actor (c ∷ cs) result = AreNamed actor (first_names (c ∷ cs)) result
 
 -- the answer where a commit of this plan ends so; it isn't a recovery
-abbrev pub answer_of : End → Plan → Result Unit CommitError
-answer_of end.Done plan = Ok tt
-answer_of end.RightBusy plan = Err (error.Busy plan.right)
-answer_of (end.Busy k) plan = Err (error.Busy (nth (names_of plan.value) k))
-answer_of (end.RecordTooLarge n) plan = Err (error.TooLarge plan.record n)
-answer_of (end.TooLarge k n) plan = Err (error.TooLarge (nth (names_of plan.value) k) n)
-answer_of (end.Changed k at) plan = Err (error.Changed (nth (names_of plan.value) k) at)
-answer_of (end.Failed p) plan = Err (error.Disk p)
-answer_of end.NoMemory plan = Err error.Memory
-answer_of e plan = Err error.Record
+abbrev pub answer_of : End → Plan → Place → Result Unit CommitError
+answer_of end.Done plan place = Ok tt
+answer_of end.RightBusy plan place = Err (error.Busy plan.right)
+answer_of (end.Busy k) plan place = Err (error.Busy (nth (names_of plan.value) k))
+answer_of (end.RecordTooLarge n) plan place = Err (error.TooLarge plan.record n)
+answer_of (end.StagedTooLarge k n) plan place = Err (error.TooLarge (nth place.found_staged k) n)
+answer_of (end.TooLarge k n) plan place = Err (error.TooLarge (nth (names_of plan.value) k) n)
+answer_of (end.Changed k at) plan place = Err (error.Changed (nth (names_of plan.value) k) at)
+answer_of (end.Failed p) plan place = Err (error.Disk p)
+answer_of end.NoMemory plan place = Err error.Memory
+answer_of e plan place = Err error.Record

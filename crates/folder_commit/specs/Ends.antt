@@ -5,7 +5,7 @@ use Rattle.std.specs.declared.result.Result.{Result}
 use Rattle.std.specs.declared.result.Result.TheVariants.{Ok, Err}
 use Rattle.host_port.specs.declared.event.Event.{Event}
 use Rattle.host_port.specs.Calls.{Counts, Rose, load_limit}
-use Rattle.commit_machine.specs.Names.{record_name, right_name}
+use Rattle.commit_machine.specs.Names.{record_name, right_name, staged_name}
 use Rattle.commit_machine.specs.Settled.{Mem}
 use Rattle.commit_machine.specs.Jobs.{Ending, Done, Refused, Failed, Job, all_of}
 use Rattle.commit_machine.specs.Jobs as jobs
@@ -53,10 +53,14 @@ CommitCause before now (Err (error.Disk passed)) = Rose before.disks now.disks
 CommitCause before now (Err (error.TooLarge name length)) = load_limit < length
 CommitCause before now result = Unit {0}
 
--- the names in an answer: the right's, the record's, and those of files of the commit
+-- the name of a staged file
+abbrev pub IsStagedName : List ℕ → Type 0
+IsStagedName name = (token : ℕ) × (file : List ℕ) × (name ≡ staged_name token file)
+
+-- the names in an answer: the right's, the record's, that of a staged file of a removal that was found, and those of files of the commit
 abbrev pub AreNamed : List ℕ → List (List ℕ) → Result Unit CommitError → Type 0
 AreNamed actor files (Err (error.Busy name)) = (name ≡ right_name actor) ⊎ Mem name files
 AreNamed actor files (Err (error.Changed name at)) = Mem name files
-AreNamed actor files (Err (error.TooLarge name n)) = (name ≡ record_name actor) ⊎ Mem name files
+AreNamed actor files (Err (error.TooLarge name n)) = IsStagedName name ⊎ ((name ≡ record_name actor) ⊎ Mem name files)
 AreNamed actor files (Err (error.TooManyNames count)) = count ≡ length files
 AreNamed actor files result = Unit {0}

@@ -45,7 +45,6 @@ commit_plan actor token names = record {
   value = record_for Go token names;
   staged = map (λ e. staged_name token e.name) (replaced names);
   prepare = written (record_for Prepare token names);
-  go = written (record_for Go token names);
 }
 
 -- the plan of a commit of changes, of 16 files at most

@@ -7,11 +7,11 @@ use Rattle.host_port.specs.declared.event.Event.{Event}
 use Rattle.host_port.specs.Disk.{Disk, disk}
 use Rattle.host_port.specs.Calls.{Counts, Rose}
 use Rattle.folder_change.specs.declared.change.Change.{Change}
-use Rattle.folder_change.specs.Apply.{first_refusal}
+use Rattle.folder_change.specs.Apply.{apply, first_refusal}
 use Rattle.commit_machine.specs.Jobs.{Job}
-use Rattle.commit_machine.specs.Edits.{first_names, edits_for, job_for}
+use Rattle.commit_machine.specs.Edits.{first_names, job_for}
 use Rattle.commit_machine.specs.Lawful.{IsSound, IsFresh, OthersAreLawful}
-use Rattle.commit_machine.specs.Due.{settled_files, applied, is_decision}
+use Rattle.commit_machine.specs.Due.{settled_files, is_decision}
 use Rattle.commit_machine.specs.Laws.{decisions}
 use Rattle.commit_machine.specs.Runs.{made_after, MetAnother, is_hindrance, RunsSafely}
 use Rattle.commit_driver.specs.declared.step.Passed.{Passed}
@@ -43,13 +43,13 @@ abbrev pub MetNoFault : Result Unit CommitError → Type 0
 MetNoFault (Err (error.Disk passed)) = ⊥
 MetNoFault result = Unit {0}
 
--- A commit is a safe run, whose decision makes all its changes. The answer says whether there was a decision, and at a decision all changes can
+-- A commit is a safe run, whose decision makes all its changes, in order, of the files as they are due then. The answer says whether there was a decision, and at a decision all changes can
 -- be made on the files as they are due just before it. Where no call failed, nothing of the token is left in the end. Busy says whose right or lock
 -- another had.
 pub record CommitsSafely (j : Job) (changes : List Change) (base : List (List ℕ)) (d : Disk) (es : List Event) (result : Result Unit CommitError) : Type 0 where
-  pub run : RunsSafely (applied (edits_for changes base)) j d es
+  pub run : RunsSafely (apply changes base) j d es
   pub decided : DecidedSo result (decisions j d 0 es)
-  pub fits : (front rest : List Event) (e : Event) → es ≡ front ++ e ∷ rest → is_decision j e (disk d front) ≡ true → first_refusal changes base (made_after (applied (edits_for changes base)) j d (settled_files j.actor d) front) ≡ None
+  pub fits : (front rest : List Event) (e : Event) → es ≡ front ++ e ∷ rest → is_decision j e (disk d front) ≡ true → first_refusal changes base (made_after (apply changes base) j d (settled_files j.actor d) front) ≡ None
   pub nothing_left : MetNoFault result → IsFresh j.actor j.token (disk d es)
   pub busy : (name : List ℕ) → result ≡ Err (error.Busy name) → MetAnother j.token d es name
 

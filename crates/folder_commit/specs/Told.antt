@@ -48,7 +48,8 @@ by_load actor why (name ∷ left) (Load n (seen.Bytes c held) ∷ es) = by_load 
 by_load actor why (name ∷ left) (Load n (seen.TooLarge length) ∷ es) = Refused (TooLarge n length)
 by_load actor why (name ∷ left) es = NoMemory
 
--- Once no record stands any more: the first record is published, there is a lock for each name that is left, and then all are loaded.
+-- Once the record that stands is read: it is done with, where a staged file may be too long to load or want memory; then the first record is
+-- published, there is a lock for each name that is left, and then all are loaded.
 abbrev pub by_lock : List ℕ → Option Refusal → List (List ℕ) → List (List ℕ) → List Event → Ending
 by_lock actor why names [] es = by_load actor why names es
 by_lock actor why names (name ∷ left) [] = NoMemory
@@ -56,6 +57,7 @@ by_lock actor why names (name ∷ left) (Lock n t true failed ∷ es) = by_lock 
 by_lock actor why names (name ∷ left) (Lock n t false failed ∷ es) = Refused (Busy n)
 by_lock actor why names (name ∷ left) (Publish from to false failed ∷ es) = if bytes_eq from (new_name actor) then Refused NotARecord else by_lock actor why names (name ∷ left) es
 by_lock actor why names (name ∷ left) (Load n (seen.TooLarge length) ∷ es) = Refused (TooLarge n length)
+by_lock actor why names (name ∷ left) (Load n seen.Memory ∷ es) = NoMemory
 by_lock actor why names (name ∷ left) (e ∷ es) = by_lock actor why names (name ∷ left) es
 
 -- what stands as the record is none, or is done with

@@ -90,7 +90,6 @@ pub fn plan_for(
     };
     let prepare = write(alloc, &value)?;
     value.phase = Phase::Go;
-    let go = write(alloc, &value)?;
     Ok(Plan {
         record,
         new,
@@ -99,6 +98,5 @@ pub fn plan_for(
         value,
         staged,
         prepare,
-        go,
     })
 }

@@ -46,10 +46,19 @@ fn file_name(plan: Plan, at: usize) -> Text
     entries.remove(at).name
 }
 
+// Where the file of this entry of the record that was found is made.
+fn staged_file(place: Place, at: usize) -> Text
+    requires { at < length place.found_staged }
+    ensures { result ≡ nth place.found_staged at }
+{
+    let mut staged = place.found_staged.into_vec();
+    staged.remove(at)
+}
+
 // The answer of a commit that ended so.
-fn answer(end: End, plan: Plan) -> Result<(), CommitError>
-    requires { EndFits (files_of plan) end }
-    ensures { result ≡ answer_of end plan }
+fn answer(end: End, plan: Plan, place: Place) -> Result<(), CommitError>
+    requires { EndFits (files_of plan) (length place.found_staged) end }
+    ensures { result ≡ answer_of end plan place }
 {
     match end {
         End::Done => Ok(()),
@@ -59,6 +68,10 @@ fn answer(end: End, plan: Plan) -> Result<(), CommitError>
         }),
         End::RecordTooLarge(length) => Err(CommitError::TooLarge {
             name: plan.record,
+            length,
+        }),
+        End::StagedTooLarge(at, length) => Err(CommitError::TooLarge {
+            name: staged_file(place, at),
             length,
         }),
         End::TooLarge(at, length) => Err(CommitError::TooLarge {
@@ -96,8 +109,8 @@ fn some_changes<H: Host>(
     let plan = plan_for(alloc, actor, token, changes)?;
     let files = room(alloc, plan.value.entries.items().len())?;
     let place = Place::new(alloc, files);
-    let end = drive(alloc, &plan, place, changes, base, host);
-    answer(end, plan)
+    let (end, place) = drive(alloc, &plan, place, changes, base, host);
+    answer(end, plan, place)
 }
 
 // The whole of it.
@@ -129,7 +142,7 @@ fn whole<H: Host>(
 ///
 /// `TooManyNames` comes where the changes name more than 16 files; then nothing is done. `Busy` comes where another has the right or a file's lock, `Record` where what stands as the record is none, `Changed`
 /// where the file's messages don't begin with those of `base`, and `TooLarge` where a file that is loaded or would be staged
-/// is too large. Then, as where memory is wanting, nothing is changed and nothing of this commit is left. `Disk` comes where a
+/// is too large. A file that the changes leave absent is removed. Then, as where memory is wanting, nothing is changed and nothing of this commit is left. `Disk` comes where a
 /// call failed; then nothing more is done but that the right is given up, and `passed` says whether the commit was decided.
 pub fn commit<H: Host>(
     alloc: Global,

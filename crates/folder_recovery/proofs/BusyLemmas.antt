@@ -31,12 +31,18 @@ use Rattle.commit_driver.specs.declared.step.Recovered.{Recovered as Answer}
 use Rattle.folder_recovery.specs.declared.error.RecoverError.{RecoverError}
 use Rattle.folder_recovery.specs.declared.error.RecoverError.TheVariants as error
 use Rattle.folder_recovery.specs.Recovering.{Recovers, RecoverCause}
-use Rattle.folder_recovery.specs.Told.{unless_failed, end_read, end_seen, end_by, told_end, IsTold}
+use Rattle.folder_recovery.specs.Told.{unless_failed, unless_long, end_read, end_seen, end_by, told_end, IsTold}
 use Rattle.folder_recovery.specs.Safe.{IsOkOrMemory, IsComplete}
 use Rattle.folder_recovery.proofs.ToldLemmas.{seize-is, load-is, release-is, is-told}
 
 same-busy : (m name : List ℕ) → Refused (Busy m) ≡ Refused (Busy name) → name ≡ m
 same-busy m name h = cc
+
+-- a file that is too long hides no other's right
+long-busy : (name : List ℕ) (es : List Event) (end : Ending) → unless_long es end ≡ Refused (Busy name) → end ≡ Refused (Busy name)
+long-busy name [] end h = h
+long-busy name (event.Load n (seen.TooLarge k) ∷ es) end h = absurd (cc)
+long-busy name (e ∷ es) end h = long-busy name es end h
 
 module _ (actor name : List ℕ) where
   read-not : (o : Option Record) → end_read o ≡ Refused (Busy name) → ⊥
@@ -51,7 +57,7 @@ module _ (actor name : List ℕ) where
 
   by-met : (es : List Event) → end_by actor es ≡ Refused (Busy name) → (failed : Bool) × Mem (event.Seize name false failed) es
   by-met (event.Seize m false failed ∷ es) h = (failed, inl (ap (λ (x : List ℕ). event.Seize x false failed) (same-busy m name h)))
-  by-met (event.Seize m true failed ∷ event.Load n s ∷ es) h = absurd (seen-not s h)
+  by-met (event.Seize m true failed ∷ event.Load n s ∷ es) h = absurd (seen-not s (long-busy name es (end_seen actor s) h))
   by-met (event.Seize m true failed ∷ e ∷ es) h = absurd (cc)
   by-met (event.Seize m true failed ∷ []) h = absurd (cc)
   by-met [] h = absurd (cc)
@@ -87,6 +93,11 @@ module _ (actor : List ℕ) where
   free-more : (e : Event) (es : List Event) → Free (e ∷ es) → Free es
   free-more e es h = (or-parts (is_hindrance actor e) (list_any (is_hindrance actor) es) h).1
 
+  long-fine : (es : List Event) (end : Ending) → Free es → IsFine end → IsFine (unless_long es end)
+  long-fine [] end h fine = fine
+  long-fine (event.Load n (seen.TooLarge k) ∷ es) end h fine = absurd (cc)
+  long-fine (e ∷ es) end h fine = long-fine es end (free-more e es h) fine
+
   -- the load of the record
   seen-fine : (s : Seen) → is_hindrance actor (event.Load (record_name actor) s) ≡ false → IsFine (end_seen actor s)
   seen-fine (seen.Bytes None held) h = tt
@@ -110,7 +121,7 @@ module _ (j : Job) where
   looks-fine n failed (e ∷ es) last (now, inl at, is, more) h =
       let w = load-is (record_name j.actor) e (subst (λ (s : State). IsNext (next j s) e) at is) in
       let F : Event → Type 0 = λ x. Free j.actor (x ∷ es) → IsFine (end_by j.actor (event.Seize n true failed ∷ x ∷ es)) in
-      subst F (sym w.1) (λ f. seen-fine j.actor w.0 (or-parts (is_hindrance j.actor (event.Load (record_name j.actor) w.0)) (list_any (is_hindrance j.actor) es) f).0) h
+      subst F (sym w.1) (λ f. long-fine j.actor es (end_seen j.actor w.0) (free-more j.actor (event.Load (record_name j.actor) w.0) es f) (seen-fine j.actor w.0 (or-parts (is_hindrance j.actor (event.Load (record_name j.actor) w.0)) (list_any (is_hindrance j.actor) es) f).0)) h
   looks-fine n failed (e ∷ es) last (now, inr at, is, more) h =
       let w = release-is (right_name j.actor) e (subst (λ (s : State). IsNext (next j s) e) at is) in
       subst (λ (x : Event). IsFine (end_by j.actor (event.Seize n true failed ∷ x ∷ es))) (sym w) tt

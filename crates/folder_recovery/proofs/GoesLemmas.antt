@@ -4,16 +4,14 @@ use Rattle.std.specs.declared.option.Option.{Option}
 use Rattle.std.specs.declared.option.Option.TheVariants.{Some, None}
 use Rattle.std.proofs.lemmas.Bool.{cases_Bool}
 use Rattle.host_port.specs.declared.event.Event.{Event}
+use Rattle.commit_record.specs.declared.record.EntryKind.{EntryKind}
+use Rattle.commit_record.specs.declared.record.EntryKind.TheVariants.{Replace, Remove}
 use Rattle.commit_record.specs.declared.record.Record.{Record}
-use Rattle.commit_machine.specs.Records.{record_of, is_go, names_of}
+use Rattle.commit_machine.specs.Records.{record_of, is_go, names_of, kind_of}
 use Rattle.commit_machine.specs.Jobs.{Passed, Before, Ending, Recovered, Refused, Failed, NoMemory, Job}
 use Rattle.commit_machine.specs.Edits.{recovery_for}
-use Rattle.commit_machine.specs.Machine.{State, Seizing, Looking, Undoing, Placing, Unlocking, Erasing, Clearing, Releasing, Ended, Then, GoOn, Reply, Went, Saw, Long, Short, unlocking, undoing, placing, record_seen, refused, after_reply, passed_at, passed_ending}
+use Rattle.commit_machine.specs.Machine.{State, Seizing, Looking, Undoing, Placing, Testing, Removing, Discarding, Unlocking, Erasing, Clearing, Releasing, Ended, Then, GoOn, Reply, Went, Saw, Long, Short, Fault, unlocking, undoing, place_one, placing, tested, mending, record_seen, refused, after_reply, passed_at, passed_ending}
 use Rattle.commit_machine.specs.Goes.{reply, Goes}
-use Rattle.commit_driver.proofs.StateLemmas.{placing-cons}
-
-pub placing_cons : (r : Record) (n : List ℕ) (ns ls : List (List ℕ)) (th : Then) → placing r (n ∷ ns) ls th ≡ Placing r n ns ls th
-placing_cons r n ns ls th = placing-cons r n ns ls th
 
 -- nothing is decided in a recovery
 abbrev pub MayEnd : Ending → Type 0
@@ -29,6 +27,9 @@ Mends Seizing = Unit {0}
 Mends Looking = Unit {0}
 Mends (Undoing r n ns ls GoOn) = Unit {0}
 Mends (Placing r n ns ls GoOn) = Unit {0}
+Mends (Testing r n ns ls) = Unit {0}
+Mends (Removing r n ns ls GoOn) = Unit {0}
+Mends (Discarding r n ns ls GoOn) = Unit {0}
 Mends (Unlocking r n ns GoOn) = Unit {0}
 Mends (Erasing r GoOn) = Unit {0}
 Mends (Clearing f) = Unit {0}
@@ -44,9 +45,17 @@ mends-undoing : (r : Record) (ns ls : List (List ℕ)) → Mends (undoing r ns l
 mends-undoing r [] ls = mends-unlocking r ls
 mends-undoing r (n ∷ ns) ls = tt
 
+mends-one : (kind : EntryKind) (r : Record) (n : List ℕ) (ns ls : List (List ℕ)) → Mends (place_one kind r n ns ls GoOn)
+mends-one Replace r n ns ls = tt
+mends-one Remove r n ns ls = tt
+
 mends-placing : (r : Record) (ns ls : List (List ℕ)) → Mends (placing r ns ls GoOn)
 mends-placing r [] ls = mends-unlocking r ls
-mends-placing r (n ∷ ns) ls = subst Mends (sym (placing_cons r n ns ls GoOn)) tt
+mends-placing r (n ∷ ns) ls = mends-one (kind_of r n) r n ns ls
+
+mends-tested : (r : Record) (n : List ℕ) (ns ls : List (List ℕ)) (c : Option (List ℕ)) → Mends (tested r n ns ls c)
+mends-tested r n ns ls None = mends-placing r ns ls
+mends-tested r n ns ls (Some bytes) = tt
 
 mends-seen : (o : Option Record) → Mends (record_seen o)
 mends-seen None = tt
@@ -64,6 +73,9 @@ before Seizing h = refl
 before Looking h = refl
 before (Undoing r n ns ls GoOn) h = refl
 before (Placing r n ns ls GoOn) h = refl
+before (Testing r n ns ls) h = refl
+before (Removing r n ns ls GoOn) h = refl
+before (Discarding r n ns ls GoOn) h = refl
 before (Unlocking r n ns GoOn) h = refl
 before (Erasing r GoOn) h = refl
 before (Clearing f) h = refl
@@ -84,6 +96,9 @@ module _ (actor : List ℕ) (token : ℕ) where
   mends-refused Looking h = tt
   mends-refused (Undoing r n ns ls GoOn) h = tt
   mends-refused (Placing r n ns ls GoOn) h = tt
+  mends-refused (Testing r n ns ls) h = tt
+  mends-refused (Removing r n ns ls GoOn) h = tt
+  mends-refused (Discarding r n ns ls GoOn) h = tt
   mends-refused (Unlocking r n ns GoOn) h = tt
   mends-refused (Erasing r GoOn) h = tt
   mends-refused (Clearing f) h = tt
@@ -99,6 +114,10 @@ module _ (actor : List ℕ) (token : ℕ) where
   mends-reply Looking (Long n) h = tt
   mends-reply (Undoing r n ns ls GoOn) (Went b) h = mends-undoing r ns ls
   mends-reply (Placing r n ns ls GoOn) (Went b) h = mends-placing r ns ls
+  mends-reply (Testing r n ns ls) (Saw c) h = mends-tested r n ns ls c
+  mends-reply (Testing r n ns ls) (Long m) h = tt
+  mends-reply (Removing r n ns ls GoOn) (Went b) h = tt
+  mends-reply (Discarding r n ns ls GoOn) (Went b) h = mends-placing r ns ls
   mends-reply (Unlocking r n ns GoOn) (Went b) h = mends-unlocking r ns
   mends-reply (Erasing r GoOn) (Went b) h = tt
   mends-reply (Clearing f) (Went b) h = tt
@@ -109,6 +128,9 @@ module _ (actor : List ℕ) (token : ℕ) where
   mends-reply Looking Short h = tt
   mends-reply (Undoing r n ns ls GoOn) Short h = tt
   mends-reply (Placing r n ns ls GoOn) Short h = tt
+  mends-reply (Testing r n ns ls) Short h = tt
+  mends-reply (Removing r n ns ls GoOn) Short h = tt
+  mends-reply (Discarding r n ns ls GoOn) Short h = tt
   mends-reply (Unlocking r n ns GoOn) Short h = tt
   mends-reply (Erasing r GoOn) Short h = tt
   mends-reply (Clearing f) Short h = tt
@@ -116,6 +138,9 @@ module _ (actor : List ℕ) (token : ℕ) where
   mends-reply Looking r h = tt
   mends-reply (Undoing q n ns ls GoOn) r h = fails (Undoing q n ns ls GoOn) h
   mends-reply (Placing q n ns ls GoOn) r h = fails (Placing q n ns ls GoOn) h
+  mends-reply (Testing q n ns ls) r h = fails (Testing q n ns ls) h
+  mends-reply (Removing q n ns ls GoOn) r h = fails (Removing q n ns ls GoOn) h
+  mends-reply (Discarding q n ns ls GoOn) r h = fails (Discarding q n ns ls GoOn) h
   mends-reply (Unlocking q n ns GoOn) r h = fails (Unlocking q n ns GoOn) h
   mends-reply (Erasing q GoOn) r h = fails (Erasing q GoOn) h
   mends-reply (Clearing f) r h = fails (Clearing f) h

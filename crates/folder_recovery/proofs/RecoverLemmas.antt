@@ -1,11 +1,13 @@
 -- A recovery that was driven to its end.
-use Rattle.std.proofs.Common.{◌≡◌, ◌≤◌, ℕ, true, List, [], length, refl, ap, sym, subst, inl, inr, ◌∙◌, arith}
+use Rattle.std.proofs.Common.{◌≡◌, ◌≤◌, ℕ, true, List, [], length, map, refl, ap, sym, subst, inl, inr, ◌∙◌, arith}
 use Rattle.std.proofs.lemmas.List.Elements.{All-nil}
 use Rattle.std.specs.declared.result.Result.{Result}
 use Rattle.std.specs.declared.result.Result.TheVariants.{Err}
 use Rattle.host_port.specs.declared.event.Event.{Event}
 use Rattle.host_port.specs.Calls.{Counts}
 use Rattle.host_port.specs.Names.{IsFileName, has_no_zero}
+use Rattle.commit_machine.specs.Names.{record_name, new_name, right_name, staged_name}
+use Rattle.commit_machine.specs.Records.{names_of}
 use Rattle.commit_machine.specs.Jobs.{Ending, Before, Refused, Failed, NoMemory, Job}
 use Rattle.commit_machine.specs.Jobs as jobs
 use Rattle.commit_machine.specs.Edits.{recovery_for}
@@ -13,10 +15,14 @@ use Rattle.commit_driver.specs.declared.step.Passed.TheVariants as passed
 use Rattle.commit_driver.specs.declared.step.Recovered.{Recovered}
 use Rattle.commit_driver.specs.declared.step.End.{End}
 use Rattle.commit_driver.specs.declared.step.End.TheVariants as end
+use Rattle.commit_driver.specs.declared.place.Plan.{Plan}
+use Rattle.commit_driver.specs.declared.place.Place.{Place}
 use Rattle.commit_driver.specs.Steps.{EndFits}
-use Rattle.commit_driver.specs.Places.{WantedAs, IsPlan, IsSafe}
+use Rattle.commit_driver.specs.Places.{nth, WantedAs, IsPlan, IsSafe}
 use Rattle.commit_driver.specs.Answers.{EndCaused}
 use Rattle.commit_driver.specs.Drives.{Drives}
+use Rattle.commit_driver.proofs.StateLemmas.{length-map}
+use Rattle.commit_driver.proofs.NextLemmas.{nth-of, names-long}
 use Rattle.commit_driver.proofs.FileLemmas.{record-file, new-file, right-file}
 use Rattle.folder_recovery.specs.declared.error.RecoverError.{RecoverError}
 use Rattle.folder_recovery.specs.declared.error.RecoverError.TheVariants as error
@@ -33,6 +39,7 @@ is-safe actor short none = record {
   staged_long = refl;
   few = omega arith;
   some = λ e. absurd (cc);
+  valid = λ l. absurd (omega (arith, l));
 }
 
 pub is-plan : (actor : List ℕ) (token : ℕ) → IsPlan (recovery_for actor token) (recovery_plan actor)
@@ -52,13 +59,23 @@ not-begun j r h =
     let C : Result Recovered RecoverError → Type 0 = λ z. Recovers j [] z in
     subst C (sym (h.1 ∙ ap Err h.2)) (inl (inr refl))
 
+-- there are as many staged names as entries that were found
+pub staged-long : (place : Place) → place.found_staged ≡ map (staged_name place.found.token) (names_of place.found) → length place.found_staged ≡ length place.found.entries
+staged-long place staged = ap length staged ∙ length-map (staged_name place.found.token) (names_of place.found) ∙ names-long place.found
+
 -- the answer is as the machine ended
-pub recovers : (actor : List ℕ) (token : ℕ) (e : End) (es : List Event) → EndFits 0 e → Drives (recovery_for actor token) es e → Recovers (recovery_for actor token) es (answer_of e (recovery_plan actor))
-recovers actor token (end.Recovered f) es fits d = d.goes
-recovers actor token end.RightBusy es fits d = (refl, d.goes)
-recovers actor token end.NotARecord es fits d = d.goes
-recovers actor token (end.RecordTooLarge n) es fits d = (refl, d.goes)
-recovers actor token end.NoMemory es fits d = wants d.hidden d.wanted d.goes
+pub recovers : (actor : List ℕ) (token : ℕ) (place : Place) (e : End) (es : List Event) → place.found_staged ≡ map (staged_name place.found.token) (names_of place.found) → EndFits 0 (length place.found.entries) e → Drives (recovery_for actor token) place.found es e
+    → Recovers (recovery_for actor token) es (answer_of e (recovery_plan actor) place)
+recovers actor token place (end.Recovered f) es staged fits d = d.goes
+recovers actor token place end.RightBusy es staged fits d = (refl, d.goes)
+recovers actor token place end.NotARecord es staged fits d = d.goes
+recovers actor token place (end.RecordTooLarge n) es staged fits d = (inl refl, d.goes)
+recovers actor token place (end.StagedTooLarge k n) es staged fits d =
+    let t = place.found.token in
+    let file = nth (names_of place.found) k in
+    let same : nth place.found_staged k ≡ staged_name t file = ap (λ (ns : List (List ℕ)). nth ns k) staged ∙ nth-of (staged_name t) (names_of place.found) k (omega (arith, fits, names-long place.found)) in
+    (inr (t, file, same), subst (λ (m : List ℕ). GoesTo (recovery_for actor token) es (Refused (jobs.TooLarge m n))) (sym same) d.goes)
+recovers actor token place end.NoMemory es staged fits d = wants d.hidden d.wanted d.goes
   where
     wants : (hidden : Ending) → WantedAs [] hidden → GoesTo (recovery_for actor token) es hidden → Recovers (recovery_for actor token) es (Err error.Memory)
     wants hidden (inl is) goes = inl (subst (GoesTo (recovery_for actor token) es) is goes)
@@ -66,26 +83,30 @@ recovers actor token end.NoMemory es fits d = wants d.hidden d.wanted d.goes
     wants hidden (inr (jobs.Busy n, may, is)) goes = absurd may
     wants hidden (inr (jobs.TooLarge n k, may, is)) goes = absurd may
     wants hidden (inr (jobs.Changed n k, may, is)) goes = absurd may
-recovers actor token (end.Failed passed.Before) es fits d = d.goes
-recovers actor token (end.Failed passed.After) es fits d = absurd (may-end actor token es (Failed jobs.After) d.goes)
-recovers actor token (end.Failed passed.Unknown) es fits d = absurd (may-end actor token es (Failed jobs.Unknown) d.goes)
-recovers actor token end.Done es fits d = absurd (may-end actor token es jobs.Done d.goes)
-recovers actor token (end.Busy k) es fits d = absurd (omega (arith, fits))
-recovers actor token (end.TooLarge k n) es fits d = absurd (omega (arith, fits))
-recovers actor token (end.Changed k n) es fits d = absurd (omega (arith, fits))
+recovers actor token place (end.Failed passed.Before) es staged fits d = d.goes
+recovers actor token place (end.Failed passed.After) es staged fits d = absurd (may-end actor token es (Failed jobs.After) d.goes)
+recovers actor token place (end.Failed passed.Unknown) es staged fits d = absurd (may-end actor token es (Failed jobs.Unknown) d.goes)
+recovers actor token place end.Done es staged fits d = absurd (may-end actor token es jobs.Done d.goes)
+recovers actor token place (end.Busy k) es staged fits d = absurd (omega (arith, fits))
+recovers actor token place (end.TooLarge k n) es staged fits d = absurd (omega (arith, fits))
+recovers actor token place (end.Changed k n) es staged fits d = absurd (omega (arith, fits))
 
-pub is-named : (actor : List ℕ) (e : End) → IsNamed actor (answer_of e (recovery_plan actor))
-is-named actor end.RightBusy = refl
-is-named actor (end.RecordTooLarge n) = refl
-is-named actor (end.Recovered f) = tt
-is-named actor end.NotARecord = tt
-is-named actor end.NoMemory = tt
-is-named actor e = tt
+pub is-named : (actor : List ℕ) (place : Place) (e : End) → place.found_staged ≡ map (staged_name place.found.token) (names_of place.found) → EndFits 0 (length place.found.entries) e → IsNamed actor (answer_of e (recovery_plan actor) place)
+is-named actor place end.RightBusy staged fits = refl
+is-named actor place (end.RecordTooLarge n) staged fits = inl refl
+is-named actor place (end.StagedTooLarge k n) staged fits =
+    let t = place.found.token in
+    inr (t, nth (names_of place.found) k, ap (λ (ns : List (List ℕ)). nth ns k) staged ∙ nth-of (staged_name t) (names_of place.found) k (omega (arith, fits, names-long place.found)))
+is-named actor place (end.Recovered f) staged fits = tt
+is-named actor place end.NotARecord staged fits = tt
+is-named actor place end.NoMemory staged fits = tt
+is-named actor place e staged fits = tt
 
-pub is-caused : (actor : List ℕ) (e : End) (old now : Counts) → EndCaused old.disks now.disks e → RecoverCause old now (answer_of e (recovery_plan actor))
-is-caused actor (end.Failed p) old now c = c
-is-caused actor (end.RecordTooLarge n) old now c = c
-is-caused actor (end.Recovered f) old now c = tt
-is-caused actor end.RightBusy old now c = tt
-is-caused actor end.NoMemory old now c = tt
-is-caused actor e old now c = tt
+pub is-caused : (actor : List ℕ) (place : Place) (e : End) (old now : Counts) → EndCaused old.disks now.disks e → RecoverCause old now (answer_of e (recovery_plan actor) place)
+is-caused actor place (end.Failed p) old now c = c
+is-caused actor place (end.RecordTooLarge n) old now c = c
+is-caused actor place (end.StagedTooLarge k n) old now c = c
+is-caused actor place (end.Recovered f) old now c = tt
+is-caused actor place end.RightBusy old now c = tt
+is-caused actor place end.NoMemory old now c = tt
+is-caused actor place e old now c = tt

@@ -1,5 +1,5 @@
 -- A recovery answers as its own events give it.
-use Rattle.std.proofs.Common.{◌≡◌, ◌⊎◌, ℕ, Bool, true, false, List, [], ◌∷◌, if◌then◌else◌, ◌||◌, refl, sym, subst, inl, inr, ◌∙◌}
+use Rattle.std.proofs.Common.{◌≡◌, ◌⊎◌, ℕ, Bool, true, false, List, [], ◌∷◌, if◌then◌else◌, ◌||◌, refl, ap, sym, subst, inl, inr, ◌∙◌}
 use Rattle.std.specs.declared.option.Option.{Option}
 use Rattle.std.specs.declared.option.Option.TheVariants.{Some, None}
 use Rattle.std.specs.declared.result.Result.{Result}
@@ -10,34 +10,40 @@ use Rattle.host_port.specs.declared.event.Event.{Event}
 use Rattle.host_port.specs.declared.event.Event.TheVariants as event
 use Rattle.host_port.specs.declared.event.Seen.{Seen}
 use Rattle.host_port.specs.declared.event.Seen.TheVariants as seen
+use Rattle.commit_record.specs.declared.record.EntryKind.{EntryKind}
+use Rattle.commit_record.specs.declared.record.EntryKind.TheVariants.{Replace, Remove}
 use Rattle.commit_record.specs.declared.record.Record.{Record}
 use Rattle.commit_machine.specs.Names.{record_name, new_name, right_name, staged_name}
-use Rattle.commit_machine.specs.Records.{record_of, is_go, names_of}
+use Rattle.commit_machine.specs.Records.{record_of, is_go, names_of, kind_of}
 use Rattle.commit_machine.specs.Jobs.{Before, Found, Nothing, Busy, NotARecord, TooLarge, Ending, Recovered, Refused, Failed, NoMemory, Job}
 use Rattle.commit_machine.specs.Edits.{recovery_for}
-use Rattle.commit_machine.specs.Machine.{State, Seizing, Looking, Undoing, Placing, Unlocking, Erasing, Clearing, Releasing, Ended, GoOn, Answer, ToLoad, ToErase, ToPublish, ToUnlock, ToSeize, ToRelease, unlocking, undoing, placing, mending, record_seen, found_of, next, refused, after_reply}
+use Rattle.commit_machine.specs.Machine.{State, Seizing, Looking, Undoing, Placing, Testing, Removing, Discarding, Unlocking, Erasing, Clearing, Releasing, Ended, GoOn, Answer, ToLoad, ToErase, ToPublish, ToUnlock, ToSeize, ToRelease, unlocking, undoing, place_one, placing, mending, record_seen, found_of, next, refused, after_reply}
 use Rattle.commit_machine.specs.Goes.{IsOf, loads, publishes, erases, unlocks, seizes, releases, IsNext, reply, Goes}
 use Rattle.commit_driver.specs.declared.step.Recovered.{Recovered as Found_answer}
 use Rattle.folder_recovery.specs.declared.error.RecoverError.{RecoverError}
 use Rattle.folder_recovery.specs.declared.error.RecoverError.TheVariants as error
 use Rattle.folder_recovery.specs.Recovering.{found, GoesTo, Recovers}
 use Rattle.commit_machine.specs.Restraints.{is_failed}
-use Rattle.folder_recovery.specs.Told.{unless_failed, end_read, told_end, IsTold}
-use Rattle.folder_recovery.proofs.GoesLemmas.{placing_cons}
+use Rattle.folder_recovery.specs.Told.{unless_failed, unless_long, end_read, told_end, IsTold}
 
 -- an end that is this one, or want of memory
 abbrev Is : Ending → Ending → Type 0
 Is x end = (end ≡ x) ⊎ (end ≡ NoMemory)
 
+-- the end that events leave, where it was this one before them
+abbrev ended : List Event → Ending → Ending
+ended es x = unless_failed es (unless_long es x)
+
 -- the states of a recovery on the way to an end
 abbrev Heads : Ending → State → Type 0
 Heads x (Undoing r n ns ls GoOn) = x ≡ Recovered (found_of r)
 Heads x (Placing r n ns ls GoOn) = x ≡ Recovered (found_of r)
+Heads x (Testing r n ns ls) = x ≡ Recovered (found_of r)
+Heads x (Removing r n ns ls GoOn) = x ≡ Recovered (found_of r)
+Heads x (Discarding r n ns ls GoOn) = x ≡ Recovered (found_of r)
 Heads x (Unlocking r n ns GoOn) = x ≡ Recovered (found_of r)
 Heads x (Erasing r GoOn) = x ≡ Recovered (found_of r)
 Heads x (Clearing f) = x ≡ Recovered f
-Heads x (Releasing a) = x ≡ a
-Heads x (Ended a) = x ≡ a
 Heads x s = ⊥
 
 heads_unlocking : (x : Ending) (r : Record) (ls : List (List ℕ)) → x ≡ Recovered (found_of r) → Heads x (unlocking r ls GoOn)
@@ -48,16 +54,16 @@ heads_undoing : (x : Ending) (r : Record) (ns ls : List (List ℕ)) → x ≡ Re
 heads_undoing x r [] ls h = heads_unlocking x r ls h
 heads_undoing x r (n ∷ ns) ls h = h
 
+heads_one : (x : Ending) (kind : EntryKind) (r : Record) (n : List ℕ) (ns ls : List (List ℕ)) → x ≡ Recovered (found_of r) → Heads x (place_one kind r n ns ls GoOn)
+heads_one x Replace r n ns ls h = h
+heads_one x Remove r n ns ls h = h
+
 heads_placing : (x : Ending) (r : Record) (ns ls : List (List ℕ)) → x ≡ Recovered (found_of r) → Heads x (placing r ns ls GoOn)
 heads_placing x r [] ls h = heads_unlocking x r ls h
-heads_placing x r (n ∷ ns) ls h = subst (Heads x) (sym (placing_cons r n ns ls GoOn)) h
+heads_placing x r (n ∷ ns) ls h = heads_one x (kind_of r n) r n ns ls h
 
 heads_mending : (x : Ending) (r : Record) → x ≡ Recovered (found_of r) → Heads x (mending r)
 heads_mending x r h = elim (cases_Bool (is_go r)) [ inl y ↦ rw y (heads_placing x r (names_of r) (names_of r) h) | inr nay ↦ rw nay (heads_undoing x r (names_of r) (names_of r) h) ]
-
--- the end where an event may have failed, and then the end after it
-abbrev or_failed : Bool → Ending → Ending
-or_failed failed x = if failed then Failed Before else x
 
 erase-is : (n : List ℕ) (e : Event) → IsOf (ToErase n) e → (done : Bool) × (failed : Bool) × (e ≡ event.Erase n done failed)
 erase-is n e (erases {done = done} {failed = failed}) = (done, failed, refl)
@@ -77,130 +83,148 @@ load-is n e (loads {s = s}) = (s, refl)
 pub release-is : (n : List ℕ) (e : Event) → IsOf (ToRelease n) e → e ≡ event.Release n
 release-is n e releases = refl
 
--- a failure now or later
-failed_more : (e : Event) (es : List Event) (x : Ending) → unless_failed es (or_failed (is_failed e) x) ≡ unless_failed (e ∷ es) x
-failed_more e es x = go (is_failed e) (list_any is_failed es)
-  where
-    go : (a b : Bool) → (if b then Failed Before else (if a then Failed Before else x)) ≡ (if a || b then Failed Before else x)
-    go true true = refl
-    go true false = refl
-    go false true = refl
-    go false false = refl
-
 module _ (actor : List ℕ) (token : ℕ) where
   abbrev job : Job
   job = recovery_for actor token
 
-  -- after an event the way is the same, or it failed
+  -- after an event the way is the same, and the event changes nothing of the end
+  abbrev GoesWith : Ending → State → Event → Type 0
+  GoesWith x s e = Heads x (after_reply job s (reply e)) × ((es : List Event) → ended (e ∷ es) x ≡ ended es x)
+
+  -- or it leads to the release with an end, and is the cause of that
+  abbrev Cuts : Ending → State → Event → Type 0
+  Cuts x s e = (a : Ending) × (after_reply job s (reply e) ≡ Releasing a) × ((n : List ℕ) → ended (e ∷ event.Release n ∷ []) x ≡ a)
+
   abbrev Stays : Ending → State → Event → Type 0
-  Stays x s e = Heads (or_failed (is_failed e) x) (after_reply job s (reply e))
+  Stays x s e = GoesWith x s e ⊎ Cuts x s e
 
-  undoing-stays : (x : Ending) (r : Record) (n : List ℕ) (ns ls : List (List ℕ)) (e : Event) → x ≡ Recovered (found_of r) → (done failed : Bool) → e ≡ event.Erase (staged_name r.token n) done failed → Stays x (Undoing r n ns ls GoOn) e
-  undoing-stays x r n ns ls e h done true p = subst (Stays x (Undoing r n ns ls GoOn)) (sym p) refl
-  undoing-stays x r n ns ls e h done false p = subst (Stays x (Undoing r n ns ls GoOn)) (sym p) (heads_undoing x r ns ls h)
+  undoing-stays : (x : Ending) (r : Record) (n : List ℕ) (ns ls : List (List ℕ)) → x ≡ Recovered (found_of r) → (done failed : Bool) → Stays x (Undoing r n ns ls GoOn) (event.Erase (staged_name r.token n) done failed)
+  undoing-stays x r n ns ls h done true = inr (Failed Before, refl, λ m. refl)
+  undoing-stays x r n ns ls h done false = inl (heads_undoing x r ns ls h, λ es. refl)
 
-  placing-stays : (x : Ending) (r : Record) (n : List ℕ) (ns ls : List (List ℕ)) (e : Event) → x ≡ Recovered (found_of r) → (done failed : Bool) → e ≡ event.Publish (staged_name r.token n) n done failed → Stays x (Placing r n ns ls GoOn) e
-  placing-stays x r n ns ls e h done true p = subst (Stays x (Placing r n ns ls GoOn)) (sym p) refl
-  placing-stays x r n ns ls e h done false p = subst (Stays x (Placing r n ns ls GoOn)) (sym p) (heads_placing x r ns ls h)
+  placing-stays : (x : Ending) (r : Record) (n : List ℕ) (ns ls : List (List ℕ)) → x ≡ Recovered (found_of r) → (done failed : Bool) → Stays x (Placing r n ns ls GoOn) (event.Publish (staged_name r.token n) n done failed)
+  placing-stays x r n ns ls h done true = inr (Failed Before, refl, λ m. refl)
+  placing-stays x r n ns ls h done false = inl (heads_placing x r ns ls h, λ es. refl)
 
-  unlocking-stays : (x : Ending) (r : Record) (n : List ℕ) (ns : List (List ℕ)) (e : Event) → x ≡ Recovered (found_of r) → (done failed : Bool) → e ≡ event.Unlock n r.token done failed → Stays x (Unlocking r n ns GoOn) e
-  unlocking-stays x r n ns e h done true p = subst (Stays x (Unlocking r n ns GoOn)) (sym p) refl
-  unlocking-stays x r n ns e h done false p = subst (Stays x (Unlocking r n ns GoOn)) (sym p) (heads_unlocking x r ns h)
+  testing-stays : (x : Ending) (r : Record) (n : List ℕ) (ns ls : List (List ℕ)) → x ≡ Recovered (found_of r) → (s : Seen) → (Stays x (Testing r n ns ls) (event.Load (staged_name r.token n) s)) ⊎ (s ≡ seen.Memory)
+  testing-stays x r n ns ls h (seen.Bytes None held) = inl (inl (heads_placing x r ns ls h, λ es. refl))
+  testing-stays x r n ns ls h (seen.Bytes (Some bytes) held) = inl (inl (h, λ es. refl))
+  testing-stays x r n ns ls h (seen.TooLarge k) = inl (inr (Refused (TooLarge (staged_name r.token n) k), refl, λ m. refl))
+  testing-stays x r n ns ls h seen.Failed = inl (inr (Failed Before, refl, λ m. refl))
+  testing-stays x r n ns ls h seen.Memory = inr refl
 
-  erasing-stays : (x : Ending) (r : Record) (e : Event) → x ≡ Recovered (found_of r) → (done failed : Bool) → e ≡ event.Erase (record_name actor) done failed → Stays x (Erasing r GoOn) e
-  erasing-stays x r e h done true p = subst (Stays x (Erasing r GoOn)) (sym p) refl
-  erasing-stays x r e h done false p = subst (Stays x (Erasing r GoOn)) (sym p) h
+  removing-stays : (x : Ending) (r : Record) (n : List ℕ) (ns ls : List (List ℕ)) → x ≡ Recovered (found_of r) → (done failed : Bool) → Stays x (Removing r n ns ls GoOn) (event.Erase n done failed)
+  removing-stays x r n ns ls h done true = inr (Failed Before, refl, λ m. refl)
+  removing-stays x r n ns ls h done false = inl (h, λ es. refl)
 
-  clearing-stays : (x : Ending) (f : Found) (e : Event) → x ≡ Recovered f → (done failed : Bool) → e ≡ event.Erase (new_name actor) done failed → Stays x (Clearing f) e
-  clearing-stays x f e h done true p = subst (Stays x (Clearing f)) (sym p) refl
-  clearing-stays x f e h done false p = subst (Stays x (Clearing f)) (sym p) h
+  discarding-stays : (x : Ending) (r : Record) (n : List ℕ) (ns ls : List (List ℕ)) → x ≡ Recovered (found_of r) → (done failed : Bool) → Stays x (Discarding r n ns ls GoOn) (event.Erase (staged_name r.token n) done failed)
+  discarding-stays x r n ns ls h done true = inr (Failed Before, refl, λ m. refl)
+  discarding-stays x r n ns ls h done false = inl (heads_placing x r ns ls h, λ es. refl)
 
-  stays : (x : Ending) (s : State) (e : Event) → Heads x s → IsNext (next job s) e → Stays x s e
-  stays x (Undoing r n ns ls GoOn) e h is = let w = erase-is (staged_name r.token n) e is in undoing-stays x r n ns ls e h w.0 w.1 w.2
-  stays x (Undoing r n ns ls (Answer a)) e h is = absurd h
-  stays x (Placing r n ns ls GoOn) e h is = let w = publish-is (staged_name r.token n) n e is in placing-stays x r n ns ls e h w.0 w.1 w.2
-  stays x (Placing r n ns ls (Answer a)) e h is = absurd h
-  stays x (Unlocking r n ns GoOn) e h is = let w = unlock-is n r.token e is in unlocking-stays x r n ns e h w.0 w.1 w.2
-  stays x (Unlocking r n ns (Answer a)) e h is = absurd h
-  stays x (Erasing r GoOn) e h is = let w = erase-is (record_name actor) e is in erasing-stays x r e h w.0 w.1 w.2
-  stays x (Erasing r (Answer a)) e h is = absurd h
-  stays x (Clearing f) e h is = let w = erase-is (new_name actor) e is in clearing-stays x f e h w.0 w.1 w.2
-  stays x (Releasing a) e h is = subst (Stays x (Releasing a)) (sym (release-is (right_name actor) e is)) h
-  stays x (Ended a) e h is = absurd is
+  unlocking-stays : (x : Ending) (r : Record) (n : List ℕ) (ns : List (List ℕ)) → x ≡ Recovered (found_of r) → (done failed : Bool) → Stays x (Unlocking r n ns GoOn) (event.Unlock n r.token done failed)
+  unlocking-stays x r n ns h done true = inr (Failed Before, refl, λ m. refl)
+  unlocking-stays x r n ns h done false = inl (heads_unlocking x r ns h, λ es. refl)
+
+  erasing-stays : (x : Ending) (r : Record) → x ≡ Recovered (found_of r) → (done failed : Bool) → Stays x (Erasing r GoOn) (event.Erase (record_name actor) done failed)
+  erasing-stays x r h done true = inr (Failed Before, refl, λ m. refl)
+  erasing-stays x r h done false = inl (h, λ es. refl)
+
+  clearing-stays : (x : Ending) (f : Found) → x ≡ Recovered f → (done failed : Bool) → Stays x (Clearing f) (event.Erase (new_name actor) done failed)
+  clearing-stays x f h done true = inr (Failed Before, refl, λ m. refl)
+  clearing-stays x f h done false = inr (Recovered f, refl, λ m. h)
+
+  -- an event of the next call stays on the way, or it is a load that wants memory
+  abbrev Passes : Ending → State → Event → Type 0
+  Passes x s e = Stays x s e ⊎ (after_reply job s (reply e) ≡ Releasing NoMemory)
+
+  stays : (x : Ending) (s : State) (e : Event) → Heads x s → IsNext (next job s) e → Passes x s e
+  stays x (Undoing r n ns ls GoOn) e h is = let w = erase-is (staged_name r.token n) e is in subst (Passes x (Undoing r n ns ls GoOn)) (sym w.2) (inl (undoing-stays x r n ns ls h w.0 w.1))
+  stays x (Placing r n ns ls GoOn) e h is = let w = publish-is (staged_name r.token n) n e is in subst (Passes x (Placing r n ns ls GoOn)) (sym w.2) (inl (placing-stays x r n ns ls h w.0 w.1))
+  stays x (Testing r n ns ls) e h is =
+      let w = load-is (staged_name r.token n) e is in
+      subst (Passes x (Testing r n ns ls)) (sym w.1) (elim (testing-stays x r n ns ls h w.0) [ inl y ↦ inl y | inr m ↦ inr (ap (λ (s : Seen). after_reply job (Testing r n ns ls) (reply (event.Load (staged_name r.token n) s))) m) ])
+  stays x (Removing r n ns ls GoOn) e h is = let w = erase-is n e is in subst (Passes x (Removing r n ns ls GoOn)) (sym w.2) (inl (removing-stays x r n ns ls h w.0 w.1))
+  stays x (Discarding r n ns ls GoOn) e h is = let w = erase-is (staged_name r.token n) e is in subst (Passes x (Discarding r n ns ls GoOn)) (sym w.2) (inl (discarding-stays x r n ns ls h w.0 w.1))
+  stays x (Unlocking r n ns GoOn) e h is = let w = unlock-is n r.token e is in subst (Passes x (Unlocking r n ns GoOn)) (sym w.2) (inl (unlocking-stays x r n ns h w.0 w.1))
+  stays x (Erasing r GoOn) e h is = let w = erase-is (record_name actor) e is in subst (Passes x (Erasing r GoOn)) (sym w.2) (inl (erasing-stays x r h w.0 w.1))
+  stays x (Clearing f) e h is = let w = erase-is (new_name actor) e is in subst (Passes x (Clearing f)) (sym w.2) (inl (clearing-stays x f h w.0 w.1))
   stays x s e h is = absurd h
 
   -- want of memory on the way
-  refuses : (x : Ending) (s : State) → Heads x s → (refused job s ≡ Releasing NoMemory) ⊎ (refused job s ≡ s)
-  refuses x (Undoing r n ns ls GoOn) h = inl refl
-  refuses x (Undoing r n ns ls (Answer a)) h = absurd h
-  refuses x (Placing r n ns ls GoOn) h = inl refl
-  refuses x (Placing r n ns ls (Answer a)) h = absurd h
-  refuses x (Unlocking r n ns GoOn) h = inl refl
-  refuses x (Unlocking r n ns (Answer a)) h = absurd h
-  refuses x (Erasing r GoOn) h = inl refl
-  refuses x (Erasing r (Answer a)) h = absurd h
-  refuses x (Clearing f) h = inl refl
-  refuses x (Releasing a) h = inr refl
-  refuses x (Ended a) h = inr refl
+  refuses : (x : Ending) (s : State) → Heads x s → refused job s ≡ Releasing NoMemory
+  refuses x (Undoing r n ns ls GoOn) h = refl
+  refuses x (Placing r n ns ls GoOn) h = refl
+  refuses x (Testing r n ns ls) h = refl
+  refuses x (Removing r n ns ls GoOn) h = refl
+  refuses x (Discarding r n ns ls GoOn) h = refl
+  refuses x (Unlocking r n ns GoOn) h = refl
+  refuses x (Erasing r GoOn) h = refl
+  refuses x (Clearing f) h = refl
   refuses x s h = absurd h
 
-  at-end : (a end : Ending) (es : List Event) → Goes job (Ended a) es (Ended end) → end ≡ a
-  at-end a end [] (inl p) = cc
-  at-end a end [] (inr p) = cc
+  at-end : (a end : Ending) (es : List Event) → Goes job (Ended a) es (Ended end) → (es ≡ []) × (end ≡ a)
+  at-end a end [] (inl p) = (refl, cc)
+  at-end a end [] (inr p) = (refl, cc)
   at-end a end (e ∷ es) (now, inl p, is, more) = absurd (subst (λ (s : State). IsNext (next job s) e) p is)
   at-end a end (e ∷ es) (now, inr p, is, more) = absurd (subst (λ (s : State). IsNext (next job s) e) p is)
 
-  released : (a end : Ending) (e : Event) (es : List Event) (now : State) → now ≡ Releasing a → IsNext (next job now) e → Goes job (after_reply job now (reply e)) es (Ended end) → end ≡ a
+  -- what follows where the right is given up with an answer: the release alone
+  abbrev IsLast : Ending → Ending → List Event → Type 0
+  IsLast a end es = (n : List ℕ) × (es ≡ event.Release n ∷ []) × (end ≡ a)
+
+  released : (a end : Ending) (e : Event) (es : List Event) (now : State) → now ≡ Releasing a → IsNext (next job now) e → Goes job (after_reply job now (reply e)) es (Ended end) → IsLast a end (e ∷ es)
   released a end e es now p is more =
       let is' = subst (λ (s : State). IsNext (next job s) e) p is in
       let e' = release-is (right_name actor) e is' in
       let G : State → Event → Type 0 = λ s e. Goes job (after_reply job s (reply e)) es (Ended end) in
-      at-end a end es (subst (λ (z : Event). G (Releasing a) z) e' (subst (λ (s : State). G s e) p more))
+      let w = at-end a end es (subst (λ (z : Event). G (Releasing a) z) e' (subst (λ (s : State). G s e) p more)) in
+      (right_name actor, ap (λ (z : Event). z ∷ es) e' ∙ ap (λ (zs : List Event). event.Release (right_name actor) ∷ zs) w.0, w.1)
 
-  -- a right that is given up with an answer
+  last-of : (a end : Ending) (es : List Event) → Goes job (Releasing a) es (Ended end) → IsLast a end es
+  last-of a end [] (inl p) = absurd (cc)
+  last-of a end [] (inr p) = absurd (cc)
+  last-of a end (e ∷ es) (now, inl p, is, more) = released a end e es now p is more
+  last-of a end (e ∷ es) (now, inr p, is, more) = released a end e es now p is more
+
   releasing : (a end : Ending) (es : List Event) → Goes job (Releasing a) es (Ended end) → end ≡ a
-  releasing a end [] (inl p) = absurd (cc)
-  releasing a end [] (inr p) = absurd (cc)
-  releasing a end (e ∷ es) (now, inl p, is, more) = released a end e es now p is more
-  releasing a end (e ∷ es) (now, inr p, is, more) = released a end e es now p is more
+  releasing a end es goes = (last-of a end es goes).2
 
-  abbrev GoesOn : List Event → State → Ending → Type 0
-  GoesOn es s end = (y : Ending) → Heads y s → Is (unless_failed es y) end
+  -- the release changes nothing of the end
+  last-ended : (a end : Ending) (es : List Event) → Goes job (Releasing a) es (Ended end) → Is (ended es a) end
+  last-ended a end es goes = let w = last-of a end es goes in inl (w.2 ∙ sym (ap (λ (zs : List Event). ended zs a) w.1))
 
-  here : (e : Event) (es : List Event) (x : Ending) (s : State) (end : Ending) (now : State) → Heads x s → IsNext (next job now) e → GoesOn es (after_reply job now (reply e)) end → now ≡ s → Is (unless_failed (e ∷ es) x) end
-  here e es x s end now h is on p =
-      subst (λ (y : Ending). Is y end) (failed_more e es x) (on (or_failed (is_failed e) x) (stays x now e (subst (Heads x) (sym p) h) is))
+  cut-end : (x : Ending) (s : State) (e : Event) (es : List Event) (end : Ending) → Cuts x s e → Goes job (after_reply job s (reply e)) es (Ended end) → Is (ended (e ∷ es) x) end
+  cut-end x s e es end (a, at, same) more =
+      let w = last-of a end es (subst (λ (z : State). Goes job z es (Ended end)) at more) in
+      inl (w.2 ∙ sym (same w.0) ∙ sym (ap (λ (zs : List Event). ended (e ∷ zs) x) w.1))
 
-  short : (e : Event) (es : List Event) (x : Ending) (s : State) (end : Ending) (now : State) → Heads x s → IsNext (next job now) e → GoesOn es (after_reply job now (reply e)) end → Goes job (after_reply job now (reply e)) es (Ended end)
-      → now ≡ refused job s → (refused job s ≡ Releasing NoMemory) ⊎ (refused job s ≡ s) → Is (unless_failed (e ∷ es) x) end
-  short e es x s end now h is on more p (inl q) = inr (released NoMemory end e es now (p ∙ q) is more)
-  short e es x s end now h is on more p (inr q) = here e es x s end now h is on (p ∙ q)
+  goes-on : (es : List Event) (x : Ending) (s : State) (end : Ending) → Heads x s → Goes job s es (Ended end) → Is (ended es x) end
+  goes-on [] x s end h (inl p) = absurd (subst (Heads x) p h)
+  goes-on [] x s end h (inr p) = let w : Releasing NoMemory ≡ Ended end = sym (refuses x s h) ∙ p in absurd (cc)
+  goes-on (e ∷ es) x s end h (now, inr p, is, more) = inr (released NoMemory end e es now (p ∙ refuses x s h) is more).2
+  goes-on (e ∷ es) x s end h (now, inl p, is, more) = elim (stays x now e (subst (Heads x) (sym p) h) is) [
+    | inl on ↦ elim on [
+      | inl with ↦ subst (λ (y : Ending). Is y end) (sym (with.1 es)) (goes-on es x (after_reply job now (reply e)) end with.0 more)
+      | inr cuts ↦ cut-end x now e es end cuts more
+    ]
+    | inr short ↦ inr (releasing NoMemory end es (subst (λ (z : State). Goes job z es (Ended end)) short more))
+  ]
 
-  goes-on : (es : List Event) (x : Ending) (s : State) (end : Ending) → Heads x s → Goes job s es (Ended end) → Is (unless_failed es x) end
-  goes-on [] x s end h (inl p) = let w : x ≡ end = subst (Heads x) p h in inl (sym w)
-  goes-on [] x s end h (inr p) = over (refuses x s h)
-    where
-      over : (refused job s ≡ Releasing NoMemory) ⊎ (refused job s ≡ s) → Is x end
-      over (inl q) = let w : Releasing NoMemory ≡ Ended end = sym q ∙ p in absurd (cc)
-      over (inr q) = let w : x ≡ end = subst (Heads x) (sym q ∙ p) h in inl (sym w)
-  goes-on (e ∷ es) x s end h (now, from, is, more) =
-      elim from [ inl p ↦ here e es x s end now h is (λ y h'. goes-on es y (after_reply job now (reply e)) end h' more) p | inr p ↦ short e es x s end now h is (λ y h'. goes-on es y (after_reply job now (reply e)) end h' more) more p (refuses x s h) ]
-
-  read-on : (o : Option Record) (es : List Event) (end : Ending) → Goes job (record_seen o) es (Ended end) → Is (unless_failed es (end_read o)) end
-  read-on None es end goes = goes-on es (Refused NotARecord) (Releasing (Refused NotARecord)) end refl goes
+  read-on : (o : Option Record) (es : List Event) (end : Ending) → Goes job (record_seen o) es (Ended end) → Is (ended es (end_read o)) end
+  read-on None es end goes = last-ended (Refused NotARecord) end es goes
   read-on (Some r) es end goes = goes-on es (Recovered (found_of r)) (mending r) end (heads_mending (Recovered (found_of r)) r refl) goes
 
   saw-on : (n m : List ℕ) (s : Seen) (es : List Event) (end : Ending) → Goes job (after_reply job Looking (reply (event.Load m s))) es (Ended end) → Is (told_end actor (event.Seize n true false ∷ event.Load m s ∷ es)) end
   saw-on n m (seen.Bytes None held) es end goes = goes-on es (Recovered Nothing) (Clearing Nothing) end refl goes
   saw-on n m (seen.Bytes (Some bytes) held) es end goes = read-on (record_of bytes) es end goes
-  saw-on n m (seen.TooLarge k) es end goes = goes-on es (Refused (TooLarge (record_name actor) k)) (Releasing (Refused (TooLarge (record_name actor) k))) end refl goes
+  saw-on n m (seen.TooLarge k) es end goes = last-ended (Refused (TooLarge (record_name actor) k)) end es goes
   saw-on n m seen.Failed es end goes = inl (releasing (Failed Before) end es goes)
   saw-on n m seen.Memory es end goes = inr (releasing NoMemory end es goes)
 
   looking : (n : List ℕ) (es : List Event) (end : Ending) → Goes job Looking es (Ended end) → Is (told_end actor (event.Seize n true false ∷ es)) end
   looking n [] end (inl p) = absurd (cc)
   looking n [] end (inr p) = absurd (cc)
-  looking n (e ∷ es) end (now, inr p, is, more) = inr (released NoMemory end e es now p is more)
+  looking n (e ∷ es) end (now, inr p, is, more) = inr (released NoMemory end e es now p is more).2
   looking n (e ∷ es) end (now, inl p, is, more) =
       let is' = subst (λ (s : State). IsNext (next job s) e) p is in
       let w = load-is (record_name actor) e is' in
@@ -214,7 +238,7 @@ module _ (actor : List ℕ) (token : ℕ) where
   seized false false es end goes = busy es goes
     where
       busy : (es : List Event) → Goes job (Ended (Refused (Busy (right_name actor)))) es (Ended end) → Is (told_end actor (event.Seize (right_name actor) false false ∷ es)) end
-      busy [] goes = inl (at-end (Refused (Busy (right_name actor))) end [] goes)
+      busy [] goes = inl (at-end (Refused (Busy (right_name actor))) end [] goes).1
       busy (e ∷ es) (now, inl p, is, more) = absurd (subst (λ (s : State). IsNext (next job s) e) p is)
       busy (e ∷ es) (now, inr p, is, more) = absurd (subst (λ (s : State). IsNext (next job s) e) p is)
 

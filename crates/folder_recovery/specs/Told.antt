@@ -1,5 +1,5 @@
 -- The answer of a recovery as its own events give it.
-use Rattle.std.specs.Prelude.{◌≡◌, ℕ, true, false, List, ◌∷◌, if◌then◌else◌}
+use Rattle.std.specs.Prelude.{◌≡◌, ℕ, true, false, List, [], ◌∷◌, if◌then◌else◌}
 use Rattle.std.specs.List.{list_any}
 use Rattle.std.specs.declared.option.Option.{Option}
 use Rattle.std.specs.declared.option.Option.TheVariants.{Some, None}
@@ -39,10 +39,16 @@ end_seen actor (seen.Bytes c held) = end_found c
 end_seen actor (seen.TooLarge n) = Refused (TooLarge (record_name actor) n)
 end_seen actor s = NoMemory
 
--- the end by the seizure and the load
+-- the end where a staged file that was looked for behind that is too long to load
+abbrev pub unless_long : List Event → Ending → Ending
+unless_long [] end = end
+unless_long (Load n (seen.TooLarge length) ∷ es) end = Refused (TooLarge n length)
+unless_long (e ∷ es) end = unless_long es end
+
+-- the end by the seizure and the loads
 abbrev pub end_by : List ℕ → List Event → Ending
 end_by actor (Seize n false failed ∷ es) = Refused (Busy n)
-end_by actor (Seize n true failed ∷ Load m s ∷ es) = end_seen actor s
+end_by actor (Seize n true failed ∷ Load m s ∷ es) = unless_long es (end_seen actor s)
 end_by actor es = NoMemory
 
 abbrev pub told_end : List ℕ → List Event → Ending

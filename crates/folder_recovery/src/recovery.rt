@@ -1,11 +1,12 @@
 // Recovery.
-ghost use Rattle.std.specs.Prelude.{◌≡◌, ◌≤◌, ◌++◌, ℕ, List, Some, true, length, IfOk};
+ghost use Rattle.std.specs.Prelude.{◌≡◌, ◌≤◌, ◌<◌, ◌++◌, ℕ, List, Some, true, length, IfOk};
 ghost use Rattle.host_port.specs.Names.{has_no_zero};
 ghost use Rattle.host_port.specs.Ran.{Ran};
 ghost use Rattle.host_port.specs.Disk.{disk};
 ghost use Rattle.host_port.specs.declared.event.Event.{Event};
 ghost use Rattle.commit_machine.specs.Edits.{recovery_for};
 ghost use Rattle.commit_driver.specs.Steps.{EndFits};
+ghost use Rattle.commit_driver.specs.Places.{nth};
 ghost use Rattle.folder_recovery.specs.Told.{IsTold};
 ghost use Rattle.folder_recovery.specs.Safe.{MayRecover, RecoversSafely, IsComplete};
 ghost use Rattle.folder_recovery.specs.Recovering.{Recovers, RecoverCause, IsNamed, recovery_plan, answer_of};
@@ -37,19 +38,32 @@ fn plan_for(alloc: Global, actor: &[u8]) -> Result<Plan, Memory>
         },
         staged: Items::new(alloc),
         prepare: Text::new(alloc),
-        go: Text::new(alloc),
     })
 }
 
+// Where the file of this entry of the record that was found is made.
+fn staged_file(place: Place, at: usize) -> Text
+    requires { at < length place.found_staged }
+    ensures { result ≡ nth place.found_staged at }
+{
+    let mut staged = place.found_staged.into_vec();
+    staged.remove(at)
+}
+
 // The answer of a recovery that ended so. Since it has no files and isn't decided, what is left is that the record is none.
-fn answer(end: End, plan: Plan) -> Result<Recovered, RecoverError>
-    ensures { result ≡ answer_of end plan }
+fn answer(end: End, plan: Plan, place: Place) -> Result<Recovered, RecoverError>
+    requires { EndFits 0 (length place.found_staged) end }
+    ensures { result ≡ answer_of end plan place }
 {
     match end {
         End::Recovered(found) => Ok(found),
         End::RightBusy => Err(RecoverError::Busy { name: plan.right }),
         End::RecordTooLarge(length) => Err(RecoverError::TooLarge {
             name: plan.record,
+            length,
+        }),
+        End::StagedTooLarge(at, length) => Err(RecoverError::TooLarge {
+            name: staged_file(place, at),
             length,
         }),
         End::Failed(_) => Err(RecoverError::Disk),
@@ -68,16 +82,16 @@ fn run<H: Host>(alloc: Global, actor: &[u8], host: &mut H) -> Result<Recovered, 
 {
     let plan = plan_for(alloc, actor)?;
     let place = Place::new(alloc, Items::new(alloc));
-    let end = drive(alloc, &plan, place, &[], None, host);
-    answer(end, plan)
+    let (end, place) = drive(alloc, &plan, place, &[], None, host);
+    answer(end, plan, place)
 }
 
 /// Recovers what a stopped commit of the actor has left. A commit that was decided is carried out: its staged files are put in
 /// place, its locks are taken away, and its record is erased. One that wasn't decided is undone. It takes the actor's right
 /// first and gives it up at the end.
 ///
-/// `Busy` comes where another has the right, `NotARecord` where what stands as the record is none, `TooLarge` where it is too
-/// large to load, and `Disk` where a call failed; then nothing more is done but that the right is given up.
+/// `Busy` comes where another has the right, `NotARecord` where what stands as the record is none, `TooLarge` where it, or the
+/// staged file of a removal, is too large to load, and `Disk` where a call failed; then nothing more is done but that the right is given up.
 pub fn recover<H: Host>(
     alloc: Global,
     actor: &[u8],

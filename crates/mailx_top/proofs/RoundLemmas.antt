@@ -19,7 +19,7 @@ use Rattle.mailx_session.specs.Sessions.{line_play}
 use Rattle.mailx_top.specs.declared.environment.Environment.{Environment}
 use Rattle.mailx_top.specs.Words.{Start}
 use Rattle.mailx_top.specs.Meaning.{RunState, first_of, Opening, Reading, round, opening, loaded, with_list, greeted, turn, with_input, prompted, input_of, is_opening, message_limit}
-use Rattle.session_play.proofs.ShapeLemmas.{bind-acts, bind-threads, weaker-acts, may-all, may-neutral}
+use Rattle.session_play.proofs.ShapeLemmas.{bind-acts, bind-threads, weaker-acts, may-all, may-neutral, silent-neutral}
 use Rattle.mailx_top.proofs.LineLemmas.{line-acts, line-threads}
 
 abbrev On : Input → Play (Next RunState Status) → Type 0
@@ -119,4 +119,5 @@ loads-round env (Reading s i) = loads-less false (round env (Reading s i)) (read
 
 -- each round changes nothing
 pub neutral-round : (env : Environment) (x : RunState) → AllActs is_neutral (round env x)
-neutral-round env x = weaker-acts (may_load (is_opening x)) is_neutral (may-neutral (is_opening x)) (round env x) (loads-round env x)
+neutral-round env (Opening start) = weaker-acts (may_load true) is_neutral may-neutral (opening env start) (opening-acts env start)
+neutral-round env (Reading s i) = weaker-acts loads_nothing is_neutral silent-neutral (round env (Reading s i)) (reading-acts env s i)

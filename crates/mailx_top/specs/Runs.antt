@@ -6,7 +6,7 @@ use Rattle.host_port.specs.declared.event.Event.{Event}
 use Rattle.host_port.specs.declared.event.Event.TheVariants as event
 use Rattle.session_play.specs.declared.stop.Stop.{Stop}
 use Rattle.session_play.specs.Play.{Whole}
-use Rattle.session_play.specs.Causes.{IsExplained, events_at}
+use Rattle.session_play.specs.Causes.{IsExplained, events_at, commits_in}
 use Rattle.mailx_session.specs.declared.status.Status.{Status}
 use Rattle.mailx_top.specs.declared.environment.Environment.{Environment}
 use Rattle.mailx_top.specs.Meaning.{Opening, round, is_opening}
@@ -29,8 +29,8 @@ Ending read s (Ok e) es = (es ≡ []) × (s ≡ e)
 Ending read s (Err cause) es = (s ≡ status_at_stop cause) × SaysLast read (line_at_stop cause) es
 
 -- The own events of a run with these words in this environment, which ends with this status: those of its meaning, with
--- each cut explained. A load counts as one of the folder where its round opens the folder.
+-- each cut explained. A load counts as one of the folder where its round opens the folder, and a fault of the disk in a commit counts too.
 pub record IsRun (words : List (List ℕ)) (env : Environment) (s : Status) (es : List Event) : Type 0 where
   pub whole : Whole (round env) (Opening (start_of words env.pairs)) (Ending (are_read words) s) es
-  pub explained : IsExplained whole.out whole.front (events_at is_opening whole.plays)
+  pub explained : IsExplained whole.out whole.front (events_at is_opening whole.plays) (commits_in whole.plays)
   pub opening : IsOpeningExplained (start_of words env.pairs) whole.out (events_at is_opening whole.plays)

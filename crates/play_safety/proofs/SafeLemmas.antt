@@ -41,21 +41,13 @@ use Rattle.session_play.specs.Committing.{Commit, answer_as}
 use Rattle.session_play.specs.Acts.{is_neutral, AllEnds}
 use Rattle.session_play.proofs.ShapeLemmas.{came-same}
 use Rattle.session_play.specs.Play.{Act, Answer, Line, Say, Read, Try, Changes, Know, Play, Ret, Ask, Did, Partly, Next, Go, Last}
+use Rattle.session_play.proofs.CommitLemmas.{answer-fine}
 use Rattle.session_play.proofs.LooksLemmas.{neutral-did, neutral-part}
 use Rattle.play_safety.specs.Passes.{decided_in, accepted_by, Commits, behind, at_cut, Passes, PassesAll, again, last, cut}
 use Rattle.play_safety.specs.Safe.{IsBy, OfCommit, EachCommit, queue_of, queue, IsCalm, NextKeeps}
 use Rattle.play_safety.proofs.RowParts.{Stands, Due, Leaves, between, not-decided, was-decided, after-piece, due-then, queue-split, honest-back, run-of}
 use Rattle.play_safety.proofs.TraceLemmas.{looks-undecided, decisions-then, decisions-same}
 use Rattle.play_safety.proofs.CoverLemmas.{Covers, looks-covered, covers-then, bracket-covered}
-
--- an answer of a commit is no fault
-answer-fine : (a : Committed) → is_fault (answer_as a) ≡ false
-answer-fine committed.Done = refl
-answer-fine (committed.Busy name) = refl
-answer-fine committed.NotARecord = refl
-answer-fine (committed.Changed name at) = refl
-answer-fine (committed.TooLarge name n) = refl
-answer-fine (committed.TooManyNames n) = refl
 
 end-fine : (a : Committed) (files : List (List ℕ)) (end : Ending) → AnswersAs files (answer_as a) end → MetNoFault end
 end-fine committed.Done files end is = subst MetNoFault (sym is) tt

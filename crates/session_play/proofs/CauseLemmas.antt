@@ -13,8 +13,12 @@ use Rattle.session_play.specs.declared.stop.Stop.TheVariants as stop
 use Rattle.session_play.specs.Input.{Input, input_limit, first_line, last_line, next_of, next_line, took, Reads}
 use Rattle.session_play.specs.Play.{Act, Answer, Line, Say, Read, Try, Changes, Know, Play, Ret, Ask, Says, SaysInPart, seen_of, seen_at, Did, Partly, Goes, Next, Go, Last, Loop, again, last, cut}
 use Rattle.session_play.specs.Acts.{AllActs, TakesFrom, input_after, Threads, may_load}
-use Rattle.session_play.specs.Causes.{some_in_failed, some_out_failed, some_load_saw, is_failed, bytes_in, counted, events_at, IsExplained, NextFrom}
-use Rattle.session_play.proofs.CommitLemmas.{HasNoStreams, commit-streams}
+use Rattle.session_play.specs.Causes.{some_in_failed, some_out_failed, some_load_saw, is_failed, bytes_in, counted, events_at, of_commit, commits_of, commits_in, IsExplained, NextFrom}
+use Rattle.std.specs.List.{list_any}
+use Rattle.std.specs.Prelude.{◌||◌}
+use Rattle.commit_machine.specs.Restraints as calls
+use Rattle.folder_commit.specs.declared.error.CommitError.TheVariants as error
+use Rattle.session_play.proofs.CommitLemmas.{HasNoStreams, commit-streams, commit-failed, answer-fine}
 use Rattle.session_play.specs.Committing.{answer_as}
 use Rattle.session_play.proofs.SawLemmas.{saw-append, Unseen, unseen-none, unseen-did, unseen-cut}
 
@@ -237,33 +241,39 @@ abbrev is_disk_cut : {R : Type 0} → Result R Stop → Bool
 is_disk_cut (Err cause) = is_disk cause
 is_disk_cut (Ok r) = false
 
--- where failed loads cut, the events have one exactly where there is such a cut; elsewhere there is none
-abbrev Loads : Bool → Bool → List Event → Type 0
-Loads true is_cut es = some_load_saw is_failed es ≡ is_cut
-Loads false is_cut es = is_cut ≡ false
+-- where failed loads cut, the events have one exactly where there is such a cut, and there are no commits; elsewhere a call of a commit failed
+-- exactly there
+abbrev Loads : Bool → Bool → List Event → List Event → Type 0
+Loads true is_cut es commits = (some_load_saw is_failed es ≡ is_cut) × (commits ≡ [])
+Loads false is_cut es commits = list_any calls.is_failed commits ≡ is_cut
 
 -- the same of one act that is carried out
-abbrev Quiet : Bool → List Event → Type 0
-Quiet true es = Unseen is_failed es
-Quiet false es = Unit {0}
+abbrev Quiet : Bool → List Event → List Event → Type 0
+Quiet true es commits = Unseen is_failed es × (commits ≡ [])
+Quiet false es commits = list_any calls.is_failed commits ≡ false
 
 load-found : (name : List ℕ) (f : Found) → some_load_saw is_failed (event.Load name (seen_of f) ∷ []) ≡ false
 load-found name (found.Bytes bytes held) = refl
 load-found name (found.TooLarge n) = refl
 
-did-quiet : (b : Bool) (act : Act) (a : Answer act) (es : List Event) → may_load b act ≡ true → Did act a es → Quiet b es
-did-quiet false act a es may did = tt
-did-quiet true (Line i) a es may did = unseen-did is_failed (Line i) a es refl did
-did-quiet true (Say bytes) u es may did = unseen-did is_failed (Say bytes) u es refl did
-did-quiet true (Read name) f es may did = subst (Unseen is_failed) (sym did) (load-found name f)
+did-quiet : (b : Bool) (act : Act) (a : Answer act) (es : List Event) → may_load b act ≡ true → Did act a es → Quiet b es (of_commit act es)
+did-quiet false (Changes c) a es may did = commit-failed c es (answer_as a) did ∙ answer-fine a
+did-quiet false (Line i) a es may did = refl
+did-quiet false (Say bytes) u es may did = refl
+did-quiet false (Read name) f es may did = refl
+did-quiet false (Try name) f es may did = refl
+did-quiet false (Know texts) rows es may did = refl
+did-quiet true (Line i) a es may did = (unseen-did is_failed (Line i) a es refl did, refl)
+did-quiet true (Say bytes) u es may did = (unseen-did is_failed (Say bytes) u es refl did, refl)
+did-quiet true (Read name) f es may did = (subst (Unseen is_failed) (sym did) (load-found name f), refl)
 did-quiet true (Try name) f es may did = absurd (cc may)
 did-quiet true (Changes c) a es may did = absurd (cc may)
-did-quiet true (Know texts) rows es may did = unseen-did is_failed (Know texts) rows es refl did
+did-quiet true (Know texts) rows es may did = (unseen-did is_failed (Know texts) rows es refl did, refl)
 
-cut-loads : (b : Bool) (act : Act) (cause : Stop) (es : List Event) → may_load b act ≡ true → Partly act cause es → Loads b (is_disk cause) es
-cut-loads true (Line i) stop.Input es may part = unseen-cut is_failed (Line i) stop.Input es refl part
-cut-loads true (Line i) stop.TooMuch es may part = unseen-cut is_failed (Line i) stop.TooMuch es refl part
-cut-loads true (Line i) stop.Memory es may part = unseen-cut is_failed (Line i) stop.Memory es refl part
+cut-loads : (b : Bool) (act : Act) (cause : Stop) (es : List Event) → may_load b act ≡ true → Partly act cause es → Loads b (is_disk cause) es (of_commit act es)
+cut-loads true (Line i) stop.Input es may part = (unseen-cut is_failed (Line i) stop.Input es refl part, refl)
+cut-loads true (Line i) stop.TooMuch es may part = (unseen-cut is_failed (Line i) stop.TooMuch es refl part, refl)
+cut-loads true (Line i) stop.Memory es may part = (unseen-cut is_failed (Line i) stop.Memory es refl part, refl)
 cut-loads true (Line i) stop.Output es may never = absurd never
 cut-loads true (Line i) stop.Disk es may never = absurd never
 cut-loads false (Line i) stop.Input es may part = refl
@@ -271,14 +281,14 @@ cut-loads false (Line i) stop.TooMuch es may part = refl
 cut-loads false (Line i) stop.Memory es may part = refl
 cut-loads false (Line i) stop.Output es may never = absurd never
 cut-loads false (Line i) stop.Disk es may never = absurd never
-cut-loads true (Say bytes) stop.Output es may part = unseen-cut is_failed (Say bytes) stop.Output es refl part
+cut-loads true (Say bytes) stop.Output es may part = (unseen-cut is_failed (Say bytes) stop.Output es refl part, refl)
 cut-loads false (Say bytes) stop.Output es may part = refl
 cut-loads b (Say bytes) stop.Input es may never = absurd never
 cut-loads b (Say bytes) stop.Disk es may never = absurd never
 cut-loads b (Say bytes) stop.TooMuch es may never = absurd never
 cut-loads b (Say bytes) stop.Memory es may never = absurd never
-cut-loads true (Read name) stop.Disk es may is = ap (some_load_saw is_failed) is
-cut-loads true (Read name) stop.Memory es may is = ap (some_load_saw is_failed) is
+cut-loads true (Read name) stop.Disk es may is = (ap (some_load_saw is_failed) is, refl)
+cut-loads true (Read name) stop.Memory es may is = (ap (some_load_saw is_failed) is, refl)
 cut-loads true (Read name) stop.Input es may never = absurd never
 cut-loads true (Read name) stop.Output es may never = absurd never
 cut-loads true (Read name) stop.TooMuch es may never = absurd never
@@ -290,45 +300,79 @@ cut-loads false (Try name) stop.Input es may never = absurd never
 cut-loads false (Try name) stop.Output es may never = absurd never
 cut-loads false (Try name) stop.TooMuch es may never = absurd never
 cut-loads true (Changes c) cause es may part = absurd (cc may)
-cut-loads false (Changes c) cause es may part = absurd (cc may)
+cut-loads false (Changes c) stop.Disk es may (passed, h) = commit-failed c es (Err (error.Disk passed)) h
+cut-loads false (Changes c) stop.Memory es may h = commit-failed c es (Err error.Memory) h
+cut-loads false (Changes c) stop.Input es may never = absurd never
+cut-loads false (Changes c) stop.Output es may never = absurd never
+cut-loads false (Changes c) stop.TooMuch es may never = absurd never
 cut-loads b (Know texts) cause es may never = absurd never
 
-loads-none : (b is_cut : Bool) (es : List Event) → is_cut ≡ false → es ≡ [] → Loads b is_cut es
-loads-none true is_cut es h is = unseen-none is_failed es is ∙ sym h
-loads-none false is_cut es h is = h
+loads-none : (b is_cut : Bool) (es commits : List Event) → is_cut ≡ false → es ≡ [] → commits ≡ [] → Loads b is_cut es commits
+loads-none true is_cut es commits h is none = (unseen-none is_failed es is ∙ sym h, none)
+loads-none false is_cut es commits h is none = ap (list_any calls.is_failed) none ∙ sym h
 
-loads-then : (b is_cut : Bool) (front rest : List Event) → Quiet b front → Loads b is_cut rest → Loads b is_cut (front ++ rest)
-loads-then true is_cut front rest quiet more = saw-append is_failed front rest quiet ∙ more
-loads-then false is_cut front rest quiet more = more
+failed-more : (b x y z : Bool) → (b || x) ≡ false → (x ≡ false → y ≡ z) → (b || y) ≡ z
+failed-more true x y z h more = absurd (cc h)
+failed-more false x y z h more = more h
 
-goes-loads : {R : Type 0} (b : Bool) (p : Play R) (es : List Event) (out : Result R Stop) → AllActs (may_load b) p → Goes p es out → Loads b (is_disk_cut out) es
-goes-loads b (Ret r) es out all (none, inl same) = loads-none b (is_disk_cut out) es (ap is_disk_cut same) none
-goes-loads b (Ret r) es out all (none, inr same) = loads-none b (is_disk_cut out) es (ap is_disk_cut same) none
+failed-append : (xs ys : List Event) → list_any calls.is_failed xs ≡ false → list_any calls.is_failed (xs ++ ys) ≡ list_any calls.is_failed ys
+failed-append [] ys h = refl
+failed-append (e ∷ xs) ys h = failed-more (calls.is_failed e) (list_any calls.is_failed xs) (list_any calls.is_failed (xs ++ ys)) (list_any calls.is_failed ys) h (failed-append xs ys)
+
+loads-then : (b is_cut : Bool) (front rest first later : List Event) → Quiet b front first → Loads b is_cut rest later → Loads b is_cut (front ++ rest) (first ++ later)
+loads-then true is_cut front rest first later quiet more = (saw-append is_failed front rest quiet.0 ∙ more.0, ap (λ (l : List Event). l ++ later) quiet.1 ∙ more.1)
+loads-then false is_cut front rest first later quiet more = failed-append first later quiet ∙ more
+
+of-none : (act : Act) (es : List Event) → es ≡ [] → of_commit act es ≡ []
+of-none (Changes c) es is = is
+of-none (Line i) es is = refl
+of-none (Say bytes) es is = refl
+of-none (Read name) es is = refl
+of-none (Try name) es is = refl
+of-none (Know texts) es is = refl
+
+goes-loads : {R : Type 0} (b : Bool) (p : Play R) (es : List Event) (out : Result R Stop) → AllActs (may_load b) p → (g : Goes p es out) → Loads b (is_disk_cut out) es (commits_of p es out g)
+goes-loads b (Ret r) es out all (none, inl same) = loads-none b (is_disk_cut out) es [] (ap is_disk_cut same) none refl
+goes-loads b (Ret r) es out all (none, inr same) = loads-none b (is_disk_cut out) es [] (ap is_disk_cut same) none refl
 goes-loads b (Ask act go) es out all (inl (answer, front, rest, is, did, goes)) =
-    subst (Loads b (is_disk_cut out)) (sym is) (loads-then b (is_disk_cut out) front rest (did-quiet b act answer front all.0 did) (goes-loads b (go answer) rest out (all.1 answer) goes))
+    let first = of_commit act front in
+    let later = commits_of (go answer) rest out goes in
+    subst (λ (es : List Event). Loads b (is_disk_cut out) es (first ++ later)) (sym is)
+    (loads-then b (is_disk_cut out) front rest first later (did-quiet b act answer front all.0 did) (goes-loads b (go answer) rest out (all.1 answer) goes))
 goes-loads b (Ask act go) es out all (inr (why, same, inl (memory, none))) =
-    loads-none b (is_disk_cut out) es (ap is_disk_cut same ∙ ap is_disk memory) none
+    loads-none b (is_disk_cut out) es (of_commit act es) (ap is_disk_cut same ∙ ap is_disk memory) none (of-none act es none)
 goes-loads b (Ask act go) es out all (inr (why, same, inr part)) =
-    subst (λ (c : Bool). Loads b c es) (sym (ap is_disk_cut same)) (cut-loads b act why es all.0 part)
+    subst (λ (c : Bool). Loads b c es (of_commit act es)) (sym (ap is_disk_cut same)) (cut-loads b act why es all.0 part)
 
-front-counted : (b : Bool) (es : List Event) → Loads b false es → some_load_saw is_failed (counted b es) ≡ false
-front-counted true es loads = loads
-front-counted false es loads = refl
+front-counted : (b : Bool) (es commits : List Event) → Loads b false es commits → (some_load_saw is_failed (counted b es) ≡ false) × (list_any calls.is_failed commits ≡ false)
+front-counted true es commits loads = (loads.0, ap (list_any calls.is_failed) loads.1)
+front-counted false es commits loads = (refl, loads)
 
-end-counted : (b is_cut : Bool) (es : List Event) → Loads b is_cut es → some_load_saw is_failed (counted b es) ≡ is_cut
-end-counted true is_cut es loads = loads
-end-counted false is_cut es loads = sym loads
+or-false : (b : Bool) → (b || false) ≡ b
+or-false true = refl
+or-false false = refl
 
--- where in some rounds failed loads cut, and in the others none does, those rounds have one exactly where the run is cut off so
+end-counted : (b is_cut : Bool) (es commits : List Event) → Loads b is_cut es commits → (some_load_saw is_failed (counted b es) || list_any calls.is_failed commits) ≡ is_cut
+end-counted true is_cut es commits loads =
+    ap (λ (c : List Event). some_load_saw is_failed es || list_any calls.is_failed c) loads.1 ∙ or-false (some_load_saw is_failed es) ∙ loads.0
+end-counted false is_cut es commits loads = loads
+
+-- where in some rounds failed loads cut, and in the others none does, those rounds have one, or a call of a commit failed, exactly where the run
+-- is cut off so
 loop-loads : {X R : Type 0} (round : X → Play (Next X R)) (cuts : X → Bool) → ((x : X) → AllActs (may_load (cuts x)) (round x))
-    → {x : X} {es : List Event} {out : Result R Stop} (loop : Loop round x es out) → some_load_saw is_failed (events_at cuts loop) ≡ is_disk_cut out
+    → {x : X} {es : List Event} {out : Result R Stop} (loop : Loop round x es out) → (some_load_saw is_failed (events_at cuts loop) || list_any calls.is_failed (commits_in loop)) ≡ is_disk_cut out
 loop-loads round cuts all {x = x} (again {y = y} front rest is goes more) =
-    let first = front-counted (cuts x) front (goes-loads (cuts x) (round x) front (Ok (Go y)) (all x) goes) in
-    saw-append is_failed (counted (cuts x) front) (events_at cuts more) first ∙ loop-loads round cuts all more
+    let made = commits_of (round x) front (Ok (Go y)) goes in
+    let first = front-counted (cuts x) front made (goes-loads (cuts x) (round x) front (Ok (Go y)) (all x) goes) in
+    let later = events_at cuts more in
+    let commits = commits_in more in
+    ap (λ (b : Bool). b || list_any calls.is_failed (made ++ commits)) (saw-append is_failed (counted (cuts x) front) later first.0)
+    ∙ ap (λ (b : Bool). some_load_saw is_failed later || b) (failed-append made commits first.1)
+    ∙ loop-loads round cuts all more
 loop-loads round cuts all {x = x} {es = es} (last {r = r} goes) =
-    end-counted (cuts x) false es (goes-loads (cuts x) (round x) es (Ok (Last r)) (all x) goes)
+    end-counted (cuts x) false es (commits_of (round x) es (Ok (Last r)) goes) (goes-loads (cuts x) (round x) es (Ok (Last r)) (all x) goes)
 loop-loads round cuts all {x = x} {es = es} (cut {cause = cause} goes) =
-    end-counted (cuts x) (is_disk cause) es (goes-loads (cuts x) (round x) es (Err cause) (all x) goes)
+    end-counted (cuts x) (is_disk cause) es (commits_of (round x) es (Err cause) goes) (goes-loads (cuts x) (round x) es (Err cause) (all x) goes)
 
 abbrev Verdict : {R : Type 0} → Result R Stop → List Event → Input → Type 0
 Verdict (Ok r) es i = (j : Input) × IsClean es i j
@@ -365,15 +409,15 @@ disk-cut (Err stop.Output) h = absurd (cc h)
 disk-cut (Err stop.TooMuch) h = absurd (cc h)
 disk-cut (Err stop.Memory) h = absurd (cc h)
 
-explained : {R : Type 0} (out : Result R Stop) (es loads : List Event) (i : Input) → i.taken ≡ 0 → some_load_saw is_failed loads ≡ is_disk_cut out
-    → Verdict out es i → IsExplained out es loads
-explained (Ok r) es loads i zero_taken disks (j, c) = record {
+explained : {R : Type 0} (out : Result R Stop) (es loads commits : List Event) (i : Input) → i.taken ≡ 0
+    → (some_load_saw is_failed loads || list_any calls.is_failed commits) ≡ is_disk_cut out → Verdict out es i → IsExplained out es loads commits
+explained (Ok r) es loads commits i zero_taken disks (j, c) = record {
   input = (λ e. absurd (cc e), λ h. absurd (cc (h, c.in_ok)));
   output = (λ e. absurd (cc e), λ h. absurd (cc (h, c.out_ok)));
   disk = (λ e. absurd (cc e), λ h. absurd (cc (h, disks)));
   too_much = (λ e. absurd (cc e), λ h. absurd (let b = c.bytes in let w = c.within in omega arith));
 }
-explained {R = R} (Err cause) es loads i zero_taken disks c = record {
+explained {R = R} (Err cause) es loads commits i zero_taken disks c = record {
   input = (λ e. c.in_is ∙ ap is_in (err-same {R = R} cause stop.Input e), λ h. ap (was_cut {R = R}) (of-in cause (sym c.in_is ∙ h)));
   output = (λ e. c.out_is ∙ ap is_out (err-same {R = R} cause stop.Output e), λ h. ap (was_cut {R = R}) (of-out cause (sym c.out_is ∙ h)));
   disk = (λ e. disks ∙ ap is_disk_cut e, λ h. disk-cut (Err cause) (sym disks ∙ h));
@@ -401,10 +445,10 @@ explained {R = R} (Err cause) es loads i zero_taken disks c = record {
     of-amount stop.Disk n more a = absurd (omega arith)
     of-amount stop.Memory n more a = absurd (omega arith)
 
--- Where each round goes on with the input that the round before left, and failed loads cut in some rounds and in no other, a run from no
--- input explains its cut.
+-- Where each round goes on with the input that the round before left, and failed loads cut in some rounds and in no other, and commits are made
+-- in the others alone, a run from no input explains its cut.
 pub loop-explained : {X R : Type 0} (round : X → Play (Next X R)) (input_of : X → Input) (cuts : X → Bool) (x : X) (es : List Event) (out : Result R Stop)
     → ((x : X) → Threads (NextFrom input_of) (input_of x) (round x)) → ((x : X) → AllActs (may_load (cuts x)) (round x))
-    → (input_of x).taken ≡ 0 → (loop : Loop round x es out) → IsExplained out es (events_at cuts loop)
+    → (input_of x).taken ≡ 0 → (loop : Loop round x es out) → IsExplained out es (events_at cuts loop) (commits_in loop)
 loop-explained round input_of cuts x es out t loads none loop =
-    explained out es (events_at cuts loop) (input_of x) none (loop-loads round cuts loads loop) (loop-verdict round input_of t (omega arith) loop)
+    explained out es (events_at cuts loop) (commits_in loop) (input_of x) none (loop-loads round cuts loads loop) (loop-verdict round input_of t (omega arith) loop)

@@ -1,5 +1,5 @@
 -- A commit carries out its act, and neither takes input nor says anything.
-use Rattle.std.proofs.Common.{◌≡◌, ◌⊎◌, ℕ, false, List, [], ◌∷◌, ◌++◌, refl, sym, subst, inl, inr}
+use Rattle.std.proofs.Common.{◌≡◌, ◌⊎◌, ℕ, false, List, [], ◌∷◌, ◌++◌, refl, sym, subst, inl, inr, ap, ◌∙◌}
 use Rattle.std.proofs.lemmas.List.{append-nil}
 use Rattle.std.specs.Prelude.{IfErr}
 use Rattle.session_play.specs.Cuts.{IsLoadCut}
@@ -17,13 +17,17 @@ use Rattle.commit_machine.specs.Goes.{IsOf, loads, stages, stage_fails, publishe
 use Rattle.commit_machine.specs.Goes as machine
 use Rattle.folder_commit.specs.declared.error.CommitError.{CommitError}
 use Rattle.folder_commit.specs.declared.error.CommitError.TheVariants as error
+use Rattle.std.specs.List.{list_any}
+use Rattle.commit_machine.specs.Restraints.{is_failed}
+use Rattle.folder_commit.specs.Told.{is_fault}
+use Rattle.folder_commit.proofs.ToldLemmas.{tells-faults}
 use Rattle.folder_commit.specs.Ends.{CommitCause}
 use Rattle.folder_commit.specs.Commits.{IsCommit}
 use Rattle.session_play.specs.declared.changing.Committed.{Committed}
 use Rattle.session_play.specs.declared.changing.Committed.TheVariants as committed
 use Rattle.session_play.specs.declared.stop.Stop.TheVariants as stop
 use Rattle.session_play.specs.Causes.{some_in_failed, some_out_failed, bytes_in}
-use Rattle.session_play.specs.Committing.{Commit, IsCommitOf, taken}
+use Rattle.session_play.specs.Committing.{answer_as, Commit, IsCommitOf, taken}
 use Rattle.session_play.specs.Play.{Ask, Ret, Changes, Goes, Caused}
 
 did : (c : Commit) (es : List Event) (a : Committed) (answer : Result Unit CommitError) → taken answer ≡ Ok a → IsCommitOf c es answer → Goes {R = Committed} (Ask (Changes c) Ret) es (taken answer)
@@ -66,6 +70,25 @@ commit-cut (Err (error.TooLarge name n)) = tt
 commit-cut (Err (error.TooManyNames n)) = tt
 commit-cut (Err (error.Disk passed)) = tt
 commit-cut (Err error.Memory) = tt
+
+-- an answer is no fault
+pub answer-fine : (a : Committed) → is_fault (answer_as a) ≡ false
+answer-fine committed.Done = refl
+answer-fine (committed.Busy name) = refl
+answer-fine committed.NotARecord = refl
+answer-fine (committed.Changed name at) = refl
+answer-fine (committed.TooLarge name n) = refl
+answer-fine (committed.TooManyNames n) = refl
+
+changes-failed : (actor : List ℕ) (token : ℕ) (cs : List Change) (base : List (List ℕ)) (es : List Event) (answer : Result Unit CommitError) → IsCommit actor token cs base es answer → list_any is_failed es ≡ is_fault answer
+changes-failed actor token [] base es answer (none, is) = ap (list_any is_failed) none ∙ sym (ap is_fault is)
+changes-failed actor token (x ∷ cs) base es answer (inl (many, (none, inl is))) = ap (list_any is_failed) none ∙ sym (ap is_fault is)
+changes-failed actor token (x ∷ cs) base es answer (inl (many, (none, inr is))) = ap (list_any is_failed) none ∙ sym (ap is_fault is)
+changes-failed actor token (x ∷ cs) base es answer (inr (few, h)) = tells-faults (job_for actor token (x ∷ cs) base) es answer h
+
+-- a call of a commit failed exactly where its answer says so
+pub commit-failed : (c : Commit) (es : List Event) (answer : Result Unit CommitError) → IsCommitOf c es answer → list_any is_failed es ≡ is_fault answer
+commit-failed c es answer h = changes-failed c.actor c.token c.changes c.base es answer h
 
 -- events that neither take input nor say anything
 pub record HasNoStreams (es : List Event) : Type 0 where

@@ -52,12 +52,20 @@ may-all b (Read name) l = absurd (cc l)
 may-all b (Try name) l = absurd (cc l)
 may-all b (Changes c) l = absurd (cc l)
 
--- where nothing is committed each act is neutral
-pub may-neutral : (b : Bool) (act : Act) → may_load b act ≡ true → is_neutral act ≡ true
-may-neutral b (Line i) l = refl
-may-neutral b (Say bytes) l = refl
-may-neutral b (Read name) l = refl
-may-neutral b (Try name) l = refl
-may-neutral true (Changes c) l = absurd (cc l)
-may-neutral false (Changes c) l = absurd (cc l)
-may-neutral b (Know texts) l = refl
+-- where a failed load cuts the run off each act is neutral
+pub may-neutral : (act : Act) → may_load true act ≡ true → is_neutral act ≡ true
+may-neutral (Line i) l = refl
+may-neutral (Say bytes) l = refl
+may-neutral (Read name) l = refl
+may-neutral (Try name) l = refl
+may-neutral (Changes c) l = absurd (cc l)
+may-neutral (Know texts) l = refl
+
+-- an act that loads nothing is neutral
+pub silent-neutral : (act : Act) → loads_nothing act ≡ true → is_neutral act ≡ true
+silent-neutral (Line i) l = refl
+silent-neutral (Say bytes) l = refl
+silent-neutral (Read name) l = refl
+silent-neutral (Try name) l = refl
+silent-neutral (Changes c) l = absurd (cc l)
+silent-neutral (Know texts) l = refl

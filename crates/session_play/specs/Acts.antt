@@ -15,10 +15,10 @@ loads_nothing (Try name) = false
 loads_nothing (Changes c) = false
 loads_nothing act = true
 
--- Where a failed load cuts the run off, none is only tried; elsewhere each load is only tried. Nothing is committed.
+-- Where a failed load cuts the run off, none is only tried, and nothing is committed; elsewhere each load is only tried.
 abbrev pub may_load : Bool → Act → Bool
-may_load cuts (Changes c) = false
 may_load true (Try name) = false
+may_load true (Changes c) = false
 may_load false (Read name) = false
 may_load cuts act = true
 

@@ -1,7 +1,8 @@
 -- Why a run was cut off, read off its own events.
+use Rattle.std.proofs.Common.{inl, inr}
 use Rattle.std.specs.Prelude.{◌≡◌, ◌↔◌, ◌+◌, ◌<◌, ℕ, Bool, true, false, List, [], ◌∷◌, ◌++◌, ◌||◌, length}
 use Rattle.std.specs.declared.result.Result.{Result}
-use Rattle.std.specs.declared.result.Result.TheVariants.{Err}
+use Rattle.std.specs.declared.result.Result.TheVariants.{Ok, Err}
 use Rattle.host_port.specs.declared.event.Event.{Event}
 use Rattle.host_port.specs.declared.event.Event.TheVariants as event
 use Rattle.host_port.specs.declared.event.Seen.{Seen}
@@ -9,7 +10,9 @@ use Rattle.host_port.specs.declared.event.Seen.TheVariants as seen
 use Rattle.session_play.specs.declared.stop.Stop.{Stop}
 use Rattle.session_play.specs.declared.stop.Stop.TheVariants as stop
 use Rattle.session_play.specs.Input.{Input, input_limit}
-use Rattle.session_play.specs.Play.{Play, Next, Go, Last, Loop, again, last, cut}
+use Rattle.commit_machine.specs.Restraints as calls
+use Rattle.std.specs.List.{list_any}
+use Rattle.session_play.specs.Play.{Act, Changes, Play, Ret, Ask, Goes, Next, Go, Last, Loop, again, last, cut}
 
 -- some taking of input failed
 abbrev pub some_in_failed : List Event → Bool
@@ -52,11 +55,29 @@ events_at test (again {x = x} front rest is goes more) = counted (test x) front 
 events_at test (last {x = x} {es = es} goes) = counted (test x) es
 events_at test (cut {x = x} {es = es} goes) = counted (test x) es
 
--- Each cut but the one for want of memory comes exactly with its events: a fault of the disk with a failed load among `loads`.
-pub record IsExplained {R : Type 0} (out : Result R Stop) (es loads : List Event) : Type 0 where
+-- the events of an act that commits; of others none
+abbrev pub of_commit : Act → List Event → List Event
+of_commit (Changes c) es = es
+of_commit act es = []
+
+-- the own events of a play's commits
+abbrev pub commits_of : {R : Type 0} (p : Play R) (es : List Event) (out : Result R Stop) → Goes p es out → List Event
+commits_of (Ret r) es out g = []
+commits_of (Ask act go) es out (inl (answer, front, rest, is, did, goes)) = of_commit act front ++ commits_of (go answer) rest out goes
+commits_of (Ask act go) es out (inr (cause, is, how)) = of_commit act es
+
+-- the own events of the commits of a loop
+abbrev pub commits_in : {X R : Type 0} {round : X → Play (Next X R)} {x : X} {es : List Event} {out : Result R Stop} → Loop round x es out → List Event
+commits_in {round = round} (again {x = x} {y = y} front rest is goes more) = commits_of (round x) front (Ok (Go y)) goes ++ commits_in more
+commits_in {round = round} (last {x = x} {es = es} {r = r} goes) = commits_of (round x) es (Ok (Last r)) goes
+commits_in {round = round} (cut {x = x} {es = es} {cause = cause} goes) = commits_of (round x) es (Err cause) goes
+
+-- Each cut but the one for want of memory comes exactly with its events: a fault of the disk with a failed load among `loads`, or with a call
+-- that failed among the events of commits.
+pub record IsExplained {R : Type 0} (out : Result R Stop) (es loads commits : List Event) : Type 0 where
   pub input : (out ≡ Err stop.Input) ↔ (some_in_failed es ≡ true)
   pub output : (out ≡ Err stop.Output) ↔ (some_out_failed es ≡ true)
-  pub disk : (out ≡ Err stop.Disk) ↔ (some_load_saw is_failed loads ≡ true)
+  pub disk : (out ≡ Err stop.Disk) ↔ ((some_load_saw is_failed loads || list_any calls.is_failed commits) ≡ true)
   pub too_much : (out ≡ Err stop.TooMuch) ↔ (input_limit < bytes_in es)
 
 -- what a round leaves is where the next one begins
