@@ -5,4 +5,5 @@ pub mod GroupLemmas
 pub mod WalkLemmas
 pub mod FreshLemmas
 pub mod StepLemmas
+pub mod DepthLemmas
 pub mod LawLemmas

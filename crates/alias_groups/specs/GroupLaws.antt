@@ -1,11 +1,12 @@
 -- What holds of aliases that are defined and removed, and of expansions.
-use Rattle.std.specs.Prelude.{◌≡◌, ℕ, Bool, List, [], ◌++◌, Some, None, unwrap_or, if◌then◌else◌}
+use Rattle.std.specs.Prelude.{◌≡◌, ◌<◌, ℕ, suc, Bool, List, [], ◌++◌, Some, None, unwrap_or, length, if◌then◌else◌}
 use Rattle.std.specs.List.{IsDistinct}
 use Rattle.std.specs.Str.{bytes_eq}
 use Rattle.mail_text.specs.Ascii.{same_ascii}
 use Rattle.alias_groups.specs.declared.own.Own.{Own}
 use Rattle.alias_groups.specs.Expansion.{expansion}
 use Rattle.alias_groups.specs.Groups.{AreGroups, Group, members_of, with_members, without}
+use Rattle.alias_groups.specs.Walk.{nothing, walk}
 
 -- an alias that is defined has the members that it had and then the new ones, and every other alias stays
 abbrev pub DefineAppends : Type 0
@@ -22,3 +23,8 @@ RemoveTakes = (groups : List Group) (name other : List ℕ) → AreGroups groups
 abbrev pub EachOnce : Type 0
 EachOnce = (groups : List Group) (own : Own) (metoo : Bool) (names : List (List ℕ))
     → IsDistinct same_ascii (expansion groups own metoo names)
+
+-- no walk is cut short: one that may open more walks at once than there are aliases comes to the same with one more
+abbrev pub DepthSuffices : Type 0
+DepthSuffices = (groups : List Group) (dropped names : List (List ℕ)) (depth : ℕ) → length groups < depth
+    → walk depth groups dropped [] names nothing ≡ walk (suc depth) groups dropped [] names nothing

@@ -110,8 +110,9 @@ impl Aliases {
         }
     }
 
-    /// Puts members at the end of the list of an alias. One that is defined keeps its place, a new one goes last. `TooMany`
-    /// comes exactly where all aliases together would have more than 100,000 members. After an error all is as before.
+    /// Puts members at the end of the list of an alias. One that is defined keeps its place, a new one goes last.
+    /// `TooMany` comes exactly where all aliases together would have more than 100,000 members. After an error all is
+    /// as before.
     pub fn define(&mut self, name: &[u8], to: &[Text]) -> Result<(), AliasError>
         ensures refused { MatchOption (define_refusal self.old to.now) (IfErr result (λ e. e ≡ AliasError.Memory)) (λ e. result ≡ Err e) }
         ensures ok { OnOk result (self.new ≡ with_members self.old name.now to.now) }
@@ -158,7 +159,8 @@ impl Aliases {
         self.groups.len()
     }
 
-    /// The name of the alias at place `k`, from 0, in order of first definition; none past the last. It takes no memory.
+    /// The name of the alias at place `k`, from 0, in order of first definition; none past the last. It takes no
+    /// memory.
     pub fn name(&self, k: usize) -> Option<&[u8]>
         ensures name { option_map (λ name. name.now) result ≡ slice_get (keys_of self.now) k }
         ensures found { IsSome result ↔ (k < length self.now) }
@@ -169,11 +171,11 @@ impl Aliases {
         }
     }
 
-    /// The names that names stand for, in the order in which a walk over them first reaches each. A name that is no alias is
-    /// added; an alias that is met for the first time is walked through; one that is met inside its own walk is added as a
-    /// name; one whose walk is over adds nothing. Names of aliases are compared byte for byte. No name is added twice, ASCII
-    /// case ignored. Without `metoo` a name of `own` that is reached through an alias is left out. `TooMany` comes exactly
-    /// where there would be more than 10,000 names.
+    /// The names that names stand for, in the order in which a walk over them first reaches each. A name that is no
+    /// alias is added; an alias that is met for the first time is walked through; one that is met inside its own walk
+    /// is added as a name; one whose walk is over adds nothing. Names of aliases are compared byte for byte. No name
+    /// is added twice, ASCII case ignored. Without `metoo` a name of `own` that is reached through an alias is left
+    /// out. `TooMany` comes exactly where there would be more than 10,000 names.
     pub fn expand(&self, names: &[Text], own: &Own, metoo: bool) -> Result<Vec<Text>, ExpandError>
         ensures names { IfOk result (λ all. all.items ≡ expansion self.now own.now metoo names.now) }
         ensures few { IfOk result (λ all. length all.items ≤ 10000) }

@@ -10,5 +10,5 @@ mod walk;
 
 pub use aliases::Aliases;
 pub use error::{AliasError, ExpandError};
-pub use laws::{aliases_are_kept, each_name_once};
+pub use laws::{aliases_are_kept, each_name_once, no_walk_is_cut};
 pub use own::Own;

@@ -1,6 +1,7 @@
 // What a block says.
+use crate::Answer;
 use crate::escape::push_decoded;
-use mail_text::{Memory, Text, read_number};
+use mail_text::{Text, read_number};
 use std::alloc::Global;
 
 /// A case: its own block, and the block that holds always.
@@ -28,10 +29,7 @@ pub fn is_plain(line: &str) -> bool {
 
 /// The first word, and what stands behind the blank after it.
 pub fn cut(text: &str) -> (&str, &str) {
-    match text.split_once(' ') {
-        Some(pair) => pair,
-        None => (text, ""),
-    }
+    text.split_once(' ').unwrap_or((text, ""))
 }
 
 /// A number, 0 where the text is none.
@@ -57,24 +55,59 @@ pub fn value<'a>(case: Case<'a>, head: &str) -> Option<&'a str> {
     }
 }
 
-/// The case of a block. A block with a line `bare` stands alone.
-pub fn first<'a>(own: &'a str, always: &'a str) -> Case<'a> {
-    match value_in(own, "bare") {
-        Some(_) => Case { own, always: "" },
-        None => Case { own, always },
+/// Whether a line of a block begins so.
+pub fn has_line(block: &str, head: &str) -> bool {
+    value_in(block, head).is_some()
+}
+
+// The case of a block. A block with a line `bare` stands alone.
+fn first<'a>(own: &'a str, always: &'a str) -> Case<'a> {
+    Case {
+        own,
+        always: if has_line(own, "bare") { "" } else { always },
+    }
+}
+
+/// What answers cases.
+pub trait Tells {
+    /// Puts what a block tells at the end of the answers.
+    fn tell(&self, case: Case<'_>, out: &mut Answer);
+}
+
+/// What each block of a text tells.
+pub fn told<T: Tells>(alloc: Global, program: &T, blocks: &str) -> Answer {
+    let mut out = Answer::new(alloc);
+    let mut always = "";
+    for block in blocks.split("\n\n") {
+        if has_line(block, "always") {
+            always = block;
+        }
+        program.tell(first(block, always), &mut out);
+    }
+    out
+}
+
+/// Puts the title of a case as a line. False where the block has none.
+pub fn put_title(case: Case<'_>, out: &mut Answer) -> bool {
+    match value_in(case.own, "case ") {
+        Some(title) => {
+            out.put_plain(b"case ");
+            out.put_plain(title.as_bytes());
+            out.put_plain(b"\n");
+            true
+        }
+        None => false,
     }
 }
 
 // One line of text, at the end of a text.
-fn push_line(text: &mut Text, line: &str) -> Result<(), Memory> {
-    if let Some(escaped) = line.strip_prefix('|') {
-        push_decoded(text, escaped)?;
-        return text.push(b"\n");
-    }
-    if let Some(escaped) = line.strip_prefix(':') {
-        return push_decoded(text, escaped);
-    }
-    Ok(())
+fn push_line(text: &mut Text, line: &str, out: &mut Answer) {
+    let (escaped, end) = match line.strip_prefix('|') {
+        Some(escaped) => (escaped, "\n"),
+        None => (line.strip_prefix(':').unwrap_or(""), ""),
+    };
+    out.note(push_decoded(out.alloc(), text, escaped));
+    out.note(text.push(end.as_bytes()));
 }
 
 fn is_text(line: &str) -> bool {
@@ -82,15 +115,15 @@ fn is_text(line: &str) -> bool {
 }
 
 /// The bytes below this line of a block.
-pub fn text_under(alloc: Global, block: &str, head: &str) -> Result<Text, Memory> {
-    let mut text = Text::new(alloc);
+pub fn text_under(block: &str, head: &str, out: &mut Answer) -> Text {
+    let mut text = Text::new(out.alloc());
     let mut inside = false;
     for line in block.lines() {
         if !is_text(line) {
             inside = line == head;
         } else if inside {
-            push_line(&mut text, line)?;
+            push_line(&mut text, line, out);
         }
     }
-    Ok(text)
+    text
 }

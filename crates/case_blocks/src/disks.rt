@@ -1,62 +1,59 @@
-// The disk of a case.
-use crate::block::{Case, cut, number, text_under};
-use crate::escape::decoded;
-use host_port::DiskView;
-use mail_text::{Items, Memory, Text};
-use std::alloc::Global;
+// The host of a case.
+use crate::Answer;
+use crate::block::{Case, cut, has_line, number, text_under};
+use crate::planned::plan;
+use host_port::{DiskView, MemHost};
+use mail_text::{Items, Memory};
 
-fn push_file(
-    alloc: Global,
-    block: &str,
-    line: &str,
-    files: &mut Items<(Text, Text)>,
-) -> Result<(), Memory> {
-    if let Some(name) = line.strip_prefix("file ") {
-        let name = decoded(alloc, name)?;
-        return files.push((name, text_under(alloc, block, line)?));
-    }
-    if let Some(rest) = line.strip_prefix("holds ") {
-        let (name, bytes) = cut(rest);
-        let name = decoded(alloc, name)?;
-        return files.push((name, decoded(alloc, bytes)?));
-    }
-    Ok(())
-}
-
-fn push_files(alloc: Global, block: &str, files: &mut Items<(Text, Text)>) -> Result<(), Memory> {
-    for line in block.lines() {
-        push_file(alloc, block, line, files)?;
-    }
-    Ok(())
-}
-
-fn push_locks(alloc: Global, block: &str, locks: &mut Items<(Text, u64)>) -> Result<(), Memory> {
-    for line in block.lines() {
-        if let Some(rest) = line.strip_prefix("lock ") {
-            let (name, token) = cut(rest);
-            locks.push((decoded(alloc, name)?, number(token)))?;
+// Puts what a line says of the disk into it.
+fn put_line(block: &str, line: &str, disk: &mut DiskView, out: &mut Answer) {
+    let (head, rest) = cut(line);
+    let (first, last) = cut(rest);
+    match head {
+        "file" => {
+            let name = out.decoded(rest);
+            let bytes = text_under(block, line, out);
+            out.note(disk.files.push((name, bytes)));
         }
+        "holds" => {
+            let name = out.decoded(first);
+            let bytes = out.decoded(last);
+            out.note(disk.files.push((name, bytes)));
+        }
+        "lock" => {
+            let name = out.decoded(first);
+            out.note(disk.locks.push((name, number(last))));
+        }
+        _ => {}
     }
-    Ok(())
 }
 
-fn files_of(alloc: Global, case: Case<'_>) -> Result<Items<(Text, Text)>, Memory> {
-    let mut files = Items::new(alloc);
-    push_files(alloc, case.own, &mut files)?;
-    push_files(alloc, case.always, &mut files)?;
-    Ok(files)
-}
-
-fn locks_of(alloc: Global, case: Case<'_>) -> Result<Items<(Text, u64)>, Memory> {
-    let mut locks = Items::new(alloc);
-    push_locks(alloc, case.own, &mut locks)?;
-    push_locks(alloc, case.always, &mut locks)?;
-    Ok(locks)
+fn put_block(block: &str, disk: &mut DiskView, out: &mut Answer) {
+    for line in block.lines() {
+        put_line(block, line, disk, out);
+    }
 }
 
 /// The disk before a case.
-pub fn view(alloc: Global, case: Case<'_>) -> Result<DiskView, Memory> {
-    let files = files_of(alloc, case)?;
-    let locks = locks_of(alloc, case)?;
-    Ok(DiskView { files, locks })
+pub fn view(case: Case<'_>, out: &mut Answer) -> DiskView {
+    let mut disk = DiskView {
+        files: Items::new(out.alloc()),
+        locks: Items::new(out.alloc()),
+    };
+    put_block(case.own, &mut disk, out);
+    put_block(case.always, &mut disk, out);
+    disk
+}
+
+/// The host of a case, as it is before it.
+pub fn host(case: Case<'_>, out: &mut Answer) -> Result<MemHost, Memory> {
+    let with_input = if has_line(case.own, "input") {
+        case.own
+    } else {
+        case.always
+    };
+    let input = text_under(with_input, "input", out);
+    let plan = plan(case, out);
+    let disk = view(case, out);
+    MemHost::new(out.alloc(), disk, input, plan)
 }

@@ -2,7 +2,8 @@
 //! of it.
 //!
 //! Each line of a block says one thing. In it `\n`, `\t` and `\\` stand for a line feed, a tab and a backslash, `\xNN`
-//! for the byte of two hexadecimal digits, and `\e` for nothing. The bytes of a file or of the input stand below their
+//! for the byte of two hexadecimal digits, and `\e` for nothing. `\*N;` repeats what stands before it, back to the last
+//! such mark, so that it is there N times. The bytes of a file or of the input stand below their
 //! line: each line `|TEXT` is TEXT with a line feed, and each line `:TEXT` is TEXT without one. A line that begins with
 //! `#` says nothing.
 //!
@@ -22,14 +23,16 @@
 //! | `other N lock NAME TOKEN`, `unlock NAME TOKEN` | the same |
 #![tactic(auto)]
 
+mod answer;
 mod block;
 mod disks;
 mod escape;
 mod planned;
 mod shown;
 
-pub use block::{Case, cut, first, is_plain, number, text_under, value};
-pub use disks::view;
-pub use escape::{decoded, push_encoded, push_lines};
-pub use planned::{part, plan};
-pub use shown::push_changes;
+pub use answer::Answer;
+pub use block::{Case, Tells, cut, is_plain, number, put_title, text_under, told, value};
+pub use disks::{host, view};
+pub use escape::push_decoded;
+pub use planned::part;
+pub use shown::{put_changes, put_disk};

@@ -1,63 +1,59 @@
 // What is planned for the host of a case.
-ghost use Rattle.std.specs.Prelude.{◌≤◌, IfOk};
+ghost use Rattle.std.specs.Prelude.{◌≤◌};
 
+use crate::Answer;
 use crate::block::{Case, cut, number, value};
-use crate::escape::decoded;
 use host_port::{ForeignStep, Part, Plan};
-use mail_text::{Items, Memory};
-use std::alloc::Global;
+use mail_text::Items;
 
-fn step(alloc: Global, text: &str) -> Result<ForeignStep, Memory> {
+fn step(text: &str, out: &mut Answer) -> ForeignStep {
     let (kind, rest) = cut(text);
     let (name, last) = cut(rest);
-    let name = decoded(alloc, name)?;
+    let name = out.decoded(name);
     let token = number(last);
     match kind {
-        "write" => Ok(ForeignStep::Write {
+        "write" => ForeignStep::Write {
             name,
-            bytes: decoded(alloc, last)?,
-        }),
-        "lock" => Ok(ForeignStep::Lock { name, token }),
-        "unlock" => Ok(ForeignStep::Unlock { name, token }),
-        "seize" => Ok(ForeignStep::Seize { name }),
-        "release" => Ok(ForeignStep::Release { name }),
-        _ => Ok(ForeignStep::Remove { name }),
+            bytes: out.decoded(last),
+        },
+        "lock" => ForeignStep::Lock { name, token },
+        "unlock" => ForeignStep::Unlock { name, token },
+        "seize" => ForeignStep::Seize { name },
+        "release" => ForeignStep::Release { name },
+        _ => ForeignStep::Remove { name },
     }
-}
-
-fn push_steps(
-    alloc: Global,
-    block: &str,
-    steps: &mut Items<(u64, ForeignStep)>,
-) -> Result<(), Memory> {
-    for line in block.lines() {
-        if let Some(rest) = line.strip_prefix("other ") {
-            let (at, text) = cut(rest);
-            steps.push((number(at), step(alloc, text)?))?;
-        }
-    }
-    Ok(())
 }
 
 /// What a failing call leaves: `before`, `after`, `nothing` or `bytes TEXT`.
-pub fn part(alloc: Global, text: &str) -> Result<Part, Memory> {
+pub fn part(text: &str, out: &mut Answer) -> Part {
     let (kind, bytes) = cut(text);
     match kind {
-        "after" => Ok(Part::After),
-        "nothing" => Ok(Part::Nothing),
-        "bytes" => Ok(Part::Bytes(decoded(alloc, bytes)?)),
-        _ => Ok(Part::Before),
+        "after" => Part::After,
+        "nothing" => Part::Nothing,
+        "bytes" => Part::Bytes(out.decoded(bytes)),
+        _ => Part::Before,
     }
 }
 
-fn push_fails(alloc: Global, block: &str, fails: &mut Items<(u64, Part)>) -> Result<(), Memory> {
+// Puts what the lines of a block say of others and of calls that fail at the end.
+fn put_block(
+    block: &str,
+    foreign: &mut Items<(u64, ForeignStep)>,
+    fails: &mut Items<(u64, Part)>,
+    out: &mut Answer,
+) {
     for line in block.lines() {
+        if let Some(rest) = line.strip_prefix("other ") {
+            let (at, text) = cut(rest);
+            let step = step(text, out);
+            out.note(foreign.push((number(at), step)));
+        }
         if let Some(rest) = line.strip_prefix("fails ") {
             let (at, text) = cut(rest);
-            fails.push((number(at), part(alloc, text)?))?;
+            let part = part(text, out);
+            out.note(fails.push((number(at), part)));
         }
     }
-    Ok(())
 }
 
 fn pieces(case: Case<'_>) -> usize
@@ -69,29 +65,17 @@ fn pieces(case: Case<'_>) -> usize
     }
 }
 
-fn steps_of(alloc: Global, case: Case<'_>) -> Result<Items<(u64, ForeignStep)>, Memory> {
-    let mut steps = Items::new(alloc);
-    push_steps(alloc, case.own, &mut steps)?;
-    push_steps(alloc, case.always, &mut steps)?;
-    Ok(steps)
-}
-
-fn fails_of(alloc: Global, case: Case<'_>) -> Result<Items<(u64, Part)>, Memory> {
-    let mut fails = Items::new(alloc);
-    push_fails(alloc, case.own, &mut fails)?;
-    push_fails(alloc, case.always, &mut fails)?;
-    Ok(fails)
-}
-
 /// What happens in a case: the steps of others, the calls that fail, and in what pieces the input comes.
-pub fn plan(alloc: Global, case: Case<'_>) -> Result<Plan, Memory>
-    ensures { IfOk result (λ p. 1 ≤ p.chunk) }
+pub fn plan(case: Case<'_>, out: &mut Answer) -> Plan
+    ensures { 1 ≤ result.chunk }
 {
-    let foreign = steps_of(alloc, case)?;
-    let fails = fails_of(alloc, case)?;
-    Ok(Plan {
+    let mut foreign = Items::new(out.alloc());
+    let mut fails = Items::new(out.alloc());
+    put_block(case.own, &mut foreign, &mut fails, out);
+    put_block(case.always, &mut foreign, &mut fails, out);
+    Plan {
         chunk: pieces(case),
         foreign,
         fails,
-    })
+    }
 }

@@ -1,6 +1,6 @@
 // What became of a disk.
-use crate::escape::{push_encoded, push_lines};
-use host_port::DiskView;
+use crate::Answer;
+use host_port::{DiskView, MemHost};
 use mail_text::{Memory, Text};
 
 fn found<'a>(files: &'a [(Text, Text)], name: &[u8]) -> Option<&'a [u8]> {
@@ -12,59 +12,58 @@ fn found<'a>(files: &'a [(Text, Text)], name: &[u8]) -> Option<&'a [u8]> {
     None
 }
 
-fn push_name(text: &mut Text, head: &[u8], name: &[u8]) -> Result<(), Memory> {
-    text.push(head)?;
-    push_encoded(text, name)?;
-    text.push(b"\n")
-}
-
-fn push_lock(text: &mut Text, name: &[u8], token: u64) -> Result<(), Memory> {
-    text.push(b"lock ")?;
-    push_encoded(text, name)?;
-    text.push(&[b' ', b'0' + (token % 10) as u8, b'\n'])
+fn put_name(head: &[u8], name: &[u8], out: &mut Answer) {
+    out.put_plain(head);
+    out.put(name);
+    out.put_plain(b"\n");
 }
 
 // The files that are new or have other bytes.
-fn push_written(
-    text: &mut Text,
-    before: &[(Text, Text)],
-    after: &[(Text, Text)],
-) -> Result<(), Memory> {
+fn put_written(before: &[(Text, Text)], after: &[(Text, Text)], out: &mut Answer) {
     for (name, bytes) in after {
         if found(before, name.bytes()) != Some(bytes.bytes()) {
-            push_name(text, b"file ", name.bytes())?;
-            push_lines(text, bytes.bytes())?;
+            put_name(b"file ", name.bytes(), out);
+            out.put_lines(bytes.bytes());
         }
     }
-    Ok(())
 }
 
 // The files that are gone, each once.
-fn push_gone(
-    text: &mut Text,
-    before: &[(Text, Text)],
-    after: &[(Text, Text)],
-) -> Result<(), Memory> {
+fn put_gone(before: &[(Text, Text)], after: &[(Text, Text)], out: &mut Answer) {
     for (k, (name, _)) in before.iter().enumerate() {
         if found(after, name.bytes()).is_none() && found(&before[..k], name.bytes()).is_none() {
-            push_name(text, b"gone ", name.bytes())?;
+            put_name(b"gone ", name.bytes(), out);
         }
     }
-    Ok(())
 }
 
-fn push_locks(text: &mut Text, locks: &[(Text, u64)]) -> Result<(), Memory> {
+// The locks, each with the last digit of its token.
+fn put_locks(locks: &[(Text, u64)], out: &mut Answer) {
     for (name, token) in locks {
-        push_lock(text, name.bytes(), *token)?;
+        out.put_plain(b"lock ");
+        out.put(name.bytes());
+        out.put_plain(b" ");
+        out.put_shown(&(*token % 10));
+        out.put_plain(b"\n");
     }
-    Ok(())
 }
 
-/// What became of a disk, at the end of a text: a line `file NAME` with its bytes for each file that is new or has other
-/// bytes, a line `gone NAME` for each that is gone, and a line `lock NAME TOKEN` for each lock that stands, with the last
-/// digit of its token.
-pub fn push_changes(text: &mut Text, before: &DiskView, after: &DiskView) -> Result<(), Memory> {
-    push_written(text, before.files.items(), after.files.items())?;
-    push_gone(text, before.files.items(), after.files.items())?;
-    push_locks(text, after.locks.items())
+/// Puts what became of a disk: a line `file NAME` with its bytes for each file that is new or has other bytes, a line
+/// `gone NAME` for each that is gone, and a line `lock NAME TOKEN` for each lock that stands, with the last digit of
+/// its token.
+pub fn put_changes(before: &DiskView, after: &DiskView, out: &mut Answer) {
+    put_written(before.files.items(), after.files.items(), out);
+    put_gone(before.files.items(), after.files.items(), out);
+    put_locks(after.locks.items(), out);
+}
+
+/// Puts what became of the disk of a host, and `lost` where memory was refused to it.
+pub fn put_disk(before: &DiskView, host: &MemHost, out: &mut Answer) {
+    match host.view() {
+        Ok(after) => put_changes(before, &after, out),
+        Err(Memory) => out.lack(),
+    }
+    if host.lost() {
+        out.put_plain(b"lost\n");
+    }
 }

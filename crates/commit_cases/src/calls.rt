@@ -3,10 +3,8 @@ ghost use Rattle.host_port.specs.Names.{IsFileName};
 
 use crate::commits;
 use crate::names::is_name;
-use case_blocks::{cut, decoded, number, push_encoded};
+use case_blocks::{Answer, cut, number};
 use host_port::{Host, LoadAnswer, LoadError, MemHost};
-use mail_text::{Memory, Text};
-use std::alloc::Global;
 
 fn done<E: Drop>(answer: Result<(), E>) -> &'static [u8] {
     match answer {
@@ -23,11 +21,23 @@ fn answer<E: Drop>(answer: Result<bool, E>) -> &'static [u8] {
     }
 }
 
-// A call with one name.
-fn simple(host: &mut MemHost, kind: &str, name: &[u8], token: u64) -> &'static [u8]
+fn publish(host: &mut MemHost, from: &[u8], to: &[u8]) -> &'static [u8]
+    requires { IsFileName from.now }
+{
+    if is_name(to) {
+        answer(host.publish(from, to))
+    } else {
+        b"no name"
+    }
+}
+
+// A call with a name, and a token or bytes.
+fn named(host: &mut MemHost, kind: &str, name: &[u8], token: u64, bytes: &[u8]) -> &'static [u8]
     requires { IsFileName name.now }
 {
     match kind {
+        "stage" => done(host.stage(name, bytes)),
+        "publish" => publish(host, name, bytes),
         "erase" => done(host.erase(name)),
         "lock" => answer(host.lock(name, token)),
         "unlock" => done(host.unlock(name, token)),
@@ -40,110 +50,64 @@ fn simple(host: &mut MemHost, kind: &str, name: &[u8], token: u64) -> &'static [
     }
 }
 
-fn push_simple(
-    alloc: Global,
-    host: &mut MemHost,
-    kind: &str,
-    rest: &str,
-    text: &mut Text,
-) -> Result<(), Memory> {
-    let (name, token) = cut(rest);
-    let name = decoded(alloc, name)?;
+fn put_named(host: &mut MemHost, kind: &str, rest: &str, out: &mut Answer) {
+    let (first, last) = cut(rest);
+    let name = out.decoded(first);
+    let bytes = out.decoded(last);
     if !is_name(name.bytes()) {
-        return text.push(b"no name");
+        return out.put_plain(b"no name");
     }
-    text.push(simple(host, kind, name.bytes(), number(token)))
+    if kind == "load" {
+        return put_load(host, name.bytes(), out);
+    }
+    out.put_plain(named(host, kind, name.bytes(), number(last), bytes.bytes()));
 }
 
-fn push_publish(
-    alloc: Global,
-    host: &mut MemHost,
-    rest: &str,
-    text: &mut Text,
-) -> Result<(), Memory> {
-    let (from, to) = cut(rest);
-    let from = decoded(alloc, from)?;
-    let to = decoded(alloc, to)?;
-    if !is_name(from.bytes()) || !is_name(to.bytes()) {
-        return text.push(b"no name");
-    }
-    text.push(answer(host.publish(from.bytes(), to.bytes())))
-}
-
-fn push_stage(
-    alloc: Global,
-    host: &mut MemHost,
-    rest: &str,
-    text: &mut Text,
-) -> Result<(), Memory> {
-    let (name, bytes) = cut(rest);
-    let name = decoded(alloc, name)?;
-    let bytes = decoded(alloc, bytes)?;
-    if !is_name(name.bytes()) {
-        return text.push(b"no name");
-    }
-    text.push(done(host.stage(name.bytes(), bytes.bytes())))
-}
-
-fn push_seen(answer: LoadAnswer, text: &mut Text) -> Result<(), Memory> {
-    match &answer.bytes {
+fn put_seen(seen: &LoadAnswer, out: &mut Answer) {
+    match &seen.bytes {
         Some(bytes) => {
-            text.push(b"bytes ")?;
-            push_encoded(text, bytes.bytes())?;
+            out.put_plain(b"bytes ");
+            out.put(bytes.bytes());
         }
-        None => text.push(b"no file")?,
+        None => out.put_plain(b"no file"),
     }
-    text.push(if answer.held {
-        b", held".as_slice()
-    } else {
-        b"".as_slice()
-    })
-}
-
-fn push_load(alloc: Global, host: &mut MemHost, name: &str, text: &mut Text) -> Result<(), Memory> {
-    let name = decoded(alloc, name)?;
-    if !is_name(name.bytes()) {
-        return text.push(b"no name");
-    }
-    match host.load(alloc, name.bytes()) {
-        Ok(answer) => push_seen(answer, text),
-        Err(LoadError::Failed) => text.push(b"failed"),
-        Err(LoadError::TooLarge { .. }) => text.push(b"too large"),
-        Err(LoadError::Memory) => text.push(b"out of memory"),
+    if seen.held {
+        out.put_plain(b", held");
     }
 }
 
-fn push_fill(host: &mut MemHost, text: &mut Text) -> Result<(), Memory> {
+fn put_load(host: &mut MemHost, name: &[u8], out: &mut Answer)
+    requires { IsFileName name.now }
+{
+    match host.load(out.alloc(), name) {
+        Ok(seen) => put_seen(&seen, out),
+        Err(LoadError::Failed) => out.put_plain(b"failed"),
+        Err(LoadError::TooLarge { .. }) => out.put_plain(b"too large"),
+        Err(LoadError::Memory) => out.put_plain(b"out of memory"),
+    }
+}
+
+fn put_fill(host: &mut MemHost, out: &mut Answer) {
     let mut buf = [0u8; 8];
     match host.fill(&mut buf) {
-        Ok(n) => push_encoded(text, &buf[..n]),
-        Err(_) => text.push(b"fault"),
+        Ok(n) => out.put(&buf[..n]),
+        Err(_) => out.put_plain(b"fault"),
     }
 }
 
-fn push_say(alloc: Global, host: &mut MemHost, bytes: &str, text: &mut Text) -> Result<(), Memory> {
-    let bytes = decoded(alloc, bytes)?;
-    text.push(done(host.say(bytes.bytes())))
-}
-
-/// Carries out a call, and puts its answer at the end of a text.
-pub fn push_call(
-    alloc: Global,
-    host: &mut MemHost,
-    line: &str,
-    text: &mut Text,
-) -> Result<(), Memory> {
+/// Carries out a call, and puts its answer at the end.
+pub fn put_call(host: &mut MemHost, line: &str, out: &mut Answer) {
     let (kind, rest) = cut(line);
     match kind {
-        "fill" => push_fill(host, text),
-        "say" => push_say(alloc, host, rest, text),
-        "load" => push_load(alloc, host, rest, text),
-        "stage" => push_stage(alloc, host, rest, text),
-        "publish" => push_publish(alloc, host, rest, text),
-        "recover" => text.push(commits::recovered(alloc, host)),
-        "commit" => commits::push_commit(alloc, host, rest, text),
-        "add" => commits::push_added(alloc, host, rest, text),
-        "empty" => commits::push_emptied(alloc, host, rest, text),
-        _ => push_simple(alloc, host, kind, rest, text),
+        "fill" => put_fill(host, out),
+        "say" => {
+            let bytes = out.decoded(rest);
+            out.put_plain(done(host.say(bytes.bytes())));
+        }
+        "recover" => out.put_plain(commits::recovered(out.alloc(), host)),
+        "commit" => commits::put_commit(host, rest, out),
+        "add" => commits::put_added(host, rest, out),
+        "empty" => commits::put_emptied(host, rest, out),
+        _ => put_named(host, kind, rest, out),
     }
 }

@@ -1,105 +1,83 @@
 // What changes make of a file.
-use case_blocks::{cut, decoded, push_encoded};
+use case_blocks::{Answer, cut};
 use folder_change::{Change, ChangeError, change_name, outcome};
-use mail_text::{Items, Memory, Text};
+use mail_text::{Items, Text};
 use mbox_scan::Folder;
-use std::alloc::Global;
 
-/// The texts between bars; none where there are no bytes.
-pub fn texts(alloc: Global, barred: &str) -> Result<Items<Text>, Memory> {
-    let mut texts = Items::new(alloc);
+// The texts between bars; none where there are no bytes.
+fn texts(barred: &str, out: &mut Answer) -> Items<Text> {
+    let mut texts = Items::new(out.alloc());
     if !barred.is_empty() {
         for text in barred.split('|') {
-            texts.push(decoded(alloc, text)?)?;
+            let text = out.decoded(text);
+            out.note(texts.push(text));
         }
     }
-    Ok(texts)
+    texts
 }
 
-fn raw(alloc: Global, name: Text, barred: &str) -> Result<Change, Memory> {
-    let bytes = decoded(alloc, barred)?;
-    Ok(Change::AddRaw { name, bytes })
-}
-
-fn with_texts(kind: &str, name: Text, texts: Items<Text>) -> Change {
+/// The change of a file of this kind and name, with these texts.
+pub fn change(kind: &str, name: &str, barred: &str, out: &mut Answer) -> Change {
+    let name = out.decoded(name);
     match kind {
-        "add" => Change::Add { name, texts },
-        "front" => Change::Front { name, texts },
+        "raw" => Change::AddRaw {
+            name,
+            bytes: out.decoded(barred),
+        },
+        "add" => Change::Add {
+            name,
+            texts: texts(barred, out),
+        },
+        "front" => Change::Front {
+            name,
+            texts: texts(barred, out),
+        },
         _ => Change::Rewrite {
             name,
-            list: texts,
+            list: texts(barred, out),
             keep: kind == "keep",
         },
     }
 }
 
-fn change(alloc: Global, kind: &str, name: &str, barred: &str) -> Result<Change, Memory> {
-    let name = decoded(alloc, name)?;
-    if kind == "raw" {
-        return raw(alloc, name, barred);
-    }
-    let texts = texts(alloc, barred)?;
-    Ok(with_texts(kind, name, texts))
-}
-
-fn change_of(alloc: Global, line: &str) -> Result<Change, Memory> {
-    let (kind, rest) = cut(line);
-    let (name, barred) = cut(rest);
-    change(alloc, kind, name, barred)
-}
-
 /// The changes between semicolons, each its kind, the name of its file and its texts.
-pub fn changes(alloc: Global, line: &str) -> Result<Items<Change>, Memory> {
-    let mut changes = Items::new(alloc);
+pub fn changes(line: &str, out: &mut Answer) -> Items<Change> {
+    let mut changes = Items::new(out.alloc());
     for part in line.split(" ; ") {
-        changes.push(change_of(alloc, part)?)?;
+        let (kind, rest) = cut(part);
+        let (name, barred) = cut(rest);
+        let change = change(kind, name, barred, out);
+        out.note(changes.push(change));
     }
-    Ok(changes)
+    changes
 }
 
-/// What came of a change.
-pub fn push_outcome(
-    found: Result<Option<Text>, ChangeError>,
-    text: &mut Text,
-) -> Result<(), Memory> {
+// What came of a change.
+fn put_outcome(found: &Result<Option<Text>, ChangeError>, out: &mut Answer) {
     match found {
         Ok(Some(file)) => {
-            text.push(b"file ")?;
-            push_encoded(text, file.bytes())
+            out.put_plain(b"file ");
+            out.put(file.bytes());
         }
-        Ok(None) => text.push(b"no file"),
+        Ok(None) => out.put_plain(b"no file"),
         Err(ChangeError::Changed { at }) => {
-            let mut buffer = itoa::Buffer::new();
-            text.push(b"changed ")?;
-            text.push(buffer.format(at).as_bytes())
+            out.put_plain(b"changed ");
+            out.put_shown(at);
         }
-        Err(_) => text.push(b"out of memory"),
+        Err(_) => out.put_plain(b"out of memory"),
     }
 }
 
-fn push_made(
-    alloc: Global,
-    current: Option<&[u8]>,
-    change: &Change,
-    base: &Folder,
-    text: &mut Text,
-) -> Result<(), Memory> {
-    text.push(change_name(change))?;
-    text.push(b": ")?;
-    push_outcome(outcome(alloc, current, change, Some(base)), text)
-}
-
-fn push_opened(
-    alloc: Global,
-    current: Option<&[u8]>,
-    change: &Change,
-    base: &str,
-    text: &mut Text,
-) -> Result<(), Memory> {
-    let base = decoded(alloc, base)?;
-    match Folder::open(alloc, base) {
-        Ok(base) => push_made(alloc, current, change, &base, text),
-        Err(_) => text.push(b"no folder"),
+// What a change makes of a file, where a rewrite was made for a folder of this text.
+fn put_made(current: Option<&[u8]>, change: &Change, base: Text, out: &mut Answer) {
+    match Folder::open(out.alloc(), base) {
+        Ok(base) => {
+            out.put_plain(change_name(change));
+            out.put_plain(b": ");
+            let made = outcome(out.alloc(), current, change, Some(&base));
+            put_outcome(&made, out);
+        }
+        Err(_) => out.put_plain(b"no folder"),
     }
 }
 
@@ -112,12 +90,13 @@ fn parts(line: &str) -> (&str, &str, &str, &str) {
 }
 
 /// A change by a line: what it makes of the file.
-pub fn push_change(alloc: Global, line: &str, text: &mut Text) -> Result<(), Memory> {
+pub fn put_change(line: &str, out: &mut Answer) {
     let (kind, current, base, texts) = parts(line);
-    let change = change(alloc, kind, "box", texts)?;
+    let change = change(kind, "box", texts, out);
+    let base = out.decoded(base);
     if current == "-" {
-        return push_opened(alloc, None, &change, base, text);
+        return put_made(None, &change, base, out);
     }
-    let current = decoded(alloc, current)?;
-    push_opened(alloc, Some(current.bytes()), &change, base, text)
+    let current = out.decoded(current);
+    put_made(Some(current.bytes()), &change, base, out);
 }

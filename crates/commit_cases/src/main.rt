@@ -1,8 +1,8 @@
 //! Cases of the host in memory, of changes, records, commits and recoveries. Standard input has the cases, and for each
 //! the program prints what its lines answer.
 //!
-//! The lines of a case are those of `case_blocks`, and these, which are carried out in their order. A line `do` is a call
-//! of the host or of a library over it; the actor of recoveries and commits is `/h/m`, and their token 1.
+//! The lines of a case are those of `case_blocks`, and these, which are carried out in their order. A line `do` is a
+//! call of the host or of a library over it; the actor of recoveries and commits is `/h/m`, and their token 1.
 //!
 //! | Line | What is printed |
 //! |---|---|
@@ -12,11 +12,11 @@
 //! | `do load NAME` | what was seen |
 //! | `do recover`, `do add NAME TEXT` | how the recovery, or the commit that adds the text to the file, ended |
 //! | `do empty NAME TEXT` | how the commit ended that leaves a file without a message, read before as the text |
-//! | `do commit CHANGE ; CHANGE.. / BASE` | how the commit of these changes ended, an error in its words; a change is `KIND NAME TEXT\|TEXT..`, and BASE, which may be left out with its slash, the text that the rewrites were made for |
+//! | `do commit CHANGE ; CHANGE.. / BASE` | how the commit of these changes ended, an error in its words |
 //! | `letters` | a letter for each event so far |
 //! | `stop N PART` | what a stop inside the event of this number leaves, of which this part was done |
-//! | `stops` | for a stop inside each event, with each part done, what a recovery leaves; and a line where another stop inside that recovery, recovered again, leaves something else |
-//! | `change KIND / CURRENT / BASE / TEXT\|TEXT..` | what a change (`keep`, `drop`: a rewrite; `add`, `front`, `raw`) makes of a file; `-` is no file |
+//! | `stops` | what a recovery leaves after a stop inside each event, with each part of it done |
+//! | `change KIND / CURRENT / BASE / TEXT\|TEXT..` | what a change makes of a file; `-` is no file |
 //! | `write PHASE TOKEN NAME\|NAME..` | whether such a record is valid, its text, and whether it is read back |
 //! | `read` | whether the text below the line `record` is one |
 //! | `swap OLD => NEW` | the same of this text where the first OLD is replaced |
@@ -24,6 +24,10 @@
 //! | `names ACTOR TOKEN NAME` | the names of the record, of the new one, of the right and of a staged file |
 //! | `taken ACTOR NAME` | whether the name is that of the actor's record |
 //! | `large` | what comes of files past a limit |
+//!
+//! A change of `do commit` is `KIND NAME TEXT|TEXT..`, and BASE, which may be left out with its slash, the text that the
+//! rewrites were made for. The kinds are `keep` and `drop`, which are rewrites, `add`, `front` and `raw`. For `stops`
+//! there comes a line where another stop inside a recovery, recovered again, leaves something else.
 //!
 //! Of a case with calls there are printed last how many events there are, and what became of the disk.
 #![tactic(auto)]
@@ -39,29 +43,15 @@ mod records;
 mod script;
 mod stops;
 
-use mail_text::Memory;
+use case_blocks::told;
+use script::Script;
 use std::io;
 use std::process::ExitCode;
 
-fn tell(rt: &HostRuntime, cases: &str) -> Result<(), Memory> {
-    laws::call();
-    let mut always = "";
-    for block in cases.split("\n\n") {
-        if block.lines().any(|line| line == "always") {
-            always = block;
-        }
-        let told = script::told(rt.alloc(), case_blocks::first(block, always))?;
-        let _ = rt.write_all(told.bytes());
-    }
-    Ok(())
-}
-
 fn main(rt: HostRuntime) -> ExitCode {
+    laws::call();
     match io::read_to_string(rt.alloc(), rt.reader()) {
-        Ok(cases) => match tell(&rt, cases.as_str()) {
-            Ok(()) => ExitCode::from(0),
-            Err(_) => ExitCode::from(8),
-        },
+        Ok(blocks) => ExitCode::from(told(rt.alloc(), &Script, blocks.as_str()).write(&rt)),
         Err(_) => ExitCode::from(3),
     }
 }

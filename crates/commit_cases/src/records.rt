@@ -1,41 +1,29 @@
 // Records of commits.
-use case_blocks::{cut, decoded, push_lines};
+use case_blocks::{Answer, cut};
 use commit_record::{Entry, EntryKind, Phase, Record, RecordError, is_valid, read, write};
-use mail_text::{Items, Memory, Text};
+use mail_text::{Items, Memory};
 use std::alloc::Global;
+use std::str;
 
 // An entry by its name; an exclamation mark before it removes the file.
-fn entry(alloc: Global, marked: &str) -> Result<Entry, Memory> {
+fn entry(marked: &str, out: &mut Answer) -> Entry {
     let (kind, name) = match marked.strip_prefix('!') {
         Some(name) => (EntryKind::Remove, name),
         None => (EntryKind::Replace, marked),
     };
-    Ok(Entry {
-        kind,
-        name: decoded(alloc, name)?,
-    })
+    let name = out.decoded(name);
+    Entry { kind, name }
 }
 
-fn entries(alloc: Global, names: &str) -> Result<Items<Entry>, Memory> {
-    let mut entries = Items::new(alloc);
+fn entries(names: &str, out: &mut Answer) -> Items<Entry> {
+    let mut entries = Items::new(out.alloc());
     if names != "-" {
         for name in names.split('|') {
-            entries.push(entry(alloc, name)?)?;
+            let entry = entry(name, out);
+            out.note(entries.push(entry));
         }
     }
-    Ok(entries)
-}
-
-fn phase(word: &str) -> Phase {
-    if word == "go" {
-        Phase::Go
-    } else {
-        Phase::Prepare
-    }
-}
-
-fn token(digits: &str) -> u64 {
-    u64::from_str_radix(digits, 16).unwrap_or(0)
+    entries
 }
 
 fn are_same(a: &Entry, b: &Entry) -> bool {
@@ -55,12 +43,12 @@ fn is_refused(alloc: Global, bytes: &[u8]) -> bool {
 }
 
 /// Whether a text is a record.
-pub fn push_read(alloc: Global, bytes: &[u8], text: &mut Text) -> Result<(), Memory> {
-    match read(alloc, bytes) {
-        Ok(_) => text.push(b"a record"),
-        Err(RecordError::NotARecord) => text.push(b"none"),
-        Err(_) => text.push(b"out of memory"),
-    }
+pub fn put_read(bytes: &[u8], out: &mut Answer) {
+    out.put_plain(match read(out.alloc(), bytes) {
+        Ok(_) => b"a record",
+        Err(RecordError::NotARecord) => b"none".as_slice(),
+        Err(_) => b"out of memory",
+    });
 }
 
 // Whether the text is read as this record, and no front of it as any.
@@ -77,83 +65,69 @@ fn is_read_back(alloc: Global, bytes: &[u8], value: &Record) -> bool {
     }
 }
 
-fn push_record(alloc: Global, value: &Record, text: &mut Text) -> Result<(), Memory> {
-    if !is_valid(value) {
-        return text.push(b"not valid");
-    }
-    let written = write(alloc, value)?;
-    let mut buffer = itoa::Buffer::new();
-    text.push(b"valid, ")?;
-    text.push(buffer.format(written.bytes().len()).as_bytes())?;
-    text.push(b" bytes\n")?;
-    push_lines(text, written.bytes())?;
-    text.push(if is_read_back(alloc, written.bytes(), value) {
+fn put_text(written: &[u8], value: &Record, out: &mut Answer) {
+    out.put_plain(b"valid, ");
+    out.put_shown(&written.len());
+    out.put_plain(b" bytes\n");
+    out.put_lines(written);
+    out.put_plain(if is_read_back(out.alloc(), written, value) {
         b"read back".as_slice()
     } else {
-        b"not read back".as_slice()
-    })
+        b"not read back"
+    });
+}
+
+fn put_record(value: &Record, out: &mut Answer) {
+    if !is_valid(value) {
+        return out.put_plain(b"not valid");
+    }
+    match write(out.alloc(), value) {
+        Ok(written) => put_text(written.bytes(), value, out),
+        Err(Memory) => out.lack(),
+    }
 }
 
 /// A record by a line: whether it is valid, how it is written, and whether it is read back.
-pub fn push_written(alloc: Global, line: &str, text: &mut Text) -> Result<(), Memory> {
+pub fn put_written(line: &str, out: &mut Answer) {
     let (word, rest) = cut(line);
     let (digits, names) = cut(rest);
     let value = Record {
-        phase: phase(word),
-        token: token(digits),
-        entries: entries(alloc, names)?,
+        phase: if word == "go" {
+            Phase::Go
+        } else {
+            Phase::Prepare
+        },
+        token: u64::from_str_radix(digits, 16).unwrap_or(0),
+        entries: entries(names, out),
     };
-    push_record(alloc, &value, text)
+    put_record(&value, out);
 }
 
-// The text with the first such part replaced, or None where there is no such part.
-fn swapped(alloc: Global, text: &str, old: &str, new: &str) -> Result<Option<Text>, Memory> {
-    match text.split_once(old) {
+// The text with the first such part replaced, where there is one: whether it is a record.
+fn put_swapped(record: &str, old: &str, new: &str, out: &mut Answer) {
+    match record.split_once(old) {
         Some((front, back)) => {
-            let mut other = Text::new(alloc);
-            other.push(front.as_bytes())?;
-            other.push(new.as_bytes())?;
-            other.push(back.as_bytes())?;
-            Ok(Some(other))
+            let mut other = Answer::new(out.alloc());
+            other.put_plain(front.as_bytes());
+            other.put_plain(new.as_bytes());
+            other.put_plain(back.as_bytes());
+            put_read(other.bytes(), out);
         }
-        None => Ok(None),
-    }
-}
-
-fn push_swapped(
-    alloc: Global,
-    record: &str,
-    old: &str,
-    new: &str,
-    text: &mut Text,
-) -> Result<(), Memory> {
-    match swapped(alloc, record, old, new)? {
-        Some(other) => push_read(alloc, other.bytes(), text),
-        None => text.push(b"not there"),
-    }
-}
-
-fn push_swap_in(
-    alloc: Global,
-    record: &[u8],
-    old: &[u8],
-    new: &[u8],
-    text: &mut Text,
-) -> Result<(), Memory> {
-    match (
-        str::from_utf8(record),
-        str::from_utf8(old),
-        str::from_utf8(new),
-    ) {
-        (Ok(record), Ok(old), Ok(new)) => push_swapped(alloc, record, old, new, text),
-        _ => text.push(b"no text"),
+        None => out.put_plain(b"not there"),
     }
 }
 
 /// The same of a text in which one part is replaced by another, as a line says.
-pub fn push_swap(alloc: Global, record: &[u8], line: &str, text: &mut Text) -> Result<(), Memory> {
+pub fn put_swap(record: &[u8], line: &str, out: &mut Answer) {
     let (old, new) = line.split_once(" => ").unwrap_or((line, ""));
-    let old = decoded(alloc, old)?;
-    let new = decoded(alloc, new)?;
-    push_swap_in(alloc, record, old.bytes(), new.bytes(), text)
+    let old = out.decoded(old);
+    let new = out.decoded(new);
+    match (
+        str::from_utf8(record),
+        str::from_utf8(old.bytes()),
+        str::from_utf8(new.bytes()),
+    ) {
+        (Ok(record), Ok(old), Ok(new)) => put_swapped(record, old, new, out),
+        _ => out.put_plain(b"no text"),
+    }
 }

@@ -1,11 +1,10 @@
 // One case, line by line.
-use crate::calls::push_call;
-use crate::pure::push_answer;
-use crate::stops::{push_stop, push_stops};
-use case_blocks::{Case, is_plain, plan, push_changes, text_under, value, view};
+use crate::calls::put_call;
+use crate::pure::put_answer;
+use crate::stops::{put_stop, put_stops};
+use case_blocks::{Answer, Case, Tells, cut, host, is_plain, put_disk, put_title, view};
 use host_port::{DiskView, Event, MemHost};
-use mail_text::{Memory, Text};
-use std::alloc::Global;
+use mail_text::Memory;
 
 fn letter(event: &Event) -> u8 {
     match event {
@@ -27,111 +26,55 @@ fn letter(event: &Event) -> u8 {
     }
 }
 
-fn push_letters(host: &MemHost, text: &mut Text) -> Result<(), Memory> {
+fn put_letters(host: &MemHost, out: &mut Answer) {
     for event in host.trace() {
-        text.push(&[letter(event)])?;
+        out.put_plain(&[letter(event)]);
     }
-    Ok(())
 }
 
-fn push_line(
-    alloc: Global,
-    case: Case<'_>,
-    host: &mut MemHost,
-    start: &DiskView,
-    line: &str,
-    text: &mut Text,
-) -> Result<(), Memory> {
-    if let Some(call) = line.strip_prefix("do ") {
-        text.push(call.as_bytes())?;
-        text.push(b": ")?;
-        push_call(alloc, host, call, text)?;
-        return text.push(b"\n");
+fn put_line(case: Case<'_>, host: &mut MemHost, start: &DiskView, line: &str, out: &mut Answer) {
+    let (kind, rest) = cut(line);
+    match kind {
+        "stop" => return put_stop(start, host, rest, out),
+        "stops" => return put_stops(start, host, out),
+        _ => {}
     }
-    if let Some(stop) = line.strip_prefix("stop ") {
-        return push_stop(alloc, start, host, stop, text);
+    out.put_plain(if kind == "do" { rest } else { line }.as_bytes());
+    out.put_plain(b": ");
+    match kind {
+        "do" => put_call(host, rest, out),
+        "letters" => put_letters(host, out),
+        _ => put_answer(case, line, out),
     }
-    if line == "stops" {
-        return push_stops(alloc, start, host, text);
-    }
-    text.push(line.as_bytes())?;
-    text.push(b": ")?;
-    if line == "letters" {
-        push_letters(host, text)?;
-    } else {
-        push_answer(alloc, case, line, text)?;
-    }
-    text.push(b"\n")
+    out.put_plain(b"\n");
 }
 
-fn push_events(host: &MemHost, start: &DiskView, text: &mut Text) -> Result<(), Memory> {
-    let mut buffer = itoa::Buffer::new();
-    text.push(b"events ")?;
-    text.push(buffer.format(host.trace().len()).as_bytes())?;
-    text.push(b"\n")?;
-    let now = host.view()?;
-    push_changes(text, start, &now)?;
-    text.push(if host.lost() {
-        b"lost\n".as_slice()
-    } else {
-        b"".as_slice()
-    })
-}
-
-fn push_script(
-    alloc: Global,
-    case: Case<'_>,
-    host: &mut MemHost,
-    start: &DiskView,
-    text: &mut Text,
-) -> Result<(), Memory> {
+fn put_script(case: Case<'_>, host: &mut MemHost, start: &DiskView, out: &mut Answer) {
     for line in case.own.lines() {
         if !is_plain(line) && line != "record" {
-            push_line(alloc, case, host, start, line, text)?;
+            put_line(case, host, start, line, out);
         }
     }
-    if host.trace().is_empty() {
-        return Ok(());
+    if !host.trace().is_empty() {
+        out.put_plain(b"events ");
+        out.put_shown(&host.trace().len());
+        out.put_plain(b"\n");
+        put_disk(start, host, out);
     }
-    push_events(host, start, text)
+    out.put_plain(b"\n");
 }
 
-fn host(alloc: Global, case: Case<'_>) -> Result<MemHost, Memory> {
-    let input = text_under(alloc, case.own, "input")?;
-    let plan = plan(alloc, case)?;
-    MemHost::new(alloc, view(alloc, case)?, input, plan)
-}
+/// Cases as scripts: each its title and the answers of its lines.
+pub struct Script;
 
-fn push_with(
-    alloc: Global,
-    case: Case<'_>,
-    host: &mut MemHost,
-    text: &mut Text,
-) -> Result<(), Memory> {
-    let start = view(alloc, case)?;
-    push_script(alloc, case, host, &start, text)?;
-    text.push(b"\n")
-}
-
-fn push_case(alloc: Global, case: Case<'_>, text: &mut Text) -> Result<(), Memory> {
-    let mut host = host(alloc, case)?;
-    push_with(alloc, case, &mut host, text)
-}
-
-/// What a block tells: its title and the answers of its lines where it is a case, and each line that says nothing known.
-pub fn told(alloc: Global, case: Case<'_>) -> Result<Text, Memory> {
-    let mut text = Text::new(alloc);
-    if let Some(title) = value(
-        Case {
-            own: case.own,
-            always: "",
-        },
-        "case ",
-    ) {
-        text.push(b"case ")?;
-        text.push(title.as_bytes())?;
-        text.push(b"\n")?;
-        push_case(alloc, case, &mut text)?;
+impl Tells for Script {
+    fn tell(&self, case: Case<'_>, out: &mut Answer) {
+        if put_title(case, out) {
+            let start = view(case, out);
+            match host(case, out) {
+                Ok(mut host) => put_script(case, &mut host, &start, out),
+                Err(Memory) => out.lack(),
+            }
+        }
     }
-    Ok(text)
 }

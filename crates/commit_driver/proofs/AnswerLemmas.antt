@@ -4,7 +4,7 @@ use Rattle.commit_record.specs.declared.record.Record.{Record}
 use Rattle.commit_machine.specs.Records.{is_go, names_of, AreDistinct}
 use Rattle.commit_machine.specs.Jobs.{Ending, Edit, Job, Made, edits_of, all_of, prepare_of, go_of, made_at, kind_made}
 use Rattle.commit_machine.specs.Jobs as jobs
-use Rattle.commit_machine.specs.Machine.{State, locking, loading, staging, unlocking, undoing, placing, tested, refusing, went_on, faulted, too_long, mended, none_stands}
+use Rattle.commit_machine.specs.Machine.{State, locking, loading, staging, unlocking, tested, refusing, went_on, faulted, too_long, mended, none_stands}
 use Rattle.commit_machine.specs.Machine as machine
 use Rattle.commit_driver.specs.declared.step.Recovered.{Recovered}
 use Rattle.commit_driver.specs.declared.step.Recovered.TheVariants as recovered

@@ -13,7 +13,7 @@ use Rattle.host_port.specs.Ran.{Ran}
 use Rattle.host_port.proofs.RanLemmas.{Ran-none, Ran-then, Ran-map}
 use Rattle.folder_change.specs.declared.change.Change.{Change}
 use Rattle.commit_machine.specs.Jobs.{NoMemory, Job}
-use Rattle.commit_machine.specs.Machine.{State, Seizing, Looking, Undoing, Placing, Testing, Removing, Discarding, Unlocking, Erasing, Clearing, Preparing, Publishing, Locking, Loading, Staging, Deciding, Committing, Checking, Releasing, Ended, Then, GoOn, Answer, Reply, Went, Saw, Long, Short, Fault, next, refused, after_reply}
+use Rattle.commit_machine.specs.Machine.{State, Seizing, Looking, Undoing, Placing, Testing, Removing, Discarding, Unlocking, Erasing, Clearing, Preparing, Publishing, Locking, Loading, Staging, Deciding, Committing, Checking, Releasing, Ended, GoOn, Answer, Reply, Went, Saw, Long, Short, Fault, next, refused, after_reply}
 use Rattle.commit_machine.specs.Machine as machine
 use Rattle.commit_machine.specs.Goes.{IsNext, Goes, reply}
 use Rattle.commit_machine.proofs.GoesLemmas.{stretches_join, refused_twice}

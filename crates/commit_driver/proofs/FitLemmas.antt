@@ -9,7 +9,7 @@ use Rattle.commit_driver.specs.declared.step.Then.TheVariants.{GoOn, Answer}
 use Rattle.commit_driver.specs.declared.step.Step.{Step}
 use Rattle.commit_driver.specs.declared.step.Step.TheVariants.{Seizing, Looking, Undoing, Placing, Testing, Removing, Discarding, Unlocking, Erasing, Clearing, Preparing, Publishing, Locking, Loading, Staging, Deciding, Committing, Checking, Releasing, Ended}
 use Rattle.commit_driver.specs.declared.answers.Reply.TheVariants as reply
-use Rattle.commit_driver.specs.Steps.{Kinds, call_at, count_at, EndFits, ThenFits, Fits, unlocking_at, undoing_at, removing_at, place_at, placing_at, tested_at, locking_at, staging_at, faulted_at, long_at, short_at, closed_at, went_at, then_rank, weight}
+use Rattle.commit_driver.specs.Steps.{Kinds, call_at, count_at, ThenFits, Fits, unlocking_at, undoing_at, removing_at, place_at, placing_at, tested_at, locking_at, staging_at, faulted_at, long_at, short_at, closed_at, went_at, then_rank, weight}
 use Rattle.commit_driver.specs.Answers.{IsAnswer, settled_then, is_settled, ThenCaused, Caused}
 use Rattle.commit_driver.proofs.StateLemmas.{lt-or}
 

@@ -24,10 +24,10 @@ use Rattle.commit_record.specs.declared.record.Entry.{Entry}
 use Rattle.commit_record.specs.declared.record.Record.{Record}
 use Rattle.commit_machine.specs.Records.{is_go, names_of, kind_of, record_of, has, AreDistinct}
 use Rattle.commit_machine.specs.Settled.{Files, Mem}
-use Rattle.commit_machine.specs.Jobs.{Ending, NoMemory, Refused, Outcome, Puts, Edit, Job, Made, edits_of, all_of, prepare_of, go_of, made_at, kind_made, entries_for, seen_of, seen_files}
+use Rattle.commit_machine.specs.Jobs.{Ending, NoMemory, Refused, Edit, Job, Made, edits_of, all_of, go_of, made_at, kind_made, entries_for, seen_files}
 use Rattle.commit_machine.specs.Jobs as jobs
 use Rattle.commit_machine.specs.Edits.{first_names, edit_for, edits_for, outcome_for, cause_of}
-use Rattle.commit_machine.specs.Machine.{State, GoOn, loading, staging, unlocking, undoing, placing, place_one, tested, refusing, judged, mending, record_seen, looked, loaded, saw, refused, none_stands, passed_by, go_front}
+use Rattle.commit_machine.specs.Machine.{State, GoOn, loading, staging, unlocking, undoing, placing, place_one, tested, refusing, judged, mending, record_seen, looked, saw, refused, none_stands, passed_by, go_front}
 use Rattle.commit_machine.specs.Machine as machine
 use Rattle.commit_machine.proofs.RecordLemmas.{record_of-written, record_of-is, valid-names}
 use Rattle.commit_machine.proofs.Same.{same_refl, same_false}

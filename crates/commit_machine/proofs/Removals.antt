@@ -15,7 +15,7 @@ use Rattle.commit_machine.specs.Machine.{Then, GoOn, Testing, Removing, Discardi
 use Rattle.commit_machine.specs.Goes.{IsOf, loads, erases}
 use Rattle.commit_machine.specs.Lawful.{IsSound}
 use Rattle.commit_machine.specs.Due.{settled_files, settled_locks}
-use Rattle.commit_machine.proofs.Inv.{PartPlaced, Knows}
+use Rattle.commit_machine.proofs.Inv.{Knows}
 use Rattle.commit_machine.proofs.Same.{put_here, put_there}
 use Rattle.commit_machine.proofs.NameLemmas.{staged-one, lawful-staged}
 use Rattle.commit_machine.proofs.RecordLemmas.{stands-lawful}

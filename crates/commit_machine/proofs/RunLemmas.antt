@@ -26,7 +26,7 @@ use Rattle.commit_machine.proofs.Steps2
 use Rattle.commit_machine.proofs.Removals
 use Rattle.commit_machine.proofs.Steps3
 use Rattle.commit_machine.proofs.Steps4
-use Rattle.commit_machine.proofs.Steps.{Shows, Kept}
+use Rattle.commit_machine.proofs.Steps.{Kept}
 use Rattle.commit_machine.proofs.LawfulLemmas.{lawful_keeps}
 use Rattle.commit_machine.proofs.Others.{others_knows}
 use Rattle.commit_machine.proofs.States.{knows_refused}

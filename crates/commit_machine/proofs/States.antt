@@ -8,7 +8,7 @@ use Rattle.commit_machine.specs.Names.{record_name, new_name}
 use Rattle.commit_machine.specs.Records.{record_in, record_of, is_go, names_of, kind_of}
 use Rattle.commit_machine.specs.Settled.{Mem}
 use Rattle.commit_machine.specs.Jobs.{Ending, Refused, NoMemory, Found, Refusal, seen_files, Edit, Job, Made, edits_of, all_of, entries_for, prepare_of, IsJob}
-use Rattle.commit_machine.specs.Machine.{Then, GoOn, Answer, State, Seizing, Looking, Undoing, Placing, Testing, Removing, Discarding, Unlocking, Erasing, Clearing, Preparing, Publishing, Locking, Loading, Staging, Deciding, Committing, Checking, Releasing, Ended, unlocking, undoing, removing, tested, place_one, placing, staging, judged, loading, locking, mended, none_stands, mending, record_seen, looked, refusing, refused, wanted}
+use Rattle.commit_machine.specs.Machine.{Then, GoOn, Answer, State, Seizing, Looking, Undoing, Placing, Testing, Removing, Discarding, Unlocking, Erasing, Clearing, Preparing, Publishing, Locking, Loading, Staging, Deciding, Committing, Checking, Releasing, Ended, unlocking, undoing, removing, place_one, placing, staging, judged, loading, locking, mended, none_stands, mending, record_seen, looked, refusing, refused, wanted}
 use Rattle.commit_machine.specs.Lawful.{standing}
 use Rattle.commit_machine.proofs.RecordLemmas.{stands-distinct}
 use Rattle.commit_machine.proofs.Inv.{Closing, Own, Clean, Idle, IsValid, IsOwnEnd, ThenOk, Subset, Covers, LocksLeft, Among, PartPlaced, Knows}

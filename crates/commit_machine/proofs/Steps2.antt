@@ -24,7 +24,7 @@ use Rattle.commit_machine.proofs.Keep.{keep_new, keep_erase}
 use Rattle.commit_machine.proofs.Sound.{sound_new, sound_erase, sound_unlock, lock_same, lock_erase, lock_own}
 use Rattle.commit_machine.proofs.States.{knows_unlocking, knows_mended}
 use Rattle.commit_machine.proofs.Steps
-use Rattle.commit_machine.proofs.Steps.{Shows, Kept, none_of, absent_more, other_more, not_decided}
+use Rattle.commit_machine.proofs.Steps.{Shows, Kept, other_more}
 
 owner_is : (t : ℕ) (l : Option ℕ) → is_owner t l ≡ true → l ≡ Some t
 owner_is t None h = absurd (cc)

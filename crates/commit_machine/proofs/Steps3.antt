@@ -32,7 +32,6 @@ use Rattle.commit_machine.proofs.RecordLemmas.{stands-valid}
 use Rattle.commit_machine.proofs.JobLemmas.{valid-distinct, valid-plain, one_edit}
 use Rattle.commit_machine.proofs.Steps.{Shows, Kept}
 use Rattle.commit_machine.proofs.Steps2
-use Rattle.commit_machine.proofs.Steps2.{none_left}
 
 -- a publication of a record that isn't the decision
 not_go : (j : Job) (d : Disk) (files : Files) (r : Record) (from to : List ℕ) (failed : Bool) (n : List ℕ) → record_in (d.files (new_name j.actor)) ≡ Some r → is_go r ≡ false → files_then j (event.Publish from to true failed) d files n ≡ files n

@@ -46,7 +46,7 @@ expanded desk word = name_or_fault (expansion desk.places desk.vars [] word)
 
 -- the bare address of the author of message n, numbered from 1; empty where there is none
 abbrev pub author_of : Desk → ℕ → List ℕ
-author_of desk n = option_map_or (λ row. row.author) (slice_get desk.shown.rows (n - 1)) []
+author_of desk n = option_map_or (λ row. row.texts.author) (slice_get desk.shown.rows (n - 1)) []
 
 -- the name isn't empty and holds no `/`
 abbrev pub is_plain : List ℕ → Bool

@@ -45,7 +45,7 @@ fn author_of(desk: &Desk, n: u32) -> &[u8]
     ensures { result.now ≡ author_of desk.now n }
 {
     match desk.shown.rows.items().get((n as usize).saturating_sub(1)) {
-        Some(row) => row.author.bytes(),
+        Some(row) => row.texts.author(),
         None => &[],
     }
 }

@@ -13,13 +13,12 @@ use Rattle.commit_record.specs.Format.{is_valid, is_replace, fit_phase, are_dist
 use Rattle.commit_record.specs.Names.{is_lawful}
 use Rattle.commit_record.specs.declared.record.Phase.{Phase}
 use Rattle.commit_record.specs.declared.record.Phase.TheVariants.{Prepare, Go}
-use Rattle.commit_record.specs.declared.record.EntryKind.{EntryKind}
 use Rattle.commit_record.specs.declared.record.EntryKind.TheVariants.{Replace}
 use Rattle.commit_record.specs.declared.record.Entry.{Entry}
 use Rattle.commit_machine.specs.Names.{is_record_name, staged_name}
 use Rattle.commit_machine.specs.Records.{names_of, has, AreDistinct}
 use Rattle.commit_machine.specs.Settled.{Mem}
-use Rattle.commit_machine.specs.Jobs.{Edit, IsJob, all_of, entries_for, kind_made, made_at}
+use Rattle.commit_machine.specs.Jobs.{Edit, IsJob, all_of}
 use Rattle.commit_machine.specs.Edits.{first_names, without, edit_for, job_for}
 use Rattle.commit_machine.proofs.Same.{same_refl, same_or_not}
 use Rattle.commit_driver.specs.Places.{nth, IsPlan, IsSafe}

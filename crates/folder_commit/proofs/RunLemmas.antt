@@ -10,7 +10,7 @@ use Rattle.commit_record.specs.declared.record.Entry.{Entry}
 use Rattle.commit_machine.specs.Names.{record_name, right_name, staged_name}
 use Rattle.commit_machine.specs.Records.{names_of}
 use Rattle.commit_machine.specs.Settled.{Mem}
-use Rattle.commit_machine.specs.Jobs.{Ending, Refused, Failed, NoMemory, Job, all_of}
+use Rattle.commit_machine.specs.Jobs.{Refused, Failed, NoMemory, Job, all_of}
 use Rattle.commit_machine.specs.Jobs as jobs
 use Rattle.commit_machine.specs.Edits.{first_names, edits_for, job_for}
 use Rattle.commit_driver.specs.declared.step.Passed.TheVariants as passed

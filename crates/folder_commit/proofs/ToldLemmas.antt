@@ -15,7 +15,7 @@ use Rattle.commit_record.specs.declared.record.Record.{Record}
 use Rattle.commit_machine.specs.Names.{record_name, new_name, right_name, staged_name}
 use Rattle.commit_machine.specs.Records.{record_of, is_go, names_of, kind_of}
 use Rattle.commit_machine.specs.Jobs.{Found, Refusal, Busy, TooLarge, Ending, Done, Refused, Failed, NoMemory, Outcome, Puts, Edit, Job, Made, all_of, edits_of, prepare_of, go_of, seen_files}
-use Rattle.commit_machine.specs.Machine.{State, Seizing, Looking, Undoing, Placing, Testing, Removing, Discarding, Unlocking, Erasing, Clearing, Preparing, Publishing, Locking, Loading, Staging, Deciding, Committing, Checking, Releasing, Ended, Then, GoOn, Answer, unlocking, undoing, removing, tested, place_one, placing, staging, mended, none_stands, mending, record_seen, refusing, judged, loading, locking, loaded, next, refused, after_reply}
+use Rattle.commit_machine.specs.Machine.{State, Seizing, Looking, Undoing, Placing, Testing, Removing, Discarding, Unlocking, Erasing, Clearing, Preparing, Publishing, Locking, Loading, Staging, Deciding, Committing, Checking, Releasing, Ended, Then, GoOn, Answer, unlocking, undoing, removing, place_one, placing, staging, mended, none_stands, mending, record_seen, refusing, judged, loading, locking, loaded, next, refused, after_reply}
 use Rattle.commit_machine.specs.Goes.{IsNext, reply, Goes}
 use Rattle.commit_machine.specs.Restraints.{is_failed}
 use Rattle.commit_driver.specs.declared.step.Passed.TheVariants as passed

@@ -10,7 +10,7 @@ use Rattle.commit_record.specs.declared.record.Record.{Record}
 use Rattle.commit_machine.specs.Records.{record_of, is_go, names_of, kind_of}
 use Rattle.commit_machine.specs.Jobs.{Passed, Before, Ending, Recovered, Refused, Failed, NoMemory, Job}
 use Rattle.commit_machine.specs.Edits.{recovery_for}
-use Rattle.commit_machine.specs.Machine.{State, Seizing, Looking, Undoing, Placing, Testing, Removing, Discarding, Unlocking, Erasing, Clearing, Releasing, Ended, Then, GoOn, Reply, Went, Saw, Long, Short, Fault, unlocking, undoing, place_one, placing, tested, mending, record_seen, refused, after_reply, passed_at, passed_ending}
+use Rattle.commit_machine.specs.Machine.{State, Seizing, Looking, Undoing, Placing, Testing, Removing, Discarding, Unlocking, Erasing, Clearing, Releasing, Ended, GoOn, Reply, Went, Saw, Long, Short, unlocking, undoing, place_one, placing, tested, record_seen, refused, after_reply, passed_at, passed_ending}
 use Rattle.commit_machine.specs.Goes.{reply, Goes}
 
 -- nothing is decided in a recovery

@@ -6,7 +6,7 @@ use Rattle.std.specs.declared.result.Result.TheVariants.{Err}
 use Rattle.host_port.specs.declared.event.Event.{Event}
 use Rattle.host_port.specs.Calls.{Counts}
 use Rattle.host_port.specs.Names.{IsFileName, has_no_zero}
-use Rattle.commit_machine.specs.Names.{record_name, new_name, right_name, staged_name}
+use Rattle.commit_machine.specs.Names.{staged_name}
 use Rattle.commit_machine.specs.Records.{names_of}
 use Rattle.commit_machine.specs.Jobs.{Ending, Before, Refused, Failed, NoMemory, Job}
 use Rattle.commit_machine.specs.Jobs as jobs
@@ -15,7 +15,6 @@ use Rattle.commit_driver.specs.declared.step.Passed.TheVariants as passed
 use Rattle.commit_driver.specs.declared.step.Recovered.{Recovered}
 use Rattle.commit_driver.specs.declared.step.End.{End}
 use Rattle.commit_driver.specs.declared.step.End.TheVariants as end
-use Rattle.commit_driver.specs.declared.place.Plan.{Plan}
 use Rattle.commit_driver.specs.declared.place.Place.{Place}
 use Rattle.commit_driver.specs.Steps.{EndFits}
 use Rattle.commit_driver.specs.Places.{nth, WantedAs, IsPlan, IsSafe}

@@ -12,7 +12,7 @@ use Rattle.host_port.specs.Ran.{Honest, Ran}
 use Rattle.host_port.proofs.RanLemmas.{own-append}
 use Rattle.commit_machine.specs.Edits.{recovery_for}
 use Rattle.commit_machine.specs.Names.{right_name}
-use Rattle.commit_machine.specs.Jobs.{Before, Ending, Refused, Failed, NoMemory, Edit, Job, IsJob}
+use Rattle.commit_machine.specs.Jobs.{Before, Ending, Refused, Failed, NoMemory, Job, IsJob}
 use Rattle.commit_machine.specs.Jobs as jobs
 use Rattle.commit_machine.specs.Machine.{Seizing, Ended}
 use Rattle.commit_machine.specs.Goes.{Goes}

@@ -1,10 +1,9 @@
 -- A recovery answers as its own events give it.
-use Rattle.std.proofs.Common.{◌≡◌, ◌⊎◌, ℕ, Bool, true, false, List, [], ◌∷◌, if◌then◌else◌, ◌||◌, refl, ap, sym, subst, inl, inr, ◌∙◌}
+use Rattle.std.proofs.Common.{◌≡◌, ◌⊎◌, ℕ, Bool, true, false, List, [], ◌∷◌, refl, ap, sym, subst, inl, inr, ◌∙◌}
 use Rattle.std.specs.declared.option.Option.{Option}
 use Rattle.std.specs.declared.option.Option.TheVariants.{Some, None}
 use Rattle.std.specs.declared.result.Result.{Result}
 use Rattle.std.specs.declared.result.Result.TheVariants.{Ok, Err}
-use Rattle.std.specs.List.{list_any}
 use Rattle.std.proofs.lemmas.Bool.{cases_Bool}
 use Rattle.host_port.specs.declared.event.Event.{Event}
 use Rattle.host_port.specs.declared.event.Event.TheVariants as event
@@ -17,13 +16,12 @@ use Rattle.commit_machine.specs.Names.{record_name, new_name, right_name, staged
 use Rattle.commit_machine.specs.Records.{record_of, is_go, names_of, kind_of}
 use Rattle.commit_machine.specs.Jobs.{Before, Found, Nothing, Busy, NotARecord, TooLarge, Ending, Recovered, Refused, Failed, NoMemory, Job}
 use Rattle.commit_machine.specs.Edits.{recovery_for}
-use Rattle.commit_machine.specs.Machine.{State, Seizing, Looking, Undoing, Placing, Testing, Removing, Discarding, Unlocking, Erasing, Clearing, Releasing, Ended, GoOn, Answer, ToLoad, ToErase, ToPublish, ToUnlock, ToSeize, ToRelease, unlocking, undoing, place_one, placing, mending, record_seen, found_of, next, refused, after_reply}
+use Rattle.commit_machine.specs.Machine.{State, Seizing, Looking, Undoing, Placing, Testing, Removing, Discarding, Unlocking, Erasing, Clearing, Releasing, Ended, GoOn, ToLoad, ToErase, ToPublish, ToUnlock, ToSeize, ToRelease, unlocking, undoing, place_one, placing, mending, record_seen, found_of, next, refused, after_reply}
 use Rattle.commit_machine.specs.Goes.{IsOf, loads, publishes, erases, unlocks, seizes, releases, IsNext, reply, Goes}
 use Rattle.commit_driver.specs.declared.step.Recovered.{Recovered as Found_answer}
 use Rattle.folder_recovery.specs.declared.error.RecoverError.{RecoverError}
 use Rattle.folder_recovery.specs.declared.error.RecoverError.TheVariants as error
 use Rattle.folder_recovery.specs.Recovering.{found, GoesTo, Recovers}
-use Rattle.commit_machine.specs.Restraints.{is_failed}
 use Rattle.folder_recovery.specs.Told.{unless_failed, unless_long, end_read, told_end, IsTold}
 
 -- an end that is this one, or want of memory

@@ -1,63 +1,77 @@
 // Cases of lists of addresses.
-use crate::answer::{put_bad, put_flag, put_number};
-use crate::case::field;
+use crate::case::{field, words};
+use case_blocks::Answer;
 use mail_addresses::{
-    Address, AddressError, bare, first_address, local_part, read_list, same_address,
+    Address, AddressError, FoundAddress, bare, first_address, local_part, read_list, same_address,
 };
 use mail_text::{Memory, Text};
-use std::alloc::Global;
 
-pub fn put(alloc: Global, case: &[Text], out: &mut Text) -> Result<(), Memory> {
-    match field(case, 1) {
-        b"read" => put_list(alloc, field(case, 2), out),
-        b"first" => put_first(alloc, field(case, 2), out),
-        b"same" => put_flag(out, same_address(field(case, 2), field(case, 3))),
-        _ => put_bad(out),
+pub fn put(case: &[Text], out: &mut Answer) {
+    match words(case, 1) {
+        "read" => put_list(field(case, 2), out),
+        "first" => put_first(field(case, 2), out),
+        "same" => out.put_flag(same_address(field(case, 2), field(case, 3))),
+        _ => out.put_bad(),
     }
 }
 
 // `[NAME]LOCAL+REST` for each address, or the number of the first bad piece.
-fn put_list(alloc: Global, value: &[u8], out: &mut Text) -> Result<(), Memory> {
-    match read_list(alloc, value) {
+fn put_list(value: &[u8], out: &mut Answer) {
+    match read_list(out.alloc(), value) {
         Ok(list) => put_addresses(&list, out),
         Err(AddressError::Syntax { at }) => {
-            out.push(b"bad ")?;
-            put_number(out, at)
+            out.put(b"bad ");
+            out.put_shown(&at);
         }
-        Err(AddressError::Memory) => Err(Memory),
+        Err(AddressError::Memory) => out.lack(),
     }
 }
 
-fn put_addresses(list: &[Address], out: &mut Text) -> Result<(), Memory> {
+fn put_addresses(list: &[Address], out: &mut Answer) {
     if list.is_empty() {
-        out.push(b"none")?;
+        out.put(b"none");
     }
     for (k, address) in list.iter().enumerate() {
         if k > 0 {
-            out.push(b" ")?;
+            out.put(b" ");
         }
-        put_address(address, out)?;
+        put_address(address, out);
     }
-    Ok(())
 }
 
-fn put_address(address: &Address, out: &mut Text) -> Result<(), Memory> {
-    out.push(b"[")?;
-    out.push(address.name.bytes())?;
-    out.push(b"]")?;
+fn put_address(address: &Address, out: &mut Answer) {
+    out.put(b"[");
+    out.put(address.name.bytes());
+    out.put(b"]");
     if address.local > address.spec.bytes().len() {
-        return put_bad(out);
+        return out.put_bad();
     }
-    out.push(local_part(address))?;
-    out.push(b"+")?;
+    out.put(local_part(address));
+    out.put(b"+");
     let (_, rest) = bare(address).split_at(address.local);
-    out.push(rest)
+    out.put(rest);
 }
 
 // The first address of a list.
-fn put_first(alloc: Global, value: &[u8], out: &mut Text) -> Result<(), Memory> {
-    match first_address(alloc, value)? {
-        Some(address) => put_address(&address, out),
-        None => out.push(b"none"),
+fn put_first(value: &[u8], out: &mut Answer) {
+    match first_address(out.alloc(), value) {
+        Ok(Some(address)) => put_found(&address, out),
+        Ok(None) => out.put(b"none"),
+        Err(Memory) => out.lack(),
     }
+}
+
+fn put_found(address: &FoundAddress<'_>, out: &mut Answer) {
+    out.put(b"[");
+    out.put(address.name());
+    out.put(b"]");
+    let local = address.local();
+    let spec = address.spec();
+    if local > spec.len() {
+        return out.put_bad();
+    }
+    let (front, rest) = spec.split_at(local);
+    out.put(front);
+    out.put(b"+");
+    out.put(rest)
 }

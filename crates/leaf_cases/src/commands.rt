@@ -1,72 +1,58 @@
 // Cases of lines of commands.
-use crate::answer::{put_bad, put_debug, put_in_angles, put_shown};
-use crate::case::{field, wide_number};
+use crate::case::{field, place, words};
+use case_blocks::Answer;
 use line_words::{
     Command, CommandLine, LineError, command_name, command_of, read_line, whole_name,
 };
-use mail_text::{Memory, Text};
-use std::alloc::Global;
+use mail_text::Text;
 
-pub fn put(alloc: Global, case: &[Text], out: &mut Text) -> Result<(), Memory> {
+pub fn put(case: &[Text], out: &mut Answer) {
     let text = field(case, 2);
-    match field(case, 1) {
-        b"line" => put_line(alloc, text, out),
-        b"spelled" => put_spelled(alloc, text, field(case, 3), out),
-        b"name at" => put_name(name_at(case), out),
-        b"whole name" => put_name(whole_name(text), out),
-        b"memory" => put_shown(alloc, out, &LineError::Memory),
-        _ => put_bad(out),
+    match words(case, 1) {
+        "line" => put_line(text, out),
+        "spelled" => put_spelled(text, field(case, 3), out),
+        "name at" => out.put(command_name(place(case, 2)).unwrap_or(b"none")),
+        "whole name" => out.put(whole_name(text).unwrap_or(b"none")),
+        "memory" => out.put_shown(&LineError::Memory),
+        _ => out.put_bad(),
     }
 }
 
-// What a line is read as: its command, its command word, its words, each with a semicolon, and its rest; or why it isn't.
-fn put_line(alloc: Global, text: &[u8], out: &mut Text) -> Result<(), Memory> {
-    match read_line(alloc, text) {
-        Ok(line) => put_read(alloc, &line, out),
-        Err(error) => put_shown(alloc, out, &error),
+// What a line is read as: its command, its command word, its words, each with a semicolon, and its rest; or why it
+// isn't.
+fn put_line(text: &[u8], out: &mut Answer) {
+    match read_line(out.alloc(), text) {
+        Ok(line) => put_read(&line, out),
+        Err(error) => out.put_shown(&error),
     }
 }
 
-fn put_read(alloc: Global, line: &CommandLine, out: &mut Text) -> Result<(), Memory> {
-    put_debug(alloc, out, &line.command)?;
-    out.push(b" ")?;
-    put_in_angles(out, line.word.bytes())?;
-    out.push(b" ")?;
+fn put_read(line: &CommandLine, out: &mut Answer) {
+    out.put_debug(&line.command);
+    out.put(b" ");
+    out.put_in_angles(line.word.bytes());
+    out.put(b" ");
     for word in line.words.items() {
-        out.push(word.bytes())?;
-        out.push(b";")?;
+        out.put(word.bytes());
+        out.put(b";");
     }
-    out.push(b" ")?;
-    put_in_angles(out, line.rest.bytes())
+    out.put(b" ");
+    out.put_in_angles(line.rest.bytes());
 }
 
-fn put_command(alloc: Global, command: Option<Command>, out: &mut Text) -> Result<(), Memory> {
+fn put_command(command: Option<Command>, out: &mut Answer) {
     match command {
-        Some(command) => put_debug(alloc, out, &command),
-        None => out.push(b"none"),
+        Some(command) => out.put_debug(&command),
+        None => out.put(b"none"),
     }
 }
 
 // The commands of the least that names one, of the whole name, and of one byte less than the least.
-fn put_spelled(alloc: Global, least: &[u8], whole: &[u8], out: &mut Text) -> Result<(), Memory> {
-    put_command(alloc, command_of(least), out)?;
-    out.push(b" ")?;
-    put_command(alloc, command_of(whole), out)?;
-    out.push(b" ")?;
+fn put_spelled(least: &[u8], whole: &[u8], out: &mut Answer) {
+    put_command(command_of(least), out);
+    out.put(b" ");
+    put_command(command_of(whole), out);
+    out.put(b" ");
     let (less, _) = least.split_at(least.len().saturating_sub(1));
-    put_command(alloc, command_of(less), out)
-}
-
-fn name_at(case: &[Text]) -> Option<&'static [u8]> {
-    match wide_number(case, 2) {
-        Some(k) => command_name(k as usize),
-        None => None,
-    }
-}
-
-fn put_name(name: Option<&'static [u8]>, out: &mut Text) -> Result<(), Memory> {
-    match name {
-        Some(name) => out.push(name),
-        None => out.push(b"none"),
-    }
+    put_command(command_of(less), out);
 }

@@ -1,61 +1,61 @@
 // Cases of headers.
-use crate::answer::{put_bad, put_in_angles, put_number};
-use crate::case::field;
+use crate::case::{field, words};
+use case_blocks::Answer;
 use mail_headers::{EntryRef, Header, unfold_value, unfolded};
 use mail_text::{Memory, Text};
-use std::alloc::Global;
 
-pub fn put(alloc: Global, case: &[Text], out: &mut Text) -> Result<(), Memory> {
-    let header = Header::read(alloc, field(case, 2))?;
-    match field(case, 1) {
-        b"parts" => put_parts(&header, out),
-        b"field" => put_field(&header, field(case, 3), out),
-        b"fields" => put_field_count(&header, out),
-        b"unfolded" => put_unfolded(alloc, &header, out),
-        b"value" => put_values(alloc, &header, out),
-        _ => put_bad(out),
+pub fn put(case: &[Text], out: &mut Answer) {
+    match Header::read(out.alloc(), field(case, 2)) {
+        Ok(header) => put_of(&header, case, out),
+        Err(Memory) => out.lack(),
+    }
+}
+
+fn put_of(header: &Header<'_>, case: &[Text], out: &mut Answer) {
+    match words(case, 1) {
+        "parts" => put_parts(header, out),
+        "field" => match header.field(field(case, 3)) {
+            Some(field) => out.put(field.raw()),
+            None => out.put(b"none"),
+        },
+        "fields" => put_field_count(header, out),
+        "unfolded" => put_unfolded(header, out),
+        "value" => put_values(header, out),
+        _ => out.put_bad(),
     }
 }
 
 // `<From line>`, `[name=value]` for a field, `(line)` for another line, and `|body` where there is one.
-fn put_parts(header: &Header<'_>, out: &mut Text) -> Result<(), Memory> {
-    put_in_angles(out, header.from_line())?;
+fn put_parts(header: &Header<'_>, out: &mut Answer) {
+    out.put_in_angles(header.from_line());
     for entry in header.entries() {
-        put_entry(&entry, out)?;
+        put_entry(&entry, out);
     }
     if header.has_body() {
-        out.push(b"|")?;
+        out.put(b"|");
     }
-    out.push(header.body())
+    out.put(header.body());
 }
 
-fn put_entry(entry: &EntryRef<'_>, out: &mut Text) -> Result<(), Memory> {
+fn put_entry(entry: &EntryRef<'_>, out: &mut Answer) {
     match entry.field() {
         Some(field) => {
-            out.push(b"[")?;
-            out.push(field.name())?;
-            out.push(b"=")?;
-            out.push(field.value())?;
-            out.push(b"]")
+            out.put(b"[");
+            out.put(field.name());
+            out.put(b"=");
+            out.put(field.value());
+            out.put(b"]");
         }
         None => {
-            out.push(b"(")?;
-            out.push(entry.raw())?;
-            out.push(b")")
+            out.put(b"(");
+            out.put(entry.raw());
+            out.put(b")");
         }
-    }
-}
-
-// The first field of a name.
-fn put_field(header: &Header<'_>, name: &[u8], out: &mut Text) -> Result<(), Memory> {
-    match header.field(name) {
-        Some(field) => out.push(field.raw()),
-        None => out.push(b"none"),
     }
 }
 
 // How many fields there are, and how many of them are longer than their name.
-fn put_field_count(header: &Header<'_>, out: &mut Text) -> Result<(), Memory> {
+fn put_field_count(header: &Header<'_>, out: &mut Answer) {
     let mut count = 0u64;
     let mut longer = 0u64;
     for field in header.fields() {
@@ -64,23 +64,26 @@ fn put_field_count(header: &Header<'_>, out: &mut Text) -> Result<(), Memory> {
             longer = longer.wrapping_add(1);
         }
     }
-    put_number(out, count)?;
-    out.push(b" ")?;
-    put_number(out, longer)
+    out.put_shown(&count);
+    out.put(b" ");
+    out.put_shown(&longer);
 }
 
 // The unfolded value of each field.
-fn put_unfolded(alloc: Global, header: &Header<'_>, out: &mut Text) -> Result<(), Memory> {
+fn put_unfolded(header: &Header<'_>, out: &mut Answer) {
     for field in header.fields() {
-        put_in_angles(out, unfolded(alloc, field)?.bytes())?;
+        out.put(b"<");
+        out.put_made(unfolded(out.alloc(), field));
+        out.put(b">");
     }
-    Ok(())
 }
 
 // The same, where a value without a line feed is a part of the header.
-fn put_values(alloc: Global, header: &Header<'_>, out: &mut Text) -> Result<(), Memory> {
+fn put_values(header: &Header<'_>, out: &mut Answer) {
     for field in header.fields() {
-        put_in_angles(out, unfold_value(alloc, field)?.bytes())?;
+        match unfold_value(out.alloc(), field) {
+            Ok(value) => out.put_in_angles(value.bytes()),
+            Err(Memory) => out.lack(),
+        }
     }
-    Ok(())
 }

@@ -1,4 +1,5 @@
 // What is kept from one case to the next.
+use case_blocks::Answer;
 use mail_text::{Items, Memory, Text};
 use mailx_vars::Vars;
 use std::alloc::Global;
@@ -20,12 +21,11 @@ impl Kept {
     }
 
     /// Keeps the fields of a case behind its topic as messages.
-    pub fn keep_messages(&mut self, alloc: Global, case: &[Text]) -> Result<(), Memory> {
-        let mut messages = Items::new(alloc);
+    pub fn keep_messages(&mut self, case: &[Text], out: &mut Answer) {
+        self.messages = Items::new(out.alloc());
         for message in case.iter().skip(1) {
-            messages.push(Text::copy(alloc, message.bytes())?)?;
+            let message = out.copied(message.bytes());
+            out.note(self.messages.push(message));
         }
-        self.messages = messages;
-        Ok(())
     }
 }

@@ -1,4 +1,5 @@
 // The laws of the leaf crates: their conditions can be met.
+use case_blocks::Answer;
 use mail_addresses::{
     comments_are_balanced, each_value_is_read, one_reading, pieces_are_cut_again,
     pieces_are_the_tokens, quoted_strings_end_at_a_quote, tokens_are_the_value,
@@ -8,17 +9,23 @@ use mail_dates::{
     short_date_is_plain,
 };
 use mail_headers::{entries_make_the_header, parts_make_the_text};
-use mail_text::{Memory, Text, lines_make_the_text};
+use mail_text::lines_make_the_text;
 use mailx_vars::variables_are_kept;
 use mbox_scan::{list_of_join, texts_are_proper};
 use message_show::all_fields_make_the_text;
-use message_state::{a_text_has_one_row, acts_by_the_table, each_text_has_a_row, stamps_read_back};
+use message_state::{
+    a_text_has_one_row, acts_by_the_table, comments_are_the_same, each_text_has_a_row,
+    stamps_keep_texts_proper, stamps_read_back,
+};
+use quit_rules::{a_quit_loses_nothing, what_is_unchanged_stays};
+use rc_conditionals::conditions_nest;
 
-pub fn put(out: &mut Text) -> Result<(), Memory> {
+/// Calls each law.
+pub fn put(out: &mut Answer) {
     speak_of_texts();
     speak_of_sessions();
     speak_of_moments();
-    out.push(b"hold")
+    out.put(b"hold");
 }
 
 fn speak_of_texts() {
@@ -39,11 +46,16 @@ fn speak_of_texts() {
 fn speak_of_sessions() {
     acts_by_the_table();
     stamps_read_back();
+    stamps_keep_texts_proper();
+    comments_are_the_same();
     a_text_has_one_row();
     each_text_has_a_row();
     line_words::a_word_names_one_command();
     line_words::words_read_back();
     variables_are_kept();
+    conditions_nest();
+    a_quit_loses_nothing();
+    what_is_unchanged_stays();
     all_fields_make_the_text();
 }
 

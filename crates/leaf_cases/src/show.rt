@@ -2,99 +2,86 @@
 ghost use Rattle.std.specs.Prelude.{◌≡◌, ◌≤◌, ℕ, true, All, length};
 ghost use Rattle.message_state.specs.ShownRows.{IsShown};
 
-use crate::answer::put_bad;
-use crate::case::{field, number, numbers, wide_number};
+use crate::case::{field, number, numbers, parts, place, words};
+use crate::mailboxes::folder_of;
 use crate::view::shown_of;
+use case_blocks::Answer;
 use mail_text::{Memory, Text, lines};
 use mbox_scan::{Folder, MessageRef};
 use message_show::{
     FieldSets, How, page, page_with_current, shown_text, summary_line, summary_lines, top,
 };
 use message_state::Shown;
-use std::alloc::Global;
 
-pub fn put(alloc: Global, messages: &[Text], case: &[Text], out: &mut Text) -> Result<(), Memory> {
-    match field(case, 1) {
-        b"told" => put_told(alloc, case, true, out),
-        b"keeps" => put_told(alloc, case, false, out),
-        b"text" => put_folder(alloc, case, out),
-        _ => put_in_view(alloc, messages, case, out),
+pub fn put(messages: &[Text], case: &[Text], out: &mut Answer) {
+    match words(case, 1) {
+        "told" => put_told(case, true, out),
+        "keeps" => put_told(case, false, out),
+        "text" => put_folder(case, out),
+        _ => put_in_view(messages, case, out),
     }
 }
 
-// A case over a view: the pairs of places that turn it, its depths, its current message, the width, and what the kind takes.
-fn put_in_view(
-    alloc: Global,
-    messages: &[Text],
-    case: &[Text],
-    out: &mut Text,
-) -> Result<(), Memory> {
-    let current = number(case, 4).unwrap_or(0);
-    let width = wide_number(case, 5).unwrap_or(0) as usize;
-    match shown_of(alloc, messages, field(case, 2), field(case, 3), current)? {
-        Some(shown) => {
-            if width < 2 {
-                put_bad(out)
-            } else {
-                put_of(alloc, &shown, width, case, out)
-            }
-        }
-        None => put_bad(out),
+// A case over a view: the pairs of places that turn it, its depths, its current message, the width, and what the kind
+// takes.
+fn put_in_view(messages: &[Text], case: &[Text], out: &mut Answer) {
+    let turns = numbers(words(case, 2), out);
+    let depths = numbers(words(case, 3), out);
+    match shown_of(
+        messages,
+        turns.items(),
+        depths.items(),
+        number(case, 4),
+        out,
+    ) {
+        Ok(Some(shown)) => put_of(&shown, place(case, 5), case, out),
+        Ok(None) => out.put_bad(),
+        Err(Memory) => out.lack(),
     }
 }
 
-fn put_of(
-    alloc: Global,
-    shown: &Shown,
-    width: usize,
-    case: &[Text],
-    out: &mut Text,
-) -> Result<(), Memory>
-    requires valid { IsShown shown.now }
-    requires width { 2 ≤ width }
+fn put_of(shown: &Shown, width: usize, case: &[Text], out: &mut Answer)
+    requires { IsShown shown.now }
 {
-    match field(case, 1) {
-        b"line" => put_line(alloc, shown, number(case, 6).unwrap_or(0), width, out),
-        b"lines" => put_lines(alloc, shown, field(case, 6), width, out),
-        b"page" => put_page(alloc, shown, width, case, out),
-        b"page as" => put_page_as(alloc, shown, width, case, out),
-        _ => put_bad(out),
+    if width < 2 {
+        return out.put_bad();
+    }
+    let (start, count) = (place(case, 6), place(case, 7));
+    match words(case, 1) {
+        "line" => put_line(shown, number(case, 6), width, out),
+        "lines" => {
+            let numbers = numbers(words(case, 6), out);
+            put_lines(shown, numbers.items(), width, out);
+        }
+        "page" => out.put_made(page(out.alloc(), shown, start, count, width)),
+        "page as" => {
+            let current = number(case, 8);
+            out.put_made(page_with_current(out.alloc(), shown, current, start, count, width));
+        }
+        _ => out.put_bad(),
     }
 }
 
 // The summary line of a message.
-fn put_line(
-    alloc: Global,
-    shown: &Shown,
-    k: u32,
-    width: usize,
-    out: &mut Text,
-) -> Result<(), Memory>
+fn put_line(shown: &Shown, k: u32, width: usize, out: &mut Answer)
     requires valid { IsShown shown.now }
     requires width { 2 ≤ width }
 {
     if k == 0 || k as usize > shown.rows.items().len() {
-        return put_bad(out);
+        return out.put_bad();
     }
-    out.push(summary_line(alloc, shown, k, width)?.bytes())
+    out.put_made(summary_line(out.alloc(), shown, k, width));
 }
 
 // The summary lines of messages.
-fn put_lines(
-    alloc: Global,
-    shown: &Shown,
-    text: &[u8],
-    width: usize,
-    out: &mut Text,
-) -> Result<(), Memory>
+fn put_lines(shown: &Shown, numbers: &[u32], width: usize, out: &mut Answer)
     requires valid { IsShown shown.now }
     requires width { 2 ≤ width }
 {
-    let numbers = numbers(alloc, text)?;
-    if !are_messages(&numbers, shown.rows.items().len()) {
-        return put_bad(out);
+    if !are_messages(numbers, shown.rows.items().len()) {
+        return out.put_bad();
     }
-    out.push(summary_lines(alloc, shown, &numbers, width)?.bytes())
+    out.put_made(summary_lines(out.alloc(), shown, numbers, width));
 }
 
 // Whether all of these are numbers of messages.
@@ -104,119 +91,65 @@ fn are_messages(numbers: &[u32], count: usize) -> bool
     numbers.iter().all(|k| 1 <= *k && *k as usize <= count)
 }
 
-// The lines of a page.
-fn put_page(
-    alloc: Global,
-    shown: &Shown,
-    width: usize,
-    case: &[Text],
-    out: &mut Text,
-) -> Result<(), Memory>
-    requires valid { IsShown shown.now }
-    requires width { 2 ≤ width }
-{
-    let start = wide_number(case, 6).unwrap_or(0) as usize;
-    let count = wide_number(case, 7).unwrap_or(0) as usize;
-    out.push(page(alloc, shown, start, count, width)?.bytes())
+// Ignores the fields of these names, or retains them.
+fn name_fields(sets: &mut FieldSets, names: &str, retained: bool, out: &mut Answer) {
+    let names = parts(names, '\n', out);
+    out.note(if retained {
+        sets.retain(names.items())
+    } else {
+        sets.ignore(names.items())
+    });
 }
 
-// The same with another current message.
-fn put_page_as(
-    alloc: Global,
-    shown: &Shown,
-    width: usize,
-    case: &[Text],
-    out: &mut Text,
-) -> Result<(), Memory>
-    requires valid { IsShown shown.now }
-    requires width { 2 ≤ width }
-{
-    let start = wide_number(case, 6).unwrap_or(0) as usize;
-    let count = wide_number(case, 7).unwrap_or(0) as usize;
-    let current = number(case, 8).unwrap_or(0);
-    out.push(page_with_current(alloc, shown, current, start, count, width)?.bytes())
-}
-
-// The lines of a text.
-fn names(alloc: Global, text: &[u8]) -> Result<Vec<Text>, Memory> {
-    let mut names = Vec::new(alloc);
-    for name in lines(text) {
-        names.push(Text::copy(alloc, name)?)?;
-    }
-    Ok(names)
-}
-
-// The sets with these names, ignored ones in two calls.
-fn sets(alloc: Global, ignored: &[u8], more: &[u8], retained: &[u8]) -> Result<FieldSets, Memory> {
-    let mut sets = FieldSets::new(alloc);
-    sets.ignore(&names(alloc, ignored)?)?;
-    sets.ignore(&names(alloc, more)?)?;
-    sets.retain(&names(alloc, retained)?)?;
-    Ok(sets)
-}
-
-// Names, each ended by a line feed.
-fn put_names(out: &mut Text, names: &[Text]) -> Result<(), Memory> {
+// Names, each ended by a line feed, and a dot.
+fn put_names(out: &mut Answer, names: &[Text]) {
     for name in names {
-        out.push(name.bytes())?;
-        out.push(b"\n")?;
+        out.put(name.bytes());
+        out.put(b"\n");
     }
-    Ok(())
+    out.put(b".");
 }
 
-// The ignored and the retained names, each list ended by a dot, where they are asked for; and for each name of the last
-// field whether its fields are kept.
-fn put_told(alloc: Global, case: &[Text], names: bool, out: &mut Text) -> Result<(), Memory> {
-    let sets = sets(alloc, field(case, 2), field(case, 3), field(case, 4))?;
+// The ignored and the retained names, where they are asked for; and for each name of the last field whether its fields
+// are kept. Names are ignored in two calls.
+fn put_told(case: &[Text], names: bool, out: &mut Answer) {
+    let mut sets = FieldSets::new(out.alloc());
+    name_fields(&mut sets, words(case, 2), false, out);
+    name_fields(&mut sets, words(case, 3), false, out);
+    name_fields(&mut sets, words(case, 4), true, out);
     if names {
-        put_both_sets(&sets, out)?;
+        put_names(out, sets.ignored());
+        put_names(out, sets.retained());
     }
     for name in lines(field(case, 5)) {
-        out.push(if sets.keeps(name) { b"+" } else { b"-" })?;
+        out.put(if sets.keeps(name) { b"+" } else { b"-" });
     }
-    Ok(())
-}
-
-fn put_both_sets(sets: &FieldSets, out: &mut Text) -> Result<(), Memory> {
-    put_names(out, sets.ignored())?;
-    out.push(b".")?;
-    put_names(out, sets.retained())?;
-    out.push(b".")
 }
 
 // What is shown of each message of a folder, where these names are ignored and these retained.
-fn put_folder(alloc: Global, case: &[Text], out: &mut Text) -> Result<(), Memory> {
-    let sets = sets(alloc, field(case, 3), b"", field(case, 4))?;
-    match Folder::open(alloc, Text::copy(alloc, field(case, 2))?) {
-        Ok(folder) => put_each_message(alloc, &folder, &sets, out),
-        Err(_) => put_bad(out),
+fn put_folder(case: &[Text], out: &mut Answer) {
+    let mut sets = FieldSets::new(out.alloc());
+    name_fields(&mut sets, words(case, 3), false, out);
+    name_fields(&mut sets, words(case, 4), true, out);
+    match folder_of(out.alloc(), field(case, 2)) {
+        Ok(folder) => put_each_message(&folder, &sets, out),
+        Err(_) => out.put_bad(),
     }
 }
 
-fn put_each_message(
-    alloc: Global,
-    folder: &Folder,
-    sets: &FieldSets,
-    out: &mut Text,
-) -> Result<(), Memory> {
+fn put_each_message(folder: &Folder, sets: &FieldSets, out: &mut Answer) {
     for k in 0..folder.count() {
-        put_message(alloc, &folder.message(k), sets, out)?;
+        put_message(&folder.message(k), sets, out);
     }
-    Ok(())
 }
 
 // The shown text of a message, its first four lines and its first none, and its whole text, with a bar after each.
-fn put_message(
-    alloc: Global,
-    message: &MessageRef<'_>,
-    sets: &FieldSets,
-    out: &mut Text,
-) -> Result<(), Memory> {
-    out.push(shown_text(alloc, message, sets, How::Kept)?.bytes())?;
-    out.push(b"|")?;
-    out.push(top(alloc, message, sets, 4)?.bytes())?;
-    out.push(top(alloc, message, sets, 0)?.bytes())?;
-    out.push(b"|")?;
-    out.push(shown_text(alloc, message, sets, How::All)?.bytes())?;
-    out.push(b"|")
+fn put_message(message: &MessageRef<'_>, sets: &FieldSets, out: &mut Answer) {
+    out.put_made(shown_text(out.alloc(), message, sets, How::Kept));
+    out.put(b"|");
+    out.put_made(top(out.alloc(), message, sets, 4));
+    out.put_made(top(out.alloc(), message, sets, 0));
+    out.put(b"|");
+    out.put_made(shown_text(out.alloc(), message, sets, How::All));
+    out.put(b"|");
 }

@@ -1,51 +1,61 @@
 // Cases of byte texts, lists of values and numbers.
 ghost use Rattle.std.specs.Prelude.{◌≡◌, ◌<◌, ◌++◌, [], ◌∷◌, length, slice_set, OnOk, OnErr};
 
-use crate::answer::{
-    put_bad, put_debug, put_flag, put_found, put_in_angles, put_numbers, put_shown,
-};
-use crate::case::{field, number, numbers};
+use crate::case::{field, number, numbers, place, words};
+use case_blocks::Answer;
 use mail_text::{Items, Memory, Reserved, Text, is_blank, lines, read_number, same_ascii};
-use std::alloc::Global;
 
-pub fn put(alloc: Global, case: &[Text], out: &mut Text) -> Result<(), Memory> {
+pub fn put(case: &[Text], out: &mut Answer) {
     let text = field(case, 2);
-    match field(case, 1) {
-        b"lines" => put_lines(text, out),
-        b"number" => put_found(out, read_number(text)),
-        b"same" => put_flag(out, same_ascii(text, field(case, 3))),
-        b"grown" => put_grown(alloc, text, field(case, 3), out),
-        b"new" => put_in_angles(out, Text::new(alloc).bytes()),
-        b"of" => put_text_of(alloc, text, out),
-        b"memory" => put_shown(alloc, out, &Memory),
-        b"items" => put_items(alloc, case, out),
-        b"reserved" => put_reserved(alloc, case, out),
-        b"blanks" => put_blanks(text, out),
-        _ => put_bad(out),
+    match words(case, 1) {
+        "lines" => put_lines(text, out),
+        "number" => out.put_found(read_number(text)),
+        "same" => out.put_flag(same_ascii(text, field(case, 3))),
+        "new" => out.put_in_angles(Text::new(out.alloc()).bytes()),
+        "memory" => out.put_shown(&Memory),
+        "blanks" => put_blanks(text, out),
+        _ => {
+            let done = put_made(case, out);
+            out.note(done);
+        }
+    }
+}
+
+fn put_made(case: &[Text], out: &mut Answer) -> Result<(), Memory> {
+    match words(case, 1) {
+        "grown" => put_grown(field(case, 2), field(case, 3), out),
+        "of" => put_of(field(case, 2), out),
+        "items" => put_items(case, out),
+        "reserved" => put_reserved(case, out),
+        _ => {
+            out.put_bad();
+            Ok(())
+        }
     }
 }
 
 // Each line of a text.
-fn put_lines(text: &[u8], out: &mut Text) -> Result<(), Memory> {
+fn put_lines(text: &[u8], out: &mut Answer) {
     for line in lines(text) {
-        put_in_angles(out, line)?;
+        out.put_in_angles(line);
     }
-    Ok(())
 }
 
 // A copy of bytes, others pushed to it, as bytes and as it is displayed.
-fn put_grown(alloc: Global, first: &[u8], more: &[u8], out: &mut Text) -> Result<(), Memory> {
-    let mut text = Text::copy(alloc, first)?;
+fn put_grown(first: &[u8], more: &[u8], out: &mut Answer) -> Result<(), Memory> {
+    let mut text = Text::copy(out.alloc(), first)?;
     text.push(more)?;
-    put_in_angles(out, text.bytes())?;
-    put_shown(alloc, out, &text)?;
-    put_debug(alloc, out, &text)
+    out.put_in_angles(text.bytes());
+    out.put_shown(&text);
+    out.put_debug(&text);
+    Ok(())
 }
 
 // The text of a vector.
-fn put_text_of(alloc: Global, bytes: &[u8], out: &mut Text) -> Result<(), Memory> {
-    let text = Text::of(bytes.to_vec(alloc)?);
-    put_in_angles(out, text.bytes())
+fn put_of(bytes: &[u8], out: &mut Answer) -> Result<(), Memory> {
+    let text = Text::of(bytes.to_vec(out.alloc())?);
+    out.put_in_angles(text.bytes());
+    Ok(())
 }
 
 // Puts a value into each of two lists, or into none.
@@ -72,44 +82,46 @@ fn set_at(list: &mut Items<u32>, k: usize, x: u32)
 }
 
 // A list of numbers with one pushed, one put into it and into another, and one set; after each step.
-fn put_items(alloc: Global, case: &[Text], out: &mut Text) -> Result<(), Memory> {
-    let mut list = Items::of(numbers(alloc, field(case, 2))?);
-    list.push(number(case, 3).unwrap_or(0))?;
-    put_in_both(alloc, &mut list, number(case, 4).unwrap_or(0), out)?;
-    let k = number(case, 5).unwrap_or(0) as usize;
+fn put_items(case: &[Text], out: &mut Answer) -> Result<(), Memory> {
+    let mut list = Items::of(numbers(words(case, 2), out).into_vec());
+    list.push(number(case, 3))?;
+    put_in_both(&mut list, number(case, 4), out)?;
+    let k = place(case, 5);
     if k < list.items().len() {
-        set_at(&mut list, k, number(case, 6).unwrap_or(0));
+        set_at(&mut list, k, number(case, 6));
     }
-    put_numbers(out, list.into_vec().as_slice())
+    out.put_numbers(list.into_vec().as_slice());
+    Ok(())
 }
 
 // Puts a number into a list and into a new one, and says both.
-fn put_in_both(alloc: Global, list: &mut Items<u32>, x: u32, out: &mut Text) -> Result<(), Memory> {
-    let mut other = Items::new(alloc);
+fn put_in_both(list: &mut Items<u32>, x: u32, out: &mut Answer) -> Result<(), Memory> {
+    let mut other = Items::new(out.alloc());
     put_both(list, &mut other, x)?;
-    put_numbers(out, list.items())?;
-    out.push(b";")?;
-    put_numbers(out, other.items())?;
-    out.push(b";")?;
-    put_numbers(out, list.reserved().items())?;
-    out.push(b";")
+    out.put_numbers(list.items());
+    out.put(b";");
+    out.put_numbers(other.items());
+    out.put(b";");
+    out.put_numbers(list.reserved().items());
+    out.put(b";");
+    Ok(())
 }
 
 // A list with room, one number pushed to it, and a list of none.
-fn put_reserved(alloc: Global, case: &[Text], out: &mut Text) -> Result<(), Memory> {
-    let mut list = Reserved::of(numbers(alloc, field(case, 2))?);
-    list.push(number(case, 3).unwrap_or(0))?;
-    put_numbers(out, list.into_vec().as_slice())?;
-    let none: Reserved<u32> = Reserved::new(alloc);
-    out.push(b";")?;
-    put_numbers(out, none.items())
+fn put_reserved(case: &[Text], out: &mut Answer) -> Result<(), Memory> {
+    let mut list = Reserved::of(numbers(words(case, 2), out).into_vec());
+    list.push(number(case, 3))?;
+    out.put_numbers(list.into_vec().as_slice());
+    let none: Reserved<u32> = Reserved::new(out.alloc());
+    out.put(b";");
+    out.put_numbers(none.items());
+    Ok(())
 }
 
 // For each byte whether it is a blank.
-fn put_blanks(text: &[u8], out: &mut Text) -> Result<(), Memory> {
+fn put_blanks(text: &[u8], out: &mut Answer) {
     for byte in text.iter().copied() {
-        put_flag(out, is_blank(byte))?;
-        out.push(b" ")?;
+        out.put_flag(is_blank(byte));
+        out.put(b" ");
     }
-    Ok(())
 }

@@ -1,135 +1,145 @@
 // Cases of variables, of the environment and of file names.
-use crate::answer::{put_bad, put_flag, put_number, put_shown};
-use crate::case::{field, number};
-use mail_text::{Memory, Text};
+use crate::case::{field, number, place, words};
+use case_blocks::Answer;
+use mail_text::{Items, Memory, Text};
 use mailx_vars::{
     Places, Vars, expand_name, is_short_name, is_user_name, is_variable_name, knows_user,
 };
 use std::alloc::Global;
 
-pub fn put(alloc: Global, vars: &mut Vars, case: &[Text], out: &mut Text) -> Result<(), Memory> {
+pub fn put(vars: &mut Vars, case: &[Text], out: &mut Answer) {
     let text = field(case, 2);
-    match field(case, 1) {
-        b"new" => put_new(alloc, vars, out),
-        b"set" => put_set(alloc, vars, text, field(case, 3), out),
-        b"unset" => put_flag(out, vars.unset(text)),
-        b"copied" => put_copied(vars, text, out),
-        b"fill" => put_filled(alloc, vars, case, out),
-        b"places" => put_places(alloc, text, out),
-        b"width" => put_width(alloc, text, out),
-        b"short name" => put_flag(out, is_short_name(text)),
-        b"user name" => put_flag(out, is_user_name(text)),
-        b"variable name" => put_flag(out, is_variable_name(text)),
-        b"expand" => put_expanded(alloc, case, out),
-        _ => put_asked(alloc, vars, case, out),
+    match words(case, 1) {
+        "new" => put_new(vars, out),
+        "set" => put_set(vars, text, field(case, 3), out),
+        "unset" => out.put_flag(vars.unset(text)),
+        "copied" => put_copied(vars, text, out),
+        "fill" => put_filled(vars, number(case, 2), out),
+        _ => put_asked(vars, case, out),
     }
 }
 
 // What is asked of the variables.
-fn put_asked(alloc: Global, vars: &Vars, case: &[Text], out: &mut Text) -> Result<(), Memory> {
+fn put_asked(vars: &Vars, case: &[Text], out: &mut Answer) {
     let text = field(case, 2);
-    match field(case, 1) {
-        b"number" => put_value(alloc, vars, text, out),
-        b"get" => out.push(vars.get(text).unwrap_or(b"unset")),
-        b"flag" => put_flag(out, vars.flag(text)),
-        b"all" => put_all(vars, out),
-        b"count" => put_number(out, vars.count() as u64),
-        b"name at" => out.push(vars.name(place(case)).unwrap_or(b"none")),
-        b"value at" => out.push(vars.value(place(case)).unwrap_or(b"none")),
-        _ => put_bad(out),
+    match words(case, 1) {
+        "number" => match vars.number(text) {
+            Ok(n) => out.put_shown(&n),
+            Err(error) => out.put_shown(&error),
+        },
+        "get" => out.put(vars.get(text).unwrap_or(b"unset")),
+        "flag" => out.put_flag(vars.flag(text)),
+        "all" => put_all(vars, out),
+        "count" => out.put_shown(&vars.count()),
+        "name at" => out.put(vars.name(place(case, 2)).unwrap_or(b"none")),
+        "value at" => out.put(vars.value(place(case, 2)).unwrap_or(b"none")),
+        "short name" => out.put_flag(is_short_name(text)),
+        "user name" => out.put_flag(is_user_name(text)),
+        "variable name" => out.put_flag(is_variable_name(text)),
+        _ => put_environment(case, out),
     }
-}
-
-fn place(case: &[Text]) -> usize {
-    number(case, 2).unwrap_or(0) as usize
 }
 
 // Variables as at the start of a run.
-fn put_new(alloc: Global, vars: &mut Vars, out: &mut Text) -> Result<(), Memory> {
-    *vars = Vars::new(alloc)?;
-    put_all(vars, out)
-}
-
-fn put_set(
-    alloc: Global,
-    vars: &mut Vars,
-    name: &[u8],
-    value: &[u8],
-    out: &mut Text,
-) -> Result<(), Memory> {
-    match vars.set(name, value) {
-        Ok(()) => out.push(b"ok"),
-        Err(error) => put_shown(alloc, out, &error),
+fn put_new(vars: &mut Vars, out: &mut Answer) {
+    match Vars::new(out.alloc()) {
+        Ok(new) => *vars = new,
+        Err(Memory) => out.lack(),
     }
+    put_all(vars, out);
 }
 
-fn put_value(alloc: Global, vars: &Vars, name: &[u8], out: &mut Text) -> Result<(), Memory> {
-    match vars.number(name) {
-        Ok(n) => put_number(out, n),
-        Err(error) => put_shown(alloc, out, &error),
+fn put_set(vars: &mut Vars, name: &[u8], value: &[u8], out: &mut Answer) {
+    match vars.set(name, value) {
+        Ok(()) => out.put(b"ok"),
+        Err(error) => out.put_shown(&error),
     }
 }
 
 // Each variable in order, as `NAME=VALUE|`.
-fn put_all(vars: &Vars, out: &mut Text) -> Result<(), Memory> {
+fn put_all(vars: &Vars, out: &mut Answer) {
     for k in 0..vars.count() {
-        out.push(vars.name(k).unwrap_or(b"?"))?;
-        out.push(b"=")?;
-        out.push(vars.value(k).unwrap_or(b"?"))?;
-        out.push(b"|")?;
+        out.put(vars.name(k).unwrap_or(b"?"));
+        out.put(b"=");
+        out.put(vars.value(k).unwrap_or(b"?"));
+        out.put(b"|");
     }
-    Ok(())
 }
 
 // Whether a variable that is unset was set, and a copy that was made before.
-fn put_copied(vars: &mut Vars, name: &[u8], out: &mut Text) -> Result<(), Memory> {
-    let copy = vars.copy()?;
-    put_flag(out, vars.unset(name))?;
-    out.push(b" ")?;
-    put_all(&copy, out)
+fn put_copied(vars: &mut Vars, name: &[u8], out: &mut Answer) {
+    match vars.copy() {
+        Ok(copy) => {
+            out.put_flag(vars.unset(name));
+            out.put(b" ");
+            put_all(&copy, out);
+        }
+        Err(Memory) => out.lack(),
+    }
 }
 
 // Sets so many variables, and says whether each could be set.
-fn put_filled(alloc: Global, vars: &mut Vars, case: &[Text], out: &mut Text) -> Result<(), Memory> {
-    for n in 0..number(case, 2).unwrap_or(0) {
-        let mut name = Text::copy(alloc, b"v")?;
-        put_number(&mut name, u64::from(n))?;
-        if vars.set(name.bytes(), b"").is_err() {
-            return put_flag(out, false);
-        }
+fn put_filled(vars: &mut Vars, count: u32, out: &mut Answer) {
+    let mut all = true;
+    for n in 0..count {
+        all = all && is_set(out.alloc(), vars, n);
     }
-    put_flag(out, true)
+    out.put_flag(all);
+}
+
+// Whether the variable of this number could be set.
+fn is_set(alloc: Global, vars: &mut Vars, n: u32) -> bool {
+    match format!(in alloc; "v{n}") {
+        Ok(name) => vars.set(name.as_bytes(), b"").is_ok(),
+        Err(_) => false,
+    }
 }
 
 // The pairs of an environment, with `;` between one and the next.
-fn pairs_of(alloc: Global, text: &[u8]) -> Result<Vec<(Text, Text)>, Memory> {
-    let mut pairs = Vec::new(alloc);
-    for pair in text.split(|byte| *byte == b';') {
-        push_pair(alloc, &mut pairs, pair)?;
+fn pairs_of(text: &str, out: &mut Answer) -> Items<(Text, Text)> {
+    let mut pairs = Items::new(out.alloc());
+    for pair in text.split(';') {
+        if let Some((name, value)) = pair.split_once('=') {
+            let name = out.copied(name.as_bytes());
+            let value = out.copied(value.as_bytes());
+            out.note(pairs.push((name, value)));
+        }
     }
-    Ok(pairs)
+    pairs
 }
 
-fn push_pair(alloc: Global, pairs: &mut Vec<(Text, Text)>, pair: &[u8]) -> Result<(), Memory> {
-    let mut parts = pair.splitn(2, |byte| *byte == b'=');
-    if let (Some(name), Some(value)) = (parts.next(), parts.next()) {
-        pairs.push((Text::copy(alloc, name)?, Text::copy(alloc, value)?))?;
+// A case over an environment; that of names is always the same.
+fn put_environment(case: &[Text], out: &mut Answer) {
+    let text = match words(case, 1) {
+        "expand" => "HOME=/h;LOGNAME=u;MAIL=/v/u",
+        _ => words(case, 2),
+    };
+    let pairs = pairs_of(text, out);
+    if words(case, 1) == "places" {
+        out.put_flag(knows_user(pairs.items()));
+        out.put(b" ");
     }
-    Ok(())
+    match Places::read(out.alloc(), pairs.items()) {
+        Ok(Some(places)) => put_of_places(&places, case, out),
+        Ok(None) => out.put(b"none"),
+        Err(Memory) => out.lack(),
+    }
 }
 
-// Whether an environment has a user, and the places that it makes.
-fn put_places(alloc: Global, text: &[u8], out: &mut Text) -> Result<(), Memory> {
-    let pairs = pairs_of(alloc, text)?;
-    put_flag(out, knows_user(&pairs))?;
-    out.push(b" ")?;
-    match Places::read(alloc, &pairs)? {
-        Some(places) => put_each_place(&places, out),
-        None => out.push(b"none"),
+// What is asked of places: all of them, the width, or what a file name stands for.
+fn put_of_places(places: &Places, case: &[Text], out: &mut Answer) {
+    match words(case, 1) {
+        "places" => put_each_place(places, out),
+        "width" => out.put_shown(&places.width),
+        "expand" => match Vars::new(out.alloc()) {
+            Ok(mut vars) => put_expanded(places, &mut vars, case, out),
+            Err(Memory) => out.lack(),
+        },
+        _ => out.put_bad(),
     }
 }
 
-fn put_each_place(places: &Places, out: &mut Text) -> Result<(), Memory> {
+fn put_each_place(places: &Places, out: &mut Answer) {
     for place in [
         &places.home,
         &places.user,
@@ -141,42 +151,17 @@ fn put_each_place(places: &Places, out: &mut Text) -> Result<(), Memory> {
         &places.shell,
         &places.tz,
     ] {
-        out.push(place.bytes())?;
-        out.push(b",")?;
+        out.put(place.bytes());
+        out.put(b",");
     }
-    put_number(out, places.width as u64)
+    out.put_shown(&places.width);
 }
 
-// The width that an environment makes.
-fn put_width(alloc: Global, text: &[u8], out: &mut Text) -> Result<(), Memory> {
-    let pairs = pairs_of(alloc, text)?;
-    match Places::read(alloc, &pairs)? {
-        Some(places) => put_number(out, places.width as u64),
-        None => out.push(b"none"),
-    }
-}
-
-// What a file name stands for in an environment, where a previous file and a folder may be given.
-fn put_expanded(alloc: Global, case: &[Text], out: &mut Text) -> Result<(), Memory> {
-    let pairs = pairs_of(alloc, b"HOME=/h;LOGNAME=u;MAIL=/v/u")?;
-    match Places::read(alloc, &pairs)? {
-        Some(places) => put_expanded_in(alloc, &places, case, out),
-        None => put_bad(out),
-    }
-}
-
-fn put_expanded_in(
-    alloc: Global,
-    places: &Places,
-    case: &[Text],
-    out: &mut Text,
-) -> Result<(), Memory> {
-    let mut vars = Vars::new(alloc)?;
+// What a file name stands for, where a previous file and a folder may be given.
+fn put_expanded(places: &Places, vars: &mut Vars, case: &[Text], out: &mut Answer) {
     if case.len() > 4 && vars.set(b"folder", field(case, 4)).is_err() {
-        return put_bad(out);
+        return out.put_bad();
     }
-    match expand_name(alloc, field(case, 2), places, &vars, field(case, 3)) {
-        Ok(name) => out.push(name.bytes()),
-        Err(error) => put_shown(alloc, out, &error),
-    }
+    let (name, previous) = (field(case, 2), field(case, 3));
+    out.put_made(expand_name(out.alloc(), name, places, vars, previous));
 }

@@ -1,56 +1,56 @@
 // Views of messages.
-ghost use Rattle.std.specs.Prelude.{◌≡◌, ◌≤◌, ℕ, All, IfOk, IfSome};
+ghost use Rattle.std.specs.Prelude.{◌≡◌, ◌≤◌, ℕ, All, IfOk, IfSome, length};
 ghost use Rattle.std.specs.List.{range_with_len};
 ghost use Rattle.std.specs.List.Sorted.{IsPermutation};
 ghost use Rattle.mail_dates.specs.Clock.{IsInYears};
 ghost use Rattle.message_state.specs.declared.row.Row.{Row};
 ghost use Rattle.message_state.specs.ShownRows.{IsShown};
 
-use crate::case::numbers;
 use crate::states::state_of;
+use case_blocks::Answer;
 use mail_text::{Items, Memory, Text, read_number};
 use memchr::memchr;
 use message_state::{Order, Row, RowList, Shown, row_of};
 use std::alloc::Global;
 
-/// The messages that are kept, in the order that comes of changing places by pairs in turn, so deep and with this current
-/// message; none where there are more than 100, or not as many depths as messages. Without depths no message is deep.
+/// The messages that are kept, in the order that comes of changing places by pairs in turn, so deep and with this
+/// current message; none where there are more than 100, or the current message isn't one of them. Where no depth is
+/// given, a message isn't deep.
 pub fn shown_of(
-    alloc: Global,
     messages: &[Text],
-    turns: &[u8],
-    depths: &[u8],
+    turns: &[u32],
+    depths: &[u32],
     current: u32,
+    out: &mut Answer,
 ) -> Result<Option<Shown>, Memory>
     ensures { IfOk result (λ found. IfSome found IsShown) }
 {
-    let rows = rows_of(alloc, messages)?;
+    let rows = RowList::of(out.alloc(), rows_of(out.alloc(), messages)?)?;
     let count = rows.items().len();
     if count > 100 || current as usize > count {
         return Ok(None);
     }
-    let order = order_of(alloc, count as u32, turns)?;
-    let depth = depths_of(alloc, order.len(), depths)?;
-    if depth.len() != order.len() {
-        return Ok(None);
-    }
+    let order = order_of(out.alloc(), count as u32, turns)?;
+    let depth = depths_of(out.alloc(), order.len(), depths)?;
     Ok(Some(Shown {
-        rows: RowList::of(alloc, rows)?,
+        rows,
         order: Order::of(Items::of(order)),
         depth: Items::of(depth),
         current,
     }))
 }
 
-fn depths_of(alloc: Global, count: usize, depths: &[u8]) -> Result<Vec<u32>, Memory> {
-    if depths.is_empty() {
-        Ok(vec![in alloc; 0; count]?)
-    } else {
-        numbers(alloc, depths)
-    }
+// So many depths.
+fn depths_of(alloc: Global, count: usize, depths: &[u32]) -> Result<Vec<u32>, Memory>
+    ensures { IfOk result (λ v. length v.items ≡ count) }
+{
+    let mut depth = depths.to_vec(alloc)?;
+    depth.resize(count, 0)?;
+    Ok(depth)
 }
 
-// A row of a message, which is written as the letter of its state, its size where it isn't its own, a space and the text.
+// A row of a message, which is written as the letter of its state, its size where it isn't its own, a space and the
+// text.
 fn message_row(alloc: Global, message: &[u8]) -> Result<Row, Memory>
     ensures { IfOk result (λ row. IfSome row.moment IsInYears) }
 {
@@ -91,10 +91,9 @@ fn rows_of(alloc: Global, messages: &[Text]) -> Result<Items<Row>, Memory>
 }
 
 // The numbers from 1 on, after the values at each pair of places changed places in turn.
-fn order_of(alloc: Global, count: u32, turns: &[u8]) -> Result<Vec<u32>, Memory>
+fn order_of(alloc: Global, count: u32, turns: &[u32]) -> Result<Vec<u32>, Memory>
     ensures { IfOk result (λ v. IsPermutation (range_with_len 1 count) v.items) }
 {
-    let turns = numbers(alloc, turns)?;
     let mut order = numbers_to(alloc, count)?;
     for pair in turns.chunks(2) {
         swap_places(&mut order, pair);

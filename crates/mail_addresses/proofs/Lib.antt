@@ -1,3 +1,4 @@
+pub mod AtomLemmas
 pub mod ListLemmas
 pub mod FormLemmas
 pub mod Closing

@@ -1,8 +1,8 @@
 -- What names stand for: quoted strings without their backslashes, and parts joined.
-use Rattle.std.proofs.Common.{◌≡◌, ◌≢◌, ℕ, ◌+◌, ◌<◌, ◌≤◌, Bool, true, false, not, ◌||◌, ◌==◌, if◌then◌else◌, List, [], ◌∷◌, ◌++◌, Option, Some, None, MatchBool, ◌⊎◌, inl, inr, refl, sym, ap, ◌∙◌, subst, length, drop, get_or, arith, append_assoc}
+use Rattle.std.proofs.Common.{◌≡◌, ◌≢◌, ℕ, suc, ◌+◌, ◌-◌, take, ◌<◌, ◌≤◌, Bool, true, false, not, ◌||◌, ◌==◌, if◌then◌else◌, List, [], ◌∷◌, ◌++◌, Option, Some, None, MatchBool, ◌⊎◌, inl, inr, refl, sym, ap, ◌∙◌, subst, length, drop, get_or, arith, append_assoc}
 use Rattle.std.specs.List.{list_all}
 use Rattle.std.proofs.lemmas.Bool.{cond-true, cond-false, eq-eqb, ne_eqb, eqb-true, false≢true, and_parts, and_from, or_right, cases_Bool}
-use Rattle.std.proofs.lemmas.List.{append-nil, at_drop_more, at_drop_all}
+use Rattle.std.proofs.lemmas.List.{append-nil, take_all, at_drop_more, at_drop_all}
 use Rattle.mail_addresses.specs.Lexical.{Lexeme, blanks, comment, atom, quoted, literal, mark, unclosed}
 use Rattle.mail_addresses.specs.Forms.{unescaped, is_gap, is_part, part_text, IsName, IsDisplayName, spaced}
 use Rattle.mail_addresses.specs.Forms.IsName.{one, beside}
@@ -15,35 +15,57 @@ or_false : (b : Bool) → b ≡ (b || false)
 or_false true = refl
 or_false false = refl
 
--- one more byte, after a backslash or not
-pub unescaped-here : (e f : Bool) (i : ℕ) (xs : List ℕ) → i < length xs → e ≡ f → unescaped e (drop i xs) ≡ unescaped f (get_or xs i 0 ∷ drop (i + 1) xs)
-unescaped-here e f i xs lt same = at_drop_more (unescaped e) xs i 0 lt ∙ ap (λ (g : Bool). unescaped g (get_or xs i 0 ∷ drop (i + 1) xs)) same
+-- ---- quoted strings without their backslashes
 
-pub unescaped-backslash : (b : ℕ) (bs : List ℕ) → b ≡ 92 → unescaped false (b ∷ bs) ≡ unescaped true bs
-unfolding unescaped
-unescaped-backslash b bs h = cond-true _ _ _ (eq-eqb b 92 h)
-
-pub unescaped-byte : (b : ℕ) (bs : List ℕ) → b ≢ 92 → unescaped false (b ∷ bs) ≡ b ∷ unescaped false bs
+unescaped-byte : (b : ℕ) (bs : List ℕ) → b ≢ 92 → unescaped false (b ∷ bs) ≡ b ∷ unescaped false bs
 unfolding unescaped
 unescaped-byte b bs h = cond-false _ _ _ (ne_eqb b 92 h)
 
-pub unescaped-escaped : (b : ℕ) (bs : List ℕ) → unescaped true (b ∷ bs) ≡ b ∷ unescaped false bs
+-- a byte that a backslash takes stays
+pub unescaped-pair : (b : ℕ) (bs : List ℕ) → unescaped false (92 ∷ b ∷ bs) ≡ b ∷ unescaped false bs
 unfolding unescaped
-unescaped-escaped b bs = refl
+unescaped-pair b bs = refl
 
-pub unescaped-end : (e : Bool) (i : ℕ) (xs : List ℕ) → length xs ≤ i → unescaped e (drop i xs) ≡ []
+-- a backslash with nothing behind it
+pub unescaped-last : unescaped false (92 ∷ []) ≡ unescaped false []
 unfolding unescaped
-unescaped-end e i xs h = at_drop_all (unescaped e) xs i h
+unescaped-last = refl
 
--- a byte that is no backslash stays
-pub unescaped_any : (e : Bool) (i : ℕ) (xs : List ℕ) → i < length xs → get_or xs i 0 ≢ 92 → unescaped e (drop i xs) ≡ get_or xs i 0 ∷ unescaped false (drop (i + 1) xs)
-unescaped_any true i xs lt n = unescaped-here true true i xs lt refl ∙ unescaped-escaped _ _
-unescaped_any false i xs lt n = unescaped-here false false i xs lt refl ∙ unescaped-byte _ _ n
+pub unescaped-nil : unescaped false [] ≡ []
+unfolding unescaped
+unescaped-nil = refl
 
--- a byte that is put leaves the whole the same
-pub put_byte : (out more rest whole before : List ℕ) (b : ℕ) → more ≡ out ++ b ∷ [] → before ≡ b ∷ rest → out ++ before ≡ whole → more ++ rest ≡ whole
-put_byte out more rest whole before b p e so_far =
-    ap (λ (xs : List ℕ). xs ++ rest) p ∙ append_assoc out (b ∷ []) rest ∙ ap (λ (xs : List ℕ). out ++ xs) (sym e) ∙ so_far
+-- bytes without a backslash stay
+pub unescaped-run : (run rest : List ℕ) → ((k : ℕ) → k < length run → get_or run k 0 ≢ 92) → unescaped false (run ++ rest) ≡ run ++ unescaped false rest
+unescaped-run [] rest plain = refl
+unescaped-run (b ∷ bs) rest plain =
+    unescaped-byte b (bs ++ rest) (plain 0 (omega arith)) ∙ ap (λ (l : List ℕ). b ∷ l) (unescaped-run bs rest (λ k l e. plain (suc k) (omega arith) e))
+
+-- a run and a byte behind a backslash are put
+pub unescaped-step : (out more last run pair rest after whole : List ℕ) → more ≡ out ++ run → rest ≡ run ++ pair → ((k : ℕ) → k < length run → get_or run k 0 ≢ 92)
+    → last ++ unescaped false after ≡ more ++ unescaped false pair → out ++ unescaped false rest ≡ whole → last ++ unescaped false after ≡ whole
+unescaped-step out more last run pair rest after whole put cut plain taken so_far =
+    taken
+    ∙ ap (λ (l : List ℕ). l ++ unescaped false pair) put
+    ∙ append_assoc out run (unescaped false pair)
+    ∙ ap (λ (l : List ℕ). out ++ l) (sym (ap (unescaped false) cut ∙ unescaped-run run pair plain))
+    ∙ so_far
+
+-- what a backslash takes, and what is left behind it
+pub taken-last : (pair after : List ℕ) → pair ≡ 92 ∷ after → length pair < 2 → unescaped false pair ≡ unescaped false []
+taken-last pair [] is short = ap (unescaped false) is ∙ unescaped-last
+taken-last pair (b ∷ bs) is short = absurd (omega (arith, ap (λ (l : List ℕ). length l) is))
+
+pub taken-pair : (out more pair after : List ℕ) → pair ≡ 92 ∷ after → 2 ≤ length pair → more ≡ out ++ get_or pair 1 0 ∷ [] → more ++ unescaped false (take (length pair - 2) (drop 2 pair)) ≡ out ++ unescaped false pair
+taken-pair out more pair [] is long put = absurd (omega (arith, ap (λ (l : List ℕ). length l) is))
+taken-pair out more pair (b ∷ bs) is long put =
+    let count : length (92 ∷ b ∷ bs) - 2 ≡ length bs = omega arith in
+    let rest : take (length pair - 2) (drop 2 pair) ≡ bs = ap (λ (l : List ℕ). take (length l - 2) (drop 2 l)) is ∙ ap (λ (n : ℕ). take n bs) count ∙ take_all (length bs) bs (omega arith) in
+    let byte : get_or pair 1 0 ≡ b = ap (λ (l : List ℕ). get_or l 1 0) is in
+    ap (λ (l : List ℕ). more ++ unescaped false l) rest
+    ∙ ap (λ (l : List ℕ). l ++ unescaped false bs) (put ∙ ap (λ (x : ℕ). out ++ x ∷ []) byte)
+    ∙ append_assoc out (b ∷ []) (unescaped false bs)
+    ∙ ap (λ (l : List ℕ). out ++ l) (sym (unescaped-pair b bs) ∙ ap (unescaped false) (sym is))
 
 part_no_gap : (t : Lexeme) → is_part t ≡ true → is_gap t ≡ false
 part_no_gap (blanks run) h = absurd (false≢true h)

@@ -5,3 +5,4 @@ pub mod Listing
 pub mod Balance
 pub mod Plain
 pub mod Pieces
+pub mod Found

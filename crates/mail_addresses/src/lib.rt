@@ -3,6 +3,7 @@
 #![tactic(auto)]
 
 mod address;
+mod found;
 mod laws;
 mod mailbox;
 mod name;
@@ -14,6 +15,7 @@ mod scan;
 mod token;
 
 pub use address::{Address, AddressError, bare, local_part, same_address};
+pub use found::FoundAddress;
 pub use laws::{
     comments_are_balanced, each_value_is_read, one_reading, pieces_are_cut_again,
     pieces_are_the_tokens, quoted_strings_end_at_a_quote, tokens_are_the_value,

@@ -10,9 +10,9 @@ use std::marker::Model;
 /// An address whose name and spec are parts of the value. Contracts see the address.
 #[derive(Drop)]
 pub(crate) struct Plain<'a> {
-    pub(crate) name: &'a [u8],
-    pub(crate) spec: &'a [u8],
-    pub(crate) local: usize,
+    name: &'a [u8],
+    spec: &'a [u8],
+    local: usize,
 }
 
 impl<'a> Model for Plain<'a> {
@@ -21,6 +21,29 @@ impl<'a> Model for Plain<'a> {
     ghost Value = { Address };
 
     ghost view = { λ p. record { name = p.name.now; spec = p.spec.now; local = p.local } };
+}
+
+impl<'a> Plain<'a> {
+    /// The name.
+    pub(crate) fn name(&self) -> &'a [u8]
+        ensures { result.now ≡ self.now.name }
+    {
+        self.name
+    }
+
+    /// The spec.
+    pub(crate) fn spec(&self) -> &'a [u8]
+        ensures { result.now ≡ self.now.spec }
+    {
+        self.spec
+    }
+
+    /// How many bytes of the spec are the local part.
+    pub(crate) fn local(&self) -> usize
+        ensures { result ≡ self.now.local }
+    {
+        self.local
+    }
 }
 
 /// The one address of the value, where it is plain: a spec alone or behind a name, of atoms and dots, where the name is words

@@ -4,13 +4,14 @@ ghost use Rattle.mail_addresses.specs.Forms.{IsDisplayName};
 ghost use Rattle.mail_addresses.specs.Listing.{pieces, Gives, Lists, SpellsMailbox, IsGrouped, SpellsGroup, Spells, IsBad, IsFirstBad, Adds, AddsIf, Reads, IsFault, IsFirstAddress};
 
 use crate::address::{Address, AddressError};
+use crate::found::{Found, FoundAddress};
 use crate::mailbox::mailbox;
 use crate::name::display_name;
 use crate::parts::{are_gaps, split_at_mark};
 use crate::pieces::{first_piece, piece_length};
 use crate::plain::plain_address;
 use crate::token::Token;
-use mail_text::{Memory, Text};
+use mail_text::Memory;
 use std::alloc::Global;
 
 /// Reads a list of addresses (RFC 5322, section 3.4). The answer is what the value's pieces spell, in order: a piece is
@@ -36,21 +37,27 @@ pub fn read_list(alloc: Global, value: &[u8]) -> Result<Vec<Address>, AddressErr
 }
 
 /// The first address of the list that a value gives; none where it gives no list, or an empty one. Only want of memory can
-/// fail. A value that is one address as most are written takes memory for that address alone.
-pub fn first_address(alloc: Global, value: &[u8]) -> Result<Option<Address>, Memory>
+/// fail. For a value that is one address as most are written it takes no memory.
+pub fn first_address(alloc: Global, value: &[u8]) -> Result<Option<FoundAddress<'_>>, Memory>
     ensures { IfOk result (IsFirstAddress value.now) }
 {
     match plain_address(value) {
-        Some(plain) => Ok(Some(Address {
-            name: Text::copy(alloc, plain.name)?,
-            spec: Text::copy(alloc, plain.spec)?,
-            local: plain.local,
-        })),
+        Some(plain) => Ok(Some(FoundAddress::of(Found::InPlace(plain)))),
         None => match read_list(alloc, value) {
-            Ok(list) => Ok(first_of(list)),
+            Ok(list) => Ok(found_first(list)),
             Err(AddressError::Syntax { at: _ }) => Ok(None),
             Err(AddressError::Memory) => Err(Memory),
         },
+    }
+}
+
+/// The first address of a list, as one that was found.
+fn found_first<'a>(list: Vec<Address>) -> Option<FoundAddress<'a>>
+    ensures { result ≡ slice_get list.items 0 }
+{
+    match first_of(list) {
+        Some(address) => Some(FoundAddress::of(Found::Own(address))),
+        None => None,
     }
 }
 

@@ -1,4 +1,4 @@
-ghost use Rattle.std.specs.Prelude.{◌≡◌, ◌≢◌, ◌==◌, ◌≤◌, ◌<◌, ◌+◌, ◌++◌, ◌∷◌, [], length, take, drop, true, false, IfOk, OnOk, IfSome, MatchOption};
+ghost use Rattle.std.specs.Prelude.{◌≡◌, ◌≢◌, ◌==◌, ◌≤◌, ◌<◌, ◌+◌, ◌++◌, ◌∷◌, [], length, take, drop, true, false, ℕ, List, IfOk, OnOk, IfSome, MatchOption};
 ghost use Rattle.std.specs.List.{list_all, list_any};
 ghost use Rattle.mail_addresses.specs.Lexical.{is_blank_byte, is_special, is_atom_byte, begins, IsCommentContent, IsQuotedContent, IsLiteralContent, IsEnd, unclosed, text_of, IsToken};
 ghost use Rattle.mail_addresses.specs.Lexeme.{lexeme};
@@ -23,9 +23,24 @@ pub(crate) fn has_blank(bytes: &[u8]) -> bool
     bytes.iter().any(|b| is_blank_byte(*b))
 }
 
-/// Whether atoms are made of this byte.
-#[tactic(auto, unfolding(crate::specs::Lexical::is_special, crate::specs::Lexical::is_atom_byte))]
+/// Whether atoms are made of this byte. Most are letters and digits, which are told by their place alone.
 fn is_atom_byte(b: u8) -> bool
+    ensures { result ≡ is_atom_byte b }
+{
+    if b > b']' {
+        b != 127
+    } else if b >= b'A' && b <= b'Z' {
+        true
+    } else if b >= b'0' && b <= b'9' {
+        true
+    } else {
+        is_rarer_atom_byte(b)
+    }
+}
+
+/// The same for any byte.
+#[tactic(auto, unfolding(crate::specs::Lexical::is_special, crate::specs::Lexical::is_atom_byte))]
+fn is_rarer_atom_byte(b: u8) -> bool
     ensures { result ≡ is_atom_byte b }
 {
     b > 32
@@ -187,14 +202,26 @@ pub(crate) fn first_token<'a>(bytes: &'a [u8]) -> Option<(Token<'a>, &'a [u8])>
 pub(crate) fn push_unescaped(inside: &[u8], out: &mut Text) -> Result<(), Memory>
     ensures { OnOk result (out.new ≡ out.old ++ unescaped false inside.now) }
 {
-    let mut escaped = false;
-    for b in inside {
-        if *b == b'\\' && !escaped {
-            escaped = true;
-        } else {
-            out.push(&[*b])?;
-            escaped = false;
-        }
+    let mut rest = inside;
+    while let Some(at) = memchr(b'\\', rest) {
+        let (run, pair) = rest.split_at(at);
+        out.push(run)?;
+        rest = push_taken(pair, out)?;
     }
-    Ok(())
+    out.push(rest)
+}
+
+/// Puts the byte that the backslash at the front takes at the end, if there is one; and what follows it.
+fn push_taken<'a>(pair: &'a [u8], out: &mut Text) -> Result<&'a [u8], Memory>
+    requires { (after : List ℕ) × (pair.now ≡ 92 ∷ after) }
+    ensures text { IfOk result (λ after. out.new ++ unescaped false after.now ≡ out.old ++ unescaped false pair.now) }
+    ensures shorter { IfOk result (λ after. length after.now < length pair.now) }
+{
+    match pair {
+        [_, byte, after @ ..] => {
+            out.push(&[*byte])?;
+            Ok(after)
+        }
+        _ => Ok(&[]),
+    }
 }

@@ -3,15 +3,15 @@ use Rattle.std.proofs.Common.{◌≡◌, ℕ, zero, suc, ◌+◌, ◌<◌, ◌�
 use Rattle.std.specs.Bool.{if◌then◌else◌}
 use Rattle.std.specs.List.{flat_map, take_while, join_with_byte}
 use Rattle.std.proofs.lemmas.Bool.{cond-true, cond-false, eqb-true, false≢true, cases_Bool, cases_lt}
-use Rattle.std.proofs.lemmas.List.{take_all, drop_all, drop-drop, get_or-drop, get_or-take, get_or_append_left}
+use Rattle.std.proofs.lemmas.List.{take_all, drop_all, drop-drop, get_or-drop, get_or-take, get_or_append_left, length-take-le}
 use Rattle.std.proofs.lemmas.List.Sums.{take_while-cons}
 use Rattle.std.proofs.Math.Seq.{take-add, drop-cons}
 use Rattle.mail_text.specs.Lines.{lines_of, in_front}
 use Rattle.mail_text.proofs.LineLemmas.{lines_of-hit, lines_of-miss, lines_of-empty, lines_of-nil, lines_of-feed, lines_of-byte}
 use Rattle.mail_headers.specs.Field.{is_folded, name_length, begins_field, field_of}
 use Rattle.mail_text.specs.Ascii.{is_blank}
-use Rattle.mail_headers.specs.Header.{Entry, field, other, entries_from, first_line}
-use Rattle.mail_headers.specs.Cutting.{IsLineLength, folded_part, lines_after, IsInField, IsFieldEnd}
+use Rattle.mail_headers.specs.Header.{Entry, field, other, entries_from, first_line, has_bytes}
+use Rattle.mail_headers.specs.Cutting.{IsLineLength, IsFlat, folded_part, lines_after, head_lines, head_after, is_over, IsInField, IsFieldEnd}
 use Rattle.mail_headers.proofs.FieldLemmas.{HasName-begins, name_length-append, join-lines, entries_from-field, entries_from-folded, entries_from-other, entries_from-unfolded, entries_from-nil}
 
 -- the first line of a text with bytes, and the lines after it
@@ -24,6 +24,53 @@ lines_of-first t n is some =
     ∙ ap (λ (l : List ℕ). l ∷ []) (sym (take_all n t ge))
     ∙ ap (λ (ls : List (List ℕ)). take n t ∷ ls) (sym (lines_of-empty (drop (n + 1) t) (omega (arith, length-drop (n + 1) t)))))
     (cases_lt n (length t))
+
+-- a field that ends where its first line ends has no line feed
+pub IsFlat-line : (t bs : List ℕ) (first last : ℕ) → IsLineLength t first → last ≡ first → bs ≡ take last t → IsFlat bs
+IsFlat-line t bs first last line same is k lt feed =
+    let long : length bs ≡ first = ap (λ (l : List ℕ). length l) is ∙ ap (λ (n : ℕ). length (take n t)) same ∙ length-take-le first t line.within in
+    let below : k < last = omega arith in
+    line.plain k (omega arith) (sym (ap (λ (l : List ℕ). get_or l k 0) is ∙ get_or-take last t k 0 below) ∙ feed)
+
+-- ---- lines up to an empty one
+
+pub head_lines-over : (t : List ℕ) → is_over t ≡ true → head_lines t ≡ []
+head_lines-over [] over = ap (take_while has_bytes) lines_of-nil
+head_lines-over (b ∷ bs) over = ap (take_while has_bytes) (lines_of-feed b bs over) ∙ take_while-cons has_bytes [] (lines_of bs)
+
+-- the first of them, which has a byte, and the others
+pub head_lines-first : (t : List ℕ) (n : ℕ) → IsLineLength t n → is_over t ≡ false → head_lines t ≡ take n t ∷ head_after t n
+head_lines-first [] n line more = absurd (false≢true (sym more))
+head_lines-first (b ∷ bs) zero line more = absurd (false≢true (sym more ∙ ap (λ (x : ℕ). x == 10) (line.feed (omega arith))))
+head_lines-first (b ∷ bs) (suc n) line more =
+    ap (take_while has_bytes) (lines_of-first (b ∷ bs) (suc n) line (omega arith))
+    ∙ take_while-cons has_bytes (take (suc n) (b ∷ bs)) (lines_of (drop (suc n + 1) (b ∷ bs)))
+
+-- folded lines have bytes
+has_bytes-folded : (l : List ℕ) → is_folded l ≡ true → has_bytes l ≡ true
+has_bytes-folded [] folded = absurd (false≢true folded)
+has_bytes-folded (b ∷ bs) folded = refl
+
+-- so those in front stand before an empty line
+folded-head : (ls : List (List ℕ)) → take_while is_folded (take_while has_bytes ls) ≡ take_while is_folded ls
+folded-head [] = refl
+folded-head ([] ∷ ls) = ap (take_while is_folded) (take_while-cons has_bytes [] ls) ∙ sym (take_while-cons is_folded [] ls)
+folded-head ((b ∷ bs) ∷ ls) =
+    ap (take_while is_folded) (take_while-cons has_bytes (b ∷ bs) ls)
+    ∙ take_while-cons is_folded (b ∷ bs) (take_while has_bytes ls)
+    ∙ ap (λ (later : List (List ℕ)). if is_folded (b ∷ bs) then (b ∷ bs) ∷ later else []) (folded-head ls)
+    ∙ sym (take_while-cons is_folded (b ∷ bs) ls)
+
+-- where the first line isn't folded, it doesn't matter what stands before it
+unfolded-head : (l : List ℕ) (ls : List (List ℕ)) → is_folded l ≡ false → entries_from true (take_while has_bytes (l ∷ ls)) ≡ entries_from false (take_while has_bytes (l ∷ ls))
+unfolded-head [] ls unfolded =
+    let none : take_while has_bytes ([] ∷ ls) ≡ [] = take_while-cons has_bytes [] ls in
+    ap (entries_from true) none ∙ entries_from-nil true ∙ sym (entries_from-nil false) ∙ ap (entries_from false) (sym none)
+unfolded-head (b ∷ bs) ls unfolded =
+    let one : take_while has_bytes ((b ∷ bs) ∷ ls) ≡ (b ∷ bs) ∷ take_while has_bytes ls = take_while-cons has_bytes (b ∷ bs) ls in
+    ap (entries_from true) one ∙ entries_from-unfolded (b ∷ bs) (take_while has_bytes ls) unfolded ∙ ap (entries_from false) (sym one)
+
+-- ---- folded lines
 
 -- the first line, and whether it is folded
 pub record HasFirst (lines : List (List ℕ)) (folded : Bool) : Type 0 where
@@ -70,6 +117,12 @@ module _ (t : List ℕ) (start e n : ℕ) (in_field : IsInField t start e) (more
       let begins : is_blank (get_or (drop (e + 1) t) 0 0) ≡ true = ap is_blank first ∙ blank in
       ap is_blank (get_or-take n (drop (e + 1) t) 0 0 (blank_length (drop (e + 1) t) n line some begins)) ∙ begins
 
+  heads : head_after t e ≡ take n (drop (e + 1) t) ∷ head_after t (e + (1 + n))
+  heads =
+      ap (take_while has_bytes) lines
+      ∙ take_while-cons has_bytes (take n (drop (e + 1) t)) (lines_after t (e + (1 + n)))
+      ∙ cond-true _ _ _ (has_bytes-folded (take n (drop (e + 1) t)) folded)
+
   feed : e + (1 + n) < length t → get_or t (e + (1 + n)) 0 ≡ 10
   feed lt =
       let place : e + 1 + n ≡ e + (1 + n) = omega arith in
@@ -98,17 +151,18 @@ module _ (t : List ℕ) (start e n : ℕ) (in_field : IsInField t start e) (more
     within = omega (arith, length-drop (e + 1) t, line.within);
     feed = feed;
     bytes = bytes ∙ in_field.bytes;
-    rest = sym (ap (entries_from true) lines ∙ entries_from-folded (take n (drop (e + 1) t)) (lines_after t (e + (1 + n))) folded) ∙ in_field.rest;
+    rest = sym (ap (entries_from true) heads ∙ entries_from-folded (take n (drop (e + 1) t)) (head_after t (e + (1 + n))) folded) ∙ in_field.rest;
   }
 
 -- no folded line follows
 pub IsFieldEnd-last : (t : List ℕ) (start e : ℕ) → IsInField t start e → length t ≤ e + 1 → IsFieldEnd t start e
 IsFieldEnd-last t start e in_field last =
     let none : lines_after t e ≡ [] = lines_of-empty (drop (e + 1) t) (omega (arith, length-drop (e + 1) t)) in
+    let heads : head_after t e ≡ [] = ap (take_while has_bytes) none in
     record {
       within = in_field.within;
       bytes = sym (append-nil (take e t)) ∙ ap (λ (ls : List (List ℕ)). take e t ++ folded_part ls) (sym none) ∙ in_field.bytes;
-      rest = ap (entries_from false) none ∙ entries_from-nil false ∙ sym (entries_from-nil true) ∙ ap (entries_from true) (sym none) ∙ in_field.rest;
+      rest = ap (entries_from false) heads ∙ entries_from-nil false ∙ sym (entries_from-nil true) ∙ ap (entries_from true) (sym heads) ∙ in_field.rest;
     }
 
 pub IsFieldEnd-unfolded : (t : List ℕ) (start e : ℕ) → IsInField t start e → e + 1 < length t → is_blank (get_or t (e + 1) 0) ≡ false → IsFieldEnd t start e
@@ -117,10 +171,11 @@ IsFieldEnd-unfolded t start e in_field more unfolded =
     let has = lines_of-HasFirst (get_or t (e + 1) 0) (drop (suc (e + 1)) t) in
     let lines : lines_after t e ≡ has.first ∷ has.later = ap lines_of cut ∙ has.is in
     let test : is_folded has.first ≡ false = has.test ∙ unfolded in
+    let heads : head_after t e ≡ take_while has_bytes (has.first ∷ has.later) = ap (take_while has_bytes) lines in
     record {
       within = in_field.within;
       bytes = sym (append-nil (take e t)) ∙ ap (λ (bs : List ℕ). take e t ++ bs) (sym (ap folded_part lines ∙ folded_part-unfolded has.first has.later test)) ∙ in_field.bytes;
-      rest = ap (entries_from false) lines ∙ sym (entries_from-unfolded has.first has.later test) ∙ ap (entries_from true) (sym lines) ∙ in_field.rest;
+      rest = ap (entries_from false) heads ∙ sym (unfolded-head has.first has.later test) ∙ ap (entries_from true) (sym heads) ∙ in_field.rest;
     }
 
 -- ---- the first entry of some lines
@@ -141,21 +196,24 @@ begins_field-None l r is none =
     (cases_Bool (begins_field l))
 
 -- a field by the ends of its first and its last line
-module _ (t : List ℕ) (first last : ℕ) (some : 0 < length t) (line : IsLineLength t first) (begins : begins_field (take first t) ≡ true) (ends : IsFieldEnd t first last) where
-  bytes_of-field : take last t ≡ join_with_byte 10 (take first t ∷ take_while is_folded (lines_after t first))
-  bytes_of-field = ends.bytes ∙ sym (join-lines (take first t) (take_while is_folded (lines_after t first)))
+module _ (t : List ℕ) (first last : ℕ) (more : is_over t ≡ false) (line : IsLineLength t first) (begins : begins_field (take first t) ≡ true) (ends : IsFieldEnd t first last) where
+  bytes_of-field : take last t ≡ join_with_byte 10 (take first t ∷ take_while is_folded (head_after t first))
+  bytes_of-field =
+      ends.bytes
+      ∙ sym (join-lines (take first t) (take_while is_folded (lines_after t first)))
+      ∙ ap (λ (ls : List (List ℕ)). join_with_byte 10 (take first t ∷ ls)) (sym (folded-head (lines_after t first)))
 
   pub name_length-field : name_length (take last t) ≡ name_length (take first t)
   name_length-field =
       ap name_length ends.bytes ∙ name_length-append (take first t) (folded_part (lines_after t first)) (HasName-begins (take first t) begins).within
 
-  pub entries_from-cut_field : (let bs = take last t in let k = name_length (take first t) in entries_from false (lines_of t) ≡ field (record { name = take k bs; value = drop (k + 1) bs }) ∷ entries_from false (lines_of (drop (last + 1) t)))
+  pub entries_from-cut_field : (let bs = take last t in let k = name_length (take first t) in entries_from false (head_lines t) ≡ field (record { name = take k bs; value = drop (k + 1) bs }) ∷ entries_from false (head_after t last))
   unfolding field_of
   entries_from-cut_field =
-      ap (entries_from false) (lines_of-first t first line some)
-      ∙ entries_from-field false (take first t) (lines_after t first) begins
-      ∙ ap (λ (bs : List ℕ). field (field_of bs) ∷ entries_from true (lines_after t first)) (sym bytes_of-field)
-      ∙ ap (λ (k : ℕ). field (record { name = take k (take last t); value = drop (k + 1) (take last t) }) ∷ entries_from true (lines_after t first)) name_length-field
+      ap (entries_from false) (head_lines-first t first line more)
+      ∙ entries_from-field false (take first t) (head_after t first) begins
+      ∙ ap (λ (bs : List ℕ). field (field_of bs) ∷ entries_from true (head_after t first)) (sym bytes_of-field)
+      ∙ ap (λ (k : ℕ). field (record { name = take k (take last t); value = drop (k + 1) (take last t) }) ∷ entries_from true (head_after t first)) name_length-field
       ∙ ap (λ (es : List Entry). field (record { name = take (name_length (take first t)) (take last t); value = drop (name_length (take first t) + 1) (take last t) }) ∷ es) (sym ends.rest)
 
   -- its colon
@@ -172,8 +230,8 @@ module _ (t : List ℕ) (first last : ℕ) (some : 0 < length t) (line : IsLineL
       ∙ has.colon
 
 -- a line that is no field
-pub entries_from-cut_other : (t : List ℕ) (first : ℕ) → 0 < length t → IsLineLength t first → begins_field (take first t) ≡ false → entries_from false (lines_of t) ≡ other (take first t) ∷ entries_from false (lines_of (drop (first + 1) t))
-entries_from-cut_other t first some line plain = ap (entries_from false) (lines_of-first t first line some) ∙ entries_from-other (take first t) (lines_after t first) plain
+pub entries_from-cut_other : (t : List ℕ) (first : ℕ) → is_over t ≡ false → IsLineLength t first → begins_field (take first t) ≡ false → entries_from false (head_lines t) ≡ other (take first t) ∷ entries_from false (head_after t first)
+entries_from-cut_other t first more line plain = ap (entries_from false) (head_lines-first t first line more) ∙ entries_from-other (take first t) (head_after t first) plain
 
 -- the first line of any text, and the lines after it
 pub record HasFirstLine (t : List ℕ) (n : ℕ) : Type 0 where

@@ -1,11 +1,10 @@
 -- Lines that begin a field, folded lines, and the entries of lines.
-use Rattle.std.proofs.Common.{◌≡◌, ℕ, ◌+◌, ◌<◌, ◌≤◌, Bool, true, false, ◌&&◌, not, ◌==◌, cond, List, [], ◌∷◌, ◌++◌, length, get_or, nat_lt, Option, Some, None, unwrap_or, refl, sym, ap, ◌∙◌, arith, ⊎_elim, append-nil}
+use Rattle.std.proofs.Common.{◌≡◌, ℕ, ◌<◌, Bool, true, false, ◌&&◌, ◌==◌, List, [], ◌∷◌, ◌++◌, length, get_or, nat_lt, refl, sym, ap, ◌∙◌, arith, ⊎_elim, append-nil}
 use Rattle.std.specs.Bool.{if◌then◌else◌}
-use Rattle.std.specs.List.{flat_map, take_while, prefix_len, position_or_len, join_with_byte}
-use Rattle.std.proofs.lemmas.Bool.{cond-true, cond-false, eqb-true, ne_eqb, ltb-true, lt-ltb, le-ltb, false≢true, cases_Bool, cases_lt, and_parts, or_cases}
+use Rattle.std.specs.List.{flat_map, take_while, join_with_byte}
+use Rattle.std.proofs.lemmas.Bool.{cond-true, cond-false, eqb-true, ne_eqb, ltb-true, false≢true, cases_Bool, cases_lt, and_parts, or_cases}
 use Rattle.std.proofs.lemmas.List.{get_or_past}
 use Rattle.std.proofs.lemmas.List.Folds.{prefix_len-append}
-use Rattle.std.proofs.lemmas.List.Sums.{prefix_len-le-length}
 use Rattle.mail_headers.specs.Field.{is_folded, is_name_byte, name_length, begins_field, field_of}
 use Rattle.mail_text.specs.Ascii.{is_blank}
 use Rattle.mail_headers.specs.Header.{field, other, entries_from}

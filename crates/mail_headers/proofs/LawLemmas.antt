@@ -20,7 +20,7 @@ abbrev rest_of : Option (List ℕ) → List ℕ
 rest_of None = []
 rest_of (Some body) = 10 ∷ 10 ∷ body
 
-two_feeds_is : (b : ℕ) (bs : List ℕ) → has_two_feeds (b ∷ bs) ≡ true → b ∷ bs ≡ 10 ∷ 10 ∷ drop 1 bs
+pub two_feeds_is : (b : ℕ) (bs : List ℕ) → has_two_feeds (b ∷ bs) ≡ true → b ∷ bs ≡ 10 ∷ 10 ∷ drop 1 bs
 two_feeds_is b [] two = absurd (false≢true (and_parts (b == 10) false two).1)
 two_feeds_is b (c ∷ cs) two =
     let parts = and_parts (b == 10) (c == 10) two in

@@ -1,5 +1,5 @@
 -- A text cut at the first two line feeds in a row: the lines before them are the From line and the header's lines.
-use Rattle.std.proofs.Common.{◌≡◌, ◌≢◌, ℕ, zero, suc, ◌+◌, ◌-◌, ◌<◌, true, false, ◌==◌, List, [], ◌∷◌, length, take, drop, get_or, Some, None, refl, sym, ap, ◌∙◌, arith, ⊎_elim, subst, add-zero}
+use Rattle.std.proofs.Common.{◌≡◌, ◌≢◌, ℕ, zero, suc, ◌+◌, ◌-◌, ◌<◌, true, false, ◌==◌, List, [], ◌∷◌, length, drop, get_or, Some, None, refl, sym, ap, ◌∙◌, arith, ⊎_elim, subst}
 use Rattle.std.specs.List.{take_while}
 use Rattle.std.proofs.lemmas.Bool.{cond-true, cond-false, eqb-true, false≢true, ne_eqb, cases_Bool, cases_lt, and_left}
 use Rattle.std.proofs.lemmas.List.Sums.{take_while-cons}
@@ -115,24 +115,22 @@ HasHead-head_of (b ∷ c ∷ cs) =
 
 -- ---- the place of the first two line feeds in a row
 
-pub head_of-found : (t : List ℕ) (k : ℕ) → has_two_feeds (drop k t) ≡ true → ((j : ℕ) → j < k → has_two_feeds (drop j t) ≡ false) → (head_of t ≡ take k t) × (body_of t ≡ Some (drop (k + 2) t))
-unfolding head_of body_of
-head_of-found [] zero two before = absurd (false≢true two)
-head_of-found [] (suc k) two before = absurd (false≢true two)
-head_of-found (b ∷ bs) zero two before = (cond-true _ _ _ two, cond-true _ _ _ two)
-head_of-found (b ∷ bs) (suc k) two before =
+pub body_of-found : (t : List ℕ) (k : ℕ) → has_two_feeds (drop k t) ≡ true → ((j : ℕ) → j < k → has_two_feeds (drop j t) ≡ false) → body_of t ≡ Some (drop (k + 2) t)
+unfolding body_of
+body_of-found [] zero two before = absurd (false≢true two)
+body_of-found [] (suc k) two before = absurd (false≢true two)
+body_of-found (b ∷ bs) zero two before = cond-true _ _ _ two
+body_of-found (b ∷ bs) (suc k) two before =
     let none : has_two_feeds (b ∷ bs) ≡ false = before 0 (omega arith) in
-    let later = head_of-found bs k two (λ j lt. before (suc j) (omega arith)) in
     let place : suc (k + 2) ≡ suc k + 2 = omega arith in
-    (cond-false _ _ _ none ∙ ap (λ (l : List ℕ). b ∷ l) later.0, cond-false _ _ _ none ∙ later.1 ∙ ap (λ (n : ℕ). Some (drop n (b ∷ bs))) place)
+    cond-false _ _ _ none ∙ body_of-found bs k two (λ j lt. before (suc j) (omega arith)) ∙ ap (λ (n : ℕ). Some (drop n (b ∷ bs))) place
 
-pub head_of-missed : (t : List ℕ) → ((j : ℕ) → j < length t → has_two_feeds (drop j t) ≡ false) → (head_of t ≡ t) × (body_of t ≡ None)
-unfolding head_of body_of
-head_of-missed [] nowhere = (refl, refl)
-head_of-missed (b ∷ bs) nowhere =
+pub body_of-missed : (t : List ℕ) → ((j : ℕ) → j < length t → has_two_feeds (drop j t) ≡ false) → body_of t ≡ None
+unfolding body_of
+body_of-missed [] nowhere = refl
+body_of-missed (b ∷ bs) nowhere =
     let none : has_two_feeds (b ∷ bs) ≡ false = nowhere 0 (omega arith) in
-    let later = head_of-missed bs (λ j lt. nowhere (suc j) (omega arith)) in
-    (cond-false _ _ _ none ∙ ap (λ (l : List ℕ). b ∷ l) later.0, cond-false _ _ _ none ∙ later.1)
+    cond-false _ _ _ none ∙ body_of-missed bs (λ j lt. nowhere (suc j) (omega arith))
 
 -- a byte that is no line feed begins no two
 one_other : (t : List ℕ) (k : ℕ) → get_or t k 0 ≢ 10 → has_two_feeds (drop k t) ≡ false

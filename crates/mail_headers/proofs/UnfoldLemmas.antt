@@ -1,14 +1,14 @@
 -- Values without their line feeds and outer blanks.
-use Rattle.std.proofs.Common.{◌≡◌, ℕ, suc, ◌<◌, get_or, true, false, not, ◌==◌, List, [], ◌∷◌, ◌++◌, length, refl, sym, ap, ◌∙◌, arith, ⊎_elim}
+use Rattle.std.proofs.Common.{◌≡◌, ℕ, suc, ◌+◌, ◌<◌, get_or, drop, length-append, length-drop, true, false, not, ◌==◌, List, [], ◌∷◌, ◌++◌, length, refl, sym, ap, ◌∙◌, arith, ⊎_elim}
 use Rattle.std.specs.List.{concat}
 use Rattle.std.proofs.lemmas.Bool.{cond-true, cond-false, ne_eqb, false≢true, cases_Bool, or_cases, or_parts, not_from_true, not_from_false}
-use Rattle.std.proofs.lemmas.List.{append-nil}
+use Rattle.std.proofs.lemmas.List.{append-nil, get_or_append_left, get_or-drop}
 use Rattle.std.proofs.lemmas.List.Elements.{filter-append}
 use Rattle.mail_text.specs.Lines.{lines_of, in_front}
 use Rattle.mail_text.proofs.LineLemmas.{lines_of-nil, lines_of-feed, lines_of-byte}
 use Rattle.mail_headers.specs.Field.{without_feeds, trim_start, unless_last_blank, trim_end}
 use Rattle.mail_text.specs.Ascii.{is_blank}
-use Rattle.mail_headers.specs.Cutting.{is_space}
+use Rattle.mail_headers.specs.Cutting.{IsFlat, is_space}
 
 -- ---- line feeds
 
@@ -39,6 +39,18 @@ pub without_feeds-none : (bs : List ℕ) → ((k : ℕ) → k < length bs → ge
 without_feeds-none [] none = refl
 without_feeds-none (b ∷ bs) none =
     without_feeds-byte b bs (ne_eqb _ _ (none 0 (omega arith))) ∙ ap (λ (l : List ℕ). b ∷ l) (without_feeds-none bs (λ k l e. none (suc k) (omega arith) e))
+
+-- parts of such bytes
+pub IsFlat-after : (b : ℕ) (bs whole : List ℕ) → whole ≡ b ∷ bs → IsFlat whole → IsFlat bs
+IsFlat-after b bs whole is flat k lt feed =
+    flat (suc k) (omega (arith, ap (λ (l : List ℕ). length l) is)) (ap (λ (l : List ℕ). get_or l (suc k) 0) is ∙ feed)
+
+pub IsFlat-before : (b : ℕ) (bs whole : List ℕ) → whole ≡ bs ++ b ∷ [] → IsFlat whole → IsFlat bs
+IsFlat-before b bs whole is flat k lt feed =
+    flat k (omega (arith, ap (λ (l : List ℕ). length l) is, length-append bs (b ∷ []))) (ap (λ (l : List ℕ). get_or l k 0) is ∙ get_or_append_left bs (b ∷ []) 0 k lt ∙ feed)
+
+pub IsFlat-drop : (bs : List ℕ) (n : ℕ) → IsFlat bs → IsFlat (drop n bs)
+IsFlat-drop bs n flat k lt feed = flat (n + k) (omega (arith, length-drop n bs)) (sym (get_or-drop n bs k 0) ∙ feed)
 
 -- ---- blanks at the front
 

@@ -1,7 +1,6 @@
 // The entries of a header, cut one by one from the front of its lines.
 ghost use Rattle.std.specs.Prelude.{◌≡◌, ◌+◌, ◌<◌, ◌≤◌, false, ◌∷◌, length, drop, slice_index, Some, None, if◌then◌else◌};
-ghost use Rattle.mail_text.specs.Lines.{lines_of};
-ghost use Rattle.mail_headers.specs.Cutting.{IsLineLength, IsFieldEnd};
+ghost use Rattle.mail_headers.specs.Cutting.{IsLineLength, IsFieldEnd, head_lines, is_over};
 ghost use Rattle.mail_headers.specs.Field.{is_name_byte, name_length, begins_field};
 ghost use Rattle.mail_text.specs.Ascii.{is_blank};
 ghost use Rattle.mail_headers.specs.Header.{entries_from};
@@ -76,18 +75,32 @@ fn field_end(text: &[u8], first_line_end: usize) -> usize
     end
 }
 
-// The first entry of these lines, and the lines after it.
+// Whether no line is left, or an empty one comes next.
+pub(crate) fn is_over(lines: &[u8]) -> bool
+    ensures { result ≡ is_over lines.now }
+{
+    match lines {
+        [] => true,
+        [first, ..] => *first == b'\n',
+    }
+}
+
+// The first entry of the lines up to an empty one, and the lines after it.
 pub(crate) fn cut_entry(lines: &[u8]) -> (EntryRef<'_>, &[u8])
-    requires { 0 < length lines.now }
-    ensures { entries_from false (lines_of lines.now) ≡ result.0 ∷ entries_from false (lines_of result.1.now) }
+    requires { is_over lines.now ≡ false }
+    ensures { entries_from false (head_lines lines.now) ≡ result.0 ∷ entries_from false (head_lines result.1.now) }
 {
     let end = line_length(lines);
     let (line, _) = lines.split_at(end);
     match colon_of(line) {
         Some(colon) => {
-            let end = field_end(lines, end);
-            let (field, _) = lines.split_at(end);
-            (EntryRef::of_field(field, colon), after_line(lines, end))
+            let last = field_end(lines, end);
+            let (field, _) = lines.split_at(last);
+            let flat = last == end;
+            (
+                EntryRef::of_field(field, colon, flat),
+                after_line(lines, last),
+            )
         }
         None => (EntryRef::of_other(line), after_line(lines, end)),
     }

@@ -1,4 +1,4 @@
-ghost use Rattle.std.specs.Prelude.{◌≡◌, ◌+◌, ◌<◌, length, take, drop, slice_index};
+ghost use Rattle.std.specs.Prelude.{◌≡◌, ◌+◌, ◌<◌, true, length, take, drop, slice_index};
 
 use std::marker::Model;
 
@@ -8,21 +8,25 @@ use std::marker::Model;
 pub struct FieldRef<'a> {
     bytes: &'a [u8],
     colon: usize,
+    // whether it is known to have no line feed
+    flat: bool,
 }
 
 impl<'a> Model for FieldRef<'a> {
-    ghost use Rattle.std.specs.Prelude.{◌≡◌, ◌+◌, ◌<◌, take, drop, length, slice_index};
+    ghost use Rattle.std.specs.Prelude.{◌≡◌, ◌+◌, ◌<◌, true, take, drop, length, slice_index};
     ghost use Rattle.mail_headers.specs.Field.{Field};
+    ghost use Rattle.mail_headers.specs.Cutting.{IsFlat};
 
     ghost Value = { Field };
 
     ghost view = { λ f. record { name = take f.colon f.bytes.now; value = drop (f.colon + 1) f.bytes.now } };
 
-    ghost invariant = { λ f. (f.colon < length f.bytes.now) × (slice_index f.bytes.now f.colon ≡ 58) };
+    ghost invariant = { λ f. (f.colon < length f.bytes.now) × (slice_index f.bytes.now f.colon ≡ 58) × (f.flat ≡ true → IsFlat f.bytes.now) };
 }
 
 impl<'a> FieldRef<'a> {
     ghost use Rattle.mail_headers.specs.Field.{field_bytes};
+    ghost use Rattle.mail_headers.specs.Cutting.{IsFlat};
 
     /// The name, as it is spelled in the header.
     pub fn name(&self) -> &'a [u8]
@@ -45,6 +49,13 @@ impl<'a> FieldRef<'a> {
     {
         &self.bytes[self.colon + 1..]
     }
+
+    // Whether it is known that the value has no line feed.
+    pub(crate) fn is_flat(&self) -> bool
+        ensures { result ≡ true → IsFlat self.now.value }
+    {
+        self.flat
+    }
 }
 
 /// A part of a header: a field with its folded lines, or a line that is no field.
@@ -52,6 +63,8 @@ impl<'a> FieldRef<'a> {
 pub struct EntryRef<'a> {
     bytes: &'a [u8],
     colon: Option<usize>,
+    // whether it is known to have no line feed
+    flat: bool,
 }
 
 impl<'a> Model for EntryRef<'a> {
@@ -59,25 +72,29 @@ impl<'a> Model for EntryRef<'a> {
 
     ghost Value = { Entry };
 
-    ghost use Rattle.mail_headers.specs.Cutting.{entry_at, HasColon};
+    ghost use Rattle.std.specs.Prelude.{◌≡◌, true};
+    ghost use Rattle.mail_headers.specs.Cutting.{entry_at, HasColon, IsFlat};
 
     ghost view = { λ e. entry_at e.bytes.now e.colon };
 
-    ghost invariant = { λ e. HasColon e.bytes.now e.colon };
+    ghost invariant = { λ e. HasColon e.bytes.now e.colon × (e.flat ≡ true → IsFlat e.bytes.now) };
 }
 
 impl<'a> EntryRef<'a> {
     ghost use Rattle.mail_headers.specs.Header.{field, other, entry_bytes, field_in};
+    ghost use Rattle.mail_headers.specs.Cutting.{IsFlat};
 
-    // The field of these bytes, with its colon at this place.
-    pub(crate) fn of_field(bytes: &'a [u8], colon: usize) -> EntryRef<'a>
+    // The field of these bytes, with its colon at this place; `flat` where it is known to have no line feed.
+    pub(crate) fn of_field(bytes: &'a [u8], colon: usize, flat: bool) -> EntryRef<'a>
         requires within { colon < length bytes.now }
         requires colon { slice_index bytes.now colon ≡ 58 }
+        requires flat { flat ≡ true → IsFlat bytes.now }
         ensures { result ≡ field (record { name = take colon bytes.now; value = drop (colon + 1) bytes.now }) }
     {
         EntryRef {
             bytes,
             colon: Some(colon),
+            flat,
         }
     }
 
@@ -88,6 +105,7 @@ impl<'a> EntryRef<'a> {
         EntryRef {
             bytes: line,
             colon: None,
+            flat: false,
         }
     }
 
@@ -99,6 +117,7 @@ impl<'a> EntryRef<'a> {
             Some(colon) => Some(FieldRef {
                 bytes: self.bytes,
                 colon,
+                flat: self.flat,
             }),
             None => None,
         }

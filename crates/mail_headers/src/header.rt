@@ -1,7 +1,6 @@
 ghost use Rattle.std.specs.Prelude.{◌≡◌, ◌≤◌, Ok, length, drop};
 ghost use Rattle.std.specs.Option.{option_copied};
 ghost use Rattle.mail_headers.specs.Header.{has_two_feeds, body_of};
-ghost use Rattle.mail_headers.specs.Parts.{head_of};
 
 use crate::cut::{after_line, line_length};
 use crate::{Entries, FieldRef, Fields};
@@ -15,8 +14,8 @@ use std::marker::Model;
 pub struct Header<'a> {
     text: &'a [u8],
     from_line: &'a [u8],
-    lines: &'a [u8],
-    body: Option<&'a [u8]>,
+    // what follows the From line
+    rest: &'a [u8],
 }
 
 impl<'a> Model for Header<'a> {
@@ -27,7 +26,7 @@ impl<'a> Model for Header<'a> {
 
     ghost view = { λ h. h.text.now };
 
-    ghost invariant = { λ h. HasParts h.text.now h.from_line.now h.lines.now h.body };
+    ghost invariant = { λ h. HasParts h.text.now h.from_line.now h.rest.now };
 }
 
 impl<'a> Header<'a> {
@@ -39,14 +38,12 @@ impl<'a> Header<'a> {
     pub fn read(_alloc: Global, text: &'a [u8]) -> Result<Header<'a>, Memory>
         ensures { result ≡ Ok text.now }
     {
-        let (head, body) = split_body(text);
-        let end = line_length(head);
-        let (from_line, _) = head.split_at(end);
+        let end = line_length(text);
+        let (from_line, _) = text.split_at(end);
         Ok(Header {
             text,
             from_line,
-            lines: after_line(head, end),
-            body,
+            rest: after_line(text, end),
         })
     }
 
@@ -61,7 +58,7 @@ impl<'a> Header<'a> {
     pub fn entries(&self) -> Entries<'a>
         ensures { result ≡ entries_of self.now }
     {
-        Entries::of(self.lines)
+        Entries::of(self.rest)
     }
 
     /// The fields of the header in order.
@@ -82,37 +79,35 @@ impl<'a> Header<'a> {
     pub fn has_body(&self) -> bool
         ensures { result ≡ is_some (body_of self.now) }
     {
-        self.body.is_some()
+        body_of(self.text).is_some()
     }
 
     /// The body, what follows the first empty line after the From line; empty where there is none.
     pub fn body(&self) -> &'a [u8]
         ensures { result.now ≡ unwrap_or (body_of self.now) [] }
     {
-        match self.body {
+        match body_of(self.text) {
             Some(body) => body,
             None => &[],
         }
     }
 }
 
-// What stands before the first two line feeds in a row, and what follows them, if there are any.
-fn split_body(text: &[u8]) -> (&[u8], Option<&[u8]>)
-    ensures head { result.0.now ≡ head_of text.now }
-    ensures body { option_copied result.1 ≡ body_of text.now }
+// What follows the first two line feeds in a row, if there are any.
+fn body_of(text: &[u8]) -> Option<&[u8]>
+    ensures { option_copied result ≡ body_of text.now }
 {
     let mut start = 0;
     while start < text.len() {
         let (_, rest) = text.split_at(start);
         let feed = start + line_length(rest);
         if has_two_feeds_at(text, feed) {
-            let (head, _) = text.split_at(feed);
             let (_, body) = text.split_at(feed + 2);
-            return (head, Some(body));
+            return Some(body);
         }
         start = feed + 1;
     }
-    (text, None)
+    None
 }
 
 // Whether two line feeds stand there.

@@ -1,7 +1,7 @@
 ghost use Rattle.std.specs.Prelude.{◌≡◌};
 ghost use Rattle.std.specs.Iterator.{YieldsFirst, item_count};
 
-use crate::cut::cut_entry;
+use crate::cut::{cut_entry, is_over};
 use crate::{EntryRef, FieldRef};
 use std::marker::Model;
 
@@ -13,22 +13,22 @@ pub struct Entries<'a> {
 
 impl<'a> Model for Entries<'a> {
     ghost use Rattle.std.specs.Prelude.{List, false};
-    ghost use Rattle.mail_text.specs.Lines.{lines_of};
+    ghost use Rattle.mail_headers.specs.Cutting.{head_lines};
     ghost use Rattle.mail_headers.specs.Header.{Entry, entries_from};
 
     ghost Value = { List Entry };
 
-    ghost view = { λ s. entries_from false (lines_of s.lines.now) };
+    ghost view = { λ s. entries_from false (head_lines s.lines.now) };
 }
 
 impl<'a> Entries<'a> {
     ghost use Rattle.std.specs.Prelude.{◌≡◌, false};
-    ghost use Rattle.mail_text.specs.Lines.{lines_of};
+    ghost use Rattle.mail_headers.specs.Cutting.{head_lines};
     ghost use Rattle.mail_headers.specs.Header.{entries_from};
 
-    // The entries of these lines.
+    // The entries of these lines up to an empty one.
     pub(crate) fn of(lines: &'a [u8]) -> Entries<'a>
-        ensures { result ≡ entries_from false (lines_of lines.now) }
+        ensures { result ≡ entries_from false (head_lines lines.now) }
     {
         Entries { lines }
     }
@@ -42,7 +42,7 @@ impl<'a> Iterator for Entries<'a> {
     ghost remaining = { item_count (λ entries. entries) };
 
     fn next(&mut self) -> Option<EntryRef<'a>> {
-        if self.lines.is_empty() {
+        if is_over(self.lines) {
             return None;
         }
         let (entry, after) = cut_entry(self.lines);

@@ -1,10 +1,9 @@
 ghost use Rattle.std.specs.Prelude.{◌≡◌, IfOk};
 ghost use Rattle.mail_headers.specs.Field.{unfolded, without_feeds, trim_start, trim_end};
-ghost use Rattle.mail_headers.specs.Cutting.{is_space};
+ghost use Rattle.mail_headers.specs.Cutting.{IsFlat, is_space};
 
 use crate::FieldRef;
 use mail_text::{Memory, Text, is_blank, lines};
-use memchr::memchr;
 use std::alloc::Global;
 use std::marker::Model;
 
@@ -38,20 +37,22 @@ impl<'a> UnfoldedValue<'a> {
 }
 
 /// The value of a field without its line feeds and without blanks, spaces and tabs, at either end (RFC 5322, section
-/// 2.2.3). It takes memory only where the value has line feeds inside. Only want of memory can fail.
+/// 2.2.3). It takes memory only where the field is folded. Only want of memory can fail.
 pub fn unfold_value<'a>(alloc: Global, field: FieldRef<'a>) -> Result<UnfoldedValue<'a>, Memory>
     ensures { IfOk result (λ value. value ≡ unfolded field.entry) }
 {
+    let flat = field.is_flat();
     let value = trimmed(field);
-    match memchr(b'\n', value) {
-        Some(_) => Ok(UnfoldedValue {
-            part: None,
-            joined: joined(alloc, value)?,
-        }),
-        None => Ok(UnfoldedValue {
+    if flat {
+        Ok(UnfoldedValue {
             part: Some(value),
             joined: Text::new(alloc),
-        }),
+        })
+    } else {
+        Ok(UnfoldedValue {
+            part: None,
+            joined: joined(alloc, value)?,
+        })
     }
 }
 
@@ -64,7 +65,8 @@ pub fn unfolded(alloc: Global, field: FieldRef<'_>) -> Result<Text, Memory>
 
 // The value of a field without the blanks and line feeds at its ends.
 fn trimmed(field: FieldRef<'_>) -> &[u8]
-    ensures { without_feeds result.now ≡ unfolded field.entry }
+    ensures value { without_feeds result.now ≡ unfolded field.entry }
+    ensures flat { IsFlat field.entry.value → IsFlat result.now }
 {
     without_last_spaces(without_first_spaces(field.value()))
 }
@@ -89,7 +91,8 @@ fn is_space(byte: u8) -> bool
 
 // The bytes without the blanks and line feeds at their front.
 fn without_first_spaces(bytes: &[u8]) -> &[u8]
-    ensures { without_feeds result.now ≡ trim_start (without_feeds bytes.now) }
+    ensures value { without_feeds result.now ≡ trim_start (without_feeds bytes.now) }
+    ensures flat { IsFlat bytes.now → IsFlat result.now }
 {
     let mut rest = bytes;
     while let Some((first, after)) = rest.split_first() {
@@ -103,7 +106,8 @@ fn without_first_spaces(bytes: &[u8]) -> &[u8]
 
 // The bytes without the blanks and line feeds at their end.
 fn without_last_spaces(bytes: &[u8]) -> &[u8]
-    ensures { without_feeds result.now ≡ trim_end (without_feeds bytes.now) }
+    ensures value { without_feeds result.now ≡ trim_end (without_feeds bytes.now) }
+    ensures flat { IsFlat bytes.now → IsFlat result.now }
 {
     let mut rest = bytes;
     while let Some((last, before)) = rest.split_last() {

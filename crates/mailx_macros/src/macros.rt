@@ -17,8 +17,8 @@ const MACRO_LIMIT: usize = 1_000;
 /// The most lines that all bodies can have together.
 const LINE_LIMIT: usize = 100_000;
 
-/// Macros with their lines, in order of definition, and the definition that is under way. Contracts see both, each macro as a
-/// pair of name and lines.
+/// Macros with their lines, in order of definition, and the definition that is under way. Contracts see both, each
+/// macro as a pair of name and lines.
 #[derive(Drop)]
 pub struct Macros {
     list: Vec<(Text, Items<Text>)>,
@@ -133,8 +133,8 @@ impl Macros {
         self.unfinished.is_some()
     }
 
-    /// Why a definition can't be begun: `Nested` where one is under way; else `Taken` where a macro of the name is defined;
-    /// else `TooMany` where 1,000 are defined. It takes no memory.
+    /// Why a definition can't be begun: `Nested` where one is under way; else `Taken` where a macro of the name is
+    /// defined; else `TooMany` where 1,000 are defined. It takes no memory.
     pub fn refuses(&self, name: &[u8]) -> Option<MacroError>
         ensures { result ≡ begin_refusal self.now name.now }
     {
@@ -150,7 +150,8 @@ impl Macros {
         None
     }
 
-    /// Begins a definition without lines. After an error, which `refuses` foretells but for want of memory, all is as before.
+    /// Begins a definition without lines. After an error, which `refuses` foretells but for want of memory, all is as
+    /// before.
     pub fn begin(&mut self, name: &[u8]) -> Result<(), MacroError>
         ensures refused { MatchOption (begin_refusal self.old name.now) (IfErr result (λ e. e ≡ MacroError.Memory)) (λ e. result ≡ Err e) }
         ensures ok { OnOk result (self.new ≡ begun self.old name.now) }
@@ -175,9 +176,9 @@ impl Macros {
         Ok(())
     }
 
-    /// Puts a line at the end of the definition that is under way. `Nested` comes exactly where the line reads as the command
-    /// `define` with two words, the second of them `{`; else `TooMany` exactly where all bodies together, this one's among
-    /// them, have 100,000 lines. After an error all is as before.
+    /// Puts a line at the end of the definition that is under way. `Nested` comes exactly where the line reads as the
+    /// command `define` with two words, the second of them `{`; else `TooMany` exactly where all bodies together,
+    /// this one's among them, have 100,000 lines. After an error all is as before.
     pub fn line(&mut self, line: &[u8]) -> Result<(), MacroError>
         requires { IsSome self.old.unfinished }
         ensures refused { MatchOption (line_refusal self.old line.now) (IfErr result (λ e. e ≡ MacroError.Memory))

@@ -95,7 +95,7 @@ pub(crate) fn rows_of(alloc: Global, folder: &Folder) -> Result<Items<Row>, Memo
     ensures years { IfOk result (λ rows. All (λ (row : Row). IfSome row.moment IsInYears) rows) }
     ensures few { IfOk result (λ rows. length rows ≤ 1_000_000) }
 {
-    let mut rows = Items::new(alloc);
+    let mut rows = Items::of(Vec::with_capacity(alloc, folder.count())?);
     for k in 0..folder.count() {
         rows.push(row_of(alloc, folder.message(k).text())?)?;
     }

@@ -87,12 +87,12 @@ reads_right b r k j =
     let e : length b + k + j - length b ≡ k + j = omega arith in
     get_or-append_right b r (length b) (length b + k + j) 0 refl (omega arith) ∙ ap (λ (i : ℕ). get_or r i 0) e
 
-OccursAt-right : (b r needle : List ℕ) (k : ℕ) → OccursAt r needle k → OccursAt (b ++ r) needle (length b + k)
+pub OccursAt-right : (b r needle : List ℕ) (k : ℕ) → OccursAt r needle k → OccursAt (b ++ r) needle (length b + k)
 OccursAt-right b r needle k h =
     let fits = h.fits in
     record { fits = omega (arith, length-append b r); reads = λ j l. reads_right b r k j ∙ h.reads j l }
 
-OccursAt-right_back : (b r needle : List ℕ) (k : ℕ) → OccursAt (b ++ r) needle (length b + k) → OccursAt r needle k
+pub OccursAt-right_back : (b r needle : List ℕ) (k : ℕ) → OccursAt (b ++ r) needle (length b + k) → OccursAt r needle k
 OccursAt-right_back b r needle k h =
     let fits = h.fits in
     record { fits = omega (arith, length-append b r); reads = λ j l. sym (reads_right b r k j) ∙ h.reads j l }

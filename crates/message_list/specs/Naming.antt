@@ -70,8 +70,8 @@ kind_names Current word shown purpose n = n == shown.current
 kind_names First word shown purpose n = is_message (first_of shown purpose) n
 kind_names Last word shown purpose n = is_message (last_of shown purpose) n
 kind_names All word shown purpose n = true
-kind_names Address word shown purpose n = row_passes (λ row. is_author word row.author) shown n
-kind_names Subject word shown purpose n = row_passes (λ row. holds_ascii (drop 1 word) row.subject) shown n
+kind_names Address word shown purpose n = row_passes (λ row. is_author word row.texts.author) shown n
+kind_names Subject word shown purpose n = row_passes (λ row. holds_ascii (drop 1 word) row.texts.subject) shown n
 kind_names (Letter letter) word shown purpose n = row_passes (λ row. has_letter letter row.mark.state) shown n
 
 -- the item's word names message n

@@ -272,8 +272,8 @@ fn fits(alloc: Global, item: &Item, row: &Row) -> Result<bool, Memory>
     ensures { IfOk result (λ fit. fit ≡ kind_fits item.now.kind item.now.word row.now) }
 {
     match item.kind {
-        Kind::Address => Ok(is_author(item.word.bytes(), row.author.bytes())),
-        Kind::Subject => holds_ascii(alloc, without_slash(&item.word), row.subject.bytes()),
+        Kind::Address => Ok(is_author(item.word.bytes(), row.texts.author())),
+        Kind::Subject => holds_ascii(alloc, without_slash(&item.word), row.texts.subject()),
         Kind::Letter(letter) => Ok(has_letter(letter, row.mark.state)),
         _ => Ok(true),
     }

@@ -86,13 +86,13 @@ module _ (shown : Shown) (valid : IsShown shown) where
 
   -- the summary of the message at a place
   pub summary-at : (current place width : ℕ) (row : Row) → place < length shown.order → (let k = get_or shown.order place 0 in row ≡ get_or shown.rows (k - 1) row
-      → summary (with_current shown current) k width ≡ take (width - 1) (columns current k (get_or shown.depth place 0) row ++ row.subject))
+      → summary (with_current shown current) k width ≡ take (width - 1) (columns current k (get_or shown.depth place 0) row ++ row.texts.subject))
   unfolding summary
   summary-at current place width row within is =
       let k = get_or shown.order place 0 in
       let message = number-within place within in
       ap (λ (r : Option Row). summary_of current k (depth_of shown k) r width) (slice_get-read shown.rows (k - 1) row (omega (arith, message.0, message.1)) is)
-      ∙ ap (λ (at : ℕ). take (width - 1) (columns current k (get_or shown.depth at 0) row ++ row.subject)) (number-place place within)
+      ∙ ap (λ (at : ℕ). take (width - 1) (columns current k (get_or shown.depth at 0) row ++ row.texts.subject)) (number-place place within)
 
 -- ---- many lines
 

@@ -48,14 +48,14 @@ columns current number depth row =
     (if number == current then codes ">" else codes " ")
     ++ state_letter row.mark.state
     ++ right_in 4 (decimal number) ++ codes " "
-    ++ left_in 18 (take 18 row.shown_author) ++ codes " "
+    ++ left_in 18 (take 18 row.texts.shown_author) ++ codes " "
     ++ date_column row.moment ++ codes " "
     ++ right_in 6 (decimal row.size) ++ codes " "
     ++ steps_column depth
 
 -- the columns of a row and its subject, cut to the width less one; nothing where there is no row
 abbrev pub summary_of : ℕ → ℕ → ℕ → Option Row → ℕ → List ℕ
-summary_of current number depth (Some row) width = take (width - 1) (columns current number depth row ++ row.subject)
+summary_of current number depth (Some row) width = take (width - 1) (columns current number depth row ++ row.texts.subject)
 summary_of current number depth None width = []
 
 -- the same messages with another current one, or with none

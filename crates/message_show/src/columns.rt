@@ -26,7 +26,7 @@ pub(crate) fn columns(
     line.push(state_letter(row.mark.state))?;
     push_right(&mut line, 4, u64::from(number))?;
     line.push(b" ")?;
-    push_author(&mut line, row.shown_author.bytes())?;
+    push_author(&mut line, row.texts.shown_author())?;
     line.push(b" ")?;
     push_date(alloc, &mut line, row.moment)?;
     line.push(b" ")?;

@@ -119,7 +119,7 @@ fn summary_at(
     let depth = shown.depth.items()[place];
     let row = &shown.rows.items()[number as usize - 1];
     let line = columns(alloc, current, number, depth, row)?;
-    cut(alloc, line, row.subject.bytes(), width - 1)
+    cut(alloc, line, row.texts.subject(), width - 1)
 }
 
 // The columns and the subject, cut to so many bytes.

@@ -1,7 +1,11 @@
 pub mod EntryLines
 pub mod FoundLemmas
 pub mod IdLemmas
+pub mod CommentLemmas
 pub mod RowLemmas
+pub mod ProperLemmas
+pub mod TextsLemmas
+pub mod TakenLemmas
 pub mod StampLemmas
 pub mod StampLawLemmas
 pub mod TextLines

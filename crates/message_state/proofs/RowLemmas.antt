@@ -7,9 +7,11 @@ use Rattle.mail_dates.specs.FromLines.{sender_of}
 use Rattle.mail_addresses.specs.declared.address.Address.{Address}
 use Rattle.mail_addresses.specs.Listing.{Reads, IsFault, IsFirstAddress}
 use Rattle.message_state.specs.declared.mark.Mark.{Mark}
-use Rattle.message_state.specs.declared.row.Ids.{Ids}
 use Rattle.message_state.specs.declared.row.Row.{Row}
-use Rattle.message_state.specs.Rows.{IsFirstOf, IsRow, spec_or, name_or, after_from, value_or_empty, moment_of, ids_in}
+use Rattle.message_state.specs.Ids.{first_id}
+use Rattle.message_state.specs.RowTexts.{Texts}
+use Rattle.message_state.specs.Rows.{IsFirstOf, AreTextsOf, IsRow, spec_or, name_or, after_from, value_or_empty, moment_of, ids_named}
+use Rattle.message_state.proofs.TextsLemmas.{texts-same}
 use Rattle.message_state.specs.Status.{mark_of}
 
 -- a value has one list of addresses, or a bad piece
@@ -27,32 +29,37 @@ first_of-one : HasOneReading → (f : Option Field) (a b : Option Address) → I
 first_of-one one None a b x y = x ∙ sym y
 first_of-one one (Some f) a b x y = first-one one (unfolded f) a b x y
 
-row-same : (r s : Row) → r.mark ≡ s.mark → r.subject ≡ s.subject → r.author ≡ s.author → r.shown_author ≡ s.shown_author → r.to ≡ s.to → r.moment ≡ s.moment → r.size ≡ s.size → r.ids ≡ s.ids → r ≡ s
-row-same r s mark subject author shown to moment size ids =
-    let made = λ (m : Mark) (b : List ℕ) (a : List ℕ) (n : List ℕ) (t : List ℕ) (w : Option Moment) (k : ℕ) (i : Ids). let row : Row = record { mark = m; subject = b; author = a; shown_author = n; to = t; moment = w; size = k; ids = i } in row in
-    ap (λ (x : Mark). made x r.subject r.author r.shown_author r.to r.moment r.size r.ids) mark
-    ∙ ap (λ (x : List ℕ). made s.mark x r.author r.shown_author r.to r.moment r.size r.ids) subject
-    ∙ ap (λ (x : List ℕ). made s.mark s.subject x r.shown_author r.to r.moment r.size r.ids) author
-    ∙ ap (λ (x : List ℕ). made s.mark s.subject s.author x r.to r.moment r.size r.ids) shown
-    ∙ ap (λ (x : List ℕ). made s.mark s.subject s.author s.shown_author x r.moment r.size r.ids) to
-    ∙ ap (λ (x : Option Moment). made s.mark s.subject s.author s.shown_author s.to x r.size r.ids) moment
-    ∙ ap (λ (x : ℕ). made s.mark s.subject s.author s.shown_author s.to s.moment x r.ids) size
-    ∙ ap (λ (x : Ids). made s.mark s.subject s.author s.shown_author s.to s.moment s.size x) ids
+row-same : (r s : Row) → r.mark ≡ s.mark → r.texts ≡ s.texts → r.references ≡ s.references → r.reply ≡ s.reply → r.moment ≡ s.moment → r.size ≡ s.size → r ≡ s
+row-same r s mark texts references reply moment size =
+    let made = λ (m : Mark) (t : Texts) (a : List (List ℕ)) (b : List (List ℕ)) (w : Option Moment) (k : ℕ). let row : Row = record { mark = m; texts = t; references = a; reply = b; moment = w; size = k } in row in
+    ap (λ (x : Mark). made x r.texts r.references r.reply r.moment r.size) mark
+    ∙ ap (λ (x : Texts). made s.mark x r.references r.reply r.moment r.size) texts
+    ∙ ap (λ (x : List (List ℕ)). made s.mark s.texts x r.reply r.moment r.size) references
+    ∙ ap (λ (x : List (List ℕ)). made s.mark s.texts s.references x r.moment r.size) reply
+    ∙ ap (λ (x : Option Moment). made s.mark s.texts s.references s.reply x r.size) moment
+    ∙ ap (λ (x : ℕ). made s.mark s.texts s.references s.reply s.moment x) size
+
+one-texts : HasOneReading → (t : List ℕ) (x y : Texts) → AreTextsOf t x → AreTextsOf t y → x ≡ y
+one-texts one t x y p q =
+    let sender = sender_of (after_from t) in
+    let author = first_of-one one (field_named (codes "From") t) p.author.0 q.author.0 p.author.1 q.author.1 in
+    let to = first_of-one one (field_named (codes "To") t) p.to.0 q.to.0 p.to.1 q.to.1 in
+    texts-same x y
+    (p.subject ∙ sym q.subject)
+    (p.author.2 ∙ ap (spec_or sender) author ∙ sym q.author.2)
+    (p.author.3 ∙ ap (name_or sender) author ∙ sym q.author.3)
+    (p.to.2 ∙ ap (spec_or []) to ∙ sym q.to.2)
+    (p.own_id ∙ sym q.own_id)
 
 pub one-row : HasOneReading → (t : List ℕ) (r s : Row) → IsRow t r → IsRow t s → r ≡ s
 one-row one t r s x y =
-    let sender = sender_of (after_from t) in
-    let author = first_of-one one (field_named (codes "From") t) x.author.0 y.author.0 x.author.1 y.author.1 in
-    let to = first_of-one one (field_named (codes "To") t) x.to.0 y.to.0 x.to.1 y.to.1 in
     row-same r s
     (x.mark ∙ sym y.mark)
-    (x.subject ∙ sym y.subject)
-    (x.author.2 ∙ ap (spec_or sender) author ∙ sym y.author.2)
-    (x.author.3 ∙ ap (name_or sender) author ∙ sym y.author.3)
-    (x.to.2 ∙ ap (spec_or []) to ∙ sym y.to.2)
+    (one-texts one t r.texts s.texts x.texts y.texts)
+    (x.references ∙ sym y.references)
+    (x.reply ∙ sym y.reply)
     (x.moment ∙ sym y.moment)
     (x.size ∙ sym y.size)
-    (x.ids ∙ sym y.ids)
 
 -- ---- some row
 
@@ -76,24 +83,28 @@ some-row each t =
     let sender = sender_of (after_from t) in
     let from = first_of-some each (field_named (codes "From") t) in
     let to = first_of-some each (field_named (codes "To") t) in
-    let row : Row = record {
-      mark = mark_of t;
+    let texts : Texts = record {
       subject = value_or_empty (field_named (codes "Subject") t);
       author = spec_or sender from.0;
       shown_author = name_or sender from.0;
       to = spec_or [] to.0;
+      own_id = first_id (ids_named (codes "Message-ID") t);
+    } in
+    let row : Row = record {
+      mark = mark_of t;
+      texts = texts;
+      references = ids_named (codes "References") t;
+      reply = ids_named (codes "In-Reply-To") t;
       moment = moment_of t;
       size = length t + 1;
-      ids = ids_in t;
     } in (
       row,
       record {
         mark = refl;
-        subject = refl;
-        author = (from.0, from.1, refl, refl);
-        to = (to.0, to.1, refl);
+        texts = record { subject = refl; author = (from.0, from.1, refl, refl); to = (to.0, to.1, refl); own_id = refl };
+        references = refl;
+        reply = refl;
         moment = refl;
         size = refl;
-        ids = refl;
       },
     )

@@ -1,9 +1,9 @@
 -- The fields that a row is made from, found in one walk over the entries of a header.
-use Rattle.std.specs.Prelude.{◌≡◌, ℕ, List, Option, Some, None, codes, if◌then◌else◌}
+use Rattle.std.specs.Prelude.{◌≡◌, ℕ, List, length, Option, Some, None, codes, if◌then◌else◌}
 use Rattle.std.specs.Option.{option_or}
 use Rattle.mail_text.specs.Ascii.{same_ascii}
 use Rattle.mail_headers.specs.Field.{Field}
-use Rattle.mail_headers.specs.Header.{Entry, field_in, field_named}
+use Rattle.mail_headers.specs.Header.{Entry, field, other, field_in, field_named}
 use Rattle.message_state.specs.declared.fields.RowFields.{RowFields}
 
 -- the field, where it has this name
@@ -14,6 +14,11 @@ if_named name (Some f) = if same_ascii f.name name then Some f else None
 -- the field that was found before, else the entry where it is a field of this name
 abbrev pub or_entry : List ℕ → Option Field → Entry → Option Field
 or_entry name found e = option_or found (if_named name (field_in e))
+
+-- how many bytes the name of an entry has, 0 where it is no field
+abbrev pub name_length : Entry → ℕ
+name_length (field f) = length f.name
+name_length (other line) = 0
 
 -- each is the first field of its name
 pub record AreFieldsOf (t : List ℕ) (fields : RowFields) : Type 0 where

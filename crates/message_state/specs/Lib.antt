@@ -4,8 +4,11 @@ pub mod Status
 pub mod Stamp
 pub mod Ids
 pub mod Fields
+pub mod RowTexts
 pub mod Rows
 pub mod LiveRows
 pub mod ShownRows
 pub mod StampLaws
 pub mod RowLaws
+pub mod CommentLaws
+pub mod ProperLaw

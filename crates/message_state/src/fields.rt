@@ -1,5 +1,5 @@
 ghost use Rattle.std.specs.Prelude.{◌≡◌};
-ghost use Rattle.message_state.specs.Fields.{or_entry, AreFieldsOf, AreWithEntry};
+ghost use Rattle.message_state.specs.Fields.{name_length, or_entry, AreFieldsOf, AreWithEntry};
 
 use mail_headers::{EntryRef, FieldRef, Header};
 use mail_text::same_ascii;
@@ -32,46 +32,51 @@ pub(crate) fn row_fields<'a>(header: &Header<'a>) -> RowFields<'a>
         reply: None,
     };
     for entry in header.entries() {
-        fields = with_entry(fields, &entry);
+        take_entry(&mut fields, &entry);
     }
     fields
 }
 
-// The fields, with an entry where it is the first field of one of these names.
-fn with_entry<'a>(fields: RowFields<'a>, entry: &EntryRef<'a>) -> RowFields<'a>
-    ensures { AreWithEntry fields.entry entry.now result }
+// Takes an entry in, where it is the first field of one of these names. Names are told apart by their length first.
+fn take_entry<'a>(fields: &mut RowFields<'a>, entry: &EntryRef<'a>)
+    ensures { AreWithEntry fields.old entry.now fields.new }
 {
-    RowFields {
-        status: or_entry(fields.status, entry, b"Status"),
-        subject: or_entry(fields.subject, entry, b"Subject"),
-        from: or_entry(fields.from, entry, b"From"),
-        to: or_entry(fields.to, entry, b"To"),
-        date: or_entry(fields.date, entry, b"Date"),
-        message_id: or_entry(fields.message_id, entry, b"Message-ID"),
-        references: or_entry(fields.references, entry, b"References"),
-        reply: or_entry(fields.reply, entry, b"In-Reply-To"),
+    match name_length(entry) {
+        2 => take_field(&mut fields.to, entry, b"To"),
+        4 => {
+            take_field(&mut fields.from, entry, b"From");
+            take_field(&mut fields.date, entry, b"Date");
+        }
+        6 => take_field(&mut fields.status, entry, b"Status"),
+        7 => take_field(&mut fields.subject, entry, b"Subject"),
+        10 => {
+            take_field(&mut fields.message_id, entry, b"Message-ID");
+            take_field(&mut fields.references, entry, b"References");
+        }
+        11 => take_field(&mut fields.reply, entry, b"In-Reply-To"),
+        _ => {}
     }
 }
 
-// The field that was found before, else the entry where it is a field of this name.
-fn or_entry<'a>(
-    found: Option<FieldRef<'a>>,
-    entry: &EntryRef<'a>,
-    name: &[u8],
-) -> Option<FieldRef<'a>>
-    ensures { result ≡ or_entry name.now found.entry entry.now }
+// How many bytes the entry's name has, 0 where it is no field.
+fn name_length(entry: &EntryRef<'_>) -> usize
+    ensures { result ≡ name_length entry.now }
 {
-    match found {
-        Some(field) => Some(field),
-        None => match entry.field() {
-            Some(field) => {
-                if same_ascii(field.name(), name) {
-                    Some(field)
-                } else {
-                    None
-                }
+    match entry.field() {
+        Some(field) => field.name().len(),
+        None => 0,
+    }
+}
+
+// Puts the entry into the place, where that is empty and the entry is a field of this name.
+fn take_field<'a>(place: &mut Option<FieldRef<'a>>, entry: &EntryRef<'a>, name: &[u8])
+    ensures { place.new ≡ or_entry name.now place.old entry.now }
+{
+    if place.is_none() {
+        if let Some(field) = entry.field() {
+            if same_ascii(field.name(), name) {
+                *place = Some(field);
             }
-            None => None,
-        },
+        }
     }
 }

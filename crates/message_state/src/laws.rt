@@ -1,3 +1,5 @@
+ghost use Rattle.message_state.specs.CommentLaws.{CommentIsSpace, OpenStays};
+ghost use Rattle.message_state.specs.ProperLaw.{StampKeepsProper};
 ghost use Rattle.message_state.specs.RowLaws.{OneRow, SomeRow};
 ghost use Rattle.message_state.specs.StampLaws.{StampReads, StampMarks, StampIsOnce, StampKeepsTheRest};
 ghost use Rattle.message_state.specs.StateLaws.{UndeleteReads, UndeleteKeeps, OnlyDeleteDeletes, DeletedStays, NothingUnreads, OnceIsEnough, SeenStays};
@@ -37,3 +39,15 @@ pub fn a_text_has_one_row()
 {
     one_reading();
 }
+
+/// A law: comments are the same in dates and in addresses. What is a comment in an address is a space in a date, and a
+/// parenthesis that nothing closes in one isn't closed in the other.
+pub fn comments_are_the_same()
+    ensures closed { CommentIsSpace }
+    ensures unclosed { OpenStays }
+{}
+
+/// A law: a text that can be written to a mailbox and read back can be so with a mark stamped on it.
+pub fn stamps_keep_texts_proper()
+    ensures { StampKeepsProper }
+{}

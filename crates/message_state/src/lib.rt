@@ -8,15 +8,20 @@ mod mark;
 mod order;
 mod row;
 mod row_list;
+mod row_texts;
 mod shown;
 mod stamp;
 mod status;
 
-pub use laws::{a_text_has_one_row, acts_by_the_table, each_text_has_a_row, stamps_read_back};
+pub use laws::{
+    a_text_has_one_row, acts_by_the_table, comments_are_the_same, each_text_has_a_row,
+    stamps_keep_texts_proper, stamps_read_back,
+};
 pub use mark::{Act, Mark, State, after};
 pub use order::Order;
-pub use row::{Ids, Row, row_of};
+pub use row::{Row, row_of};
 pub use row_list::RowList;
+pub use row_texts::RowTexts;
 pub use shown::Shown;
 pub use stamp::stamped;
 pub use status::mark_of;

@@ -1,50 +1,37 @@
-ghost use Rattle.std.specs.Prelude.{◌≡◌, ◌==◌, [], length, drop, IfOk, IfSome, if◌then◌else◌};
-ghost use Rattle.std.specs.Option.{option_or};
+ghost use Rattle.std.specs.Prelude.{◌≡◌, [], drop, IfOk, IfSome};
+ghost use Rattle.std.specs.Option.{option_map, option_or, unwrap_or};
+ghost use Rattle.mail_headers.specs.Field.{unfolded};
 ghost use Rattle.mail_dates.specs.Clock.{IsInYears};
 ghost use Rattle.mail_dates.specs.FromLines.{sender_of, arrival_of};
-ghost use Rattle.message_state.specs.Ids.{ids_of, first_id};
-ghost use Rattle.message_state.specs.Rows.{value_or_empty, IsFirstOf, spec_or, name_or, display_name, date_in, IsRow};
+ghost use Rattle.message_state.specs.Ids.{ids_of};
+ghost use Rattle.message_state.specs.Rows.{value_or_empty, IsFirstIn, AreTextsIn, spec_or, display_name, name_or, date_in, IsRow};
 
 use crate::Mark;
 use crate::fields::row_fields;
 use crate::ids::{first_id, ids_of};
+use crate::row_texts::RowTexts;
 use crate::status::mark_of_status;
-use mail_addresses::{Address, first_address};
+use mail_addresses::{FoundAddress, first_address};
 use mail_dates::{Moment, read_date, read_from_line};
-use mail_headers::{FieldRef, Header, unfold_value, unfolded};
+use mail_headers::{FieldRef, Header, UnfoldedValue, unfold_value};
 use mail_text::{Items, Memory, Text};
 use std::alloc::Global;
-
-/// The identifiers of a message and of those that it answers (RFC 5322, section 3.6.4), each with its angle brackets.
-#[derive(Drop)]
-pub struct Ids {
-    /// The message's own, the first of `Message-ID`, or empty.
-    pub own: Text,
-    /// Those of `References`.
-    pub references: Items<Text>,
-    /// Those of `In-Reply-To`.
-    pub reply: Items<Text>,
-}
 
 /// What is known of a message without reading it again.
 #[derive(Drop)]
 pub struct Row {
     /// Its state, and whether it was seen.
     pub mark: Mark,
-    /// The unfolded value of `Subject`, or empty.
-    pub subject: Text,
-    /// The bare address of the author: the first of `From`, else the sender of the From line, else empty.
-    pub author: Text,
-    /// The author's display name, or the bare address.
-    pub shown_author: Text,
-    /// The first bare address of `To`, or empty.
-    pub to: Text,
+    /// Its subject, its author, its addressee and its own identifier.
+    pub texts: RowTexts,
+    /// The identifiers of `References` (RFC 5322, section 3.6.4), each with its angle brackets.
+    pub references: Items<Text>,
+    /// Those of `In-Reply-To`.
+    pub reply: Items<Text>,
     /// When it was written, by `Date`, else when it came, by the From line.
     pub moment: Option<Moment>,
     /// How many bytes its text has, and one.
     pub size: u64,
-    /// Its identifiers.
-    pub ids: Ids,
 }
 
 /// What is known of a message of this text, which is read once. A value is taken as it is unfolded. Only want of memory can
@@ -57,28 +44,24 @@ pub fn row_of(alloc: Global, text: &[u8]) -> Result<Row, Memory>
     let fields = row_fields(&header);
     let line = after_from(header.from_line());
     let mark = mark_of_status(&fields.status);
-    let subject = value_or_empty(alloc, fields.subject)?;
-    let found = first_of(alloc, fields.from)?;
-    let (author, shown_author) = author_of(alloc, found, line)?;
-    let found = first_of(alloc, fields.to)?;
-    let to = addressee(alloc, found);
     let moment = moment_of(alloc, fields.date, line)?;
-    let own = own_id(alloc, fields.message_id)?;
     let references = ids_in(alloc, fields.references)?;
     let reply = ids_in(alloc, fields.reply)?;
+    let texts = texts_of(
+        alloc,
+        fields.subject,
+        fields.from,
+        fields.to,
+        fields.message_id,
+        line,
+    )?;
     Ok(Row {
         mark,
-        subject,
-        author,
-        shown_author,
-        to,
+        texts,
+        references,
+        reply,
         moment,
         size: text.len() as u64 + 1,
-        ids: Ids {
-            own,
-            references,
-            reply,
-        },
     })
 }
 
@@ -95,79 +78,104 @@ fn after_from(line: &[u8]) -> &[u8]
     }
 }
 
-// The unfolded value of a field, empty where there is none.
-fn value_or_empty(alloc: Global, field: Option<FieldRef<'_>>) -> Result<Text, Memory>
-    ensures { IfOk result (λ value. value ≡ value_or_empty field.entry) }
+// The texts of a row, from fields and from what the From line has behind `From `.
+fn texts_of(
+    alloc: Global,
+    subject: Option<FieldRef<'_>>,
+    from: Option<FieldRef<'_>>,
+    to: Option<FieldRef<'_>>,
+    message_id: Option<FieldRef<'_>>,
+    line: &[u8],
+) -> Result<RowTexts, Memory>
+    ensures { IfOk result (AreTextsIn subject.entry from.entry to.entry message_id.entry line.now) }
+{
+    let subject = value_of(alloc, subject)?;
+    let from = value_of(alloc, from)?;
+    let to = value_of(alloc, to)?;
+    let message_id = value_of(alloc, message_id)?;
+    let author = first_in(alloc, &from)?;
+    let addressee = first_in(alloc, &to)?;
+    let (spec, shown) = author_of(&author, line);
+    RowTexts::of(
+        alloc,
+        bytes_of(&subject),
+        spec,
+        shown,
+        spec_of(&addressee),
+        first_id(bytes_of(&message_id)),
+    )
+}
+
+// The unfolded value of a field, if there is one.
+fn value_of<'a>(
+    alloc: Global,
+    field: Option<FieldRef<'a>>,
+) -> Result<Option<UnfoldedValue<'a>>, Memory>
+    ensures { IfOk result (λ value. value ≡ option_map unfolded field.entry) }
 {
     match field {
-        Some(field) => unfolded(alloc, field),
-        None => Ok(Text::new(alloc)),
+        Some(field) => Ok(Some(unfold_value(alloc, field)?)),
+        None => Ok(None),
     }
 }
 
-// The first address of a field.
-fn first_of(alloc: Global, field: Option<FieldRef<'_>>) -> Result<Option<Address>, Memory>
-    ensures { IfOk result (IsFirstOf field.entry) }
+// The bytes of a value, none where there is no value.
+fn bytes_of<'v>(value: &'v Option<UnfoldedValue<'_>>) -> &'v [u8]
+    ensures { result.now ≡ unwrap_or value.now [] }
 {
-    match field {
-        Some(field) => {
-            let value = unfold_value(alloc, field)?;
-            first_address(alloc, value.bytes())
-        }
+    match value {
+        Some(value) => value.bytes(),
+        None => &[],
+    }
+}
+
+// The first address of a value, if there is a value.
+fn first_in<'v>(
+    alloc: Global,
+    value: &'v Option<UnfoldedValue<'_>>,
+) -> Result<Option<FoundAddress<'v>>, Memory>
+    ensures { IfOk result (IsFirstIn value.now) }
+{
+    match value {
+        Some(value) => first_address(alloc, value.bytes()),
         None => Ok(None),
     }
 }
 
 // The author's bare address and the name to be shown, for the first address of `From` and what the From line has behind
 // `From `, which is read only where there is no address.
-fn author_of(alloc: Global, found: Option<Address>, line: &[u8]) -> Result<(Text, Text), Memory>
-    ensures author { IfOk result (λ names. names.0 ≡ spec_or (sender_of line.now) found) }
-    ensures shown { IfOk result (λ names. names.1 ≡ name_or (sender_of line.now) found) }
+fn author_of<'v>(found: &'v Option<FoundAddress<'_>>, line: &'v [u8]) -> (&'v [u8], &'v [u8])
+    ensures author { result.0.now ≡ spec_or (sender_of line.now) found.now }
+    ensures shown { result.1.now ≡ name_or (sender_of line.now) found.now }
 {
     match found {
-        Some(address) => {
-            let Address {
-                name,
-                spec,
-                local: _,
-            } = address;
-            let shown = name_or_spec(alloc, name, &spec)?;
-            Ok((spec, shown))
-        }
+        Some(address) => (address.spec(), name_or_spec(address)),
         None => {
             let arrival = read_from_line(line);
-            let author = Text::copy(alloc, arrival.sender)?;
-            let shown = Text::copy(alloc, arrival.sender)?;
-            Ok((author, shown))
+            (arrival.sender, arrival.sender)
         }
     }
 }
 
 // The name where it isn't empty, else the bare address.
-fn name_or_spec(alloc: Global, name: Text, spec: &Text) -> Result<Text, Memory>
-    ensures { IfOk result (λ shown. shown ≡ (if length name == 0 then spec.now else name)) }
+fn name_or_spec<'v>(address: &'v FoundAddress<'_>) -> &'v [u8]
+    ensures { result.now ≡ display_name address.now }
 {
-    if name.bytes().is_empty() {
-        Text::copy(alloc, spec.bytes())
+    let name = address.name();
+    if name.is_empty() {
+        address.spec()
     } else {
-        Ok(name)
+        name
     }
 }
 
-// The bare address, or empty.
-fn addressee(alloc: Global, found: Option<Address>) -> Text
-    ensures { result ≡ spec_or [] found }
+// The bare address, or nothing.
+fn spec_of<'v>(found: &'v Option<FoundAddress<'_>>) -> &'v [u8]
+    ensures { result.now ≡ spec_or [] found.now }
 {
     match found {
-        Some(address) => {
-            let Address {
-                name: _,
-                spec,
-                local: _,
-            } = address;
-            spec
-        }
-        None => Text::new(alloc),
+        Some(address) => address.spec(),
+        None => &[],
     }
 }
 
@@ -203,18 +211,5 @@ fn ids_in(alloc: Global, field: Option<FieldRef<'_>>) -> Result<Items<Text>, Mem
             ids_of(alloc, value.bytes())
         }
         None => Ok(Items::new(alloc)),
-    }
-}
-
-// The first id of a field, or empty.
-fn own_id(alloc: Global, field: Option<FieldRef<'_>>) -> Result<Text, Memory>
-    ensures { IfOk result (λ id. id ≡ first_id (ids_of (value_or_empty field.entry))) }
-{
-    match field {
-        Some(field) => {
-            let value = unfold_value(alloc, field)?;
-            Text::copy(alloc, first_id(value.bytes()))
-        }
-        None => Ok(Text::new(alloc)),
     }
 }

@@ -10,35 +10,21 @@
 //! | `terminal` | the input is a terminal |
 //! | `token N` | the word that no other run has; without it 1 |
 //!
-//! For each case come `case TITLE`, the output in lines `|TEXT` (the last `:TEXT` where it has no line feed), `status N`,
-//! what became of the disk (`file NAME` with its bytes, `gone NAME`, `lock NAME TOKEN`), `lost` where memory was refused,
-//! and an empty line.
+//! For each case come `case TITLE`, the output in lines `|TEXT` (the last `:TEXT` where it has no line feed), `status
+//! N`, what became of the disk (`file NAME` with its bytes, `gone NAME`, `lock NAME TOKEN`), `lost` where memory was
+//! refused, and an empty line.
 #![tactic(auto)]
 
 mod run;
 
-use mail_text::Memory;
+use case_blocks::told;
+use run::Runs;
 use std::io;
 use std::process::ExitCode;
 
-fn tell(rt: &HostRuntime, cases: &str) -> Result<(), Memory> {
-    let mut always = "";
-    for block in cases.split("\n\n") {
-        if block.lines().any(|line| line == "always") {
-            always = block;
-        }
-        let told = run::told(rt.alloc(), case_blocks::first(block, always))?;
-        let _ = rt.write_all(told.bytes());
-    }
-    Ok(())
-}
-
 fn main(rt: HostRuntime) -> ExitCode {
     match io::read_to_string(rt.alloc(), rt.reader()) {
-        Ok(cases) => match tell(&rt, cases.as_str()) {
-            Ok(()) => ExitCode::from(0),
-            Err(_) => ExitCode::from(8),
-        },
+        Ok(blocks) => ExitCode::from(told(rt.alloc(), &Runs, blocks.as_str()).write(&rt)),
         Err(_) => ExitCode::from(3),
     }
 }

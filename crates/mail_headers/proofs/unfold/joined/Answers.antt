@@ -1,6 +1,5 @@
-use Rattle.std.proofs.Common.{ℕ, List, [], ◌++◌, ap, ◌∙◌}
+use Rattle.std.proofs.Common.{ℕ, List, ◌++◌, ap, ◌∙◌}
 use Rattle.std.specs.List.{concat}
-use Rattle.mail_headers.specs.Field.{without_feeds}
 use Rattle.mail_headers.proofs.UnfoldLemmas.{concat-lines_of}
 use Rattle.mail_headers.proofs.unfold.joined.Goals as goal
 

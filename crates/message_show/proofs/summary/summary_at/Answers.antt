@@ -40,7 +40,7 @@ returns c =
     ∙ ap (λ (xs : List ℕ). columns c.args.current (get_or xs c.args.place 0) (get_or c.items-2.result.now c.args.place 0) row) c.items.ensures
     ∙ ap (λ (xs : List ℕ). columns c.args.current (get_or c.args.shown.now.order c.args.place 0) (get_or xs c.args.place 0) row) c.items-2.ensures in
     let whole =
-    ap (λ (l : List ℕ). take (c.args.width - 1) (l ++ c.bytes.result.now)) line
-    ∙ ap (λ (l : List ℕ). take (c.args.width - 1) (columns c.args.current (get_or c.args.shown.now.order c.args.place 0) (get_or c.args.shown.now.depth c.args.place 0) row ++ l)) c.bytes.ensures
+    ap (λ (l : List ℕ). take (c.args.width - 1) (l ++ c.subject.result.now)) line
+    ∙ ap (λ (l : List ℕ). take (c.args.width - 1) (columns c.args.current (get_or c.args.shown.now.order c.args.place 0) (get_or c.args.shown.now.depth c.args.place 0) row ++ l)) c.subject.ensures
     ∙ sym summary in
     subst (λ (text : List ℕ). IfOk c.cut.result (λ t. t ≡ text)) whole c.cut.ensures

@@ -19,4 +19,4 @@ pub loop-entry-preserved : goal.loop-entry-preserved
 loop-entry-preserved c =
     let left = λ (es : List Entry). AreFound c.args.header.now es c.loop-entry.fields in
     let before = subst left c.in-Some.ensures.steps c.loop-entry.invariant.2 in
-    (tt, tt, are_found_step c.args.header.now c.loop-entry.fields c.with_entry-fields.result c.in-Some.entry c.next.new.self c.with_entry-fields.ensures before)
+    (tt, tt, are_found_step c.args.header.now c.loop-entry.fields c.take_entry.new.fields c.in-Some.entry c.next.new.self c.take_entry.ensures before)

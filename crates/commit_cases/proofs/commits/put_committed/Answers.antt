@@ -1,6 +1,6 @@
 use Rattle.std.proofs.Common.{◌∙◌, sym}
 use Rattle.std.proofs.lemmas.List.Sums.{AllPass-from_list_all}
-use Rattle.commit_cases.proofs.commits.push_committed.Goals as goal
+use Rattle.commit_cases.proofs.commits.put_committed.Goals as goal
 
 pub commit-requires-clause-files : goal.commit-requires-clause-files
 commit-requires-clause-files c =

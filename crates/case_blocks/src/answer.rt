@@ -1,0 +1,181 @@
+// Answers.
+use crate::escape::push_decoded;
+use mail_text::{Memory, Text, lines};
+use std::alloc::Global;
+use std::fmt::{Debug, Display};
+
+/// The answers so far, to whose end parts are put. What memory was wanting for, here or to read a case, is left out,
+/// and then they aren't whole.
+#[derive(Drop)]
+pub struct Answer {
+    alloc: Global,
+    text: Text,
+    whole: bool,
+}
+
+impl Answer {
+    /// No answer yet.
+    pub fn new(alloc: Global) -> Answer {
+        Answer {
+            alloc,
+            text: Text::new(alloc),
+            whole: true,
+        }
+    }
+
+    /// What memory comes from.
+    pub fn alloc(&self) -> Global {
+        self.alloc
+    }
+
+    /// The answers as they are written.
+    pub fn bytes(&self) -> &[u8] {
+        self.text.bytes()
+    }
+
+    /// Whether memory was never wanting.
+    pub fn is_whole(&self) -> bool {
+        self.whole
+    }
+
+    /// Writes the answers. The status of a program that did: 0, 3 where they couldn't be written, or 8 where memory was
+    /// wanting.
+    pub fn write(&self, rt: &impl Print) -> u8 {
+        match rt.write_all(self.text.bytes()) {
+            Ok(()) if self.whole => 0,
+            Ok(()) => 8,
+            Err(_) => 3,
+        }
+    }
+
+    /// Notes that memory was wanting.
+    pub fn lack(&mut self) {
+        self.whole = false;
+    }
+
+    /// Notes it where it was.
+    pub fn note(&mut self, done: Result<(), Memory>) {
+        if done.is_err() {
+            self.lack();
+        }
+    }
+
+    /// Puts bytes as they are.
+    pub fn put_plain(&mut self, bytes: &[u8]) {
+        let done = self.text.push(bytes);
+        self.note(done);
+    }
+
+    /// Puts bytes in the escaped form.
+    pub fn put(&mut self, bytes: &[u8]) {
+        for byte in bytes.iter().copied() {
+            self.put_byte(byte);
+        }
+    }
+
+    fn put_byte(&mut self, byte: u8) {
+        match byte {
+            b'\n' => self.put_plain(b"\\n"),
+            b'\t' => self.put_plain(b"\\t"),
+            b'\\' => self.put_plain(b"\\\\"),
+            32..=126 => self.put_plain(&[byte]),
+            _ => self.put_plain(&[b'\\', b'x', digit(byte / 16), digit(byte % 16)]),
+        }
+    }
+
+    /// Puts bytes as lines `|TEXT`, the last as `:TEXT` where it has no line feed.
+    pub fn put_lines(&mut self, bytes: &[u8]) {
+        let mut left = bytes.len();
+        for line in lines(bytes) {
+            left = left.saturating_sub(line.len());
+            self.put_plain(if left == 0 { b":" } else { b"|" });
+            self.put(line);
+            self.put_plain(b"\n");
+            left = left.saturating_sub(1);
+        }
+    }
+
+    /// A copy of bytes.
+    pub fn copied(&mut self, bytes: &[u8]) -> Text {
+        let mut text = Text::new(self.alloc);
+        let done = text.push(bytes);
+        self.note(done);
+        text
+    }
+
+    /// The bytes that an escaped text means.
+    pub fn decoded(&mut self, escaped: &str) -> Text {
+        let mut text = Text::new(self.alloc);
+        let done = push_decoded(self.alloc, &mut text, escaped);
+        self.note(done);
+        text
+    }
+
+    /// Puts what a case is answered that no call fits.
+    pub fn put_bad(&mut self) {
+        self.put_plain(b"bad case");
+    }
+
+    /// Puts `yes` or `no`.
+    pub fn put_flag(&mut self, flag: bool) {
+        self.put_plain(if flag { b"yes".as_slice() } else { b"no" });
+    }
+
+    /// Puts bytes between angle brackets.
+    pub fn put_in_angles(&mut self, bytes: &[u8]) {
+        self.put_plain(b"<");
+        self.put(bytes);
+        self.put_plain(b">");
+    }
+
+    /// Puts what a value is displayed as.
+    pub fn put_shown<D: Display>(&mut self, value: &D) {
+        match format!(in self.alloc; "{value}") {
+            Ok(text) => self.put(text.as_bytes()),
+            Err(_) => self.lack(),
+        }
+    }
+
+    /// Puts what a value is displayed as for a programmer.
+    pub fn put_debug<D: Debug>(&mut self, value: &D) {
+        match format!(in self.alloc; "{value:?}") {
+            Ok(text) => self.put(text.as_bytes()),
+            Err(_) => self.lack(),
+        }
+    }
+
+    /// Puts a value, or `none`.
+    pub fn put_found<D: Display + Drop>(&mut self, found: Option<D>) {
+        match found {
+            Some(value) => self.put_shown(&value),
+            None => self.put_plain(b"none"),
+        }
+    }
+
+    /// Puts a text that was made, or why it wasn't.
+    pub fn put_made<E: Display + Drop>(&mut self, made: Result<Text, E>) {
+        match made {
+            Ok(text) => self.put(text.bytes()),
+            Err(error) => self.put_shown(&error),
+        }
+    }
+
+    /// Puts numbers with a space between one and the next.
+    pub fn put_numbers(&mut self, numbers: &[u32]) {
+        for (k, n) in numbers.iter().enumerate() {
+            if k > 0 {
+                self.put_plain(b" ");
+            }
+            self.put_shown(n);
+        }
+    }
+}
+
+// The digit of a value below 16.
+fn digit(value: u8) -> u8 {
+    match value {
+        0..=9 => b'0' + value,
+        10..=15 => b'a' + (value - 10),
+        _ => b'?',
+    }
+}

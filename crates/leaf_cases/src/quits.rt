@@ -1,0 +1,86 @@
+// Cases of quits, each over the variables that are kept.
+ghost use Rattle.quit_rules.specs.Plans.{IsOpen};
+
+use crate::case::{field, words};
+use crate::mailboxes::folder_of;
+use crate::states::state_of;
+use case_blocks::Answer;
+use folder_change::Change;
+use mail_text::{Items, Memory, Text};
+use mailx_vars::Vars;
+use message_state::Mark;
+use quit_rules::{Open, boxed, kept, quit_changes};
+
+/// The folder of a text with these marks, the system mailbox where the kind says so: how many messages stay and how
+/// many go to mbox, and the changes.
+pub fn put(vars: &Vars, case: &[Text], out: &mut Answer) {
+    match folder_of(out.alloc(), field(case, 2)) {
+        Ok(folder) => {
+            let open = Open {
+                name: out.copied(b"box"),
+                system: words(case, 1) == "system",
+                folder,
+                marks: marks(words(case, 3), out),
+            };
+            put_open(&open, vars, out);
+        }
+        Err(error) => out.put_shown(&error),
+    }
+}
+
+// Marks, each the letter of its state, and `+` where the message was seen.
+fn marks(text: &str, out: &mut Answer) -> Items<Mark> {
+    let mut marks = Items::new(out.alloc());
+    for mark in text.split(' ') {
+        if !mark.is_empty() {
+            let state = state_of(mark.as_bytes());
+            let seen = mark.ends_with('+');
+            out.note(marks.push(Mark { state, seen }));
+        }
+    }
+    marks
+}
+
+fn put_open(opened: &Open, vars: &Vars, out: &mut Answer) {
+    if opened.marks.items().len() == opened.folder.count() {
+        put_quit(opened, vars, out);
+    } else {
+        out.put_bad();
+    }
+}
+
+fn put_quit(opened: &Open, vars: &Vars, out: &mut Answer)
+    requires { IsOpen opened.now }
+{
+    out.put_shown(&kept(opened, vars));
+    out.put(b" ");
+    out.put_shown(&boxed(opened, vars));
+    match quit_changes(out.alloc(), opened, vars, b"mbox") {
+        Ok(changes) => put_changes(&changes, out),
+        Err(Memory) => out.lack(),
+    }
+}
+
+fn put_changes(changes: &[Change], out: &mut Answer) {
+    for change in changes {
+        match change {
+            Change::Add { name, texts } => put_change(b" add ", name, texts, out),
+            Change::Front { name, texts } => put_change(b" front ", name, texts, out),
+            Change::Rewrite {
+                name,
+                list,
+                keep: true,
+            } => put_change(b" keep ", name, list, out),
+            Change::Rewrite { name, list, .. } => put_change(b" drop ", name, list, out),
+            Change::AddRaw { name, .. } => out.put(name.bytes()),
+        }
+    }
+}
+
+fn put_change(kind: &[u8], name: &Text, texts: &Items<Text>, out: &mut Answer) {
+    out.put(kind);
+    out.put(name.bytes());
+    for text in texts.items() {
+        out.put_in_angles(text.bytes());
+    }
+}
