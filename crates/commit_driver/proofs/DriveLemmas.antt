@@ -8,7 +8,7 @@ use Rattle.host_port.specs.declared.event.Event.{Event}
 use Rattle.host_port.specs.declared.event.Event.TheVariants as event
 use Rattle.host_port.specs.declared.event.Seen.TheVariants as seen
 use Rattle.host_port.specs.Disk.{Disk}
-use Rattle.host_port.specs.Calls.{Counts, Rose}
+use Rattle.host_port.specs.Calls.{World, Rose}
 use Rattle.host_port.specs.Ran.{Ran}
 use Rattle.host_port.proofs.RanLemmas.{Ran-none, Ran-then, Ran-map}
 use Rattle.folder_change.specs.declared.change.Change.{Change}
@@ -231,13 +231,13 @@ reply-back a b c (answer.Long n) l h = h
 reply-back a b c r l h = tt
 
 -- a job that was driven so far
-pub record Driving {H : Type 0} (start : H → Disk) (told : H → Option (List Event)) (counts : H → Counts) (plan : Plan) (changes : List Change) (base : List (List ℕ)) (old now : H) (place : Place) : Type 0 where
+pub record Driving {H : Type 0} (w : World H) (plan : Plan) (changes : List Change) (base : List (List ℕ)) (old now : H) (place : Place) : Type 0 where
   pub place_is : IsPlace plan place
-  pub fall : (counts old).disks ≤ (counts now).disks
-  pub caused : Caused (counts old).disks (counts now).disks place.step
-  pub ran : (j : Job) → IsPlan j plan → IsFor j changes base → Ran start told counts old now (Reached j place)
+  pub fall : (w.counts old).disks ≤ (w.counts now).disks
+  pub caused : Caused (w.counts old).disks (w.counts now).disks place.step
+  pub ran : (j : Job) → IsPlan j plan → IsFor j changes base → Ran w old now (Reached j place)
 
-pub driving-start : {H : Type 0} {start : H → Disk} {told : H → Option (List Event)} {counts : H → Counts} {at : H} (plan : Plan) (changes : List Change) (base : List (List ℕ)) (files : List (Option (List ℕ))) → length files ≡ files_of plan → Driving start told counts plan changes base at at (begun files)
+pub driving-start : {H : Type 0} {w : World H} {at : H} (plan : Plan) (changes : List Change) (base : List (List ℕ)) (files : List (Option (List ℕ))) → length files ≡ files_of plan → Driving w plan changes base at at (begun files)
 driving-start plan changes base files long = record {
   place_is = record { fits = tt; staged_are = refl; few = omega arith; files_are = long; distinct = tt; names = All-nil IsFileName; staged = All-nil IsFileName };
   fall = omega arith;
@@ -245,13 +245,13 @@ driving-start plan changes base files long = record {
   ran = λ j p f. Ran-none (begin j files);
 }
 
-pub driving-more : {H : Type 0} {start : H → Disk} {told : H → Option (List Event)} {counts : H → Counts} {old mid now : H} (plan : Plan) (changes : List Change) (base : List (List ℕ)) (place later : Place) (call : Call) (r : Answer_of)
-    → Driving start told counts plan changes base old mid place → NextOf plan place (Some call) → IsAfter plan r changes base place later → ReplyCaused (counts mid).disks (counts now).disks r
-    → Ran start told counts mid now (Performed (call_in plan place call) (reply_as r)) → Driving start told counts plan changes base old now later
-driving-more {counts = counts} {old = old} {mid = mid} {now = now} plan changes base place later call r d next_is after cause ran =
-    let a = (counts old).disks in
-    let b = (counts mid).disks in
-    let c = (counts now).disks in
+pub driving-more : {H : Type 0} {w : World H} {old mid now : H} (plan : Plan) (changes : List Change) (base : List (List ℕ)) (place later : Place) (call : Call) (r : Answer_of)
+    → Driving w plan changes base old mid place → NextOf plan place (Some call) → IsAfter plan r changes base place later → ReplyCaused (w.counts mid).disks (w.counts now).disks r
+    → Ran w mid now (Performed (call_in plan place call) (reply_as r)) → Driving w plan changes base old now later
+driving-more {w = w} {old = old} {mid = mid} {now = now} plan changes base place later call r d next_is after cause ran =
+    let a = (w.counts old).disks in
+    let b = (w.counts mid).disks in
+    let c = (w.counts now).disks in
     let up : b ≤ c = ran.never_fall.disks in
     record {
       place_is = after.place;
@@ -261,20 +261,20 @@ driving-more {counts = counts} {old = old} {mid = mid} {now = now} plan changes 
     }
 
 -- at the end
-pub driven : {H : Type 0} {start : H → Disk} {told : H → Option (List Event)} {counts : H → Counts} {old now : H} (plan : Plan) (changes : List Change) (base : List (List ℕ)) (place : Place) (result : End)
-    → Driving start told counts plan changes base old now place → call_at place.step ≡ None → ((e : End) → place.step ≡ step.Ended e → result ≡ e) → (j : Job) → IsPlan j plan → IsFor j changes base → Ran start told counts old now (λ es. Drives j place.found es result)
+pub driven : {H : Type 0} {w : World H} {old now : H} (plan : Plan) (changes : List Change) (base : List (List ℕ)) (place : Place) (result : End)
+    → Driving w plan changes base old now place → call_at place.step ≡ None → ((e : End) → place.step ≡ step.Ended e → result ≡ e) → (j : Job) → IsPlan j plan → IsFor j changes base → Ran w old now (λ es. Drives j place.found es result)
 driven plan changes base place result d none is j p f =
     let w = no-call place.step none in
     Ran-map (λ es h. subst (Drives j place.found es) (sym (is w.0 w.1)) (finished j place w.0 es w.1 h)) (d.ran j p f)
 
-pub driven-fits : {H : Type 0} {start : H → Disk} {told : H → Option (List Event)} {counts : H → Counts} {old now : H} (plan : Plan) (changes : List Change) (base : List (List ℕ)) (place : Place) (result : End)
-    → Driving start told counts plan changes base old now place → call_at place.step ≡ None → ((e : End) → place.step ≡ step.Ended e → result ≡ e) → EndFits (files_of plan) (entries_of place) result
+pub driven-fits : {H : Type 0} {w : World H} {old now : H} (plan : Plan) (changes : List Change) (base : List (List ℕ)) (place : Place) (result : End)
+    → Driving w plan changes base old now place → call_at place.step ≡ None → ((e : End) → place.step ≡ step.Ended e → result ≡ e) → EndFits (files_of plan) (entries_of place) result
 driven-fits plan changes base place result d none is =
     let w = no-call place.step none in
     subst (EndFits (files_of plan) (entries_of place)) (sym (is w.0 w.1)) (subst (Fits (files_of plan) (entries_of place)) w.1 d.place_is.fits)
 
-pub driven-caused : {H : Type 0} {start : H → Disk} {told : H → Option (List Event)} {counts : H → Counts} {old now : H} (plan : Plan) (changes : List Change) (base : List (List ℕ)) (place : Place) (result : End)
-    → Driving start told counts plan changes base old now place → call_at place.step ≡ None → ((e : End) → place.step ≡ step.Ended e → result ≡ e) → EndCaused (counts old).disks (counts now).disks result
-driven-caused {counts = counts} {old = old} {now = now} plan changes base place result d none is =
+pub driven-caused : {H : Type 0} {w : World H} {old now : H} (plan : Plan) (changes : List Change) (base : List (List ℕ)) (place : Place) (result : End)
+    → Driving w plan changes base old now place → call_at place.step ≡ None → ((e : End) → place.step ≡ step.Ended e → result ≡ e) → EndCaused (w.counts old).disks (w.counts now).disks result
+driven-caused {w = w} {old = old} {now = now} plan changes base place result d none is =
     let w = no-call place.step none in
-    subst (EndCaused (counts old).disks (counts now).disks) (sym (is w.0 w.1)) (subst (Caused (counts old).disks (counts now).disks) w.1 d.caused)
+    subst (EndCaused (w.counts old).disks (w.counts now).disks) (sym (is w.0 w.1)) (subst (Caused (w.counts old).disks (w.counts now).disks) w.1 d.caused)

@@ -12,8 +12,8 @@ use std::alloc::Global;
 /// Loads a file.
 pub fn load<H: Host>(alloc: Global, host: &mut H, name: &[u8]) -> Result<LoadAnswer, LoadError>
     requires { IsFileName name.now }
-    ensures ran { Ran H.start H.told H.counts host.old host.new (Did (ToLoad name.now) (load_reply result)) }
-    ensures cause { LoadCause (H.counts host.old).disks (H.counts host.new).disks result }
+    ensures ran { Ran H.world host.old host.new (Did (ToLoad name.now) (load_reply result)) }
+    ensures cause { LoadCause (H.world.counts host.old).disks (H.world.counts host.new).disks result }
 {
     host.load(alloc, name)
 }
@@ -21,8 +21,8 @@ pub fn load<H: Host>(alloc: Global, host: &mut H, name: &[u8]) -> Result<LoadAns
 /// Writes a whole file.
 pub fn stage<H: Host>(host: &mut H, name: &[u8], bytes: &[u8]) -> Result<(), DiskFault>
     requires { IsFileName name.now }
-    ensures ran { Ran H.start H.told H.counts host.old host.new (Did (ToStage name.now bytes.now) (done_reply result)) }
-    ensures cause { OnErr result (Rose (H.counts host.old).disks (H.counts host.new).disks) }
+    ensures ran { Ran H.world host.old host.new (Did (ToStage name.now bytes.now) (done_reply result)) }
+    ensures cause { OnErr result (Rose (H.world.counts host.old).disks (H.world.counts host.new).disks) }
 {
     host.stage(name, bytes)
 }
@@ -31,8 +31,8 @@ pub fn stage<H: Host>(host: &mut H, name: &[u8], bytes: &[u8]) -> Result<(), Dis
 pub fn publish<H: Host>(host: &mut H, from: &[u8], to: &[u8]) -> Result<bool, DiskFault>
     requires source { IsFileName from.now }
     requires target { IsFileName to.now }
-    ensures ran { Ran H.start H.told H.counts host.old host.new (Did (ToPublish from.now to.now) (told_reply result)) }
-    ensures cause { OnErr result (Rose (H.counts host.old).disks (H.counts host.new).disks) }
+    ensures ran { Ran H.world host.old host.new (Did (ToPublish from.now to.now) (told_reply result)) }
+    ensures cause { OnErr result (Rose (H.world.counts host.old).disks (H.world.counts host.new).disks) }
 {
     host.publish(from, to)
 }
@@ -40,8 +40,8 @@ pub fn publish<H: Host>(host: &mut H, from: &[u8], to: &[u8]) -> Result<bool, Di
 /// Takes a file away.
 pub fn erase<H: Host>(host: &mut H, name: &[u8]) -> Result<(), DiskFault>
     requires { IsFileName name.now }
-    ensures ran { Ran H.start H.told H.counts host.old host.new (Did (ToErase name.now) (done_reply result)) }
-    ensures cause { OnErr result (Rose (H.counts host.old).disks (H.counts host.new).disks) }
+    ensures ran { Ran H.world host.old host.new (Did (ToErase name.now) (done_reply result)) }
+    ensures cause { OnErr result (Rose (H.world.counts host.old).disks (H.world.counts host.new).disks) }
 {
     host.erase(name)
 }
@@ -49,8 +49,8 @@ pub fn erase<H: Host>(host: &mut H, name: &[u8]) -> Result<(), DiskFault>
 /// Puts a lock on a name.
 pub fn lock<H: Host>(host: &mut H, name: &[u8], token: u64) -> Result<bool, DiskFault>
     requires { IsFileName name.now }
-    ensures ran { Ran H.start H.told H.counts host.old host.new (Did (ToLock name.now token) (told_reply result)) }
-    ensures cause { OnErr result (Rose (H.counts host.old).disks (H.counts host.new).disks) }
+    ensures ran { Ran H.world host.old host.new (Did (ToLock name.now token) (told_reply result)) }
+    ensures cause { OnErr result (Rose (H.world.counts host.old).disks (H.world.counts host.new).disks) }
 {
     host.lock(name, token)
 }
@@ -58,8 +58,8 @@ pub fn lock<H: Host>(host: &mut H, name: &[u8], token: u64) -> Result<bool, Disk
 /// Takes the lock of this token on a name away.
 pub fn unlock<H: Host>(host: &mut H, name: &[u8], token: u64) -> Result<(), DiskFault>
     requires { IsFileName name.now }
-    ensures ran { Ran H.start H.told H.counts host.old host.new (DidUnlock name.now token result) }
-    ensures cause { OnErr result (Rose (H.counts host.old).disks (H.counts host.new).disks) }
+    ensures ran { Ran H.world host.old host.new (DidUnlock name.now token result) }
+    ensures cause { OnErr result (Rose (H.world.counts host.old).disks (H.world.counts host.new).disks) }
 {
     host.unlock(name, token)
 }
@@ -67,8 +67,8 @@ pub fn unlock<H: Host>(host: &mut H, name: &[u8], token: u64) -> Result<(), Disk
 /// Takes a right.
 pub fn seize<H: Host>(host: &mut H, name: &[u8]) -> Result<bool, DiskFault>
     requires { IsFileName name.now }
-    ensures ran { Ran H.start H.told H.counts host.old host.new (Did (ToSeize name.now) (told_reply result)) }
-    ensures cause { OnErr result (Rose (H.counts host.old).disks (H.counts host.new).disks) }
+    ensures ran { Ran H.world host.old host.new (Did (ToSeize name.now) (told_reply result)) }
+    ensures cause { OnErr result (Rose (H.world.counts host.old).disks (H.world.counts host.new).disks) }
 {
     host.seize(name)
 }
@@ -76,7 +76,7 @@ pub fn seize<H: Host>(host: &mut H, name: &[u8]) -> Result<bool, DiskFault>
 /// Gives a right up.
 pub fn release<H: Host>(host: &mut H, name: &[u8])
     requires { IsFileName name.now }
-    ensures ran { Ran H.start H.told H.counts host.old host.new (Did (ToRelease name.now) (Went true)) }
+    ensures ran { Ran H.world host.old host.new (Did (ToRelease name.now) (Went true)) }
 {
     host.release(name);
 }

@@ -71,9 +71,9 @@ pub fn perform<H: Host>(
     requires safe { IsSafe plan.now }
     requires place { IsPlace plan.now place.now }
     requires fits { CallFits (files_of plan.now) (entries_of place.now) call }
-    ensures ran { Ran H.start H.told H.counts host.old host.new (Performed (call_in plan.now place.now call) (reply_as result)) }
+    ensures ran { Ran H.world host.old host.new (Performed (call_in plan.now place.now call) (reply_as result)) }
     ensures answer { IsAnswer (Some call) result }
-    ensures cause { ReplyCaused (H.counts host.old).disks (H.counts host.new).disks result }
+    ensures cause { ReplyCaused (H.world.counts host.old).disks (H.world.counts host.new).disks result }
 {
     match call {
         Call::Load(name) => loaded(load(alloc, host, named(plan, place, name))),
@@ -127,10 +127,10 @@ pub fn drive<H: Host>(
     requires room { length start.files ≡ files_of plan.now }
     requires named { All (λ c. has (names_of plan.now.value) (name_of c) ≡ true) changes.now }
     requires based { All (λ c. IsTrue (is_rewrite c) → IsSome base) changes.now }
-    ensures ran { (j : Job) → IsPlan j plan.now → IsFor j changes.now (base_list (option_copied base.entry)) → Ran H.start H.told H.counts host.old host.new (λ es. Drives j result.1.found es result.0) }
+    ensures ran { (j : Job) → IsPlan j plan.now → IsFor j changes.now (base_list (option_copied base.entry)) → Ran H.world host.old host.new (λ es. Drives j result.1.found es result.0) }
     ensures place { IsPlace plan.now result.1 }
     ensures fits { EndFits (files_of plan.now) (entries_of result.1) result.0 }
-    ensures cause { EndCaused (H.counts host.old).disks (H.counts host.new).disks result.0 }
+    ensures cause { EndCaused (H.world.counts host.old).disks (H.world.counts host.new).disks result.0 }
 {
     let mut place = start;
     while let Some(call) = next_call(plan, &place) {

@@ -1,14 +1,14 @@
 -- The laws of the machine, of a commit.
 use Rattle.std.proofs.Common.{◌≡◌, ◌<◌, ◌^◌, arith, ℕ, List, [], ◌∷◌, ◌++◌, Option, Some, None, refl, ap, sym, subst, inl, inr, ◌∙◌}
 use Rattle.std.specs.Option.{option_map}
-use Rattle.std.proofs.lemmas.List.{append_cancel_left}
 use Rattle.std.specs.declared.result.Result.{Result}
 use Rattle.std.specs.declared.result.Result.TheVariants.{Ok, Err}
 use Rattle.host_port.specs.declared.event.Event.{Event}
 use Rattle.host_port.specs.Disk.{Disk, disk}
-use Rattle.host_port.specs.Calls.{Counts}
+use Rattle.host_port.specs.Calls.{World}
 use Rattle.host_port.specs.Own.{own}
 use Rattle.host_port.specs.Ran.{Honest, Ran}
+use Rattle.host_port.proofs.RanLemmas.{Ran-since}
 use Rattle.folder_change.specs.declared.change.Change.{Change}
 use Rattle.folder_change.specs.Apply.{Refusal as ChangeRefusal, apply, first_refusal}
 use Rattle.commit_machine.specs.Settled.{Files}
@@ -105,30 +105,17 @@ is-complete actor token (c ∷ cs) base d es before now result fits files cause 
     let safe = safely actor token c cs base d es result job may honest h.1 in
     completes (apply (c ∷ cs) base) actor token c cs base d es job safe.run before now result h.1 cause quiet free
 
--- the events that a host has told since
-told-since : {H : Type 0} {start : H → Disk} {told : H → Option (List Event)} {counts : H → Counts} {old new : H} (P : List Event → Type 0) (before es : List Event) → Ran start told counts old new P
-    → told old ≡ Some before → told new ≡ Some (before ++ es) → Honest (disk (start old) before) es × P (own es)
-told-since {start = start} {told = told} {old = old} P before es ran at to =
-    let t = ran.told_is (before ++ es) to in
-    let same : Some before ≡ Some t.0 = sym at ∙ t.1 in
-    let first : before ≡ t.0 = cc in
-    let added : es ≡ t.2.added = append_cancel_left before es t.2.added (t.2.is ∙ ap (λ (r : List Event). r ++ t.2.added) (sym first)) in
-    let D : Disk → Type 0 = λ d. Honest d t.2.added in
-    let E : List Event → Type 0 = λ xs. Honest (disk (start old) before) xs in
-    let O : List Event → Type 0 = λ xs. P (own xs) in
-    (subst E (sym added) (subst D (ap (disk (start old)) (sym first)) t.2.honest), subst O (sym added) t.2.own_ones)
-
 -- of a host that tells its trace
-pub ran-safely : {H : Type 0} {start : H → Disk} {told : H → Option (List Event)} {counts : H → Counts} {old new : H} (actor : List ℕ) (token : ℕ) (changes : List Change) (base : List (List ℕ)) (result : Result Unit CommitError) (before es : List Event)
-    → token < 2 ^ 64 → AreFiles actor changes → Ran start told counts old new (λ own_ones. IsCommit actor token changes base own_ones result)
-    → told old ≡ Some before → told new ≡ Some (before ++ es) → MayCommit actor token (disk (start old) before) es → IsSafe actor token changes base (disk (start old) before) es result
-ran-safely {start = start} {old = old} actor token changes base result before es fits files ran at to may =
-    let t = told-since (λ own_ones. IsCommit actor token changes base own_ones result) before es ran at to in
-    is-safe actor token changes base (disk (start old) before) es result fits files may t.0 t.1
+pub ran-safely : {H : Type 0} {w : World H} {old new : H} (actor : List ℕ) (token : ℕ) (changes : List Change) (base : List (List ℕ)) (result : Result Unit CommitError) (before es : List Event)
+    → token < 2 ^ 64 → AreFiles actor changes → Ran w old new (λ own_ones. IsCommit actor token changes base own_ones result)
+    → w.told old ≡ Some before → w.told new ≡ Some (before ++ es) → MayCommit actor token (disk (w.start old) before) es → IsSafe actor token changes base (disk (w.start old) before) es result
+ran-safely {w = w} {old = old} actor token changes base result before es fits files ran at to may =
+    let t = Ran-since {P = λ own_ones. IsCommit actor token changes base own_ones result} before es ran at to in
+    is-safe actor token changes base (disk (w.start old) before) es result fits files may t.0 t.1
 
-pub ran-completely : {H : Type 0} {start : H → Disk} {told : H → Option (List Event)} {counts : H → Counts} {old new : H} (actor : List ℕ) (token : ℕ) (changes : List Change) (base : List (List ℕ)) (result : Result Unit CommitError) (before es : List Event)
-    → token < 2 ^ 64 → AreFiles actor changes → CommitCause (counts old) (counts new) result → Ran start told counts old new (λ own_ones. IsCommit actor token changes base own_ones result)
-    → told old ≡ Some before → told new ≡ Some (before ++ es) → MayCommit actor token (disk (start old) before) es → IsComplete actor changes base (own es) (counts old) (counts new) result
-ran-completely {start = start} {counts = counts} {old = old} {new = new} actor token changes base result before es fits files cause ran at to may =
-    let t = told-since (λ own_ones. IsCommit actor token changes base own_ones result) before es ran at to in
-    is-complete actor token changes base (disk (start old) before) es (counts old) (counts new) result fits files cause may t.0 t.1
+pub ran-completely : {H : Type 0} {w : World H} {old new : H} (actor : List ℕ) (token : ℕ) (changes : List Change) (base : List (List ℕ)) (result : Result Unit CommitError) (before es : List Event)
+    → token < 2 ^ 64 → AreFiles actor changes → CommitCause (w.counts old) (w.counts new) result → Ran w old new (λ own_ones. IsCommit actor token changes base own_ones result)
+    → w.told old ≡ Some before → w.told new ≡ Some (before ++ es) → MayCommit actor token (disk (w.start old) before) es → IsComplete actor changes base (own es) (w.counts old) (w.counts new) result
+ran-completely {w = w} {old = old} {new = new} actor token changes base result before es fits files cause ran at to may =
+    let t = Ran-since {P = λ own_ones. IsCommit actor token changes base own_ones result} before es ran at to in
+    is-complete actor token changes base (disk (w.start old) before) es (w.counts old) (w.counts new) result fits files cause may t.0 t.1

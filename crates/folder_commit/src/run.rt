@@ -102,8 +102,8 @@ fn some_changes<H: Host>(
     requires files { AreFiles actor.now changes.now }
     requires some { 1 ≤ length changes.now }
     requires based { All (λ c. IsTrue (is_rewrite c) → IsSome base) changes.now }
-    ensures ran { Ran H.start H.told H.counts host.old host.new (λ es. IsCommit actor.now token changes.now (base_list (option_copied base.entry)) es result) }
-    ensures cause { CommitCause (H.counts host.old) (H.counts host.new) result }
+    ensures ran { Ran H.world host.old host.new (λ es. IsCommit actor.now token changes.now (base_list (option_copied base.entry)) es result) }
+    ensures cause { CommitCause (H.world.counts host.old) (H.world.counts host.new) result }
     ensures named { IsNamed actor.now changes.now result }
 {
     let plan = plan_for(alloc, actor, token, changes)?;
@@ -126,8 +126,8 @@ fn whole<H: Host>(
     requires no_zero { has_no_zero actor.now ≡ true }
     requires files { AreFiles actor.now changes.now }
     requires based { All (λ c. IsTrue (is_rewrite c) → IsSome base) changes.now }
-    ensures ran { Ran H.start H.told H.counts host.old host.new (λ es. IsCommit actor.now token changes.now (base_list (option_copied base.entry)) es result) }
-    ensures cause { CommitCause (H.counts host.old) (H.counts host.new) result }
+    ensures ran { Ran H.world host.old host.new (λ es. IsCommit actor.now token changes.now (base_list (option_copied base.entry)) es result) }
+    ensures cause { CommitCause (H.world.counts host.old) (H.world.counts host.new) result }
     ensures named { IsNamed actor.now changes.now result }
 {
     match changes {
@@ -156,11 +156,11 @@ pub fn commit<H: Host>(
     requires no_zero { has_no_zero actor.now ≡ true }
     requires files { AreFiles actor.now changes.now }
     requires based { All (λ c. IsTrue (is_rewrite c) → IsSome base) changes.now }
-    ensures ran { Ran H.start H.told H.counts host.old host.new (λ es. IsCommit actor.now token changes.now (base_list (option_copied base.entry)) es result) }
-    ensures told { Ran H.start H.told H.counts host.old host.new (λ es. IsTold actor.now changes.now (base_list (option_copied base.entry)) es result) }
-    ensures safe { (before es : List Event) → H.told host.old ≡ Some before → H.told host.new ≡ Some (before ++ es) → MayCommit actor.now token (disk (H.start host.old) before) es → IsSafe actor.now token changes.now (base_list (option_copied base.entry)) (disk (H.start host.old) before) es result }
-    ensures complete { (before es : List Event) → H.told host.old ≡ Some before → H.told host.new ≡ Some (before ++ es) → MayCommit actor.now token (disk (H.start host.old) before) es → IsComplete actor.now changes.now (base_list (option_copied base.entry)) (own es) (H.counts host.old) (H.counts host.new) result }
-    ensures cause { CommitCause (H.counts host.old) (H.counts host.new) result }
+    ensures ran { Ran H.world host.old host.new (λ es. IsCommit actor.now token changes.now (base_list (option_copied base.entry)) es result) }
+    ensures told { Ran H.world host.old host.new (λ es. IsTold actor.now changes.now (base_list (option_copied base.entry)) es result) }
+    ensures safe { (before es : List Event) → H.world.told host.old ≡ Some before → H.world.told host.new ≡ Some (before ++ es) → MayCommit actor.now token (disk (H.world.start host.old) before) es → IsSafe actor.now token changes.now (base_list (option_copied base.entry)) (disk (H.world.start host.old) before) es result }
+    ensures complete { (before es : List Event) → H.world.told host.old ≡ Some before → H.world.told host.new ≡ Some (before ++ es) → MayCommit actor.now token (disk (H.world.start host.old) before) es → IsComplete actor.now changes.now (base_list (option_copied base.entry)) (own es) (H.world.counts host.old) (H.world.counts host.new) result }
+    ensures cause { CommitCause (H.world.counts host.old) (H.world.counts host.new) result }
     ensures named { IsNamed actor.now changes.now result }
 {
     whole(alloc, actor, token, changes, base, host)

@@ -11,7 +11,7 @@ use Rattle.host_port.specs.declared.event.Event.{Event}
 use Rattle.host_port.specs.declared.event.Event.TheVariants as event
 use Rattle.host_port.specs.declared.event.Seen.{Seen}
 use Rattle.host_port.specs.declared.event.Seen.TheVariants as seen
-use Rattle.host_port.specs.Calls.{Counts, Rose}
+use Rattle.host_port.specs.Calls.{Counts, World, Rose}
 use Rattle.host_port.specs.Disk.{Disk}
 use Rattle.host_port.specs.Own.{own}
 use Rattle.host_port.specs.Ran.{Ran}
@@ -179,6 +179,6 @@ completes actor token es before now result h cause quiet free =
     fine-told actor es before now result (unless-fine es (end_by actor es) (by-fine j es w.0 w.1 free)) (is-told actor token es result h) cause quiet
 
 -- of a host
-pub ran-completely : {H : Type 0} {start : H → Disk} {told : H → Option (List Event)} {counts : H → Counts} {old new : H} (actor : List ℕ) (result : Result Answer RecoverError)
-    → Ran start told counts old new (λ es. Recovers (recovery_for actor 0) es result) → RecoverCause (counts old) (counts new) result → Ran start told counts old new (λ es. IsComplete actor es (counts old) (counts new) result)
-ran-completely {counts = counts} {old = old} {new = new} actor result ran cause = Ran-map (λ es h. completes actor 0 es (counts old) (counts new) result h cause) ran
+pub ran-completely : {H : Type 0} {w : World H} {old new : H} (actor : List ℕ) (result : Result Answer RecoverError)
+    → Ran w old new (λ es. Recovers (recovery_for actor 0) es result) → RecoverCause (w.counts old) (w.counts new) result → Ran w old new (λ es. IsComplete actor es (w.counts old) (w.counts new) result)
+ran-completely {w = w} {old = old} {new = new} actor result ran cause = Ran-map (λ es h. completes actor 0 es (w.counts old) (w.counts new) result h cause) ran

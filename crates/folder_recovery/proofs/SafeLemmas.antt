@@ -1,15 +1,15 @@
 -- The laws of the machine, of a recovery.
 use Rattle.std.proofs.Common.{◌≡◌, ◌<◌, ◌^◌, ℕ, List, [], ◌∷◌, ◌++◌, Option, Some, refl, ap, sym, subst, inl, inr, ◌∙◌, append_assoc}
-use Rattle.std.proofs.lemmas.List.{append_cancel_left, append-nil}
+use Rattle.std.proofs.lemmas.List.{append-nil}
 use Rattle.std.specs.declared.result.Result.{Result}
 use Rattle.std.specs.declared.result.Result.TheVariants.{Ok, Err}
 use Rattle.host_port.specs.declared.event.Event.{Event}
 use Rattle.host_port.specs.declared.event.Event.TheVariants.{Release}
 use Rattle.host_port.specs.Disk.{Disk, disk}
-use Rattle.host_port.specs.Calls.{Counts}
+use Rattle.host_port.specs.Calls.{World}
 use Rattle.host_port.specs.Own.{own}
 use Rattle.host_port.specs.Ran.{Honest, Ran}
-use Rattle.host_port.proofs.RanLemmas.{own-append}
+use Rattle.host_port.proofs.RanLemmas.{own-append, Ran-since}
 use Rattle.commit_machine.specs.Edits.{recovery_for}
 use Rattle.commit_machine.specs.Names.{right_name}
 use Rattle.commit_machine.specs.Jobs.{Before, Ending, Refused, Failed, NoMemory, Job, IsJob}
@@ -90,15 +90,9 @@ module _ (actor : List ℕ) (token : ℕ) (d : Disk) where
       }
 
 -- of a host that tells its trace
-pub ran-safely : {H : Type 0} {start : H → Disk} {told : H → Option (List Event)} {counts : H → Counts} {old new : H} (actor : List ℕ) (token : ℕ) (result : Result Recovered RecoverError) (before es : List Event)
-    → Ran start told counts old new (λ own_ones. Recovers (recovery_for actor token) own_ones result)
-    → told old ≡ Some before → told new ≡ Some (before ++ es) → MayRecover actor token (disk (start old) before) es → RecoversSafely actor token (disk (start old) before) es result
-ran-safely {start = start} {told = told} {old = old} actor token result before es ran at to may =
-    let t = ran.told_is (before ++ es) to in
-    let same : Some before ≡ Some t.0 = sym at ∙ t.1 in
-    let first : before ≡ t.0 = cc in
-    let added : es ≡ t.2.added = append_cancel_left before es t.2.added (t.2.is ∙ ap (λ (r : List Event). r ++ t.2.added) (sym first)) in
-    let D : Disk → Type 0 = λ d. Honest d t.2.added in
-    let E : List Event → Type 0 = λ xs. Honest (disk (start old) before) xs in
-    let P : List Event → Type 0 = λ xs. Recovers (recovery_for actor token) (own xs) result in
-    safely actor token (disk (start old) before) es result may (subst E (sym added) (subst D (ap (disk (start old)) (sym first)) t.2.honest)) (subst P (sym added) t.2.own_ones)
+pub ran-safely : {H : Type 0} {w : World H} {old new : H} (actor : List ℕ) (token : ℕ) (result : Result Recovered RecoverError) (before es : List Event)
+    → Ran w old new (λ own_ones. Recovers (recovery_for actor token) own_ones result)
+    → w.told old ≡ Some before → w.told new ≡ Some (before ++ es) → MayRecover actor token (disk (w.start old) before) es → RecoversSafely actor token (disk (w.start old) before) es result
+ran-safely {w = w} {old = old} actor token result before es ran at to may =
+    let t = Ran-since {P = λ own_ones. Recovers (recovery_for actor token) own_ones result} before es ran at to in
+    safely actor token (disk (w.start old) before) es result may t.0 t.1

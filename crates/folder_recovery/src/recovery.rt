@@ -76,9 +76,9 @@ fn answer(end: End, plan: Plan, place: Place) -> Result<Recovered, RecoverError>
 fn run<H: Host>(alloc: Global, actor: &[u8], host: &mut H) -> Result<Recovered, RecoverError>
     requires short { length actor.now ≤ 4021 }
     requires no_zero { has_no_zero actor.now ≡ true }
-    ensures ran { (token : ℕ) → Ran H.start H.told H.counts host.old host.new (λ es. Recovers (recovery_for actor.now token) es result) }
+    ensures ran { (token : ℕ) → Ran H.world host.old host.new (λ es. Recovers (recovery_for actor.now token) es result) }
     ensures named { IsNamed actor.now result }
-    ensures cause { RecoverCause (H.counts host.old) (H.counts host.new) result }
+    ensures cause { RecoverCause (H.world.counts host.old) (H.world.counts host.new) result }
 {
     let plan = plan_for(alloc, actor)?;
     let place = Place::new(alloc, Items::new(alloc));
@@ -99,12 +99,12 @@ pub fn recover<H: Host>(
 ) -> Result<Recovered, RecoverError>
     requires short { length actor.now ≤ 4021 }
     requires no_zero { has_no_zero actor.now ≡ true }
-    ensures ran { (token : ℕ) → Ran H.start H.told H.counts host.old host.new (λ es. Recovers (recovery_for actor.now token) es result) }
-    ensures told { Ran H.start H.told H.counts host.old host.new (λ es. IsTold actor.now es result) }
-    ensures safe { (token : ℕ) (before es : List Event) → H.told host.old ≡ Some before → H.told host.new ≡ Some (before ++ es) → MayRecover actor.now token (disk (H.start host.old) before) es → RecoversSafely actor.now token (disk (H.start host.old) before) es result }
-    ensures complete { Ran H.start H.told H.counts host.old host.new (λ es. IsComplete actor.now es (H.counts host.old) (H.counts host.new) result) }
+    ensures ran { (token : ℕ) → Ran H.world host.old host.new (λ es. Recovers (recovery_for actor.now token) es result) }
+    ensures told { Ran H.world host.old host.new (λ es. IsTold actor.now es result) }
+    ensures safe { (token : ℕ) (before es : List Event) → H.world.told host.old ≡ Some before → H.world.told host.new ≡ Some (before ++ es) → MayRecover actor.now token (disk (H.world.start host.old) before) es → RecoversSafely actor.now token (disk (H.world.start host.old) before) es result }
+    ensures complete { Ran H.world host.old host.new (λ es. IsComplete actor.now es (H.world.counts host.old) (H.world.counts host.new) result) }
     ensures named { IsNamed actor.now result }
-    ensures cause { RecoverCause (H.counts host.old) (H.counts host.new) result }
+    ensures cause { RecoverCause (H.world.counts host.old) (H.world.counts host.new) result }
 {
     run(alloc, actor, host)
 }

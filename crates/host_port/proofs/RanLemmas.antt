@@ -1,12 +1,12 @@
 -- Stretches of calls go on from one another.
 use Rattle.std.proofs.Common.{◌≡◌, List, [], ◌∷◌, ◌++◌, map, refl, sym, ◌∙◌, ap, subst, arith, append_assoc}
-use Rattle.std.proofs.lemmas.List.{append-nil}
-use Rattle.std.specs.declared.option.Option.{Option}
+use Rattle.std.proofs.lemmas.List.{append-nil, append_cancel_left}
+use Rattle.std.specs.declared.option.Option.TheVariants.{Some}
 use Rattle.host_port.specs.declared.event.Event.{Event}
 use Rattle.host_port.specs.declared.event.Event.TheVariants.{Foreign}
 use Rattle.host_port.specs.declared.event.ForeignStep.{ForeignStep}
 use Rattle.host_port.specs.Disk.{Disk, disk, after}
-use Rattle.host_port.specs.Calls.{Counts, NeverFall, Calls}
+use Rattle.host_port.specs.Calls.{Counts, World, NeverFall, Calls}
 use Rattle.host_port.specs.Own.{own}
 use Rattle.host_port.specs.Ran.{Agrees, Honest, Stretch, Ran}
 
@@ -43,20 +43,20 @@ Stretch-then start a b c {S = S} join x y = record {
 NeverFall-then : (a b c : Counts) → NeverFall a b → NeverFall b c → NeverFall a c
 NeverFall-then a b c x y = record { ins = omega arith; outs = omega arith; disks = omega arith; children = omega arith }
 
-pub Ran-then : {H : Type 0} {start : H → Disk} {told : H → Option (List Event)} {counts : H → Counts} {old mid new : H} {P Q S : List Event → Type 0}
-    → ((front rest : List Event) → P front → Q rest → S (front ++ rest)) → Ran start told counts old mid P → Ran start told counts mid new Q → Ran start told counts old new S
-Ran-then {start = start} {told = told} {counts = counts} {old = old} {mid = mid} {new = new} {Q = Q} join x y = record {
+pub Ran-then : {H : Type 0} {w : World H} {old mid new : H} {P Q S : List Event → Type 0}
+    → ((front rest : List Event) → P front → Q rest → S (front ++ rest)) → Ran w old mid P → Ran w mid new Q → Ran w old new S
+Ran-then {w = w} {old = old} {mid = mid} {new = new} {Q = Q} join x y = record {
   start_is = y.start_is ∙ x.start_is;
-  never_fall = NeverFall-then (counts old) (counts mid) (counts new) x.never_fall y.never_fall;
+  never_fall = NeverFall-then (w.counts old) (w.counts mid) (w.counts new) x.never_fall y.never_fall;
   told_is = λ now is.
       let later = y.told_is now is in
       let earlier = x.told_is later.0 later.1 in
       let D : Disk → Type 0 = λ d. Stretch d later.0 now Q in
-      (earlier.0, earlier.1, Stretch-then (start old) earlier.0 later.0 now join earlier.2 (subst D x.start_is later.2));
+      (earlier.0, earlier.1, Stretch-then (w.start old) earlier.0 later.0 now join earlier.2 (subst D x.start_is later.2));
 }
 
-pub Ran-map : {H : Type 0} {start : H → Disk} {told : H → Option (List Event)} {counts : H → Counts} {old new : H} {P S : List Event → Type 0}
-    → ((es : List Event) → P es → S es) → Ran start told counts old new P → Ran start told counts old new S
+pub Ran-map : {H : Type 0} {w : World H} {old new : H} {P S : List Event → Type 0}
+    → ((es : List Event) → P es → S es) → Ran w old new P → Ran w old new S
 Ran-map to x = record {
   start_is = x.start_is;
   never_fall = x.never_fall;
@@ -65,10 +65,10 @@ Ran-map to x = record {
 }
 
 -- one call is a stretch whose own event is its event
-pub called : {H : Type 0} {start : H → Disk} {told : H → Option (List Event)} {counts : H → Counts} {old new : H} {Happened : Disk → Event → Type 0} {P : List Event → Type 0}
-    → ((d : Disk) (e : Event) → Happened d e → Agrees d e × P (own (e ∷ []))) → start new ≡ start old → NeverFall (counts old) (counts new)
-    → Calls (start old) (told old) (told new) Happened → Ran start told counts old new P
-called {start = start} {old = old} {Happened = Happened} {P = P} to same never calls = record {
+pub called : {H : Type 0} {w : World H} {old new : H} {Happened : Disk → Event → Type 0} {P : List Event → Type 0}
+    → ((d : Disk) (e : Event) → Happened d e → Agrees d e × P (own (e ∷ []))) → w.start new ≡ w.start old → NeverFall (w.counts old) (w.counts new)
+    → Calls (w.start old) (w.told old) (w.told new) Happened → Ran w old new P
+called {w = w} {old = old} {Happened = Happened} {P = P} to same never calls = record {
   start_is = same;
   never_fall = never;
   told_is = λ now is.
@@ -81,17 +81,30 @@ called {start = start} {old = old} {Happened = Happened} {P = P} to same never c
         record {
           added = map Foreign call.steps ++ call.own ∷ [];
           is = call.is;
-          honest = Honest-append (disk (start old) t.0) (map Foreign call.steps) (call.own ∷ []) (Honest-foreign _ call.steps)
-              (subst D (disk-append (start old) t.0 (map Foreign call.steps)) both.0, tt);
+          honest = Honest-append (disk (w.start old) t.0) (map Foreign call.steps) (call.own ∷ []) (Honest-foreign _ call.steps)
+              (subst D (disk-append (w.start old) t.0 (map Foreign call.steps)) both.0, tt);
           own_ones = subst P (sym (own-append (map Foreign call.steps) (call.own ∷ []) ∙ ap (λ r. r ++ own (call.own ∷ [])) (own-foreign call.steps))) both.1;
         },
       );
 }
 
 -- no call
-pub Ran-none : {H : Type 0} {start : H → Disk} {told : H → Option (List Event)} {counts : H → Counts} {at : H} {P : List Event → Type 0} → P [] → Ran start told counts at at P
-Ran-none {counts = counts} {at = at} p = record {
+pub Ran-none : {H : Type 0} {w : World H} {at : H} {P : List Event → Type 0} → P [] → Ran w at at P
+Ran-none {w = w} {at = at} p = record {
   start_is = refl;
   never_fall = record { ins = omega arith; outs = omega arith; disks = omega arith; children = omega arith };
   told_is = λ now is. (now, is, record { added = []; is = sym (append-nil now); honest = tt; own_ones = p });
 }
+
+-- what a host that is told has added since
+pub Ran-since : {H : Type 0} {w : World H} {old new : H} {P : List Event → Type 0} (before es : List Event) → Ran w old new P
+    → w.told old ≡ Some before → w.told new ≡ Some (before ++ es) → Honest (disk (w.start old) before) es × P (own es)
+Ran-since {w = w} {old = old} {P = P} before es ran at to =
+    let t = ran.told_is (before ++ es) to in
+    let same : Some before ≡ Some t.0 = sym at ∙ t.1 in
+    let first : before ≡ t.0 = cc in
+    let added : es ≡ t.2.added = append_cancel_left before es t.2.added (t.2.is ∙ ap (λ (r : List Event). r ++ t.2.added) (sym first)) in
+    let D : Disk → Type 0 = λ d. Honest d t.2.added in
+    let E : List Event → Type 0 = λ xs. Honest (disk (w.start old) before) xs in
+    let O : List Event → Type 0 = λ xs. P (own xs) in
+    (subst E (sym added) (subst D (ap (disk (w.start old)) (sym first)) t.2.honest), subst O (sym added) t.2.own_ones)

@@ -24,6 +24,12 @@ pub record Counts : Type 0 where
   pub disks : ℕ
   pub children : ℕ
 
+-- what is told of the outside over hosts: the disk before the first event, each event so far, while they are told, and the counts of failed calls
+pub record World (H : Type 0) : Type 0 where
+  pub start : H → Disk
+  pub told : H → Option (List Event)
+  pub counts : H → Counts
+
 -- no count falls
 pub record NeverFall (old new : Counts) : Type 0 where
   pub ins : old.ins ≤ new.ins

@@ -7,7 +7,7 @@ use Rattle.host_port.specs.declared.event.Event.TheVariants.{Out}
 use Rattle.host_port.specs.declared.event.Plan.{Plan}
 use Rattle.host_port.specs.declared.memory.MemHost.{MemHost}
 use Rattle.host_port.specs.Disk.{Disk}
-use Rattle.host_port.specs.Calls.{Counts}
+use Rattle.host_port.specs.Calls.{Counts, World}
 use Rattle.host_port.specs.Plans.{AddsPlanned}
 use Rattle.host_port.specs.Views.{disk_of, part_at, next_call, steps_before, AddsOne}
 use Rattle.host_port.specs.declared.event.Part.{Part}
@@ -32,6 +32,9 @@ host_told m = told_of m.lost m.tape.trace.items
 
 abbrev pub host_counts : MemHost → Counts
 host_counts m = record { ins = m.ins; outs = m.outs; disks = m.disks; children = 0 }
+
+abbrev pub host_world : World MemHost
+host_world = record { start = host_start; told = host_told; counts = host_counts }
 
 -- whether the plan names the next call among those that fail
 abbrev pub fails_next : MemHost → Bool

@@ -1,12 +1,11 @@
 -- What a stretch of calls of a host did, by its own events.
 use Rattle.std.specs.Prelude.{◌≡◌, Bool, true, false, List, [], ◌∷◌, ◌++◌, is_some, is_none}
-use Rattle.std.specs.declared.option.Option.{Option}
 use Rattle.std.specs.declared.option.Option.TheVariants.{Some}
 use Rattle.host_port.specs.declared.event.Event.{Event}
 use Rattle.host_port.specs.declared.event.Event.TheVariants.{Load, Publish, Erase, Lock, Unlock, Seize}
 use Rattle.host_port.specs.declared.event.Seen.TheVariants as seen
 use Rattle.host_port.specs.Disk.{Disk, disk, after}
-use Rattle.host_port.specs.Calls.{Counts, NeverFall, IsTooLarge}
+use Rattle.host_port.specs.Calls.{World, NeverFall, IsTooLarge}
 use Rattle.host_port.specs.Ends.{is_owner, is_open}
 use Rattle.host_port.specs.Own.{own}
 
@@ -39,7 +38,7 @@ pub record Stretch (start : Disk) (before now : List Event) (P : List Event → 
   pub own_ones : P (own added)
 
 -- From old to new the host was called so: where it is told in the end, the own events are such.
-pub record Ran {H : Type 0} (start : H → Disk) (told : H → Option (List Event)) (counts : H → Counts) (old new : H) (P : List Event → Type 0) : Type 0 where
-  pub start_is : start new ≡ start old
-  pub never_fall : NeverFall (counts old) (counts new)
-  pub told_is : (now : List Event) → told new ≡ Some now → (before : List Event) × (told old ≡ Some before) × Stretch (start old) before now P
+pub record Ran {H : Type 0} (w : World H) (old new : H) (P : List Event → Type 0) : Type 0 where
+  pub start_is : w.start new ≡ w.start old
+  pub never_fall : NeverFall (w.counts old) (w.counts new)
+  pub told_is : (now : List Event) → w.told new ≡ Some now → (before : List Event) × (w.told old ≡ Some before) × Stretch (w.start old) before now P

@@ -1,8 +1,6 @@
-ghost use Rattle.std.specs.Prelude.{◌≡◌, ◌≤◌, ◌<◌, List, ℕ, Option, length, IfOk, OnErr};
-ghost use Rattle.host_port.specs.Disk.{Disk};
+ghost use Rattle.std.specs.Prelude.{◌≡◌, ◌≤◌, ◌<◌, length, IfOk, OnErr};
 ghost use Rattle.host_port.specs.Names.{IsFileName};
-ghost use Rattle.host_port.specs.Calls.{Calls, Counts, NeverFall, Rose, Filled, Said, Loaded, LoadCause, Staged, Published, Erased, Locked, Unlocked, Seized, Released};
-ghost use Rattle.host_port.specs.declared.event.Event.{Event};
+ghost use Rattle.host_port.specs.Calls.{Calls, World, NeverFall, Rose, Filled, Said, Loaded, LoadCause, Staged, Published, Erased, Locked, Unlocked, Seized, Released};
 
 use crate::LoadAnswer;
 use std::alloc::Global;
@@ -39,94 +37,89 @@ pub enum LoadError {
 /// While a host tells its trace, each call adds steps of others and then its own one event, and answers what the
 /// disk at that step gives. A fault is answered only where the count of its kind has risen in that call.
 pub trait Host {
-    /// The disk before the first event.
-    ghost start: { Self → Disk };
-
-    /// Each event so far, while the host tells them.
-    ghost told: { Self → Option (List Event) };
-
-    /// How often each kind of call has failed.
-    ghost counts: { Self → Counts };
+    /// The disk before the first event, each event so far, while the host tells them, and how often each kind of call has
+    /// failed.
+    ghost world: { World Self };
 
     /// Takes input: puts bytes at the front of `buf` and says how many. None are the end of the input.
     fn fill(&mut self, buf: &mut [u8]) -> Result<usize, InFault>
         requires { 0 < length buf.old }
         ensures bound { IfOk result (λ n. n ≤ length buf.old) }
-        ensures start { start self.new ≡ start self.old }
-        ensures call { Calls (start self.old) (told self.old) (told self.new) (Filled result buf.new) }
-        ensures counts { NeverFall (counts self.old) (counts self.new) }
-        ensures cause { OnErr result (Rose (counts self.old).ins (counts self.new).ins) };
+        ensures start { world.start self.new ≡ world.start self.old }
+        ensures call { Calls (world.start self.old) (world.told self.old) (world.told self.new) (Filled result buf.new) }
+        ensures counts { NeverFall (world.counts self.old) (world.counts self.new) }
+        ensures cause { OnErr result (Rose (world.counts self.old).ins (world.counts self.new).ins) };
 
     /// Writes output. After Ok all of it went out.
     fn say(&mut self, bytes: &[u8]) -> Result<(), OutFault>
-        ensures start { start self.new ≡ start self.old }
-        ensures call { Calls (start self.old) (told self.old) (told self.new) (Said result bytes.now) }
-        ensures counts { NeverFall (counts self.old) (counts self.new) }
-        ensures cause { OnErr result (Rose (counts self.old).outs (counts self.new).outs) };
+        ensures start { world.start self.new ≡ world.start self.old }
+        ensures call { Calls (world.start self.old) (world.told self.old) (world.told self.new) (Said result bytes.now) }
+        ensures counts { NeverFall (world.counts self.old) (world.counts self.new) }
+        ensures cause { OnErr result (Rose (world.counts self.old).outs (world.counts self.new).outs) };
 
     /// Reads a whole file of at most 268,435,456 bytes, and says whether a lock on its name stands.
     fn load(&mut self, alloc: Global, name: &[u8]) -> Result<LoadAnswer, LoadError>
         requires { IsFileName name.now }
-        ensures start { start self.new ≡ start self.old }
-        ensures call { Calls (start self.old) (told self.old) (told self.new) (Loaded name.now result) }
-        ensures counts { NeverFall (counts self.old) (counts self.new) }
-        ensures cause { LoadCause (counts self.old).disks (counts self.new).disks result };
+        ensures start { world.start self.new ≡ world.start self.old }
+        ensures call { Calls (world.start self.old) (world.told self.old) (world.told self.new) (Loaded name.now result) }
+        ensures counts { NeverFall (world.counts self.old) (world.counts self.new) }
+        ensures cause { LoadCause (world.counts self.old).disks (world.counts self.new).disks result };
 
     /// Writes a whole file, durably. After Ok it has exactly these bytes.
     fn stage(&mut self, name: &[u8], bytes: &[u8]) -> Result<(), DiskFault>
         requires { IsFileName name.now }
-        ensures start { start self.new ≡ start self.old }
-        ensures call { Calls (start self.old) (told self.old) (told self.new) (Staged name.now bytes.now result) }
-        ensures counts { NeverFall (counts self.old) (counts self.new) }
-        ensures cause { OnErr result (Rose (counts self.old).disks (counts self.new).disks) };
+        ensures start { world.start self.new ≡ world.start self.old }
+        ensures call { Calls (world.start self.old) (world.told self.old) (world.told self.new) (Staged name.now bytes.now result) }
+        ensures counts { NeverFall (world.counts self.old) (world.counts self.new) }
+        ensures cause { OnErr result (Rose (world.counts self.old).disks (world.counts self.new).disks) };
 
     /// Gives a file another name, where it takes the place of what stood there. False exactly where the file is absent,
     /// and then nothing changes.
     fn publish(&mut self, from: &[u8], to: &[u8]) -> Result<bool, DiskFault>
         requires source { IsFileName from.now }
         requires target { IsFileName to.now }
-        ensures start { start self.new ≡ start self.old }
-        ensures call { Calls (start self.old) (told self.old) (told self.new) (Published from.now to.now result) }
-        ensures counts { NeverFall (counts self.old) (counts self.new) }
-        ensures cause { OnErr result (Rose (counts self.old).disks (counts self.new).disks) };
+        ensures start { world.start self.new ≡ world.start self.old }
+        ensures call { Calls (world.start self.old) (world.told self.old) (world.told self.new) (Published from.now to.now result) }
+        ensures counts { NeverFall (world.counts self.old) (world.counts self.new) }
+        ensures cause { OnErr result (Rose (world.counts self.old).disks (world.counts self.new).disks) };
 
     /// Takes a file away. An absent file is no fault.
     fn erase(&mut self, name: &[u8]) -> Result<(), DiskFault>
         requires { IsFileName name.now }
-        ensures start { start self.new ≡ start self.old }
-        ensures call { Calls (start self.old) (told self.old) (told self.new) (Erased name.now result) }
-        ensures counts { NeverFall (counts self.old) (counts self.new) }
-        ensures cause { OnErr result (Rose (counts self.old).disks (counts self.new).disks) };
+        ensures start { world.start self.new ≡ world.start self.old }
+        ensures call { Calls (world.start self.old) (world.told self.old) (world.told self.new) (Erased name.now result) }
+        ensures counts { NeverFall (world.counts self.old) (world.counts self.new) }
+        ensures cause { OnErr result (Rose (world.counts self.old).disks (world.counts self.new).disks) };
 
     /// Puts a lock on a name. True where it now stands with this token, false exactly where a lock stood.
     fn lock(&mut self, name: &[u8], token: u64) -> Result<bool, DiskFault>
         requires { IsFileName name.now }
-        ensures start { start self.new ≡ start self.old }
-        ensures call { Calls (start self.old) (told self.old) (told self.new) (Locked name.now token result) }
-        ensures counts { NeverFall (counts self.old) (counts self.new) }
-        ensures cause { OnErr result (Rose (counts self.old).disks (counts self.new).disks) };
+        ensures start { world.start self.new ≡ world.start self.old }
+        ensures call { Calls (world.start self.old) (world.told self.old) (world.told self.new) (Locked name.now token result) }
+        ensures counts { NeverFall (world.counts self.old) (world.counts self.new) }
+        ensures cause { OnErr result (Rose (world.counts self.old).disks (world.counts self.new).disks) };
 
     /// Takes the lock on a name away where its owner is this token; else nothing changes.
     fn unlock(&mut self, name: &[u8], token: u64) -> Result<(), DiskFault>
         requires { IsFileName name.now }
-        ensures start { start self.new ≡ start self.old }
-        ensures call { Calls (start self.old) (told self.old) (told self.new) (Unlocked name.now token result) }
-        ensures counts { NeverFall (counts self.old) (counts self.new) }
-        ensures cause { OnErr result (Rose (counts self.old).disks (counts self.new).disks) };
+        ensures start { world.start self.new ≡ world.start self.old }
+        ensures call { Calls (world.start self.old) (world.told self.old) (world.told self.new) (Unlocked name.now token result) }
+        ensures counts { NeverFall (world.counts self.old) (world.counts self.new) }
+        ensures cause { OnErr result (Rose (world.counts self.old).disks (world.counts self.new).disks) };
 
     /// Takes the right of a name. True where the caller has it now, false exactly where another has it. It ends when its
     /// holder stops.
     fn seize(&mut self, name: &[u8]) -> Result<bool, DiskFault>
         requires { IsFileName name.now }
-        ensures start { start self.new ≡ start self.old }
-        ensures call { Calls (start self.old) (told self.old) (told self.new) (Seized name.now result) }
-        ensures counts { NeverFall (counts self.old) (counts self.new) }
-        ensures cause { OnErr result (Rose (counts self.old).disks (counts self.new).disks) };
+        ensures start { world.start self.new ≡ world.start self.old }
+        ensures call { Calls (world.start self.old) (world.told self.old) (world.told self.new) (Seized name.now result) }
+        ensures counts { NeverFall (world.counts self.old) (world.counts self.new) }
+        ensures cause { OnErr result (Rose (world.counts self.old).disks (world.counts self.new).disks) };
 
     /// Gives the right of a name up. Where the caller doesn't have it, nothing changes. It never fails.
     fn release(&mut self, name: &[u8])
         requires { IsFileName name.now }
-        ensures start { start self.new ≡ start self.old }
-        ensures call { Calls (start self.old) (told self.old) (told self.new) (Released name.now) }
-        ensures counts { NeverFall (counts self.old) (counts self.new) };
+        ensures start { world.start self.new ≡ world.start self.old }
+        ensures call { Calls (world.start self.old) (world.told self.old) (world.told self.new) (Released name.now) }
+        ensures counts { NeverFall (world.counts self.old) (world.counts self.new) };
 }

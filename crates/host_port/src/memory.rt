@@ -106,13 +106,9 @@ impl MemHost {
 }
 
 impl Host for MemHost {
-    ghost use Rattle.host_port.specs.MemHosts.{host_told, host_start, host_counts, is_failed_load, wants_memory, is_lost, next_part, input_left, next_input, after_input, after_output, after_disk, IsAsPlanned, IsDoneAsPlanned, SaysAsPlanned};
+    ghost use Rattle.host_port.specs.MemHosts.{host_world, host_told, host_start, host_counts, is_failed_load, wants_memory, is_lost, next_part, input_left, next_input, after_input, after_output, after_disk, IsAsPlanned, IsDoneAsPlanned, SaysAsPlanned};
 
-    ghost start = { host_start };
-
-    ghost told = { host_told };
-
-    ghost counts = { host_counts };
+    ghost world = { host_world };
 
     fn fill(&mut self, buf: &mut [u8]) -> Result<usize, InFault>
         requires { 0 < length buf.old }

@@ -101,11 +101,11 @@ fn counted<T: Drop>(answer: Result<T, FileError>, count: &mut u64) -> Result<T, 
 impl<R: Files<File = File> + Input + Print + Drop> Host for RealHost<R> {
     ghost use Rattle.std.specs.Prelude.{[]};
 
-    ghost start = { λ _. disk_of [] [] };
-
-    ghost told = { λ _. None };
-
-    ghost counts = { λ m. record { ins = m.ins; outs = m.outs; disks = m.disks; children = 0 } };
+    ghost world = { record {
+        start = λ _. disk_of [] [];
+        told = λ _. None;
+        counts = λ m. record { ins = m.ins; outs = m.outs; disks = m.disks; children = 0 };
+    } };
 
     fn fill(&mut self, buf: &mut [u8]) -> Result<usize, InFault> {
         match self.input.read(buf) {

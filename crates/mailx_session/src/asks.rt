@@ -28,9 +28,9 @@ pub(crate) enum Asked {
 
 /// Says bytes.
 pub(crate) fn say<H: Host>(host: &mut H, bytes: &[u8]) -> Result<(), RunError>
-    ensures ran { Ran H.start H.told H.counts host.old host.new
+    ensures ran { Ran H.world host.old host.new
         (λ es. Goes (Ask (Say bytes.now) Ret) es (in_play (λ u. u) result)) }
-    ensures cause { LineCaused (H.counts host.old) (H.counts host.new) result }
+    ensures cause { LineCaused (H.world.counts host.old) (H.world.counts host.new) result }
 {
     match session_play::say(host, bytes) {
         Ok(()) => Ok(()),
@@ -46,11 +46,11 @@ fn do_ask<H: Host>(
     ask: &Wanted,
 ) -> Result<Asked, RunError>
     requires { IsState state.now }
-    ensures ran { Ran H.start H.told H.counts host.old host.new
+    ensures ran { Ran H.world host.old host.new
         (λ es. Goes (asked state.now ask.now) es (in_play (after_asks state.now) result)) }
-    ensures fall { NeverFall (H.counts host.old) (H.counts host.new) }
+    ensures fall { NeverFall (H.world.counts host.old) (H.world.counts host.new) }
     ensures done { IfOk result EndsByAsk }
-    ensures cause { LineCaused (H.counts host.old) (H.counts host.new) result }
+    ensures cause { LineCaused (H.world.counts host.old) (H.world.counts host.new) result }
 {
     match ask {
         Wanted::Say(bytes) => say_line(host, bytes),
@@ -61,11 +61,11 @@ fn do_ask<H: Host>(
 
 // Says bytes that a command asks for.
 fn say_line<H: Host>(host: &mut H, bytes: &Text) -> Result<Asked, RunError>
-    ensures ran { (s : SessionState) → Ran H.start H.told H.counts host.old host.new
+    ensures ran { (s : SessionState) → Ran H.world host.old host.new
         (λ es. Goes (Ask (Say bytes.now) (λ _. Ret (after_asks s Asked.On))) es (in_play (after_asks s) result)) }
-    ensures fall { NeverFall (H.counts host.old) (H.counts host.new) }
+    ensures fall { NeverFall (H.world.counts host.old) (H.world.counts host.new) }
     ensures done { IfOk result EndsByAsk }
-    ensures cause { LineCaused (H.counts host.old) (H.counts host.new) result }
+    ensures cause { LineCaused (H.world.counts host.old) (H.world.counts host.new) result }
 {
     match say(host, bytes.bytes()) {
         Ok(()) => Ok(Asked::On),
@@ -81,11 +81,11 @@ pub(crate) fn do_asks<H: Host>(
     asks: &[Wanted],
 ) -> Result<Asked, RunError>
     requires { IsState state.now }
-    ensures ran { Ran H.start H.told H.counts host.old host.new
+    ensures ran { Ran H.world host.old host.new
         (λ es. Goes (in_order asked state.now asks.now) es (in_play (after_asks state.now) result)) }
-    ensures fall { NeverFall (H.counts host.old) (H.counts host.new) }
+    ensures fall { NeverFall (H.world.counts host.old) (H.world.counts host.new) }
     ensures done { IfOk result EndsByAsk }
-    ensures cause { LineCaused (H.counts host.old) (H.counts host.new) result }
+    ensures cause { LineCaused (H.world.counts host.old) (H.world.counts host.new) result }
 {
     for ask in asks {
         match do_ask(alloc, state, host, ask) {

@@ -27,10 +27,10 @@ const COMMAND_LIMIT: u32 = 100_000;
 
 // Says the line that refuses a command.
 fn refuse<H: Host>(state: &SessionState, host: &mut H, line: &Text) -> Result<Flow, RunError>
-    ensures ran { Ran H.start H.told H.counts host.old host.new
+    ensures ran { Ran H.world host.old host.new
         (λ es. Goes (refused state.now line.now) es (in_play (next_of state.now) result)) }
     ensures go { IfOk result (λ flow. flow ≡ Flow.Go) }
-    ensures cause { LineCaused (H.counts host.old) (H.counts host.new) result }
+    ensures cause { LineCaused (H.world.counts host.old) (H.world.counts host.new) result }
 {
     match say(host, line.bytes()) {
         Ok(()) => Ok(Flow::Go),
@@ -48,7 +48,7 @@ fn finish<H: Host>(
     requires state { IsState state.old }
     requires desk { IsDesk (effect state.old.desk effects) }
     requires done { EndsByAsk asked }
-    ensures ran { Ran H.start H.told H.counts host.old host.new
+    ensures ran { Ran H.world host.old host.new
         (λ es. Goes (concluded state.old (λ t. settled t effects) (after_asks state.old asked)) es
         (in_play (next_of state.new) result)) }
     ensures state { IsState state.new }
@@ -56,7 +56,7 @@ fn finish<H: Host>(
     ensures done { IfOk result EndsByLine }
     ensures end { IfOk result (StaysAtEnd state.old state.new) }
     ensures err { OnErr result (state.new ≡ state.old) }
-    ensures cause { LineCaused (H.counts host.old) (H.counts host.new) result }
+    ensures cause { LineCaused (H.world.counts host.old) (H.world.counts host.new) result }
 {
     match asked {
         Asked::On => {
@@ -77,14 +77,14 @@ fn carry_out<H: Host>(
 ) -> Result<Flow, RunError>
     requires state { IsState state.old }
     requires desk { IsDesk (effect state.old.desk steps.effects) }
-    ensures ran { Ran H.start H.told H.counts host.old host.new
+    ensures ran { Ran H.world host.old host.new
         (λ es. Goes (carried_out state.old (Ok steps)) es (in_play (next_of state.new) result)) }
     ensures state { IsState state.new }
     ensures lines { KeepsLines state.old state.new }
     ensures done { IfOk result EndsByLine }
     ensures end { IfOk result (StaysAtEnd state.old state.new) }
     ensures err { OnErr result (state.new ≡ state.old) }
-    ensures cause { LineCaused (H.counts host.old) (H.counts host.new) result }
+    ensures cause { LineCaused (H.world.counts host.old) (H.world.counts host.new) result }
 {
     let Steps { asks, effects } = steps;
     let asked = do_asks(alloc, state, host, asks.items())?;
@@ -101,7 +101,7 @@ fn carry_line<H: Host>(
     line: &[u8],
 ) -> Result<Flow, RunError>
     requires { IsState state.old }
-    ensures ran { Ran H.start H.told H.counts host.old host.new
+    ensures ran { Ran H.world host.old host.new
         (λ es. Goes (line_play origin state.old line.now) es (in_play (next_of state.new) result)) }
     ensures state { IsState state.new }
     ensures lines { KeepsLines state.old state.new }
@@ -111,7 +111,7 @@ fn carry_line<H: Host>(
     ensures done { IfOk result EndsByLine }
     ensures end { IfOk result (StaysAtEnd state.old state.new) }
     ensures err { OnErr result (state.new ≡ state.old) }
-    ensures cause { LineCaused (H.counts host.old) (H.counts host.new) result }
+    ensures cause { LineCaused (H.world.counts host.old) (H.world.counts host.new) result }
 {
     match perform_line(alloc, origin, line, &state.desk) {
         Ok(steps) => carry_out(alloc, state, host, steps),
@@ -128,7 +128,7 @@ fn typed_line<H: Host>(
     line: &[u8],
 ) -> Result<Flow, RunError>
     requires { IsState state.old }
-    ensures ran { Ran H.start H.told H.counts host.old host.new
+    ensures ran { Ran H.world host.old host.new
         (λ es. Goes (typed_play state.old line.now) es (in_play (next_of state.new) result)) }
     ensures state { IsState state.new }
     ensures none_wait { state.new.frames ≡ [] }
@@ -139,7 +139,7 @@ fn typed_line<H: Host>(
     ensures done { IfOk result EndsByLine }
     ensures end { IfOk result (StaysAtEnd (rested state.old) (rested state.new)) }
     ensures err { OnErr result (rested state.new ≡ rested state.old) }
-    ensures cause { LineCaused (H.counts host.old) (H.counts host.new) result }
+    ensures cause { LineCaused (H.world.counts host.old) (H.world.counts host.new) result }
 {
     state.frames = Frames::new(alloc);
     state.count = 1;
@@ -153,12 +153,12 @@ fn drop_waiting<H: Host>(
     host: &mut H,
 ) -> Result<Flow, RunError>
     requires { IsState state.old }
-    ensures ran { Ran H.start H.told H.counts host.old host.new
+    ensures ran { Ran H.world host.old host.new
         (λ es. Goes (dropped_play state.old) es (in_play (next_of state.new) result)) }
     ensures state { IsState state.new }
     ensures fewer { lines_left state.new.frames ≤ lines_left state.old.frames }
     ensures done { IfOk result EndsByLine }
-    ensures cause { LineCaused (H.counts host.old) (H.counts host.new) result }
+    ensures cause { LineCaused (H.world.counts host.old) (H.world.counts host.new) result }
 {
     match say(host, b"too many commands\n") {
         Ok(()) => {
@@ -177,12 +177,12 @@ fn counted_line<H: Host>(
     line: &WaitingLine,
 ) -> Result<Flow, RunError>
     requires { IsState state.old }
-    ensures ran { Ran H.start H.told H.counts host.old host.new
+    ensures ran { Ran H.world host.old host.new
         (λ es. Goes (counted_play state.old line.now) es (in_play (next_of state.new) result)) }
     ensures state { IsState state.new }
     ensures fewer { lines_left state.new.frames ≤ lines_left state.old.frames }
     ensures done { IfOk result EndsByLine }
-    ensures cause { LineCaused (H.counts host.old) (H.counts host.new) result }
+    ensures cause { LineCaused (H.world.counts host.old) (H.world.counts host.new) result }
 {
     if state.count < COMMAND_LIMIT {
         state.count += 1;
@@ -207,12 +207,12 @@ fn waiting_line<H: Host>(
     line: &WaitingLine,
 ) -> Result<Flow, RunError>
     requires { IsState state.old }
-    ensures ran { Ran H.start H.told H.counts host.old host.new
+    ensures ran { Ran H.world host.old host.new
         (λ es. Goes (waiting_play state.old line.now) es (in_play (next_of state.new) result)) }
     ensures state { IsState state.new }
     ensures fewer { lines_left state.new.frames ≤ lines_left state.old.frames }
     ensures done { IfOk result EndsByLine }
-    ensures cause { LineCaused (H.counts host.old) (H.counts host.new) result }
+    ensures cause { LineCaused (H.world.counts host.old) (H.world.counts host.new) result }
 {
     if is_empty(line.text.bytes()) {
         Ok(Flow::Go)
@@ -228,12 +228,12 @@ fn waiting_lines<H: Host>(
     host: &mut H,
 ) -> Result<Flow, RunError>
     requires { IsState state.old }
-    ensures ran { Ran H.start H.told H.counts host.old host.new
+    ensures ran { Ran H.world host.old host.new
         (λ es. WaitingGo state.old es (in_play (next_of (rested state.new)) result)) }
     ensures state { IsState state.new }
     ensures nothing { state.old.frames ≡ [] → DoesNothing (rested state.old) (rested state.new) result }
     ensures done { IfOk result EndsByLine }
-    ensures cause { LineCaused (H.counts host.old) (H.counts host.new) result }
+    ensures cause { LineCaused (H.world.counts host.old) (H.world.counts host.new) result }
 {
     'lines: loop {
         match state.frames.next_line(alloc) {
@@ -256,7 +256,7 @@ pub(crate) fn input_line<H: Host>(
     line: &[u8],
 ) -> Result<Flow, RunError>
     requires { IsState state.old }
-    ensures ran { Ran H.start H.told H.counts host.old host.new
+    ensures ran { Ran H.world host.old host.new
         (λ es. LineGoes state.old line.now es (in_play (next_of (rested state.new)) result)) }
     ensures state { IsState state.new }
     ensures refused { (fault : List ℕ) → commanded Origin.Input state.old.desk line.now ≡ Err fault
@@ -266,7 +266,7 @@ pub(crate) fn input_line<H: Host>(
     ensures done { IfOk result EndsByLine }
     ensures end { IfOk result (StaysAtEnd (rested state.old) (rested state.new)) }
     ensures err { OnErr result (rested state.new ≡ rested state.old) }
-    ensures cause { LineCaused (H.counts host.old) (H.counts host.new) result }
+    ensures cause { LineCaused (H.world.counts host.old) (H.world.counts host.new) result }
 {
     match typed_line(alloc, state, host, line) {
         Ok(Flow::Go) => waiting_lines(alloc, state, host),

@@ -138,11 +138,11 @@ fn commit<H: Host>(
 ) -> Result<Asked, RunError>
     requires state { IsState state.now }
     requires name { name_fault state.now.actor (name_of wanted.now) ≡ None }
-    ensures ran { Ran H.start H.told H.counts host.old host.new
+    ensures ran { Ran H.world host.old host.new
         (λ es. Goes (saved state.now wanted.now None) es (in_play (after_asks state.now) result)) }
-    ensures fall { NeverFall (H.counts host.old) (H.counts host.new) }
+    ensures fall { NeverFall (H.world.counts host.old) (H.world.counts host.new) }
     ensures end { IfOk result EndsByAsk }
-    ensures cause { LineCaused (H.counts host.old) (H.counts host.new) result }
+    ensures cause { LineCaused (H.world.counts host.old) (H.world.counts host.new) result }
 {
     let folder = Some(&state.desk.folder.folder);
     let actor = state.actor.bytes();
@@ -158,12 +158,12 @@ pub(crate) fn save<H: Host>(
     wanted: &Change,
 ) -> Result<Asked, RunError>
     requires { IsState state.now }
-    ensures ran { Ran H.start H.told H.counts host.old host.new
+    ensures ran { Ran H.world host.old host.new
         (λ es. Goes (saved state.now wanted.now (name_fault state.now.actor (name_of wanted.now))) es
         (in_play (after_asks state.now) result)) }
-    ensures fall { NeverFall (H.counts host.old) (H.counts host.new) }
+    ensures fall { NeverFall (H.world.counts host.old) (H.world.counts host.new) }
     ensures end { IfOk result EndsByAsk }
-    ensures cause { LineCaused (H.counts host.old) (H.counts host.new) result }
+    ensures cause { LineCaused (H.world.counts host.old) (H.world.counts host.new) result }
 {
     match name_fault(alloc, state.actor.bytes(), change_name(wanted)) {
         Ok(Some(line)) => Ok(Asked::Refused { line }),

@@ -115,7 +115,7 @@ impl Session {
     /// Takes one input line, without its line feed, and carries out the lines that it brings too. The state changes only
     /// where the run goes on, and not where the line is refused.
     pub fn step<H: Host>(&mut self, line: &[u8], host: &mut H) -> Result<Flow, RunError>
-        ensures ran { Ran H.start H.told H.counts host.old host.new
+        ensures ran { Ran H.world host.old host.new
             (λ es. LineGoes self.old line.now es (in_play (next_of self.new) result)) }
         ensures refused { (fault : List ℕ) → commanded Origin.Input self.old.desk line.now ≡ Err fault
             → self.new ≡ self.old }
@@ -124,7 +124,7 @@ impl Session {
         ensures done { IfOk result EndsByLine }
         ensures end { IfOk result (StaysAtEnd self.old self.new) }
         ensures err { OnErr result (self.new ≡ self.old) }
-        ensures cause { LineCaused (H.counts host.old) (H.counts host.new) result }
+        ensures cause { LineCaused (H.world.counts host.old) (H.world.counts host.new) result }
     {
         let result = input_line(self.alloc, &mut self.state, host, line);
         rest(self.alloc, &mut self.state);

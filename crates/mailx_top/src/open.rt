@@ -28,9 +28,9 @@ const USAGE: &[u8] =
 
 /// Says the usage and ends.
 pub(crate) fn end_with_usage<H: Host>(host: &mut H) -> Result<Status, Stop>
-    ensures ran { (env : Environment) → Ran H.start H.told H.counts host.old host.new
+    ensures ran { (env : Environment) → Ran H.world host.old host.new
         (λ es. Loop (round env) (Opening None) es result) }
-    ensures cause { Caused (H.counts host.old) (H.counts host.new) result }
+    ensures cause { Caused (H.world.counts host.old) (H.world.counts host.new) result }
     ensures named { EndsOr Status.Usage result }
 {
     match say(host, USAGE) {
@@ -41,9 +41,9 @@ pub(crate) fn end_with_usage<H: Host>(host: &mut H) -> Result<Status, Stop>
 
 // Says a line and ends.
 fn end_with<H: Host>(host: &mut H, line: &[u8], end: Status) -> Result<Option<Status>, Stop>
-    ensures ran { (s : SessionState) → Ran H.start H.told H.counts host.old host.new
+    ensures ran { (s : SessionState) → Ran H.world host.old host.new
         (λ es. Goes (says_and_ends line.now end) es (next_state s no_input result)) }
-    ensures cause { Caused (H.counts host.old) (H.counts host.new) result }
+    ensures cause { Caused (H.world.counts host.old) (H.world.counts host.new) result }
     ensures same_end { IfOk result (λ e. e ≡ Some end) }
     ensures ends { EndsOrOpens end result }
 {
@@ -70,9 +70,9 @@ fn end_at_file<H: Host>(
     fault: &[u8],
     end: Status,
 ) -> Result<Option<Status>, Stop>
-    ensures ran { (s : SessionState) → Ran H.start H.told H.counts host.old host.new
+    ensures ran { (s : SessionState) → Ran H.world host.old host.new
         (λ es. Goes (says_and_ends (with_feed (name.now ++ fault.now)) end) es (next_state s no_input result)) }
-    ensures cause { Caused (H.counts host.old) (H.counts host.new) result }
+    ensures cause { Caused (H.world.counts host.old) (H.world.counts host.new) result }
     ensures same_end { IfOk result (λ e. e ≡ Some end) }
     ensures ends { EndsOrOpens end result }
 {
@@ -84,9 +84,9 @@ fn end_at_file<H: Host>(
 
 // Says the greeting of a session.
 fn greet_aloud<H: Host>(host: &mut H, session: &Session) -> Result<Option<Status>, Stop>
-    ensures ran { Ran H.start H.told H.counts host.old host.new
+    ensures ran { Ran H.world host.old host.new
         (λ es. Goes (greeted false session.now) es (next_state session.now no_input result)) }
-    ensures cause { Caused (H.counts host.old) (H.counts host.new) result }
+    ensures cause { Caused (H.world.counts host.old) (H.world.counts host.new) result }
     ensures plain { IfOk result (λ end. IfSome end (λ e. IsEnd e)) }
 {
     let greeting = match session.greeting() {
@@ -101,9 +101,9 @@ fn greet_aloud<H: Host>(host: &mut H, session: &Session) -> Result<Option<Status
 
 // Says the greeting of a session, unless it is to be quiet.
 fn greet<H: Host>(host: &mut H, quiet: bool, session: &Session) -> Result<Option<Status>, Stop>
-    ensures ran { Ran H.start H.told H.counts host.old host.new
+    ensures ran { Ran H.world host.old host.new
         (λ es. Goes (greeted quiet session.now) es (next_state session.now no_input result)) }
-    ensures cause { Caused (H.counts host.old) (H.counts host.new) result }
+    ensures cause { Caused (H.world.counts host.old) (H.world.counts host.new) result }
     ensures plain { IfOk result (λ end. IfSome end (λ e. IsEnd e)) }
 {
     if quiet {
@@ -134,10 +134,10 @@ fn begin<H: Host>(
     folder: Folder,
     session: &mut Session,
 ) -> Result<Option<Status>, Stop>
-    ensures ran { Ran H.start H.told H.counts host.old host.new
+    ensures ran { Ran H.world host.old host.new
         (λ es. Goes (begun session.old (start_from start.entry) folder (texts_of folder))
         es (next_state session.new no_input result)) }
-    ensures cause { Caused (H.counts host.old) (H.counts host.new) result }
+    ensures cause { Caused (H.world.counts host.old) (H.world.counts host.new) result }
     ensures plain { IfOk result (λ end. IfSome end (λ e. IsEnd e)) }
 {
     match put_folder(alloc, session, start.file, folder) {
@@ -153,10 +153,10 @@ fn open_bytes<H: Host>(
     bytes: Text,
     session: &mut Session,
 ) -> Result<Option<Status>, Stop>
-    ensures ran { Ran H.start H.told H.counts host.old host.new
+    ensures ran { Ran H.world host.old host.new
         (λ es. Goes (with_list session.old (start_from start.entry) bytes (list_of bytes))
         es (next_state session.new no_input result)) }
-    ensures cause { Caused (H.counts host.old) (H.counts host.new) result }
+    ensures cause { Caused (H.world.counts host.old) (H.world.counts host.new) result }
     ensures plain { IfOk result (λ end. IfSome end (λ e. IsEnd e)) }
 {
     match Folder::open(alloc, bytes) {
@@ -190,9 +190,9 @@ fn open_found<H: Host>(
     found: Found,
     session: &mut Session,
 ) -> Result<Option<Status>, Stop>
-    ensures ran { Ran H.start H.told H.counts host.old host.new
+    ensures ran { Ran H.world host.old host.new
         (λ es. Goes (loaded session.old (start_from start.entry) found) es (next_state session.new no_input result)) }
-    ensures cause { Caused (H.counts host.old) (H.counts host.new) result }
+    ensures cause { Caused (H.world.counts host.old) (H.world.counts host.new) result }
     ensures plain { IfOk result (λ end. IfSome end (λ e. IsEnd e)) }
 {
     match found {
@@ -220,10 +220,10 @@ fn load_and_open<H: Host>(
     session: &mut Session,
 ) -> Result<Option<Status>, Stop>
     requires { is_short_name start.file.now ≡ true }
-    ensures ran { Ran H.start H.told H.counts host.old host.new
+    ensures ran { Ran H.world host.old host.new
         (λ es. Goes (Ask (Read start.entry.file.now) (loaded session.old (start_from start.entry)))
         es (next_state session.new no_input result)) }
-    ensures cause { Caused (H.counts host.old) (H.counts host.new) result }
+    ensures cause { Caused (H.world.counts host.old) (H.world.counts host.new) result }
     ensures plain { IfOk result (λ end. IfSome end (λ e. IsEnd e)) }
 {
     match load(alloc, host, start.file) {
@@ -239,9 +239,9 @@ pub(crate) fn open<H: Host>(
     start: Wanted<'_>,
     session: &mut Session,
 ) -> Result<Option<Status>, Stop>
-    ensures ran { Ran H.start H.told H.counts host.old host.new
+    ensures ran { Ran H.world host.old host.new
         (λ es. Goes (starting session.old (start_from start.entry)) es (next_state session.new no_input result)) }
-    ensures cause { Caused (H.counts host.old) (H.counts host.new) result }
+    ensures cause { Caused (H.world.counts host.old) (H.world.counts host.new) result }
     ensures plain { IfOk result (λ end. IfSome end (λ e. IsEnd e)) }
     ensures bad_name { is_short_name start.entry.file.now ≡ false → EndsOrOpens Status.NoFolder result }
 {

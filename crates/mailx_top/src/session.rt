@@ -28,10 +28,10 @@ fn prompt(session: &Session) -> &[u8]
 
 // Says the prompt on a terminal.
 fn say_prompt<H: Host>(host: &mut H, session: &Session) -> Result<(), Stop>
-    ensures ran { Ran H.start H.told H.counts host.old host.new
+    ensures ran { Ran H.world host.old host.new
         (λ es. Goes (prompted session.now.terminal session.now.desk) es result) }
     ensures idle { session.now.frames ≡ [] }
-    ensures cause { Caused (H.counts host.old) (H.counts host.new) result }
+    ensures cause { Caused (H.world.counts host.old) (H.world.counts host.new) result }
 {
     if session.state().terminal {
         say(host, prompt(session))
@@ -53,9 +53,9 @@ fn stop_of(error: &RunError) -> Stop
 
 // Takes a line.
 fn step<H: Host>(host: &mut H, session: &mut Session, line: &[u8]) -> Result<Option<Status>, Stop>
-    ensures ran { Ran H.start H.told H.counts host.old host.new
+    ensures ran { Ran H.world host.old host.new
         (λ es. LineGoes session.old line.now es (after_line session.new result)) }
-    ensures cause { Caused (H.counts host.old) (H.counts host.new) result }
+    ensures cause { Caused (H.world.counts host.old) (H.world.counts host.new) result }
     ensures line_end { IfOk result (λ end. IfSome end IsLineEnd) }
 {
     match session.step(line, host) {
@@ -73,10 +73,10 @@ fn next_line<H: Host>(
     session: &mut Session,
 ) -> Result<Option<Status>, Stop>
     requires { session.old.frames ≡ [] }
-    ensures ran { (env : Environment) → Ran H.start H.told H.counts host.old host.new
+    ensures ran { (env : Environment) → Ran H.world host.old host.new
         (λ es. LeadsAfterPrompt env session.old reader.old es (next_state session.new reader.new result)) }
-    ensures fall { NeverFall (H.counts host.old) (H.counts host.new) }
-    ensures cause { Caused (H.counts host.old) (H.counts host.new) result }
+    ensures fall { NeverFall (H.world.counts host.old) (H.world.counts host.new) }
+    ensures cause { Caused (H.world.counts host.old) (H.world.counts host.new) result }
     ensures progress { IfOk result (λ end. IfNone end (left reader.new < left reader.old)) }
     ensures line_end { IfOk result (λ end. IfSome end IsLineEnd) }
 {
@@ -93,10 +93,10 @@ fn one_line<H: Host>(
     reader: &mut Reader,
     session: &mut Session,
 ) -> Result<Option<Status>, Stop>
-    ensures ran { (env : Environment) → Ran H.start H.told H.counts host.old host.new
+    ensures ran { (env : Environment) → Ran H.world host.old host.new
         (λ es. LeadsTo env (Reading session.old reader.old) es (next_state session.new reader.new result)) }
-    ensures fall { NeverFall (H.counts host.old) (H.counts host.new) }
-    ensures cause { Caused (H.counts host.old) (H.counts host.new) result }
+    ensures fall { NeverFall (H.world.counts host.old) (H.world.counts host.new) }
+    ensures cause { Caused (H.world.counts host.old) (H.world.counts host.new) result }
     ensures progress { IfOk result (λ end. IfNone end (left reader.new < left reader.old)) }
     ensures line_end { IfOk result (λ end. IfSome end IsLineEnd) }
 {
@@ -112,9 +112,9 @@ pub(crate) fn lines<H: Host>(
     host: &mut H,
     session: &mut Session,
 ) -> Result<Status, Stop>
-    ensures ran { (env : Environment) → Ran H.start H.told H.counts host.old host.new
+    ensures ran { (env : Environment) → Ran H.world host.old host.new
         (λ es. Loop (round env) (Reading session.old no_input) es result) }
-    ensures cause { Caused (H.counts host.old) (H.counts host.new) result }
+    ensures cause { Caused (H.world.counts host.old) (H.world.counts host.new) result }
     ensures line_end { IfOk result IsLineEnd }
 {
     let mut reader = Reader::new(alloc);

@@ -41,9 +41,9 @@ fn play_session<H: Host>(
     session: &mut Session,
 ) -> Result<Status, Stop>
     requires { session.old ≡ first_of env.now }
-    ensures ran { Ran H.start H.told H.counts host.old host.new
+    ensures ran { Ran H.world host.old host.new
         (λ es. Loop (round env.now) (Opening (Some (start_from start.entry))) es result) }
-    ensures cause { Caused (H.counts host.old) (H.counts host.new) result }
+    ensures cause { Caused (H.world.counts host.old) (H.world.counts host.new) result }
     ensures plain { IfOk result (λ e. IsEnd e) }
     ensures bad_name { is_short_name start.entry.file.now ≡ false → EndsOr Status.NoFolder result }
 {
@@ -61,9 +61,9 @@ fn start_session<H: Host>(
     start: Wanted<'_>,
 ) -> Result<Status, Stop>
     requires { knows_user env.now.pairs ≡ true }
-    ensures ran { Ran H.start H.told H.counts host.old host.new
+    ensures ran { Ran H.world host.old host.new
         (λ es. Loop (round env.now) (Opening (Some (start_from start.entry))) es result) }
-    ensures cause { Caused (H.counts host.old) (H.counts host.new) result }
+    ensures cause { Caused (H.world.counts host.old) (H.world.counts host.new) result }
     ensures plain { IfOk result (λ e. IsEnd e) }
     ensures bad_name { is_short_name start.entry.file.now ≡ false → EndsOr Status.NoFolder result }
 {
@@ -79,9 +79,9 @@ fn play<H: Host>(
     words: &[Text],
     env: &Environment,
 ) -> Result<Status, Stop>
-    ensures ran { Ran H.start H.told H.counts host.old host.new
+    ensures ran { Ran H.world host.old host.new
         (λ es. Loop (round env.now) (Opening (start_of words.now env.now.pairs)) es result) }
-    ensures cause { Caused (H.counts host.old) (H.counts host.new) result }
+    ensures cause { Caused (H.world.counts host.old) (H.world.counts host.new) result }
     ensures named { EndsAsNamed (start_of words.now env.now.pairs) result }
 {
     match start_of(words, env) {
@@ -139,9 +139,9 @@ fn play_to_end<H: Host>(
     words: &[Text],
     env: &Environment,
 ) -> Result<End, Stop>
-    ensures ran { Ran H.start H.told H.counts host.old host.new
+    ensures ran { Ran H.world host.old host.new
         (λ es. Loop (round env.now) (Opening (start_of words.now env.now.pairs)) es (ended_as result)) }
-    ensures cause { Caused (H.counts host.old) (H.counts host.new) result }
+    ensures cause { Caused (H.world.counts host.old) (H.world.counts host.new) result }
     ensures named { EndsAsNamed (start_of words.now env.now.pairs) (ended_as result) }
     ensures line { IfOk result (λ end. end.line ≡ line_at_end (actor_in env.now) end.status) }
 {
@@ -156,7 +156,7 @@ fn play_to_end<H: Host>(
 
 // Says a last line, where the words were read.
 fn say_last<H: Host>(host: &mut H, words: &[Text], line: &[u8])
-    ensures { Ran H.start H.told H.counts host.old host.new (SaysLast (are_read words.now) line.now) }
+    ensures { Ran H.world host.old host.new (SaysLast (are_read words.now) line.now) }
 {
     if are_read(words) {
         let _ = host.say(line);
@@ -165,7 +165,7 @@ fn say_last<H: Host>(host: &mut H, words: &[Text], line: &[u8])
 
 // Says the line of an end, where there is one and the words were read.
 fn say_end<H: Host>(host: &mut H, words: &[Text], end: &End)
-    ensures { Ran H.start H.told H.counts host.old host.new (SaysAtEnd (are_read words.now) end.now.line) }
+    ensures { Ran H.world host.old host.new (SaysAtEnd (are_read words.now) end.now.line) }
 {
     match &end.line {
         Some(line) => say_last(host, words, line.bytes()),
@@ -175,7 +175,7 @@ fn say_end<H: Host>(host: &mut H, words: &[Text], end: &End)
 
 // Says why the run is cut off, where its words were read.
 fn say_cut<H: Host>(host: &mut H, words: &[Text], cause: Stop)
-    ensures { Ran H.start H.told H.counts host.old host.new (SaysLast (are_read words.now) (line_at_stop cause)) }
+    ensures { Ran H.world host.old host.new (SaysLast (are_read words.now) (line_at_stop cause)) }
 {
     if are_read(words) {
         let _ = host.say(stop_line(cause));
@@ -187,11 +187,11 @@ fn say_cut<H: Host>(host: &mut H, words: &[Text], cause: Stop)
 /// its name.
 pub fn run<H: Host>(alloc: Global, words: &[Text], env: &Environment, host: &mut H) -> Status
     // The own events are those of the command meaning, and output and status are its.
-    ensures run { Ran H.start H.told H.counts host.old host.new (IsRun words.now env.now result) }
+    ensures run { Ran H.world host.old host.new (IsRun words.now env.now result) }
     // A fault is answered only where the host's count of it rose.
-    ensures input_fault { result ≡ Status.InputFault → Rose (H.counts host.old).ins (H.counts host.new).ins }
-    ensures output_fault { result ≡ Status.OutputFault → Rose (H.counts host.old).outs (H.counts host.new).outs }
-    ensures disk_fault { result ≡ Status.DiskFault → Rose (H.counts host.old).disks (H.counts host.new).disks }
+    ensures input_fault { result ≡ Status.InputFault → Rose (H.world.counts host.old).ins (H.world.counts host.new).ins }
+    ensures output_fault { result ≡ Status.OutputFault → Rose (H.world.counts host.old).outs (H.world.counts host.new).outs }
+    ensures disk_fault { result ≡ Status.DiskFault → Rose (H.world.counts host.old).disks (H.world.counts host.new).disks }
     // The usage is answered exactly where the words or the environment are refused.
     ensures usage_only { result ≡ Status.Usage → start_of words.now env.now.pairs ≡ None }
     ensures usage_always { start_of words.now env.now.pairs ≡ None → IsOrCut Status.Usage result }
@@ -199,9 +199,9 @@ pub fn run<H: Host>(alloc: Global, words: &[Text], env: &Environment, host: &mut
     ensures bad_name { IsBadName (start_of words.now env.now.pairs) → IsOrCut Status.NoFolder result }
     // From a disk that is sound and carries nothing of the token, with lawful steps of others: at every moment, and wherever
     // the run stops, what recovery would make of the files is what the accepted commits and others give.
-    ensures safe { (before es : List Event) → H.told host.old ≡ Some before → H.told host.new ≡ Some (before ++ es)
-        → MayCommit (actor_in env.now) env.now.token (disk (H.start host.old) before) es
-        → IsSafe words.now env.now result (disk (H.start host.old) before) es }
+    ensures safe { (before es : List Event) → H.world.told host.old ≡ Some before → H.world.told host.new ≡ Some (before ++ es)
+        → MayCommit (actor_in env.now) env.now.token (disk (H.world.start host.old) before) es
+        → IsSafe words.now env.now result (disk (H.world.start host.old) before) es }
 {
     // the clause `safe` speaks of a token of 64 bits
     let _token = env.token;

@@ -8,10 +8,8 @@ use Rattle.host_port.specs.declared.event.Event.TheVariants as event
 use Rattle.host_port.specs.Disk.{Disk, disk}
 use Rattle.host_port.specs.Ends.{stopped}
 use Rattle.host_port.specs.Own.{own, OnlyLooks}
-use Rattle.host_port.specs.Calls.{Counts}
-use Rattle.host_port.specs.Ran.{Honest, Ran}
+use Rattle.host_port.specs.Ran.{Honest}
 use Rattle.host_port.proofs.RanLemmas.{disk-append}
-use Rattle.std.proofs.lemmas.List.{append_cancel_left}
 use Rattle.folder_change.specs.declared.change.Change.{Change}
 use Rattle.commit_machine.specs.Names.{is_record_name, record_name}
 use Rattle.commit_machine.specs.Records.{record_in}
@@ -201,16 +199,3 @@ neutral-commit P (Changes c) h = absurd (cc h)
 pub neutral-commits : {R : Type 0} (P : Commit → Type 0) (p : Play R) → AllActs is_neutral p → EachCommit P p
 neutral-commits P (Ret r) all = tt
 neutral-commits P (Ask act go) all = (neutral-commit P act all.0, λ a. neutral-commits P (go a) (all.1 a))
-
--- a run that is told, of rounds and then of events that only look
-pub ran-safe : {H : Type 0} {start : H → Disk} {told : H → Option (List Event)} {counts : H → Counts} {old new : H} {W : List Event → Type 0} (before es : List Event) → Ran start told counts old new W
-    → told old ≡ Some before → told new ≡ Some (before ++ es) → Honest (disk (start old) before) es × W (own es)
-ran-safe {start = start} {told = told} {old = old} {W = W} before es ran at to =
-    let t = ran.told_is (before ++ es) to in
-    let same : Some before ≡ Some t.0 = sym at ∙ t.1 in
-    let first : before ≡ t.0 = cc in
-    let added : es ≡ t.2.added = append_cancel_left before es t.2.added (t.2.is ∙ ap (λ (r : List Event). r ++ t.2.added) (sym first)) in
-    let D : Disk → Type 0 = λ d. Honest d t.2.added in
-    let E : List Event → Type 0 = λ xs. Honest (disk (start old) before) xs in
-    let P : List Event → Type 0 = λ xs. W (own xs) in
-    (subst E (sym added) (subst D (ap (disk (start old)) (sym first)) t.2.honest), subst P (sym added) t.2.own_ones)

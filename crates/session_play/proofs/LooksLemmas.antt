@@ -6,7 +6,7 @@ use Rattle.std.specs.declared.result.Result.{Result}
 use Rattle.host_port.specs.declared.event.Event.{Event}
 use Rattle.host_port.specs.declared.event.Event.TheVariants as event
 use Rattle.host_port.specs.Disk.{Disk, disk}
-use Rattle.host_port.specs.Calls.{Counts}
+use Rattle.host_port.specs.Calls.{World}
 use Rattle.host_port.specs.Own.{own, of_others, OnlyLooks}
 use Rattle.host_port.specs.Ran.{Ran}
 use Rattle.host_port.proofs.RanLemmas.{own-append, disk-append}
@@ -106,14 +106,14 @@ same-rest [] xs ys e = e
 same-rest (b ∷ bs) xs ys e = same-rest bs xs ys (let rest : bs ++ xs ≡ bs ++ ys = cc in rest)
 
 -- where a run's own events change no disk, the disk at each moment of it is the one at its start with the steps of others
-pub looked : {H : Type 0} {start : H → Disk} {told : H → Option (List Event)} {counts : H → Counts} {old new : H} {P : List Event → Type 0}
-    → ((es : List Event) → P es → OnlyLooks es) → Ran start told counts old new P
-    → (before front rest : List Event) → told old ≡ Some before → told new ≡ Some (before ++ (front ++ rest))
-    → disk (start new) (before ++ front) ≡ disk (start new) (before ++ of_others front)
-looked {start = start} {new = new} looks ran before front rest was told =
+pub looked : {H : Type 0} {w : World H} {old new : H} {P : List Event → Type 0}
+    → ((es : List Event) → P es → OnlyLooks es) → Ran w old new P
+    → (before front rest : List Event) → w.told old ≡ Some before → w.told new ≡ Some (before ++ (front ++ rest))
+    → disk (w.start new) (before ++ front) ≡ disk (w.start new) (before ++ of_others front)
+looked {w = w} {new = new} looks ran before front rest was told =
     let s = ran.told_is (before ++ (front ++ rest)) told in
     let same : s.0 ≡ before = (let both = sym s.1 ∙ was in cc) in
     let added : front ++ rest ≡ s.2.added = same-rest before (front ++ rest) s.2.added (s.2.is ∙ ap (λ (b : List Event). b ++ s.2.added) same) in
     let all = looks (own s.2.added) s.2.own_ones in
     let fronts : OnlyLooks (own front) = looks-front (own front) (own rest) (subst OnlyLooks (ap own (sym added) ∙ own-append front rest) all) in
-    disk-append (start new) before front ∙ disk-of_others (disk (start new) before) front fronts ∙ sym (disk-append (start new) before (of_others front))
+    disk-append (w.start new) before front ∙ disk-of_others (disk (w.start new) before) front fronts ∙ sym (disk-append (w.start new) before (of_others front))

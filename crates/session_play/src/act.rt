@@ -21,8 +21,8 @@ pub enum Found {
 
 /// Says these bytes.
 pub fn say<H: Host>(host: &mut H, bytes: &[u8]) -> Result<(), Stop>
-    ensures ran { Ran H.start H.told H.counts host.old host.new (λ es. Goes (Ask (Say bytes.now) Ret) es result) }
-    ensures cause { Caused (H.counts host.old) (H.counts host.new) result }
+    ensures ran { Ran H.world host.old host.new (λ es. Goes (Ask (Say bytes.now) Ret) es result) }
+    ensures cause { Caused (H.world.counts host.old) (H.world.counts host.new) result }
     ensures only_output { IfErr result (λ cause. cause ≡ Stop.Output) }
 {
     match host.say(bytes) {
@@ -44,8 +44,8 @@ fn found_of(answer: LoadAnswer) -> Found
 /// Loads a file; a failure cuts the run off.
 pub fn load<H: Host>(alloc: Global, host: &mut H, name: &[u8]) -> Result<Found, Stop>
     requires { IsFileName name.now }
-    ensures ran { Ran H.start H.told H.counts host.old host.new (λ es. Goes (Ask (Read name.now) Ret) es result) }
-    ensures cause { Caused (H.counts host.old) (H.counts host.new) result }
+    ensures ran { Ran H.world host.old host.new (λ es. Goes (Ask (Read name.now) Ret) es result) }
+    ensures cause { Caused (H.world.counts host.old) (H.world.counts host.new) result }
     ensures only_load { IfErr result IsLoadCut }
 {
     match host.load(alloc, name) {
@@ -59,8 +59,8 @@ pub fn load<H: Host>(alloc: Global, host: &mut H, name: &[u8]) -> Result<Found, 
 /// Tries to load a file; None where the load fails.
 pub fn try_load<H: Host>(alloc: Global, host: &mut H, name: &[u8]) -> Result<Option<Found>, Stop>
     requires { IsFileName name.now }
-    ensures ran { Ran H.start H.told H.counts host.old host.new (λ es. Goes (Ask (Try name.now) Ret) es result) }
-    ensures cause { Caused (H.counts host.old) (H.counts host.new) result }
+    ensures ran { Ran H.world host.old host.new (λ es. Goes (Ask (Try name.now) Ret) es result) }
+    ensures cause { Caused (H.world.counts host.old) (H.world.counts host.new) result }
     ensures only_memory { IfErr result (λ cause. cause ≡ Stop.Memory) }
 {
     match host.load(alloc, name) {

@@ -65,8 +65,8 @@ pub fn change<H: Host>(
     requires files { AreFiles actor.now changes.now }
     requires based { All (λ c. IsTrue (is_rewrite c) → IsSome base) changes.now }
     ensures ran { let wanted = wanted_of actor.now token changes.now (base_list (option_copied base.entry)) in
-        Ran H.start H.told H.counts host.old host.new (λ es. Goes (Ask (Changes wanted) Ret) es result) }
-    ensures cause { Caused (H.counts host.old) (H.counts host.new) result }
+        Ran H.world host.old host.new (λ es. Goes (Ask (Changes wanted) Ret) es result) }
+    ensures cause { Caused (H.world.counts host.old) (H.world.counts host.new) result }
     ensures only_disk { IfErr result IsLoadCut }
 {
     taken(commit(alloc, actor, token, changes, base, host))

@@ -135,8 +135,8 @@ impl Reader {
     // Takes more input, where nothing can be handed out.
     fn fill<H: Host>(&mut self, host: &mut H) -> Result<(), Stop>
         requires { next_line self.old ≡ None }
-        ensures ran { Ran H.start H.told H.counts host.old host.new (TookSome result self.old self.new) }
-        ensures cause { Caused (H.counts host.old) (H.counts host.new) result }
+        ensures ran { Ran H.world host.old host.new (TookSome result self.old self.new) }
+        ensures cause { Caused (H.world.counts host.old) (H.world.counts host.new) result }
         ensures more { OnOk result ((self.old.taken < self.new.taken) ⊎ (self.new.ended ≡ true)) }
         ensures not_less { OnOk result (self.old.taken ≤ self.new.taken) }
         ensures within { OnOk result (self.new.taken ≤ input_limit) }
@@ -152,9 +152,9 @@ impl Reader {
 
     /// The next line without its line feed, or None at the end. A last line may lack its line feed.
     pub fn line<H: Host>(&mut self, alloc: Global, host: &mut H) -> Result<Option<Text>, Stop>
-        ensures ran { Ran H.start H.told H.counts host.old host.new
+        ensures ran { Ran H.world host.old host.new
             (λ es. Goes (Ask (Line self.old) Ret) es (with_input result self.new)) }
-        ensures cause { Caused (H.counts host.old) (H.counts host.new) result }
+        ensures cause { Caused (H.world.counts host.old) (H.world.counts host.new) result }
         ensures progress { IfOk result (λ line. OnSome line (left self.new < left self.old)) }
     {
         'lines: loop {

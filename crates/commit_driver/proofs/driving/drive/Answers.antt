@@ -8,7 +8,7 @@ use Rattle.commit_driver.proofs.driving.drive.Goals as goal
 pub loop-call-init : goal.loop-call-init
 loop-call-init g c =
     let base = base_list (option_copied c.args.base) in
-    let D : Place → Type 0 = λ p. Driving g.H.Host.start g.H.Host.told g.H.Host.counts c.args.plan.now c.args.changes.now base c.args.host.now c.args.host.now p in
+    let D : Place → Type 0 = λ p. Driving g.H.Host.world c.args.plan.now c.args.changes.now base c.args.host.now c.args.host.now p in
     subst D (sym c.requires.begun) (driving-start c.args.plan.now c.args.changes.now base c.args.start.files c.requires.room)
 
 pub loop-call-preserved : goal.loop-call-preserved

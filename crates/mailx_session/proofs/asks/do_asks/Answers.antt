@@ -45,4 +45,4 @@ returns-clause-ran g c =
     Ran-map (asked-all asked s s c.args.asks.now c.loop-ask.ask-index c.loop-ask-test.false) c.loop-ask.invariant.ran
 
 pub returns-in-Err-clause-cause : goal.returns-in-Err-clause-cause
-returns-in-Err-clause-cause g c = caused-later (g.H.Host.counts c.args.host.now) (g.H.Host.counts c.loop-ask.host) (g.H.Host.counts c.do_ask.new.host) c.in-Err.error c.loop-ask.invariant.fall c.in-Err.ensures.cause
+returns-in-Err-clause-cause g c = caused-later (g.H.Host.world.counts c.args.host.now) (g.H.Host.world.counts c.loop-ask.host) (g.H.Host.world.counts c.do_ask.new.host) c.in-Err.error c.loop-ask.invariant.fall c.in-Err.ensures.cause

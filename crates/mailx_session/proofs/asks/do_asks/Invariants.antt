@@ -6,6 +6,6 @@ use Rattle.mailx_session.proofs.asks.do_asks.Given as goal
 
 abbrev pub invariant-loop-ask : goal.invariant-loop-ask
 invariant-loop-ask g l = record {
-  fall : NeverFall (g.H.Host.counts l.fn.host) (g.H.Host.counts l.host);
-  ran : Ran g.H.Host.start g.H.Host.told g.H.Host.counts l.fn.host l.host (LeftAt asked l.state l.asks l.ask-index l.state);
+  fall : NeverFall (g.H.Host.world.counts l.fn.host) (g.H.Host.world.counts l.host);
+  ran : Ran g.H.Host.world l.fn.host l.host (LeftAt asked l.state l.asks l.ask-index l.state);
 }

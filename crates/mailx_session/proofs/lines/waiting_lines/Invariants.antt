@@ -9,8 +9,8 @@ use Rattle.mailx_session.proofs.lines.waiting_lines.Given as goal
 abbrev pub invariant-lines : goal.invariant-lines
 invariant-lines g l = record {
   state : IsState l.state;
-  fall : NeverFall (g.H.Host.counts l.fn.host) (g.H.Host.counts l.host);
-  ran : Ran g.H.Host.start g.H.Host.told g.H.Host.counts l.fn.host l.host (WaitsSoFar l.fn.state l.state);
+  fall : NeverFall (g.H.Host.world.counts l.fn.host) (g.H.Host.world.counts l.host);
+  ran : Ran g.H.Host.world l.fn.host l.host (WaitsSoFar l.fn.state l.state);
   nothing : l.fn.state.frames ≡ [] → l.state ≡ l.fn.state;
 }
 

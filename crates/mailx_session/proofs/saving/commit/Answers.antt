@@ -8,4 +8,4 @@ returns-clause-ran g c =
     Ran-map (commit-follows c.args.state.now c.args.wanted.now c.change-answer.result c.followed.result (rw c.change_name.ensures at (c.followed.ensures.follows c.args.state.now))) (rw (c.from_ref.ensures.value, c.bytes-actor.ensures) at c.change-answer.ensures.ran)
 
 pub returns-clause-cause : goal.returns-clause-cause
-returns-clause-cause g c = commit-caused c.args.state.now _ (g.H.Host.counts c.args.host.now) (g.H.Host.counts c.change-answer.new.host) c.change-answer.result c.followed.result (c.followed.ensures.follows c.args.state.now) c.change-answer.ensures.cause
+returns-clause-cause g c = commit-caused c.args.state.now _ (g.H.Host.world.counts c.args.host.now) (g.H.Host.world.counts c.change-answer.new.host) c.change-answer.result c.followed.result (c.followed.ensures.follows c.args.state.now) c.change-answer.ensures.cause

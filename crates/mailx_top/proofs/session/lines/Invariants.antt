@@ -8,8 +8,8 @@ use Rattle.mailx_top.proofs.session.lines.Given as goal
 
 abbrev pub invariant-lines : goal.invariant-lines
 invariant-lines g l = record {
-  fall : NeverFall (g.H.Host.counts l.fn.host) (g.H.Host.counts l.host);
-  ran : (env : Environment) → Ran g.H.Host.start g.H.Host.told g.H.Host.counts l.fn.host l.host
+  fall : NeverFall (g.H.Host.world.counts l.fn.host) (g.H.Host.world.counts l.host);
+  ran : (env : Environment) → Ran g.H.Host.world l.fn.host l.host
       (SoFar (round env) (Reading l.fn.session no_input) (Reading l.session l.reader));
 }
 

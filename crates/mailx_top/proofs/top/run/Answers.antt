@@ -1,11 +1,10 @@
 use Rattle.std.proofs.Common.{◌<◌, ◌^◌, arith, refl, Ok, Err}
-use Rattle.host_port.proofs.RanLemmas.{Ran-then}
+use Rattle.host_port.proofs.RanLemmas.{Ran-then, Ran-since}
 use Rattle.session_play.proofs.CauseLemmas.{loop-explained}
 use Rattle.mailx_top.specs.Meaning.{round, input_of, is_opening}
 use Rattle.mailx_top.proofs.EndLemmas.{end-no-fault, only-usage, usage-ended, usage-cut, bad-ended, bad-cut}
 use Rattle.mailx_top.proofs.OpeningLemmas.{opening-explained}
 use Rattle.mailx_top.proofs.RoundLemmas.{threads-round, loads-round}
-use Rattle.play_safety.proofs.LawLemmas.{ran-safe}
 use Rattle.mailx_top.proofs.CrashLemmas.{safely}
 use Rattle.mailx_top.proofs.top.run.Goals as goal
 
@@ -53,12 +52,12 @@ returns-in-Err-clause-run g c =
 
 pub returns-in-Ok-clause-safe : goal.returns-in-Ok-clause-safe
 returns-in-Ok-clause-safe g c = λ before es at to may.
-    let r = ran-safe before es (returns-in-Ok-clause-run g c) at to in
+    let r = Ran-since before es (returns-in-Ok-clause-run g c) at to in
     let fits : c.args.env.now.token < 2 ^ 64 = omega arith in
     safely c.args.words.now c.args.env.now c.in-Ok.«end».status _ es fits r.0 may r.1
 
 pub returns-in-Err-clause-safe : goal.returns-in-Err-clause-safe
 returns-in-Err-clause-safe g c = λ before es at to may.
-    let r = ran-safe before es (returns-in-Err-clause-run g c) at to in
+    let r = Ran-since before es (returns-in-Err-clause-run g c) at to in
     let fits : c.args.env.now.token < 2 ^ 64 = omega arith in
     safely c.args.words.now c.args.env.now c.stop_status.result _ es fits r.0 may r.1

@@ -10,7 +10,7 @@ returns-clause-ran g c =
     rw c.taken.ensures (Ran-map (λ es h. commit-goes (wanted_of c.args.actor.now c.args.token c.args.changes.now (base_list (option_copied c.args.base))) c.commit.result es h) c.commit.ensures.ran)
 
 pub returns-clause-cause : goal.returns-clause-cause
-returns-clause-cause g c = rw c.taken.ensures (commit-caused (g.H.Host.counts c.args.host.now) (g.H.Host.counts c.commit.new.host) c.commit.result c.commit.ensures.cause)
+returns-clause-cause g c = rw c.taken.ensures (commit-caused (g.H.Host.world.counts c.args.host.now) (g.H.Host.world.counts c.commit.new.host) c.commit.result c.commit.ensures.cause)
 
 pub returns-clause-only_disk : goal.returns-clause-only_disk
 returns-clause-only_disk g c = rw c.taken.ensures (commit-cut c.commit.result)

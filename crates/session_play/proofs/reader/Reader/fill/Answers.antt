@@ -12,7 +12,7 @@ returns-in-Ok-clause-ran g c =
     called (filled _ c.args.self.now c.take_in.new.self c.in-Ok.n c.fill.new.buf _ c.requires (search rules) (search rules) (search rules) c.take_in.ensures) c.fill.ensures.start c.fill.ensures.counts c.in-Ok.ensures.call
 
 pub returns-in-Ok-clause-cause : goal.returns-in-Ok-clause-cause
-returns-in-Ok-clause-cause g c = in-cause (g.H.Host.counts c.args.host.now) (g.H.Host.counts c.fill.new.self) _ c.args.self.now c.take_in.new.self _ c.take_in.ensures
+returns-in-Ok-clause-cause g c = in-cause (g.H.Host.world.counts c.args.host.now) (g.H.Host.world.counts c.fill.new.self) _ c.args.self.now c.take_in.new.self _ c.take_in.ensures
 
 pub returns-in-Ok-clause-more : goal.returns-in-Ok-clause-more
 returns-in-Ok-clause-more g c = in-ok _ c.args.self.now c.take_in.new.self _ c.take_in.ensures (λ within is. in-more c.args.self.now c.take_in.new.self _ is)

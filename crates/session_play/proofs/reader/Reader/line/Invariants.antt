@@ -5,7 +5,7 @@ use Rattle.session_play.proofs.reader.Reader.line.Given as goal
 
 abbrev pub invariant-lines : goal.invariant-lines
 invariant-lines g l = record {
-  ran : Ran g.H.Host.start g.H.Host.told g.H.Host.counts l.fn.host l.host (λ es. Reads l.fn.self es l.self);
+  ran : Ran g.H.Host.world l.fn.host l.host (λ es. Reads l.fn.self es l.self);
   kept : left l.self ≡ left l.fn.self;
 }
 
