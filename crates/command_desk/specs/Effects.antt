@@ -9,6 +9,7 @@ use Rattle.message_state.specs.States.{after}
 use Rattle.command_desk.specs.declared.desk.Desk.{Desk}
 use Rattle.command_desk.specs.declared.effects.Marking.{Marking}
 use Rattle.command_desk.specs.declared.effects.Effects.{Effects}
+use Rattle.command_desk.specs.Selecting.{last_message}
 
 -- a row once an act was done on its message
 abbrev pub row_after : Act → Row → Row
@@ -36,8 +37,8 @@ with_current desk current fresh = record desk { shown = record desk.shown { curr
 -- the desk after a command: what its effects don't name stays
 abbrev pub effect : Desk → Effects → Desk
 effect desk effects =
-    let marked = with_rows desk (rows_after desk.shown.rows effects.marks) in
-    record (with_current marked (unwrap_or effects.current desk.shown.current) (unwrap_or effects.fresh desk.fresh)) {
+    let with_marks = with_rows desk (rows_after desk.shown.rows effects.marks) in
+    record (with_current with_marks (unwrap_or effects.current desk.shown.current) (unwrap_or effects.fresh desk.fresh)) {
       vars = fold changed desk.vars effects.settings;
       page = unwrap_or effects.page desk.page;
     }
@@ -61,3 +62,11 @@ marking act n = record { row = n - 1; act = act }
 -- an act on each of these
 abbrev pub markings : Act → List ℕ → List Marking
 markings act numbers = map (marking act) numbers
+
+-- an act is done on these, and the last of them is current; it is unwritten, where another was current before
+abbrev pub marked : Desk → Act → List ℕ → Effects
+marked desk act ns = record (moved desk (last_message ns)) { marks = markings act ns }
+
+-- an act is done on these, and the last of them is current and written
+abbrev pub marked_and_written : Act → List ℕ → Effects
+marked_and_written act ns = record (written (last_message ns)) { marks = markings act ns }

@@ -74,3 +74,15 @@ too_large name = with_feed (name ++ codes ": too large")
 -- more files than one commit takes
 abbrev pub too_many_names : List ℕ
 too_many_names = with_feed (codes "too many names")
+
+-- there is no previous file
+abbrev pub no_previous : List ℕ
+no_previous = with_feed (codes "no previous file")
+
+-- the variable `folder` isn't set
+abbrev pub no_folder : List ℕ
+no_folder = with_feed (codes "folder is not set")
+
+-- the message has no author
+abbrev pub no_author : List ℕ
+no_author = with_feed (codes "no author")

@@ -1,12 +1,13 @@
-ghost use Rattle.std.specs.Prelude.{◌≡◌, ◌<◌, map, IfOk};
+ghost use Rattle.std.specs.Prelude.{◌≡◌, ◌≤◌, ◌<◌, map, All, IfOk, IfSome, length};
 ghost use Rattle.std.specs.List.{fold};
 ghost use Rattle.mailx_vars.specs.Changes.{changed};
 ghost use Rattle.message_state.specs.declared.row.Row.{Row};
 ghost use Rattle.message_state.specs.declared.mark.Mark.{Mark};
-ghost use Rattle.command_desk.specs.Desks.{IsDesk};
-ghost use Rattle.command_desk.specs.Effects.{acted, effect, unchanged, moved, written, marking, markings};
+ghost use Rattle.command_desk.specs.Desks.{IsDesk, IsMessageOf};
+ghost use Rattle.command_desk.specs.Effects.{acted, effect, unchanged, moved, written, marking, markings, marked, marked_and_written};
 
 use crate::Desk;
+use crate::selecting::last_message;
 use mail_text::{Items, Memory};
 use mailx_vars::{Setting, Vars};
 use message_state::{Act, Mark, RowList, after};
@@ -142,4 +143,29 @@ pub fn markings(alloc: Global, act: Act, numbers: &[u32]) -> Result<Items<Markin
         marks.push(act_on(act, *number))?;
     }
     Ok(marks)
+}
+
+/// An act on each of these messages, of which the last becomes current; it is unwritten, where another was current before.
+pub fn marked(alloc: Global, desk: &Desk, act: Act, numbers: &[u32]) -> Result<Effects, Memory>
+    requires desk { IsDesk desk.now }
+    requires some { 0 < length numbers.now }
+    requires messages { All (IsMessageOf desk.now.shown) numbers.now }
+    ensures effects { IfOk result (λ effects. effects ≡ marked desk.now act numbers.now) }
+    ensures within { IfOk result (λ effects. IfSome effects.current (λ n. n ≤ length desk.now.shown.rows)) }
+{
+    Ok(Effects {
+        marks: markings(alloc, act, numbers)?,
+        ..moved(alloc, desk, last_message(numbers))
+    })
+}
+
+/// An act on each of these messages, of which the last becomes current and is written.
+pub fn marked_and_written(alloc: Global, act: Act, numbers: &[u32]) -> Result<Effects, Memory>
+    requires { 0 < length numbers.now }
+    ensures { IfOk result (λ effects. effects ≡ marked_and_written act numbers.now) }
+{
+    Ok(Effects {
+        marks: markings(alloc, act, numbers)?,
+        ..written(alloc, last_message(numbers))
+    })
 }

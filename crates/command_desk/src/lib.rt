@@ -10,7 +10,9 @@ mod selecting;
 mod steps;
 
 pub use desk::{Desk, Open};
-pub use effects::{Effects, Marking, act_on, markings, moved, unchanged, written};
+pub use effects::{
+    Effects, Marking, act_on, marked, marked_and_written, markings, moved, unchanged, written,
+};
 pub use faults::fault;
 pub use messages::{message, printed, put_heading, put_printed};
 pub use selecting::{Among, chosen, last_message, single};

@@ -1,17 +1,16 @@
 -- The files that commands name.
-use Rattle.std.specs.Prelude.{ℕ, Bool, not, ◌&&◌, ◌==◌, ◌-◌, nat_lt, List, [], ◌∷◌, length, take, slice_get, codes, unwrap_or, if◌then◌else◌}
+use Rattle.std.specs.Prelude.{ℕ, Bool, not, ◌&&◌, ◌==◌, ◌-◌, nat_lt, List, [], ◌∷◌, length, take, slice_get, unwrap_or, if◌then◌else◌}
 use Rattle.std.specs.List.{list_any}
 use Rattle.std.specs.Option.{option_map_or}
 use Rattle.std.specs.declared.result.Result.{Result}
 use Rattle.std.specs.declared.result.Result.TheVariants.{Ok, Err}
-use Rattle.mail_text.specs.Lines.{with_feed}
 use Rattle.mailx_vars.specs.Expansion.{expansion}
 use Rattle.mailx_vars.specs.declared.error.NameError.{NameError}
 use Rattle.mailx_vars.specs.declared.error.NameError.TheVariants.{NoPrevious, NoFolder, Memory}
 use Rattle.message_list.specs.LocalParts.{local_part}
 use Rattle.command_desk.specs.declared.desk.Desk.{Desk}
 use Rattle.command_desk.specs.Answers.{OrFault}
-use Rattle.command_desk.specs.Faults.{bad_name}
+use Rattle.command_desk.specs.Faults.{bad_name, no_previous, no_folder, no_author}
 
 -- the words of a list in front of a file: all but the last
 abbrev pub list_words : List (List ℕ) → List (List ℕ)
@@ -20,15 +19,6 @@ list_words words = take (length words - 1) words
 -- the word of the file: the last one
 abbrev pub file_word : List (List ℕ) → List ℕ
 file_word words = unwrap_or (slice_get words (length words - 1)) []
-
-abbrev pub no_previous : List ℕ
-no_previous = with_feed (codes "no previous file")
-
-abbrev pub no_folder : List ℕ
-no_folder = with_feed (codes "folder is not set")
-
-abbrev pub no_author : List ℕ
-no_author = with_feed (codes "no author")
 
 -- why a word stands for no file
 abbrev pub name_fault : NameError → List ℕ

@@ -11,18 +11,13 @@ use Rattle.message_state.specs.declared.mark.Act.{Act}
 use Rattle.message_state.specs.declared.mark.Act.TheVariants.{Look, Save}
 use Rattle.message_list.specs.declared.list.Purpose.TheVariants.{Live}
 use Rattle.command_desk.specs.declared.desk.Desk.{Desk}
-use Rattle.command_desk.specs.declared.effects.Effects.{Effects}
 use Rattle.command_desk.specs.Answers.{OrFault, next}
 use Rattle.command_desk.specs.Desks.{message_text}
-use Rattle.command_desk.specs.Effects.{moved, markings}
+use Rattle.command_desk.specs.Effects.{marked}
 use Rattle.command_desk.specs.Faults.{bad_arguments}
-use Rattle.command_desk.specs.Selecting.{chosen, last_message}
+use Rattle.command_desk.specs.Selecting.{chosen}
 use Rattle.folder_commands.specs.declared.wanted.Filing.{Filing}
 use Rattle.folder_commands.specs.FileNames.{list_words, file_word, expanded, author_of, named_after}
-
--- an act is done on these, and the last of them is current
-abbrev pub marked : Desk → Act → List ℕ → Effects
-marked desk act ns = record (moved desk (last_message ns)) { marks = markings act ns }
 
 -- what is said once so many messages were put into the file of this name
 abbrev pub reply : List ℕ → List ℕ → ℕ → List ℕ

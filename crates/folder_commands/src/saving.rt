@@ -1,14 +1,14 @@
 // Commands that put messages into files.
-ghost use Rattle.std.specs.Prelude.{◌≡◌, ◌≤◌, ◌<◌, ◌++◌, map, All, IfOk, IfSome, OnOk, length};
+ghost use Rattle.std.specs.Prelude.{◌≡◌, ◌<◌, ◌++◌, map, All, IfOk, OnOk, length};
 ghost use Rattle.std.specs.List.{flat_map};
 ghost use Rattle.message_state.specs.declared.mark.Act.TheVariants as act;
 ghost use Rattle.command_desk.specs.Answers.{Means};
 ghost use Rattle.command_desk.specs.Desks.{IsDesk, IsMessageOf, message_text};
-ghost use Rattle.folder_commands.specs.Saving.{marked, reply, body_line, adding, writing, into_named, into_mbox, into_file, by_author, copy, copy_by_author, save, save_by_author, write_to, write, IsFilingWithin};
+ghost use Rattle.folder_commands.specs.Saving.{reply, body_line, adding, writing, into_named, into_mbox, into_file, by_author, copy, copy_by_author, save, save_by_author, write_to, write, IsFilingWithin};
 
 use crate::Filing;
 use crate::file_names::{expanded, file_word, list_words, named_after};
-use command_desk::{Desk, Effects, Refusal, chosen, fault, last_message, markings, message, moved};
+use command_desk::{Desk, Refusal, chosen, fault, marked, message};
 use folder_change::Change;
 use itoa::Buffer;
 use mail_headers::Header;
@@ -16,20 +16,6 @@ use mail_text::{Items, Memory, Text};
 use message_list::Purpose;
 use message_state::Act;
 use std::alloc::Global;
-
-// What an act on these changes; the last of them is current.
-fn marked(alloc: Global, desk: &Desk, act: Act, numbers: &[u32]) -> Result<Effects, Memory>
-    requires desk { IsDesk desk.now }
-    requires some { 0 < length numbers.now }
-    requires messages { All (IsMessageOf desk.now.shown) numbers.now }
-    ensures effects { IfOk result (λ effects. effects ≡ marked desk.now act numbers.now) }
-    ensures within { IfOk result (λ effects. IfSome effects.current (λ n. n ≤ length desk.now.shown.rows)) }
-{
-    Ok(Effects {
-        marks: markings(alloc, act, numbers)?,
-        ..moved(alloc, desk, last_message(numbers))
-    })
-}
 
 // What is said once so many messages were put into the file of this name.
 fn reply(alloc: Global, name: &[u8], done: &[u8], count: usize) -> Result<Text, Memory>

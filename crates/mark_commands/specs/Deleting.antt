@@ -1,10 +1,9 @@
 -- Commands that delete messages and give them back.
-use Rattle.std.specs.Prelude.{ℕ, Bool, false, not, ◌&&◌, List, [], ◌∷◌, ◌++◌, Option, codes, unwrap_or, if◌then◌else◌}
+use Rattle.std.specs.Prelude.{ℕ, Bool, not, ◌&&◌, List, [], ◌∷◌, ◌++◌, Option, codes, unwrap_or, if◌then◌else◌}
 use Rattle.std.specs.List.{find}
 use Rattle.std.specs.Option.{option_or}
 use Rattle.std.specs.declared.option.Option.TheVariants.{Some, None}
 use Rattle.mailx_vars.specs.Settings.{is_set}
-use Rattle.message_state.specs.declared.mark.Act.{Act}
 use Rattle.message_state.specs.declared.mark.Act.TheVariants.{Look, Delete, Undelete}
 use Rattle.message_state.specs.declared.shown.Shown.{Shown}
 use Rattle.message_list.specs.declared.list.Purpose.TheVariants.{Live, Dead}
@@ -14,7 +13,7 @@ use Rattle.command_desk.specs.declared.desk.Desk.{Desk}
 use Rattle.command_desk.specs.declared.effects.Effects.{Effects}
 use Rattle.command_desk.specs.declared.steps.Steps.{Steps}
 use Rattle.command_desk.specs.Answers.{OrFault, next, says, quietly}
-use Rattle.command_desk.specs.Effects.{unchanged, moved, written, markings}
+use Rattle.command_desk.specs.Effects.{unchanged, moved, written, markings, marked, marked_and_written}
 use Rattle.command_desk.specs.Faults.{at_end}
 use Rattle.command_desk.specs.Selecting.{chosen, last_message, is_among}
 use Rattle.command_desk.specs.Messages.{printed}
@@ -29,10 +28,6 @@ abbrev pub after_deleting : Shown → List ℕ → Option ℕ
 after_deleting shown ns =
     let last = last_message ns in
     option_or (next_of shown Live last) (find (is_left shown ns) (before_message shown last))
-
--- an act is done on these, and the last of them is current
-abbrev pub marked : Desk → Act → List ℕ → Effects
-marked desk act ns = record (moved desk (last_message ns)) { marks = markings act ns }
 
 -- these are deleted; where no message is live then, the current one stays
 abbrev pub deleted : Desk → List ℕ → Effects
@@ -64,7 +59,7 @@ delete desk words =
 abbrev pub give_back : Desk → List ℕ → OrFault Steps
 give_back desk ns =
     if is_set desk.vars (codes "autoprint")
-    then says (printed desk Kept (last_message ns)) (record (marked desk Undelete ns) { fresh = Some false })
+    then says (printed desk Kept (last_message ns)) (marked_and_written Undelete ns)
     else quietly (marked desk Undelete ns)
 
 -- `undelete`

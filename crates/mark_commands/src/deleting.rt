@@ -8,13 +8,13 @@ ghost use Rattle.command_desk.specs.Answers.{Means, says, quietly};
 ghost use Rattle.message_show.specs.declared.text.How.TheVariants as how;
 ghost use Rattle.command_desk.specs.Selecting.{chosen, last_message};
 ghost use Rattle.command_desk.specs.Desks.{IsDesk, IsMessageOf, IsWithin};
-ghost use Rattle.command_desk.specs.Effects.{moved, written, markings};
-ghost use Rattle.mark_commands.specs.Deleting.{is_left, after_deleting, marked, deleted, print_after, delete_and_print, delete_quietly, delete, give_back, undelete};
+ghost use Rattle.command_desk.specs.Effects.{written, markings, marked_and_written};
+ghost use Rattle.mark_commands.specs.Deleting.{is_left, after_deleting, deleted, print_after, delete_and_print, delete_quietly, delete, give_back, undelete};
 ghost use Rattle.command_desk.specs.Messages.{printed};
 
 use command_desk::{
-    Among, Desk, Effects, Refusal, Steps, act_on, chosen, last_message, markings, moved, printed,
-    quietly, says, unchanged, written,
+    Among, Desk, Effects, Refusal, Steps, act_on, chosen, last_message, marked, marked_and_written,
+    markings, moved, printed, quietly, says, unchanged, written,
 };
 use mail_text::{Memory, Text};
 use message_list::{Purpose, in_base, next_live, place_of};
@@ -96,20 +96,6 @@ fn after_deleting(alloc: Global, shown: &Shown, numbers: &[u32]) -> Result<Optio
         Some(n) => Ok(Some(n)),
         None => last_left(alloc, shown, numbers, last),
     }
-}
-
-// What an act on these changes; the last of them is current.
-fn marked(alloc: Global, desk: &Desk, act: Act, numbers: &[u32]) -> Result<Effects, Memory>
-    requires desk { IsDesk desk.now }
-    requires some { 0 < length numbers.now }
-    requires messages { All (IsMessageOf desk.now.shown) numbers.now }
-    ensures effects { IfOk result (λ effects. effects ≡ marked desk.now act numbers.now) }
-    ensures within { IfOk result (λ effects. IfSome effects.current (λ n. n ≤ length desk.now.shown.rows)) }
-{
-    Ok(Effects {
-        marks: markings(alloc, act, numbers)?,
-        ..moved(alloc, desk, last_message(numbers))
-    })
 }
 
 // What deleting these changes.
@@ -211,15 +197,12 @@ fn give_back_and_print(alloc: Global, desk: &Desk, numbers: &[u32]) -> Result<St
     requires some { 0 < length numbers.now }
     requires messages { All (IsMessageOf desk.now.shown) numbers.now }
     ensures means { Means result (says (printed desk.now how.Kept (last_message numbers.now))
-        (record (marked desk.now act.Undelete numbers.now) { fresh = Some false })) }
+        (marked_and_written act.Undelete numbers.now)) }
     ensures within { IsWithin desk.now result }
 {
     let last = last_message(numbers);
     let out = printed(alloc, desk, How::Kept, last)?;
-    let effects = Effects {
-        fresh: Some(false),
-        ..marked(alloc, desk, Act::Undelete, numbers)?
-    };
+    let effects = marked_and_written(alloc, Act::Undelete, numbers)?;
     says(alloc, out, effects)
 }
 

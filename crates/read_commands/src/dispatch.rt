@@ -15,7 +15,7 @@ use command_desk::{Ask, Desk, Refusal, Steps, fault, quietly, unchanged};
 use folder_commands::{Filing, copy, copy_by_author, save, save_by_author, write};
 use line_words::{Command, CommandLine, LineError, read_line, whole_name};
 use mail_text::{Items, Memory};
-use mark_commands::{delete, delete_and_print, undelete};
+use mark_commands::{delete, delete_and_print, hold, mbox, undelete};
 use message_show::How;
 use setting_commands::{set, unset};
 use show_commands::{echo, from, headers, help, number, print, print_following, scroll, size, top};
@@ -148,6 +148,8 @@ fn carry_out(alloc: Global, line: &CommandLine, desk: &Desk) -> Result<Steps, Re
         Command::Delete => delete(alloc, desk, words),
         Command::DeleteAndPrint => delete_and_print(alloc, desk, words),
         Command::Undelete => undelete(alloc, desk, words),
+        Command::Hold => hold(alloc, desk, words),
+        Command::Mbox => mbox(alloc, desk, words),
         Command::Set => set(alloc, desk, words),
         Command::Unset => unset(alloc, desk, words),
         Command::Comment => Ok(quietly(alloc, unchanged(alloc))),
@@ -182,6 +184,8 @@ pub(crate) fn is_built(command: Command) -> bool
         | Command::Delete
         | Command::DeleteAndPrint
         | Command::Undelete
+        | Command::Hold
+        | Command::Mbox
         | Command::Set
         | Command::Unset
         | Command::Help

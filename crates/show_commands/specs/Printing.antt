@@ -11,22 +11,17 @@ use Rattle.message_show.specs.declared.text.How.{How}
 use Rattle.message_show.specs.declared.text.How.TheVariants.{Kept}
 use Rattle.message_show.specs.ShownText.{top_text}
 use Rattle.command_desk.specs.declared.desk.Desk.{Desk}
-use Rattle.command_desk.specs.declared.effects.Effects.{Effects}
 use Rattle.command_desk.specs.declared.steps.Steps.{Steps}
 use Rattle.command_desk.specs.Answers.{OrFault, next, says}
 use Rattle.command_desk.specs.Desks.{message_text}
-use Rattle.command_desk.specs.Effects.{written, markings}
+use Rattle.command_desk.specs.Effects.{marked_and_written}
 use Rattle.command_desk.specs.Messages.{heading, printed}
 use Rattle.command_desk.specs.Faults.{at_end, not_a_number}
-use Rattle.command_desk.specs.Selecting.{chosen, last_message, is_among}
-
--- these were printed: Look is done on each, and the last is current and written
-abbrev pub after_printing : List ℕ → Effects
-after_printing ns = record (written (last_message ns)) { marks = markings Look ns }
+use Rattle.command_desk.specs.Selecting.{chosen, is_among}
 
 -- `print`, `type`, `Print`, `Type`
 abbrev pub print : How → Desk → List (List ℕ) → OrFault Steps
-print how desk words = next (chosen Live desk words) (λ ns. says (flat_map (printed desk how) ns) (after_printing ns))
+print how desk words = next (chosen Live desk words) (λ ns. says (flat_map (printed desk how) ns) (marked_and_written Look ns))
 
 -- the number that a variable's value writes
 abbrev pub number_or : List ℕ → Option ℕ → OrFault ℕ
@@ -45,11 +40,11 @@ abbrev pub top : Desk → List (List ℕ) → OrFault Steps
 top desk words =
     next (chosen Live desk words) (λ ns.
     next (number_of_variable desk.vars (codes "toplines")) (λ count.
-    says (flat_map (topped desk count) ns) (after_printing ns)))
+    says (flat_map (topped desk count) ns) (marked_and_written Look ns)))
 
 -- the message is printed, where there is one
 abbrev pub print_next : Desk → Option ℕ → OrFault Steps
-print_next desk (Some n) = says (printed desk Kept n) (after_printing (n ∷ []))
+print_next desk (Some n) = says (printed desk Kept n) (marked_and_written Look (n ∷ []))
 print_next desk None = Err at_end
 
 -- what `next` prints: the current message where it is live and unwritten, else the next live one in the view

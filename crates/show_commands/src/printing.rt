@@ -4,12 +4,12 @@ ghost use Rattle.std.specs.List.{flat_map, range_with_len};
 ghost use Rattle.std.specs.Option.{option_map_or};
 ghost use Rattle.command_desk.specs.Answers.{Means};
 ghost use Rattle.command_desk.specs.Desks.{IsDesk, IsMessageOf, IsWithin};
-ghost use Rattle.show_commands.specs.Printing.{after_printing, print, number_of_variable, topped, top, print_next, following, following_of, print_following};
+ghost use Rattle.show_commands.specs.Printing.{print, number_of_variable, topped, top, print_next, following, following_of, print_following};
 ghost use Rattle.command_desk.specs.Messages.{printed};
 
 use command_desk::{
-    Among, Desk, Effects, Refusal, Steps, chosen, fault, last_message, markings, message, printed,
-    put_heading, put_printed, says, written,
+    Among, Desk, Refusal, Steps, chosen, fault, marked_and_written, message, printed, put_heading,
+    put_printed, says,
 };
 use mail_text::{Memory, Text};
 use mailx_vars::{VarError, Vars};
@@ -31,17 +31,6 @@ fn printed_all(alloc: Global, desk: &Desk, how: How, numbers: &[u32]) -> Result<
     Ok(out)
 }
 
-/// What printing these messages changes: Look is done on each, and the last is current and written.
-fn after_printing(alloc: Global, numbers: &[u32]) -> Result<Effects, Memory>
-    requires { 0 < length numbers.now }
-    ensures { IfOk result (λ effects. effects ≡ after_printing numbers.now) }
-{
-    Ok(Effects {
-        marks: markings(alloc, Act::Look, numbers)?,
-        ..written(alloc, last_message(numbers))
-    })
-}
-
 /// `print`, `type`, `Print`, `Type`.
 pub fn print(alloc: Global, desk: &Desk, words: &[Text], how: How) -> Result<Steps, Refusal>
     requires { IsDesk desk.now }
@@ -50,7 +39,7 @@ pub fn print(alloc: Global, desk: &Desk, words: &[Text], how: How) -> Result<Ste
 {
     let numbers = chosen(alloc, words, desk, Purpose::Live)?;
     let out = printed_all(alloc, desk, how, numbers.items())?;
-    let effects = after_printing(alloc, numbers.items())?;
+    let effects = marked_and_written(alloc, Act::Look, numbers.items())?;
     says(alloc, out, effects)
 }
 
@@ -98,7 +87,7 @@ pub fn top(alloc: Global, desk: &Desk, words: &[Text]) -> Result<Steps, Refusal>
     let numbers = chosen(alloc, words, desk, Purpose::Live)?;
     let count = number_of_variable(alloc, &desk.vars, b"toplines")?;
     let out = topped_all(alloc, desk, count, numbers.items())?;
-    let effects = after_printing(alloc, numbers.items())?;
+    let effects = marked_and_written(alloc, Act::Look, numbers.items())?;
     says(alloc, out, effects)
 }
 
@@ -112,7 +101,7 @@ fn print_next(alloc: Global, desk: &Desk, n: Option<u32>) -> Result<Steps, Refus
     match n {
         Some(n) => {
             let out = printed(alloc, desk, How::Kept, n)?;
-            let effects = after_printing(alloc, &[n])?;
+            let effects = marked_and_written(alloc, Act::Look, &[n])?;
             says(alloc, out, effects)
         }
         None => Err(fault(alloc, b"", b"at end")),
