@@ -1,7 +1,7 @@
 -- Commands that say what becomes of messages as the folder is left.
 use Rattle.std.specs.Prelude.{ℕ, List}
 use Rattle.message_state.specs.declared.mark.Act.{Act}
-use Rattle.message_state.specs.declared.mark.Act.TheVariants.{Hold, Mbox}
+use Rattle.message_state.specs.declared.mark.Act.TheVariants.{Hold, Mbox, Touch}
 use Rattle.message_list.specs.declared.list.Purpose.TheVariants.{Live}
 use Rattle.command_desk.specs.declared.desk.Desk.{Desk}
 use Rattle.command_desk.specs.declared.steps.Steps.{Steps}
@@ -20,3 +20,7 @@ hold desk words = mark Hold desk words
 -- `mbox`: they go to mbox
 abbrev pub mbox : Desk → List (List ℕ) → OrFault Steps
 mbox desk words = mark Mbox desk words
+
+-- `touch`: as `mbox`, but what was saved leaves all the same
+abbrev pub touch : Desk → List (List ℕ) → OrFault Steps
+touch desk words = mark Touch desk words

@@ -1,7 +1,7 @@
 // Commands that say what becomes of messages as the folder is left.
 ghost use Rattle.command_desk.specs.Answers.{Means};
 ghost use Rattle.command_desk.specs.Desks.{IsDesk, IsWithin};
-ghost use Rattle.mark_commands.specs.Leaving.{mark, hold, mbox};
+ghost use Rattle.mark_commands.specs.Leaving.{mark, hold, mbox, touch};
 
 use command_desk::{Desk, Refusal, Steps, chosen, marked_and_written, quietly};
 use mail_text::Text;
@@ -36,4 +36,13 @@ pub fn mbox(alloc: Global, desk: &Desk, words: &[Text]) -> Result<Steps, Refusal
     ensures within { IsWithin desk.now result }
 {
     mark(alloc, Act::Mbox, desk, words)
+}
+
+/// `touch`: as `mbox`, but messages that were saved leave all the same.
+pub fn touch(alloc: Global, desk: &Desk, words: &[Text]) -> Result<Steps, Refusal>
+    requires { IsDesk desk.now }
+    ensures means { Means result (touch desk.now words.now) }
+    ensures within { IsWithin desk.now result }
+{
+    mark(alloc, Act::Touch, desk, words)
 }

@@ -19,7 +19,7 @@ use Rattle.command_desk.specs.Faults.{bad_arguments, not_built, unknown_command,
 use Rattle.show_commands.specs.Printing.{print, top, print_following}
 use Rattle.show_commands.specs.Paging.{headers, scroll}
 use Rattle.mark_commands.specs.Deleting.{delete, delete_and_print, undelete}
-use Rattle.mark_commands.specs.Leaving.{hold, mbox}
+use Rattle.mark_commands.specs.Leaving.{hold, mbox, touch}
 use Rattle.setting_commands.specs.Setting.{set, unset}
 use Rattle.folder_commands.specs.declared.wanted.Filing.{Filing}
 use Rattle.folder_commands.specs.Saving.{copy, copy_by_author, save, save_by_author, write}
@@ -67,6 +67,7 @@ meaning_of command.DeleteAndPrint line desk = delete_and_print desk line.words
 meaning_of command.Undelete line desk = undelete desk line.words
 meaning_of command.Hold line desk = hold desk line.words
 meaning_of command.Mbox line desk = mbox desk line.words
+meaning_of command.Touch line desk = touch desk line.words
 meaning_of command.Set line desk = set desk line.words
 meaning_of command.Unset line desk = unset desk line.words
 meaning_of command.Help line desk = alone line (help desk)
@@ -96,6 +97,7 @@ is_built command.DeleteAndPrint = true
 is_built command.Undelete = true
 is_built command.Hold = true
 is_built command.Mbox = true
+is_built command.Touch = true
 is_built command.Set = true
 is_built command.Unset = true
 is_built command.Help = true

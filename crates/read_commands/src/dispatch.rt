@@ -15,7 +15,7 @@ use command_desk::{Ask, Desk, Refusal, Steps, fault, quietly, unchanged};
 use folder_commands::{Filing, copy, copy_by_author, save, save_by_author, write};
 use line_words::{Command, CommandLine, LineError, read_line, whole_name};
 use mail_text::{Items, Memory};
-use mark_commands::{delete, delete_and_print, hold, mbox, undelete};
+use mark_commands::{delete, delete_and_print, hold, mbox, touch, undelete};
 use message_show::How;
 use setting_commands::{set, unset};
 use show_commands::{echo, from, headers, help, number, print, print_following, scroll, size, top};
@@ -150,6 +150,7 @@ fn carry_out(alloc: Global, line: &CommandLine, desk: &Desk) -> Result<Steps, Re
         Command::Undelete => undelete(alloc, desk, words),
         Command::Hold => hold(alloc, desk, words),
         Command::Mbox => mbox(alloc, desk, words),
+        Command::Touch => touch(alloc, desk, words),
         Command::Set => set(alloc, desk, words),
         Command::Unset => unset(alloc, desk, words),
         Command::Comment => Ok(quietly(alloc, unchanged(alloc))),
@@ -186,6 +187,7 @@ pub(crate) fn is_built(command: Command) -> bool
         | Command::Undelete
         | Command::Hold
         | Command::Mbox
+        | Command::Touch
         | Command::Set
         | Command::Unset
         | Command::Help
