@@ -11,7 +11,8 @@ use Rattle.host_port.specs.declared.event.Part.{Part}
 use Rattle.host_port.specs.declared.host.DiskFault.{DiskFault}
 use Rattle.host_port.specs.Disk.{Disk, disk}
 use Rattle.host_port.specs.Ends.{carried_out, cut_short, IsCutShort}
-use Rattle.host_port.specs.Views.{AddsOne}
+use Rattle.host_port.specs.declared.tape.Tape.{Tape}
+use Rattle.host_port.specs.Views.{AddsOne, AddsCall, disk_of}
 
 -- the event of a call as a plan has it: carried out, or failing with this part done
 abbrev pub as_planned : Disk → Event → Option Part → Event
@@ -35,3 +36,16 @@ Ended whole (Err fault) d e = IsCutShort d whole e
 pub record AddsPlanned (start : Disk) (old new : List Event) (steps : List ForeignStep) (whole : Event) (part : Option Part) (failed : Bool) : Type 0 where
   pub fails : failed ≡ is_some part
   pub is : AddsOne old new steps (as_planned (disk start (old ++ map Foreign steps)) whole part)
+
+-- a tape has more: steps of others, and then this event
+abbrev pub TapeAdds : Tape → Tape → List ForeignStep → Event → Type 0
+TapeAdds old new steps e = AddsOne old.trace.items new.trace.items steps e
+
+-- steps of others, and then an event that happened so
+abbrev pub TapeAddsCall : Tape → Tape → List ForeignStep → (Disk → Event → Type 0) → Type 0
+TapeAddsCall old new steps Happened = AddsCall (disk_of old.start.files old.start.locks) old.trace.items new.trace.items steps Happened
+
+-- steps of others, and then an event as it was planned
+abbrev pub TapeAddsPlanned : Tape → Tape → List ForeignStep → Event → Option Part → Bool → Type 0
+TapeAddsPlanned old new steps whole part failed =
+    AddsPlanned (disk_of old.start.files old.start.locks) old.trace.items new.trace.items steps whole part failed

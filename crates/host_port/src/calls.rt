@@ -4,7 +4,8 @@ ghost use Rattle.std.specs.Option.{option_copied};
 ghost use Rattle.host_port.specs.Disk.{disk};
 ghost use Rattle.host_port.specs.Calls.{Loaded, LoadCause};
 ghost use Rattle.host_port.specs.MemHosts.{wants_memory};
-ghost use Rattle.host_port.specs.Views.{disk_of, AddsOne, AddsCall, steps_before, part_at};
+ghost use Rattle.host_port.specs.Plans.{TapeAdds, TapeAddsCall};
+ghost use Rattle.host_port.specs.Views.{disk_of, steps_before, part_at};
 ghost use Rattle.host_port.specs.declared.event.Event.TheVariants as event;
 
 use crate::standing::copy_found;
@@ -36,7 +37,7 @@ fn tell(
     tape: &mut Tape,
     event: Event,
 ) -> Result<(), Memory>
-    ensures ok { OnOk result (AddsOne tape.old.trace.items tape.new.trace.items (steps_before plan.now call) event) }
+    ensures ok { OnOk result (TapeAdds tape.old tape.new (steps_before plan.now call) event) }
     ensures start { tape.new.start ≡ tape.old.start }
 {
     add_others(alloc, plan, call, tape)?;
@@ -52,7 +53,7 @@ pub fn tell_in(
     bytes: &[u8],
     failed: bool,
 ) -> Result<(), Memory>
-    ensures ok { OnOk result (AddsOne tape.old.trace.items tape.new.trace.items (steps_before plan.now call) (event.In bytes.now failed)) }
+    ensures ok { OnOk result (TapeAdds tape.old tape.new (steps_before plan.now call) (event.In bytes.now failed)) }
     ensures start { tape.new.start ≡ tape.old.start }
 {
     let bytes = Text::copy(alloc, bytes)?;
@@ -68,7 +69,7 @@ pub fn tell_out(
     bytes: &[u8],
     failed: bool,
 ) -> Result<(), Memory>
-    ensures ok { OnOk result (AddsOne tape.old.trace.items tape.new.trace.items (steps_before plan.now call) (event.Out bytes.now failed)) }
+    ensures ok { OnOk result (TapeAdds tape.old tape.new (steps_before plan.now call) (event.Out bytes.now failed)) }
     ensures start { tape.new.start ≡ tape.old.start }
 {
     let bytes = Text::copy(alloc, bytes)?;
@@ -81,7 +82,9 @@ fn look(
     tape: &Tape,
     name: &[u8],
 ) -> Result<(Result<LoadAnswer, LoadError>, Event), Memory>
-    ensures loaded { IfOk result (λ r. Loaded name.now r.0 (disk (disk_of tape.now.start.files tape.now.start.locks) tape.now.trace.items) r.1) }
+    ensures loaded { IfOk result
+        (λ r. Loaded name.now r.0
+        (disk (disk_of tape.now.start.files tape.now.start.locks) tape.now.trace.items) r.1) }
     ensures cause { IfOk result (λ r. LoadCause 0 0 r.0) }
     ensures known { IfOk result (λ r. wants_memory r.0 ≡ false) }
 {
@@ -114,7 +117,7 @@ pub fn tell_load(
     tape: &mut Tape,
     name: &[u8],
 ) -> Result<Result<LoadAnswer, LoadError>, Memory>
-    ensures ok { IfOk result (λ r. AddsCall (disk_of tape.old.start.files tape.old.start.locks) tape.old.trace.items tape.new.trace.items (steps_before plan.now call) (Loaded name.now r)) }
+    ensures ok { IfOk result (λ r. TapeAddsCall tape.old tape.new (steps_before plan.now call) (Loaded name.now r)) }
     ensures cause { IfOk result (λ r. LoadCause 0 0 r) }
     ensures known { IfOk result (λ r. wants_memory r ≡ false) }
     ensures start { tape.new.start ≡ tape.old.start }
@@ -133,7 +136,8 @@ pub fn tell_failed_load(
     tape: &mut Tape,
     name: &[u8],
 ) -> Result<(), Memory>
-    ensures ok { OnOk result (AddsCall (disk_of tape.old.start.files tape.old.start.locks) tape.old.trace.items tape.new.trace.items (steps_before plan.now call) (Loaded name.now (Err LoadError.Failed))) }
+    ensures ok { OnOk result
+        (TapeAddsCall tape.old tape.new (steps_before plan.now call) (Loaded name.now (Err LoadError.Failed))) }
     ensures start { tape.new.start ≡ tape.old.start }
 {
     let name = Text::copy(alloc, name)?;
@@ -149,7 +153,7 @@ pub fn tell_release(
     tape: &mut Tape,
     name: &[u8],
 ) -> Result<(), Memory>
-    ensures ok { OnOk result (AddsOne tape.old.trace.items tape.new.trace.items (steps_before plan.now call) (event.Release name.now)) }
+    ensures ok { OnOk result (TapeAdds tape.old tape.new (steps_before plan.now call) (event.Release name.now)) }
     ensures start { tape.new.start ≡ tape.old.start }
 {
     let name = Text::copy(alloc, name)?;

@@ -2,8 +2,8 @@
 ghost use Rattle.std.specs.Prelude.{◌≡◌, Some, None, true, false, IfOk, is_err};
 ghost use Rattle.host_port.specs.Disk.{disk};
 ghost use Rattle.host_port.specs.Calls.{Staged, Published, Erased, Locked, Unlocked, Seized};
-ghost use Rattle.host_port.specs.Plans.{Ended, AddsPlanned};
-ghost use Rattle.host_port.specs.Views.{disk_of, AddsCall, steps_before, part_at};
+ghost use Rattle.host_port.specs.Plans.{Ended, TapeAddsCall, TapeAddsPlanned};
+ghost use Rattle.host_port.specs.Views.{steps_before, part_at};
 ghost use Rattle.host_port.specs.declared.event.Event.TheVariants as event;
 
 use crate::calls::failing;
@@ -22,8 +22,11 @@ pub fn tell_disk(
     tape: &mut Tape,
     event: Event,
 ) -> Result<Result<bool, DiskFault>, Memory>
-    ensures ok { IfOk result (λ r. AddsCall (disk_of tape.old.start.files tape.old.start.locks) tape.old.trace.items tape.new.trace.items (steps_before plan.now.foreign call) (Ended event r)) }
-    ensures planned { IfOk result (λ r. AddsPlanned (disk_of tape.old.start.files tape.old.start.locks) tape.old.trace.items tape.new.trace.items (steps_before plan.now.foreign call) event (part_at plan.now.fails call) (is_err r)) }
+    ensures ok { IfOk result
+        (λ r. TapeAddsCall tape.old tape.new (steps_before plan.now.foreign call) (Ended event r)) }
+    ensures planned { IfOk result
+        (λ r. TapeAddsPlanned tape.old tape.new (steps_before plan.now.foreign call) event
+        (part_at plan.now.fails call) (is_err r)) }
     ensures start { tape.new.start ≡ tape.old.start }
 {
     add_others(alloc, plan.foreign.items(), call, tape)?;
@@ -47,8 +50,11 @@ pub fn tell_stage(
     name: &[u8],
     bytes: &[u8],
 ) -> Result<Result<(), DiskFault>, Memory>
-    ensures ok { IfOk result (λ r. AddsCall (disk_of tape.old.start.files tape.old.start.locks) tape.old.trace.items tape.new.trace.items (steps_before plan.now.foreign call) (Staged name.now bytes.now r)) }
-    ensures planned { IfOk result (λ r. AddsPlanned (disk_of tape.old.start.files tape.old.start.locks) tape.old.trace.items tape.new.trace.items (steps_before plan.now.foreign call) (event.Stage name.now (Some bytes.now) false) (part_at plan.now.fails call) (is_err r)) }
+    ensures ok { IfOk result
+        (λ r. TapeAddsCall tape.old tape.new (steps_before plan.now.foreign call) (Staged name.now bytes.now r)) }
+    ensures planned { IfOk result
+        (λ r. TapeAddsPlanned tape.old tape.new (steps_before plan.now.foreign call)
+        (event.Stage name.now (Some bytes.now) false) (part_at plan.now.fails call) (is_err r)) }
     ensures start { tape.new.start ≡ tape.old.start }
 {
     let name = Text::copy(alloc, name)?;
@@ -74,8 +80,11 @@ pub fn tell_publish(
     from: &[u8],
     to: &[u8],
 ) -> Result<Result<bool, DiskFault>, Memory>
-    ensures ok { IfOk result (λ r. AddsCall (disk_of tape.old.start.files tape.old.start.locks) tape.old.trace.items tape.new.trace.items (steps_before plan.now.foreign call) (Published from.now to.now r)) }
-    ensures planned { IfOk result (λ r. AddsPlanned (disk_of tape.old.start.files tape.old.start.locks) tape.old.trace.items tape.new.trace.items (steps_before plan.now.foreign call) (event.Publish from.now to.now true false) (part_at plan.now.fails call) (is_err r)) }
+    ensures ok { IfOk result
+        (λ r. TapeAddsCall tape.old tape.new (steps_before plan.now.foreign call) (Published from.now to.now r)) }
+    ensures planned { IfOk result
+        (λ r. TapeAddsPlanned tape.old tape.new (steps_before plan.now.foreign call)
+        (event.Publish from.now to.now true false) (part_at plan.now.fails call) (is_err r)) }
     ensures start { tape.new.start ≡ tape.old.start }
 {
     let from = Text::copy(alloc, from)?;
@@ -97,8 +106,11 @@ pub fn tell_erase(
     tape: &mut Tape,
     name: &[u8],
 ) -> Result<Result<(), DiskFault>, Memory>
-    ensures ok { IfOk result (λ r. AddsCall (disk_of tape.old.start.files tape.old.start.locks) tape.old.trace.items tape.new.trace.items (steps_before plan.now.foreign call) (Erased name.now r)) }
-    ensures planned { IfOk result (λ r. AddsPlanned (disk_of tape.old.start.files tape.old.start.locks) tape.old.trace.items tape.new.trace.items (steps_before plan.now.foreign call) (event.Erase name.now true false) (part_at plan.now.fails call) (is_err r)) }
+    ensures ok { IfOk result
+        (λ r. TapeAddsCall tape.old tape.new (steps_before plan.now.foreign call) (Erased name.now r)) }
+    ensures planned { IfOk result
+        (λ r. TapeAddsPlanned tape.old tape.new (steps_before plan.now.foreign call)
+        (event.Erase name.now true false) (part_at plan.now.fails call) (is_err r)) }
     ensures start { tape.new.start ≡ tape.old.start }
 {
     let name = Text::copy(alloc, name)?;
@@ -123,8 +135,11 @@ pub fn tell_lock(
     name: &[u8],
     token: u64,
 ) -> Result<Result<bool, DiskFault>, Memory>
-    ensures ok { IfOk result (λ r. AddsCall (disk_of tape.old.start.files tape.old.start.locks) tape.old.trace.items tape.new.trace.items (steps_before plan.now.foreign call) (Locked name.now token r)) }
-    ensures planned { IfOk result (λ r. AddsPlanned (disk_of tape.old.start.files tape.old.start.locks) tape.old.trace.items tape.new.trace.items (steps_before plan.now.foreign call) (event.Lock name.now token true false) (part_at plan.now.fails call) (is_err r)) }
+    ensures ok { IfOk result
+        (λ r. TapeAddsCall tape.old tape.new (steps_before plan.now.foreign call) (Locked name.now token r)) }
+    ensures planned { IfOk result
+        (λ r. TapeAddsPlanned tape.old tape.new (steps_before plan.now.foreign call)
+        (event.Lock name.now token true false) (part_at plan.now.fails call) (is_err r)) }
     ensures start { tape.new.start ≡ tape.old.start }
 {
     let name = Text::copy(alloc, name)?;
@@ -146,8 +161,11 @@ pub fn tell_unlock(
     name: &[u8],
     token: u64,
 ) -> Result<Result<(), DiskFault>, Memory>
-    ensures ok { IfOk result (λ r. AddsCall (disk_of tape.old.start.files tape.old.start.locks) tape.old.trace.items tape.new.trace.items (steps_before plan.now.foreign call) (Unlocked name.now token r)) }
-    ensures planned { IfOk result (λ r. AddsPlanned (disk_of tape.old.start.files tape.old.start.locks) tape.old.trace.items tape.new.trace.items (steps_before plan.now.foreign call) (event.Unlock name.now token true false) (part_at plan.now.fails call) (is_err r)) }
+    ensures ok { IfOk result
+        (λ r. TapeAddsCall tape.old tape.new (steps_before plan.now.foreign call) (Unlocked name.now token r)) }
+    ensures planned { IfOk result
+        (λ r. TapeAddsPlanned tape.old tape.new (steps_before plan.now.foreign call)
+        (event.Unlock name.now token true false) (part_at plan.now.fails call) (is_err r)) }
     ensures start { tape.new.start ≡ tape.old.start }
 {
     let name = Text::copy(alloc, name)?;
@@ -172,8 +190,11 @@ pub fn tell_seize(
     tape: &mut Tape,
     name: &[u8],
 ) -> Result<Result<bool, DiskFault>, Memory>
-    ensures ok { IfOk result (λ r. AddsCall (disk_of tape.old.start.files tape.old.start.locks) tape.old.trace.items tape.new.trace.items (steps_before plan.now.foreign call) (Seized name.now r)) }
-    ensures planned { IfOk result (λ r. AddsPlanned (disk_of tape.old.start.files tape.old.start.locks) tape.old.trace.items tape.new.trace.items (steps_before plan.now.foreign call) (event.Seize name.now true false) (part_at plan.now.fails call) (is_err r)) }
+    ensures ok { IfOk result
+        (λ r. TapeAddsCall tape.old tape.new (steps_before plan.now.foreign call) (Seized name.now r)) }
+    ensures planned { IfOk result
+        (λ r. TapeAddsPlanned tape.old tape.new (steps_before plan.now.foreign call)
+        (event.Seize name.now true false) (part_at plan.now.fails call) (is_err r)) }
     ensures start { tape.new.start ≡ tape.old.start }
 {
     let name = Text::copy(alloc, name)?;

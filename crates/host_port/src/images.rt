@@ -73,7 +73,9 @@ fn image_inside(
     event: &Event,
     part: &Part,
 ) -> Result<DiskView, Memory>
-    ensures { IfOk result (λ v. ShowsSame (disk_of v.files v.locks) (stopped (disk (disk_of start.now.files start.now.locks) before.now) event.now part.now)) }
+    ensures { IfOk result
+        (λ v. ShowsSame (disk_of v.files v.locks)
+        (stopped (disk (disk_of start.now.files start.now.locks) before.now) event.now part.now)) }
 {
     let mut disk = replayed(alloc, start, before)?;
     stop(alloc, &mut disk, event, part)?;
@@ -88,7 +90,10 @@ pub fn image(
     n: usize,
     part: &Part,
 ) -> Result<DiskView, Memory>
-    ensures { IfOk result (λ v. (before rest : List Event) (e : Event) → trace.now ≡ before ++ e ∷ rest → length before + 1 ≡ n → ShowsSame (disk_of v.files v.locks) (stopped (disk (disk_of start.now.files start.now.locks) before) e part.now)) }
+    ensures { IfOk result
+        (λ v. (before rest : List Event) (e : Event) → trace.now ≡ before ++ e ∷ rest → length before + 1 ≡ n
+        → ShowsSame (disk_of v.files v.locks)
+        (stopped (disk (disk_of start.now.files start.now.locks) before) e part.now)) }
 {
     let at = n.saturating_sub(1);
     match trace.get(at) {

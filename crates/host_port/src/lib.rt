@@ -42,8 +42,8 @@ pub fn stop_after_an_event()
     ensures { (d : Disk) (e : Event) → SameDisk (stopped d e Part.After) (ended (after d (carried_out d e))) }
 {}
 
-/// A law: what the event of a call on the disk says of the disk before it is so, whether the call was carried out or failed
-/// with a part of it done.
+/// A law: what the event of a call on the disk says of the disk before it is so, whether the call was carried out
+/// or failed with a part of it done.
 pub fn ends_are_honest()
     ensures carried { (d : Disk) (e : Event) → may_change e ≡ true → Agrees d (carried_out d e) }
     ensures cut { (d : Disk) (e : Event) (part : Part) → may_change e ≡ true → Agrees d (cut_short d e part) }

@@ -84,15 +84,20 @@ impl MemHost {
 
     /// The disk as it stands, with each name once in a list. What it gives on a lost host is open.
     pub fn view(&self) -> Result<DiskView, Memory>
-        ensures { IfOk result (λ v. (trace : List Event) → host_told self.now ≡ Some trace → ShowsSame (disk_of v.files v.locks) (disk (host_start self.now) trace)) }
+        ensures { IfOk result
+            (λ v. (trace : List Event) → host_told self.now ≡ Some trace
+            → ShowsSame (disk_of v.files v.locks) (disk (host_start self.now) trace)) }
     {
         show(self.alloc, &self.tape.standing)
     }
 
-    /// The image of a stop inside the event of this number, counted from 1, of which this part was done: what stands where
-    /// the run ends there. Past the trace's end, and on a lost host, what it gives is open.
+    /// The image of a stop inside the event of this number, counted from 1, of which this part was done: what
+    /// stands where the run ends there. Past the trace's end, and on a lost host, what it gives is open.
     pub fn stop_at(&self, n: usize, part: &Part) -> Result<DiskView, Memory>
-        ensures { IfOk result (λ v. (before rest : List Event) (e : Event) → host_told self.now ≡ Some (before ++ e ∷ rest) → length before + 1 ≡ n → ShowsSame (disk_of v.files v.locks) (stopped (disk (host_start self.now) before) e part.now)) }
+        ensures { IfOk result
+            (λ v. (before rest : List Event) (e : Event) → host_told self.now ≡ Some (before ++ e ∷ rest)
+            → length before + 1 ≡ n
+            → ShowsSame (disk_of v.files v.locks) (stopped (disk (host_start self.now) before) e part.now)) }
     {
         image(self.alloc, &self.tape.start, &self.tape.trace, n, part)
     }
@@ -114,7 +119,7 @@ impl Host for MemHost {
         requires { 0 < length buf.old }
         ensures bound { IfOk result (λ n. n ≤ length buf.old) }
         ensures start { host_start self.new ≡ host_start self.old }
-        ensures call { Calls (host_start self.old) (host_told self.old) (host_told self.new) (Filled result buf.new) }
+        ensures call { Calls host_world self.old self.new (Filled result buf.new) }
         ensures counts { NeverFall (host_counts self.old) (host_counts self.new) }
         ensures cause { OnErr result (Rose (host_counts self.old).ins (host_counts self.new).ins) }
         ensures planned { IsAsPlanned self.old self.new (is_err result) }
@@ -155,7 +160,7 @@ impl Host for MemHost {
 
     fn say(&mut self, bytes: &[u8]) -> Result<(), OutFault>
         ensures start { host_start self.new ≡ host_start self.old }
-        ensures call { Calls (host_start self.old) (host_told self.old) (host_told self.new) (Said result bytes.now) }
+        ensures call { Calls host_world self.old self.new (Said result bytes.now) }
         ensures counts { NeverFall (host_counts self.old) (host_counts self.new) }
         ensures cause { OnErr result (Rose (host_counts self.old).outs (host_counts self.new).outs) }
         ensures planned { IsAsPlanned self.old self.new (is_err result) }
@@ -195,7 +200,7 @@ impl Host for MemHost {
     fn load(&mut self, alloc: Global, name: &[u8]) -> Result<LoadAnswer, LoadError>
         requires { IsFileName name.now }
         ensures start { host_start self.new ≡ host_start self.old }
-        ensures call { Calls (host_start self.old) (host_told self.old) (host_told self.new) (Loaded name.now result) }
+        ensures call { Calls host_world self.old self.new (Loaded name.now result) }
         ensures counts { NeverFall (host_counts self.old) (host_counts self.new) }
         ensures cause { LoadCause (host_counts self.old).disks (host_counts self.new).disks result }
         ensures planned { IsAsPlanned self.old self.new (is_failed_load result) }
@@ -243,10 +248,11 @@ impl Host for MemHost {
     fn stage(&mut self, name: &[u8], bytes: &[u8]) -> Result<(), DiskFault>
         requires { IsFileName name.now }
         ensures start { host_start self.new ≡ host_start self.old }
-        ensures call { Calls (host_start self.old) (host_told self.old) (host_told self.new) (Staged name.now bytes.now result) }
+        ensures call { Calls host_world self.old self.new (Staged name.now bytes.now result) }
         ensures counts { NeverFall (host_counts self.old) (host_counts self.new) }
         ensures cause { OnErr result (Rose (host_counts self.old).disks (host_counts self.new).disks) }
-        ensures planned { IsDoneAsPlanned self.old self.new (event.Stage name.now (Some bytes.now) false) (next_part self.old) (is_err result) }
+        ensures planned { IsDoneAsPlanned self.old self.new (event.Stage name.now (Some bytes.now) false)
+            (next_part self.old) (is_err result) }
         ensures kept { input_left self.new ≡ input_left self.old }
         ensures counted { host_counts self.new ≡ after_disk (is_err result) (host_counts self.old) }
         ensures lost { is_lost self.new ≡ true → is_err result ≡ true }
@@ -274,10 +280,11 @@ impl Host for MemHost {
         requires source { IsFileName from.now }
         requires target { IsFileName to.now }
         ensures start { host_start self.new ≡ host_start self.old }
-        ensures call { Calls (host_start self.old) (host_told self.old) (host_told self.new) (Published from.now to.now result) }
+        ensures call { Calls host_world self.old self.new (Published from.now to.now result) }
         ensures counts { NeverFall (host_counts self.old) (host_counts self.new) }
         ensures cause { OnErr result (Rose (host_counts self.old).disks (host_counts self.new).disks) }
-        ensures planned { IsDoneAsPlanned self.old self.new (event.Publish from.now to.now true false) (next_part self.old) (is_err result) }
+        ensures planned { IsDoneAsPlanned self.old self.new (event.Publish from.now to.now true false)
+            (next_part self.old) (is_err result) }
         ensures kept { input_left self.new ≡ input_left self.old }
         ensures counted { host_counts self.new ≡ after_disk (is_err result) (host_counts self.old) }
         ensures lost { is_lost self.new ≡ true → is_err result ≡ true }
@@ -297,10 +304,11 @@ impl Host for MemHost {
     fn erase(&mut self, name: &[u8]) -> Result<(), DiskFault>
         requires { IsFileName name.now }
         ensures start { host_start self.new ≡ host_start self.old }
-        ensures call { Calls (host_start self.old) (host_told self.old) (host_told self.new) (Erased name.now result) }
+        ensures call { Calls host_world self.old self.new (Erased name.now result) }
         ensures counts { NeverFall (host_counts self.old) (host_counts self.new) }
         ensures cause { OnErr result (Rose (host_counts self.old).disks (host_counts self.new).disks) }
-        ensures planned { IsDoneAsPlanned self.old self.new (event.Erase name.now true false) (next_part self.old) (is_err result) }
+        ensures planned { IsDoneAsPlanned self.old self.new (event.Erase name.now true false)
+            (next_part self.old) (is_err result) }
         ensures kept { input_left self.new ≡ input_left self.old }
         ensures counted { host_counts self.new ≡ after_disk (is_err result) (host_counts self.old) }
         ensures lost { is_lost self.new ≡ true → is_err result ≡ true }
@@ -320,10 +328,11 @@ impl Host for MemHost {
     fn lock(&mut self, name: &[u8], token: u64) -> Result<bool, DiskFault>
         requires { IsFileName name.now }
         ensures start { host_start self.new ≡ host_start self.old }
-        ensures call { Calls (host_start self.old) (host_told self.old) (host_told self.new) (Locked name.now token result) }
+        ensures call { Calls host_world self.old self.new (Locked name.now token result) }
         ensures counts { NeverFall (host_counts self.old) (host_counts self.new) }
         ensures cause { OnErr result (Rose (host_counts self.old).disks (host_counts self.new).disks) }
-        ensures planned { IsDoneAsPlanned self.old self.new (event.Lock name.now token true false) (next_part self.old) (is_err result) }
+        ensures planned { IsDoneAsPlanned self.old self.new (event.Lock name.now token true false)
+            (next_part self.old) (is_err result) }
         ensures kept { input_left self.new ≡ input_left self.old }
         ensures counted { host_counts self.new ≡ after_disk (is_err result) (host_counts self.old) }
         ensures lost { is_lost self.new ≡ true → is_err result ≡ true }
@@ -350,10 +359,11 @@ impl Host for MemHost {
     fn unlock(&mut self, name: &[u8], token: u64) -> Result<(), DiskFault>
         requires { IsFileName name.now }
         ensures start { host_start self.new ≡ host_start self.old }
-        ensures call { Calls (host_start self.old) (host_told self.old) (host_told self.new) (Unlocked name.now token result) }
+        ensures call { Calls host_world self.old self.new (Unlocked name.now token result) }
         ensures counts { NeverFall (host_counts self.old) (host_counts self.new) }
         ensures cause { OnErr result (Rose (host_counts self.old).disks (host_counts self.new).disks) }
-        ensures planned { IsDoneAsPlanned self.old self.new (event.Unlock name.now token true false) (next_part self.old) (is_err result) }
+        ensures planned { IsDoneAsPlanned self.old self.new (event.Unlock name.now token true false)
+            (next_part self.old) (is_err result) }
         ensures kept { input_left self.new ≡ input_left self.old }
         ensures counted { host_counts self.new ≡ after_disk (is_err result) (host_counts self.old) }
         ensures lost { is_lost self.new ≡ true → is_err result ≡ true }
@@ -380,10 +390,11 @@ impl Host for MemHost {
     fn seize(&mut self, name: &[u8]) -> Result<bool, DiskFault>
         requires { IsFileName name.now }
         ensures start { host_start self.new ≡ host_start self.old }
-        ensures call { Calls (host_start self.old) (host_told self.old) (host_told self.new) (Seized name.now result) }
+        ensures call { Calls host_world self.old self.new (Seized name.now result) }
         ensures counts { NeverFall (host_counts self.old) (host_counts self.new) }
         ensures cause { OnErr result (Rose (host_counts self.old).disks (host_counts self.new).disks) }
-        ensures planned { IsDoneAsPlanned self.old self.new (event.Seize name.now true false) (next_part self.old) (is_err result) }
+        ensures planned { IsDoneAsPlanned self.old self.new (event.Seize name.now true false)
+            (next_part self.old) (is_err result) }
         ensures kept { input_left self.new ≡ input_left self.old }
         ensures counted { host_counts self.new ≡ after_disk (is_err result) (host_counts self.old) }
         ensures lost { is_lost self.new ≡ true → is_err result ≡ true }
@@ -403,7 +414,7 @@ impl Host for MemHost {
     fn release(&mut self, name: &[u8])
         requires { IsFileName name.now }
         ensures start { host_start self.new ≡ host_start self.old }
-        ensures call { Calls (host_start self.old) (host_told self.old) (host_told self.new) (Released name.now) }
+        ensures call { Calls host_world self.old self.new (Released name.now) }
         ensures counts { NeverFall (host_counts self.old) (host_counts self.new) }
         ensures planned { IsDoneAsPlanned self.old self.new (event.Release name.now) None false }
         ensures kept { input_left self.new ≡ input_left self.old }

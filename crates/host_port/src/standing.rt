@@ -36,7 +36,8 @@ pub fn write(
     name: &[u8],
     bytes: Option<&Text>,
 ) -> Result<(), Memory>
-    ensures ok { OnOk result ((q : List ℕ) → named files.new q ≡ with_at (named files.old) name.now (option_copied bytes.entry) q) }
+    ensures ok { OnOk result
+        ((q : List ℕ) → named files.new q ≡ with_at (named files.old) name.now (option_copied bytes.entry) q) }
     ensures err { OnErr result (files.new ≡ files.old) }
 {
     match bytes {
@@ -50,7 +51,10 @@ pub fn write(
 
 /// Gives a file another name.
 pub fn rename(alloc: Global, files: &mut Named<Text>, from: &[u8], to: &[u8]) -> Result<(), Memory>
-    ensures ok { OnOk result ((q : List ℕ) → named files.new q ≡ with_at (with_at (named files.old) from.now None) to.now (named files.old from.now) q) }
+    ensures ok { OnOk result
+        ((q : List ℕ)
+        → named files.new q
+        ≡ with_at (with_at (named files.old) from.now None) to.now (named files.old from.now) q) }
     ensures err { OnErr result (files.new ≡ files.old) }
 {
     if from == to {

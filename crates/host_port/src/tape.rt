@@ -80,7 +80,8 @@ pub fn add_others(
     call: u64,
     tape: &mut Tape,
 ) -> Result<(), Memory>
-    ensures ok { OnOk result (tape.new.trace.items ≡ tape.old.trace.items ++ map event.Foreign (steps_before plan.now call)) }
+    ensures ok { OnOk result
+        (tape.new.trace.items ≡ tape.old.trace.items ++ map event.Foreign (steps_before plan.now call)) }
     ensures start { tape.new.start ≡ tape.old.start }
 {
     for (at, step) in plan {
@@ -124,7 +125,10 @@ fn show_file(
     k: usize,
     shown: &mut Items<(Text, Text)>,
 ) -> Result<(), Memory>
-    ensures { OnOk result ((q : List ℕ) → lookup shown.new q ≡ or_else (lookup shown.old q) (at_name (slice_get (names_of files.now) k) q (named files.now q))) }
+    ensures { OnOk result
+        ((q : List ℕ)
+        → lookup shown.new q
+        ≡ or_else (lookup shown.old q) (at_name (slice_get (names_of files.now) k) q (named files.now q))) }
 {
     let Some(name) = files.name(k) else {
         return Ok(());
@@ -154,7 +158,10 @@ fn show_lock(
     k: usize,
     shown: &mut Items<(Text, u64)>,
 ) -> Result<(), Memory>
-    ensures { OnOk result ((q : List ℕ) → lookup shown.new q ≡ or_else (lookup shown.old q) (at_name (slice_get (names_of locks.now) k) q (named locks.now q))) }
+    ensures { OnOk result
+        ((q : List ℕ)
+        → lookup shown.new q
+        ≡ or_else (lookup shown.old q) (at_name (slice_get (names_of locks.now) k) q (named locks.now q))) }
 {
     let Some(name) = locks.name(k) else {
         return Ok(());
