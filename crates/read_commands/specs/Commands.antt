@@ -1,5 +1,5 @@
 -- What each command comes to.
-use Rattle.std.specs.Prelude.{ℕ, Bool, true, false, List, [], ◌∷◌, codes, unwrap_or}
+use Rattle.std.specs.Prelude.{ℕ, Bool, true, false, List, [], ◌∷◌, codes, unwrap_or, if◌then◌else◌}
 use Rattle.std.specs.Str.{bytes_eq}
 use Rattle.std.specs.declared.result.Result.{Result}
 use Rattle.std.specs.declared.result.Result.TheVariants.{Ok, Err}
@@ -50,7 +50,7 @@ steps_of filing = record { asks = asks.Save filing.change ∷ asks.Say filing.re
 abbrev pub filed : OrFault Filing → OrFault Steps
 filed meant = next meant (λ filing. Ok (steps_of filing))
 
--- the command of a line, on a desk
+-- the command of a line, on a desk, where it is built
 abbrev pub meaning_of : Command → CommandLine → Desk → OrFault Steps
 meaning_of command.Print line desk = print Kept desk line.words
 meaning_of command.PrintAll line desk = print All desk line.words
@@ -110,8 +110,11 @@ is_built command.Write = true
 is_built command.Exit = true
 is_built other = false
 
+-- what a line comes to: its command, where that is built
 abbrev pub meaning : CommandLine → Desk → OrFault Steps
-meaning line desk = meaning_of line.command line desk
+meaning line desk =
+    if is_built line.command then meaning_of line.command line desk
+    else Err (not_built (name_of line.word))
 
 -- the line of what is wrong with a line's form
 abbrev pub fault_of : LineError → List ℕ

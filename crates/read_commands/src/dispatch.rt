@@ -1,5 +1,5 @@
 // What a line's command comes to.
-ghost use Rattle.std.specs.Prelude.{◌≡◌, [], IfOk, IfErr, OnOk, codes};
+ghost use Rattle.std.specs.Prelude.{◌≡◌, true, [], IfOk, IfErr, OnOk, codes};
 ghost use Rattle.std.specs.Str.{bytes_eq};
 ghost use Rattle.line_words.specs.Line.{reading};
 ghost use Rattle.command_desk.specs.Answers.{OrFault, Means, IsRefused};
@@ -8,7 +8,7 @@ ghost use Rattle.command_desk.specs.Desks.{IsDesk, IsWithin};
 ghost use Rattle.command_desk.specs.Effects.{effect};
 ghost use Rattle.folder_commands.specs.Saving.{IsFilingWithin};
 ghost use Rattle.folder_commands.specs.declared.wanted.Filing.{Filing};
-ghost use Rattle.read_commands.specs.Commands.{name_of, alone, exit, filed, steps_of, is_built, meaning, read_or_fault};
+ghost use Rattle.read_commands.specs.Commands.{name_of, alone, exit, filed, steps_of, is_built, meaning, meaning_of, read_or_fault};
 ghost use Rattle.show_commands.specs.Telling.{number, help};
 
 use command_desk::{Ask, Desk, Refusal, Steps, fault, quietly, unchanged};
@@ -126,13 +126,19 @@ pub fn perform(alloc: Global, line: &CommandLine, desk: &Desk) -> Result<Steps, 
     ensures means { Means result (meaning line.now desk.now) }
     ensures desk { IfOk result (λ steps. IsDesk (effect desk.now steps.effects)) }
 {
-    carry_out(alloc, line, desk)
+    if is_built(line.command) {
+        carry_out(alloc, line, desk)
+    } else {
+        Err(fault(alloc, name_of(line.word.bytes()), b": not built"))
+    }
 }
 
-// What the command of a line comes to; that the message which is current then is one is all that is said of the desk.
+// What the command of a line comes to, which is built; that the message which is current then is one is all that is
+// said of the desk.
 fn carry_out(alloc: Global, line: &CommandLine, desk: &Desk) -> Result<Steps, Refusal>
-    requires { IsDesk desk.now }
-    ensures means { Means result (meaning line.now desk.now) }
+    requires desk { IsDesk desk.now }
+    requires built { is_built line.now.command ≡ true }
+    ensures means { Means result (meaning_of line.now.command line.now desk.now) }
     ensures within { IsWithin desk.now result }
 {
     let words = line.words.items();
@@ -163,7 +169,7 @@ fn carry_out(alloc: Global, line: &CommandLine, desk: &Desk) -> Result<Steps, Re
         Command::Write => filed(alloc, desk, write(alloc, desk, words)),
         Command::Exit => lone_exit(alloc, line, desk),
         Command::Scroll => lone_scroll(alloc, line, desk),
-        _ => Err(fault(alloc, name_of(line.word.bytes()), b": not built")),
+        _ => unreachable!(),
     }
 }
 
