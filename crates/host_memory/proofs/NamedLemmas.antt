@@ -1,20 +1,22 @@
 -- Values by name, in the entries of a map.
-use Rattle.std.proofs.Common.{◌≡◌, ◌<◌, ◌≤◌, ◌+◌, ◌||◌, arith, ◌++◌, take, ℕ, zero, suc, List, [], ◌∷◌, Bool, true, false, refl, sym, ap, ◌∙◌, ⊎_elim, Vec, drop, get_or, length, drop-cons, add-one}
+use Rattle.std.proofs.Common.{◌≡◌, ◌<◌, ◌≤◌, ◌+◌, ◌||◌, arith, ◌++◌, take, ℕ, zero, suc, List, [], ◌∷◌, Bool, true, false, refl, sym, ap, ◌∙◌, ⊎_elim, Vec, drop, get_or, length, drop-cons, add-one, append-nil, subst}
 use Rattle.std.specs.declared.option.Option.{Option}
 use Rattle.std.specs.declared.option.Option.TheVariants.{Some, None}
 use Rattle.std.specs.declared.alloc.Global.{Global}
-use Rattle.std.specs.List.{list_any}
+use Rattle.std.specs.List.{list_any, IsDistinct, AllByRecursion}
+use Rattle.std.specs.Option.{option_to_list}
 use Rattle.std.specs.declared.result.Result.{Result}
 use Rattle.std.specs.declared.result.Result.TheVariants.{Ok, Err}
 use Rattle.std.specs.Map as map
 use Rattle.std.specs.Str.{bytes_eq}
-use Rattle.std.specs.Prelude.{if◌then◌else◌, is_none, is_some, slice_get, option_map, OnOk}
+use Rattle.std.specs.Prelude.{if◌then◌else◌, is_none, is_some, slice_get, option_map, filter, OnOk}
 use Rattle.std.proofs.lemmas.Bool.{cases_Bool, cond-true, cond-false, false≢true}
 use Rattle.std.proofs.lemmas.Slice.Eq.{bytes_eq-Decides}
+use Rattle.std.proofs.lemmas.List.Elements.{filter-append}
 use Rattle.indexmap.specs.IndexMap.{insert_entry}
 use Rattle.host_port.specs.Disk.{with_at}
 use Rattle.host_memory.specs.Pairs.{pairs_of}
-use Rattle.host_memory.specs.Views.{lookup, named, names_of, flat, or_else, at_name, among}
+use Rattle.host_memory.specs.Views.{lookup, named, names_of, flat, or_else, at_name, among, NamesOnce, has_value, with_value}
 
 abbrev Key : Type 0
 Key = Vec ℕ Global
@@ -241,6 +243,59 @@ length-names (e ∷ es) = ap suc (length-names es)
 -- all names were looked at
 pub among-all : {A : Type 0} (es : List (List ℕ × Option A)) (n : ℕ) (q : List ℕ) (shown : Option A) → length es ≤ n → shown ≡ among (take n (names_of es)) q (named es q) → shown ≡ named es q
 among-all es n q shown past is = is ∙ ap (λ l. among l q (named es q)) (take-all n (names_of es) (let e = length-names es in omega arith)) ∙ ⊎_elim (λ t. cond-true _ _ _ t) (λ f. cond-false _ _ _ f ∙ sym (absent-named es q f)) (cases_Bool (list_any (bytes_eq q) (names_of es)))
+
+names-append : {A : Type 0} (xs : List (List ℕ × A)) (n : List ℕ) (v : A) → names_of (xs ++ (n, v) ∷ []) ≡ names_of xs ++ n ∷ []
+names-append [] n v = refl
+names-append (x ∷ xs) n v = ap (λ r. x.0 ∷ r) (names-append xs n v)
+
+-- the name at the place has a value, and is put
+pub value-name : {A B : Type 0} (old new : List (List ℕ × B)) (es : List (List ℕ × Option A)) (name : Option (List ℕ)) (n m : List ℕ) (v : A) (w : B) → name ≡ Some n → named es n ≡ Some v → m ≡ n → new ≡ old ++ (m, w) ∷ []
+    → names_of new ≡ names_of old ++ with_value es name
+value-name old new es name n m v w is found same put =
+    ap (λ l. names_of l) put ∙ names-append old m w ∙ ap (λ k. names_of old ++ k ∷ []) same
+    ∙ ap (λ l. names_of old ++ l) (sym (ap (with_value es) is ∙ cond-true _ _ _ (ap is_some found)))
+
+-- one more name was looked at
+pub names-more : {A : Type 0} (es : List (List ℕ × Option A)) (k : ℕ) (new old : List (List ℕ)) → new ≡ old ++ with_value es (slice_get (names_of es) k) → old ≡ filter (has_value es) (take k (names_of es)) → new ≡ filter (has_value es) (take (k + 1) (names_of es))
+names-more es k new old step before =
+    step ∙ ap (λ l. l ++ with_value es (slice_get (names_of es) k)) before ∙ go (slice_get (names_of es) k) refl ∙ ap (λ j. filter (has_value es) (take j (names_of es))) (sym (add-one k))
+  where
+    go : (n : Option (List ℕ)) → slice_get (names_of es) k ≡ n → filter (has_value es) (take k (names_of es)) ++ with_value es n ≡ filter (has_value es) (take (suc k) (names_of es))
+    go None e = append-nil (filter (has_value es) (take k (names_of es))) ∙ ap (filter (has_value es)) (sym (take-past (names_of es) k e))
+    go (Some n) e = sym (filter-append (has_value es) (take k (names_of es)) (n ∷ [])) ∙ ap (filter (has_value es)) (sym (take-more (names_of es) k n e))
+
+apart-filter : (p : List ℕ → Bool) (x : List ℕ) (ns : List (List ℕ)) → AllByRecursion (λ y. bytes_eq x y ≡ false) ns → AllByRecursion (λ y. bytes_eq x y ≡ false) (filter p ns)
+apart-filter p x [] h = tt
+apart-filter p x (n ∷ ns) h = go (p n) (apart-filter p x ns h.1)
+  where
+    go : (b : Bool) → AllByRecursion (λ y. bytes_eq x y ≡ false) (filter p ns) → AllByRecursion (λ y. bytes_eq x y ≡ false) (if b then n ∷ filter p ns else filter p ns)
+    go true rest = (h.0, rest)
+    go false rest = rest
+
+-- some of the names that stand once
+once-filter : (p : List ℕ → Bool) (ns : List (List ℕ)) → IsDistinct bytes_eq ns → IsDistinct bytes_eq (filter p ns)
+unfolding IsDistinct
+once-filter p [] h = tt
+once-filter p (n ∷ ns) h = go (p n) (once-filter p ns h.1)
+  where
+    go : (b : Bool) → IsDistinct bytes_eq (filter p ns) → IsDistinct bytes_eq (if b then n ∷ filter p ns else filter p ns)
+    go true rest = (apart-filter p n ns h.0, rest)
+    go false rest = rest
+
+-- all names were looked at, and those that have a value stand once
+pub names-once : {A B : Type 0} (es : List (List ℕ × Option A)) (shown : List (List ℕ × B)) (n : ℕ) → length es ≤ n → NamesOnce es → names_of shown ≡ filter (has_value es) (take n (names_of es)) → NamesOnce shown
+names-once es shown n past once is =
+    subst (IsDistinct bytes_eq) (sym (is ∙ ap (filter (has_value es)) (take-all n (names_of es) (let e = length-names es in omega arith)))) (once-filter (has_value es) (names_of es) once)
+
+apart-pairs : {A : Type 0} (k : Key) (es : List (Key × A)) → AllByRecursion (λ (y : Key). bytes_eq k.items y.items ≡ false) (map.keys_of es) → AllByRecursion (λ y. bytes_eq k.items y ≡ false) (names_of (pairs_of es))
+apart-pairs k [] h = tt
+apart-pairs k (e ∷ es) h = (h.0, apart-pairs k es h.1)
+
+-- the keys of a map stand once
+pub once-pairs : {A : Type 0} (es : List (Key × A)) → IsDistinct (λ (a b : Key). bytes_eq a.items b.items) (map.keys_of es) → NamesOnce (pairs_of es)
+unfolding IsDistinct
+once-pairs [] h = tt
+once-pairs (e ∷ es) h = (apart-pairs e.0 es h.0, once-pairs es h.1)
 
 pub on-ok : {X E : Type 0} {P Q : Type 0} (r : Result X E) → (P → Q) → OnOk r P → OnOk r Q
 on-ok (Ok x) to p = to p

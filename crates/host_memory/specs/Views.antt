@@ -1,8 +1,9 @@
 -- A disk as a list of files and a list of locks; of several pairs of one name the first counts.
-use Rattle.std.specs.Prelude.{◌≡◌, ◌==◌, ℕ, List, [], ◌∷◌, ◌++◌, map, if◌then◌else◌, ◌+◌, ◌-◌, ◌^◌, min}
+use Rattle.std.specs.Prelude.{◌≡◌, ◌==◌, ℕ, Bool, List, [], ◌∷◌, ◌++◌, map, filter, is_some, if◌then◌else◌, ◌+◌, ◌-◌, ◌^◌, min}
 use Rattle.std.specs.declared.option.Option.{Option}
 use Rattle.std.specs.declared.option.Option.TheVariants.{Some, None}
-use Rattle.std.specs.List.{list_any}
+use Rattle.std.specs.List.{list_any, IsDistinct}
+use Rattle.std.specs.Option.{option_to_list}
 use Rattle.std.specs.Str.{bytes_eq}
 use Rattle.host_port.specs.declared.event.ForeignStep.{ForeignStep}
 use Rattle.host_port.specs.declared.event.Event.{Event}
@@ -30,6 +31,18 @@ named ps q = flat (lookup ps q)
 -- the names of a list of pairs
 abbrev pub names_of : {A : Type 0} → List (List ℕ × A) → List (List ℕ)
 names_of ps = map (λ p. p.0) ps
+
+-- each name stands once in a list of pairs
+abbrev pub NamesOnce : {A : Type 0} → List (List ℕ × A) → Type 0
+NamesOnce ps = IsDistinct bytes_eq (names_of ps)
+
+-- a list of pairs has a value for the name
+abbrev pub has_value : {A : Type 0} → List (List ℕ × Option A) → List ℕ → Bool
+has_value ps q = is_some (named ps q)
+
+-- the name, where it has a value
+abbrev pub with_value : {A : Type 0} → List (List ℕ × Option A) → Option (List ℕ) → List (List ℕ)
+with_value ps name = filter (has_value ps) (option_to_list name)
 
 -- a trace with the steps of others and one event more
 abbrev pub AddsOne : List Event → List Event → List ForeignStep → Event → Type 0

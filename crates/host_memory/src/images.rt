@@ -3,9 +3,9 @@ ghost use Rattle.std.specs.Prelude.{◌≡◌, ◌+◌, ◌++◌, ◌∷◌, Lis
 ghost use Rattle.host_port.specs.Disk.{disk};
 ghost use Rattle.host_port.specs.Ends.{stopped};
 ghost use Rattle.host_memory.specs.Standings.{disk_now};
-ghost use Rattle.host_memory.specs.Tapes.{ShowsSame}
+ghost use Rattle.host_memory.specs.Tapes.{ShowsSame};
 ghost use Rattle.host_port.specs.Disk.{SameDisk};
-ghost use Rattle.host_memory.specs.Views.{disk_of};
+ghost use Rattle.host_memory.specs.Views.{disk_of, NamesOnce};
 ghost use Rattle.host_port.specs.declared.event.Event.{Event};
 
 use crate::ending::{is_whole, leave, owns};
@@ -58,9 +58,10 @@ fn stop(alloc: Global, disk: &mut Standing, event: &Event, part: &Part) -> Resul
     }
 }
 
-/// The files and locks as lists.
+/// The files and locks as lists, in which each name stands once.
 pub fn show(alloc: Global, disk: &Standing) -> Result<DiskView, Memory>
-    ensures { IfOk result (λ v. ShowsSame (disk_of v.files v.locks) (disk_now disk.now)) }
+    ensures shows { IfOk result (λ v. ShowsSame (disk_of v.files v.locks) (disk_now disk.now)) }
+    ensures once { IfOk result (λ v. NamesOnce v.files × NamesOnce v.locks) }
 {
     let files = show_files(alloc, &disk.files)?;
     let locks = show_locks(alloc, &disk.locks)?;
@@ -75,9 +76,10 @@ fn image_inside(
     event: &Event,
     part: &Part,
 ) -> Result<DiskView, Memory>
-    ensures { IfOk result
+    ensures shows { IfOk result
         (λ v. ShowsSame (disk_of v.files v.locks)
         (stopped (disk (disk_of start.now.files start.now.locks) before.now) event.now part.now)) }
+    ensures once { IfOk result (λ v. NamesOnce v.files × NamesOnce v.locks) }
 {
     let mut disk = replayed(alloc, start, before)?;
     stop(alloc, &mut disk, event, part)?;
@@ -92,10 +94,11 @@ pub fn image(
     n: usize,
     part: &Part,
 ) -> Result<DiskView, Memory>
-    ensures { IfOk result
+    ensures shows { IfOk result
         (λ v. (before rest : List Event) (e : Event) → trace.now ≡ before ++ e ∷ rest → length before + 1 ≡ n
         → ShowsSame (disk_of v.files v.locks)
         (stopped (disk (disk_of start.now.files start.now.locks) before) e part.now)) }
+    ensures once { IfOk result (λ v. NamesOnce v.files × NamesOnce v.locks) }
 {
     let at = n.saturating_sub(1);
     match trace.get(at) {

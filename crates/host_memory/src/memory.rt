@@ -5,7 +5,7 @@ ghost use Rattle.host_port.specs.Ends.{stopped};
 ghost use Rattle.host_port.specs.Names.{IsFileName};
 ghost use Rattle.host_port.specs.Calls.{Calls, NeverFall, Rose, Filled, Said, Loaded, LoadCause, Staged, Published, Erased, Locked, Unlocked, Seized, Released};
 ghost use Rattle.host_memory.specs.Tapes.{ShowsSame};
-ghost use Rattle.host_memory.specs.Views.{disk_of};
+ghost use Rattle.host_memory.specs.Views.{disk_of, NamesOnce};
 ghost use Rattle.host_port.specs.declared.event.Event.{Event};
 ghost use Rattle.host_port.specs.declared.event.Event.TheVariants as event;
 
@@ -81,22 +81,25 @@ impl MemHost {
         &self.tape.trace
     }
 
-    /// The disk as it stands, with each name once in a list. What it gives on a lost host is open.
+    /// The disk as it stands, with each name once in a list. Which disk it gives on a lost host is open.
     pub fn view(&self) -> Result<DiskView, Memory>
-        ensures { IfOk result
+        ensures shows { IfOk result
             (λ v. (trace : List Event) → host_told self.now ≡ Some trace
             → ShowsSame (disk_of v.files v.locks) (disk (host_start self.now) trace)) }
+        ensures once { IfOk result (λ v. NamesOnce v.files × NamesOnce v.locks) }
     {
         show(self.alloc, &self.tape.standing)
     }
 
     /// The image of a stop inside the event of this number, counted from 1, of which this part was done: what
-    /// stands where the run ends there. Past the trace's end, and on a lost host, what it gives is open.
+    /// stands where the run ends there, with each name once in a list. Past the trace's end, and on a lost host,
+    /// which disk it gives is open.
     pub fn stop_at(&self, n: usize, part: &Part) -> Result<DiskView, Memory>
-        ensures { IfOk result
+        ensures shows { IfOk result
             (λ v. (before rest : List Event) (e : Event) → host_told self.now ≡ Some (before ++ e ∷ rest)
             → length before + 1 ≡ n
             → ShowsSame (disk_of v.files v.locks) (stopped (disk (host_start self.now) before) e part.now)) }
+        ensures once { IfOk result (λ v. NamesOnce v.files × NamesOnce v.locks) }
     {
         image(self.alloc, &self.tape.start, &self.tape.trace, n, part)
     }

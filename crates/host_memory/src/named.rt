@@ -2,7 +2,7 @@
 ghost use Rattle.std.specs.Prelude.{◌≡◌, [], List, ℕ, Option, OnOk, OnErr, is_some, length, slice_get, option_map};
 ghost use Rattle.std.specs.Option.{option_copied};
 ghost use Rattle.host_port.specs.Disk.{with_at};
-ghost use Rattle.host_memory.specs.Views.{named, names_of};
+ghost use Rattle.host_memory.specs.Views.{named, names_of, NamesOnce};
 
 use indexmap::IndexMap;
 use mail_text::Memory;
@@ -25,9 +25,10 @@ impl<V> Model for Named<V> {
 }
 
 impl<V: Drop> Named<V> {
-    /// How many names were put.
+    /// How many names were put, each of which stands once.
     pub fn len(&self) -> usize
-        ensures { result ≡ length self.now }
+        ensures count { result ≡ length self.now }
+        ensures once { NamesOnce self.now }
     {
         self.map.len()
     }

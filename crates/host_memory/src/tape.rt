@@ -3,7 +3,7 @@ ghost use Rattle.std.specs.Prelude.{◌≡◌, ◌++◌, [], ◌∷◌, List, �
 ghost use Rattle.host_port.specs.Disk.{disk};
 ghost use Rattle.host_memory.specs.Standings.{disk_now};
 ghost use Rattle.host_port.specs.Disk.{SameDisk};
-ghost use Rattle.host_memory.specs.Views.{disk_of, lookup, named, names_of, or_else, at_name, steps_before};
+ghost use Rattle.host_memory.specs.Views.{disk_of, lookup, named, names_of, or_else, at_name, with_value, steps_before, NamesOnce};
 ghost use Rattle.host_port.specs.declared.event.Event.TheVariants as event;
 
 use crate::named::Named;
@@ -126,10 +126,12 @@ fn show_file(
     k: usize,
     shown: &mut Items<(Text, Text)>,
 ) -> Result<(), Memory>
-    ensures { OnOk result
+    ensures shows { OnOk result
         ((q : List ℕ)
         → lookup shown.new q
         ≡ or_else (lookup shown.old q) (at_name (slice_get (names_of files.now) k) q (named files.now q))) }
+    ensures names { OnOk result
+        (names_of shown.new ≡ names_of shown.old ++ with_value files.now (slice_get (names_of files.now) k)) }
 {
     let Some(name) = files.name(k) else {
         return Ok(());
@@ -144,7 +146,8 @@ fn show_file(
 
 /// The files as a list of pairs.
 pub fn show_files(alloc: Global, files: &Named<Text>) -> Result<Items<(Text, Text)>, Memory>
-    ensures { IfOk result (λ l. (q : List ℕ) → lookup l q ≡ named files.now q) }
+    ensures shows { IfOk result (λ l. (q : List ℕ) → lookup l q ≡ named files.now q) }
+    ensures once { IfOk result (λ l. NamesOnce l) }
 {
     let mut shown = Items::new(alloc);
     for k in 0..files.len() {
@@ -159,10 +162,12 @@ fn show_lock(
     k: usize,
     shown: &mut Items<(Text, u64)>,
 ) -> Result<(), Memory>
-    ensures { OnOk result
+    ensures shows { OnOk result
         ((q : List ℕ)
         → lookup shown.new q
         ≡ or_else (lookup shown.old q) (at_name (slice_get (names_of locks.now) k) q (named locks.now q))) }
+    ensures names { OnOk result
+        (names_of shown.new ≡ names_of shown.old ++ with_value locks.now (slice_get (names_of locks.now) k)) }
 {
     let Some(name) = locks.name(k) else {
         return Ok(());
@@ -176,7 +181,8 @@ fn show_lock(
 
 /// The locks as a list of pairs.
 pub fn show_locks(alloc: Global, locks: &Named<u64>) -> Result<Items<(Text, u64)>, Memory>
-    ensures { IfOk result (λ l. (q : List ℕ) → lookup l q ≡ named locks.now q) }
+    ensures shows { IfOk result (λ l. (q : List ℕ) → lookup l q ≡ named locks.now q) }
+    ensures once { IfOk result (λ l. NamesOnce l) }
 {
     let mut shown = Items::new(alloc);
     for k in 0..locks.len() {
