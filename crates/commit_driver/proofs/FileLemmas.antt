@@ -11,8 +11,8 @@ use Rattle.commit_record.specs.declared.record.Entry.{Entry}
 use Rattle.commit_record.specs.declared.record.Record.{Record}
 use Rattle.commit_machine.specs.Names.{record_name, new_name, right_name, staged_name}
 use Rattle.commit_machine.specs.Settled.{Mem}
-use Rattle.commit_machine.proofs.NameLemmas.{token_digits-hex, token_digits-long}
-use Rattle.commit_machine.proofs.RecordLemmas.{valid-lawful}
+use Rattle.commit_machine.proofs.records.Names.{token_digits-hex, token_digits-long}
+use Rattle.commit_machine.proofs.records.InFile.{valid-lawful}
 
 -- the names of entries
 abbrev pub entry_names : List Entry → List (List ℕ)

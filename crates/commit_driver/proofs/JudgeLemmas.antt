@@ -15,7 +15,7 @@ use Rattle.folder_change.specs.Outcomes.{outcome_of}
 use Rattle.folder_change.specs.Apply.{Files, Refusal, ChangedAt, TooLong, put, after, apply, first_refusal, refusal_of, or_else, outcome_on, put_outcome, most_bytes}
 use Rattle.folder_change.proofs.ApplyLemmas.{put-here, put-other}
 use Rattle.commit_machine.specs.Records.{has, AreDistinct}
-use Rattle.commit_machine.proofs.Same.{has_Mem, same_refl, same_true}
+use Rattle.commit_machine.proofs.records.Same.{has_Mem, same_refl, same_true}
 use Rattle.commit_driver.specs.declared.judge.Trouble.{Trouble}
 use Rattle.commit_driver.specs.declared.judge.Trouble.TheVariants as trouble
 use Rattle.commit_driver.specs.Judging.{excess_of, number_in, JudgesOne, JudgesSo, Judges, TroubleFits}

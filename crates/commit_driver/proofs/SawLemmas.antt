@@ -29,8 +29,8 @@ use Rattle.commit_machine.specs.Jobs as jobs
 use Rattle.commit_machine.specs.Edits.{first_names, edit_for, edits_for, outcome_for, cause_of}
 use Rattle.commit_machine.specs.Machine.{State, GoOn, loading, staging, unlocking, undoing, placing, place_one, tested, refusing, judged, mending, record_seen, looked, saw, refused, none_stands, passed_by, go_front}
 use Rattle.commit_machine.specs.Machine as machine
-use Rattle.commit_machine.proofs.RecordLemmas.{record_of-written, record_of-is, valid-names}
-use Rattle.commit_machine.proofs.Same.{same_refl, same_false}
+use Rattle.commit_machine.proofs.records.InFile.{record_of-written, record_of-is, valid-names}
+use Rattle.commit_machine.proofs.records.Same.{same_refl, same_false}
 use Rattle.commit_driver.specs.declared.step.Passed.{Passed}
 use Rattle.commit_driver.specs.declared.step.Passed.TheVariants as passed
 use Rattle.commit_driver.specs.declared.step.End.{End}

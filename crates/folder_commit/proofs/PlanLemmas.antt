@@ -20,7 +20,7 @@ use Rattle.commit_machine.specs.Records.{names_of, has, AreDistinct}
 use Rattle.commit_machine.specs.Settled.{Mem}
 use Rattle.commit_machine.specs.Jobs.{Edit, IsJob, all_of}
 use Rattle.commit_machine.specs.Edits.{first_names, without, edit_for, job_for}
-use Rattle.commit_machine.proofs.Same.{same_refl, same_or_not}
+use Rattle.commit_machine.proofs.records.Same.{same_refl, same_or_not}
 use Rattle.commit_driver.specs.Places.{nth, IsPlan, IsSafe}
 use Rattle.commit_driver.specs.Answers.{IsCommitOf}
 use Rattle.commit_driver.proofs.StateLemmas.{length-map}
