@@ -10,7 +10,8 @@ use Rattle.host_port.specs.Own.{own}
 use Rattle.host_port.specs.Ran.{Honest, Ran}
 use Rattle.host_port.proofs.RanLemmas.{Ran-since}
 use Rattle.folder_change.specs.declared.change.Change.{Change}
-use Rattle.folder_change.specs.Apply.{Refusal as ChangeRefusal, apply, first_refusal}
+use Rattle.folder_change.specs.Apply.{apply}
+use Rattle.commit_machine.specs.Refusals.{ChangeRefusal, first_refusal}
 use Rattle.commit_machine.specs.Settled.{Files}
 use Rattle.commit_machine.specs.Settled.{Mem}
 use Rattle.commit_machine.specs.Jobs.{Ending, IsJob, edits_of, all_of}

@@ -9,7 +9,8 @@ use Rattle.host_port.specs.declared.event.Event.{Event}
 use Rattle.folder_change.specs.declared.change.Change.{Change}
 use Rattle.folder_change.specs.Changes.{name_of}
 use Rattle.folder_change.specs.Outcomes.{outcome_of}
-use Rattle.folder_change.specs.Apply.{Refusal as ChangeRefusal, apply, after, first_refusal, refusal_of, or_else}
+use Rattle.folder_change.specs.Apply.{apply, after}
+use Rattle.commit_machine.specs.Refusals.{ChangeRefusal, first_refusal, refusal_of, or_else}
 use Rattle.folder_change.proofs.ApplyLemmas.{apply-alone}
 use Rattle.commit_record.specs.Names.{is_lawful}
 use Rattle.commit_machine.specs.Names.{record_name, new_name, staged_name}

@@ -7,6 +7,7 @@ ghost use Rattle.host_port.specs.Own.{own};
 ghost use Rattle.host_port.specs.declared.event.Event.{Event};
 ghost use Rattle.folder_change.specs.Changes.{is_rewrite};
 ghost use Rattle.folder_change.specs.Outcomes.{base_list};
+ghost use Rattle.commit_machine.specs.Names.{actor_limit};
 ghost use Rattle.commit_machine.specs.Records.{names_of};
 ghost use Rattle.commit_driver.specs.Steps.{EndFits};
 ghost use Rattle.commit_driver.specs.Places.{nth, files_of};
@@ -97,7 +98,7 @@ fn some_changes<H: Host>(
     base: Option<&Folder>,
     host: &mut H,
 ) -> Result<(), CommitError>
-    requires short { length actor.now ≤ 4021 }
+    requires short { length actor.now ≤ actor_limit }
     requires no_zero { has_no_zero actor.now ≡ true }
     requires files { AreFiles actor.now changes.now }
     requires some { 1 ≤ length changes.now }
@@ -122,7 +123,7 @@ fn whole<H: Host>(
     base: Option<&Folder>,
     host: &mut H,
 ) -> Result<(), CommitError>
-    requires short { length actor.now ≤ 4021 }
+    requires short { length actor.now ≤ actor_limit }
     requires no_zero { has_no_zero actor.now ≡ true }
     requires files { AreFiles actor.now changes.now }
     requires based { All (λ c. IsTrue (is_rewrite c) → IsSome base) changes.now }
@@ -152,7 +153,7 @@ pub fn commit<H: Host>(
     base: Option<&Folder>,
     host: &mut H,
 ) -> Result<(), CommitError>
-    requires short { length actor.now ≤ 4021 }
+    requires short { length actor.now ≤ actor_limit }
     requires no_zero { has_no_zero actor.now ≡ true }
     requires files { AreFiles actor.now changes.now }
     requires based { All (λ c. IsTrue (is_rewrite c) → IsSome base) changes.now }

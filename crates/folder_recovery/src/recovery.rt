@@ -4,6 +4,7 @@ ghost use Rattle.host_port.specs.Names.{has_no_zero};
 ghost use Rattle.host_port.specs.Ran.{Ran};
 ghost use Rattle.host_port.specs.Disk.{disk};
 ghost use Rattle.host_port.specs.declared.event.Event.{Event};
+ghost use Rattle.commit_machine.specs.Names.{actor_limit};
 ghost use Rattle.commit_machine.specs.Edits.{recovery_for};
 ghost use Rattle.commit_driver.specs.Steps.{EndFits};
 ghost use Rattle.commit_driver.specs.Places.{nth};
@@ -74,7 +75,7 @@ fn answer(end: End, plan: Plan, place: Place) -> Result<Recovered, RecoverError>
 
 // The whole of it, as a run of the machine.
 fn run<H: Host>(alloc: Global, actor: &[u8], host: &mut H) -> Result<Recovered, RecoverError>
-    requires short { length actor.now ≤ 4021 }
+    requires short { length actor.now ≤ actor_limit }
     requires no_zero { has_no_zero actor.now ≡ true }
     ensures ran { (token : ℕ) → Ran H.world host.old host.new (λ es. Recovers (recovery_for actor.now token) es result) }
     ensures named { IsNamed actor.now result }
@@ -97,7 +98,7 @@ pub fn recover<H: Host>(
     actor: &[u8],
     host: &mut H,
 ) -> Result<Recovered, RecoverError>
-    requires short { length actor.now ≤ 4021 }
+    requires short { length actor.now ≤ actor_limit }
     requires no_zero { has_no_zero actor.now ≡ true }
     ensures ran { (token : ℕ) → Ran H.world host.old host.new (λ es. Recovers (recovery_for actor.now token) es result) }
     ensures told { Ran H.world host.old host.new (λ es. IsTold actor.now es result) }

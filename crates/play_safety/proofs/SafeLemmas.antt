@@ -12,7 +12,7 @@ use Rattle.host_port.specs.Own.{own, OnlyLooks}
 use Rattle.host_port.specs.Ran.{Honest}
 use Rattle.host_port.proofs.RanLemmas.{disk-append}
 use Rattle.folder_change.specs.declared.change.Change.{Change}
-use Rattle.folder_change.specs.Apply.{first_refusal}
+use Rattle.commit_machine.specs.Refusals.{first_refusal}
 use Rattle.commit_machine.specs.Settled.{Files, Locks}
 use Rattle.commit_machine.specs.Jobs.{Refusal, Ending, Edit, Job, IsJob, all_of}
 use Rattle.commit_machine.specs.Machine.{Seizing, Ended}
