@@ -67,7 +67,7 @@ module _ (j : Job) (job : IsJob j) (part : Part) where
       }
       go false = record { same_files = settles; same_locks = locked; sound = sound }
   stop_here e rest s last d files owners settles locked sound k goes honest lawful =
-      let kept = RunLemmas.own_step j job d files owners settles locked sound goes.0 (cut_short d e part) (cut_next d part (next j goes.0) e goes.2) (cut_agrees d e part honest.0) (RunLemmas.known_now j job d s goes.0 goes.1 k) in
+      let kept = Moments.own_step j job d files owners settles locked sound goes.0 (cut_short d e part) (cut_next d part (next j goes.0) e goes.2) (cut_agrees d e part honest.0) (Moments.known_now j job d s goes.0 goes.1 k) in
       record { same_files = kept.shows.settles; same_locks = kept.shows.locked; sound = kept.shows.sound }
 
   stop_at : (before : List Event) (e : Event) (rest : List Event) (s last : State) (d : Disk) (files : Files) (owners : Locks) → ((n : List ℕ) → settled_files j.actor d n ≡ files n) → ((n : List ℕ) → settled_locks j.actor d n ≡ owners n) → IsSound j.actor d → Knows j s d → Goes j s (own (before ++ e ∷ rest)) last → Honest d (before ++ e ∷ rest) → OthersAreLawful j.actor j.token d (before ++ e ∷ rest)
@@ -79,7 +79,7 @@ module _ (j : Job) (job : IsJob j) (part : Part) where
       (λ n. renewed_is same_lock lock_true (settled_locks j.actor d n) (settled_locks j.actor (after_step d f) n) (owners n) (locked n))
       lawful.1 (others_knows j d (after_step d f) (lawful_keeps j.actor j.token d f lawful.0) s k) goes honest.1 lawful.2
   stop_at (x ∷ es) e rest s last d files owners settles locked sound k goes honest lawful =
-      let kept = RunLemmas.own_step j job d files owners settles locked sound goes.0 x goes.2 honest.0 (RunLemmas.known_now j job d s goes.0 goes.1 k) in
+      let kept = Moments.own_step j job d files owners settles locked sound goes.0 x goes.2 honest.0 (Moments.known_now j job d s goes.0 goes.1 k) in
       stop_at es e rest (after_reply j goes.0 (reply x)) last (after d x) (files_then j x d files) owners kept.shows.settles kept.shows.locked kept.shows.sound kept.knows goes.3 honest.1 lawful
 
 pub stop_safe : StopSafe

@@ -345,8 +345,8 @@ module _ (j : Job) (job : IsJob j) where
   all_told (event.Foreign f ∷ es) s last d n sound k t goes honest lawful =
       all_told es s last (after_step d f) n lawful.1 (others_knows j d (after_step d f) (lawful_keeps j.actor j.token d f lawful.0) s k) (others_told j job d n sound f lawful.0 s t) goes honest.1 lawful.2
   all_told (e ∷ es) s last d n sound k t goes honest lawful =
-      let k' = RunLemmas.known_now j job d s goes.0 goes.1 k in
-      let kept = RunLemmas.own_step j job d (settled_files j.actor d) (settled_locks j.actor d) (λ m. refl) (λ m. refl) sound goes.0 e goes.2 honest.0 k' in
+      let k' = Moments.known_now j job d s goes.0 goes.1 k in
+      let kept = Moments.own_step j job d (settled_files j.actor d) (settled_locks j.actor d) (λ m. refl) (λ m. refl) sound goes.0 e goes.2 honest.0 k' in
       all_told es (after_reply j goes.0 (reply e)) last (after d e) (if is_decision j e d then suc n else n) kept.shows.sound kept.knows (own_told j job d n sound goes.0 e goes.2 honest.0 k' (told_now j d n s goes.0 goes.1 t)) goes.3 honest.1 lawful
 
 pub decisions_are_told : DecisionsAreTold
