@@ -169,7 +169,7 @@ pub fn commit<H: Host>(
         → IsSafe actor.now token changes.now (base_list (option_copied base.entry)) d es result) }
     ensures complete { WhereTold H.world host.old host.new (λ d es. MayCommit actor.now token d es
         → IsComplete actor.now changes.now (base_list (option_copied base.entry)) (own es)
-            (H.world.counts host.old) (H.world.counts host.new) result) }
+        (H.world.counts host.old) (H.world.counts host.new) result) }
     ensures cause { CommitCause (H.world.counts host.old) (H.world.counts host.new) result }
     ensures named { IsNamed actor.now changes.now result }
 {
