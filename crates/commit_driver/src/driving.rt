@@ -112,8 +112,8 @@ fn end_at(step: Step) -> End
     }
 }
 
-/// Drives a job over the host, from its start to its end, and gives the end with the last place. Its own events are, one
-/// by one, the machine's next calls.
+/// Drives a job over the host, from its start to its end, and gives the end with the last place. Its own events are,
+/// one by one, the machine's next calls.
 pub fn drive<H: Host>(
     alloc: Global,
     plan: &Plan,

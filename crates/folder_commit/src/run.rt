@@ -139,9 +139,9 @@ fn whole<H: Host>(
 }
 
 /// Makes changes of up to 16 files as one commit: stopped at any moment, a recovery leaves all of them or none. The
-/// actor's right is taken first and given up at the end, and a commit that was stopped before is recovered. `token` is a
-/// number that no other run has. `base` is the folder for which a rewrite among the changes was made. Without a change
-/// nothing is done.
+/// actor's right is taken first and given up at the end, and a commit that was stopped before is recovered. `token`
+/// is a number that no other run has. `base` is the folder for which a rewrite among the changes was made. Without a
+/// change nothing is done.
 ///
 /// `TooManyNames` comes where the changes name more than 16 files; then nothing is done. `Busy` comes where another has
 /// the right or a file's lock, `Record` where what stands as the record is none, `Changed` where the file's messages
