@@ -165,22 +165,10 @@ fn open_bytes<H: Host>(
     match Folder::open(alloc, bytes) {
         Ok(folder) => begin(alloc, host, start, name, folder, session),
         Err(ScanError::NotAMailbox) => {
-            end_at_file(
-                alloc,
-                host,
-                name,
-                b": not a mailbox",
-                Status::NoFolder,
-            )
+            end_at_file(alloc, host, name, b": not a mailbox", Status::NoFolder)
         }
         Err(ScanError::TooMany { .. }) => {
-            end_at_file(
-                alloc,
-                host,
-                name,
-                b": too many messages",
-                Status::NoFolder,
-            )
+            end_at_file(alloc, host, name, b": too many messages", Status::NoFolder)
         }
         Err(ScanError::Memory) => Err(Stop::Memory),
     }
