@@ -2,15 +2,11 @@
 use Rattle.std.specs.Prelude.{ℕ, Bool, not, ◌&&◌, ◌==◌, ◌-◌, nat_lt, List, [], ◌∷◌, length, take, slice_get, unwrap_or, if◌then◌else◌}
 use Rattle.std.specs.List.{list_any}
 use Rattle.std.specs.Option.{option_map_or}
-use Rattle.std.specs.declared.result.Result.{Result}
 use Rattle.std.specs.declared.result.Result.TheVariants.{Ok, Err}
-use Rattle.mailx_vars.specs.Expansion.{expansion}
-use Rattle.mailx_vars.specs.declared.error.NameError.{NameError}
-use Rattle.mailx_vars.specs.declared.error.NameError.TheVariants.{NoPrevious, NoFolder, Memory}
 use Rattle.message_list.specs.LocalParts.{local_part}
 use Rattle.command_desk.specs.declared.desk.Desk.{Desk}
 use Rattle.command_desk.specs.Answers.{OrFault}
-use Rattle.command_desk.specs.Faults.{bad_name, no_previous, no_folder, no_author}
+use Rattle.command_desk.specs.Faults.{bad_name, no_author}
 
 -- the words of a list in front of a file: all but the last
 abbrev pub list_words : List (List ℕ) → List (List ℕ)
@@ -19,20 +15,6 @@ list_words words = take (length words - 1) words
 -- the word of the file: the last one
 abbrev pub file_word : List (List ℕ) → List ℕ
 file_word words = unwrap_or (slice_get words (length words - 1)) []
-
--- why a word stands for no file
-abbrev pub name_fault : NameError → List ℕ
-name_fault NoPrevious = no_previous
-name_fault NoFolder = no_folder
-name_fault Memory = []
-
-abbrev pub name_or_fault : Result (List ℕ) NameError → OrFault (List ℕ)
-name_or_fault (Ok name) = Ok name
-name_or_fault (Err e) = Err (name_fault e)
-
--- the name of the file that a word stands for; there is no previous file yet
-abbrev pub expanded : Desk → List ℕ → OrFault (List ℕ)
-expanded desk word = name_or_fault (expansion desk.places desk.vars [] word)
 
 -- the bare address of the author of message n, numbered from 1; empty where there is none
 abbrev pub author_of : Desk → ℕ → List ℕ

@@ -17,7 +17,8 @@ use Rattle.command_desk.specs.Effects.{marked}
 use Rattle.command_desk.specs.Faults.{bad_arguments}
 use Rattle.command_desk.specs.Selecting.{chosen}
 use Rattle.folder_commands.specs.declared.wanted.Filing.{Filing}
-use Rattle.folder_commands.specs.FileNames.{list_words, file_word, expanded, author_of, named_after}
+use Rattle.command_desk.specs.FileNames.{expanded}
+use Rattle.folder_commands.specs.FileNames.{list_words, file_word, author_of, named_after}
 
 -- what is said once so many messages were put into the file of this name
 abbrev pub reply : List ℕ → List ℕ → ℕ → List ℕ
