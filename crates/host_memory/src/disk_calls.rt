@@ -6,11 +6,11 @@ ghost use Rattle.host_memory.specs.Plans.{Ended, TapeAddsCall, TapeAddsPlanned};
 ghost use Rattle.host_memory.specs.Views.{steps_before, part_at};
 ghost use Rattle.host_port.specs.declared.event.Event.TheVariants as event;
 
+use crate::Plan;
 use crate::calls::failing;
 use crate::ending::{answer, settle};
 use crate::standing::copy_found;
 use crate::tape::{Tape, add_others};
-use crate::Plan;
 use host_port::{DiskFault, Event};
 use mail_text::{Memory, Text};
 use std::alloc::Global;

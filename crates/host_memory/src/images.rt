@@ -8,11 +8,11 @@ ghost use Rattle.host_port.specs.Disk.{SameDisk};
 ghost use Rattle.host_memory.specs.Views.{disk_of, NamesOnce};
 ghost use Rattle.host_port.specs.declared.event.Event.{Event};
 
+use crate::DiskView;
 use crate::ending::{is_whole, leave, owns};
 use crate::named::Named;
 use crate::standing::{Standing, copy_found, effect, effect_of_step, rename, write};
 use crate::tape::{copy_files, copy_locks, show_files, show_locks};
-use crate::DiskView;
 use host_port::{Event, Part};
 use mail_text::Memory;
 use std::alloc::Global;

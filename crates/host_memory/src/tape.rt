@@ -6,9 +6,9 @@ ghost use Rattle.host_port.specs.Disk.{SameDisk};
 ghost use Rattle.host_memory.specs.Views.{disk_of, lookup, named, names_of, or_else, at_name, with_value, steps_before, NamesOnce};
 ghost use Rattle.host_port.specs.declared.event.Event.TheVariants as event;
 
+use crate::DiskView;
 use crate::named::Named;
 use crate::standing::{Standing, effect};
-use crate::DiskView;
 use host_port::{Event, ForeignStep};
 use mail_text::{Items, Memory, Text};
 use std::alloc::Global;
