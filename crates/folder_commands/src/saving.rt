@@ -31,8 +31,8 @@ fn marked(alloc: Global, desk: &Desk, act: Act, numbers: &[u32]) -> Result<Effec
     })
 }
 
-// What is said once so many messages were put into the file of this name.
-fn reply(alloc: Global, name: &[u8], done: &[u8], count: usize) -> Result<Text, Memory>
+/// What is said once so many messages were put into the file of this name.
+pub(crate) fn reply(alloc: Global, name: &[u8], done: &[u8], count: usize) -> Result<Text, Memory>
     ensures { IfOk result (λ line. line ≡ reply name.now done.now count) }
 {
     let mut buffer = Buffer::new();
