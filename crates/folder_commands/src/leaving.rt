@@ -49,8 +49,8 @@ fn ask_said(asks: &mut Items<Ask>, text: Text) -> Result<(), Memory>
     asks.push(Ask::Say(text))
 }
 
-/// `quit`, and the end of the input: the folder is left. What `quit_changes` gives for it is committed; then it is said how many
-/// messages went to mbox and how many stay, each where there are any; then the run ends.
+/// `quit`, and the end of the input: the folder is left. What `quit_changes` gives for it is committed; then it is said
+/// how many messages went to mbox and how many stay, each where there are any; then the run ends.
 pub fn quit(alloc: Global, desk: &Desk) -> Result<Steps, Memory>
     requires { IsDesk desk.now }
     ensures steps { IfOk result (λ steps. steps ≡ quit desk.now) }

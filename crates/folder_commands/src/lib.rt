@@ -1,5 +1,6 @@
-//! Commands that put messages into files: copy, Copy, save, Save and write, each of which comes to one change of one file,
-//! or to the line that refuses it; and quit, which comes to the changes of mbox and of the folder. Nothing is changed yet.
+//! Commands that put messages into files: copy, Copy, save, Save and write, each of which comes to one change of one
+//! file, or to the line that refuses it; and quit, which comes to the changes of mbox and of the folder. Nothing is
+//! changed yet.
 #![tactic(auto)]
 
 mod file_names;

@@ -62,14 +62,16 @@ fn leave_by<H: Host>(
     end_by(host, asked)
 }
 
-/// Leaves the folder at the end of the input, as `quit` does. Where that is refused its line is said, and the run ends so.
+/// Leaves the folder at the end of the input, as `quit` does. Where that is refused its line is said, and the run ends
+/// so.
 pub(crate) fn leave<H: Host>(
     alloc: Global,
     state: &SessionState,
     host: &mut H,
 ) -> Result<Status, RunError>
     requires { IsState state.now }
-    ensures ran { Ran H.world host.old host.new (λ es. Goes (leaving state.now) es (in_play (λ (e : Status). e) result)) }
+    ensures ran { Ran H.world host.old host.new
+        (λ es. Goes (leaving state.now) es (in_play (λ (e : Status). e) result)) }
     ensures end { IfOk result IsEnd }
     ensures cause { LineCaused (H.world.counts host.old) (H.world.counts host.new) result }
 {

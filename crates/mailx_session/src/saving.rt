@@ -78,7 +78,8 @@ fn is_changed(changes: &[Change], file: &[u8]) -> bool
 
 // What is too large: a file that is changed, or the record or a staged file.
 fn too_large(alloc: Global, changes: &[Change], name: &[u8], length: u64) -> Result<Asked, Memory>
-    ensures means { (s : SessionState) → IfOk result (λ asked. after_asks s asked ≡ after_commit s changes.now (Committed.TooLarge name.now length)) }
+    ensures means { (s : SessionState) → IfOk result
+        (λ asked. after_asks s asked ≡ after_commit s changes.now (Committed.TooLarge name.now length)) }
     ensures end { IfOk result EndsByAsk }
 {
     if is_changed(changes, name) {

@@ -135,9 +135,11 @@ impl Session {
         result
     }
 
-    /// The end of the input: the folder is left, as by `quit`, and the run ends. Where the quit is refused its line is said.
+    /// The end of the input: the folder is left, as by `quit`, and the run ends. Where the quit is refused its line is
+    /// said.
     pub fn end<H: Host>(&self, host: &mut H) -> Result<Status, RunError>
-        ensures ran { Ran H.world host.old host.new (λ es. Goes (leaving self.now) es (in_play (λ (e : Status). e) result)) }
+        ensures ran { Ran H.world host.old host.new
+            (λ es. Goes (leaving self.now) es (in_play (λ (e : Status). e) result)) }
         ensures end { IfOk result IsEnd }
         ensures cause { LineCaused (H.world.counts host.old) (H.world.counts host.new) result }
     {
