@@ -55,6 +55,14 @@ not_in_startup name = with_feed (name ++ codes ": not in a start-up file")
 abbrev pub not_composing : List ℕ → List ℕ
 not_composing name = with_feed (name ++ codes ": not while composing")
 
+-- the word stands for the previous file, and there is none
+abbrev pub no_previous : List ℕ
+no_previous = with_feed (codes "no previous file")
+
+-- the word stands for a file in the folder of the variable `folder`, which isn't set
+abbrev pub no_folder : List ℕ
+no_folder = with_feed (codes "folder is not set")
+
 -- no file that commands make can have this name, since a commit uses it
 abbrev pub reserved_name : List ℕ → List ℕ
 reserved_name name = with_feed (name ++ codes ": reserved name")

@@ -4,3 +4,4 @@ pub mod Faults
 pub mod Answers
 pub mod Selecting
 pub mod Messages
+pub mod FileNames

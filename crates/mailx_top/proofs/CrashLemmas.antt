@@ -56,7 +56,7 @@ use Rattle.mailx_session.specs.Leaving.{left_by, leaving}
 use Rattle.mailx_session.specs.Rounds.{line_play, typed_play, dropped_play, counted_play, waiting_play}
 use Rattle.mailx_top.specs.declared.environment.Environment.{Environment}
 use Rattle.mailx_top.specs.Words.{Start, are_read, start_of}
-use Rattle.mailx_top.specs.Meaning.{RunState, Opening, Reading, Leaving, round, last_round, opening, loaded, with_list, greeted, turn, line_round, with_input, prompted, message_limit, first_of, actor_in}
+use Rattle.mailx_top.specs.Meaning.{RunState, Opening, Reading, Leaving, round, last_round, opening, folder_name, with_name_or_fault, loaded, with_list, greeted, turn, line_round, with_input, prompted, message_limit, first_of, actor_in}
 use Rattle.mailx_top.specs.Statuses.{line_at_stop, line_at_end}
 use Rattle.mailx_top.specs.Runs.{Ending, IsRun}
 use Rattle.mailx_top.specs.Crash.{IsSafe}
@@ -255,16 +255,20 @@ module _ (actor : List ℕ) (token : ℕ) where
   either-of true p q x y = x
   either-of false p q x y = y
 
-  list-of : (s : SessionState) (start : Start) (bytes : List ℕ) (l : Option (List (List ℕ))) → IsOf actor token s → AllEnds (NextKeeps (StateOf actor token)) (with_list s start bytes l)
-  list-of s start bytes None of = λ u. tt
-  list-of s start bytes (Some texts) of =
-      either-of (nat_lt message_limit (length texts)) _ _ (λ u. tt) (λ rows. greeted-of start.quiet (with_opened s start.file bytes rows) of)
+  list-of : (s : SessionState) (start : Start) (name bytes : List ℕ) (l : Option (List (List ℕ))) → IsOf actor token s → AllEnds (NextKeeps (StateOf actor token)) (with_list s start name bytes l)
+  list-of s start name bytes None of = λ u. tt
+  list-of s start name bytes (Some texts) of =
+      either-of (nat_lt message_limit (length texts)) _ _ (λ u. tt) (λ rows. greeted-of start.quiet (with_opened s name bytes rows) of)
 
-  loaded-of : (s : SessionState) (start : Start) (f : Found) → IsOf actor token s → AllEnds (NextKeeps (StateOf actor token)) (loaded s start f)
-  loaded-of s start (found.Bytes bytes true) of = λ u. tt
-  loaded-of s start (found.Bytes None false) of = λ u. tt
-  loaded-of s start (found.Bytes (Some bytes) false) of = list-of s start bytes (list_of bytes) of
-  loaded-of s start (found.TooLarge n) of = λ u. tt
+  loaded-of : (s : SessionState) (start : Start) (name : List ℕ) (f : Found) → IsOf actor token s → AllEnds (NextKeeps (StateOf actor token)) (loaded s start name f)
+  loaded-of s start name (found.Bytes bytes true) of = λ u. tt
+  loaded-of s start name (found.Bytes None false) of = λ u. tt
+  loaded-of s start name (found.Bytes (Some bytes) false) of = list-of s start name bytes (list_of bytes) of
+  loaded-of s start name (found.TooLarge n) of = λ u. tt
+
+  named-of : (s : SessionState) (start : Start) (name : OrFault (List ℕ)) → IsOf actor token s → AllEnds (NextKeeps (StateOf actor token)) (with_name_or_fault s start name)
+  named-of s start (Ok name) of = either-of (is_short_name name) _ _ (λ f. loaded-of s start name f of) (λ u. tt)
+  named-of s start (Err line) of = λ u. tt
 
 -- each commit of a round is one of the run
 round-commits : (env : Environment) (x : RunState) → StateOf (actor_in env) env.token x → EachCommit (IsBy (actor_in env) env.token) (round env x)
@@ -276,8 +280,7 @@ round-commits env (Leaving s i) of = last-commits (actor_in env) env.token s of
 -- and each round leaves a state of its actor and token
 round-of : (env : Environment) (x : RunState) → StateOf (actor_in env) env.token x → AllEnds (NextKeeps (StateOf (actor_in env) env.token)) (round env x)
 round-of env (Opening None) of = λ u. tt
-round-of env (Opening (Some start)) of =
-    either-of (actor_in env) env.token (is_short_name start.file) _ _ (λ f. loaded-of (actor_in env) env.token (first_of env) start f (refl, refl)) (λ u. tt)
+round-of env (Opening (Some start)) of = named-of (actor_in env) env.token (first_of env) start (folder_name (first_of env) start) (refl, refl)
 round-of env (Reading s i) of = line-of (actor_in env) env.token s i (taken s.frames) of
 round-of env (Leaving s i) of = last-of (actor_in env) env.token s
 

@@ -26,9 +26,8 @@ use Rattle.mailx_session.specs.Sessions.{LineCaused, stop_of}
 use Rattle.mailx_session.specs.Statuses.{IsEnd, IsLineEnd}
 use Rattle.std.specs.declared.option.Option.{Option}
 use Rattle.std.specs.declared.option.Option.TheVariants.{Some, None}
-use Rattle.mailx_top.specs.Openings.{IsBadName}
 use Rattle.mailx_top.specs.Statuses.{status_at_stop}
-use Rattle.mailx_top.specs.Usage.{IsSayCut, EndsAsNamed, IsOrCut}
+use Rattle.mailx_top.specs.Usage.{IsSayCut, EndsAsNamed, IsBadName, IsOrCut}
 use Rattle.mailx_top.specs.Words.{Start}
 use Rattle.mailx_top.specs.Runs.{AsFar, SaysLast, SaysAtEnd}
 
@@ -67,9 +66,9 @@ loop-short round e {x = x} {es = es} is (last {r = r} goes) = cut (goes-short (r
 loop-short round e is (cut goes) = absurd (cc is)
 
 -- where memory is wanting at an end, it is named so too
-pub named-short : (start : Option Start) (s : Status) → EndsAsNamed start (Ok s) → EndsAsNamed start (Err stop.Memory)
-named-short None s named = tt
-named-short (Some start) s named = (tt, λ bad. tt)
+pub named-short : (env : Environment) (start : Option Start) (s : Status) → EndsAsNamed env start (Ok s) → EndsAsNamed env start (Err stop.Memory)
+named-short env None s named = tt
+named-short env (Some start) s named = (tt, λ bad. tt)
 
 -- the actor of a run whose places are read
 pub actor-read : (env : Environment) (places : Places) → Some places ≡ places_of env.pairs → places.home ++ codes "/.mailx" ≡ actor_in env
@@ -117,9 +116,9 @@ IsFault status.DiskFault = Unit {0}
 IsFault s = ⊥
 
 -- a run that isn't cut off ends with no fault
-pub end-no-fault : {A : Type 0} (start : Option Start) (s f : Status) → EndsAsNamed start (Ok s) → IsFault f → s ≡ f → A
-end-no-fault None s f named fault is = absurd (subst IsFault (sym is ∙ named) fault)
-end-no-fault {A = A} (Some start) s f named fault is = go f (subst IsEnd is named.0) fault
+pub end-no-fault : {A : Type 0} (env : Environment) (start : Option Start) (s f : Status) → EndsAsNamed env start (Ok s) → IsFault f → s ≡ f → A
+end-no-fault env None s f named fault is = absurd (subst IsFault (sym is ∙ named) fault)
+end-no-fault {A = A} env (Some start) s f named fault is = go f (subst IsEnd is named.0) fault
   where
     go : (f : Status) → IsEnd f → IsFault f → A
     go status.Done e never = absurd never
@@ -133,9 +132,9 @@ end-no-fault {A = A} (Some start) s f named fault is = go f (subst IsEnd is name
     go status.Memory never f = absurd never
     go status.InputLimit never f = absurd never
 
-pub only-usage : (start : Option Start) (s : Status) → EndsAsNamed start (Ok s) → s ≡ status.Usage → start ≡ None
-only-usage None s named is = refl
-only-usage (Some start) s named is = absurd (subst IsEnd is named.0)
+pub only-usage : (env : Environment) (start : Option Start) (s : Status) → EndsAsNamed env start (Ok s) → s ≡ status.Usage → start ≡ None
+only-usage env None s named is = refl
+only-usage env (Some start) s named is = absurd (subst IsEnd is named.0)
 
 or-same : (wanted s : Status) → s ≡ wanted → IsOrCut wanted s
 or-same wanted status.Done is = is
@@ -156,18 +155,18 @@ or-cut wanted stop.Input never = absurd never
 or-cut wanted stop.Disk never = absurd never
 or-cut wanted stop.TooMuch never = absurd never
 
-pub usage-ended : (start : Option Start) (s : Status) → EndsAsNamed start (Ok s) → start ≡ None → IsOrCut status.Usage s
-usage-ended None s named none = or-same status.Usage s named
-usage-ended (Some start) s named none = absurd (cc none)
+pub usage-ended : (env : Environment) (start : Option Start) (s : Status) → EndsAsNamed env start (Ok s) → start ≡ None → IsOrCut status.Usage s
+usage-ended env None s named none = or-same status.Usage s named
+usage-ended env (Some start) s named none = absurd (cc none)
 
-pub usage-cut : (start : Option Start) (cause : Stop) → EndsAsNamed start (Err cause) → start ≡ None → IsOrCut status.Usage (status_at_stop cause)
-usage-cut None cause named none = or-cut status.Usage cause named
-usage-cut (Some start) cause named none = absurd (cc none)
+pub usage-cut : (env : Environment) (start : Option Start) (cause : Stop) → EndsAsNamed env start (Err cause) → start ≡ None → IsOrCut status.Usage (status_at_stop cause)
+usage-cut env None cause named none = or-cut status.Usage cause named
+usage-cut env (Some start) cause named none = absurd (cc none)
 
-pub bad-ended : (start : Option Start) (s : Status) → EndsAsNamed start (Ok s) → IsBadName start → IsOrCut status.NoFolder s
-bad-ended None s named never = absurd never
-bad-ended (Some start) s named bad = or-same status.NoFolder s (named.1 bad)
+pub bad-ended : (env : Environment) (start : Option Start) (s : Status) → EndsAsNamed env start (Ok s) → IsBadName env start → IsOrCut status.NoFolder s
+bad-ended env None s named never = absurd never
+bad-ended env (Some start) s named bad = or-same status.NoFolder s (named.1 bad)
 
-pub bad-cut : (start : Option Start) (cause : Stop) → EndsAsNamed start (Err cause) → IsBadName start → IsOrCut status.NoFolder (status_at_stop cause)
-bad-cut None cause named never = absurd never
-bad-cut (Some start) cause named bad = or-cut status.NoFolder cause (named.1 bad)
+pub bad-cut : (env : Environment) (start : Option Start) (cause : Stop) → EndsAsNamed env start (Err cause) → IsBadName env start → IsOrCut status.NoFolder (status_at_stop cause)
+bad-cut env None cause named never = absurd never
+bad-cut env (Some start) cause named bad = or-cut status.NoFolder cause (named.1 bad)

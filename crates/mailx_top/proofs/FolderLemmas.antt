@@ -1,4 +1,4 @@
--- A mailbox with too many messages.
+-- The folder of a run, by its name and by what was loaded.
 use Rattle.std.proofs.Common.{◌≡◌, ◌<◌, ℕ, suc, true, List, [], ◌∷◌, length, refl, sym, ap, ◌∙◌, ⊎_elim, subst, inl, arith}
 use Rattle.std.specs.Prelude.{nat_lt}
 use Rattle.std.specs.declared.option.Option.{Option}
@@ -16,10 +16,11 @@ use Rattle.mailx_top.specs.Words.{Start}
 use Rattle.host_port.specs.declared.event.Event.{Event}
 use Rattle.session_play.specs.declared.stop.Stop.{Stop}
 use Rattle.session_play.specs.Play.{Goes, Next}
+use Rattle.command_desk.specs.Answers.{OrFault}
 use Rattle.mailx_session.specs.declared.state.SessionState.{SessionState}
 use Rattle.mailx_session.specs.declared.status.Status.{Status}
 use Rattle.mailx_session.specs.Openings.{Opens}
-use Rattle.mailx_top.specs.Meaning.{RunState, starting, loaded, with_list, begun, greeted, says_and_ends, message_limit}
+use Rattle.mailx_top.specs.Meaning.{RunState, starting, folder_name, with_name, with_name_or_fault, loaded, with_list, begun, greeted, says_and_ends, message_limit}
 use Rattle.std.specs.Prelude.{◌++◌, codes, Bool, false}
 use Rattle.mail_text.specs.declared.text.Text.{Text}
 use Rattle.session_play.specs.declared.act.Found.{Found}
@@ -42,36 +43,40 @@ unfolding list_of
 listed b some = ⊎_elim (λ t. cond-true _ _ _ t) (λ f. absurd (some (cond-false _ _ _ f))) (cases_Bool (is_mailbox b))
 
 -- a session that was opened goes as it is greeted
-pub begun-goes : (old : SessionState) (start : Start) (bytes : List ℕ) (s : SessionState) (out : Result (Next RunState Status) Stop) → Opens old start.file bytes s → (es : List Event) → Goes (greeted start.quiet s) es out
-    → Goes (begun old start bytes (texts_of bytes)) es out
-begun-goes old start bytes s out (rows, are, is) es went =
+pub begun-goes : (old : SessionState) (start : Start) (name bytes : List ℕ) (s : SessionState) (out : Result (Next RunState Status) Stop) → Opens old name bytes s → (es : List Event) → Goes (greeted start.quiet s) es out
+    → Goes (begun old start name bytes (texts_of bytes)) es out
+begun-goes old start name bytes s out (rows, are, is) es went =
     let G : SessionState → Type 0 = λ d. Goes (greeted start.quiet d) es out in
     inl (rows, [], es, refl, (refl, are), subst G is went)
 
 abbrev pub failed : ScanError → Result Folder ScanError
 failed e = Err e
 
-pub with-no-list : (s : SessionState) (start : Start) (b : List ℕ) (l : Option (List (List ℕ))) → l ≡ None → with_list s start b l ≡ says_and_ends (with_feed (start.file ++ codes ": not a mailbox")) status.NoFolder
-with-no-list s start b l is = ap (with_list s start b) is
+pub with-no-list : (s : SessionState) (start : Start) (name b : List ℕ) (l : Option (List (List ℕ))) → l ≡ None → with_list s start name b l ≡ says_and_ends (with_feed (name ++ codes ": not a mailbox")) status.NoFolder
+with-no-list s start name b l is = ap (with_list s start name b) is
 
-pub with-held : (s : SessionState) (start : Start) (f : Found) (b : Option Text) (h : Bool) → f ≡ found.Bytes b h → h ≡ true → loaded s start f ≡ says_and_ends (with_feed (start.file ++ codes ": busy")) status.Refused
-with-held s start f b h is held = ap (loaded s start) (is ∙ ap (λ h. found.Bytes b h) held)
+pub with-held : (s : SessionState) (start : Start) (name : List ℕ) (f : Found) (b : Option Text) (h : Bool) → f ≡ found.Bytes b h → h ≡ true → loaded s start name f ≡ says_and_ends (with_feed (name ++ codes ": busy")) status.Refused
+with-held s start name f b h is held = ap (loaded s start name) (is ∙ ap (λ h. found.Bytes b h) held)
 
-pub with-none : (s : SessionState) (start : Start) (f : Found) (b : Option Text) (h : Bool) → f ≡ found.Bytes b h → b ≡ None → h ≡ false → loaded s start f ≡ says_and_ends (with_feed (start.file ++ codes ": no such file")) status.NoFolder
-with-none s start f b h is none free = ap (loaded s start) (is ∙ (ap (λ b. found.Bytes b h) none ∙ ap (λ h. found.Bytes None h) free))
+pub with-none : (s : SessionState) (start : Start) (name : List ℕ) (f : Found) (b : Option Text) (h : Bool) → f ≡ found.Bytes b h → b ≡ None → h ≡ false → loaded s start name f ≡ says_and_ends (with_feed (name ++ codes ": no such file")) status.NoFolder
+with-none s start name f b h is none free = ap (loaded s start name) (is ∙ (ap (λ b. found.Bytes b h) none ∙ ap (λ h. found.Bytes None h) free))
 
-pub with-large : (s : SessionState) (start : Start) (f : Found) (n : ℕ) → f ≡ found.TooLarge n → loaded s start f ≡ says_and_ends (with_feed (start.file ++ codes ": too large")) status.NoFolder
-with-large s start f n is = ap (loaded s start) is
+pub with-large : (s : SessionState) (start : Start) (name : List ℕ) (f : Found) (n : ℕ) → f ≡ found.TooLarge n → loaded s start name f ≡ says_and_ends (with_feed (name ++ codes ": too large")) status.NoFolder
+with-large s start name f n is = ap (loaded s start name) is
 
-pub with-bad-name : (s : SessionState) (start : Start) → is_short_name start.file ≡ false → starting s start ≡ says_and_ends (with_feed (start.file ++ codes ": bad name")) status.NoFolder
-with-bad-name s start bad = cond-false _ _ _ bad
+pub with-bad-name : (s : SessionState) (start : Start) (name : List ℕ) → is_short_name name ≡ false → with_name s start name ≡ says_and_ends (with_feed (name ++ codes ": bad name")) status.NoFolder
+with-bad-name s start name bad = cond-false _ _ _ bad
+
+-- what is done by what the folder's word stands for
+pub with-word : (s : SessionState) (start : Start) (name : OrFault (List ℕ)) → folder_name s start ≡ name → starting s start ≡ with_name_or_fault s start name
+with-word s start name is = ap (with_name_or_fault s start) is
 
 -- what is done where more messages start than a folder may have
-pub with-too-many : (s : SessionState) (start : Start) (b : List ℕ) (count : ℕ) (e : ScanError) → e ≡ scan.TooMany count → (list_of b ≡ None → failed e ≡ failed scan.NotAMailbox) → count ≡ length (starts b) → 1000000 < count
-    → with_list s start b (list_of b) ≡ says_and_ends (with_feed (start.file ++ codes ": too many messages")) status.NoFolder
-with-too-many s start b count e found some is many =
+pub with-too-many : (s : SessionState) (start : Start) (name b : List ℕ) (count : ℕ) (e : ScanError) → e ≡ scan.TooMany count → (list_of b ≡ None → failed e ≡ failed scan.NotAMailbox) → count ≡ length (starts b) → 1000000 < count
+    → with_list s start name b (list_of b) ≡ says_and_ends (with_feed (name ++ codes ": too many messages")) status.NoFolder
+with-too-many s start name b count e found some is many =
     let long : nat_lt message_limit (length (texts_of b)) ≡ true = lt-ltb _ _ (let e = length-texts b in omega arith) in
-    ap (with_list s start b) (listed b (λ none. other (ap failed (sym found) ∙ some none))) ∙ cond-true _ _ _ long
+    ap (with_list s start name b) (listed b (λ none. other (ap failed (sym found) ∙ some none))) ∙ cond-true _ _ _ long
   where
     other : failed (scan.TooMany count) ≡ failed scan.NotAMailbox → ⊥
     other h = absurd (cc h)

@@ -20,6 +20,7 @@ use Rattle.session_play.specs.Play.{Line, Say, Read, Know, Play, Ret, Ask, Says,
 use Rattle.mail_text.specs.Lines.{with_feed}
 use Rattle.mailx_vars.specs.Names.{is_short_name}
 use Rattle.command_desk.specs.declared.desk.Desk.{Desk}
+use Rattle.command_desk.specs.Answers.{OrFault}
 use Rattle.mailx_session.specs.declared.state.SessionState.{SessionState}
 use Rattle.mailx_session.specs.declared.status.Status.{Status}
 use Rattle.mailx_session.specs.declared.status.Status.TheVariants as status
@@ -31,7 +32,7 @@ use Rattle.mailx_session.specs.States.{with_frames}
 use Rattle.mailx_session.specs.Rounds.{typed_play, waiting_play}
 use Rattle.mailx_top.specs.declared.environment.Environment.{Environment}
 use Rattle.mailx_top.specs.Words.{Start}
-use Rattle.mailx_top.specs.Meaning.{RunState, first_of, Opening, Reading, Leaving, round, opening, loaded, with_list, greeted, turn, next_turn, line_round, with_input, prompted, says_and_ends, is_opening, usage, message_limit}
+use Rattle.mailx_top.specs.Meaning.{RunState, first_of, Opening, Reading, Leaving, round, opening, folder_name, with_name_or_fault, loaded, with_list, greeted, turn, next_turn, line_round, with_input, prompted, says_and_ends, is_opening, usage, message_limit}
 use Rattle.session_play.specs.Acts.{AllActs, AllEnds, loads_nothing}
 use Rattle.session_play.specs.Causes.{some_load_saw, counted, events_at}
 use Rattle.session_play.proofs.SawLemmas.{Unseen, unseen-then, goes-unseen}
@@ -42,7 +43,8 @@ use Rattle.mailx_top.specs.Leavings.{first_answer, is_refused_at, refused_at_end
 use Rattle.mailx_top.proofs.LeavingLemmas.{any-ends, end_at, opened_end, last-ends}
 use Rattle.mailx_top.proofs.LineLemmas.{EndsByLine, typed-ends, waiting-ends}
 use Rattle.mailx_top.proofs.RoundLemmas.{loaded-acts}
-use Rattle.mailx_top.specs.Openings.{saw_held, is_no_list, saw_no_folder, IsBadName, OpensNone, EndsOrIsCut, IsOpeningExplained}
+use Rattle.mailx_top.specs.Openings.{saw_held, is_no_list, saw_no_folder, OpensNone, EndsOrIsCut, IsOpeningExplained}
+use Rattle.mailx_top.specs.Usage.{IsNoName, IsBadName}
 
 abbrev IsReadingState : RunState → Type 0
 IsReadingState (Opening start) = ⊥
@@ -181,27 +183,27 @@ greeted-ends : (quiet : Bool) (s : SessionState) → AllEnds (EndsWith status.Do
 greeted-ends true s = (tt, refl)
 greeted-ends false s = λ u. (tt, refl)
 
-list-ends : (s : SessionState) (start : Start) (bytes : List ℕ) (l : Option (List (List ℕ))) → AllEnds (EndsWith (end_of_list l)) (with_list s start bytes l)
-list-ends s start bytes None = λ u. refl
-list-ends s start bytes (Some texts) = go (nat_lt message_limit (length texts))
+list-ends : (s : SessionState) (start : Start) (name bytes : List ℕ) (l : Option (List (List ℕ))) → AllEnds (EndsWith (end_of_list l)) (with_list s start name bytes l)
+list-ends s start name bytes None = λ u. refl
+list-ends s start name bytes (Some texts) = go (nat_lt message_limit (length texts))
   where
     go : (b : Bool) → AllEnds (EndsWith (if b then status.NoFolder else status.Done))
-        (if b then says_and_ends (with_feed (start.file ++ codes ": too many messages")) status.NoFolder else Ask (Know texts) (λ rows. greeted start.quiet (with_opened s start.file bytes rows)))
+        (if b then says_and_ends (with_feed (name ++ codes ": too many messages")) status.NoFolder else Ask (Know texts) (λ rows. greeted start.quiet (with_opened s name bytes rows)))
     go true = λ u. refl
-    go false = λ rows. greeted-ends start.quiet (with_opened s start.file bytes rows)
+    go false = λ rows. greeted-ends start.quiet (with_opened s name bytes rows)
 
-loaded-ends : (s : SessionState) (start : Start) (f : Found) → AllEnds (EndsWith (end_of f)) (loaded s start f)
-loaded-ends s start (found.Bytes bytes true) = λ u. refl
-loaded-ends s start (found.Bytes None false) = λ u. refl
-loaded-ends s start (found.Bytes (Some bytes) false) = list-ends s start bytes (list_of bytes)
-loaded-ends s start (found.TooLarge n) = λ u. refl
+loaded-ends : (s : SessionState) (start : Start) (name : List ℕ) (f : Found) → AllEnds (EndsWith (end_of f)) (loaded s start name f)
+loaded-ends s start name (found.Bytes bytes true) = λ u. refl
+loaded-ends s start name (found.Bytes None false) = λ u. refl
+loaded-ends s start name (found.Bytes (Some bytes) false) = list-ends s start name bytes (list_of bytes)
+loaded-ends s start name (found.TooLarge n) = λ u. refl
 
 -- how an end and what was seen belong together
-record Matches (start : Option Start) (es : List Event) (e : Status) : Type 0 where
+record Matches (env : Environment) (start : Option Start) (es : List Event) (e : Status) : Type 0 where
   refused : e ≡ status.Refused → some_load_saw saw_held es ≡ true
   held : some_load_saw saw_held es ≡ true → e ≡ status.Refused
-  none : e ≡ status.NoFolder → OpensNone start es
-  opens_none : OpensNone start es → e ≡ status.NoFolder
+  none : e ≡ status.NoFolder → OpensNone env start es
+  opens_none : OpensNone env start es → e ≡ status.NoFolder
 
 or-true : (a : Bool) → (a || true) ≡ true
 or-true true = refl
@@ -211,8 +213,8 @@ or-false : (a : Bool) → (a || false) ≡ a
 or-false true = refl
 or-false false = refl
 
-explained-cut : (start : Option Start) (es : List Event) (b : Bool) (out : Result Status Stop) (cause : Stop) → out ≡ Err cause → IsOpeningExplained start out es b
-explained-cut start es b out cause is = subst (λ o. IsOpeningExplained start o es b) (sym is) (record {
+explained-cut : (env : Environment) (start : Option Start) (es : List Event) (b : Bool) (out : Result Status Stop) (cause : Stop) → out ≡ Err cause → IsOpeningExplained env start out es b
+explained-cut env start es b out cause is = subst (λ o. IsOpeningExplained env start o es b) (sym is) (record {
   refused_only = λ e. absurd (cc e);
   refused_always = λ h. tt;
   no_folder_only = λ e. absurd (cc e);
@@ -220,106 +222,100 @@ explained-cut start es b out cause is = subst (λ o. IsOpeningExplained start o 
 })
 
 -- a run that ended with its first round
-explained-shut : (start : Option Start) (es : List Event) (out : Result Status Stop) (e : Status) → Matches start es e → EndsLike e out → IsOpeningExplained start out es false
-explained-shut start es (Ok r) e m same = record {
+explained-shut : (env : Environment) (start : Option Start) (es : List Event) (out : Result Status Stop) (e : Status) → Matches env start es e → EndsLike e out → IsOpeningExplained env start out es false
+explained-shut env start es (Ok r) e m same = record {
   refused_only = λ is. or-false (some_load_saw saw_held es) ∙ m.refused (sym same ∙ ap opened_end (came-same r status.Refused is));
   refused_always = λ h. other-end r status.Refused (same ∙ m.held (sym (or-false (some_load_saw saw_held es)) ∙ h)) (λ e. absurd (cc e));
   no_folder_only = λ is. m.none (sym same ∙ ap opened_end (came-same r status.NoFolder is));
   no_folder_always = λ h. other-end r status.NoFolder (same ∙ m.opens_none h) (λ e. absurd (cc e));
 }
-explained-shut start es (Err cause) e m same = explained-cut start es false (Err cause) cause refl
+explained-shut env start es (Err cause) e m same = explained-cut env start es false (Err cause) cause refl
 
 -- a run that opened its folder and ended by its last quit
-explained-open : (b : Bool) (start : Option Start) (es : List Event) (out : Result Status Stop) → Matches start es status.Done → EndsLike (end_at b) out → IsOpeningExplained start out es b
-explained-open true start es (Ok r) m same = record {
+explained-open : (b : Bool) (env : Environment) (start : Option Start) (es : List Event) (out : Result Status Stop) → Matches env start es status.Done → EndsLike (end_at b) out → IsOpeningExplained env start out es b
+explained-open true env start es (Ok r) m same = record {
   refused_only = λ is. or-true (some_load_saw saw_held es);
   refused_always = λ h. other-end r status.Refused same (λ e. absurd (cc e));
   no_folder_only = λ is. let e : status.Refused ≡ status.NoFolder = sym same ∙ ap opened_end (came-same r status.NoFolder is) in absurd (cc e);
   no_folder_always = λ h. absurd (cc (m.opens_none h));
 }
-explained-open false start es (Ok r) m same = record {
+explained-open false env start es (Ok r) m same = record {
   refused_only = λ is. let e : status.Done ≡ status.Refused = sym same ∙ ap opened_end (came-same r status.Refused is) in absurd (cc e);
   refused_always = λ h. absurd (cc (m.held (sym (or-false (some_load_saw saw_held es)) ∙ h)));
   no_folder_only = λ is. let e : status.Done ≡ status.NoFolder = sym same ∙ ap opened_end (came-same r status.NoFolder is) in absurd (cc e);
   no_folder_always = λ h. absurd (cc (m.opens_none h));
 }
-explained-open b start es (Err cause) m same = explained-cut start es b (Err cause) cause refl
+explained-open b env start es (Err cause) m same = explained-cut env start es b (Err cause) cause refl
 
-explained-as : (start : Option Start) (es : List Event) (b : Bool) (out : Result Status Stop) (e : Status) → Matches start es e → EndsAfter b e out → IsOpeningExplained start out es b
-explained-as start es b out e m (inl (done, same)) = explained-open b start es out (subst (Matches start es) done m) same
-explained-as start es b out e m (inr (none, same)) = subst (IsOpeningExplained start out es) (sym none) (explained-shut start es out e m same)
+explained-as : (env : Environment) (start : Option Start) (es : List Event) (b : Bool) (out : Result Status Stop) (e : Status) → Matches env start es e → EndsAfter b e out → IsOpeningExplained env start out es b
+explained-as env start es b out e m (inl (done, same)) = explained-open b env start es out (subst (Matches env start es) done m) same
+explained-as env start es b out e m (inr (none, same)) = subst (IsOpeningExplained env start out es) (sym none) (explained-shut env start es out e m same)
 
 no-end : {A : Type 0} (q : Bool) → q ≡ false → q ≡ true → A
 no-end q f t = absurd (cc (f, t))
 
-matches-none : (es : List Event) → Unseen saw_held es → Unseen saw_no_folder es → Matches None es status.Usage
-matches-none es x y = record {
+matches-none : (env : Environment) (es : List Event) → Unseen saw_held es → Unseen saw_no_folder es → Matches env None es status.Usage
+matches-none env es x y = record {
   refused = λ is. absurd (cc is);
   held = λ h. no-end _ x h;
   none = λ is. absurd (cc is);
   opens_none = none-opens;
 }
   where
-    none-opens : OpensNone None es → status.Usage ≡ status.NoFolder
+    none-opens : OpensNone env None es → status.Usage ≡ status.NoFolder
     none-opens (inl never) = absurd never
     none-opens (inr h) = no-end _ y h
 
-matches-bad : (start : Start) (es : List Event) → is_short_name start.file ≡ false → Unseen saw_held es → Matches (Some start) es status.NoFolder
-matches-bad start es bad x = record {
+matches-bad : (env : Environment) (start : Start) (es : List Event) → IsBadName env (Some start) → Unseen saw_held es → Matches env (Some start) es status.NoFolder
+matches-bad env start es bad x = record {
   refused = λ is. absurd (cc is);
   held = λ h. no-end _ x h;
   none = λ is. inl bad;
   opens_none = λ h. refl;
 }
 
-matches-found : (start : Start) (rest : List Event) (f : Found) → is_short_name start.file ≡ true → Unseen saw_held rest → Unseen saw_no_folder rest
-    → Matches (Some start) (event.Load start.file (seen_of f) ∷ rest) (end_of f)
-matches-found start rest (found.Bytes bytes true) short x y = record {
+matches-found : (env : Environment) (start : Start) (name : List ℕ) (rest : List Event) (f : Found) → (IsBadName env (Some start) → ⊥) → Unseen saw_held rest → Unseen saw_no_folder rest
+    → Matches env (Some start) (event.Load name (seen_of f) ∷ rest) (end_of f)
+matches-found env start name rest (found.Bytes bytes true) good x y = record {
   refused = λ is. refl;
   held = λ h. refl;
   none = λ is. absurd (cc is);
   opens_none = opens;
 }
   where
-    opens : OpensNone (Some start) (event.Load start.file (seen.Bytes bytes true) ∷ rest) → status.Refused ≡ status.NoFolder
-    opens (inl bad) = no-end _ bad short
+    opens : OpensNone env (Some start) (event.Load name (seen.Bytes bytes true) ∷ rest) → status.Refused ≡ status.NoFolder
+    opens (inl bad) = absurd (good bad)
     opens (inr h) = no-end _ y h
-matches-found start rest (found.Bytes None false) short x y = record {
+matches-found env start name rest (found.Bytes None false) good x y = record {
   refused = λ is. absurd (cc is);
   held = λ h. no-end _ x h;
   none = λ is. inr refl;
   opens_none = λ h. refl;
 }
-matches-found start rest (found.TooLarge n) short x y = record {
+matches-found env start name rest (found.TooLarge n) good x y = record {
   refused = λ is. absurd (cc is);
   held = λ h. no-end _ x h;
   none = λ is. inr refl;
   opens_none = λ h. refl;
 }
-matches-found start rest (found.Bytes (Some bytes) false) short x y = record {
+matches-found env start name rest (found.Bytes (Some bytes) false) good x y = record {
   refused = refuses (is_no_list (list_of bytes));
   held = λ h. no-end _ x h;
   none = nones (is_no_list (list_of bytes));
   opens_none = opens (is_no_list (list_of bytes));
 }
   where
-    Opens : Bool → Type 0
-    Opens b = IsBadName (Some start) ⊎ ((b || some_load_saw saw_no_folder rest) ≡ true)
-
-    ends : Bool → Status
-    ends b = if b then status.NoFolder else status.Done
-
     refuses : (b : Bool) → (if b then status.NoFolder else status.Done) ≡ status.Refused → some_load_saw saw_held rest ≡ true
     refuses true is = absurd (cc is)
     refuses false is = absurd (cc is)
 
-    nones : (b : Bool) → (if b then status.NoFolder else status.Done) ≡ status.NoFolder → IsBadName (Some start) ⊎ ((b || some_load_saw saw_no_folder rest) ≡ true)
+    nones : (b : Bool) → (if b then status.NoFolder else status.Done) ≡ status.NoFolder → IsBadName env (Some start) ⊎ ((b || some_load_saw saw_no_folder rest) ≡ true)
     nones true is = inr refl
     nones false is = absurd (cc is)
 
-    opens : (b : Bool) → IsBadName (Some start) ⊎ ((b || some_load_saw saw_no_folder rest) ≡ true) → (if b then status.NoFolder else status.Done) ≡ status.NoFolder
+    opens : (b : Bool) → IsBadName env (Some start) ⊎ ((b || some_load_saw saw_no_folder rest) ≡ true) → (if b then status.NoFolder else status.Done) ≡ status.NoFolder
     opens true h = refl
-    opens false (inl bad) = no-end _ bad short
+    opens false (inl bad) = absurd (good bad)
     opens false (inr h) = no-end _ y h
 
 -- the load, and what follows it
@@ -344,55 +340,68 @@ continues-unseen test b p es out all (inl (y, goes, reads)) = goes-unseen test p
 continues-unseen test b p es out all (inr (none, inl (r, is, goes))) = goes-unseen test p es (Ok (Last r)) all goes
 continues-unseen test b p es out all (inr (none, inr (cause, is, goes))) = goes-unseen test p es (Err cause) all goes
 
-explained-found : (s : SessionState) (start : Start) (es : List Event) (b : Bool) (out : Result Status Stop) → is_short_name start.file ≡ true → AfterLoad b start.file (loaded s start) es out → IsOpeningExplained (Some start) out es b
-explained-found s start es b out short (inr (cause, is)) = explained-cut (Some start) es b out cause is
-explained-found s start es b out short (inl (f, rest, is, goes)) =
-    let p = loaded s start f in
-    let all = loaded-acts s start f in
+explained-found : (env : Environment) (s : SessionState) (start : Start) (name : List ℕ) (es : List Event) (b : Bool) (out : Result Status Stop) → (IsBadName env (Some start) → ⊥) → AfterLoad b name (loaded s start name) es out
+    → IsOpeningExplained env (Some start) out es b
+explained-found env s start name es b out good (inr (cause, is)) = explained-cut env (Some start) es b out cause is
+explained-found env s start name es b out good (inl (f, rest, is, goes)) =
+    let p = loaded s start name f in
+    let all = loaded-acts s start name f in
     let x = continues-unseen saw_held b p rest out all goes in
     let y = continues-unseen saw_no_folder b p rest out all goes in
-    let E : List Event → Type 0 = λ es. IsOpeningExplained (Some start) out es b in
-    subst E (sym is) (explained-as (Some start) _ b out (end_of f) (matches-found start rest f short x y) (continues-with b (end_of f) p rest out (loaded-ends s start f) goes))
+    let E : List Event → Type 0 = λ es. IsOpeningExplained env (Some start) out es b in
+    subst E (sym is) (explained-as env (Some start) _ b out (end_of f) (matches-found env start name rest f good x y) (continues-with b (end_of f) p rest out (loaded-ends s start name f) goes))
 
-explained-said : (start : Option Start) (text : List ℕ) (e : Status) (es : List Event) (b : Bool) (out : Result Status Stop) → opened_end e ≡ e → Continues b (says_and_ends text e) es out → (Unseen saw_held es → Unseen saw_no_folder es → Matches start es e)
-    → IsOpeningExplained start out es b
-explained-said start text e es b out plain goes to =
+explained-said : (env : Environment) (start : Option Start) (text : List ℕ) (e : Status) (es : List Event) (b : Bool) (out : Result Status Stop) → opened_end e ≡ e → Continues b (says_and_ends text e) es out
+    → (Unseen saw_held es → Unseen saw_no_folder es → Matches env start es e) → IsOpeningExplained env start out es b
+explained-said env start text e es b out plain goes to =
     let x = continues-unseen saw_held b (says_and_ends text e) es out (refl, λ u. tt) goes in
     let y = continues-unseen saw_no_folder b (says_and_ends text e) es out (refl, λ u. tt) goes in
-    explained-as start es b out e (to x y) (continues-with b e (says_and_ends text e) es out (λ u. plain) goes)
+    explained-as env start es b out e (to x y) (continues-with b e (says_and_ends text e) es out (λ u. plain) goes)
 
-explained-opening : (env : Environment) (start : Option Start) (es : List Event) (b : Bool) (out : Result Status Stop) → Continues b (opening env start) es out → IsOpeningExplained start out es b
-explained-opening env None es b out goes = explained-said None usage status.Usage es b out refl goes (matches-none es)
-explained-opening env (Some start) es at_end out goes = go (is_short_name start.file) refl goes
+explained-opening : (env : Environment) (start : Option Start) (es : List Event) (at_end : Bool) (out : Result Status Stop) → Continues at_end (opening env start) es out → IsOpeningExplained env start out es at_end
+explained-opening env None es at_end out goes = explained-said env None usage status.Usage es at_end out refl goes (matches-none env es)
+explained-opening env (Some start) es at_end out goes = word (folder_name (first_of env) start) refl goes
   where
-    go : (b : Bool) → is_short_name start.file ≡ b → Continues at_end (if b then Ask (Read start.file) (loaded (first_of env) start) else says_and_ends (with_feed (start.file ++ codes ": bad name")) status.NoFolder) es out → IsOpeningExplained (Some start) out es at_end
-    go true is goes = explained-found (first_of env) start es at_end out is (after-load at_end start.file (loaded (first_of env) start) es out goes)
-    go false is goes = explained-said (Some start) (with_feed (start.file ++ codes ": bad name")) status.NoFolder es at_end out refl goes (λ x y. matches-bad start es is x)
+    said : (line : List ℕ) → IsBadName env (Some start) → Continues at_end (says_and_ends line status.NoFolder) es out → IsOpeningExplained env (Some start) out es at_end
+    said line bad goes = explained-said env (Some start) line status.NoFolder es at_end out refl goes (λ x y. matches-bad env start es bad x)
+
+    named : (name : List ℕ) → folder_name (first_of env) start ≡ Ok name → (b : Bool) → is_short_name name ≡ b
+        → Continues at_end (if b then Ask (Read name) (loaded (first_of env) start name) else says_and_ends (with_feed (name ++ codes ": bad name")) status.NoFolder) es out → IsOpeningExplained env (Some start) out es at_end
+    named name word true short goes = explained-found env (first_of env) start name es at_end out (λ bad. no-end _ (subst IsNoName word bad) short) (after-load at_end name (loaded (first_of env) start name) es out goes)
+    named name word false bad goes = said (with_feed (name ++ codes ": bad name")) (subst IsNoName (sym word) bad) goes
+
+    word : (name : OrFault (List ℕ)) → folder_name (first_of env) start ≡ name → Continues at_end (with_name_or_fault (first_of env) start name) es out → IsOpeningExplained env (Some start) out es at_end
+    word (Ok name) is goes = named name is (is_short_name name) refl goes
+    word (Err line) is goes = said line (subst IsNoName (sym is) tt) goes
 
 next-of : (e : Status) (p : Play (Next RunState Status)) → AllEnds (EndsWith e) p → AllEnds ReadsNext p
 next-of e (Ret (Go y)) ends = ends.0
 next-of e (Ret (Last r)) ends = tt
 next-of e (Ask act go) ends = λ a. next-of e (go a) (ends a)
 
+named-next : (s : SessionState) (start : Start) (name : OrFault (List ℕ)) → AllEnds ReadsNext (with_name_or_fault s start name)
+named-next s start (Ok name) = go (is_short_name name)
+  where
+    go : (b : Bool) → AllEnds ReadsNext (if b then Ask (Read name) (loaded s start name) else says_and_ends (with_feed (name ++ codes ": bad name")) status.NoFolder)
+    go true = λ f. next-of (end_of f) (loaded s start name f) (loaded-ends s start name f)
+    go false = λ u. tt
+named-next s start (Err line) = λ u. tt
+
 opening-next : (env : Environment) (start : Option Start) → AllEnds ReadsNext (opening env start)
 opening-next env None = λ u. tt
-opening-next env (Some start) = go (is_short_name start.file)
-  where
-    go : (b : Bool) → AllEnds ReadsNext (if b then Ask (Read start.file) (loaded (first_of env) start) else says_and_ends (with_feed (start.file ++ codes ": bad name")) status.NoFolder)
-    go true = λ f. next-of (end_of f) (loaded (first_of env) start f) (loaded-ends (first_of env) start f)
-    go false = λ u. tt
+opening-next env (Some start) = named-next (first_of env) start (folder_name (first_of env) start)
 
 opening-reads : (env : Environment) (start : Option Start) (y : RunState) (es : List Event) → Goes (opening env start) es (Ok (Go y)) → IsReadingState y
 opening-reads env start y es goes = goes-ends ReadsNext (opening env start) es (Go y) (opening-next env start) goes
 
 -- a run from its opening tells why it opened no folder, and why it was refused
 pub opening-explained : (env : Environment) (start : Option Start) (es : List Event) (out : Result Status Stop) (loop : Loop (round env) (Opening start) es out)
-    → IsOpeningExplained start out (events_at is_opening loop) (refused_at_end loop)
+    → IsOpeningExplained env start out (events_at is_opening loop) (refused_at_end loop)
 opening-explained env start es out (again {y = y} front rest is goes more) =
     let on = opening-reads env start y front goes in
     let later = loop-reads env on more in
     let b = refused_at_end more in
-    let E : List Event → Type 0 = λ es. IsOpeningExplained start out es b in
+    let E : List Event → Type 0 = λ es. IsOpeningExplained env start out es b in
     subst E (sym (ap (λ (l : List Event). front ++ l) later.0 ∙ append-nil front)) (explained-opening env start front b out (inl (y, goes, λ reading. later.1)))
 opening-explained env start es out (last {r = r} goes) = explained-opening env start es false out (inr (refl, inl (r, refl, goes)))
 opening-explained env start es out (cut {cause = cause} goes) = explained-opening env start es false out (inr (refl, inr (cause, refl, goes)))

@@ -11,7 +11,9 @@ use Rattle.session_play.specs.Play.{Act, Line, Play, Ret, Ask, Next, Go, Last}
 use Rattle.session_play.specs.Acts.{AllActs, Threads, may_load, loads_nothing}
 use Rattle.session_play.specs.Causes.{NextFrom}
 use Rattle.mailx_vars.specs.Names.{is_short_name}
+use Rattle.std.specs.declared.result.Result.TheVariants.{Ok, Err}
 use Rattle.command_desk.specs.declared.desk.Desk.{Desk}
+use Rattle.command_desk.specs.Answers.{OrFault}
 use Rattle.mailx_session.specs.declared.state.SessionState.{SessionState}
 use Rattle.mailx_session.specs.declared.status.Status.{Status}
 use Rattle.mailx_session.specs.Openings.{with_opened}
@@ -22,7 +24,7 @@ use Rattle.mailx_session.specs.States.{with_frames}
 use Rattle.mailx_session.specs.Rounds.{typed_play, waiting_play}
 use Rattle.mailx_top.specs.declared.environment.Environment.{Environment}
 use Rattle.mailx_top.specs.Words.{Start}
-use Rattle.mailx_top.specs.Meaning.{RunState, first_of, Opening, Reading, Leaving, round, opening, loaded, with_list, greeted, turn, next_turn, line_round, with_input, prompted, input_of, is_opening, message_limit}
+use Rattle.mailx_top.specs.Meaning.{RunState, first_of, Opening, Reading, Leaving, round, opening, folder_name, with_name_or_fault, loaded, with_list, greeted, turn, next_turn, line_round, with_input, prompted, input_of, is_opening, message_limit}
 use Rattle.session_play.proofs.ShapeLemmas.{bind-acts, bind-threads, weaker-acts, may-all}
 use Rattle.mailx_session.specs.Leaving.{leaving}
 use Rattle.mailx_top.proofs.OrderLemmas.{Keeps}
@@ -40,20 +42,24 @@ threads-greeted : (quiet : Bool) (s : SessionState) → On no_input (greeted qui
 threads-greeted true s = refl
 threads-greeted false s = (tt, λ u. refl)
 
-threads-list : (s : SessionState) (start : Start) (bytes : List ℕ) (l : Option (List (List ℕ))) → On no_input (with_list s start bytes l)
-threads-list s start bytes None = (tt, λ u. tt)
-threads-list s start bytes (Some texts) =
-    both (nat_lt message_limit (length texts)) _ _ no_input (tt, λ u. tt) (tt, λ rows. threads-greeted start.quiet (with_opened s start.file bytes rows))
+threads-list : (s : SessionState) (start : Start) (name bytes : List ℕ) (l : Option (List (List ℕ))) → On no_input (with_list s start name bytes l)
+threads-list s start name bytes None = (tt, λ u. tt)
+threads-list s start name bytes (Some texts) =
+    both (nat_lt message_limit (length texts)) _ _ no_input (tt, λ u. tt) (tt, λ rows. threads-greeted start.quiet (with_opened s name bytes rows))
 
-threads-loaded : (s : SessionState) (start : Start) (f : Found) → On no_input (loaded s start f)
-threads-loaded s start (found.Bytes bytes true) = (tt, λ u. tt)
-threads-loaded s start (found.Bytes None false) = (tt, λ u. tt)
-threads-loaded s start (found.Bytes (Some bytes) false) = threads-list s start bytes (list_of bytes)
-threads-loaded s start (found.TooLarge n) = (tt, λ u. tt)
+threads-loaded : (s : SessionState) (start : Start) (name : List ℕ) (f : Found) → On no_input (loaded s start name f)
+threads-loaded s start name (found.Bytes bytes true) = (tt, λ u. tt)
+threads-loaded s start name (found.Bytes None false) = (tt, λ u. tt)
+threads-loaded s start name (found.Bytes (Some bytes) false) = threads-list s start name bytes (list_of bytes)
+threads-loaded s start name (found.TooLarge n) = (tt, λ u. tt)
+
+threads-named : (s : SessionState) (start : Start) (name : OrFault (List ℕ)) → On no_input (with_name_or_fault s start name)
+threads-named s start (Ok name) = both (is_short_name name) _ _ no_input (tt, threads-loaded s start name) (tt, λ u. tt)
+threads-named s start (Err line) = (tt, λ u. tt)
 
 threads-opening : (env : Environment) (start : Option Start) → On no_input (opening env start)
 threads-opening env None = (tt, λ u. tt)
-threads-opening env (Some start) = both (is_short_name start.file) _ _ no_input (tt, threads-loaded (first_of env) start) (tt, λ u. tt)
+threads-opening env (Some start) = threads-named (first_of env) start (folder_name (first_of env) start)
 
 threads-with : (i : Input) (n : Next SessionState Status) (j : Input) → j ≡ i → On j (with_input i n)
 threads-with i (Go s) j same = same
@@ -96,22 +102,25 @@ greeted-acts : (quiet : Bool) (s : SessionState) → AllActs loads_nothing (gree
 greeted-acts true s = tt
 greeted-acts false s = (refl, λ u. tt)
 
-list-acts : (s : SessionState) (start : Start) (bytes : List ℕ) (l : Option (List (List ℕ))) → AllActs loads_nothing (with_list s start bytes l)
-list-acts s start bytes None = (refl, λ u. tt)
-list-acts s start bytes (Some texts) =
-    either loads_nothing (nat_lt message_limit (length texts)) _ _ (refl, λ u. tt) (refl, λ rows. greeted-acts start.quiet (with_opened s start.file bytes rows))
+list-acts : (s : SessionState) (start : Start) (name bytes : List ℕ) (l : Option (List (List ℕ))) → AllActs loads_nothing (with_list s start name bytes l)
+list-acts s start name bytes None = (refl, λ u. tt)
+list-acts s start name bytes (Some texts) =
+    either loads_nothing (nat_lt message_limit (length texts)) _ _ (refl, λ u. tt) (refl, λ rows. greeted-acts start.quiet (with_opened s name bytes rows))
 
-pub loaded-acts : (s : SessionState) (start : Start) (f : Found) → AllActs loads_nothing (loaded s start f)
-loaded-acts s start (found.Bytes bytes true) = (refl, λ u. tt)
-loaded-acts s start (found.Bytes None false) = (refl, λ u. tt)
-loaded-acts s start (found.Bytes (Some bytes) false) = list-acts s start bytes (list_of bytes)
-loaded-acts s start (found.TooLarge n) = (refl, λ u. tt)
+pub loaded-acts : (s : SessionState) (start : Start) (name : List ℕ) (f : Found) → AllActs loads_nothing (loaded s start name f)
+loaded-acts s start name (found.Bytes bytes true) = (refl, λ u. tt)
+loaded-acts s start name (found.Bytes None false) = (refl, λ u. tt)
+loaded-acts s start name (found.Bytes (Some bytes) false) = list-acts s start name bytes (list_of bytes)
+loaded-acts s start name (found.TooLarge n) = (refl, λ u. tt)
+
+named-acts : (s : SessionState) (start : Start) (name : OrFault (List ℕ)) → AllActs (may_load true) (with_name_or_fault s start name)
+named-acts s start (Ok name) =
+    either (may_load true) (is_short_name name) _ _ (refl, λ f. loads-less true (loaded s start name f) (loaded-acts s start name f)) (refl, λ u. tt)
+named-acts s start (Err line) = (refl, λ u. tt)
 
 opening-acts : (env : Environment) (start : Option Start) → AllActs (may_load true) (opening env start)
 opening-acts env None = (refl, λ u. tt)
-opening-acts env (Some start) =
-    let s = first_of env in
-    either (may_load true) (is_short_name start.file) _ _ (refl, λ f. loads-less true (loaded s start f) (loaded-acts s start f)) (refl, λ u. tt)
+opening-acts env (Some start) = named-acts (first_of env) start (folder_name (first_of env) start)
 
 with-acts : (i : Input) (n : Next SessionState Status) → AllActs (may_load false) (with_input i n)
 with-acts i (Go s) = tt

@@ -15,6 +15,8 @@ use Rattle.host_port.specs.declared.event.Event.{Event}
 use Rattle.mailx_vars.specs.Names.{is_short_name}
 use Rattle.mailx_vars.specs.Settings.{value_of}
 use Rattle.command_desk.specs.declared.desk.Desk.{Desk}
+use Rattle.command_desk.specs.Answers.{OrFault}
+use Rattle.command_desk.specs.FileNames.{expanded}
 use Rattle.mailx_session.specs.declared.state.SessionState.{SessionState}
 use Rattle.mailx_session.specs.declared.status.Status.{Status}
 use Rattle.mailx_session.specs.declared.status.Status.TheVariants as status
@@ -75,30 +77,43 @@ greeted false s = Ask (Say (greeting s.desk)) (λ _. Ret (Go (Reading s no_input
 abbrev pub message_limit : ℕ
 message_limit = 1000000
 
--- a folder with these texts is opened
-abbrev pub begun : SessionState → Start → List ℕ → List (List ℕ) → Play (Next RunState Status)
-begun s start bytes texts = Ask (Know texts) (λ rows. greeted start.quiet (with_opened s start.file bytes rows))
+-- a folder of this name with these texts is opened
+abbrev pub begun : SessionState → Start → List ℕ → List ℕ → List (List ℕ) → Play (Next RunState Status)
+begun s start name bytes texts = Ask (Know texts) (λ rows. greeted start.quiet (with_opened s name bytes rows))
 
 -- a folder of these bytes is opened, where its texts are defined and not too many
-abbrev pub with_list : SessionState → Start → List ℕ → Option (List (List ℕ)) → Play (Next RunState Status)
-with_list s start bytes None = says_and_ends (with_feed (start.file ++ codes ": not a mailbox")) status.NoFolder
-with_list s start bytes (Some texts) =
+abbrev pub with_list : SessionState → Start → List ℕ → List ℕ → Option (List (List ℕ)) → Play (Next RunState Status)
+with_list s start name bytes None = says_and_ends (with_feed (name ++ codes ": not a mailbox")) status.NoFolder
+with_list s start name bytes (Some texts) =
     if nat_lt message_limit (length texts)
-    then says_and_ends (with_feed (start.file ++ codes ": too many messages")) status.NoFolder
-    else begun s start bytes texts
+    then says_and_ends (with_feed (name ++ codes ": too many messages")) status.NoFolder
+    else begun s start name bytes texts
 
--- what follows the load of the folder
-abbrev pub loaded : SessionState → Start → Found → Play (Next RunState Status)
-loaded s start (found.Bytes bytes true) = says_and_ends (with_feed (start.file ++ codes ": busy")) status.Refused
-loaded s start (found.Bytes None false) = says_and_ends (with_feed (start.file ++ codes ": no such file")) status.NoFolder
-loaded s start (found.Bytes (Some bytes) false) = with_list s start bytes (list_of bytes)
-loaded s start (found.TooLarge n) = says_and_ends (with_feed (start.file ++ codes ": too large")) status.NoFolder
+-- what follows the load of the folder of this name
+abbrev pub loaded : SessionState → Start → List ℕ → Found → Play (Next RunState Status)
+loaded s start name (found.Bytes bytes true) = says_and_ends (with_feed (name ++ codes ": busy")) status.Refused
+loaded s start name (found.Bytes None false) = says_and_ends (with_feed (name ++ codes ": no such file")) status.NoFolder
+loaded s start name (found.Bytes (Some bytes) false) = with_list s start name bytes (list_of bytes)
+loaded s start name (found.TooLarge n) = says_and_ends (with_feed (name ++ codes ": too large")) status.NoFolder
 
--- the folder is loaded, where its name can be a file's
+-- the folder of this name is loaded, where it can be a file's
+abbrev pub with_name : SessionState → Start → List ℕ → Play (Next RunState Status)
+with_name s start name =
+    if is_short_name name then Ask (Read name) (loaded s start name)
+    else says_and_ends (with_feed (name ++ codes ": bad name")) status.NoFolder
+
+-- the same, where the word stands for a name
+abbrev pub with_name_or_fault : SessionState → Start → OrFault (List ℕ) → Play (Next RunState Status)
+with_name_or_fault s start (Ok name) = with_name s start name
+with_name_or_fault s start (Err line) = says_and_ends line status.NoFolder
+
+-- the name of the folder that is to be opened, or the line that says why its word stands for none
+abbrev pub folder_name : SessionState → Start → OrFault (List ℕ)
+folder_name s start = expanded s.desk start.word
+
+-- the folder is opened
 abbrev pub starting : SessionState → Start → Play (Next RunState Status)
-starting s start =
-    if is_short_name start.file then Ask (Read start.file) (loaded s start)
-    else says_and_ends (with_feed (start.file ++ codes ": bad name")) status.NoFolder
+starting s start = with_name_or_fault s start (folder_name s start)
 
 -- the usage
 abbrev pub usage : List ℕ

@@ -11,11 +11,12 @@ use Rattle.host_port.specs.declared.event.Seen.TheVariants as seen
 use Rattle.mbox_scan.specs.Mailbox.{list_of}
 use Rattle.session_play.specs.declared.stop.Stop.{Stop}
 use Rattle.session_play.specs.Causes.{some_load_saw}
-use Rattle.mailx_vars.specs.Names.{is_short_name}
 use Rattle.mailx_session.specs.declared.status.Status.{Status}
 use Rattle.mailx_session.specs.declared.status.Status.TheVariants as status
+use Rattle.mailx_top.specs.declared.environment.Environment.{Environment}
 use Rattle.mailx_top.specs.Words.{Start}
 use Rattle.mailx_top.specs.Meaning.{message_limit}
+use Rattle.mailx_top.specs.Usage.{IsBadName}
 
 -- a load saw that the folder is held
 abbrev pub saw_held : Seen → Bool
@@ -35,14 +36,9 @@ saw_no_folder (seen.Bytes (Some bytes) false) = is_no_list (list_of bytes)
 saw_no_folder (seen.TooLarge n) = true
 saw_no_folder s = false
 
--- the file is named so that it can't be one
-abbrev pub IsBadName : Option Start → Type 0
-IsBadName None = ⊥
-IsBadName (Some start) = is_short_name start.file ≡ false
-
 -- there is no folder to open
-abbrev pub OpensNone : Option Start → List Event → Type 0
-OpensNone start es = IsBadName start ⊎ (some_load_saw saw_no_folder es ≡ true)
+abbrev pub OpensNone : Environment → Option Start → List Event → Type 0
+OpensNone env start es = IsBadName env start ⊎ (some_load_saw saw_no_folder es ≡ true)
 
 -- the run came to this end, or was cut off
 abbrev pub EndsOrIsCut : Status → Result Status Stop → Type 0
@@ -51,8 +47,8 @@ EndsOrIsCut e (Err cause) = Unit {0}
 
 -- A run is refused exactly where the load of its opening saw the folder held, or the quit at the end of its input was refused, and has no folder
 -- exactly where there is none to open, unless it is cut off. `es` are the own events of the opening, and `at_end` says whether that quit was refused.
-pub record IsOpeningExplained (start : Option Start) (out : Result Status Stop) (es : List Event) (at_end : Bool) : Type 0 where
+pub record IsOpeningExplained (env : Environment) (start : Option Start) (out : Result Status Stop) (es : List Event) (at_end : Bool) : Type 0 where
   pub refused_only : out ≡ Ok status.Refused → (some_load_saw saw_held es || at_end) ≡ true
   pub refused_always : (some_load_saw saw_held es || at_end) ≡ true → EndsOrIsCut status.Refused out
-  pub no_folder_only : out ≡ Ok status.NoFolder → OpensNone start es
-  pub no_folder_always : OpensNone start es → EndsOrIsCut status.NoFolder out
+  pub no_folder_only : out ≡ Ok status.NoFolder → OpensNone env start es
+  pub no_folder_always : OpensNone env start es → EndsOrIsCut status.NoFolder out

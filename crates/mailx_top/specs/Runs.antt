@@ -41,4 +41,4 @@ Ending actor read s (Err cause) es = (s ≡ status_at_stop cause) × SaysLast re
 pub record IsRun (words : List (List ℕ)) (env : Environment) (s : Status) (es : List Event) : Type 0 where
   pub whole : Whole (round env) (Opening (start_of words env.pairs)) (Ending (actor_in env) (are_read words) s) es
   pub explained : IsExplained whole.out whole.front (events_at is_opening whole.plays) (commits_in whole.plays)
-  pub opening : IsOpeningExplained (start_of words env.pairs) whole.out (events_at is_opening whole.plays) (refused_at_end whole.plays)
+  pub opening : IsOpeningExplained env (start_of words env.pairs) whole.out (events_at is_opening whole.plays) (refused_at_end whole.plays)

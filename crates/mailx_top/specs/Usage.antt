@@ -1,5 +1,5 @@
 -- How a run ends where its words, its environment or its folder's name are refused, whatever the host tells.
-use Rattle.std.specs.Prelude.{◌≡◌, false, IfOk}
+use Rattle.std.specs.Prelude.{◌≡◌, ℕ, List, false, IfOk}
 use Rattle.std.specs.declared.option.Option.{Option}
 use Rattle.std.specs.declared.option.Option.TheVariants.{Some, None}
 use Rattle.std.specs.declared.result.Result.{Result}
@@ -10,7 +10,10 @@ use Rattle.mailx_vars.specs.Names.{is_short_name}
 use Rattle.mailx_session.specs.declared.status.Status.{Status}
 use Rattle.mailx_session.specs.declared.status.Status.TheVariants as status
 use Rattle.mailx_session.specs.Statuses.{IsEnd}
+use Rattle.command_desk.specs.Answers.{OrFault}
+use Rattle.mailx_top.specs.declared.environment.Environment.{Environment}
 use Rattle.mailx_top.specs.Words.{Start}
+use Rattle.mailx_top.specs.Meaning.{first_of, folder_name}
 
 -- a line that is said is cut off where the output fails; memory may be wanted for it
 abbrev pub IsSayCut : Stop → Type 0
@@ -29,11 +32,21 @@ EndsOrOpens wanted (Ok None) = ⊥
 EndsOrOpens wanted (Ok (Some s)) = s ≡ wanted
 EndsOrOpens wanted (Err cause) = IsSayCut cause
 
--- a run ends as refused words do exactly where there is no way to start, and without a folder where its name can't be a
--- file's
-abbrev pub EndsAsNamed : Option Start → Result Status Stop → Type 0
-EndsAsNamed None out = EndsOr status.Usage out
-EndsAsNamed (Some start) out = IfOk out IsEnd × (is_short_name start.file ≡ false → EndsOr status.NoFolder out)
+-- a word stands for no name, or for one that can't be a file's
+abbrev pub IsNoName : OrFault (List ℕ) → Type 0
+IsNoName (Ok name) = is_short_name name ≡ false
+IsNoName (Err line) = Unit {0}
+
+-- the folder that is to be opened has such a word
+abbrev pub IsBadName : Environment → Option Start → Type 0
+IsBadName env None = ⊥
+IsBadName env (Some start) = IsNoName (folder_name (first_of env) start)
+
+-- a run ends as refused words do exactly where there is no way to start, and without a folder where its word stands for
+-- no file
+abbrev pub EndsAsNamed : Environment → Option Start → Result Status Stop → Type 0
+EndsAsNamed env None out = EndsOr status.Usage out
+EndsAsNamed env (Some start) out = IfOk out IsEnd × (IsBadName env (Some start) → EndsOr status.NoFolder out)
 
 -- this status, or that of such a cut in its place
 abbrev pub IsOrCut : Status → Status → Type 0

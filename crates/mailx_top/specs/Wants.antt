@@ -6,7 +6,7 @@ use Rattle.mailx_top.specs.Words.{Start}
 
 -- how to start
 abbrev pub start_from : Wanted → Start
-start_from w = record { file = w.file.now; quiet = w.quiet }
+start_from w = record { word = w.word.now; quiet = w.quiet }
 
 -- the words ask for this
 abbrev pub IsWanted : Option Wanted → Option Start → Type 0

@@ -9,12 +9,13 @@ ghost use Rattle.mailx_vars.specs.Names.{is_short_name};
 ghost use Rattle.mailx_session.specs.declared.state.SessionState.{SessionState};
 ghost use Rattle.mailx_session.specs.Openings.{Opens};
 ghost use Rattle.mailx_top.specs.declared.environment.Environment.{Environment};
-ghost use Rattle.mailx_top.specs.Meaning.{starting, loaded, with_list, begun, greeted, says_and_ends, round, Opening, next_state};
+ghost use Rattle.mailx_top.specs.Meaning.{starting, with_name, folder_name, loaded, with_list, begun, greeted, says_and_ends, round, Opening, next_state};
 ghost use Rattle.mailx_session.specs.Statuses.{IsEnd};
-ghost use Rattle.mailx_top.specs.Usage.{EndsOr, EndsOrOpens};
+ghost use Rattle.mailx_top.specs.Usage.{EndsOr, EndsOrOpens, IsNoName};
 ghost use Rattle.mailx_top.specs.Wants.{start_from};
 
 use crate::words::Wanted;
+use command_desk::{Refusal, expanded};
 use host_port::Host;
 use mail_text::{Memory, Text};
 use mailx_session::{Session, Status};
@@ -131,16 +132,17 @@ fn begin<H: Host>(
     alloc: Global,
     host: &mut H,
     start: Wanted<'_>,
+    name: &[u8],
     folder: Folder,
     session: &mut Session,
 ) -> Result<Option<Status>, Stop>
     ensures ran { Ran H.world host.old host.new
-        (λ es. Goes (begun session.old (start_from start.entry) folder (texts_of folder))
+        (λ es. Goes (begun session.old (start_from start.entry) name.now folder (texts_of folder))
         es (next_state session.new no_input result)) }
     ensures cause { Caused (H.world.counts host.old) (H.world.counts host.new) result }
     ensures plain { IfOk result (λ end. IfSome end (λ e. IsEnd e)) }
 {
-    match put_folder(alloc, session, start.file, folder) {
+    match put_folder(alloc, session, name, folder) {
         Ok(()) => greet(host, start.quiet, session),
         Err(Memory) => Err(Stop::Memory),
     }
@@ -150,34 +152,23 @@ fn open_bytes<H: Host>(
     alloc: Global,
     host: &mut H,
     start: Wanted<'_>,
+    name: &[u8],
     bytes: Text,
     session: &mut Session,
 ) -> Result<Option<Status>, Stop>
     ensures ran { Ran H.world host.old host.new
-        (λ es. Goes (with_list session.old (start_from start.entry) bytes (list_of bytes))
+        (λ es. Goes (with_list session.old (start_from start.entry) name.now bytes (list_of bytes))
         es (next_state session.new no_input result)) }
     ensures cause { Caused (H.world.counts host.old) (H.world.counts host.new) result }
     ensures plain { IfOk result (λ end. IfSome end (λ e. IsEnd e)) }
 {
     match Folder::open(alloc, bytes) {
-        Ok(folder) => begin(alloc, host, start, folder, session),
+        Ok(folder) => begin(alloc, host, start, name, folder, session),
         Err(ScanError::NotAMailbox) => {
-            end_at_file(
-                alloc,
-                host,
-                start.file,
-                b": not a mailbox",
-                Status::NoFolder,
-            )
+            end_at_file(alloc, host, name, b": not a mailbox", Status::NoFolder)
         }
         Err(ScanError::TooMany { .. }) => {
-            end_at_file(
-                alloc,
-                host,
-                start.file,
-                b": too many messages",
-                Status::NoFolder,
-            )
+            end_at_file(alloc, host, name, b": too many messages", Status::NoFolder)
         }
         Err(ScanError::Memory) => Err(Stop::Memory),
     }
@@ -187,28 +178,29 @@ fn open_found<H: Host>(
     alloc: Global,
     host: &mut H,
     start: Wanted<'_>,
+    name: &[u8],
     found: Found,
     session: &mut Session,
 ) -> Result<Option<Status>, Stop>
     ensures ran { Ran H.world host.old host.new
-        (λ es. Goes (loaded session.old (start_from start.entry) found) es (next_state session.new no_input result)) }
+        (λ es. Goes (loaded session.old (start_from start.entry) name.now found) es (next_state session.new no_input result)) }
     ensures cause { Caused (H.world.counts host.old) (H.world.counts host.new) result }
     ensures plain { IfOk result (λ end. IfSome end (λ e. IsEnd e)) }
 {
     match found {
         Found::Bytes { held: true, .. } => {
-            end_at_file(alloc, host, start.file, b": busy", Status::Refused)
+            end_at_file(alloc, host, name, b": busy", Status::Refused)
         }
         Found::Bytes {
             bytes: None,
             held: false,
-        } => end_at_file(alloc, host, start.file, b": no such file", Status::NoFolder),
+        } => end_at_file(alloc, host, name, b": no such file", Status::NoFolder),
         Found::Bytes {
             bytes: Some(bytes),
             held: false,
-        } => open_bytes(alloc, host, start, bytes, session),
+        } => open_bytes(alloc, host, start, name, bytes, session),
         Found::TooLarge { .. } => {
-            end_at_file(alloc, host, start.file, b": too large", Status::NoFolder)
+            end_at_file(alloc, host, name, b": too large", Status::NoFolder)
         }
     }
 }
@@ -217,18 +209,40 @@ fn load_and_open<H: Host>(
     alloc: Global,
     host: &mut H,
     start: Wanted<'_>,
+    name: &[u8],
     session: &mut Session,
 ) -> Result<Option<Status>, Stop>
-    requires { is_short_name start.file.now ≡ true }
+    requires { is_short_name name.now ≡ true }
     ensures ran { Ran H.world host.old host.new
-        (λ es. Goes (Ask (Read start.entry.file.now) (loaded session.old (start_from start.entry)))
+        (λ es. Goes (Ask (Read name.now) (loaded session.old (start_from start.entry) name.now))
         es (next_state session.new no_input result)) }
     ensures cause { Caused (H.world.counts host.old) (H.world.counts host.new) result }
     ensures plain { IfOk result (λ end. IfSome end (λ e. IsEnd e)) }
 {
-    match load(alloc, host, start.file) {
-        Ok(found) => open_found(alloc, host, start, found, session),
+    match load(alloc, host, name) {
+        Ok(found) => open_found(alloc, host, start, name, found, session),
         Err(cause) => Err(cause),
+    }
+}
+
+// Opens the folder of a name, or says why not.
+fn open_name<H: Host>(
+    alloc: Global,
+    host: &mut H,
+    start: Wanted<'_>,
+    name: &[u8],
+    session: &mut Session,
+) -> Result<Option<Status>, Stop>
+    ensures ran { Ran H.world host.old host.new
+        (λ es. Goes (with_name session.old (start_from start.entry) name.now) es (next_state session.new no_input result)) }
+    ensures cause { Caused (H.world.counts host.old) (H.world.counts host.new) result }
+    ensures plain { IfOk result (λ end. IfSome end (λ e. IsEnd e)) }
+    ensures bad_name { is_short_name name.now ≡ false → EndsOrOpens Status.NoFolder result }
+{
+    if is_short_name(name) {
+        load_and_open(alloc, host, start, name, session)
+    } else {
+        end_at_file(alloc, host, name, b": bad name", Status::NoFolder)
     }
 }
 
@@ -243,11 +257,11 @@ pub(crate) fn open<H: Host>(
         (λ es. Goes (starting session.old (start_from start.entry)) es (next_state session.new no_input result)) }
     ensures cause { Caused (H.world.counts host.old) (H.world.counts host.new) result }
     ensures plain { IfOk result (λ end. IfSome end (λ e. IsEnd e)) }
-    ensures bad_name { is_short_name start.entry.file.now ≡ false → EndsOrOpens Status.NoFolder result }
+    ensures bad_name { IsNoName (folder_name session.old (start_from start.entry)) → EndsOrOpens Status.NoFolder result }
 {
-    if is_short_name(start.file) {
-        load_and_open(alloc, host, start, session)
-    } else {
-        end_at_file(alloc, host, start.file, b": bad name", Status::NoFolder)
+    match expanded(alloc, session.desk(), start.word) {
+        Ok(name) => open_name(alloc, host, start, name.bytes(), session),
+        Err(Refusal::Fault { line }) => end_with(host, line.bytes(), Status::NoFolder),
+        Err(Refusal::Memory) => Err(Stop::Memory),
     }
 }

@@ -6,14 +6,12 @@ ghost use Rattle.host_port.specs.Ran.{Ran};
 ghost use Rattle.host_port.specs.declared.event.Event.{Event};
 ghost use Rattle.session_play.specs.Play.{Play, Loop, Caused};
 ghost use Rattle.mailx_vars.specs.Environment.{knows_user};
-ghost use Rattle.mailx_vars.specs.Names.{is_short_name};
 ghost use Rattle.mailx_top.specs.Meaning.{round, first_of, actor_in, Opening};
 ghost use Rattle.mailx_top.specs.Runs.{IsRun, SaysLast, SaysAtEnd};
 ghost use Rattle.mailx_top.specs.Ends.{ended_as};
 ghost use Rattle.mailx_top.specs.Statuses.{line_at_stop, line_at_end, not_a_record};
 ghost use Rattle.mailx_session.specs.Statuses.{IsEnd};
-ghost use Rattle.mailx_top.specs.Openings.{IsBadName};
-ghost use Rattle.mailx_top.specs.Usage.{EndsAsNamed, EndsOr, IsOrCut};
+ghost use Rattle.mailx_top.specs.Usage.{EndsAsNamed, EndsOr, IsBadName, IsOrCut};
 ghost use Rattle.mailx_top.specs.Wants.{start_from};
 ghost use Rattle.folder_commit.specs.Safe.{MayCommit};
 ghost use Rattle.mailx_top.specs.Crash.{IsSafe};
@@ -45,7 +43,7 @@ fn play_session<H: Host>(
         (λ es. Loop (round env.now) (Opening (Some (start_from start.entry))) es result) }
     ensures cause { Caused (H.world.counts host.old) (H.world.counts host.new) result }
     ensures plain { IfOk result (λ e. IsEnd e) }
-    ensures bad_name { is_short_name start.entry.file.now ≡ false → EndsOr Status.NoFolder result }
+    ensures bad_name { IsBadName env.now (Some (start_from start.entry)) → EndsOr Status.NoFolder result }
 {
     match open(alloc, host, start, session) {
         Ok(None) => lines(alloc, host, session),
@@ -65,7 +63,7 @@ fn start_session<H: Host>(
         (λ es. Loop (round env.now) (Opening (Some (start_from start.entry))) es result) }
     ensures cause { Caused (H.world.counts host.old) (H.world.counts host.new) result }
     ensures plain { IfOk result (λ e. IsEnd e) }
-    ensures bad_name { is_short_name start.entry.file.now ≡ false → EndsOr Status.NoFolder result }
+    ensures bad_name { IsBadName env.now (Some (start_from start.entry)) → EndsOr Status.NoFolder result }
 {
     match Session::new(alloc, env.pairs.items(), env.terminal, env.token) {
         Ok(mut session) => play_session(alloc, host, env, start, &mut session),
@@ -82,7 +80,7 @@ fn play<H: Host>(
     ensures ran { Ran H.world host.old host.new
         (λ es. Loop (round env.now) (Opening (start_of words.now env.now.pairs)) es result) }
     ensures cause { Caused (H.world.counts host.old) (H.world.counts host.new) result }
-    ensures named { EndsAsNamed (start_of words.now env.now.pairs) result }
+    ensures named { EndsAsNamed env.now (start_of words.now env.now.pairs) result }
 {
     match start_of(words, env) {
         Some(start) => start_session(alloc, host, env, start),
@@ -142,7 +140,7 @@ fn play_to_end<H: Host>(
     ensures ran { Ran H.world host.old host.new
         (λ es. Loop (round env.now) (Opening (start_of words.now env.now.pairs)) es (ended_as result)) }
     ensures cause { Caused (H.world.counts host.old) (H.world.counts host.new) result }
-    ensures named { EndsAsNamed (start_of words.now env.now.pairs) (ended_as result) }
+    ensures named { EndsAsNamed env.now (start_of words.now env.now.pairs) (ended_as result) }
     ensures line { IfOk result (λ end. end.line ≡ line_at_end (actor_in env.now) end.status) }
 {
     match play(alloc, host, words, env) {
@@ -195,8 +193,8 @@ pub fn run<H: Host>(alloc: Global, words: &[Text], env: &Environment, host: &mut
     // The usage is answered exactly where the words or the environment are refused.
     ensures usage_only { result ≡ Status.Usage → start_of words.now env.now.pairs ≡ None }
     ensures usage_always { start_of words.now env.now.pairs ≡ None → IsOrCut Status.Usage result }
-    // A folder whose name can't be a file's is none, whatever the host tells.
-    ensures bad_name { IsBadName (start_of words.now env.now.pairs) → IsOrCut Status.NoFolder result }
+    // A folder whose word stands for no file, or for a name that no file can have, is none, whatever the host tells.
+    ensures bad_name { IsBadName env.now (start_of words.now env.now.pairs) → IsOrCut Status.NoFolder result }
     // From a disk that is sound and carries nothing of the token, with lawful steps of others: at every moment, and wherever
     // the run stops, what recovery would make of the files is what the accepted commits and others give.
     ensures safe { (before es : List Event) → H.world.told host.old ≡ Some before → H.world.told host.new ≡ Some (before ++ es)

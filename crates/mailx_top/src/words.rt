@@ -3,7 +3,7 @@ ghost use Rattle.std.specs.Prelude.{◌≡◌, IfSome, true};
 ghost use Rattle.std.specs.Str.{is_utf8};
 ghost use Rattle.mailx_vars.specs.Environment.{knows_user};
 ghost use Rattle.mailx_top.specs.Wants.{IsWanted};
-ghost use Rattle.mailx_top.specs.Words.{begins_plainly, starts, reading, are_read, start_of};
+ghost use Rattle.mailx_top.specs.Words.{is_operand, starts, reading, are_read, start_of};
 
 use crate::Environment;
 use mail_text::Text;
@@ -12,18 +12,18 @@ use mailx_vars::knows_user;
 /// What the words ask for.
 #[derive(Clone, Copy)]
 pub(crate) struct Wanted<'a> {
-    /// The file to open as folder.
-    pub file: &'a [u8],
+    /// The word of the file to open as folder.
+    pub word: &'a [u8],
     /// Whether nothing is said of it at the start.
     pub quiet: bool,
 }
 
-fn begins_plainly(word: &[u8]) -> bool
-    ensures { result ≡ begins_plainly word.now }
+fn is_operand(word: &[u8]) -> bool
+    ensures { result ≡ is_operand word.now }
 {
     match word {
         [] => false,
-        [b, ..] => !matches!(*b, b'-' | b'%' | b'#' | b'&' | b'+' | b'~'),
+        [b, ..] => *b != b'-',
     }
 }
 
@@ -36,11 +36,11 @@ fn is_utf8(word: &[u8]) -> bool
     }
 }
 
-fn starts(file: &[u8], quiet: bool) -> Option<Wanted<'_>>
-    ensures { IsWanted result (starts file.now quiet) }
+fn starts(word: &[u8], quiet: bool) -> Option<Wanted<'_>>
+    ensures { IsWanted result (starts word.now quiet) }
 {
-    if begins_plainly(file) && is_utf8(file) {
-        Some(Wanted { file, quiet })
+    if is_operand(word) && is_utf8(word) {
+        Some(Wanted { word, quiet })
     } else {
         None
     }
@@ -50,9 +50,9 @@ fn reading(words: &[Text]) -> Option<Wanted<'_>>
     ensures { IsWanted result (reading words.now) }
 {
     match words {
-        [a, file] if a.bytes() == b"-f".as_slice() => starts(file.bytes(), false),
-        [a, b, file] if a.bytes() == b"-N".as_slice() && b.bytes() == b"-f".as_slice() => {
-            starts(file.bytes(), true)
+        [a, word] if a.bytes() == b"-f".as_slice() => starts(word.bytes(), false),
+        [a, b, word] if a.bytes() == b"-N".as_slice() && b.bytes() == b"-f".as_slice() => {
+            starts(word.bytes(), true)
         }
         _ => None,
     }

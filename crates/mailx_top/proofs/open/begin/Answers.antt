@@ -7,7 +7,7 @@ use Rattle.mailx_top.proofs.FolderLemmas.{begun-goes}
 use Rattle.mailx_top.proofs.open.begin.Goals as goal
 
 pub returns-in-Ok-clause-ran : goal.returns-in-Ok-clause-ran
-returns-in-Ok-clause-ran g c = Ran-map (begun-goes c.args.session.now (start_from c.args.start) c.args.folder c.put_folder.new.session _ c.in-Ok.ensures) c.greet.ensures.ran
+returns-in-Ok-clause-ran g c = Ran-map (begun-goes c.args.session.now (start_from c.args.start) c.args.name.now c.args.folder c.put_folder.new.session _ c.in-Ok.ensures) c.greet.ensures.ran
 
 pub returns-in-Err-clause-ran : goal.returns-in-Err-clause-ran
-returns-in-Err-clause-ran g c = Ran-none (at-memory (begun c.args.session.now (start_from c.args.start) c.args.folder (texts_of c.args.folder)))
+returns-in-Err-clause-ran g c = Ran-none (at-memory (begun c.args.session.now (start_from c.args.start) c.args.name.now c.args.folder (texts_of c.args.folder)))

@@ -1,8 +1,17 @@
-use Rattle.std.proofs.Common.{sym, ◌∙◌}
+use Rattle.host_port.proofs.RanLemmas.{Ran-none}
+use Rattle.session_play.proofs.PlayLemmas.{at-memory}
+use Rattle.mailx_top.specs.Meaning.{starting}
 use Rattle.mailx_top.specs.Wants.{start_from}
-use Rattle.mailx_top.proofs.FolderLemmas.{with-bad-name}
+use Rattle.mailx_top.proofs.FolderLemmas.{with-word}
 use Rattle.mailx_top.proofs.open.open.Goals as goal
 
-pub returns-else-is_short_name-clause-ran : goal.returns-else-is_short_name-clause-ran
-returns-else-is_short_name-clause-ran g c =
-    rw (with-bad-name c.args.session.now (start_from c.args.start) (sym c.is_short_name.ensures ∙ c.if-is_short_name.false)) (c.end_at_file.ensures.ran c.args.session.now)
+pub returns-in-Ok-clause-ran : goal.returns-in-Ok-clause-ran
+returns-in-Ok-clause-ran g c =
+    rw (with-word c.args.session.now (start_from c.args.start) _ (rw c.desk.ensures.desk at c.in-Ok.ensures)) (rw c.bytes.ensures at c.open_name.ensures.ran)
+
+pub returns-in-Err-Fault-clause-ran : goal.returns-in-Err-Fault-clause-ran
+returns-in-Err-Fault-clause-ran g c =
+    rw (with-word c.args.session.now (start_from c.args.start) _ (rw (c.desk.ensures.desk, c.in-Err-Fault.field-0-is) at c.in-Err-Fault.ensures)) (rw (c.bytes-in-Err-Fault.ensures, c.in-Err-Fault.field-0-is) at c.end_with.ensures.ran c.args.session.now)
+
+pub returns-in-Err-Memory-clause-ran : goal.returns-in-Err-Memory-clause-ran
+returns-in-Err-Memory-clause-ran g c = Ran-none (at-memory (starting c.args.session.now (start_from c.args.start)))

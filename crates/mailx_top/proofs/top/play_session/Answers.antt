@@ -13,7 +13,10 @@ pub returns-in-Err-clause-ran : goal.returns-in-Err-clause-ran
 returns-in-Err-clause-ran g c = Ran-map (λ es x. cut x) (rw c.requires at c.in-Err.ensures.ran)
 
 pub returns-in-Ok-None-clause-bad_name : goal.returns-in-Ok-None-clause-bad_name
-returns-in-Ok-None-clause-bad_name g c = λ bad. absurd (rw c.in-Ok-None.field-0-is at (c.in-Ok-None.ensures.bad_name bad))
+returns-in-Ok-None-clause-bad_name g c = λ bad. absurd ((rw (c.requires, c.in-Ok-None.field-0-is) at c.in-Ok-None.ensures.bad_name) bad)
 
 pub returns-in-Ok-Some-clause-bad_name : goal.returns-in-Ok-Some-clause-bad_name
-returns-in-Ok-Some-clause-bad_name g c = λ bad. rw c.in-Ok-Some.field-0-is at (c.in-Ok-Some.ensures.bad_name bad)
+returns-in-Ok-Some-clause-bad_name g c = λ bad. (rw (c.requires, c.in-Ok-Some.field-0-is) at c.in-Ok-Some.ensures.bad_name) bad
+
+pub returns-in-Err-clause-bad_name : goal.returns-in-Err-clause-bad_name
+returns-in-Err-clause-bad_name g c = λ bad. (rw c.requires at c.in-Err.ensures.bad_name) bad

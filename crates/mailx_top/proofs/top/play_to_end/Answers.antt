@@ -16,4 +16,4 @@ pub returns-in-Err-end_of-clause-ran : goal.returns-in-Err-end_of-clause-ran
 returns-in-Err-end_of-clause-ran g c = Ran-map (λ es loop. loop-short (round c.args.env.now) c.in-Ok.status refl loop) c.in-Ok.ensures.ran
 
 pub returns-in-Err-end_of-clause-named : goal.returns-in-Err-end_of-clause-named
-returns-in-Err-end_of-clause-named g c = named-short _ c.in-Ok.status c.in-Ok.ensures.named
+returns-in-Err-end_of-clause-named g c = named-short c.args.env.now _ c.in-Ok.status c.in-Ok.ensures.named

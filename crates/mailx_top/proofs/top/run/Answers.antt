@@ -18,28 +18,28 @@ returns-in-Ok-clause-run g c =
     }) c.in-Ok.ensures.ran c.say_end.ensures
 
 pub returns-in-Ok-clause-input_fault : goal.returns-in-Ok-clause-input_fault
-returns-in-Ok-clause-input_fault g c = λ is. end-no-fault _ _ _ c.in-Ok.ensures.named tt is
+returns-in-Ok-clause-input_fault g c = λ is. end-no-fault c.args.env.now _ _ _ c.in-Ok.ensures.named tt is
 
 pub returns-in-Ok-clause-output_fault : goal.returns-in-Ok-clause-output_fault
-returns-in-Ok-clause-output_fault g c = λ is. end-no-fault _ _ _ c.in-Ok.ensures.named tt is
+returns-in-Ok-clause-output_fault g c = λ is. end-no-fault c.args.env.now _ _ _ c.in-Ok.ensures.named tt is
 
 pub returns-in-Ok-clause-disk_fault : goal.returns-in-Ok-clause-disk_fault
-returns-in-Ok-clause-disk_fault g c = λ is. end-no-fault _ _ _ c.in-Ok.ensures.named tt is
+returns-in-Ok-clause-disk_fault g c = λ is. end-no-fault c.args.env.now _ _ _ c.in-Ok.ensures.named tt is
 
 pub returns-in-Ok-clause-usage_only : goal.returns-in-Ok-clause-usage_only
-returns-in-Ok-clause-usage_only g c = λ is. only-usage _ _ c.in-Ok.ensures.named is
+returns-in-Ok-clause-usage_only g c = λ is. only-usage c.args.env.now _ _ c.in-Ok.ensures.named is
 
 pub returns-in-Ok-clause-usage_always : goal.returns-in-Ok-clause-usage_always
-returns-in-Ok-clause-usage_always g c = λ none. usage-ended _ _ c.in-Ok.ensures.named none
+returns-in-Ok-clause-usage_always g c = λ none. usage-ended c.args.env.now _ _ c.in-Ok.ensures.named none
 
 pub returns-in-Ok-clause-bad_name : goal.returns-in-Ok-clause-bad_name
-returns-in-Ok-clause-bad_name g c = λ bad. bad-ended _ _ c.in-Ok.ensures.named bad
+returns-in-Ok-clause-bad_name g c = λ bad. bad-ended c.args.env.now _ _ c.in-Ok.ensures.named bad
 
 pub returns-in-Err-clause-usage_always : goal.returns-in-Err-clause-usage_always
-returns-in-Err-clause-usage_always g c = λ none. rw c.stop_status.ensures (usage-cut _ _ c.in-Err.ensures.named none)
+returns-in-Err-clause-usage_always g c = λ none. rw c.stop_status.ensures (usage-cut c.args.env.now _ _ c.in-Err.ensures.named none)
 
 pub returns-in-Err-clause-bad_name : goal.returns-in-Err-clause-bad_name
-returns-in-Err-clause-bad_name g c = λ bad. rw c.stop_status.ensures (bad-cut _ _ c.in-Err.ensures.named bad)
+returns-in-Err-clause-bad_name g c = λ bad. rw c.stop_status.ensures (bad-cut c.args.env.now _ _ c.in-Err.ensures.named bad)
 
 pub returns-in-Err-clause-run : goal.returns-in-Err-clause-run
 returns-in-Err-clause-run g c =
