@@ -9,7 +9,11 @@ use Rattle.std.specs.List.{find}
 use Rattle.std.specs.declared.option.Option.{Option}
 use Rattle.std.specs.declared.option.Option.TheVariants.{Some, None}
 use Rattle.std.proofs.lemmas.Slice.Zip.{AllZip-long}
+use Rattle.std.proofs.lemmas.List.{length-map}
 use Rattle.mbox_scan.specs.Mailbox.{texts_of}
+use Rattle.message_state.specs.declared.mark.Mark.{Mark}
+use Rattle.message_state.specs.declared.row.Row.{Row}
+use Rattle.quit_rules.specs.Plans.{IsOpen}
 use Rattle.message_state.specs.declared.shown.Shown.{Shown}
 use Rattle.message_state.specs.ShownRows.{IsShown}
 use Rattle.message_list.specs.Places.{place_of}
@@ -27,6 +31,10 @@ found-message shown p xs (Some n) passes is = passes n (find_passes p xs n (sym 
 -- there are as many texts as rows
 pub as-many : (desk : Desk) → IsDesk desk → length desk.shown.rows ≡ length (texts_of desk.folder.folder)
 as-many desk d = AllZip-long _ (texts_of desk.folder.folder) desk.shown.rows d.rows
+
+-- the folder of a desk has as many marks as messages
+pub desk-open : (desk : Desk) → IsDesk desk → IsOpen desk.folder
+desk-open desk d = ap (λ (ms : List Mark). length ms) d.marks ∙ (length-map desk.shown.rows (λ (row : Row). row.mark) ∙ as-many desk d)
 
 pub message-within : (desk : Desk) (n : ℕ) → IsDesk desk → IsMessageOf desk.shown n → n - 1 < length (texts_of desk.folder.folder)
 message-within desk n d m = let same = as-many desk d in let a = m.0 in let b = m.1 in omega arith

@@ -1,21 +1,7 @@
-use mail_text::{Items, Text};
 use mailx_vars::{Places, Vars};
-use mbox_scan::Folder;
 use message_show::FieldSets;
-use message_state::{Mark, Shown};
-
-/// An open folder.
-#[derive(Drop)]
-pub struct Open {
-    /// The name of its file.
-    pub name: Text,
-    /// Whether it is the system mailbox.
-    pub system: bool,
-    /// Its bytes and messages.
-    pub folder: Folder,
-    /// The mark of each message.
-    pub marks: Items<Mark>,
-}
+use message_state::Shown;
+use quit_rules::Open;
 
 /// The state of a session between two commands. Calls that take one ask for a valid one: what it shows is valid, its
 /// rows are those of the folder's texts, marks aside, its marks are those of the folder, and a line has room for two

@@ -10,12 +10,13 @@ mod messages;
 mod selecting;
 mod steps;
 
-pub use desk::{Desk, Open};
+pub use desk::Desk;
 pub use effects::{
     Effects, Marking, act_on, marked, marked_and_written, markings, moved, unchanged, written,
 };
 pub use faults::fault;
 pub use file_names::expanded;
 pub use messages::{message, printed, put_heading, put_printed};
+pub use quit_rules::Open;
 pub use selecting::{Among, chosen, last_message, single};
 pub use steps::{Ask, Refusal, Steps, quietly, says};

@@ -12,8 +12,8 @@ use thiserror::Error;
 pub enum Ask {
     /// These bytes are said.
     Say(Text),
-    /// This change of a file is committed. Its name may be one that no file can have.
-    Save { change: Change },
+    /// These changes of files are committed at once. Their names may be some that no file can have.
+    Commit { changes: Items<Change> },
     /// The run ends without changes.
     Exit,
 }

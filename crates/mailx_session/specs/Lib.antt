@@ -4,6 +4,7 @@ pub mod Pending
 pub mod States
 pub mod Saving
 pub mod Sessions
+pub mod Leaving
 pub mod Follows
 pub mod Rounds
 pub mod Openings

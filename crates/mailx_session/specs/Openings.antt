@@ -15,7 +15,7 @@ use Rattle.message_state.specs.declared.shown.Shown.{Shown}
 use Rattle.message_state.specs.States.{place}
 use Rattle.session_play.specs.Knowing.{AreRows}
 use Rattle.command_desk.specs.declared.desk.Desk.{Desk}
-use Rattle.command_desk.specs.declared.desk.Open.{Open}
+use Rattle.quit_rules.specs.declared.open.Open.{Open}
 use Rattle.command_desk.specs.Answers.{OrFault}
 use Rattle.show_commands.specs.Paging.{page_size, page_of, current_page}
 use Rattle.mailx_session.specs.declared.state.SessionState.{SessionState}

@@ -20,15 +20,14 @@ use Rattle.mailx_session.specs.declared.flow.Flow.TheVariants as flow
 use Rattle.mailx_session.specs.declared.state.SessionState.{SessionState}
 use Rattle.mailx_session.specs.declared.status.Status.{Status}
 use Rattle.mailx_session.specs.declared.status.Status.TheVariants.{Done}
-use Rattle.folder_change.specs.Changes.{name_of}
 use Rattle.mailx_session.specs.States.{settled}
 use Rattle.mailx_session.specs.Statuses.{IsLineEnd}
-use Rattle.mailx_session.specs.Saving.{name_fault, saved}
+use Rattle.mailx_session.specs.Saving.{names_fault, saved}
 
 -- what is asked for, and what its answer leaves
 abbrev pub asked : SessionState → asked_of.Ask → Play (After SessionState Status)
 asked s (asks.Say bytes) = Ask (Say bytes) (λ _. Ret (On s))
-asked s (asks.Save change) = saved s change (name_fault s.actor (name_of change))
+asked s (asks.Commit changes) = saved s changes (names_fault s.actor changes)
 asked s asks.Exit = Ret (Ended Done)
 
 -- a command's steps are carried out, or the line that refuses it is said

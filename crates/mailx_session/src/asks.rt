@@ -54,7 +54,7 @@ fn do_ask<H: Host>(
 {
     match ask {
         Wanted::Say(bytes) => say_line(host, bytes),
-        Wanted::Save { change } => save(alloc, state, host, change),
+        Wanted::Commit { changes } => save(alloc, state, host, changes.items()),
         Wanted::Exit => Ok(Asked::Ended(Status::Done)),
     }
 }

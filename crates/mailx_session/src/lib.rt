@@ -1,4 +1,5 @@
-//! A session: the desk that it begins with, and what an input line does to it and says.
+//! A session: the desk that it begins with, what an input line does to it and says, and how the end of the input leaves
+//! the folder.
 #![tactic(auto)]
 
 mod asks;
@@ -6,6 +7,7 @@ mod error;
 mod flow;
 mod frames;
 mod greeting;
+mod leaving;
 mod lines;
 mod opening;
 mod saving;

@@ -1,14 +1,13 @@
-// A change of a file that a command asks for, as one commit.
+// Changes of files that a command asks for, as one commit.
 ghost use Rattle.std.specs.Prelude.{◌≡◌, ◌++◌, None, IfOk, IfErr};
 ghost use Rattle.mail_text.specs.Lines.{with_feed};
 ghost use Rattle.host_port.specs.Calls.{NeverFall};
 ghost use Rattle.host_port.specs.Ran.{Ran};
-ghost use Rattle.folder_change.specs.Changes.{name_of};
 ghost use Rattle.session_play.specs.Play.{Play, Goes};
 ghost use Rattle.command_desk.specs.Faults.{changed_at};
 ghost use Rattle.mailx_session.specs.declared.state.SessionState.{SessionState};
 ghost use Rattle.mailx_session.specs.States.{IsState};
-ghost use Rattle.mailx_session.specs.Saving.{name_fault, after_commit, saved};
+ghost use Rattle.mailx_session.specs.Saving.{name_fault, names_fault, is_changed, after_commit, saved};
 ghost use Rattle.mailx_session.specs.Follows.{Follows};
 ghost use Rattle.session_play.specs.Cuts.{IsLoadCut};
 ghost use Rattle.mailx_session.specs.Sessions.{after_asks, in_play, stop_of, LineCaused, EndsByAsk};
@@ -23,7 +22,6 @@ use mail_text::{Memory, Text};
 use mailx_vars::is_short_name;
 use session_play::{Committed, Stop, change};
 use std::alloc::Global;
-use std::slice::from_ref;
 
 fn line_of(alloc: Global, word: &[u8], fault: &[u8]) -> Result<Text, Memory>
     ensures { IfOk result (λ line. line ≡ with_feed (word.now ++ fault.now)) }
@@ -47,6 +45,18 @@ fn name_fault(alloc: Global, actor: &[u8], name: &[u8]) -> Result<Option<Text>, 
     }
 }
 
+// The line of the first of these changes whose file's name is at fault.
+fn names_fault(alloc: Global, actor: &[u8], changes: &[Change]) -> Result<Option<Text>, Memory>
+    ensures { IfOk result (λ fault. fault ≡ names_fault actor.now changes.now) }
+{
+    for change in changes {
+        if let Some(line) = name_fault(alloc, actor, change_name(change))? {
+            return Ok(Some(line));
+        }
+    }
+    Ok(None)
+}
+
 // The line of a file that isn't as it was loaded, from this message on.
 fn changed_line(alloc: Global, name: &[u8], at: u64) -> Result<Text, Memory>
     ensures { IfOk result (λ line. line ≡ changed_at name.now at) }
@@ -59,12 +69,20 @@ fn changed_line(alloc: Global, name: &[u8], at: u64) -> Result<Text, Memory>
     Ok(line)
 }
 
-// What is too large: the file itself, or the record or a staged file.
-fn too_large(alloc: Global, file: &[u8], name: &[u8], length: u64) -> Result<Asked, Memory>
-    ensures means { (s : SessionState) → IfOk result (λ asked. after_asks s asked ≡ after_commit s file.now (Committed.TooLarge name.now length)) }
+// Whether one of the changes is of this file.
+fn is_changed(changes: &[Change], file: &[u8]) -> bool
+    ensures { result ≡ is_changed changes.now file.now }
+{
+    changes.iter().any(|change| change_name(change) == file)
+}
+
+// What is too large: a file that is changed, or the record or a staged file.
+fn too_large(alloc: Global, changes: &[Change], name: &[u8], length: u64) -> Result<Asked, Memory>
+    ensures means { (s : SessionState) → IfOk result
+        (λ asked. after_asks s asked ≡ after_commit s changes.now (Committed.TooLarge name.now length)) }
     ensures end { IfOk result EndsByAsk }
 {
-    if name == file {
+    if is_changed(changes, name) {
         let line = line_of(alloc, name, b": too large")?;
         Ok(Asked::Refused { line })
     } else {
@@ -87,9 +105,9 @@ fn changed(alloc: Global, name: &[u8], at: u64) -> Result<Asked, Memory>
     Ok(Asked::Refused { line })
 }
 
-// What the answer to a commit of a change of this file leaves.
-fn after_commit(alloc: Global, file: &[u8], answer: Committed) -> Result<Asked, Memory>
-    ensures means { (s : SessionState) → IfOk result (λ asked. after_asks s asked ≡ after_commit s file.now answer) }
+// What the answer to a commit of these changes leaves.
+fn after_commit(alloc: Global, changes: &[Change], answer: Committed) -> Result<Asked, Memory>
+    ensures means { (s : SessionState) → IfOk result (λ asked. after_asks s asked ≡ after_commit s changes.now answer) }
     ensures end { IfOk result EndsByAsk }
 {
     match answer {
@@ -97,7 +115,7 @@ fn after_commit(alloc: Global, file: &[u8], answer: Committed) -> Result<Asked, 
         Committed::Busy { name } => refused(alloc, name.bytes(), b": busy"),
         Committed::NotARecord => Ok(Asked::Ended(Status::BadRecord)),
         Committed::Changed { name, at } => changed(alloc, name.bytes(), at),
-        Committed::TooLarge { name, length } => too_large(alloc, file, name.bytes(), length),
+        Committed::TooLarge { name, length } => too_large(alloc, changes, name.bytes(), length),
         Committed::TooManyNames { .. } => refused(alloc, b"too many names", b""),
     }
 }
@@ -114,14 +132,18 @@ fn error_of(cause: Stop) -> RunError
     }
 }
 
-// What a commit of a change of this file leaves, or the error that cuts the run off.
-fn followed(alloc: Global, file: &[u8], answer: Result<Committed, Stop>) -> Result<Asked, RunError>
+// What a commit of these changes leaves, or the error that cuts the run off.
+fn followed(
+    alloc: Global,
+    changes: &[Change],
+    answer: Result<Committed, Stop>,
+) -> Result<Asked, RunError>
     requires { IfErr answer IsLoadCut }
-    ensures follows { (s : SessionState) → Follows s file.now answer result }
+    ensures follows { (s : SessionState) → Follows s changes.now answer result }
     ensures end { IfOk result EndsByAsk }
 {
     match answer {
-        Ok(answer) => match after_commit(alloc, file, answer) {
+        Ok(answer) => match after_commit(alloc, changes, answer) {
             Ok(asked) => Ok(asked),
             Err(Memory) => Err(RunError::Memory),
         },
@@ -129,45 +151,45 @@ fn followed(alloc: Global, file: &[u8], answer: Result<Committed, Stop>) -> Resu
     }
 }
 
-// Commits a change of a file whose name was tested.
+// Commits changes of files whose names were tested.
 fn commit<H: Host>(
     alloc: Global,
     state: &SessionState,
     host: &mut H,
-    wanted: &Change,
+    changes: &[Change],
 ) -> Result<Asked, RunError>
     requires state { IsState state.now }
-    requires name { name_fault state.now.actor (name_of wanted.now) ≡ None }
+    requires names { names_fault state.now.actor changes.now ≡ None }
     ensures ran { Ran H.world host.old host.new
-        (λ es. Goes (saved state.now wanted.now None) es (in_play (after_asks state.now) result)) }
+        (λ es. Goes (saved state.now changes.now None) es (in_play (after_asks state.now) result)) }
     ensures fall { NeverFall (H.world.counts host.old) (H.world.counts host.new) }
     ensures end { IfOk result EndsByAsk }
     ensures cause { LineCaused (H.world.counts host.old) (H.world.counts host.new) result }
 {
     let folder = Some(&state.desk.folder.folder);
     let actor = state.actor.bytes();
-    let answer = change(alloc, host, actor, state.token, from_ref(wanted), folder);
-    followed(alloc, change_name(wanted), answer)
+    let answer = change(alloc, host, actor, state.token, changes, folder);
+    followed(alloc, changes, answer)
 }
 
-/// Commits a change, unless its file's name is at fault.
+/// Commits changes, unless the name of a file is at fault.
 pub(crate) fn save<H: Host>(
     alloc: Global,
     state: &SessionState,
     host: &mut H,
-    wanted: &Change,
+    changes: &[Change],
 ) -> Result<Asked, RunError>
     requires { IsState state.now }
     ensures ran { Ran H.world host.old host.new
-        (λ es. Goes (saved state.now wanted.now (name_fault state.now.actor (name_of wanted.now))) es
+        (λ es. Goes (saved state.now changes.now (names_fault state.now.actor changes.now)) es
         (in_play (after_asks state.now) result)) }
     ensures fall { NeverFall (H.world.counts host.old) (H.world.counts host.new) }
     ensures end { IfOk result EndsByAsk }
     ensures cause { LineCaused (H.world.counts host.old) (H.world.counts host.new) result }
 {
-    match name_fault(alloc, state.actor.bytes(), change_name(wanted)) {
+    match names_fault(alloc, state.actor.bytes(), changes) {
         Ok(Some(line)) => Ok(Asked::Refused { line }),
-        Ok(None) => commit(alloc, state, host, wanted),
+        Ok(None) => commit(alloc, state, host, changes),
         Err(Memory) => Err(RunError::Memory),
     }
 }

@@ -7,11 +7,15 @@ ghost use Rattle.command_desk.specs.Desks.{IsDesk};
 ghost use Rattle.read_commands.specs.declared.origin.Origin.{Origin};
 ghost use Rattle.read_commands.specs.Origins.{commanded};
 ghost use Rattle.mailx_session.specs.States.{IsSession, rested};
+ghost use Rattle.mailx_session.specs.Leaving.{leaving};
 ghost use Rattle.mailx_session.specs.Rounds.{LineGoes};
+ghost use Rattle.mailx_session.specs.Statuses.{IsEnd};
+ghost use Rattle.session_play.specs.Play.{Play, Goes};
 ghost use Rattle.mailx_session.specs.Sessions.{next_of, in_play, LineCaused, EndsByLine, StaysAtEnd};
 ghost use Rattle.mailx_session.specs.Openings.{first_state, greeting, Opens};
 
 use crate::greeting::greeting;
+use crate::leaving::leave;
 use crate::lines::input_line;
 use crate::opening::{first_state, known_page_size, marks_of, plain_view, put_folder, rows_of};
 use crate::{Flow, Frames, RunError, SessionState, Status};
@@ -131,10 +135,14 @@ impl Session {
         result
     }
 
-    /// The end of input, which ends the run as `exit` does.
-    pub fn end(&self) -> Status
-        ensures { result ≡ Status.Done }
+    /// The end of the input: the folder is left, as by `quit`, and the run ends. Where the quit is refused its line is
+    /// said.
+    pub fn end<H: Host>(&self, host: &mut H) -> Result<Status, RunError>
+        ensures ran { Ran H.world host.old host.new
+            (λ es. Goes (leaving self.now) es (in_play (λ (e : Status). e) result)) }
+        ensures end { IfOk result IsEnd }
+        ensures cause { LineCaused (H.world.counts host.old) (H.world.counts host.new) result }
     {
-        Status::Done
+        leave(self.alloc, &self.state, host)
     }
 }

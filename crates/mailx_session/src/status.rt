@@ -11,7 +11,7 @@ pub enum Status {
     OutputFault,
     /// The folder could not be read.
     DiskFault,
-    /// Another has the lock of the folder.
+    /// Another has the lock of the folder, or the quit at the end of the input was refused.
     Refused,
     /// Out of memory.
     Memory,

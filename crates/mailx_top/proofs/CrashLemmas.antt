@@ -2,8 +2,6 @@
 use Rattle.std.proofs.Common.{◌≡◌, ◌<◌, ◌^◌, ◌+◌, ℕ, Bool, true, false, List, [], ◌∷◌, ◌++◌, length, refl, sym, subst}
 use Rattle.std.specs.Prelude.{nat_lt, if◌then◌else◌}
 use Rattle.std.specs.List.{list_all}
-use Rattle.std.proofs.lemmas.List.Elements.{All-nil, All-cons}
-use Rattle.std.specs.Str.{bytes_eq}
 use Rattle.std.specs.declared.option.Option.{Option}
 use Rattle.std.specs.declared.option.Option.TheVariants.{Some, None}
 use Rattle.std.specs.declared.result.Result.{Result}
@@ -15,9 +13,7 @@ use Rattle.host_port.specs.Own.{own, OnlyLooks}
 use Rattle.host_port.specs.Ran.{Honest}
 use Rattle.mbox_scan.specs.Mailbox.{list_of}
 use Rattle.folder_change.specs.declared.change.Change.{Change}
-use Rattle.folder_change.specs.Changes.{name_of}
 use Rattle.commit_machine.specs.Lawful.{OthersAreLawful}
-use Rattle.folder_commit.specs.Names.{is_file_name}
 use Rattle.folder_commit.specs.Plans.{AreFiles}
 use Rattle.folder_commit.specs.Safe.{MayCommit}
 use Rattle.session_play.specs.declared.act.Found.{Found}
@@ -41,7 +37,7 @@ use Rattle.command_desk.specs.declared.steps.Ask as asked_of
 use Rattle.command_desk.specs.declared.steps.Ask.TheVariants as asks
 use Rattle.command_desk.specs.declared.steps.Steps.{Steps}
 use Rattle.command_desk.specs.Answers.{OrFault}
-use Rattle.command_desk.specs.Faults.{bad_name, reserved_name, too_large}
+use Rattle.command_desk.specs.Faults.{too_large}
 use Rattle.read_commands.specs.declared.origin.Origin.TheVariants as origin
 use Rattle.read_commands.specs.Origins.{commanded}
 use Rattle.mailx_session.specs.declared.frames.WaitingLine.{WaitingLine}
@@ -52,16 +48,20 @@ use Rattle.mailx_session.specs.Openings.{with_opened}
 use Rattle.mailx_session.specs.Waits.{Pending}
 use Rattle.mailx_session.specs.Pending.{taken}
 use Rattle.mailx_session.specs.States.{settled, with_frames, with_count, rested, command_limit}
-use Rattle.mailx_session.specs.Saving.{name_fault, commit_of, after_commit, saved}
+use Rattle.mailx_session.specs.Saving.{names_fault, is_changed, commit_of, after_commit, saved}
+use Rattle.mailx_session.proofs.NameLemmas.{named-files}
 use Rattle.mailx_session.specs.Sessions.{asked, carried_out}
+use Rattle.folder_commands.specs.Leaving.{quit}
+use Rattle.mailx_session.specs.Leaving.{left_by, leaving}
 use Rattle.mailx_session.specs.Rounds.{line_play, typed_play, dropped_play, counted_play, waiting_play}
 use Rattle.mailx_top.specs.declared.environment.Environment.{Environment}
 use Rattle.mailx_top.specs.Words.{Start, are_read, start_of}
-use Rattle.mailx_top.specs.Meaning.{RunState, Opening, Reading, round, opening, folder_name, with_name_or_fault, loaded, with_list, greeted, turn, line_round, with_input, prompted, message_limit, first_of, actor_in}
+use Rattle.mailx_top.specs.Meaning.{RunState, Opening, Reading, Leaving, round, last_round, opening, folder_name, with_name_or_fault, loaded, with_list, greeted, turn, line_round, with_input, prompted, message_limit, first_of, actor_in}
 use Rattle.mailx_top.specs.Statuses.{line_at_stop, line_at_end}
 use Rattle.mailx_top.specs.Runs.{Ending, IsRun}
 use Rattle.mailx_top.specs.Crash.{IsSafe}
 use Rattle.mailx_top.proofs.EndLemmas.{last-looks, end-looks}
+use Rattle.mailx_top.proofs.LeavingLemmas.{any-ends}
 use Rattle.mailx_top.proofs.RoundLemmas.{loads-round}
 
 -- a state of this actor and this token
@@ -81,6 +81,7 @@ NextOf actor token (Last e) = Unit {0}
 abbrev StateOf : List ℕ → ℕ → RunState → Type 0
 StateOf actor token (Opening start) = Unit {0}
 StateOf actor token (Reading s i) = IsOf actor token s
+StateOf actor token (Leaving s i) = IsOf actor token s
 
 -- one play after another commits as both do
 bind-commits : {A B : Type 0} (P : Commit → Type 0) (E : A → Type 0) (p : Play A) (k : A → Play B) → EachCommit P p → AllEnds E p → ((a : A) → E a → EachCommit P (k a)) → EachCommit P (bind p k)
@@ -88,50 +89,41 @@ bind-commits P E (Ret a) k each ends more = more a ends
 bind-commits P E (Ask act go) k each ends more = (each.0, λ a. bind-commits P E (go a) k (each.1 a) (ends a) more)
 
 module _ (actor : List ℕ) (token : ℕ) where
-  -- a change that is committed has a file's name
-  named-file : (a name : List ℕ) → name_fault a name ≡ None → is_file_name a name ≡ true
-  named-file a name h = go (is_short_name name) (is_file_name a name) h
-    where
-      go : (short file : Bool) → (if short then (if file then None else Some (reserved_name name)) else Some (bad_name name)) ≡ None → file ≡ true
-      go true true h = refl
-      go true false h = absurd (cc h)
-      go false file h = absurd (cc h)
-
-  commit-by : (s : SessionState) (change : Change) → IsOf actor token s → name_fault s.actor (name_of change) ≡ None → IsBy actor token (commit_of s change)
-  commit-by s change of plain = record {
+  commit-by : (s : SessionState) (changes : List Change) → IsOf actor token s → names_fault s.actor changes ≡ None → IsBy actor token (commit_of s changes)
+  commit-by s changes of plain = record {
     actor_is = of.0;
     token_is = of.1;
-    files = subst (λ (a : List ℕ). AreFiles a (change ∷ [])) of.0 (All-cons (λ (c : Change). is_file_name s.actor (name_of c) ≡ true) change [] (named-file s.actor (name_of change) plain) (All-nil (λ (c : Change). is_file_name s.actor (name_of c) ≡ true)));
+    files = subst (λ (a : List ℕ). AreFiles a changes) of.0 (named-files s.actor changes plain);
   }
 
-  saved-commits : (s : SessionState) (change : Change) (fault : Option (List ℕ)) → name_fault s.actor (name_of change) ≡ fault → IsOf actor token s → EachCommit (IsBy actor token) (saved s change fault)
-  saved-commits s change (Some line) is of = tt
-  saved-commits s change None is of = (commit-by s change of is, λ a. tt)
+  saved-commits : (s : SessionState) (changes : List Change) (fault : Option (List ℕ)) → names_fault s.actor changes ≡ fault → IsOf actor token s → EachCommit (IsBy actor token) (saved s changes fault)
+  saved-commits s changes (Some line) is of = tt
+  saved-commits s changes None is of = (commit-by s changes of is, λ a. tt)
 
   large-of : (b : Bool) (line : List ℕ) → AfterOf actor token (if b then Refused line else Ended BadRecord)
   large-of true line = tt
   large-of false line = tt
 
-  commit-of : (s : SessionState) (file : List ℕ) (a : Committed) → IsOf actor token s → AfterOf actor token (after_commit s file a)
-  commit-of s file committed.Done of = of
-  commit-of s file (committed.Busy name) of = tt
-  commit-of s file committed.NotARecord of = tt
-  commit-of s file (committed.Changed name at) of = tt
-  commit-of s file (committed.TooLarge name length) of = large-of (bytes_eq name file) (too_large name)
-  commit-of s file (committed.TooManyNames count) of = tt
+  commit-of : (s : SessionState) (changes : List Change) (a : Committed) → IsOf actor token s → AfterOf actor token (after_commit s changes a)
+  commit-of s changes committed.Done of = of
+  commit-of s changes (committed.Busy name) of = tt
+  commit-of s changes committed.NotARecord of = tt
+  commit-of s changes (committed.Changed name at) of = tt
+  commit-of s changes (committed.TooLarge name length) of = large-of (is_changed changes name) (too_large name)
+  commit-of s changes (committed.TooManyNames count) of = tt
 
-  saved-of : (s : SessionState) (change : Change) (fault : Option (List ℕ)) → IsOf actor token s → AllEnds (AfterOf actor token) (saved s change fault)
-  saved-of s change (Some line) of = tt
-  saved-of s change None of = λ a. commit-of s (name_of change) a of
+  saved-of : (s : SessionState) (changes : List Change) (fault : Option (List ℕ)) → IsOf actor token s → AllEnds (AfterOf actor token) (saved s changes fault)
+  saved-of s changes (Some line) of = tt
+  saved-of s changes None of = λ a. commit-of s changes a of
 
   ask-commits : (s : SessionState) (ask : asked_of.Ask) → IsOf actor token s → EachCommit (IsBy actor token) (asked s ask)
   ask-commits s (asks.Say bytes) of = (tt, λ u. tt)
-  ask-commits s (asks.Save change) of = saved-commits s change (name_fault s.actor (name_of change)) refl of
+  ask-commits s (asks.Commit changes) of = saved-commits s changes (names_fault s.actor changes) refl of
   ask-commits s asks.Exit of = tt
 
   ask-of : (s : SessionState) (ask : asked_of.Ask) → IsOf actor token s → AllEnds (AfterOf actor token) (asked s ask)
   ask-of s (asks.Say bytes) of = λ u. of
-  ask-of s (asks.Save change) of = saved-of s change (name_fault s.actor (name_of change)) of
+  ask-of s (asks.Commit changes) of = saved-of s changes (names_fault s.actor changes) of
   ask-of s asks.Exit of = tt
 
   onward-commits : (l : List asked_of.Ask) → ((t : SessionState) → IsOf actor token t → EachCommit (IsBy actor token) (in_order asked t l)) → (a : After SessionState Status) → AfterOf actor token a
@@ -211,7 +203,7 @@ module _ (actor : List ℕ) (token : ℕ) where
       (carried-of (with_count (rested s) 1) (commanded origin.Input s.desk line) of) (with-commits j)
 
   turn-of : (s : SessionState) (j : Input) (line : Option (List ℕ)) → IsOf actor token s → AllEnds (NextKeeps (StateOf actor token)) (turn s j line)
-  turn-of s j None of = tt
+  turn-of s j None of = of
   turn-of s j (Some line) of =
       bind-ends (NextOf actor token) (NextKeeps (StateOf actor token)) (typed_play s line) (with_input j) (carried-of (with_count (rested s) 1) (commanded origin.Input s.desk line) of) (with-of j)
 
@@ -239,6 +231,21 @@ module _ (actor : List ℕ) (token : ℕ) where
   line-of s i (Some p) of =
       let t = with_frames s p.1 in
       bind-ends (NextOf actor token) (NextKeeps (StateOf actor token)) (waiting_play t p.0) (with_input i) (waiting-of (list_all is_blank p.0.text) t p.0 of) (with-of i)
+
+  -- the end of the input
+  left-commits : (a : After SessionState Status) → AfterOf actor token a → EachCommit (IsBy actor token) (left_by a)
+  left-commits (On s) of = tt
+  left-commits (Refused line) of = (tt, λ u. tt)
+  left-commits (Ended e) of = tt
+
+  last-commits : (s : SessionState) → IsOf actor token s → EachCommit (IsBy actor token) (last_round s)
+  last-commits s of =
+      bind-commits (IsBy actor token) (λ (e : Status). Unit {0}) (leaving s) (λ e. Ret (Last e))
+      (bind-commits (IsBy actor token) (AfterOf actor token) (in_order asked s (quit s.desk).asks) left_by (order-commits s (quit s.desk).asks of) (order-of s (quit s.desk).asks of) left-commits)
+      (any-ends (leaving s)) (λ e t. tt)
+
+  last-of : (s : SessionState) → AllEnds (NextKeeps (StateOf actor token)) (last_round s)
+  last-of s = bind-ends (λ (e : Status). Unit {0}) (NextKeeps (StateOf actor token)) (leaving s) (λ e. Ret (Last e)) (any-ends (leaving s)) (λ e t. tt)
 
   greeted-of : (quiet : Bool) (s : SessionState) → IsOf actor token s → AllEnds (NextKeeps (StateOf actor token)) (greeted quiet s)
   greeted-of true s of = of
@@ -268,12 +275,14 @@ round-commits : (env : Environment) (x : RunState) → StateOf (actor_in env) en
 round-commits env (Opening start) of =
     neutral-commits (IsBy (actor_in env) env.token) (opening env start) (weaker-acts (may_load true) is_neutral may-neutral (opening env start) (loads-round env (Opening start)))
 round-commits env (Reading s i) of = line-commits (actor_in env) env.token s i (taken s.frames) of
+round-commits env (Leaving s i) of = last-commits (actor_in env) env.token s of
 
 -- and each round leaves a state of its actor and token
 round-of : (env : Environment) (x : RunState) → StateOf (actor_in env) env.token x → AllEnds (NextKeeps (StateOf (actor_in env) env.token)) (round env x)
 round-of env (Opening None) of = λ u. tt
 round-of env (Opening (Some start)) of = named-of (actor_in env) env.token (first_of env) start (folder_name (first_of env) start) (refl, refl)
 round-of env (Reading s i) of = line-of (actor_in env) env.token s i (taken s.frames) of
+round-of env (Leaving s i) of = last-of (actor_in env) env.token s
 
 -- what an ending adds only looks
 ending-looks : (actor : List ℕ) (read : Bool) (s : Status) (out : Result Status Stop) (es : List Event) → Ending actor read s out es → OnlyLooks es

@@ -12,7 +12,7 @@ use Rattle.host_port.specs.Own.{own, OnlyLooks}
 use Rattle.host_port.specs.Calls.{Counts}
 use Rattle.session_play.specs.declared.stop.Stop.{Stop}
 use Rattle.session_play.specs.declared.stop.Stop.TheVariants as stop
-use Rattle.std.specs.Prelude.{codes, ◌++◌, if◌then◌else◌}
+use Rattle.std.specs.Prelude.{codes, ◌++◌, if◌then◌else◌, IfOk, IfSome, IfNone, IsSome}
 use Rattle.session_play.specs.Play.{Caused, Play, Ret, Ask, Goes, Next, Go, Last, Loop, again, last, cut}
 use Rattle.mailx_vars.specs.declared.environment.Places.{Places}
 use Rattle.mailx_vars.specs.Environment.{knows_user, places_in, places_of}
@@ -20,11 +20,10 @@ use Rattle.mailx_top.specs.declared.environment.Environment.{Environment}
 use Rattle.mailx_top.specs.Meaning.{actor_in}
 use Rattle.mailx_session.specs.declared.error.RunError.{RunError}
 use Rattle.mailx_session.specs.declared.error.RunError.TheVariants as error
-use Rattle.mailx_session.specs.declared.flow.Flow.{Flow}
 use Rattle.mailx_session.specs.declared.status.Status.{Status}
 use Rattle.mailx_session.specs.declared.status.Status.TheVariants as status
 use Rattle.mailx_session.specs.Sessions.{LineCaused, stop_of}
-use Rattle.mailx_session.specs.Statuses.{IsEnd}
+use Rattle.mailx_session.specs.Statuses.{IsEnd, IsLineEnd}
 use Rattle.std.specs.declared.option.Option.{Option}
 use Rattle.std.specs.declared.option.Option.TheVariants.{Some, None}
 use Rattle.mailx_top.specs.Statuses.{status_at_stop}
@@ -79,11 +78,35 @@ actor-read env places is = ap (λ (p : Places). p.home ++ codes "/.mailx") (go (
     go true same = cc same
     go false same = absurd (cc same)
 
--- a line's error has the cause of its cut
-pub caused-line : (old new : Counts) (e : RunError) → LineCaused {T = Flow} old new (Err e) → Caused {T = Option Status} old new (Err (stop_of e))
+-- an error has the cause of its cut
+pub caused-line : {T : Type 0} (old new : Counts) (e : RunError) → LineCaused {T = T} old new (Err e) → Caused {T = Option Status} old new (Err (stop_of e))
 caused-line old new error.Output rose = rose
 caused-line old new error.Disk rose = rose
 caused-line old new error.Memory c = tt
+
+-- where a run has ended nothing is said of its going on
+pub ended-whatever : (r : Result (Option Status) Stop) {P : Type 0} → IfOk r IsSome → IfOk r (λ e. IfNone e P)
+ended-whatever (Ok (Some e)) some = tt
+ended-whatever (Ok None) never = absurd never
+ended-whatever (Err cause) some = tt
+
+-- a line ends a run so that isn't cut off
+pub line-ends : (r : Result (Option Status) Stop) → IfOk r (λ e. IfSome e IsLineEnd) → IfOk r (λ e. IfSome e IsEnd)
+line-ends (Ok (Some e)) ends = go e ends
+  where
+    go : (e : Status) → IsLineEnd e → IsEnd e
+    go status.Done t = tt
+    go status.BadRecord t = tt
+    go status.Usage never = absurd never
+    go status.InputFault never = absurd never
+    go status.OutputFault never = absurd never
+    go status.DiskFault never = absurd never
+    go status.Refused never = absurd never
+    go status.Memory never = absurd never
+    go status.InputLimit never = absurd never
+    go status.NoFolder never = absurd never
+line-ends (Ok None) ends = tt
+line-ends (Err cause) ends = tt
 
 -- the status of a fault
 abbrev pub IsFault : Status → Type 0

@@ -2,6 +2,7 @@ pub mod CrashLemmas
 pub mod EndLemmas
 pub mod FolderLemmas
 pub mod LineLemmas
+pub mod LeavingLemmas
 pub mod OpeningLemmas
 pub mod OrderLemmas
 pub mod RoundLemmas

@@ -18,12 +18,10 @@ use Rattle.read_commands.specs.Origins.{commanded}
 use Rattle.mailx_session.specs.declared.status.Status.{Status}
 use Rattle.mailx_session.specs.declared.status.Status.TheVariants.{Done, BadRecord}
 use Rattle.mailx_session.specs.Statuses.{IsLineEnd}
-use Rattle.mailx_session.specs.Saving.{name_fault, after_commit, saved}
-use Rattle.std.specs.Str.{bytes_eq}
+use Rattle.mailx_session.specs.Saving.{names_fault, is_changed, after_commit, saved}
 use Rattle.std.specs.declared.option.Option.{Option}
 use Rattle.std.specs.declared.option.Option.TheVariants.{Some, None}
 use Rattle.folder_change.specs.declared.change.Change.{Change}
-use Rattle.folder_change.specs.Changes.{name_of}
 use Rattle.session_play.specs.declared.changing.Committed.{Committed}
 use Rattle.session_play.specs.declared.changing.Committed.TheVariants as committed
 use Rattle.command_desk.specs.Faults.{too_large}
@@ -50,54 +48,54 @@ EndsByLine (Go s) = Unit {0}
 EndsByLine (Last s) = IsLineEnd s
 
 -- a change that is committed, or refused by its name
-saved-acts : (s : SessionState) (change : Change) (fault : Option (List ℕ)) → AllActs (may_load false) (saved s change fault)
-saved-acts s change (Some line) = tt
-saved-acts s change None = (refl, λ a. tt)
+saved-acts : (s : SessionState) (changes : List Change) (fault : Option (List ℕ)) → AllActs (may_load false) (saved s changes fault)
+saved-acts s changes (Some line) = tt
+saved-acts s changes None = (refl, λ a. tt)
 
 large-ends : (b : Bool) (line : List ℕ) → IsDone (if b then Refused line else Ended BadRecord)
 large-ends true line = tt
 large-ends false line = tt
 
-commit-ends : (s : SessionState) (file : List ℕ) (a : Committed) → IsDone (after_commit s file a)
-commit-ends s file committed.Done = tt
-commit-ends s file (committed.Busy name) = tt
-commit-ends s file committed.NotARecord = tt
-commit-ends s file (committed.Changed name at) = tt
-commit-ends s file (committed.TooLarge name length) = large-ends (bytes_eq name file) (too_large name)
-commit-ends s file (committed.TooManyNames count) = tt
+commit-ends : (s : SessionState) (changes : List Change) (a : Committed) → IsDone (after_commit s changes a)
+commit-ends s changes committed.Done = tt
+commit-ends s changes (committed.Busy name) = tt
+commit-ends s changes committed.NotARecord = tt
+commit-ends s changes (committed.Changed name at) = tt
+commit-ends s changes (committed.TooLarge name length) = large-ends (is_changed changes name) (too_large name)
+commit-ends s changes (committed.TooManyNames count) = tt
 
-saved-ends : (s : SessionState) (change : Change) (fault : Option (List ℕ)) → AllEnds IsDone (saved s change fault)
-saved-ends s change (Some line) = tt
-saved-ends s change None = λ a. commit-ends s (name_of change) a
+saved-ends : (s : SessionState) (changes : List Change) (fault : Option (List ℕ)) → AllEnds IsDone (saved s changes fault)
+saved-ends s changes (Some line) = tt
+saved-ends s changes None = λ a. commit-ends s changes a
 
-saved-threads : (s : SessionState) (change : Change) (fault : Option (List ℕ)) (i : Input) → Threads (Keeps i) i (saved s change fault)
-saved-threads s change (Some line) i = refl
-saved-threads s change None i = (tt, λ a. refl)
+saved-threads : (s : SessionState) (changes : List Change) (fault : Option (List ℕ)) (i : Input) → Threads (Keeps i) i (saved s changes fault)
+saved-threads s changes (Some line) i = refl
+saved-threads s changes None i = (tt, λ a. refl)
 
 -- one ask
 ask-acts : (s : SessionState) (ask : asked_of.Ask) → AllActs (may_load false) (asked s ask)
 ask-acts s (asks.Say bytes) = (refl, λ u. tt)
-ask-acts s (asks.Save change) = saved-acts s change (name_fault s.actor (name_of change))
+ask-acts s (asks.Commit changes) = saved-acts s changes (names_fault s.actor changes)
 ask-acts s asks.Exit = tt
 
 ask-ends : (s : SessionState) (ask : asked_of.Ask) → AllEnds IsDone (asked s ask)
 ask-ends s (asks.Say bytes) = λ u. tt
-ask-ends s (asks.Save change) = saved-ends s change (name_fault s.actor (name_of change))
+ask-ends s (asks.Commit changes) = saved-ends s changes (names_fault s.actor changes)
 ask-ends s asks.Exit = tt
 
 ask-threads : (s : SessionState) (ask : asked_of.Ask) (i : Input) → Threads (Keeps i) i (asked s ask)
 ask-threads s (asks.Say bytes) i = (tt, λ u. refl)
-ask-threads s (asks.Save change) i = saved-threads s change (name_fault s.actor (name_of change)) i
+ask-threads s (asks.Commit changes) i = saved-threads s changes (names_fault s.actor changes) i
 ask-threads s asks.Exit i = refl
 
 -- asks in order
-asks-acts : (s : SessionState) (l : List asked_of.Ask) → AllActs (may_load false) (in_order asked s l)
+pub asks-acts : (s : SessionState) (l : List asked_of.Ask) → AllActs (may_load false) (in_order asked s l)
 asks-acts s l = order-acts (may_load false) asked ask-acts s l
 
 asks-ends : (s : SessionState) (l : List asked_of.Ask) → AllEnds IsDone (in_order asked s l)
 asks-ends s l = order-ends IsDone asked (λ t. tt) ask-ends s l
 
-asks-threads : (s : SessionState) (l : List asked_of.Ask) (i : Input) → Threads (Keeps i) i (in_order asked s l)
+pub asks-threads : (s : SessionState) (l : List asked_of.Ask) (i : Input) → Threads (Keeps i) i (in_order asked s l)
 asks-threads s l i = order-threads asked ask-threads s l i
 
 abbrev changed : Effects → SessionState → SessionState

@@ -1,4 +1,4 @@
--- Why a run opened no folder.
+-- Why a run opened no folder, and why it was refused.
 use Rattle.std.proofs.lemmas.List.{append-nil}
 use Rattle.std.proofs.Common.{◌≡◌, ◌⊎◌, ◌||◌, ℕ, Bool, true, false, List, [], ◌∷◌, ◌++◌, length, refl, sym, ◌∙◌, ap, subst, inl, inr}
 use Rattle.std.specs.Prelude.{if◌then◌else◌, nat_lt, codes}
@@ -32,12 +32,15 @@ use Rattle.mailx_session.specs.States.{with_frames}
 use Rattle.mailx_session.specs.Rounds.{typed_play, waiting_play}
 use Rattle.mailx_top.specs.declared.environment.Environment.{Environment}
 use Rattle.mailx_top.specs.Words.{Start}
-use Rattle.mailx_top.specs.Meaning.{RunState, first_of, Opening, Reading, round, opening, folder_name, with_name_or_fault, loaded, with_list, greeted, turn, next_turn, line_round, with_input, prompted, says_and_ends, is_opening, usage, message_limit}
+use Rattle.mailx_top.specs.Meaning.{RunState, first_of, Opening, Reading, Leaving, round, opening, folder_name, with_name_or_fault, loaded, with_list, greeted, turn, next_turn, line_round, with_input, prompted, says_and_ends, is_opening, usage, message_limit}
 use Rattle.session_play.specs.Acts.{AllActs, AllEnds, loads_nothing}
 use Rattle.session_play.specs.Causes.{some_load_saw, counted, events_at}
 use Rattle.session_play.proofs.SawLemmas.{Unseen, unseen-then, goes-unseen}
 use Rattle.session_play.proofs.ShapeLemmas.{came-same, goes-ends, bind-ends}
 use Rattle.mailx_session.specs.Statuses.{IsLineEnd}
+use Rattle.mailx_session.specs.Leaving.{leaving}
+use Rattle.mailx_top.specs.Leavings.{first_answer, is_refused_at, refused_at_end}
+use Rattle.mailx_top.proofs.LeavingLemmas.{any-ends, end_at, opened_end, last-ends}
 use Rattle.mailx_top.proofs.LineLemmas.{EndsByLine, typed-ends, waiting-ends}
 use Rattle.mailx_top.proofs.RoundLemmas.{loaded-acts}
 use Rattle.mailx_top.specs.Openings.{saw_held, is_no_list, saw_no_folder, OpensNone, EndsOrIsCut, IsOpeningExplained}
@@ -46,11 +49,7 @@ use Rattle.mailx_top.specs.Usage.{IsNoName, IsBadName}
 abbrev IsReadingState : RunState → Type 0
 IsReadingState (Opening start) = ⊥
 IsReadingState (Reading s i) = Unit {0}
-
--- once the folder is open a run ends in one of two ways, of which the first stands for both
-abbrev opened_end : Status → Status
-opened_end status.BadRecord = status.Done
-opened_end e = e
+IsReadingState (Leaving s i) = Unit {0}
 
 line-end : (e : Status) → IsLineEnd e → opened_end e ≡ status.Done
 line-end status.Done is = refl
@@ -81,7 +80,7 @@ abbrev EndsLike : Status → Result Status Stop → Type 0
 EndsLike e (Ok r) = opened_end r ≡ e
 EndsLike e (Err cause) = Unit {0}
 
--- a round goes on reading, or ends as a line does
+-- a round that reads a line goes on, or ends as a line does
 abbrev ReadsOn : Next RunState Status → Type 0
 ReadsOn (Go y) = IsReadingState y
 ReadsOn (Last e) = opened_end e ≡ status.Done
@@ -91,7 +90,7 @@ ends-with j (Go s) by_line = tt
 ends-with j (Last e) by_line = line-end e by_line
 
 ends-turn : (s : SessionState) (j : Input) (line : Option (List ℕ)) → AllEnds ReadsOn (turn s j line)
-ends-turn s j None = refl
+ends-turn s j None = tt
 ends-turn s j (Some line) = bind-ends EndsByLine ReadsOn (typed_play s line) (with_input j) (typed-ends s line) (ends-with j)
 
 ends-prompted : (terminal : Bool) (desk : Desk) → AllEnds (λ (u : Unit {0}). Unit {0}) (prompted terminal desk)
@@ -108,44 +107,67 @@ ends-line-round s i None = ends-next s i
 ends-line-round s i (Some p) =
     let t = with_frames s p.1 in bind-ends EndsByLine ReadsOn (waiting_play t p.0) (with_input i) (waiting-ends t p.0) (ends-with i)
 
-ends-round : (env : Environment) (x : RunState) → IsReadingState x → AllEnds ReadsOn (round env x)
-ends-round env (Opening start) never = absurd never
-ends-round env (Reading s i) reading = ends-line-round s i (taken s.frames)
+-- a round is followed by none that opens a folder
+abbrev ReadsNext : Next RunState Status → Type 0
+ReadsNext (Go y) = IsReadingState y
+ReadsNext (Last e) = Unit {0}
+
+only-next : (p : Play (Next RunState Status)) → AllEnds ReadsOn p → AllEnds ReadsNext p
+only-next (Ret (Go y)) ends = ends
+only-next (Ret (Last e)) ends = tt
+only-next (Ask act go) ends = λ a. only-next (go a) (ends a)
+
+next-round : (env : Environment) (x : RunState) → IsReadingState x → AllEnds ReadsNext (round env x)
+next-round env (Opening start) never = absurd never
+next-round env (Reading s i) reading = only-next (round env (Reading s i)) (ends-line-round s i (taken s.frames))
+next-round env (Leaving s i) reading = bind-ends (λ (e : Status). Unit {0}) ReadsNext (leaving s) (λ e. Ret (Last e)) (any-ends (leaving s)) (λ e t. tt)
+
+-- how the last round of a run ends it
+round-ends : (env : Environment) (x : RunState) (es : List Event) (r : Status) → IsReadingState x → (goes : Goes (round env x) es (Ok (Last r)))
+    → opened_end r ≡ end_at (is_refused_at x (first_answer (round env x) es (Ok (Last r)) goes))
+round-ends env (Opening start) es r never goes = absurd never
+round-ends env (Reading s i) es r reading goes = goes-ends ReadsOn (round env (Reading s i)) es (Last r) (ends-line-round s i (taken s.frames)) goes
+round-ends env (Leaving s i) es r reading goes = last-ends s es r goes
 
 reads-nothing : (x : RunState) → IsReadingState x → is_opening x ≡ false
 reads-nothing (Opening start) never = absurd never
 reads-nothing (Reading s i) reading = refl
+reads-nothing (Leaving s i) reading = refl
 
 none-counted : (x : RunState) (es : List Event) → IsReadingState x → counted (is_opening x) es ≡ []
 none-counted x es reading = ap (λ (b : Bool). counted b es) (reads-nothing x reading)
 
 -- a loop of lines opens no folder, and ends only as a session does
 loop-reads : (env : Environment) {x : RunState} {es : List Event} {out : Result Status Stop} → IsReadingState x → (loop : Loop (round env) x es out)
-    → (events_at is_opening loop ≡ []) × EndsLike status.Done out
+    → (events_at is_opening loop ≡ []) × EndsLike (end_at (refused_at_end loop)) out
 loop-reads env {x = x} {out = out} reading (again {y = y} front rest is goes more) =
-    let on : IsReadingState y = goes-ends ReadsOn (round env x) front (Go y) (ends-round env x reading) goes in
+    let on : IsReadingState y = goes-ends ReadsNext (round env x) front (Go y) (next-round env x reading) goes in
     let later = loop-reads env on more in
     (ap (λ (l : List Event). l ++ events_at is_opening more) (none-counted x front reading) ∙ later.0, later.1)
-loop-reads env {x = x} {es = es} reading (last {r = r} goes) = (none-counted x es reading, goes-ends ReadsOn (round env x) es (Last r) (ends-round env x reading) goes)
+loop-reads env {x = x} {es = es} reading (last {r = r} goes) = (none-counted x es reading, round-ends env x es r reading goes)
 loop-reads env {x = x} {es = es} reading (cut goes) = (none-counted x es reading, tt)
 
--- the events of a play's first round, and how the run ends after it
-abbrev Continues : Play (Next RunState Status) → List Event → Result Status Stop → Type 0
-Continues p es out =
-    ((y : RunState) × Goes p es (Ok (Go y)) × (IsReadingState y → EndsLike status.Done out))
-    ⊎ (((r : Status) × (out ≡ Ok r) × Goes p es (Ok (Last r))) ⊎ ((cause : Stop) × (out ≡ Err cause) × Goes p es (Err cause)))
+-- the events of a play's first round, and how the run ends after it, whose last quit was refused or not
+abbrev Continues : Bool → Play (Next RunState Status) → List Event → Result Status Stop → Type 0
+Continues b p es out =
+    ((y : RunState) × Goes p es (Ok (Go y)) × (IsReadingState y → EndsLike (end_at b) out))
+    ⊎ ((b ≡ false) × (((r : Status) × (out ≡ Ok r) × Goes p es (Ok (Last r))) ⊎ ((cause : Stop) × (out ≡ Err cause) × Goes p es (Err cause))))
 
 -- what follows a round without a load that ends the run so, or goes on to read
 abbrev EndsWith : Status → Next RunState Status → Type 0
 EndsWith e (Go y) = IsReadingState y × (e ≡ status.Done)
 EndsWith e (Last r) = opened_end r ≡ e
 
-continues-with : (e : Status) (p : Play (Next RunState Status)) (es : List Event) (out : Result Status Stop) → AllEnds (EndsWith e) p → Continues p es out → EndsLike e out
-continues-with e p es out ends (inl (y, goes, reads)) =
+-- the run reads on and ends by its last quit, or it ends with its first round
+abbrev EndsAfter : Bool → Status → Result Status Stop → Type 0
+EndsAfter b e out = ((e ≡ status.Done) × EndsLike (end_at b) out) ⊎ ((b ≡ false) × EndsLike e out)
+
+continues-with : (b : Bool) (e : Status) (p : Play (Next RunState Status)) (es : List Event) (out : Result Status Stop) → AllEnds (EndsWith e) p → Continues b p es out → EndsAfter b e out
+continues-with b e p es out ends (inl (y, goes, reads)) =
     let on = goes-ends (EndsWith e) p es (Go y) ends goes in
-    subst (λ e. EndsLike e out) (sym on.1) (reads on.0)
-continues-with e p es out ends (inr (inl (r, is, goes))) = subst (EndsLike e) (sym is) (goes-ends (EndsWith e) p es (Last r) ends goes)
-continues-with e p es out ends (inr (inr (cause, is, goes))) = subst (EndsLike e) (sym is) tt
+    inl (on.1, reads on.0)
+continues-with b e p es out ends (inr (none, inl (r, is, goes))) = inr (none, subst (EndsLike e) (sym is) (goes-ends (EndsWith e) p es (Last r) ends goes))
+continues-with b e p es out ends (inr (none, inr (cause, is, goes))) = inr (none, subst (EndsLike e) (sym is) tt)
 
 -- the end that the load of the folder leads to, if the run isn't cut off
 abbrev end_of_list : Option (List (List ℕ)) → Status
@@ -183,19 +205,51 @@ record Matches (env : Environment) (start : Option Start) (es : List Event) (e :
   none : e ≡ status.NoFolder → OpensNone env start es
   opens_none : OpensNone env start es → e ≡ status.NoFolder
 
-explained-as : (env : Environment) (start : Option Start) (es : List Event) (out : Result Status Stop) (e : Status) → Matches env start es e → EndsLike e out → IsOpeningExplained env start out es
-explained-as env start es (Ok r) e m same = record {
-  refused_only = λ is. m.refused (sym same ∙ ap opened_end (came-same r status.Refused is));
-  refused_always = λ h. other-end r status.Refused (same ∙ m.held h) (λ e. absurd (cc e));
+or-true : (a : Bool) → (a || true) ≡ true
+or-true true = refl
+or-true false = refl
+
+or-false : (a : Bool) → (a || false) ≡ a
+or-false true = refl
+or-false false = refl
+
+explained-cut : (env : Environment) (start : Option Start) (es : List Event) (b : Bool) (out : Result Status Stop) (cause : Stop) → out ≡ Err cause → IsOpeningExplained env start out es b
+explained-cut env start es b out cause is = subst (λ o. IsOpeningExplained env start o es b) (sym is) (record {
+  refused_only = λ e. absurd (cc e);
+  refused_always = λ h. tt;
+  no_folder_only = λ e. absurd (cc e);
+  no_folder_always = λ h. tt;
+})
+
+-- a run that ended with its first round
+explained-shut : (env : Environment) (start : Option Start) (es : List Event) (out : Result Status Stop) (e : Status) → Matches env start es e → EndsLike e out → IsOpeningExplained env start out es false
+explained-shut env start es (Ok r) e m same = record {
+  refused_only = λ is. or-false (some_load_saw saw_held es) ∙ m.refused (sym same ∙ ap opened_end (came-same r status.Refused is));
+  refused_always = λ h. other-end r status.Refused (same ∙ m.held (sym (or-false (some_load_saw saw_held es)) ∙ h)) (λ e. absurd (cc e));
   no_folder_only = λ is. m.none (sym same ∙ ap opened_end (came-same r status.NoFolder is));
   no_folder_always = λ h. other-end r status.NoFolder (same ∙ m.opens_none h) (λ e. absurd (cc e));
 }
-explained-as env start es (Err cause) e m same = record {
-  refused_only = λ is. absurd (cc is);
-  refused_always = λ h. tt;
-  no_folder_only = λ is. absurd (cc is);
-  no_folder_always = λ h. tt;
+explained-shut env start es (Err cause) e m same = explained-cut env start es false (Err cause) cause refl
+
+-- a run that opened its folder and ended by its last quit
+explained-open : (b : Bool) (env : Environment) (start : Option Start) (es : List Event) (out : Result Status Stop) → Matches env start es status.Done → EndsLike (end_at b) out → IsOpeningExplained env start out es b
+explained-open true env start es (Ok r) m same = record {
+  refused_only = λ is. or-true (some_load_saw saw_held es);
+  refused_always = λ h. other-end r status.Refused same (λ e. absurd (cc e));
+  no_folder_only = λ is. let e : status.Refused ≡ status.NoFolder = sym same ∙ ap opened_end (came-same r status.NoFolder is) in absurd (cc e);
+  no_folder_always = λ h. absurd (cc (m.opens_none h));
 }
+explained-open false env start es (Ok r) m same = record {
+  refused_only = λ is. let e : status.Done ≡ status.Refused = sym same ∙ ap opened_end (came-same r status.Refused is) in absurd (cc e);
+  refused_always = λ h. absurd (cc (m.held (sym (or-false (some_load_saw saw_held es)) ∙ h)));
+  no_folder_only = λ is. let e : status.Done ≡ status.NoFolder = sym same ∙ ap opened_end (came-same r status.NoFolder is) in absurd (cc e);
+  no_folder_always = λ h. absurd (cc (m.opens_none h));
+}
+explained-open b env start es (Err cause) m same = explained-cut env start es b (Err cause) cause refl
+
+explained-as : (env : Environment) (start : Option Start) (es : List Event) (b : Bool) (out : Result Status Stop) (e : Status) → Matches env start es e → EndsAfter b e out → IsOpeningExplained env start out es b
+explained-as env start es b out e m (inl (done, same)) = explained-open b env start es out (subst (Matches env start es) done m) same
+explained-as env start es b out e m (inr (none, same)) = subst (IsOpeningExplained env start out es) (sym none) (explained-shut env start es out e m same)
 
 no-end : {A : Type 0} (q : Bool) → q ≡ false → q ≡ true → A
 no-end q f t = absurd (cc (f, t))
@@ -265,73 +319,60 @@ matches-found env start name rest (found.Bytes (Some bytes) false) good x y = re
     opens false (inr h) = no-end _ y h
 
 -- the load, and what follows it
-abbrev AfterLoad : List ℕ → (Found → Play (Next RunState Status)) → List Event → Result Status Stop → Type 0
-AfterLoad name go es out =
-    ((f : Found) × (rest : List Event) × (es ≡ event.Load name (seen_of f) ∷ rest) × Continues (go f) rest out)
+abbrev AfterLoad : Bool → List ℕ → (Found → Play (Next RunState Status)) → List Event → Result Status Stop → Type 0
+AfterLoad b name go es out =
+    ((f : Found) × (rest : List Event) × (es ≡ event.Load name (seen_of f) ∷ rest) × Continues b (go f) rest out)
     ⊎ ((cause : Stop) × (out ≡ Err cause))
 
 joined : (name : List ℕ) (f : Found) (es front rest : List Event) → es ≡ front ++ rest → front ≡ event.Load name (seen_of f) ∷ [] → es ≡ event.Load name (seen_of f) ∷ rest
 joined name f es front rest is did = is ∙ ap (λ (l : List Event). l ++ rest) did
 
-after-load : (name : List ℕ) (go : Found → Play (Next RunState Status)) (es : List Event) (out : Result Status Stop) → Continues (Ask (Read name) go) es out → AfterLoad name go es out
-after-load name go es out (inl (y, inl (f, front, rest, is, did, goes), reads)) = inl (f, rest, joined name f es front rest is did, inl (y, goes, reads))
-after-load name go es out (inl (y, inr (cause, other, part), reads)) = absurd (cc other)
-after-load name go es out (inr (inl (r, ended, inl (f, front, rest, is, did, goes)))) = inl (f, rest, joined name f es front rest is did, inr (inl (r, ended, goes)))
-after-load name go es out (inr (inl (r, ended, inr (cause, other, part)))) = absurd (cc other)
-after-load name go es out (inr (inr (cause, is, goes))) = inr (cause, is)
+after-load : (b : Bool) (name : List ℕ) (go : Found → Play (Next RunState Status)) (es : List Event) (out : Result Status Stop) → Continues b (Ask (Read name) go) es out → AfterLoad b name go es out
+after-load b name go es out (inl (y, inl (f, front, rest, is, did, goes), reads)) = inl (f, rest, joined name f es front rest is did, inl (y, goes, reads))
+after-load b name go es out (inl (y, inr (cause, other, part), reads)) = absurd (cc other)
+after-load b name go es out (inr (none, inl (r, ended, inl (f, front, rest, is, did, goes)))) = inl (f, rest, joined name f es front rest is did, inr (none, inl (r, ended, goes)))
+after-load b name go es out (inr (none, inl (r, ended, inr (cause, other, part)))) = absurd (cc other)
+after-load b name go es out (inr (none, inr (cause, is, goes))) = inr (cause, is)
 
 -- what a play that loads nothing saw
-continues-unseen : (test : Seen → Bool) (p : Play (Next RunState Status)) (es : List Event) (out : Result Status Stop) → AllActs loads_nothing p → Continues p es out → Unseen test es
-continues-unseen test p es out all (inl (y, goes, reads)) = goes-unseen test p es (Ok (Go y)) all goes
-continues-unseen test p es out all (inr (inl (r, is, goes))) = goes-unseen test p es (Ok (Last r)) all goes
-continues-unseen test p es out all (inr (inr (cause, is, goes))) = goes-unseen test p es (Err cause) all goes
+continues-unseen : (test : Seen → Bool) (b : Bool) (p : Play (Next RunState Status)) (es : List Event) (out : Result Status Stop) → AllActs loads_nothing p → Continues b p es out → Unseen test es
+continues-unseen test b p es out all (inl (y, goes, reads)) = goes-unseen test p es (Ok (Go y)) all goes
+continues-unseen test b p es out all (inr (none, inl (r, is, goes))) = goes-unseen test p es (Ok (Last r)) all goes
+continues-unseen test b p es out all (inr (none, inr (cause, is, goes))) = goes-unseen test p es (Err cause) all goes
 
-explained-cut : (env : Environment) (start : Option Start) (es : List Event) (out : Result Status Stop) (cause : Stop) → out ≡ Err cause → IsOpeningExplained env start out es
-explained-cut env start es out cause is = subst (λ o. IsOpeningExplained env start o es) (sym is) (record {
-  refused_only = λ e. absurd (cc e);
-  refused_always = λ h. tt;
-  no_folder_only = λ e. absurd (cc e);
-  no_folder_always = λ h. tt;
-})
-
-explained-found : (env : Environment) (s : SessionState) (start : Start) (name : List ℕ) (es : List Event) (out : Result Status Stop) → (IsBadName env (Some start) → ⊥) → AfterLoad name (loaded s start name) es out
-    → IsOpeningExplained env (Some start) out es
-explained-found env s start name es out good (inr (cause, is)) = explained-cut env (Some start) es out cause is
-explained-found env s start name es out good (inl (f, rest, is, goes)) =
+explained-found : (env : Environment) (s : SessionState) (start : Start) (name : List ℕ) (es : List Event) (b : Bool) (out : Result Status Stop) → (IsBadName env (Some start) → ⊥) → AfterLoad b name (loaded s start name) es out
+    → IsOpeningExplained env (Some start) out es b
+explained-found env s start name es b out good (inr (cause, is)) = explained-cut env (Some start) es b out cause is
+explained-found env s start name es b out good (inl (f, rest, is, goes)) =
     let p = loaded s start name f in
     let all = loaded-acts s start name f in
-    let x = continues-unseen saw_held p rest out all goes in
-    let y = continues-unseen saw_no_folder p rest out all goes in
-    let E : List Event → Type 0 = λ es. IsOpeningExplained env (Some start) out es in
-    subst E (sym is) (explained-as env (Some start) _ out (end_of f) (matches-found env start name rest f good x y) (continues-with (end_of f) p rest out (loaded-ends s start name f) goes))
+    let x = continues-unseen saw_held b p rest out all goes in
+    let y = continues-unseen saw_no_folder b p rest out all goes in
+    let E : List Event → Type 0 = λ es. IsOpeningExplained env (Some start) out es b in
+    subst E (sym is) (explained-as env (Some start) _ b out (end_of f) (matches-found env start name rest f good x y) (continues-with b (end_of f) p rest out (loaded-ends s start name f) goes))
 
-explained-said : (env : Environment) (start : Option Start) (text : List ℕ) (e : Status) (es : List Event) (out : Result Status Stop) → opened_end e ≡ e → Continues (says_and_ends text e) es out
-    → (Unseen saw_held es → Unseen saw_no_folder es → Matches env start es e) → IsOpeningExplained env start out es
-explained-said env start text e es out plain goes to =
-    let x = continues-unseen saw_held (says_and_ends text e) es out (refl, λ u. tt) goes in
-    let y = continues-unseen saw_no_folder (says_and_ends text e) es out (refl, λ u. tt) goes in
-    explained-as env start es out e (to x y) (continues-with e (says_and_ends text e) es out (λ u. plain) goes)
+explained-said : (env : Environment) (start : Option Start) (text : List ℕ) (e : Status) (es : List Event) (b : Bool) (out : Result Status Stop) → opened_end e ≡ e → Continues b (says_and_ends text e) es out
+    → (Unseen saw_held es → Unseen saw_no_folder es → Matches env start es e) → IsOpeningExplained env start out es b
+explained-said env start text e es b out plain goes to =
+    let x = continues-unseen saw_held b (says_and_ends text e) es out (refl, λ u. tt) goes in
+    let y = continues-unseen saw_no_folder b (says_and_ends text e) es out (refl, λ u. tt) goes in
+    explained-as env start es b out e (to x y) (continues-with b e (says_and_ends text e) es out (λ u. plain) goes)
 
-explained-opening : (env : Environment) (start : Option Start) (es : List Event) (out : Result Status Stop) → Continues (opening env start) es out → IsOpeningExplained env start out es
-explained-opening env None es out goes = explained-said env None usage status.Usage es out refl goes (matches-none env es)
-explained-opening env (Some start) es out goes = word (folder_name (first_of env) start) refl goes
+explained-opening : (env : Environment) (start : Option Start) (es : List Event) (at_end : Bool) (out : Result Status Stop) → Continues at_end (opening env start) es out → IsOpeningExplained env start out es at_end
+explained-opening env None es at_end out goes = explained-said env None usage status.Usage es at_end out refl goes (matches-none env es)
+explained-opening env (Some start) es at_end out goes = word (folder_name (first_of env) start) refl goes
   where
-    said : (line : List ℕ) → IsBadName env (Some start) → Continues (says_and_ends line status.NoFolder) es out → IsOpeningExplained env (Some start) out es
-    said line bad goes = explained-said env (Some start) line status.NoFolder es out refl goes (λ x y. matches-bad env start es bad x)
+    said : (line : List ℕ) → IsBadName env (Some start) → Continues at_end (says_and_ends line status.NoFolder) es out → IsOpeningExplained env (Some start) out es at_end
+    said line bad goes = explained-said env (Some start) line status.NoFolder es at_end out refl goes (λ x y. matches-bad env start es bad x)
 
     named : (name : List ℕ) → folder_name (first_of env) start ≡ Ok name → (b : Bool) → is_short_name name ≡ b
-        → Continues (if b then Ask (Read name) (loaded (first_of env) start name) else says_and_ends (with_feed (name ++ codes ": bad name")) status.NoFolder) es out → IsOpeningExplained env (Some start) out es
-    named name word true short goes = explained-found env (first_of env) start name es out (λ bad. no-end _ (subst IsNoName word bad) short) (after-load name (loaded (first_of env) start name) es out goes)
+        → Continues at_end (if b then Ask (Read name) (loaded (first_of env) start name) else says_and_ends (with_feed (name ++ codes ": bad name")) status.NoFolder) es out → IsOpeningExplained env (Some start) out es at_end
+    named name word true short goes = explained-found env (first_of env) start name es at_end out (λ bad. no-end _ (subst IsNoName word bad) short) (after-load at_end name (loaded (first_of env) start name) es out goes)
     named name word false bad goes = said (with_feed (name ++ codes ": bad name")) (subst IsNoName (sym word) bad) goes
 
-    word : (name : OrFault (List ℕ)) → folder_name (first_of env) start ≡ name → Continues (with_name_or_fault (first_of env) start name) es out → IsOpeningExplained env (Some start) out es
+    word : (name : OrFault (List ℕ)) → folder_name (first_of env) start ≡ name → Continues at_end (with_name_or_fault (first_of env) start name) es out → IsOpeningExplained env (Some start) out es at_end
     word (Ok name) is goes = named name is (is_short_name name) refl goes
     word (Err line) is goes = said line (subst IsNoName (sym is) tt) goes
-
--- a round that opens a folder is followed by one that reads
-abbrev ReadsNext : Next RunState Status → Type 0
-ReadsNext (Go y) = IsReadingState y
-ReadsNext (Last e) = Unit {0}
 
 next-of : (e : Status) (p : Play (Next RunState Status)) → AllEnds (EndsWith e) p → AllEnds ReadsNext p
 next-of e (Ret (Go y)) ends = ends.0
@@ -353,11 +394,14 @@ opening-next env (Some start) = named-next (first_of env) start (folder_name (fi
 opening-reads : (env : Environment) (start : Option Start) (y : RunState) (es : List Event) → Goes (opening env start) es (Ok (Go y)) → IsReadingState y
 opening-reads env start y es goes = goes-ends ReadsNext (opening env start) es (Go y) (opening-next env start) goes
 
--- a run from its opening tells why it opened no folder
-pub opening-explained : (env : Environment) (start : Option Start) (es : List Event) (out : Result Status Stop) (loop : Loop (round env) (Opening start) es out) → IsOpeningExplained env start out (events_at is_opening loop)
+-- a run from its opening tells why it opened no folder, and why it was refused
+pub opening-explained : (env : Environment) (start : Option Start) (es : List Event) (out : Result Status Stop) (loop : Loop (round env) (Opening start) es out)
+    → IsOpeningExplained env start out (events_at is_opening loop) (refused_at_end loop)
 opening-explained env start es out (again {y = y} front rest is goes more) =
     let on = opening-reads env start y front goes in
     let later = loop-reads env on more in
-    subst (IsOpeningExplained env start out) (sym (ap (λ (l : List Event). front ++ l) later.0 ∙ append-nil front)) (explained-opening env start front out (inl (y, goes, λ reading. later.1)))
-opening-explained env start es out (last {r = r} goes) = explained-opening env start es out (inr (inl (r, refl, goes)))
-opening-explained env start es out (cut {cause = cause} goes) = explained-opening env start es out (inr (inr (cause, refl, goes)))
+    let b = refused_at_end more in
+    let E : List Event → Type 0 = λ es. IsOpeningExplained env start out es b in
+    subst E (sym (ap (λ (l : List Event). front ++ l) later.0 ∙ append-nil front)) (explained-opening env start front b out (inl (y, goes, λ reading. later.1)))
+opening-explained env start es out (last {r = r} goes) = explained-opening env start es false out (inr (refl, inl (r, refl, goes)))
+opening-explained env start es out (cut {cause = cause} goes) = explained-opening env start es false out (inr (refl, inr (cause, refl, goes)))

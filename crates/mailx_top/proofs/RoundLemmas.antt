@@ -24,8 +24,11 @@ use Rattle.mailx_session.specs.States.{with_frames}
 use Rattle.mailx_session.specs.Rounds.{typed_play, waiting_play}
 use Rattle.mailx_top.specs.declared.environment.Environment.{Environment}
 use Rattle.mailx_top.specs.Words.{Start}
-use Rattle.mailx_top.specs.Meaning.{RunState, first_of, Opening, Reading, round, opening, folder_name, with_name_or_fault, loaded, with_list, greeted, turn, next_turn, line_round, with_input, prompted, input_of, is_opening, message_limit}
+use Rattle.mailx_top.specs.Meaning.{RunState, first_of, Opening, Reading, Leaving, round, opening, folder_name, with_name_or_fault, loaded, with_list, greeted, turn, next_turn, line_round, with_input, prompted, input_of, is_opening, message_limit}
 use Rattle.session_play.proofs.ShapeLemmas.{bind-acts, bind-threads, weaker-acts, may-all}
+use Rattle.mailx_session.specs.Leaving.{leaving}
+use Rattle.mailx_top.proofs.OrderLemmas.{Keeps}
+use Rattle.mailx_top.proofs.LeavingLemmas.{last-acts, leaving-threads}
 use Rattle.mailx_top.proofs.LineLemmas.{typed-acts, typed-threads, waiting-acts, waiting-threads}
 
 abbrev On : Input → Play (Next RunState Status) → Type 0
@@ -63,7 +66,7 @@ threads-with i (Go s) j same = same
 threads-with i (Last e) j same = tt
 
 threads-turn : (s : SessionState) (j : Input) (line : Option (List ℕ)) → On j (turn s j line)
-threads-turn s j None = tt
+threads-turn s j None = refl
 threads-turn s j (Some line) =
     bind-threads (λ (n : Next SessionState Status) (k : Input). k ≡ j) (NextFrom input_of) (typed_play s line) (with_input j) j (typed-threads s line j) (threads-with j)
 
@@ -85,6 +88,7 @@ threads-line-round s i (Some p) =
 pub threads-round : (env : Environment) (x : RunState) → On (input_of x) (round env x)
 threads-round env (Opening start) = threads-opening env start
 threads-round env (Reading s i) = threads-line-round s i (taken s.frames)
+threads-round env (Leaving s i) = bind-threads (Keeps i) (NextFrom input_of) (leaving s) (λ e. Ret (Last e)) i (leaving-threads s i) (λ e j same. tt)
 
 -- acts that pass a test on either side
 either : (test : Act → Bool) (b : Bool) (p q : Play (Next RunState Status)) → AllActs test p → AllActs test q → AllActs test (if b then p else q)
@@ -146,3 +150,4 @@ reading-acts env s i = line-round-acts s i (taken s.frames)
 pub loads-round : (env : Environment) (x : RunState) → AllActs (may_load (is_opening x)) (round env x)
 loads-round env (Opening start) = opening-acts env start
 loads-round env (Reading s i) = reading-acts env s i
+loads-round env (Leaving s i) = last-acts s

@@ -14,14 +14,13 @@ use Rattle.session_play.proofs.LoopLemmas.{SoFar}
 use Rattle.mailx_session.specs.declared.frames.WaitingLine.{WaitingLine}
 use Rattle.mailx_session.specs.declared.state.SessionState.{SessionState}
 use Rattle.mailx_session.specs.declared.status.Status.{Status}
-use Rattle.mailx_session.specs.declared.status.Status.TheVariants.{Done}
 use Rattle.mailx_session.specs.Waits.{Pending}
 use Rattle.mailx_session.specs.Pending.{taken}
 use Rattle.mailx_session.specs.States.{with_frames, rested}
 use Rattle.mailx_session.specs.Rounds.{typed_play, waiting_play, WaitingGo, none, more, ended, LineGoes, typed}
 use Rattle.mailx_session.specs.Rounds as rounds
 use Rattle.mailx_top.specs.declared.environment.Environment.{Environment}
-use Rattle.mailx_top.specs.Meaning.{RunState, Reading, round, line_round, next_turn, turn, prompted, with_input, next_state, after_line, LeadsTo, LeadsAfterPrompt}
+use Rattle.mailx_top.specs.Meaning.{RunState, Reading, Leaving, round, last_round, line_round, next_turn, turn, prompted, with_input, next_state, after_line, LeadsTo, LeadsAfterPrompt}
 
 -- a result of a session's line, with the input that is left
 abbrev pub onward : Input → Result (Next SessionState Status) Stop → Result (Next RunState Status) Stop
@@ -98,12 +97,20 @@ step-leads env s t i j line (Ok None) idle took es takes goes = λ said says. li
 step-leads env s t i j line (Ok (Some e)) idle took es takes goes = λ said says. line-leads env s i j line said took es (Ok (Last e)) idle says takes goes
 step-leads env s t i j line (Err cause) idle took es takes goes = λ said says. line-leads env s i j line said took es (Err cause) idle says takes goes
 
+-- a round leads where it goes
+leads-once : (env : Environment) (x : RunState) (es : List Event) (out : Result (Next RunState Status) Stop) → Goes (round env x) es out → LeadsTo env x es out
+leads-once env x es (Ok (Go y)) goes = λ rest out loop. again es rest refl goes loop
+leads-once env x es (Ok (Last e)) goes = last goes
+leads-once env x es (Err cause) goes = cut goes
+
 -- the end of the input
-pub end-leads : (env : Environment) (s : SessionState) (i j : Input) → s.frames ≡ [] → (took : List Event) → Goes (Ask (Line i) Ret) took (Ok (None, j))
-    → LeadsAfterPrompt env s i took (Ok (Last Done))
-end-leads env s i j idle took takes = λ said says.
-    last (subst (λ (l : List Event). Goes (round env (Reading s i)) (said ++ l) (Ok (Last Done))) (append-nil took)
-    (asked-round env s i j None said took [] (Ok (Last Done)) idle says takes (refl, inl refl)))
+pub end-leads : (env : Environment) (s : SessionState) (i j : Input) (out : Result (Next RunState Status) Stop) → s.frames ≡ [] → (took es : List Event)
+    → Goes (Ask (Line i) Ret) took (Ok (None, j)) → Goes (last_round s) es out → LeadsAfterPrompt env s i (took ++ es) out
+end-leads env s i j out idle took es takes goes = λ said says.
+    leads-more env (Reading s i) (Leaving s j) (said ++ took) es (said ++ (took ++ es)) out (sym (append_assoc said took es))
+    (subst (λ (l : List Event). Goes (round env (Reading s i)) (said ++ l) (Ok (Go (Leaving s j)))) (append-nil took)
+    (asked-round env s i j None said took [] (Ok (Go (Leaving s j))) idle says takes (refl, inl refl)))
+    (leads-once env (Leaving s j) es out goes)
 
 -- a line that isn't taken
 pub take-cut-leads : (env : Environment) (s : SessionState) (i : Input) (cause : Stop) → s.frames ≡ [] → (took : List Event) → Goes {R = Option (List ℕ) × Input} (Ask (Line i) Ret) took (Err cause)

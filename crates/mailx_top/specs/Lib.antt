@@ -1,6 +1,7 @@
 pub mod Words
 pub mod Wants
 pub mod Meaning
+pub mod Leavings
 pub mod Statuses
 pub mod Runs
 pub mod Ends

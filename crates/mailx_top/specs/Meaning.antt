@@ -26,22 +26,25 @@ use Rattle.mailx_session.specs.Waits.{Pending}
 use Rattle.mailx_session.specs.Pending.{taken}
 use Rattle.mailx_session.specs.States.{with_frames}
 use Rattle.mailx_session.specs.Rounds.{typed_play, waiting_play}
+use Rattle.mailx_session.specs.Leaving.{leaving}
 use Rattle.mailx_top.specs.declared.environment.Environment.{Environment}
 use Rattle.mailx_top.specs.Words.{Start}
 
--- where a run is between two rounds: at the opening of a folder, if one is named, or before a line
+-- where a run is between two rounds: at the opening of a folder, if one is named; before a line; or at the end of the input, where the folder
+-- is left
 pub data RunState : Type 0 where
   Opening : Option Start → RunState
   Reading : SessionState → Input → RunState
+  Leaving : SessionState → Input → RunState
 
 -- the state after a line, whose input is left, or the end
 abbrev pub with_input : Input → Next SessionState Status → Play (Next RunState Status)
 with_input j (Go s) = Ret (Go (Reading s j))
 with_input j (Last e) = Ret (Last e)
 
--- what a line of the input does; without one the run ends
+-- what a line of the input does; without one the folder is left
 abbrev pub turn : SessionState → Input → Option (List ℕ) → Play (Next RunState Status)
-turn s j None = Ret (Last status.Done)
+turn s j None = Ret (Go (Leaving s j))
 turn s j (Some line) = bind (typed_play s line) (with_input j)
 
 -- what is said before a line is asked for: on a terminal the value of `prompt`
@@ -57,6 +60,10 @@ next_turn s i = bind (prompted s.terminal s.desk) (λ u. Ask (Line i) (λ a. tur
 abbrev pub line_round : SessionState → Input → Option (WaitingLine × List Pending) → Play (Next RunState Status)
 line_round s i None = next_turn s i
 line_round s i (Some (line, frames)) = bind (waiting_play (with_frames s frames) line) (with_input i)
+
+-- the folder is left, and the run ends
+abbrev pub last_round : SessionState → Play (Next RunState Status)
+last_round s = bind (leaving s) (λ e. Ret (Last e))
 
 abbrev pub says_and_ends : List ℕ → Status → Play (Next RunState Status)
 says_and_ends text e = Ask (Say text) (λ _. Ret (Last e))
@@ -129,16 +136,19 @@ opening env (Some start) = starting (first_of env) start
 abbrev pub round : Environment → RunState → Play (Next RunState Status)
 round env (Opening start) = opening env start
 round env (Reading s i) = line_round s i (taken s.frames)
+round env (Leaving s i) = last_round s
 
 -- a folder is to be opened
 abbrev pub is_opening : RunState → Bool
 is_opening (Opening start) = true
 is_opening (Reading s i) = false
+is_opening (Leaving s i) = false
 
 -- the input that a state begins with
 abbrev pub input_of : RunState → Input
 input_of (Opening start) = no_input
 input_of (Reading s i) = i
+input_of (Leaving s i) = i
 
 -- the state after a line, or the end
 abbrev pub next_state : SessionState → Input → Result (Option Status) Stop → Result (Next RunState Status) Stop

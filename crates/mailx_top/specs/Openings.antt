@@ -45,10 +45,10 @@ abbrev pub EndsOrIsCut : Status → Result Status Stop → Type 0
 EndsOrIsCut e (Ok r) = r ≡ e
 EndsOrIsCut e (Err cause) = Unit {0}
 
--- A run is refused exactly where the load of its opening saw the folder held, and has no folder exactly where there is
--- none to open, unless it is cut off. `es` are the own events of the opening.
-pub record IsOpeningExplained (env : Environment) (start : Option Start) (out : Result Status Stop) (es : List Event) : Type 0 where
-  pub refused_only : out ≡ Ok status.Refused → some_load_saw saw_held es ≡ true
-  pub refused_always : some_load_saw saw_held es ≡ true → EndsOrIsCut status.Refused out
+-- A run is refused exactly where the load of its opening saw the folder held, or the quit at the end of its input was refused, and has no folder
+-- exactly where there is none to open, unless it is cut off. `es` are the own events of the opening, and `at_end` says whether that quit was refused.
+pub record IsOpeningExplained (env : Environment) (start : Option Start) (out : Result Status Stop) (es : List Event) (at_end : Bool) : Type 0 where
+  pub refused_only : out ≡ Ok status.Refused → (some_load_saw saw_held es || at_end) ≡ true
+  pub refused_always : (some_load_saw saw_held es || at_end) ≡ true → EndsOrIsCut status.Refused out
   pub no_folder_only : out ≡ Ok status.NoFolder → OpensNone env start es
   pub no_folder_always : OpensNone env start es → EndsOrIsCut status.NoFolder out

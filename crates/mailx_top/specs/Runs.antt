@@ -12,6 +12,7 @@ use Rattle.session_play.specs.Causes.{IsExplained, events_at, commits_in}
 use Rattle.mailx_session.specs.declared.status.Status.{Status}
 use Rattle.mailx_top.specs.declared.environment.Environment.{Environment}
 use Rattle.mailx_top.specs.Meaning.{Opening, round, actor_in, is_opening}
+use Rattle.mailx_top.specs.Leavings.{refused_at_end}
 use Rattle.mailx_top.specs.Openings.{IsOpeningExplained}
 use Rattle.mailx_top.specs.Words.{are_read, start_of}
 use Rattle.mailx_top.specs.Statuses.{status_at_stop, line_at_stop, line_at_end}
@@ -40,4 +41,4 @@ Ending actor read s (Err cause) es = (s ≡ status_at_stop cause) × SaysLast re
 pub record IsRun (words : List (List ℕ)) (env : Environment) (s : Status) (es : List Event) : Type 0 where
   pub whole : Whole (round env) (Opening (start_of words env.pairs)) (Ending (actor_in env) (are_read words) s) es
   pub explained : IsExplained whole.out whole.front (events_at is_opening whole.plays) (commits_in whole.plays)
-  pub opening : IsOpeningExplained env (start_of words env.pairs) whole.out (events_at is_opening whole.plays)
+  pub opening : IsOpeningExplained env (start_of words env.pairs) whole.out (events_at is_opening whole.plays) (refused_at_end whole.plays)

@@ -1,15 +1,15 @@
 // A session by lines.
-ghost use Rattle.std.specs.Prelude.{◌≡◌, ◌<◌, Some, IfOk, IfNone, IfSome, unwrap_or, [], codes};
+ghost use Rattle.std.specs.Prelude.{◌≡◌, ◌<◌, Some, IfOk, IfNone, IfSome, IsSome, unwrap_or, [], codes};
 ghost use Rattle.mailx_vars.specs.Settings.{value_of};
 ghost use Rattle.host_port.specs.Ran.{Ran};
 ghost use Rattle.host_port.specs.Calls.{NeverFall};
-ghost use Rattle.session_play.specs.Input.{left, no_input};
+ghost use Rattle.session_play.specs.Input.{Input, left, no_input};
 ghost use Rattle.session_play.specs.Play.{Play, Goes, Loop, Caused};
 ghost use Rattle.mailx_session.specs.Rounds.{LineGoes};
 ghost use Rattle.mailx_session.specs.Sessions.{stop_of};
-ghost use Rattle.mailx_session.specs.Statuses.{IsLineEnd};
+ghost use Rattle.mailx_session.specs.Statuses.{IsEnd, IsLineEnd};
 ghost use Rattle.mailx_top.specs.declared.environment.Environment.{Environment};
-ghost use Rattle.mailx_top.specs.Meaning.{round, Reading, next_state, prompted, after_line, LeadsTo, LeadsAfterPrompt};
+ghost use Rattle.mailx_top.specs.Meaning.{round, Reading, last_round, next_state, prompted, after_line, LeadsTo, LeadsAfterPrompt};
 
 use host_port::Host;
 use mailx_session::{Flow, RunError, Session, Status};
@@ -65,6 +65,20 @@ fn step<H: Host>(host: &mut H, session: &mut Session, line: &[u8]) -> Result<Opt
     }
 }
 
+// Leaves the folder at the end of the input.
+fn leave<H: Host>(host: &mut H, session: &Session) -> Result<Option<Status>, Stop>
+    ensures ran { (j : Input) → Ran H.world host.old host.new
+        (λ es. Goes (last_round session.now) es (next_state session.now j result)) }
+    ensures cause { Caused (H.world.counts host.old) (H.world.counts host.new) result }
+    ensures ended { IfOk result IsSome }
+    ensures plain { IfOk result (λ end. IfSome end IsEnd) }
+{
+    match session.end(host) {
+        Ok(status) => Ok(Some(status)),
+        Err(error) => Err(stop_of(&error)),
+    }
+}
+
 // Takes the next line, or the end of input, once the prompt was said.
 fn next_line<H: Host>(
     alloc: Global,
@@ -78,11 +92,11 @@ fn next_line<H: Host>(
     ensures fall { NeverFall (H.world.counts host.old) (H.world.counts host.new) }
     ensures cause { Caused (H.world.counts host.old) (H.world.counts host.new) result }
     ensures progress { IfOk result (λ end. IfNone end (left reader.new < left reader.old)) }
-    ensures line_end { IfOk result (λ end. IfSome end IsLineEnd) }
+    ensures plain { IfOk result (λ end. IfSome end IsEnd) }
 {
     match reader.line(alloc, host) {
         Ok(Some(line)) => step(host, session, line.bytes()),
-        Ok(None) => Ok(Some(session.end())),
+        Ok(None) => leave(host, session),
         Err(cause) => Err(cause),
     }
 }
@@ -98,7 +112,7 @@ fn one_line<H: Host>(
     ensures fall { NeverFall (H.world.counts host.old) (H.world.counts host.new) }
     ensures cause { Caused (H.world.counts host.old) (H.world.counts host.new) result }
     ensures progress { IfOk result (λ end. IfNone end (left reader.new < left reader.old)) }
-    ensures line_end { IfOk result (λ end. IfSome end IsLineEnd) }
+    ensures plain { IfOk result (λ end. IfSome end IsEnd) }
 {
     match say_prompt(host, session) {
         Ok(()) => next_line(alloc, host, reader, session),
@@ -115,7 +129,7 @@ pub(crate) fn lines<H: Host>(
     ensures ran { (env : Environment) → Ran H.world host.old host.new
         (λ es. Loop (round env) (Reading session.old no_input) es result) }
     ensures cause { Caused (H.world.counts host.old) (H.world.counts host.new) result }
-    ensures line_end { IfOk result IsLineEnd }
+    ensures plain { IfOk result IsEnd }
 {
     let mut reader = Reader::new(alloc);
     'lines: loop {

@@ -23,6 +23,7 @@ use Rattle.mark_commands.specs.Leaving.{hold, mbox, touch}
 use Rattle.setting_commands.specs.Setting.{set, unset}
 use Rattle.folder_commands.specs.declared.wanted.Filing.{Filing}
 use Rattle.folder_commands.specs.Saving.{copy, copy_by_author, save, save_by_author, write}
+use Rattle.folder_commands.specs.Leaving.{quit}
 use Rattle.show_commands.specs.Telling.{from, size, number, echo, help}
 
 -- the whole name of the command that a word spells
@@ -44,7 +45,7 @@ exit = Ok (record { asks = asks.Exit ∷ []; effects = unchanged })
 
 -- a change of a file is committed, and only once that was done the reply is said, and then the rest follows
 abbrev pub steps_of : Filing → Steps
-steps_of filing = record { asks = asks.Save filing.change ∷ asks.Say filing.reply ∷ []; effects = filing.effects }
+steps_of filing = record { asks = asks.Commit (filing.change ∷ []) ∷ asks.Say filing.reply ∷ []; effects = filing.effects }
 
 -- what a command comes to that puts messages into a file
 abbrev pub filed : OrFault Filing → OrFault Steps
@@ -77,6 +78,7 @@ meaning_of command.CopyByAuthor line desk = filed (copy_by_author desk line.word
 meaning_of command.Save line desk = filed (save desk line.words)
 meaning_of command.SaveByAuthor line desk = filed (save_by_author desk line.words)
 meaning_of command.Write line desk = filed (write desk line.words)
+meaning_of command.Quit line desk = alone line (Ok (quit desk))
 meaning_of command.Exit line desk = alone line exit
 meaning_of other line desk = Err (not_built (name_of line.word))
 
@@ -107,6 +109,7 @@ is_built command.CopyByAuthor = true
 is_built command.Save = true
 is_built command.SaveByAuthor = true
 is_built command.Write = true
+is_built command.Quit = true
 is_built command.Exit = true
 is_built other = false
 

@@ -1,5 +1,5 @@
 // What a line's command comes to.
-ghost use Rattle.std.specs.Prelude.{◌≡◌, true, [], IfOk, IfErr, OnOk, codes};
+ghost use Rattle.std.specs.Prelude.{◌≡◌, true, [], Ok, IfOk, IfErr, OnOk, codes};
 ghost use Rattle.std.specs.Str.{bytes_eq};
 ghost use Rattle.line_words.specs.Line.{reading};
 ghost use Rattle.command_desk.specs.Answers.{OrFault, Means, IsRefused};
@@ -7,12 +7,13 @@ ghost use Rattle.show_commands.specs.Paging.{scroll};
 ghost use Rattle.command_desk.specs.Desks.{IsDesk, IsWithin};
 ghost use Rattle.command_desk.specs.Effects.{effect};
 ghost use Rattle.folder_commands.specs.Saving.{IsFilingWithin};
+ghost use Rattle.folder_commands.specs.Leaving.{quit};
 ghost use Rattle.folder_commands.specs.declared.wanted.Filing.{Filing};
 ghost use Rattle.read_commands.specs.Commands.{name_of, alone, exit, filed, steps_of, is_built, meaning, meaning_of, read_or_fault};
 ghost use Rattle.show_commands.specs.Telling.{number, help};
 
 use command_desk::{Ask, Desk, Refusal, Steps, fault, quietly, unchanged};
-use folder_commands::{Filing, copy, copy_by_author, save, save_by_author, write};
+use folder_commands::{Filing, copy, copy_by_author, quit, save, save_by_author, write};
 use line_words::{Command, CommandLine, LineError, read_line, whole_name};
 use mail_text::{Items, Memory};
 use mark_commands::{delete, delete_and_print, hold, mbox, touch, undelete};
@@ -83,6 +84,15 @@ fn lone_exit(alloc: Global, line: &CommandLine, desk: &Desk) -> Result<Steps, Re
     exit(alloc, desk)
 }
 
+fn lone_quit(alloc: Global, line: &CommandLine, desk: &Desk) -> Result<Steps, Refusal>
+    requires { IsDesk desk.now }
+    ensures means { Means result (alone line.now (Ok (quit desk.now))) }
+    ensures within { IsWithin desk.now result }
+{
+    no_words(alloc, line)?;
+    Ok(quit(alloc, desk)?)
+}
+
 fn lone_scroll(alloc: Global, line: &CommandLine, desk: &Desk) -> Result<Steps, Refusal>
     requires { IsDesk desk.now }
     ensures means { Means result (alone line.now (scroll desk.now (bytes_eq line.now.word (codes "z-")))) }
@@ -101,8 +111,10 @@ fn steps_of(alloc: Global, filing: Filing) -> Result<Steps, Memory>
         reply,
         effects,
     } = filing;
+    let mut changes = Items::new(alloc);
+    changes.push(change)?;
     let mut asks = Items::new(alloc);
-    asks.push(Ask::Save { change })?;
+    asks.push(Ask::Commit { changes })?;
     asks.push(Ask::Say(reply))?;
     Ok(Steps { asks, effects })
 }
@@ -167,6 +179,7 @@ fn carry_out(alloc: Global, line: &CommandLine, desk: &Desk) -> Result<Steps, Re
         Command::Save => filed(alloc, desk, save(alloc, desk, words)),
         Command::SaveByAuthor => filed(alloc, desk, save_by_author(alloc, desk, words)),
         Command::Write => filed(alloc, desk, write(alloc, desk, words)),
+        Command::Quit => lone_quit(alloc, line, desk),
         Command::Exit => lone_exit(alloc, line, desk),
         Command::Scroll => lone_scroll(alloc, line, desk),
         _ => unreachable!(),
@@ -203,6 +216,7 @@ pub(crate) fn is_built(command: Command) -> bool
         | Command::Save
         | Command::SaveByAuthor
         | Command::Write
+        | Command::Quit
         | Command::Exit => true,
         _ => false,
     }

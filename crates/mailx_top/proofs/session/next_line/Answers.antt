@@ -1,5 +1,6 @@
 use Rattle.host_port.proofs.RanLemmas.{Ran-then, Ran-map}
 use Rattle.mailx_session.proofs.AskLemmas.{never-fall-then}
+use Rattle.mailx_top.proofs.EndLemmas.{ended-whatever, line-ends}
 use Rattle.mailx_top.proofs.WaitingLemmas.{step-leads, end-leads, take-cut-leads}
 use Rattle.mailx_top.proofs.session.next_line.Goals as goal
 
@@ -10,7 +11,14 @@ returns-in-Ok-Some-clause-ran g c = λ env.
 
 pub returns-in-Ok-None-clause-ran : goal.returns-in-Ok-None-clause-ran
 returns-in-Ok-None-clause-ran g c = λ env.
-    rw c.end.ensures (Ran-map (end-leads env c.args.session.now c.args.reader.now c.line.new.self c.requires) (rw c.in-Ok-None.field-0-is at c.in-Ok-None.ensures.ran))
+    Ran-then (end-leads env c.args.session.now c.args.reader.now c.line.new.self _ c.requires)
+    (rw c.in-Ok-None.field-0-is at c.in-Ok-None.ensures.ran) (c.leave.ensures.ran c.line.new.self)
+
+pub returns-in-Ok-None-clause-progress : goal.returns-in-Ok-None-clause-progress
+returns-in-Ok-None-clause-progress g c = ended-whatever c.leave.result c.leave.ensures.ended
+
+pub returns-in-Ok-Some-clause-plain : goal.returns-in-Ok-Some-clause-plain
+returns-in-Ok-Some-clause-plain g c = line-ends c.step.result c.step.ensures.line_end
 
 pub returns-in-Err-clause-ran : goal.returns-in-Err-clause-ran
 returns-in-Err-clause-ran g c = λ env.
@@ -18,3 +26,6 @@ returns-in-Err-clause-ran g c = λ env.
 
 pub returns-in-Ok-Some-clause-fall : goal.returns-in-Ok-Some-clause-fall
 returns-in-Ok-Some-clause-fall g c = never-fall-then _ _ _ c.line.ensures.ran.never_fall c.step.ensures.ran.never_fall
+
+pub returns-in-Ok-None-clause-fall : goal.returns-in-Ok-None-clause-fall
+returns-in-Ok-None-clause-fall g c = never-fall-then _ _ _ c.line.ensures.ran.never_fall (c.leave.ensures.ran c.line.new.self).never_fall

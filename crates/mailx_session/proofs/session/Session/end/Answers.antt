@@ -1,0 +1,4 @@
+use Rattle.mailx_session.proofs.session.Session.end.Goals as goal
+
+pub returns-clause-ran : goal.returns-clause-ran
+returns-clause-ran g c = rw c.self.view_is at c.leave.ensures.ran

@@ -1,0 +1,19 @@
+-- The end of the input.
+use Rattle.std.specs.Prelude.{ℕ, List}
+use Rattle.session_play.specs.Play.{Play, Ret, Ask, Say, bind}
+use Rattle.session_play.specs.Steps.{After, On, Refused, Ended, in_order}
+use Rattle.folder_commands.specs.Leaving.{quit}
+use Rattle.mailx_session.specs.declared.state.SessionState.{SessionState}
+use Rattle.mailx_session.specs.declared.status.Status.{Status}
+use Rattle.mailx_session.specs.declared.status.Status.TheVariants as status
+use Rattle.mailx_session.specs.Sessions.{asked}
+
+-- how the run ends once the folder was to be left: where that was refused, its line is said
+abbrev pub left_by : After SessionState Status → Play Status
+left_by (On s) = Ret status.Done
+left_by (Refused line) = Ask (Say line) (λ _. Ret status.Refused)
+left_by (Ended e) = Ret e
+
+-- at the end of the input the folder is left, as by `quit`
+abbrev pub leaving : SessionState → Play Status
+leaving s = bind (in_order asked s (quit s.desk).asks) left_by

@@ -1,0 +1,82 @@
+// The end of the input, where the folder is left.
+ghost use Rattle.std.specs.Prelude.{◌≡◌, List, ℕ, IfOk};
+ghost use Rattle.host_port.specs.Ran.{Ran};
+ghost use Rattle.session_play.specs.Play.{Play, Ask, Ret, Say, Goes, bind};
+ghost use Rattle.session_play.specs.Steps.{in_order};
+ghost use Rattle.mailx_session.specs.declared.state.SessionState.{SessionState};
+ghost use Rattle.mailx_session.specs.declared.status.Status.{Status};
+ghost use Rattle.mailx_session.specs.States.{IsState};
+ghost use Rattle.mailx_session.specs.Statuses.{IsEnd};
+ghost use Rattle.mailx_session.specs.Sessions.{asked, after_asks, in_play, LineCaused, EndsByAsk};
+ghost use Rattle.mailx_session.specs.Leaving.{left_by, leaving};
+
+use crate::asks::{Asked, do_asks, say};
+use crate::{RunError, SessionState, Status};
+use host_port::Host;
+use mail_text::{Memory, Text};
+use read_commands::{Ask as Wanted, quit};
+use std::alloc::Global;
+
+// Says the line by which the folder isn't left.
+fn end_refused<H: Host>(host: &mut H, line: &Text) -> Result<Status, RunError>
+    ensures ran { Ran H.world host.old host.new
+        (λ es. Goes (Ask (Say line.now) (λ _. Ret Status.Refused)) es (in_play (λ (e : Status). e) result)) }
+    ensures refused { IfOk result (λ e. e ≡ Status.Refused) }
+    ensures cause { LineCaused (H.world.counts host.old) (H.world.counts host.new) result }
+{
+    match say(host, line.bytes()) {
+        Ok(()) => Ok(Status::Refused),
+        Err(error) => Err(error),
+    }
+}
+
+// How the run ends, by what the answers to the asks of a quit left.
+fn end_by<H: Host>(host: &mut H, asked: Asked) -> Result<Status, RunError>
+    requires { EndsByAsk asked }
+    ensures ran { (s : SessionState) → Ran H.world host.old host.new
+        (λ es. Goes (left_by (after_asks s asked)) es (in_play (λ (e : Status). e) result)) }
+    ensures end { IfOk result IsEnd }
+    ensures cause { LineCaused (H.world.counts host.old) (H.world.counts host.new) result }
+{
+    match asked {
+        Asked::On => Ok(Status::Done),
+        Asked::Refused { line } => end_refused(host, &line),
+        Asked::Ended(status) => Ok(status),
+    }
+}
+
+// Does what a quit asks for, and ends the run.
+fn leave_by<H: Host>(
+    alloc: Global,
+    state: &SessionState,
+    host: &mut H,
+    asks: &[Wanted],
+) -> Result<Status, RunError>
+    requires { IsState state.now }
+    ensures ran { Ran H.world host.old host.new
+        (λ es. Goes (bind (in_order asked state.now asks.now) left_by) es (in_play (λ (e : Status). e) result)) }
+    ensures end { IfOk result IsEnd }
+    ensures cause { LineCaused (H.world.counts host.old) (H.world.counts host.new) result }
+{
+    let asked = do_asks(alloc, state, host, asks)?;
+    end_by(host, asked)
+}
+
+/// Leaves the folder at the end of the input, as `quit` does. Where that is refused its line is said, and the run ends
+/// so.
+pub(crate) fn leave<H: Host>(
+    alloc: Global,
+    state: &SessionState,
+    host: &mut H,
+) -> Result<Status, RunError>
+    requires { IsState state.now }
+    ensures ran { Ran H.world host.old host.new
+        (λ es. Goes (leaving state.now) es (in_play (λ (e : Status). e) result)) }
+    ensures end { IfOk result IsEnd }
+    ensures cause { LineCaused (H.world.counts host.old) (H.world.counts host.new) result }
+{
+    match quit(alloc, &state.desk) {
+        Ok(steps) => leave_by(alloc, state, host, steps.asks.items()),
+        Err(Memory) => Err(RunError::Memory),
+    }
+}

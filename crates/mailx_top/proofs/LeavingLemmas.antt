@@ -1,0 +1,111 @@
+-- The end of the input: its acts and its ends.
+use Rattle.std.proofs.Common.{◌≡◌, ◌⊎◌, ℕ, Bool, true, false, List, [], ◌∷◌, ◌++◌, length, refl, inl, inr}
+use Rattle.std.specs.Prelude.{◌||◌, ◌==◌, is_some, if◌then◌else◌}
+use Rattle.std.specs.Option.{option_map_or}
+use Rattle.std.specs.declared.option.Option.{Option}
+use Rattle.std.specs.declared.option.Option.TheVariants.{Some, None}
+use Rattle.std.specs.declared.result.Result.TheVariants.{Ok}
+use Rattle.host_port.specs.declared.event.Event.{Event}
+use Rattle.folder_change.specs.declared.change.Change.{Change}
+use Rattle.session_play.specs.declared.changing.Committed.{Committed}
+use Rattle.session_play.specs.declared.changing.Committed.TheVariants as committed
+use Rattle.session_play.specs.Input.{Input}
+use Rattle.session_play.specs.Acts.{AllActs, AllEnds, Threads, may_load}
+use Rattle.session_play.specs.Play.{Play, Ret, Ask, Next, Go, Last, Goes, bind}
+use Rattle.session_play.specs.Steps.{After, On, Refused, Ended, onward, in_order}
+use Rattle.session_play.proofs.ShapeLemmas.{bind-acts, bind-threads, goes-ends}
+use Rattle.command_desk.specs.declared.steps.Ask as asked_of
+use Rattle.command_desk.specs.declared.steps.Ask.TheVariants as asks
+use Rattle.folder_commands.specs.Leaving.{said, left_reply, quit}
+use Rattle.mailx_session.specs.declared.state.SessionState.{SessionState}
+use Rattle.mailx_session.specs.declared.status.Status.{Status}
+use Rattle.mailx_session.specs.declared.status.Status.TheVariants as status
+use Rattle.mailx_session.specs.Saving.{names_fault, is_changed, after_commit, saved}
+use Rattle.mailx_session.specs.Sessions.{asked}
+use Rattle.mailx_session.specs.Leaving.{left_by, leaving}
+use Rattle.mailx_top.specs.Meaning.{RunState, last_round}
+use Rattle.mailx_top.specs.Leavings.{first_answer, refuses, left_changes, is_quit_refused}
+use Rattle.mailx_top.proofs.OrderLemmas.{Keeps}
+use Rattle.mailx_top.proofs.LineLemmas.{asks-acts, asks-threads}
+
+left-acts : (a : After SessionState Status) → AllActs (may_load false) (left_by a)
+left-acts (On s) = tt
+left-acts (Refused line) = (refl, λ u. tt)
+left-acts (Ended e) = tt
+
+pub last-acts : (s : SessionState) → AllActs (may_load false) (last_round s)
+last-acts s =
+    bind-acts (may_load false) (leaving s) (λ e. Ret (Last e))
+    (bind-acts (may_load false) (in_order asked s (quit s.desk).asks) left_by (asks-acts s (quit s.desk).asks) left-acts) (λ e. tt)
+
+left-threads : (i : Input) (a : After SessionState Status) (j : Input) → j ≡ i → Threads (Keeps i) j (left_by a)
+left-threads i (On s) j same = same
+left-threads i (Refused line) j same = (tt, λ u. same)
+left-threads i (Ended e) j same = same
+
+pub leaving-threads : (s : SessionState) (i : Input) → Threads (Keeps i) i (leaving s)
+leaving-threads s i =
+    bind-threads {A = After SessionState Status} {B = Status} (Keeps i) (Keeps i) (in_order asked s (quit s.desk).asks) left_by i (asks-threads s (quit s.desk).asks i) (left-threads i)
+
+-- each play ends somehow
+pub any-ends : {R : Type 0} (p : Play R) → AllEnds (λ (r : R). Unit {0}) p
+any-ends (Ret r) = tt
+any-ends (Ask act go) = λ a. any-ends (go a)
+
+-- the ends of a session by its last quit: it is done, which stands for a record that can't be read too, or refused
+abbrev pub end_at : Bool → Status
+end_at refused = if refused then status.Refused else status.Done
+
+-- once the folder is open a run ends in one of three ways, of which two count as one
+abbrev pub opened_end : Status → Status
+opened_end status.BadRecord = status.Done
+opened_end e = e
+
+-- the round ends the run so
+abbrev EndsAt : Status → Next RunState Status → Type 0
+EndsAt e (Go y) = ⊥
+EndsAt e (Last r) = opened_end r ≡ e
+
+abbrev ended : Status → Play (Next RunState Status)
+ended e = Ret (Last e)
+
+-- what follows the commit of a quit
+abbrev after_change : SessionState → List Change → List asked_of.Ask → Committed → Play (Next RunState Status)
+after_change s changes rest a = bind (bind (onward (λ (t : SessionState). in_order asked t rest) (after_commit s changes a)) left_by) ended
+
+-- a quit whose changes are refused for such a name, or committed
+abbrev quit_of : SessionState → List Change → List asked_of.Ask → Option (List ℕ) → Play (Next RunState Status)
+quit_of s changes rest fault = bind (bind (bind (saved s changes fault) (onward (λ (t : SessionState). in_order asked t rest))) left_by) ended
+
+-- once it was committed the run is done
+done-ends : (b : Bool) (s : SessionState) (text : List ℕ) → AllEnds (EndsAt status.Done) (bind (bind (in_order asked s ((if b then [] else asks.Say text ∷ []) ++ asks.Exit ∷ [])) left_by) ended)
+done-ends true s text = refl
+done-ends false s text = λ u. refl
+
+large-ends : (b : Bool) (line : List ℕ) (s : SessionState) (rest : List asked_of.Ask)
+    → AllEnds (EndsAt (end_at b)) (bind (bind (onward (λ (t : SessionState). in_order asked t rest) (if b then Refused line else Ended status.BadRecord)) left_by) ended)
+large-ends true line s rest = λ u. refl
+large-ends false line s rest = refl
+
+answered-ends : (s : SessionState) (changes : List Change) (text : List ℕ) (a : Committed)
+    → AllEnds (EndsAt (end_at (refuses changes a))) (after_change s changes (said text ++ asks.Exit ∷ []) a)
+answered-ends s changes text committed.Done = done-ends (length text == 0) s text
+answered-ends s changes text (committed.Busy name) = λ u. refl
+answered-ends s changes text committed.NotARecord = refl
+answered-ends s changes text (committed.Changed name at) = λ u. refl
+answered-ends s changes text (committed.TooLarge name length) = large-ends (is_changed changes name) _ s (said text ++ asks.Exit ∷ [])
+answered-ends s changes text (committed.TooManyNames count) = λ u. refl
+
+quit-ends : (s : SessionState) (changes : List Change) (text : List ℕ) (fault : Option (List ℕ)) (es : List Event) (r : Status)
+    (goes : Goes (quit_of s changes (said text ++ asks.Exit ∷ []) fault) es (Ok (Last r)))
+    → opened_end r ≡ end_at (is_some fault || option_map_or (refuses changes) (first_answer (quit_of s changes (said text ++ asks.Exit ∷ []) fault) es (Ok (Last r)) goes) false)
+quit-ends s changes text (Some line) es r goes =
+    goes-ends (EndsAt status.Refused) (quit_of s changes (said text ++ asks.Exit ∷ []) (Some line)) es (Last r) (λ u. refl) goes
+quit-ends s changes text None es r (inl (a, front, rest, is, did, goes)) =
+    goes-ends (EndsAt (end_at (refuses changes a))) (after_change s changes (said text ++ asks.Exit ∷ []) a) rest (Last r) (answered-ends s changes text a) goes
+quit-ends s changes text None es r (inr (cause, other, part)) = absurd (cc other)
+
+-- the end of a run whose last round left the folder
+pub last-ends : (s : SessionState) (es : List Event) (r : Status) (goes : Goes (last_round s) es (Ok (Last r)))
+    → opened_end r ≡ end_at (is_quit_refused s (first_answer (last_round s) es (Ok (Last r)) goes))
+last-ends s es r goes = quit-ends s (left_changes s) (left_reply s.desk) (names_fault s.actor (left_changes s)) es r goes
