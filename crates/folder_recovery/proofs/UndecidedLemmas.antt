@@ -1,14 +1,13 @@
 -- A recovery decides nothing.
 use Rattle.std.proofs.Common.{◌≡◌, ◌⊎◌, ℕ, suc, Bool, true, false, List, [], ◌∷◌, if◌then◌else◌, refl, ap, sym, subst, inl, inr, ◌∙◌}
-use Rattle.commit_record.specs.declared.record.Record.{Record}
 use Rattle.host_port.specs.declared.event.Event.{Event}
 use Rattle.host_port.specs.declared.event.Event.TheVariants as event
 use Rattle.host_port.specs.Disk.{Disk, after}
 use Rattle.host_port.specs.Own.{own}
-use Rattle.commit_machine.specs.Names.{record_name, new_name, staged_name}
+use Rattle.commit_machine.specs.Names.{new_name, staged_name}
 use Rattle.commit_machine.specs.Edits.{recovery_for}
 use Rattle.commit_machine.specs.Jobs.{Job}
-use Rattle.commit_machine.specs.Machine.{State, Seizing, Looking, Undoing, Placing, Testing, Removing, Discarding, Unlocking, Erasing, Clearing, Releasing, Ended, GoOn, Then, next, refused, after_reply}
+use Rattle.commit_machine.specs.Machine.{State, Seizing, Looking, Undoing, Placing, Testing, Removing, Discarding, Unlocking, Erasing, Clearing, Releasing, Ended, GoOn, next, refused, after_reply}
 use Rattle.commit_machine.specs.Goes.{IsNext, Goes, loads, publishes, erases, unlocks, seizes, releases, reply}
 use Rattle.commit_machine.specs.Due.{is_decision}
 use Rattle.commit_machine.specs.Laws.{decisions}

@@ -8,7 +8,6 @@ use Rattle.host_port.specs.declared.event.Event.TheVariants as event
 use Rattle.host_port.specs.Disk.{Disk, disk}
 use Rattle.host_port.specs.Ends.{stopped}
 use Rattle.host_port.specs.Own.{own, OnlyLooks}
-use Rattle.host_port.specs.Ran.{Honest}
 use Rattle.host_port.proofs.RanLemmas.{disk-append}
 use Rattle.folder_change.specs.declared.change.Change.{Change}
 use Rattle.commit_machine.specs.Names.{is_record_name, record_name}

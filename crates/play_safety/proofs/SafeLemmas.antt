@@ -1,5 +1,5 @@
 -- The traces of plays are safe.
-use Rattle.std.proofs.Common.{◌≡◌, ◌⊎◌, ℕ, ◌<◌, ◌^◌, ◌+◌, ◌==◌, true, false, List, [], ◌∷◌, ◌++◌, Option, Some, map, length, if◌then◌else◌, refl, ap, sym, subst, inl, inr, ◌∙◌, arith, append_assoc, append-nil, length-append}
+use Rattle.std.proofs.Common.{◌≡◌, ◌⊎◌, ℕ, ◌<◌, ◌^◌, ◌+◌, ◌==◌, true, false, List, [], ◌∷◌, ◌++◌, Option, Some, None, map, length, if◌then◌else◌, refl, ap, sym, subst, inl, inr, ◌∙◌, arith, append_assoc, append-nil, length-append}
 use Rattle.std.proofs.lemmas.List.{map-append}
 use Rattle.std.specs.List.{list_any}
 use Rattle.std.specs.Option.{option_map}
@@ -35,7 +35,6 @@ use Rattle.folder_commit.specs.declared.error.CommitError.TheVariants as error
 use Rattle.folder_commit.specs.Commits.{IsCommit}
 use Rattle.folder_commit.specs.Ends.{AnswersAs}
 use Rattle.folder_commit.specs.Plans.{AreFiles}
-use Rattle.folder_commit.specs.Told.{is_fault}
 use Rattle.folder_commit.proofs.PlanLemmas.{is-job}
 use Rattle.folder_commit.proofs.ToldLemmas.{tells-faults}
 use Rattle.session_play.specs.declared.changing.Committed.{Committed}

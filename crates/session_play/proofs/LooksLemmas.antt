@@ -1,11 +1,10 @@
 -- The events of plays of neutral acts change no disk.
 use Rattle.std.proofs.Common.{◌≡◌, ℕ, true, false, List, [], ◌∷◌, ◌++◌, refl, sym, ◌∙◌, ap, subst, inl, inr}
-use Rattle.std.specs.declared.option.Option.{Option}
 use Rattle.std.specs.declared.option.Option.TheVariants.{Some}
 use Rattle.std.specs.declared.result.Result.{Result}
 use Rattle.host_port.specs.declared.event.Event.{Event}
 use Rattle.host_port.specs.declared.event.Event.TheVariants as event
-use Rattle.host_port.specs.Disk.{Disk, disk}
+use Rattle.host_port.specs.Disk.{disk}
 use Rattle.host_port.specs.Calls.{World}
 use Rattle.host_port.specs.Own.{own, of_others, OnlyLooks}
 use Rattle.host_port.specs.Ran.{Ran}

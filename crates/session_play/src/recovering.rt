@@ -33,7 +33,10 @@ fn recovered(answer: Result<Recovered, RecoverError>) -> Result<RecoveryAnswer, 
         Ok(found) => Ok(RecoveryAnswer::Done(found)),
         Err(RecoverError::Busy { name }) => Ok(RecoveryAnswer::Busy { name }),
         Err(RecoverError::NotARecord) => Ok(RecoveryAnswer::NotARecord),
-        Err(RecoverError::TooLarge { name, length }) => Ok(RecoveryAnswer::TooLarge { name, length }),
+        Err(RecoverError::TooLarge { name, length }) => Ok(RecoveryAnswer::TooLarge {
+            name,
+            length,
+        }),
         Err(RecoverError::Disk) => Err(Stop::Disk),
         Err(RecoverError::Memory) => Err(Stop::Memory),
     }
@@ -41,11 +44,7 @@ fn recovered(answer: Result<Recovered, RecoverError>) -> Result<RecoveryAnswer, 
 
 /// Recovers what a stopped commit of this actor has left: a commit that was decided is carried out, one that wasn't is
 /// undone. A fault of the disk and want of memory cut the run off; all else is an answer.
-pub fn recovery<H: Host>(
-    alloc: Global,
-    host: &mut H,
-    actor: &[u8],
-) -> Result<RecoveryAnswer, Stop>
+pub fn recovery<H: Host>(alloc: Global, host: &mut H, actor: &[u8]) -> Result<RecoveryAnswer, Stop>
     requires short { length actor.now ≤ 4021 }
     requires no_zero { has_no_zero actor.now ≡ true }
     ensures ran { (token : ℕ) → Ran H.world host.old host.new (λ es. Goes (Ask (Recover actor.now token) Ret) es result) }
