@@ -16,7 +16,7 @@ use Rattle.commit_machine.specs.Jobs.{NoMemory, Job}
 use Rattle.commit_machine.specs.Machine.{State, Seizing, Looking, Undoing, Placing, Testing, Removing, Discarding, Unlocking, Erasing, Clearing, Preparing, Publishing, Locking, Loading, Staging, Deciding, Committing, Checking, Releasing, Ended, GoOn, Answer, Reply, Went, Saw, Long, Short, Fault, next, refused, after_reply}
 use Rattle.commit_machine.specs.Machine as machine
 use Rattle.commit_machine.specs.Goes.{IsNext, Goes, reply}
-use Rattle.commit_machine.proofs.GoesLemmas.{stretches_join, refused_twice}
+use Rattle.commit_machine.proofs.runs.Stretches.{stretches_join, refused_twice}
 use Rattle.commit_driver.specs.declared.step.End.{End}
 use Rattle.commit_driver.specs.declared.step.End.TheVariants as end
 use Rattle.commit_driver.specs.declared.step.Then.{Then as Then_of}

@@ -11,8 +11,8 @@ use Rattle.commit_machine.specs.Machine.{State, Seizing, Looking, Undoing, Placi
 use Rattle.commit_machine.specs.Goes.{IsNext, Goes, loads, publishes, erases, unlocks, seizes, releases, reply}
 use Rattle.commit_machine.specs.Due.{is_decision}
 use Rattle.commit_machine.specs.Laws.{decisions}
-use Rattle.commit_machine.proofs.Same.{same_false}
-use Rattle.commit_machine.proofs.NameLemmas.{staged-new}
+use Rattle.commit_machine.proofs.records.Same.{same_false}
+use Rattle.commit_machine.proofs.records.Names.{staged-new}
 use Rattle.folder_recovery.proofs.GoesLemmas.{Mends, mends-refused, mends-reply}
 
 module _ (actor : List ℕ) (token : ℕ) where

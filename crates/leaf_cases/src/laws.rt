@@ -51,6 +51,7 @@ fn speak_of_sessions() {
     a_text_has_one_row();
     each_text_has_a_row();
     line_words::a_word_names_one_command();
+    line_words::lines_are_cut_into_words();
     line_words::words_read_back();
     variables_are_kept();
     conditions_nest();

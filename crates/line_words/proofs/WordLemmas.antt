@@ -7,15 +7,15 @@ use Rattle.line_words.specs.declared.cut.Place.TheVariants.{Between, Word, Escap
 use Rattle.line_words.specs.declared.cut.Act.{Act}
 use Rattle.line_words.specs.declared.cut.Act.TheVariants.{Pass, Keep, End}
 use Rattle.line_words.specs.declared.cut.Step.{Step}
-use Rattle.line_words.specs.Words.{is_quote, unquoted, words_from}
+use Rattle.line_words.specs.Words.{is_quote}
 use Rattle.mail_text.specs.Ascii.{is_blank}
-use Rattle.line_words.specs.Cutting.{unquoted_step, step_of, joined, gives, IsReady}
+use Rattle.line_words.specs.Cutting.{unquoted_step, step_of, unquoted, words_from, joined, gives, IsReady}
 
 abbrev pub Words : Type 0
 Words = List (List ℕ)
 
 -- two choices by one test
-choose : {X Y O : Type 0} (t : Bool) (F : X → O) (G : Y → O) (a b : X) (c d : Y) → F a ≡ G c → F b ≡ G d → F (cond t a b) ≡ G (cond t c d)
+pub choose : {X Y O : Type 0} (t : Bool) (F : X → O) (G : Y → O) (a b : X) (c d : Y) → F a ≡ G c → F b ≡ G d → F (cond t a b) ≡ G (cond t c d)
 choose true F G a b c d one other = one
 choose false F G a b c d one other = other
 
@@ -27,7 +27,7 @@ map-same : {X Y : Type 0} (f g : X → Y) → ((x : X) → f x ≡ g x) → (o :
 map-same f g same None = refl
 map-same f g same (Some x) = ap (λ y. Some y) (same x)
 
-map-id : {X : Type 0} (o : Option (List X)) → option_map (λ left. [] ++ left) o ≡ o
+pub map-id : {X : Type 0} (o : Option (List X)) → option_map (λ left. [] ++ left) o ≡ o
 map-id None = refl
 map-id (Some x) = refl
 
@@ -36,7 +36,7 @@ map-map f g h same None = refl
 map-map f g h same (Some x) = ap (λ y. Some y) (same x)
 
 -- a byte of a word may be counted to its front
-onto_front : (word : List ℕ) (b : ℕ) (words : Words) → joined word (onto_first b words) ≡ joined (word ++ b ∷ []) words
+pub onto_front : (word : List ℕ) (b : ℕ) (words : Words) → joined word (onto_first b words) ≡ joined (word ++ b ∷ []) words
 onto_front word b [] = refl
 onto_front word b (rest ∷ words) = ap (λ (w : List ℕ). w ∷ words) (sym (append_assoc word (b ∷ []) rest))
 
@@ -172,7 +172,3 @@ same_ready p q w v place word ready =
     let P : Place → Type 0 = λ x. IsReady x w in
     let Q : List ℕ → Type 0 = λ x. IsReady q x in
     subst P (sym place) (subst Q (sym word) ready)
-
--- at the front nothing is read yet
-pub gives_all : (bs : List ℕ) → gives Between [] [] bs ≡ words_from Between bs
-gives_all bs = map-id (words_from Between bs)

@@ -1,14 +1,15 @@
 -- Words that are written one behind the other are cut into these words again.
-use Rattle.std.proofs.Common.{◌≡◌, ℕ, Bool, true, false, not, ◌==◌, ◌||◌, List, [], ◌∷◌, ◌++◌, Option, Some, refl, sym, ap, ◌∙◌, inl, inr, append_assoc, append-nil}
-use Rattle.std.proofs.lemmas.Bool.{cond-true, cond-false, eq-eqb, eqb-true, and_parts, or_cases, false≢true}
+use Rattle.std.proofs.Common.{◌≡◌, ℕ, true, ◌==◌, List, [], ◌∷◌, ◌++◌, Option, Some, refl, sym, ap, ◌∙◌, inl, inr, append_assoc, append-nil}
+use Rattle.std.proofs.lemmas.Bool.{cond-true, cond-false, eq-eqb, and_parts, not-true}
 use Rattle.std.specs.Option.{option_map}
 use Rattle.std.specs.List.{list_all, onto_first}
 use Rattle.line_words.specs.declared.cut.Place.TheVariants.{Between, Word, Quoted}
-use Rattle.line_words.specs.Words.{is_quote, words_from}
+use Rattle.line_words.specs.Words.{is_quote, is_plain, lacks}
 use Rattle.mail_text.specs.Ascii.{is_blank}
-use Rattle.line_words.specs.Cutting.{joined}
-use Rattle.line_words.specs.Laws.{is_plain, Writes, WritesAll, WordsReadBack}
+use Rattle.line_words.specs.Cutting.{words_from, joined}
+use Rattle.line_words.specs.Laws.{Writes, WritesAll, WordsReadBack}
 use Rattle.line_words.proofs.WordLemmas.{Words, map-map, has_first}
+use Rattle.line_words.proofs.PartLemmas.{none_of, quote_is_no_blank, words_are}
 
 onto_joined : (b : ℕ) (word : List ℕ) (left : Words) → onto_first b (joined word left) ≡ joined (b ∷ word) left
 onto_joined b word [] = refl
@@ -17,16 +18,6 @@ onto_joined b word (rest ∷ words) = refl
 -- a byte that is put before what a word gives
 put_before : (b : ℕ) (word : List ℕ) (o p : Option Words) → p ≡ option_map (joined word) o → option_map (onto_first b) p ≡ option_map (joined (b ∷ word)) o
 put_before b word o p is = ap (option_map (onto_first b)) is ∙ map-map (joined word) (onto_first b) (joined (b ∷ word)) (onto_joined b word) o
-
-none_of : (x y z : Bool) → not (x || y || z) ≡ true → (x ≡ false) × (y ≡ false) × (z ≡ false)
-none_of true y z h = absurd (false≢true h)
-none_of false true z h = absurd (false≢true h)
-none_of false false true h = absurd (false≢true h)
-none_of false false false h = (refl, refl, refl)
-
-not_true : (x : Bool) → not x ≡ true → x ≡ false
-not_true true h = sym h
-not_true false h = refl
 
 plain_byte : (b : ℕ) (bs : List ℕ) → is_plain b ≡ true → words_from Word (b ∷ bs) ≡ option_map (onto_first b) (words_from Word bs)
 unfolding words_from
@@ -47,15 +38,12 @@ begun_plain b bs plain =
     let not_it = none_of (is_blank b) (is_quote b) (b == 92) plain in
     cond-false _ _ _ not_it.0 ∙ sym (cond-false _ _ _ not_it.0)
 
-quoted_written : (quote : ℕ) (word rest : List ℕ) → list_all (λ b. not (b == quote)) word ≡ true → words_from (Quoted quote) (word ++ quote ∷ rest) ≡ option_map (joined word) (words_from Word rest)
+quoted_written : (quote : ℕ) (word rest : List ℕ) → lacks quote word ≡ true → words_from (Quoted quote) (word ++ quote ∷ rest) ≡ option_map (joined word) (words_from Word rest)
 unfolding words_from
-quoted_written quote [] rest lacks = cond-true _ _ _ (eq-eqb quote quote refl) ∙ sym (has_first rest).0
-quoted_written quote (b ∷ bs) rest lacks =
-    let both = and_parts _ _ lacks in
-    cond-false _ _ _ (not_true _ both.0) ∙ put_before b bs (words_from Word rest) _ (quoted_written quote bs rest both.1)
-
-quote_is_no_blank : (b : ℕ) → is_quote b ≡ true → is_blank b ≡ false
-quote_is_no_blank b h = elim (or_cases _ _ h) [ inl e ↦ ap is_blank (eqb-true b 34 e) | inr e ↦ ap is_blank (eqb-true b 39 e) ]
+quoted_written quote [] rest lacking = cond-true _ _ _ (eq-eqb quote quote refl) ∙ sym (has_first rest).0
+quoted_written quote (b ∷ bs) rest lacking =
+    let both = and_parts _ _ lacking in
+    cond-false _ _ _ (not-true _ both.0) ∙ put_before b bs (words_from Word rest) _ (quoted_written quote bs rest both.1)
 
 -- a quote begins what is quoted
 begun_quoted : (b : ℕ) (bs : List ℕ) → is_quote b ≡ true → words_from Between (b ∷ bs) ≡ words_from (Quoted b) bs
@@ -68,11 +56,11 @@ written_plain (b ∷ bs) rest some plain = begun_plain b (bs ++ rest) (and_parts
 
 written : (text word rest : List ℕ) → Writes text word → words_from Between (text ++ rest) ≡ option_map (joined word) (words_from Word rest)
 written text word rest (inl (is, some, plain)) = ap (λ (t : List ℕ). words_from Between (t ++ rest)) is ∙ written_plain word rest some plain
-written text word rest (inr (quote, is_quote_byte, lacks, is)) =
+written text word rest (inr (quote, is_quote_byte, lacking, is)) =
     ap (λ (t : List ℕ). words_from Between (t ++ rest)) is
     ∙ begun_quoted quote ((word ++ quote ∷ []) ++ rest) is_quote_byte
     ∙ ap (words_from (Quoted quote)) (append_assoc word (quote ∷ []) rest)
-    ∙ quoted_written quote word rest lacks
+    ∙ quoted_written quote word rest lacking
 
 no_bytes : words_from Between [] ≡ Some []
 unfolding words_from
@@ -100,4 +88,4 @@ read_back (word ∷ other ∷ words) line (text, (rest, is, writes, others)) =
     ∙ ap (λ (w : List ℕ). Some (w ∷ other ∷ words)) (append-nil word)
 
 pub words_read_back : WordsReadBack
-words_read_back line words written_so = read_back words line written_so
+words_read_back line words written_so = sym (words_are line) ∙ read_back words line written_so

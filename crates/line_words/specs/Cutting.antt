@@ -1,12 +1,12 @@
 -- How a line is cut byte by byte, and what a line that is partly cut still gives.
-use Rattle.std.specs.Prelude.{◌≡◌, ℕ, ◌==◌, List, [], ◌∷◌, ◌++◌, Option, if◌then◌else◌}
-use Rattle.std.specs.Option.{option_map}
+use Rattle.std.specs.Prelude.{◌≡◌, ℕ, ◌==◌, List, [], ◌∷◌, ◌++◌, Option, Some, None, option_map, if◌then◌else◌}
+use Rattle.std.specs.List.{onto_first}
 use Rattle.line_words.specs.declared.cut.Place.{Place}
 use Rattle.line_words.specs.declared.cut.Place.TheVariants.{Between, Word, Escaped, Quoted}
 use Rattle.line_words.specs.declared.cut.Act.{Act}
 use Rattle.line_words.specs.declared.cut.Act.TheVariants.{Pass, Keep, End}
 use Rattle.line_words.specs.declared.cut.Step.{Step}
-use Rattle.line_words.specs.Words.{is_quote, words_from}
+use Rattle.line_words.specs.Words.{is_quote}
 use Rattle.mail_text.specs.Ascii.{is_blank}
 
 -- this becomes of the byte, and the next one stands there
@@ -23,6 +23,21 @@ step_of Between b = if is_blank b then goes Between Pass else unquoted_step b
 step_of Word b = if is_blank b then goes Between End else unquoted_step b
 step_of Escaped b = goes Word Keep
 step_of (Quoted quote) b = if b == quote then goes Word Pass else goes (Quoted quote) Keep
+
+-- what bytes give whose first stands outside quotes and is no blank: a quote begins what is quoted, a backslash takes the next byte, and any other byte stands for itself
+abbrev pub unquoted : ℕ → (Place → Option (List (List ℕ))) → Option (List (List ℕ))
+unquoted b later = if is_quote b then later (Quoted b) else (if b == 92 then later Escaped else option_map (onto_first b) (later Word))
+
+-- the words that bytes give which begin at this place, the first of them the rest of the word in which they begin; none where a quote isn't closed
+unfoldable pub words_from : Place → List ℕ → Option (List (List ℕ))
+words_from Between [] = Some []
+words_from Word [] = Some ([] ∷ [])
+words_from Escaped [] = Some ((92 ∷ []) ∷ [])
+words_from (Quoted quote) [] = None
+words_from Between (b ∷ bs) = if is_blank b then words_from Between bs else unquoted b (λ place. words_from place bs)
+words_from Word (b ∷ bs) = if is_blank b then option_map (λ words. [] ∷ words) (words_from Between bs) else unquoted b (λ place. words_from place bs)
+words_from Escaped (b ∷ bs) = option_map (onto_first b) (words_from Word bs)
+words_from (Quoted quote) (b ∷ bs) = if b == quote then words_from Word bs else option_map (onto_first b) (words_from (Quoted quote) bs)
 
 -- the front of a word before what is left: the rest of the word, and other words
 abbrev pub joined : List ℕ → List (List ℕ) → List (List ℕ)

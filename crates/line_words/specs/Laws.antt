@@ -1,13 +1,12 @@
 -- Laws of the spellings and of words.
-use Rattle.std.specs.Prelude.{◌≡◌, ◌≢◌, ◌↔◌, ◌⊎◌, ℕ, Bool, true, not, ◌==◌, ◌||◌, List, [], ◌∷◌, ◌++◌, Some}
+use Rattle.std.specs.Prelude.{◌≡◌, ◌≢◌, ◌↔◌, ◌⊎◌, ℕ, true, List, [], ◌∷◌, ◌++◌, Some, None}
 use Rattle.std.specs.Ordering.{nat_cmp}
 use Rattle.std.specs.Cmp.Lexicographic.{slice_cmp}
 use Rattle.std.specs.declared.cmp.Ordering.TheVariants.{Less}
 use Rattle.std.specs.List.{Contains, AllPairs, list_all}
 use Rattle.line_words.specs.declared.command.Command.{Command}
 use Rattle.line_words.specs.Spellings.{Spelling, spellings, is_met, command_of, names}
-use Rattle.line_words.specs.Words.{is_quote, words_of}
-use Rattle.mail_text.specs.Ascii.{is_blank}
+use Rattle.line_words.specs.Words.{is_quote, is_plain, lacks, IsCut, HasOpenQuote, words_of}
 
 -- the word meets a spelling of the command
 abbrev pub Names : List ℕ → Command → Type 0
@@ -29,15 +28,27 @@ EachIsNamed = (named : Command) → (word : List ℕ) × (command_of word ≡ So
 abbrev pub NamesAscend : Type 0
 NamesAscend = AllPairs (λ a b. slice_cmp nat_cmp a b ≡ Less) names
 
--- a byte that is no blank, no quote and no backslash
-abbrev pub is_plain : ℕ → Bool
-is_plain b = not (is_blank b || is_quote b || b == 92)
+-- the words of a line are those into which it is cut
+abbrev pub WordsAreCut : Type 0
+WordsAreCut = (line : List ℕ) (words : List (List ℕ)) → (words_of line ≡ Some words) ↔ IsCut line words
+
+-- a line has no words exactly where it can't be cut
+abbrev pub UncutHasNone : Type 0
+UncutHasNone = (line : List ℕ) → (words_of line ≡ None) ↔ ((words : List (List ℕ)) → IsCut line words → ⊥)
+
+-- a line has no words exactly where a quote in it isn't closed
+abbrev pub OpenHasNone : Type 0
+OpenHasNone = (line : List ℕ) → (words_of line ≡ None) ↔ HasOpenQuote line
+
+-- a line is cut into one list of words at most
+abbrev pub CutsAreOne : Type 0
+CutsAreOne = (line : List ℕ) (words others : List (List ℕ)) → IsCut line words → IsCut line others → words ≡ others
 
 -- the text writes the word: as it is, where it is plain and not empty, or between two quotes that it lacks
 abbrev pub Writes : List ℕ → List ℕ → Type 0
 Writes text word =
     ((text ≡ word) × (word ≢ []) × (list_all is_plain word ≡ true))
-    ⊎ ((quote : ℕ) × (is_quote quote ≡ true) × (list_all (λ b. not (b == quote)) word ≡ true) × (text ≡ quote ∷ (word ++ quote ∷ [])))
+    ⊎ ((quote : ℕ) × (is_quote quote ≡ true) × (lacks quote word ≡ true) × (text ≡ quote ∷ (word ++ quote ∷ [])))
 
 -- the line writes the words, with a space between one and the next
 abbrev pub WritesAll : List ℕ → List (List ℕ) → Type 0

@@ -86,7 +86,7 @@ pub(crate) fn words_of(alloc: Global, bytes: &[u8]) -> Result<Option<Items<Text>
 }
 
 // The words at the end of a line, of which these are whole and this is the front of the last one.
-#[tactic(auto, unfolding(crate::specs::Words::words_from))]
+#[tactic(auto, unfolding(crate::specs::Cutting::words_from))]
 fn finish(place: Place, words: Items<Text>, word: Text) -> Result<Option<Items<Text>>, Memory>
     ensures { IfOk result (λ all. all ≡ gives place words word []) }
 {

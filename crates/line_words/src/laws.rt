@@ -1,4 +1,4 @@
-ghost use Rattle.line_words.specs.Laws.{NamesOne, SpellingsName, EachIsNamed, NamesAscend, WordsReadBack};
+ghost use Rattle.line_words.specs.Laws.{NamesOne, SpellingsName, EachIsNamed, NamesAscend, WordsAreCut, UncutHasNone, OpenHasNone, CutsAreOne, WordsReadBack};
 
 /// Laws of the spellings: a word meets spellings of one command at most, which is the one that it names; what
 /// stands before the bracket of a spelling names its command, and so does its whole name; each command has a name;
@@ -8,6 +8,16 @@ pub fn a_word_names_one_command()
     ensures spellings_name { SpellingsName }
     ensures each_is_named { EachIsNamed }
     ensures names_ascend { NamesAscend }
+{}
+
+/// Laws of words: the words of a line are those into which it is cut, where it is parts, one behind the other: blanks,
+/// plain bytes, bytes behind a backslash, and runs between two quotes. A line has none exactly where it can't be cut,
+/// and exactly where a quote in it isn't closed. It is cut into one list of words at most.
+pub fn lines_are_cut_into_words()
+    ensures cut { WordsAreCut }
+    ensures uncut { UncutHasNone }
+    ensures unclosed { OpenHasNone }
+    ensures one { CutsAreOne }
 {}
 
 /// A law: words that are written one behind the other, with a space between one and the next, are cut into these words

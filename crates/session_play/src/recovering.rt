@@ -2,6 +2,7 @@
 ghost use Rattle.std.specs.Prelude.{◌≡◌, ◌≤◌, ℕ, true, length, IfErr};
 ghost use Rattle.host_port.specs.Names.{has_no_zero};
 ghost use Rattle.host_port.specs.Ran.{Ran};
+ghost use Rattle.commit_machine.specs.Names.{actor_limit};
 ghost use Rattle.session_play.specs.Cuts.{IsLoadCut};
 ghost use Rattle.session_play.specs.Play.{Play, Ask, Ret, Recover, Goes, Caused};
 ghost use Rattle.session_play.specs.Recovering.{recovered};
@@ -45,9 +46,10 @@ fn recovered(answer: Result<Recovered, RecoverError>) -> Result<RecoveryAnswer, 
 /// Recovers what a stopped commit of this actor has left: a commit that was decided is carried out, one that wasn't is
 /// undone. A fault of the disk and want of memory cut the run off; all else is an answer.
 pub fn recovery<H: Host>(alloc: Global, host: &mut H, actor: &[u8]) -> Result<RecoveryAnswer, Stop>
-    requires short { length actor.now ≤ 4021 }
+    requires short { length actor.now ≤ actor_limit }
     requires no_zero { has_no_zero actor.now ≡ true }
-    ensures ran { (token : ℕ) → Ran H.world host.old host.new (λ es. Goes (Ask (Recover actor.now token) Ret) es result) }
+    ensures ran { (token : ℕ) → Ran H.world host.old host.new
+        (λ es. Goes (Ask (Recover actor.now token) Ret) es result) }
     ensures cause { Caused (H.world.counts host.old) (H.world.counts host.new) result }
     ensures only_disk { IfErr result IsLoadCut }
 {

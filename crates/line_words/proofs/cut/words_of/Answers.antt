@@ -3,7 +3,8 @@ use Rattle.std.proofs.lemmas.List.{at_drop_more, at_drop_all}
 use Rattle.line_words.specs.declared.cut.Place.TheVariants.{Between}
 use Rattle.line_words.specs.declared.cut.Act.TheVariants.{Pass, Keep, End}
 use Rattle.line_words.specs.Cutting.{gives}
-use Rattle.line_words.proofs.WordLemmas.{given_by, ready_by, same_gives, same_ready, gives_all}
+use Rattle.line_words.proofs.WordLemmas.{given_by, ready_by, same_gives, same_ready}
+use Rattle.line_words.proofs.PartLemmas.{gives_all}
 use Rattle.line_words.proofs.cut.words_of.Goals as goal
 use Rattle.line_words.proofs.cut.words_of.Goals.{in-Pass, in-Keep+in_ok-push-in-Keep, in-End+in_ok-push-in-End}
 
