@@ -22,7 +22,7 @@ MayEnd NoMemory = Unit {0}
 MayEnd e = ⊥
 
 -- the states of a recovery
-abbrev Mends : State → Type 0
+abbrev pub Mends : State → Type 0
 Mends Seizing = Unit {0}
 Mends Looking = Unit {0}
 Mends (Undoing r n ns ls GoOn) = Unit {0}
@@ -91,7 +91,7 @@ module _ (actor : List ℕ) (token : ℕ) where
   abbrev job : Job
   job = recovery_for actor token
 
-  mends-refused : (s : State) → Mends s → Mends (refused job s)
+  pub mends-refused : (s : State) → Mends s → Mends (refused job s)
   mends-refused Seizing h = tt
   mends-refused Looking h = tt
   mends-refused (Undoing r n ns ls GoOn) h = tt
@@ -106,7 +106,7 @@ module _ (actor : List ℕ) (token : ℕ) where
   mends-refused (Ended e) h = h
   mends-refused s h = absurd h
 
-  mends-reply : (s : State) (r : Reply) → Mends s → Mends (after_reply job s r)
+  pub mends-reply : (s : State) (r : Reply) → Mends s → Mends (after_reply job s r)
   mends-reply Seizing (Went true) h = tt
   mends-reply Seizing (Went false) h = tt
   mends-reply Looking (Saw None) h = tt

@@ -1,4 +1,5 @@
 pub mod GoesLemmas
+pub mod UndecidedLemmas
 pub mod RecoverLemmas
 pub mod SafeLemmas
 pub mod ToldLemmas

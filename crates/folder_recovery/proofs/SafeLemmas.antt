@@ -1,5 +1,5 @@
 -- The laws of the machine, of a recovery.
-use Rattle.std.proofs.Common.{◌≡◌, ◌<◌, ◌^◌, ℕ, List, [], ◌∷◌, ◌++◌, Option, Some, refl, ap, sym, subst, inl, inr, ◌∙◌, append_assoc}
+use Rattle.std.proofs.Common.{◌≡◌, ◌<◌, ◌^◌, ℕ, List, [], ◌∷◌, ◌++◌, Some, refl, ap, sym, subst, inl, inr, ◌∙◌, append_assoc}
 use Rattle.std.proofs.lemmas.List.{append-nil}
 use Rattle.std.specs.declared.result.Result.{Result}
 use Rattle.std.specs.declared.result.Result.TheVariants.{Ok, Err}
@@ -28,11 +28,11 @@ use Rattle.folder_recovery.specs.Safe.{MayRecover, IsSettled, RecoversSafely}
 use Rattle.folder_recovery.proofs.ToldLemmas.{is-told}
 use Rattle.folder_recovery.proofs.BusyLemmas.{busy-met}
 
-recovery-is-job : (actor : List ℕ) (token : ℕ) → token < 2 ^ 64 → IsJob (recovery_for actor token)
+pub recovery-is-job : (actor : List ℕ) (token : ℕ) → token < 2 ^ 64 → IsJob (recovery_for actor token)
 recovery-is-job actor token fits = record { token_fits = fits; valid = λ es is. absurd (cc); plain = λ e m. absurd m }
 
 -- a recovery ends somewhere
-ends-somewhere : (j : Job) (es : List Event) (result : Result Recovered RecoverError) → Recovers j es result → (end : Ending) × GoesTo j es end
+pub ends-somewhere : (j : Job) (es : List Event) (result : Result Recovered RecoverError) → Recovers j es result → (end : Ending) × GoesTo j es end
 ends-somewhere j es (Ok f) h = (jobs.Recovered (found f), h)
 ends-somewhere j es (Err (error.Busy name)) h = (Refused (jobs.Busy name), h.1)
 ends-somewhere j es (Err error.NotARecord) h = (Refused jobs.NotARecord, h)

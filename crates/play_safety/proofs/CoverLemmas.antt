@@ -115,12 +115,38 @@ module _ (actor : List ℕ) (token : ℕ) where
     run : IsRun job d es last
     run = run-of actor token edits refusal d last es files owners s b
 
-    -- a queue that the job's decision may take
-    abbrev pub MayTake : List (List Edit) → Type 0
-    MayTake queue = ((more : List (List Edit)) × (queue ≡ edits_of job ∷ more)) ⊎ ((decisions job d 0 es ≡ 0) × (list_any is_failed (own es) ≡ false))
-
     abbrev Runs : List Event → Type 0
     Runs l = IsRun job d l last
+
+    -- no front of the events holds a decision, nor does an image of a stop in them
+    pub record IsUndecided : Type 0 where
+      pub fronts_none : (x y : List Event) → es ≡ x ++ y → decisions job d 0 x ≡ 0
+      pub stops_none : (x : List Event) (e : Event) (y : List Event) (part : Part) → es ≡ x ++ e ∷ y → decisions job d 0 (x ++ in_flight (disk d x) e part) ≡ 0
+
+    -- where the events hold none and no call failed, so it is
+    pub calm-undecided : decisions job d 0 es ≡ 0 → list_any is_failed (own es) ≡ false → IsUndecided
+    calm-undecided none fine = record {
+      fronts_none = λ x y at. front-undecided job x y d (subst (λ (l : List Event). decisions job d 0 l ≡ 0) at none);
+      stops_none = λ x e y part at.
+          let whole = subst Runs at run in
+          let parts = none-decides job x e y d (subst (λ (l : List Event). decisions job d 0 l ≡ 0) at none) in
+          let whole-so = none-failed x e y (subst (λ (l : List Event). list_any is_failed (own l) ≡ false) at fine) in
+          let says = honest-back x (e ∷ y) d whole.honest in
+          let flies = flies-undecided job (disk d x) e part 0 says.0 whole-so parts.1 in
+          let both = decisions-then job x (in_flight (disk d x) e part) d in
+          let p = parts.0 in omega (arith, both, flies, p);
+    }
+
+    -- so it is of a job of which no run holds one
+    pub never-undecided : ((l : List Event) (now : State) → IsRun job d l now → decisions job d 0 l ≡ 0) → IsUndecided
+    never-undecided never = record {
+      fronts_none = λ x y at. let r = front_is_run job d x y last (subst Runs at run) in never x r.0 r.1;
+      stops_none = λ x e y part at. let f = flight job d x e y last part (subst Runs at run) in never (x ++ in_flight (disk d x) e part) f.0 f.1;
+    }
+
+    -- a queue that the job's decision may take
+    abbrev pub MayTake : List (List Edit) → Type 0
+    MayTake queue = ((more : List (List Edit)) × (queue ≡ edits_of job ∷ more)) ⊎ IsUndecided
 
     moment-of : (queue : List (List Edit)) → MayTake queue → (x y : List Event) → es ≡ x ++ y → Due actor token d queue files owners x (disk d x)
     moment-of queue (inl (more, is)) x y at =
@@ -128,9 +154,9 @@ module _ (actor : List ℕ) (token : ℕ) where
         let a = one-at-most actor token edits refusal d more files owners x r.0 s r.1 in
         subst (λ (q : List (List Edit)). Due actor token d q files owners x (disk d x)) (sym is)
         (due-as actor token edits refusal d (disk d x) (edits_of job ∷ more) a.0 files owners x s a.1 (crash_safe job d x r.0 r.1))
-    moment-of queue (inr (none, fine)) x y at =
+    moment-of queue (inr none) x y at =
         let r = front_is_run job d x y last (subst Runs at run) in
-        let here = front-undecided job x y d (subst (λ (l : List Event). decisions job d 0 l ≡ 0) at none) in
+        let here = none.fronts_none x y at in
         due-as actor token edits refusal d (disk d x) queue queue files owners x s (undecided job x d queue files (settled_files actor d) 0 (λ n. sym (s.settles n)) here) (crash_safe job d x r.0 r.1)
 
     stop-of : (queue : List (List Edit)) → MayTake queue → (x : List Event) (e : Event) (y : List Event) (part : Part) → es ≡ x ++ e ∷ y → Due actor token d queue files owners (x ++ in_flight (disk d x) e part) (stopped (disk d x) e part)
@@ -142,16 +168,11 @@ module _ (actor : List ℕ) (token : ℕ) where
         let a = one-at-most actor token edits refusal d more files owners l f.0 s f.1 in
         subst (λ (q : List (List Edit)). Due actor token d q files owners l now) (sym is)
         (due-as actor token edits refusal d now (edits_of job ∷ more) a.0 files owners l s a.1 (stop_safe job d x e y last part whole))
-    stop-of queue (inr (none, fine)) x e y part at =
+    stop-of queue (inr none) x e y part at =
         let whole = subst Runs at run in
         let l = x ++ in_flight (disk d x) e part in
         let now = stopped (disk d x) e part in
-        let parts = none-decides job x e y d (subst (λ (l : List Event). decisions job d 0 l ≡ 0) at none) in
-        let whole-so = none-failed x e y (subst (λ (l : List Event). list_any is_failed (own l) ≡ false) at fine) in
-        let says = honest-back x (e ∷ y) d whole.honest in
-        let flies = flies-undecided job (disk d x) e part 0 says.0 whole-so parts.1 in
-        let both = decisions-then job x (in_flight (disk d x) e part) d in
-        let here : decisions job d 0 l ≡ 0 = (let p = parts.0 in omega (arith, both, flies, p)) in
+        let here = none.stops_none x e y part at in
         due-as actor token edits refusal d now queue queue files owners l s (undecided job l d queue files (settled_files actor d) 0 (λ n. sym (s.settles n)) here) (stop_safe job d x e y last part whole)
 
     pub bracket-covered : (queue : List (List Edit)) → MayTake queue → Covers d queue files owners es

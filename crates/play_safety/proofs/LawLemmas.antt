@@ -8,7 +8,6 @@ use Rattle.host_port.specs.declared.event.Event.TheVariants as event
 use Rattle.host_port.specs.Disk.{Disk, disk}
 use Rattle.host_port.specs.Ends.{stopped}
 use Rattle.host_port.specs.Own.{own, OnlyLooks}
-use Rattle.host_port.specs.Ran.{Honest}
 use Rattle.host_port.proofs.RanLemmas.{disk-append}
 use Rattle.folder_change.specs.declared.change.Change.{Change}
 use Rattle.commit_machine.specs.Names.{is_record_name, record_name}
@@ -32,7 +31,7 @@ use Rattle.session_play.specs.declared.changing.Committed.TheVariants as committ
 use Rattle.session_play.specs.declared.stop.Stop.{Stop}
 use Rattle.session_play.specs.Acts.{AllActs, AllEnds, is_neutral}
 use Rattle.session_play.specs.Committing.{Commit}
-use Rattle.session_play.specs.Play.{Act, Answer, Changes, Play, Ret, Ask, Did, Partly, Goes, Next, Go, Last, Loop, Line, Say, Read, Try, Know}
+use Rattle.session_play.specs.Play.{Act, Answer, Changes, Play, Ret, Ask, Did, Partly, Goes, Next, Go, Last, Loop, Line, Say, Read, Try, Recover, Know}
 use Rattle.session_play.specs.Play as plays
 use Rattle.play_safety.specs.Passes.{decided_in, accepted_by, Commits, no_commits, behind, at_cut, Passes, PassesAll, again, last, cut}
 use Rattle.play_safety.specs.Safe.{IsBy, OfCommit, EachCommit, NextKeeps, MayRun, queue, IsCalm, IsCrashSafe, is_output, PlaysAreSafe, TracesAreRead, DoneIsDecided}
@@ -195,6 +194,7 @@ neutral-commit P (Read name) h = tt
 neutral-commit P (Try name) h = tt
 neutral-commit P (Know texts) h = tt
 neutral-commit P (Changes c) h = absurd (cc h)
+neutral-commit P (Recover actor token) h = absurd (cc h)
 
 pub neutral-commits : {R : Type 0} (P : Commit → Type 0) (p : Play R) → AllActs is_neutral p → EachCommit P p
 neutral-commits P (Ret r) all = tt

@@ -1,5 +1,5 @@
 -- The traces of plays are safe.
-use Rattle.std.proofs.Common.{◌≡◌, ◌⊎◌, ℕ, ◌<◌, ◌^◌, ◌+◌, ◌==◌, true, false, List, [], ◌∷◌, ◌++◌, Option, Some, map, length, if◌then◌else◌, refl, ap, sym, subst, inl, inr, ◌∙◌, arith, append_assoc, append-nil, length-append}
+use Rattle.std.proofs.Common.{◌≡◌, ◌⊎◌, ℕ, ◌<◌, ◌^◌, ◌+◌, ◌==◌, true, false, List, [], ◌∷◌, ◌++◌, Option, Some, None, map, length, if◌then◌else◌, refl, ap, sym, subst, inl, inr, ◌∙◌, arith, append_assoc, append-nil, length-append}
 use Rattle.std.proofs.lemmas.List.{map-append}
 use Rattle.std.specs.List.{list_any}
 use Rattle.std.specs.Option.{option_map}
@@ -14,23 +14,27 @@ use Rattle.host_port.proofs.RanLemmas.{disk-append}
 use Rattle.folder_change.specs.declared.change.Change.{Change}
 use Rattle.commit_machine.specs.Refusals.{first_refusal}
 use Rattle.commit_machine.specs.Settled.{Files, Locks}
-use Rattle.commit_machine.specs.Jobs.{Refusal, Ending, Edit, Job, IsJob, all_of}
-use Rattle.commit_machine.specs.Machine.{Seizing, Ended}
+use Rattle.commit_machine.specs.Jobs.{Before, Refusal, Ending, Refused, Failed, NoMemory, Edit, Job, IsJob, all_of}
+use Rattle.commit_machine.specs.Jobs as jobs
+use Rattle.commit_machine.specs.Machine.{State, Seizing, Ended}
 use Rattle.commit_machine.specs.Goes.{Goes}
-use Rattle.commit_machine.specs.Edits.{edits_for, cause_of, job_for}
+use Rattle.commit_machine.specs.Edits.{edits_for, cause_of, job_for, recovery_for}
 use Rattle.commit_machine.specs.Lawful.{IsFresh, OthersAreLawful}
-use Rattle.commit_machine.specs.Laws.{IsSettledAs, MetNoFault, decisions}
+use Rattle.commit_machine.specs.Laws.{IsRun, IsSettledAs, MetNoFault, decisions}
 use Rattle.commit_machine.specs.Restraints.{is_failed}
 use Rattle.commit_machine.specs.Rows.{first_job, queue_after, run_files, run_locks, IsBracket}
 use Rattle.commit_machine.proofs.runs.Moments.{nothing_left}
 use Rattle.commit_machine.proofs.runs.Ends.{lawful_front}
 use Rattle.commit_machine.proofs.told.Decisions.{few_decisions}
+use Rattle.folder_recovery.specs.declared.error.RecoverError.TheVariants as recover
+use Rattle.folder_recovery.specs.Recovering.{found}
+use Rattle.folder_recovery.proofs.SafeLemmas.{recovery-is-job}
+use Rattle.folder_recovery.proofs.UndecidedLemmas.{recovery-undecided}
 use Rattle.folder_commit.specs.declared.error.CommitError.{CommitError}
 use Rattle.folder_commit.specs.declared.error.CommitError.TheVariants as error
 use Rattle.folder_commit.specs.Commits.{IsCommit}
 use Rattle.folder_commit.specs.Ends.{AnswersAs}
 use Rattle.folder_commit.specs.Plans.{AreFiles}
-use Rattle.folder_commit.specs.Told.{is_fault}
 use Rattle.folder_commit.proofs.PlanLemmas.{is-job}
 use Rattle.folder_commit.proofs.ToldLemmas.{tells-faults}
 use Rattle.session_play.specs.declared.changing.Committed.{Committed}
@@ -38,16 +42,19 @@ use Rattle.session_play.specs.declared.changing.Committed.TheVariants as committ
 use Rattle.session_play.specs.declared.stop.Stop.{Stop}
 use Rattle.session_play.specs.declared.stop.Stop.TheVariants as stop
 use Rattle.session_play.specs.Committing.{Commit, answer_as}
+use Rattle.session_play.specs.declared.recovering.RecoveryAnswer.{RecoveryAnswer}
+use Rattle.session_play.specs.declared.recovering.RecoveryAnswer.TheVariants as recovery
+use Rattle.session_play.specs.Recovering.{recovery_as, IsRecoveryOf}
 use Rattle.session_play.specs.Acts.{is_neutral, AllEnds}
 use Rattle.session_play.proofs.ShapeLemmas.{came-same}
-use Rattle.session_play.specs.Play.{Act, Answer, Line, Say, Read, Try, Changes, Know, Play, Ret, Ask, Did, Partly, Next, Go, Last}
+use Rattle.session_play.specs.Play.{Act, Answer, Line, Say, Read, Try, Changes, Recover, Know, Play, Ret, Ask, Did, Partly, Next, Go, Last}
 use Rattle.session_play.proofs.CommitLemmas.{answer-fine}
 use Rattle.session_play.proofs.LooksLemmas.{neutral-did, neutral-part}
 use Rattle.play_safety.specs.Passes.{decided_in, accepted_by, Commits, behind, at_cut, Passes, PassesAll, again, last, cut}
 use Rattle.play_safety.specs.Safe.{IsBy, OfCommit, EachCommit, queue_of, queue, IsCalm, NextKeeps}
 use Rattle.commit_machine.proofs.runs.OneJob.{Stands, Due, Leaves, between, not-decided, was-decided, after-piece, due-then, queue-split, honest-back, run-of}
 use Rattle.play_safety.proofs.TraceLemmas.{looks-undecided, decisions-then, decisions-same}
-use Rattle.play_safety.proofs.CoverLemmas.{Covers, looks-covered, covers-then, bracket-covered}
+use Rattle.play_safety.proofs.CoverLemmas.{Covers, looks-covered, covers-then, bracket-covered, calm-undecided, never-undecided}
 
 end-fine : (a : Committed) (files : List (List ℕ)) (end : Ending) → AnswersAs files (answer_as a) end → MetNoFault end
 end-fine committed.Done files end is = subst MetNoFault (sym is) tt
@@ -162,7 +169,7 @@ module _ (actor : List ℕ) (token : ℕ) where
         let b = bracket end j goes in
         let l = not-decided actor token edits refusal d more files owners es end s b fine none in
         answered more [] (undecided-none none) (record {
-          covers = bracket-covered actor token edits refusal d files owners s es (Ended end) b more (inr (none, calls));
+          covers = bracket-covered actor token edits refusal d files owners s es (Ended end) b more (inr (calm-undecided actor token edits refusal d files owners s es (Ended end) b none calls));
           leaves = λ e. l;
           count = same-count ∙ none;
           fresh = λ c. l.fresh;
@@ -222,6 +229,41 @@ module _ (actor : List ℕ) (token : ℕ) where
           fresh = λ c. nothing_left job d es end (fine c) (run-of actor token edits refusal d (Ended end) es files owners s b);
         })
 
+  -- a recovery decides nothing
+  module _ (d : Disk) (files : Files) (owners : Locks) (es : List Event)
+      (fits : token < 2 ^ 64) (s : Stands actor token d files owners) (honest : Honest d es) (lawful : OthersAreLawful actor token d es) where
+    abbrev recovers : Job
+    recovers = recovery_for actor token
+
+    abbrev no_refusal : Files → Option Refusal
+    no_refusal = λ files. None
+
+    recovery-passed : {ended calm : Type 0} (more : List (List Edit)) (end : Ending) → Goes recovers Seizing (own es) (Ended end) → (ended → MetNoFault end) → (calm → MetNoFault end)
+        → Passed ended calm d more more 0 files owners es
+    recovery-passed more end goes fine calms =
+        let b : IsBracket actor token d None no_refusal (Ended end) es = record { job = recovery-is-job actor token fits; goes = goes; honest = honest; lawful = lawful } in
+        let never : (l : List Event) (now : State) → IsRun recovers d l now → decisions recovers d 0 l ≡ 0 = λ l now run. recovery-undecided actor token l now d run.goes in
+        let none = recovery-undecided actor token es (Ended end) d goes in
+        record {
+          covers = bracket-covered actor token None no_refusal d files owners s es (Ended end) b more (inr (never-undecided actor token None no_refusal d files owners s es (Ended end) b never));
+          leaves = λ e. not-decided actor token None no_refusal d more files owners es end s b (fine e) none;
+          count = decisions-same recovers [] es d 0 ∙ none;
+          fresh = λ c. nothing_left recovers d es end (calms c) (run-of actor token None no_refusal d (Ended end) es files owners s b);
+        }
+
+    recovery-answered : (a : RecoveryAnswer) (more : List (List Edit)) → IsRecoveryOf actor token (own es) (recovery_as a) → Passed (Unit {0}) (Unit {0}) d more more 0 files owners es
+    recovery-answered (recovery.Done f) more h = recovery-passed more (jobs.Recovered (found f)) h (λ e. tt) (λ c. tt)
+    recovery-answered (recovery.Busy name) more h = recovery-passed more (Refused (jobs.Busy name)) h.1 (λ e. tt) (λ c. tt)
+    recovery-answered recovery.NotARecord more h = recovery-passed more (Refused jobs.NotARecord) h (λ e. tt) (λ c. tt)
+    recovery-answered (recovery.TooLarge name n) more h = recovery-passed more (Refused (jobs.TooLarge name n)) h.1 (λ e. tt) (λ c. tt)
+
+    recovery-failed : (more : List (List Edit)) → IsRecoveryOf actor token (own es) (Err recover.Disk) → Passed ⊥ ⊥ d more more 0 files owners es
+    recovery-failed more h = recovery-passed more (Failed Before) h (λ never. absurd never) (λ never. absurd never)
+
+    recovery-short : (more : List (List Edit)) → IsRecoveryOf actor token (own es) (Err recover.Memory) → Passed ⊥ (Unit {0}) d more more 0 files owners es
+    recovery-short more (inl h) = recovery-passed more NoMemory h (λ e. tt) (λ c. tt)
+    recovery-short more (inr h) = recovery-passed more (Refused jobs.NotARecord) h (λ e. tt) (λ c. tt)
+
   module _ (fits : token < 2 ^ 64) where
     abbrev pub own_commit : List Change → List (List ℕ) → Commit
     own_commit cs base = record { actor = actor; token = token; changes = cs; base = base }
@@ -266,6 +308,9 @@ module _ (actor : List ℕ) (token : ℕ) where
     act-answered (Changes c) a d files owners es more by s honest lawful did =
         let P : Commit → Type 0 = λ c. Did (Changes c) a (own es) → Answered (Changes c) d files owners es more in
         subst P (sym (same-commit c by)) (λ h. commit-answered c.changes c.base d files owners es by.files s honest lawful a more h) did
+    act-answered (Recover b t) a d files owners es more by s honest lawful did =
+        let P : List ℕ → ℕ → Type 0 = λ b t. IsRecoveryOf b t (own es) (recovery_as a) in
+        recovery-answered d files owners es fits s honest lawful a more (subst (P actor) by.token_is (subst (λ (b : List ℕ). P b t) by.actor_is did))
 
     looks-cut : (calm : Type 0) (d : Disk) (files : Files) (owners : Locks) (es : List Event) (more : List (List Edit)) → Stands actor token d files owners → OthersAreLawful actor token d es → OnlyLooks (own es)
         → Passed ⊥ calm d more more 0 files owners es
@@ -298,6 +343,19 @@ module _ (actor : List ℕ) (token : ℕ) where
     commit-stopped c cause d files owners es more by s honest lawful (inl none) = cut-none c.changes c.base d files owners es fits by.files s honest lawful more none.1
     commit-stopped c cause d files owners es more by s honest lawful (inr part) = commit-cut-by c cause d files owners es more by s honest lawful part
 
+    recovery-cut-by : (cause : Stop) (d : Disk) (files : Files) (owners : Locks) (es : List Event) (more : List (List Edit)) → Stands actor token d files owners → Honest d es → OthersAreLawful actor token d es
+        → Partly (Recover actor token) cause (own es) → Passed ⊥ (calm_at cause) d more more 0 files owners es
+    recovery-cut-by stop.Disk d files owners es more s honest lawful h = recovery-failed d files owners es fits s honest lawful more h
+    recovery-cut-by stop.Memory d files owners es more s honest lawful h = recovery-short d files owners es fits s honest lawful more h
+    recovery-cut-by stop.Input d files owners es more s honest lawful never = absurd never
+    recovery-cut-by stop.Output d files owners es more s honest lawful never = absurd never
+    recovery-cut-by stop.TooMuch d files owners es more s honest lawful never = absurd never
+
+    recovery-stopped : (cause : Stop) (d : Disk) (files : Files) (owners : Locks) (es : List Event) (more : List (List Edit)) → Stands actor token d files owners → Honest d es → OthersAreLawful actor token d es
+        → IsCutSo (Recover actor token) cause (own es) → Passed ⊥ (calm_at cause) d more more 0 files owners es
+    recovery-stopped cause d files owners es more s honest lawful (inl none) = looks-cut (calm_at cause) d files owners es more s lawful (none-looks es none.1)
+    recovery-stopped cause d files owners es more s honest lawful (inr part) = recovery-cut-by cause d files owners es more s honest lawful part
+
     act-cut : (act : Act) (cause : Stop) (d : Disk) (files : Files) (owners : Locks) (es : List Event) (more : List (List Edit)) → OfCommit (IsBy actor token) act → Stands actor token d files owners → Honest d es → OthersAreLawful actor token d es
         → IsCutSo act cause (own es) → CutOff (calm_at cause) act d files owners es more
     act-cut (Line i) cause d files owners es more by s honest lawful how = looks-cut (calm_at cause) d files owners es more s lawful (cut-looks (Line i) cause (own es) refl how)
@@ -308,6 +366,9 @@ module _ (actor : List ℕ) (token : ℕ) where
     act-cut (Changes c) cause d files owners es more by s honest lawful how =
         let P : Commit → Type 0 = λ c. IsCutSo (Changes c) cause (own es) → CutOff (calm_at cause) (Changes c) d files owners es more in
         subst P (sym (same-commit c by)) (λ h. commit-stopped c cause d files owners es more by s honest lawful h) how
+    act-cut (Recover b t) cause d files owners es more by s honest lawful how =
+        let P : List ℕ → ℕ → Type 0 = λ b t. IsCutSo (Recover b t) cause (own es) in
+        recovery-stopped cause d files owners es more s honest lawful (subst (P actor) by.token_is (subst (λ (b : List ℕ). P b t) by.actor_is how))
 
     -- the edits of what was accepted first stand first
     queue-behind : (first : List Commit) (later : Commits) (more : List (List Edit)) → queue_of first ++ (queue later ++ more) ≡ queue (behind first later) ++ more

@@ -21,7 +21,7 @@ job_of c = job_for c.actor c.token c.changes c.base
 abbrev pub decided_in : Commit → Disk → List Event → ℕ
 decided_in c d es = decisions (job_of c) d 0 es
 
--- the commit that an act makes, where it is decided in the act's events
+-- the commit that an act makes, where it is decided in the act's events; a recovery makes none
 abbrev pub accepted_by : Act → Disk → List Event → List Commit
 accepted_by (Changes c) d es = if decided_in c d es == 0 then [] else c ∷ []
 accepted_by act d es = []

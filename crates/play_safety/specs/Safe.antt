@@ -21,9 +21,9 @@ use Rattle.commit_machine.specs.Rows.{first_job, run_files, IsRunDue}
 use Rattle.folder_commit.specs.Plans.{AreFiles}
 use Rattle.session_play.specs.declared.stop.Stop.{Stop}
 use Rattle.session_play.specs.declared.stop.Stop.TheVariants as stop
-use Rattle.session_play.specs.Committing.{Commit}
+use Rattle.session_play.specs.Committing.{Commit, wanted_of}
 use Rattle.session_play.specs.declared.changing.Committed.TheVariants as committed
-use Rattle.session_play.specs.Play.{Act, Answer, Changes, Play, Ret, Ask, Did, Goes, Next, Go, Last}
+use Rattle.session_play.specs.Play.{Act, Answer, Changes, Recover, Play, Ret, Ask, Did, Goes, Next, Go, Last}
 use Rattle.play_safety.specs.Passes.{decided_in, Commits, Passes}
 
 -- a commit of this actor under this token, of files that it may change
@@ -37,12 +37,13 @@ abbrev pub is_output : Event → Bool
 is_output (event.Out bytes failed) = true
 is_output e = false
 
--- each commit of an act is such
+-- each commit of an act is such; a recovery counts as a commit without changes
 abbrev pub OfCommit : (Commit → Type 0) → Act → Type 0
 OfCommit P (Changes c) = P c
+OfCommit P (Recover actor token) = P (wanted_of actor token [] [])
 OfCommit P act = Unit {0}
 
--- each commit of a play is such
+-- each commit and each recovery of a play is such
 abbrev pub EachCommit : {R : Type 0} → (Commit → Type 0) → Play R → Type 0
 EachCommit P (Ret r) = Unit {0}
 EachCommit P (Ask act go) = OfCommit P act × ((answer : Answer act) → EachCommit P (go answer))
@@ -86,7 +87,7 @@ pub record IsCrashSafe {R : Type 0} (actor : List ℕ) (token : ℕ) (d : Disk) 
   pub files : standing actor (disk d es) ≡ None → (n : List ℕ) → is_record_name actor n ≡ false
       → (disk d es).files n ≡ run_files actor token d (queue commits) (settled_files actor d) es n
 
--- Plays whose commits are all of this actor and token are safe.
+-- Plays whose commits and recoveries are all of this actor and token are safe.
 abbrev pub PlaysAreSafe : Type 0
 PlaysAreSafe = (p : Play (Unit {0})) (actor : List ℕ) (token : ℕ) (d : Disk) (es : List Event) (commits : Commits) (out : Result Unit Stop)
     → EachCommit (IsBy actor token) p → MayRun actor token d es → Passes p d es commits out

@@ -1,8 +1,8 @@
 ghost use Rattle.play_safety.specs.Safe.{PlaysAreSafe, TracesAreRead, DoneIsDecided};
 
-/// The trace of a play whose commits are all of one actor and one token, from a disk that is sound and carries nothing
-/// of the token, among lawful steps of others: at each moment and at each disk that a stop leaves, what recovery would
-/// make of the files is what the accepted commits give, each from its decision on.
+/// The trace of a play whose commits and recoveries are all of one actor and one token, from a disk that is sound and
+/// carries nothing of the token, among lawful steps of others: at each moment and at each disk that a stop leaves, what
+/// recovery would make of the files is what the accepted commits give, each from its decision on.
 pub fn plays_are_safe()
     ensures { PlaysAreSafe }
 {}

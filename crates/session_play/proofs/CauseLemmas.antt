@@ -11,7 +11,7 @@ use Rattle.session_play.specs.declared.act.Found.TheVariants as found
 use Rattle.session_play.specs.declared.stop.Stop.{Stop}
 use Rattle.session_play.specs.declared.stop.Stop.TheVariants as stop
 use Rattle.session_play.specs.Input.{Input, input_limit, first_line, last_line, next_of, next_line, took, Reads}
-use Rattle.session_play.specs.Play.{Act, Answer, Line, Say, Read, Try, Changes, Know, Play, Ret, Ask, Says, SaysInPart, seen_of, seen_at, Did, Partly, Goes, Next, Go, Last, Loop, again, last, cut}
+use Rattle.session_play.specs.Play.{Act, Answer, Line, Say, Read, Try, Changes, Recover, Know, Play, Ret, Ask, Says, SaysInPart, seen_of, seen_at, Did, Partly, Goes, Next, Go, Last, Loop, again, last, cut}
 use Rattle.session_play.specs.Acts.{AllActs, TakesFrom, input_after, Threads, may_load}
 use Rattle.session_play.specs.Causes.{some_in_failed, some_out_failed, some_load_saw, is_failed, bytes_in, counted, events_at, of_commit, commits_of, commits_in, IsExplained, NextFrom}
 use Rattle.std.specs.List.{list_any}
@@ -19,7 +19,10 @@ use Rattle.std.specs.Prelude.{◌||◌}
 use Rattle.commit_machine.specs.Restraints as calls
 use Rattle.folder_commit.specs.declared.error.CommitError.TheVariants as error
 use Rattle.session_play.proofs.CommitLemmas.{HasNoStreams, commit-streams, commit-failed, answer-fine}
+use Rattle.folder_recovery.specs.declared.error.RecoverError.TheVariants as recover
+use Rattle.session_play.proofs.RecoveryLemmas.{recovery-streams, recovery-fine, recovery-failed, recovery-short}
 use Rattle.session_play.specs.Committing.{answer_as}
+use Rattle.session_play.specs.Recovering.{recovery_as}
 use Rattle.session_play.proofs.SawLemmas.{saw-append, Unseen, unseen-none, unseen-did, unseen-cut}
 
 abbrev is_in : Stop → Bool
@@ -163,6 +166,11 @@ cut-by (Changes c) stop.Memory es i le same h = let s = commit-streams c es _ h 
 cut-by (Changes c) stop.Input es i le same never = absurd never
 cut-by (Changes c) stop.Output es i le same never = absurd never
 cut-by (Changes c) stop.TooMuch es i le same never = absurd never
+cut-by (Recover actor token) stop.Disk es i le same h = let s = recovery-streams actor token es (Err recover.Disk) h in streams-cut stop.Disk es i refl refl (let b = s.bytes in omega (arith, b)) s
+cut-by (Recover actor token) stop.Memory es i le same h = let s = recovery-streams actor token es (Err recover.Memory) h in streams-cut stop.Memory es i refl refl (let b = s.bytes in omega (arith, b)) s
+cut-by (Recover actor token) stop.Input es i le same never = absurd never
+cut-by (Recover actor token) stop.Output es i le same never = absurd never
+cut-by (Recover actor token) stop.TooMuch es i le same never = absurd never
 cut-by (Know texts) cause es i le same never = absurd never
 
 some-same : {A : Type 0} {a b : A} → Some a ≡ Some b → a ≡ b
@@ -206,6 +214,7 @@ did-clean (Say bytes) u es i le same did = says-clean bytes es i le did
 did-clean (Read name) f es i le same did = load-clean name (Some f) es i le did
 did-clean (Try name) f es i le same did = load-clean name f es i le did
 did-clean (Changes c) a es i le same did = streams-clean es i le (commit-streams c es (answer_as a) did)
+did-clean (Recover actor token) a es i le same did = streams-clean es i le (recovery-streams actor token es (recovery_as a) did)
 did-clean (Know texts) rows es i le same did = none-clean es i le did.0
 
 -- a play that came to its end is clean
@@ -241,8 +250,8 @@ abbrev is_disk_cut : {R : Type 0} → Result R Stop → Bool
 is_disk_cut (Err cause) = is_disk cause
 is_disk_cut (Ok r) = false
 
--- where failed loads cut, the events have one exactly where there is such a cut, and there are no commits; elsewhere a call of a commit failed
--- exactly there
+-- where failed loads cut, the events have one exactly where there is such a cut, and there are no commits; elsewhere a call of a commit or of a
+-- recovery failed exactly there
 abbrev Loads : Bool → Bool → List Event → List Event → Type 0
 Loads true is_cut es commits = (some_load_saw is_failed es ≡ is_cut) × (commits ≡ [])
 Loads false is_cut es commits = list_any calls.is_failed commits ≡ is_cut
@@ -258,6 +267,7 @@ load-found name (found.TooLarge n) = refl
 
 did-quiet : (b : Bool) (act : Act) (a : Answer act) (es : List Event) → may_load b act ≡ true → Did act a es → Quiet b es (of_commit act es)
 did-quiet false (Changes c) a es may did = commit-failed c es (answer_as a) did ∙ answer-fine a
+did-quiet false (Recover actor token) a es may did = recovery-fine actor token a es did
 did-quiet false (Line i) a es may did = refl
 did-quiet false (Say bytes) u es may did = refl
 did-quiet false (Read name) f es may did = refl
@@ -268,6 +278,7 @@ did-quiet true (Say bytes) u es may did = (unseen-did is_failed (Say bytes) u es
 did-quiet true (Read name) f es may did = (subst (Unseen is_failed) (sym did) (load-found name f), refl)
 did-quiet true (Try name) f es may did = absurd (cc may)
 did-quiet true (Changes c) a es may did = absurd (cc may)
+did-quiet true (Recover actor token) a es may did = absurd (cc may)
 did-quiet true (Know texts) rows es may did = (unseen-did is_failed (Know texts) rows es refl did, refl)
 
 cut-loads : (b : Bool) (act : Act) (cause : Stop) (es : List Event) → may_load b act ≡ true → Partly act cause es → Loads b (is_disk cause) es (of_commit act es)
@@ -305,6 +316,12 @@ cut-loads false (Changes c) stop.Memory es may h = commit-failed c es (Err error
 cut-loads false (Changes c) stop.Input es may never = absurd never
 cut-loads false (Changes c) stop.Output es may never = absurd never
 cut-loads false (Changes c) stop.TooMuch es may never = absurd never
+cut-loads true (Recover actor token) cause es may part = absurd (cc may)
+cut-loads false (Recover actor token) stop.Disk es may h = recovery-failed actor token es h
+cut-loads false (Recover actor token) stop.Memory es may h = recovery-short actor token es h
+cut-loads false (Recover actor token) stop.Input es may never = absurd never
+cut-loads false (Recover actor token) stop.Output es may never = absurd never
+cut-loads false (Recover actor token) stop.TooMuch es may never = absurd never
 cut-loads b (Know texts) cause es may never = absurd never
 
 loads-none : (b is_cut : Bool) (es commits : List Event) → is_cut ≡ false → es ≡ [] → commits ≡ [] → Loads b is_cut es commits
@@ -325,6 +342,7 @@ loads-then false is_cut front rest first later quiet more = failed-append first 
 
 of-none : (act : Act) (es : List Event) → es ≡ [] → of_commit act es ≡ []
 of-none (Changes c) es is = is
+of-none (Recover actor token) es is = is
 of-none (Line i) es is = refl
 of-none (Say bytes) es is = refl
 of-none (Read name) es is = refl

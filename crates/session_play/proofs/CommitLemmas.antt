@@ -1,5 +1,5 @@
 -- A commit carries out its act, and neither takes input nor says anything.
-use Rattle.std.proofs.Common.{◌≡◌, ◌⊎◌, ℕ, false, List, [], ◌∷◌, ◌++◌, refl, sym, subst, inl, inr, ap, ◌∙◌}
+use Rattle.std.proofs.Common.{◌≡◌, ℕ, false, List, [], ◌∷◌, refl, sym, subst, inl, inr, ap, ◌∙◌}
 use Rattle.std.proofs.lemmas.List.{append-nil}
 use Rattle.std.specs.Prelude.{IfErr}
 use Rattle.session_play.specs.Cuts.{IsLoadCut}
@@ -114,7 +114,7 @@ next-streams : (o : Option Call) (e : Event) (es : List Event) → IsNext o e �
 next-streams None e es never h = absurd never
 next-streams (Some c) e es of h = call-streams c e es of h
 
-machine-streams : (j : Job) (s : State) (es : List Event) (last : State) → machine.Goes j s es last → HasNoStreams es
+pub machine-streams : (j : Job) (s : State) (es : List Event) (last : State) → machine.Goes j s es last → HasNoStreams es
 machine-streams j s [] last g = no-streams
 machine-streams j s (e ∷ es) last g = next-streams (next j g.0) e es g.2 (machine-streams j (after_reply j g.0 (reply e)) es last g.3)
 

@@ -1,5 +1,5 @@
 -- One fill takes input, and a line is taken by fills.
-use Rattle.std.proofs.Common.{◌≡◌, ℕ, zero, suc, ◌+◌, ◌-◌, ◌<◌, ◌≤◌, Bool, true, false, List, [], ◌∷◌, ◌++◌, refl, sym, ◌∙◌, ap, subst, inl, inr, take, length, length-append, arith, append_assoc}
+use Rattle.std.proofs.Common.{◌≡◌, ℕ, ◌+◌, ◌<◌, ◌≤◌, Bool, true, false, List, [], ◌∷◌, ◌++◌, refl, sym, ◌∙◌, ap, subst, inl, inr, take, length, length-append, arith, append_assoc}
 use Rattle.std.proofs.lemmas.List.{length-take-le, append-nil}
 use Rattle.std.specs.declared.option.Option.{Option}
 use Rattle.std.specs.declared.option.Option.TheVariants.{Some, None}
@@ -14,7 +14,7 @@ use Rattle.host_port.specs.Calls.{Counts}
 use Rattle.std.specs.Prelude.{◌⊎◌, OnOk}
 use Rattle.session_play.specs.declared.stop.Stop.{Stop}
 use Rattle.session_play.specs.declared.stop.Stop.TheVariants as stop
-use Rattle.session_play.specs.Input.{Input, input_limit, buffer_size, first_line, next_line, next_of, took, is_empty, left, Reads}
+use Rattle.session_play.specs.Input.{Input, input_limit, buffer_size, first_line, next_line, next_of, took, left, Reads}
 use Rattle.session_play.specs.Feeds.{TookIn}
 use Rattle.session_play.specs.Play.{Ask, Ret, Line, Goes, Caused, Partly, ReadsShort, TookSome, with_input}
 

@@ -1,5 +1,6 @@
 pub mod PlayLemmas
 pub mod CommitLemmas
+pub mod RecoveryLemmas
 pub mod ActLemmas
 pub mod InputLemmas
 pub mod LoopLemmas

@@ -1,11 +1,10 @@
 -- The events of plays of neutral acts change no disk.
 use Rattle.std.proofs.Common.{◌≡◌, ℕ, true, false, List, [], ◌∷◌, ◌++◌, refl, sym, ◌∙◌, ap, subst, inl, inr}
-use Rattle.std.specs.declared.option.Option.{Option}
 use Rattle.std.specs.declared.option.Option.TheVariants.{Some}
 use Rattle.std.specs.declared.result.Result.{Result}
 use Rattle.host_port.specs.declared.event.Event.{Event}
 use Rattle.host_port.specs.declared.event.Event.TheVariants as event
-use Rattle.host_port.specs.Disk.{Disk, disk}
+use Rattle.host_port.specs.Disk.{disk}
 use Rattle.host_port.specs.Calls.{World}
 use Rattle.host_port.specs.Own.{own, of_others, OnlyLooks}
 use Rattle.host_port.specs.Ran.{Ran}
@@ -15,7 +14,7 @@ use Rattle.session_play.specs.declared.stop.Stop.{Stop}
 use Rattle.session_play.specs.declared.stop.Stop.TheVariants as stop
 use Rattle.session_play.specs.Input.{Input, took, Reads}
 use Rattle.session_play.specs.Acts.{is_neutral, AllActs}
-use Rattle.session_play.specs.Play.{Act, Answer, Line, Say, Read, Try, Changes, Know, Play, Ret, Ask, Says, SaysInPart, Did, Partly, Goes, Next, Loop, again, last, cut}
+use Rattle.session_play.specs.Play.{Act, Answer, Line, Say, Read, Try, Changes, Recover, Know, Play, Ret, Ask, Says, SaysInPart, Did, Partly, Goes, Next, Loop, again, last, cut}
 
 looks-then : (es fs : List Event) → OnlyLooks es → OnlyLooks fs → OnlyLooks (es ++ fs)
 looks-then [] fs x y = y
@@ -59,6 +58,7 @@ neutral-did (Say bytes) u es neutral did = looks-says bytes es did
 neutral-did (Read name) f es neutral did = subst OnlyLooks (sym did) (refl, tt)
 neutral-did (Try name) f es neutral did = subst OnlyLooks (sym did) (refl, tt)
 neutral-did (Changes c) a es neutral did = absurd (cc neutral)
+neutral-did (Recover actor token) a es neutral did = absurd (cc neutral)
 neutral-did (Know texts) rows es neutral did = looks-none es did.0
 
 -- where it is cut off, too
@@ -80,6 +80,7 @@ neutral-part (Try name) stop.Input es neutral never = absurd never
 neutral-part (Try name) stop.Output es neutral never = absurd never
 neutral-part (Try name) stop.TooMuch es neutral never = absurd never
 neutral-part (Changes c) cause es neutral part = absurd (cc neutral)
+neutral-part (Recover actor token) cause es neutral part = absurd (cc neutral)
 neutral-part (Know texts) cause es neutral never = absurd never
 
 goes-looks : {R : Type 0} (p : Play R) (es : List Event) (out : Result R Stop) → AllActs is_neutral p → Goes p es out → OnlyLooks es

@@ -6,7 +6,7 @@ use Rattle.host_port.specs.declared.event.Event.{Event}
 use Rattle.session_play.specs.declared.stop.Stop.{Stop}
 use Rattle.session_play.specs.Input.{Input}
 use Rattle.session_play.specs.Acts.{AllActs, AllEnds, Threads, is_neutral, loads_nothing, may_load, input_after}
-use Rattle.session_play.specs.Play.{Act, Line, Say, Read, Try, Changes, Know, Play, Ret, Ask, Goes, bind}
+use Rattle.session_play.specs.Play.{Act, Line, Say, Read, Try, Changes, Recover, Know, Play, Ret, Ask, Goes, bind}
 
 abbrev pub came : {R : Type 0} → R → Result R Stop
 came r = Ok r
@@ -51,6 +51,7 @@ may-all false (Know texts) l = refl
 may-all b (Read name) l = absurd (cc l)
 may-all b (Try name) l = absurd (cc l)
 may-all b (Changes c) l = absurd (cc l)
+may-all b (Recover actor token) l = absurd (cc l)
 
 -- where a failed load cuts the run off each act is neutral
 pub may-neutral : (act : Act) → may_load true act ≡ true → is_neutral act ≡ true
@@ -59,6 +60,7 @@ may-neutral (Say bytes) l = refl
 may-neutral (Read name) l = refl
 may-neutral (Try name) l = refl
 may-neutral (Changes c) l = absurd (cc l)
+may-neutral (Recover actor token) l = absurd (cc l)
 may-neutral (Know texts) l = refl
 
 -- an act that loads nothing is neutral
@@ -68,4 +70,5 @@ silent-neutral (Say bytes) l = refl
 silent-neutral (Read name) l = refl
 silent-neutral (Try name) l = refl
 silent-neutral (Changes c) l = absurd (cc l)
+silent-neutral (Recover actor token) l = absurd (cc l)
 silent-neutral (Know texts) l = refl

@@ -1,11 +1,12 @@
 -- Tests on acts, and the plays all of whose acts pass one.
 use Rattle.std.specs.Prelude.{◌≡◌, Bool, true, false}
 use Rattle.session_play.specs.Input.{Input}
-use Rattle.session_play.specs.Play.{Act, Answer, Line, Read, Try, Changes, Play, Ret, Ask}
+use Rattle.session_play.specs.Play.{Act, Answer, Line, Read, Try, Changes, Recover, Play, Ret, Ask}
 
 -- the act changes no file, lock or right
 abbrev pub is_neutral : Act → Bool
 is_neutral (Changes c) = false
+is_neutral (Recover actor token) = false
 is_neutral act = true
 
 -- the act loads nothing
@@ -13,12 +14,14 @@ abbrev pub loads_nothing : Act → Bool
 loads_nothing (Read name) = false
 loads_nothing (Try name) = false
 loads_nothing (Changes c) = false
+loads_nothing (Recover actor token) = false
 loads_nothing act = true
 
--- Where a failed load cuts the run off, none is only tried, and nothing is committed; elsewhere each load is only tried.
+-- Where a failed load cuts the run off, none is only tried, and nothing is committed or recovered; elsewhere each load is only tried.
 abbrev pub may_load : Bool → Act → Bool
 may_load true (Try name) = false
 may_load true (Changes c) = false
+may_load true (Recover actor token) = false
 may_load false (Read name) = false
 may_load cuts act = true
 

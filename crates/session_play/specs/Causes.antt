@@ -12,7 +12,7 @@ use Rattle.session_play.specs.declared.stop.Stop.TheVariants as stop
 use Rattle.session_play.specs.Input.{Input, input_limit}
 use Rattle.commit_machine.specs.Restraints as calls
 use Rattle.std.specs.List.{list_any}
-use Rattle.session_play.specs.Play.{Act, Changes, Play, Ret, Ask, Goes, Next, Go, Last, Loop, again, last, cut}
+use Rattle.session_play.specs.Play.{Act, Changes, Recover, Play, Ret, Ask, Goes, Next, Go, Last, Loop, again, last, cut}
 
 -- some taking of input failed
 abbrev pub some_in_failed : List Event → Bool
@@ -55,25 +55,26 @@ events_at test (again {x = x} front rest is goes more) = counted (test x) front 
 events_at test (last {x = x} {es = es} goes) = counted (test x) es
 events_at test (cut {x = x} {es = es} goes) = counted (test x) es
 
--- the events of an act that commits; of others none
+-- the events of an act that commits or recovers; of others none
 abbrev pub of_commit : Act → List Event → List Event
 of_commit (Changes c) es = es
+of_commit (Recover actor token) es = es
 of_commit act es = []
 
--- the own events of a play's commits
+-- the own events of a play's commits and recoveries
 abbrev pub commits_of : {R : Type 0} (p : Play R) (es : List Event) (out : Result R Stop) → Goes p es out → List Event
 commits_of (Ret r) es out g = []
 commits_of (Ask act go) es out (inl (answer, front, rest, is, did, goes)) = of_commit act front ++ commits_of (go answer) rest out goes
 commits_of (Ask act go) es out (inr (cause, is, how)) = of_commit act es
 
--- the own events of the commits of a loop
+-- the own events of the commits and recoveries of a loop
 abbrev pub commits_in : {X R : Type 0} {round : X → Play (Next X R)} {x : X} {es : List Event} {out : Result R Stop} → Loop round x es out → List Event
 commits_in {round = round} (again {x = x} {y = y} front rest is goes more) = commits_of (round x) front (Ok (Go y)) goes ++ commits_in more
 commits_in {round = round} (last {x = x} {es = es} {r = r} goes) = commits_of (round x) es (Ok (Last r)) goes
 commits_in {round = round} (cut {x = x} {es = es} {cause = cause} goes) = commits_of (round x) es (Err cause) goes
 
 -- Each cut but the one for want of memory comes exactly with its events: a fault of the disk with a failed load among `loads`, or with a call
--- that failed among the events of commits.
+-- that failed among the events of commits and recoveries.
 pub record IsExplained {R : Type 0} (out : Result R Stop) (es loads commits : List Event) : Type 0 where
   pub input : (out ≡ Err stop.Input) ↔ (some_in_failed es ≡ true)
   pub output : (out ≡ Err stop.Output) ↔ (some_out_failed es ≡ true)

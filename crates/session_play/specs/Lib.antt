@@ -1,6 +1,7 @@
 pub mod Input
 pub mod Knowing
 pub mod Committing
+pub mod Recovering
 pub mod Play
 pub mod Steps
 pub mod Acts

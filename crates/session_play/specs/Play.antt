@@ -12,8 +12,11 @@ use Rattle.host_port.specs.Calls.{Counts, Rose}
 use Rattle.message_state.specs.declared.row.Row.{Row}
 use Rattle.folder_commit.specs.declared.error.CommitError.TheVariants as error
 use Rattle.session_play.specs.Knowing.{AreRows}
+use Rattle.folder_recovery.specs.declared.error.RecoverError.TheVariants as recover
 use Rattle.session_play.specs.Committing.{Commit, answer_as, IsCommitOf, FailsIn}
+use Rattle.session_play.specs.Recovering.{recovery_as, IsRecoveryOf}
 use Rattle.session_play.specs.declared.changing.Committed.{Committed}
+use Rattle.session_play.specs.declared.recovering.RecoveryAnswer.{RecoveryAnswer}
 use Rattle.session_play.specs.declared.act.Found.{Found}
 use Rattle.session_play.specs.declared.act.Found.TheVariants as found
 use Rattle.session_play.specs.declared.stop.Stop.{Stop}
@@ -21,24 +24,26 @@ use Rattle.session_play.specs.declared.stop.Stop.TheVariants as stop
 use Rattle.session_play.specs.Input.{Input, input_limit, buffer_size, next_line, Reads}
 
 -- What a run asks: the next line of its input; to say bytes; to load a file, where a failure cuts the run off; to try to load one, where a
--- failure is an answer; to commit changes of files, where a fault of the disk cuts the run off; and the rows of some texts, which it finds
--- without the outside.
+-- failure is an answer; to commit changes of files, where a fault of the disk cuts the run off; to recover what a stopped commit of an actor has
+-- left, where such a fault does so too; and the rows of some texts, which it finds without the outside.
 pub data Act : Type 0 where
   Line : Input → Act
   Say : List ℕ → Act
   Read : List ℕ → Act
   Try : List ℕ → Act
   Changes : Commit → Act
+  Recover : List ℕ → ℕ → Act
   Know : List (List ℕ) → Act
 
 -- what it is answered: the line, or none at the end, with the input that is left; nothing; what the load found; the same, or none where the
--- load failed; what the commit answers; the rows
+-- load failed; what the commit answers; what the recovery answers; the rows
 abbrev pub Answer : Act → Type 0
 Answer (Line i) = Option (List ℕ) × Input
 Answer (Say bytes) = Unit {0}
 Answer (Read name) = Found
 Answer (Try name) = Option Found
 Answer (Changes c) = Committed
+Answer (Recover actor token) = RecoveryAnswer
 Answer (Know texts) = List Row
 
 -- acts, each followed by what its answer calls for, to a result
@@ -81,6 +86,7 @@ Did (Say bytes) u es = Says bytes es
 Did (Read name) f es = es ≡ event.Load name (seen_of f) ∷ []
 Did (Try name) f es = es ≡ event.Load name (seen_at f) ∷ []
 Did (Changes c) a es = IsCommitOf c es (answer_as a)
+Did (Recover actor token) a es = IsRecoveryOf actor token es (recovery_as a)
 Did (Know texts) rows es = (es ≡ []) × AreRows texts rows
 
 -- bytes that fit the buffer and pass the limit
@@ -104,6 +110,8 @@ Partly (Read name) stop.Memory es = es ≡ event.Load name seen.Memory ∷ []
 Partly (Try name) stop.Memory es = es ≡ event.Load name seen.Memory ∷ []
 Partly (Changes c) stop.Disk es = FailsIn c es
 Partly (Changes c) stop.Memory es = IsCommitOf c es (Err error.Memory)
+Partly (Recover actor token) stop.Disk es = IsRecoveryOf actor token es (Err recover.Disk)
+Partly (Recover actor token) stop.Memory es = IsRecoveryOf actor token es (Err recover.Memory)
 Partly act cause es = ⊥
 
 -- The events are those of the play, to its end or to where it was cut off. Want of memory may come at any place.

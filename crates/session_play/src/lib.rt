@@ -4,9 +4,11 @@
 mod act;
 mod changing;
 mod reader;
+mod recovering;
 mod stop;
 
 pub use act::{Found, load, say, try_load};
 pub use changing::{Committed, change};
 pub use reader::Reader;
+pub use recovering::{RecoveryAnswer, recovery};
 pub use stop::Stop;

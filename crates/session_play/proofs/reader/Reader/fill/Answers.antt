@@ -1,4 +1,4 @@
-use Rattle.std.proofs.Common.{ap, ◌∙◌, arith, rules}
+use Rattle.std.proofs.Common.{ap, arith, rules}
 use Rattle.host_port.proofs.RanLemmas.{called}
 use Rattle.session_play.specs.Input.{Input}
 use Rattle.session_play.proofs.InputLemmas.{filled, filled-err, still_open, in-cause, in-ok, in-more, in-left}

@@ -1,0 +1,71 @@
+-- A recovery carries out its act, and neither takes input nor says anything.
+use Rattle.std.proofs.Common.{◌≡◌, ℕ, true, false, List, [], refl, sym, inl, inr}
+use Rattle.std.proofs.lemmas.List.{append-nil}
+use Rattle.std.specs.List.{list_any}
+use Rattle.std.specs.Prelude.{IfErr}
+use Rattle.std.specs.declared.result.Result.{Result}
+use Rattle.std.specs.declared.result.Result.TheVariants.{Ok, Err}
+use Rattle.host_port.specs.declared.event.Event.{Event}
+use Rattle.host_port.specs.Calls.{Counts}
+use Rattle.commit_machine.specs.Jobs.{Before, Ending, Refused, Failed, NoMemory}
+use Rattle.commit_machine.specs.Jobs as jobs
+use Rattle.commit_machine.specs.Machine.{Seizing, Ended}
+use Rattle.commit_machine.specs.Edits.{recovery_for}
+use Rattle.commit_machine.specs.Restraints.{is_failed}
+use Rattle.commit_driver.specs.declared.step.Recovered.{Recovered}
+use Rattle.folder_commit.proofs.ToldLemmas.{failed-told}
+use Rattle.folder_recovery.specs.declared.error.RecoverError.{RecoverError}
+use Rattle.folder_recovery.specs.declared.error.RecoverError.TheVariants as error
+use Rattle.folder_recovery.specs.Recovering.{found, RecoverCause}
+use Rattle.folder_recovery.proofs.SafeLemmas.{ends-somewhere}
+use Rattle.session_play.specs.Cuts.{IsLoadCut}
+use Rattle.session_play.specs.declared.recovering.RecoveryAnswer.{RecoveryAnswer}
+use Rattle.session_play.specs.declared.recovering.RecoveryAnswer.TheVariants as recovery
+use Rattle.session_play.specs.declared.stop.Stop.TheVariants as stop
+use Rattle.session_play.specs.Recovering.{recovery_as, recovered, IsRecoveryOf}
+use Rattle.session_play.specs.Play.{Ask, Ret, Recover, Goes, Caused}
+use Rattle.session_play.proofs.CommitLemmas.{HasNoStreams, machine-streams}
+
+module _ (actor : List ℕ) (token : ℕ) where
+  pub recovery-goes : (result : Result Recovered RecoverError) (es : List Event) → IsRecoveryOf actor token es result → Goes {R = RecoveryAnswer} (Ask (Recover actor token) Ret) es (recovered result)
+  recovery-goes (Ok f) es h = inl (recovery.Done f, es, [], sym (append-nil es), h, (refl, inl refl))
+  recovery-goes (Err (error.Busy name)) es h = inl (recovery.Busy name, es, [], sym (append-nil es), h, (refl, inl refl))
+  recovery-goes (Err error.NotARecord) es h = inl (recovery.NotARecord, es, [], sym (append-nil es), h, (refl, inl refl))
+  recovery-goes (Err (error.TooLarge name n)) es h = inl (recovery.TooLarge name n, es, [], sym (append-nil es), h, (refl, inl refl))
+  recovery-goes (Err error.Disk) es h = inr (stop.Disk, refl, inr h)
+  recovery-goes (Err error.Memory) es h = inr (stop.Memory, refl, inr h)
+
+  -- a call failed in the events exactly where the end says so
+  pub recovery-fine : (a : RecoveryAnswer) (es : List Event) → IsRecoveryOf actor token es (recovery_as a) → list_any is_failed es ≡ false
+  recovery-fine (recovery.Done f) es h = sym (failed-told (recovery_for actor token) es (jobs.Recovered (found f)) h)
+  recovery-fine (recovery.Busy name) es h = sym (failed-told (recovery_for actor token) es (Refused (jobs.Busy name)) h.1)
+  recovery-fine recovery.NotARecord es h = sym (failed-told (recovery_for actor token) es (Refused jobs.NotARecord) h)
+  recovery-fine (recovery.TooLarge name n) es h = sym (failed-told (recovery_for actor token) es (Refused (jobs.TooLarge name n)) h.1)
+
+  pub recovery-failed : (es : List Event) → IsRecoveryOf actor token es (Err error.Disk) → list_any is_failed es ≡ true
+  recovery-failed es h = sym (failed-told (recovery_for actor token) es (Failed Before) h)
+
+  pub recovery-short : (es : List Event) → IsRecoveryOf actor token es (Err error.Memory) → list_any is_failed es ≡ false
+  recovery-short es (inl h) = sym (failed-told (recovery_for actor token) es NoMemory h)
+  recovery-short es (inr h) = sym (failed-told (recovery_for actor token) es (Refused jobs.NotARecord) h)
+
+  -- the own events of a recovery
+  pub recovery-streams : (es : List Event) (result : Result Recovered RecoverError) → IsRecoveryOf actor token es result → HasNoStreams es
+  recovery-streams es result h = let w = ends-somewhere (recovery_for actor token) es result h in machine-streams (recovery_for actor token) Seizing es (Ended w.0) w.1
+
+pub recovery-caused : (old now : Counts) (result : Result Recovered RecoverError) → RecoverCause old now result → Caused old now (recovered result)
+recovery-caused old now (Ok f) h = tt
+recovery-caused old now (Err (error.Busy name)) h = tt
+recovery-caused old now (Err error.NotARecord) h = tt
+recovery-caused old now (Err (error.TooLarge name n)) h = tt
+recovery-caused old now (Err error.Disk) h = h
+recovery-caused old now (Err error.Memory) h = tt
+
+-- a fault of the disk and want of memory alone cut off
+pub recovery-cut : (result : Result Recovered RecoverError) → IfErr (recovered result) IsLoadCut
+recovery-cut (Ok f) = tt
+recovery-cut (Err (error.Busy name)) = tt
+recovery-cut (Err error.NotARecord) = tt
+recovery-cut (Err (error.TooLarge name n)) = tt
+recovery-cut (Err error.Disk) = tt
+recovery-cut (Err error.Memory) = tt
