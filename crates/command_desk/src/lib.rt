@@ -5,6 +5,7 @@
 mod desk;
 mod effects;
 mod faults;
+mod file_names;
 mod messages;
 mod selecting;
 mod steps;
@@ -12,6 +13,7 @@ mod steps;
 pub use desk::{Desk, Open};
 pub use effects::{Effects, Marking, act_on, markings, moved, unchanged, written};
 pub use faults::fault;
+pub use file_names::expanded;
 pub use messages::{message, printed, put_heading, put_printed};
 pub use selecting::{Among, chosen, last_message, single};
 pub use steps::{Ask, Refusal, Steps, quietly, says};

@@ -14,6 +14,8 @@ pub enum Ask {
     Say(Text),
     /// This change of a file is committed. Its name may be one that no file can have.
     Save { change: Change },
+    /// The lines of the file of this name are carried out then. Its name may be one that no file can have.
+    Source { name: Text },
     /// The run ends without changes.
     Exit,
 }

@@ -2,12 +2,8 @@
 use Rattle.std.specs.Prelude.{ℕ, Bool, not, ◌&&◌, ◌==◌, ◌-◌, nat_lt, List, [], ◌∷◌, length, take, slice_get, codes, unwrap_or, if◌then◌else◌}
 use Rattle.std.specs.List.{list_any}
 use Rattle.std.specs.Option.{option_map_or}
-use Rattle.std.specs.declared.result.Result.{Result}
 use Rattle.std.specs.declared.result.Result.TheVariants.{Ok, Err}
 use Rattle.mail_text.specs.Lines.{with_feed}
-use Rattle.mailx_vars.specs.Expansion.{expansion}
-use Rattle.mailx_vars.specs.declared.error.NameError.{NameError}
-use Rattle.mailx_vars.specs.declared.error.NameError.TheVariants.{NoPrevious, NoFolder, Memory}
 use Rattle.message_list.specs.LocalParts.{local_part}
 use Rattle.command_desk.specs.declared.desk.Desk.{Desk}
 use Rattle.command_desk.specs.Answers.{OrFault}
@@ -21,28 +17,8 @@ list_words words = take (length words - 1) words
 abbrev pub file_word : List (List ℕ) → List ℕ
 file_word words = unwrap_or (slice_get words (length words - 1)) []
 
-abbrev pub no_previous : List ℕ
-no_previous = with_feed (codes "no previous file")
-
-abbrev pub no_folder : List ℕ
-no_folder = with_feed (codes "folder is not set")
-
 abbrev pub no_author : List ℕ
 no_author = with_feed (codes "no author")
-
--- why a word stands for no file
-abbrev pub name_fault : NameError → List ℕ
-name_fault NoPrevious = no_previous
-name_fault NoFolder = no_folder
-name_fault Memory = []
-
-abbrev pub name_or_fault : Result (List ℕ) NameError → OrFault (List ℕ)
-name_or_fault (Ok name) = Ok name
-name_or_fault (Err e) = Err (name_fault e)
-
--- the name of the file that a word stands for; there is no previous file yet
-abbrev pub expanded : Desk → List ℕ → OrFault (List ℕ)
-expanded desk word = name_or_fault (expansion desk.places desk.vars [] word)
 
 -- the bare address of the author of message n, numbered from 1; empty where there is none
 abbrev pub author_of : Desk → ℕ → List ℕ

@@ -16,9 +16,10 @@ use Rattle.command_desk.specs.Answers.{OrFault, next}
 use Rattle.command_desk.specs.Desks.{message_text}
 use Rattle.command_desk.specs.Effects.{moved, markings}
 use Rattle.command_desk.specs.Faults.{bad_arguments}
+use Rattle.command_desk.specs.FileNames.{expanded}
 use Rattle.command_desk.specs.Selecting.{chosen, last_message}
 use Rattle.folder_commands.specs.declared.wanted.Filing.{Filing}
-use Rattle.folder_commands.specs.FileNames.{list_words, file_word, expanded, author_of, named_after}
+use Rattle.folder_commands.specs.FileNames.{list_words, file_word, author_of, named_after}
 
 -- an act is done on these, and the last of them is current
 abbrev pub marked : Desk → Act → List ℕ → Effects

@@ -2,11 +2,10 @@
 ghost use Rattle.std.specs.Prelude.{◌≡◌, ◌==◌};
 ghost use Rattle.std.specs.List.{list_any};
 ghost use Rattle.command_desk.specs.Answers.{Means};
-ghost use Rattle.folder_commands.specs.FileNames.{expanded, author_of, named_after, named_plainly, is_plain, list_words, file_word};
+ghost use Rattle.folder_commands.specs.FileNames.{author_of, named_after, named_plainly, is_plain, list_words, file_word};
 
 use command_desk::{Desk, Refusal, fault};
 use mail_text::Text;
-use mailx_vars::{NameError, expand_name};
 use message_list::author_local_part;
 use std::alloc::Global;
 
@@ -25,18 +24,6 @@ pub(crate) fn file_word(words: &[Text]) -> &[u8]
     match words.get(words.len().saturating_sub(1)) {
         Some(word) => word.bytes(),
         None => &[],
-    }
-}
-
-/// The name of the file that a word stands for.
-pub(crate) fn expanded(alloc: Global, desk: &Desk, word: &[u8]) -> Result<Text, Refusal>
-    ensures { Means result (expanded desk.now word.now) }
-{
-    match expand_name(alloc, word, &desk.places, &desk.vars, b"") {
-        Ok(name) => Ok(name),
-        Err(NameError::NoPrevious) => Err(fault(alloc, b"", b"no previous file")),
-        Err(NameError::NoFolder) => Err(fault(alloc, b"", b"folder is not set")),
-        Err(NameError::Memory) => Err(Refusal::Memory),
     }
 }
 

@@ -7,8 +7,8 @@ ghost use Rattle.command_desk.specs.Desks.{IsDesk, IsMessageOf, message_text};
 ghost use Rattle.folder_commands.specs.Saving.{marked, reply, body_line, adding, writing, into_named, into_mbox, into_file, by_author, copy, copy_by_author, save, save_by_author, write_to, write, IsFilingWithin};
 
 use crate::Filing;
-use crate::file_names::{expanded, file_word, list_words, named_after};
-use command_desk::{Desk, Effects, Refusal, chosen, fault, last_message, markings, message, moved};
+use crate::file_names::{file_word, list_words, named_after};
+use command_desk::{Desk, Effects, Refusal, chosen, expanded, fault, last_message, markings, message, moved};
 use folder_change::Change;
 use itoa::Buffer;
 use mail_headers::Header;

@@ -15,6 +15,7 @@ use Rattle.mailx_session.specs.declared.status.Status.TheVariants.{Done}
 use Rattle.folder_change.specs.declared.change.Change.{Change}
 use Rattle.folder_change.specs.Changes.{name_of}
 use Rattle.mailx_session.specs.Saving.{name_fault, saved}
+use Rattle.mailx_session.specs.Sourcing.{source_fault, sourced}
 use Rattle.mailx_session.specs.Sessions.{asked, LineCaused}
 
 pub asked-say : (s : SessionState) (ask : asked_of.Ask) (bytes : List ℕ) → ask ≡ asks.Say bytes → asked s ask ≡ Ask (Say bytes) (λ _. Ret (On s))
@@ -22,6 +23,9 @@ asked-say s ask bytes is = ap (asked s) is
 
 pub asked-save : (s : SessionState) (ask : asked_of.Ask) (change : Change) → ask ≡ asks.Save change → asked s ask ≡ saved s change (name_fault s.actor (name_of change))
 asked-save s ask change is = ap (asked s) is
+
+pub asked-source : (s : SessionState) (ask : asked_of.Ask) (name : List ℕ) → ask ≡ asks.Source name → asked s ask ≡ sourced s name (source_fault s.frames name)
+asked-source s ask name is = ap (asked s) is
 
 pub asked-exit : (s : SessionState) (ask : asked_of.Ask) → ask ≡ asks.Exit → asked s ask ≡ Ret (Ended Done)
 asked-exit s ask is = ap (asked s) is

@@ -25,7 +25,8 @@ use session_play::{Committed, Stop, change};
 use std::alloc::Global;
 use std::slice::from_ref;
 
-fn line_of(alloc: Global, word: &[u8], fault: &[u8]) -> Result<Text, Memory>
+/// A word and what is wrong with it, as a line.
+pub(crate) fn line_of(alloc: Global, word: &[u8], fault: &[u8]) -> Result<Text, Memory>
     ensures { IfOk result (λ line. line ≡ with_feed (word.now ++ fault.now)) }
 {
     let mut line = Text::copy(alloc, word)?;
@@ -72,8 +73,8 @@ fn too_large(alloc: Global, file: &[u8], name: &[u8], length: u64) -> Result<Ask
     }
 }
 
-// Refuses by a word and what is wrong with it.
-fn refused(alloc: Global, word: &[u8], fault: &[u8]) -> Result<Asked, Memory>
+/// Refuses by a word and what is wrong with it.
+pub(crate) fn refused(alloc: Global, word: &[u8], fault: &[u8]) -> Result<Asked, Memory>
     ensures { IfOk result (λ asked. asked ≡ Asked.Refused (with_feed (word.now ++ fault.now))) }
 {
     let line = line_of(alloc, word, fault)?;

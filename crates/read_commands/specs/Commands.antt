@@ -20,6 +20,7 @@ use Rattle.show_commands.specs.Printing.{print, top, print_following}
 use Rattle.show_commands.specs.Paging.{headers, scroll}
 use Rattle.mark_commands.specs.Deleting.{delete, delete_and_print, undelete}
 use Rattle.setting_commands.specs.Setting.{set, unset}
+use Rattle.setting_commands.specs.Sourcing.{source}
 use Rattle.folder_commands.specs.declared.wanted.Filing.{Filing}
 use Rattle.folder_commands.specs.Saving.{copy, copy_by_author, save, save_by_author, write}
 use Rattle.show_commands.specs.Telling.{from, size, number, echo, help}
@@ -66,6 +67,7 @@ meaning_of command.DeleteAndPrint line desk = delete_and_print desk line.words
 meaning_of command.Undelete line desk = undelete desk line.words
 meaning_of command.Set line desk = set desk line.words
 meaning_of command.Unset line desk = unset desk line.words
+meaning_of command.Source line desk = source desk line.words
 meaning_of command.Help line desk = alone line (help desk)
 meaning_of command.Comment line desk = quietly unchanged
 meaning_of command.Copy line desk = filed (copy desk line.words)
@@ -93,6 +95,7 @@ is_built command.DeleteAndPrint = true
 is_built command.Undelete = true
 is_built command.Set = true
 is_built command.Unset = true
+is_built command.Source = true
 is_built command.Help = true
 is_built command.Comment = true
 is_built command.Copy = true
