@@ -53,3 +53,24 @@ returns-clause-ran g c =
 
 pub returns-in-Err-clause-cause : goal.returns-in-Err-clause-cause
 returns-in-Err-clause-cause g c = caused-later (g.H.Host.world.counts c.args.host.now) (g.H.Host.world.counts c.loop-ask.host) (g.H.Host.world.counts c.do_ask.new.host) c.in-Err.error c.loop-ask.invariant.fall c.in-Err.ensures.cause
+
+pub returns-in-Ok-Refused-clause-brings : goal.returns-in-Ok-Refused-clause-brings
+returns-in-Ok-Refused-clause-brings g c = brings-then c.args.state.now c.loop-ask.state c.do_ask.new.state c.loop-ask.invariant.brought c.in-Ok-Refused.ensures.brings
+
+pub returns-in-Ok-Refused-clause-quiet : goal.returns-in-Ok-Refused-clause-quiet
+returns-in-Ok-Refused-clause-quiet g c = λ none.
+    c.in-Ok-Refused.ensures.quiet (quiet-at c.args.asks.now c.loop-ask.ask-index c.ask-item.result c.ask-item.result none c.loop-ask-test.true (sym c.ask-item.is)) ∙ c.loop-ask.invariant.quiet none
+
+pub returns-in-Ok-Ended-clause-brings : goal.returns-in-Ok-Ended-clause-brings
+returns-in-Ok-Ended-clause-brings g c = brings-then c.args.state.now c.loop-ask.state c.do_ask.new.state c.loop-ask.invariant.brought c.in-Ok-Ended.ensures.brings
+
+pub returns-in-Ok-Ended-clause-quiet : goal.returns-in-Ok-Ended-clause-quiet
+returns-in-Ok-Ended-clause-quiet g c = λ none.
+    c.in-Ok-Ended.ensures.quiet (quiet-at c.args.asks.now c.loop-ask.ask-index c.ask-item.result c.ask-item.result none c.loop-ask-test.true (sym c.ask-item.is)) ∙ c.loop-ask.invariant.quiet none
+
+pub returns-in-Err-clause-brings : goal.returns-in-Err-clause-brings
+returns-in-Err-clause-brings g c = brings-then c.args.state.now c.loop-ask.state c.do_ask.new.state c.loop-ask.invariant.brought c.in-Err.ensures.brings
+
+pub returns-in-Err-clause-quiet : goal.returns-in-Err-clause-quiet
+returns-in-Err-clause-quiet g c = λ none.
+    c.in-Err.ensures.quiet (quiet-at c.args.asks.now c.loop-ask.ask-index c.ask-item.result c.ask-item.result none c.loop-ask-test.true (sym c.ask-item.is)) ∙ c.loop-ask.invariant.quiet none
