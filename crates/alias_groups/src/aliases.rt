@@ -34,7 +34,8 @@ impl Model for Aliases {
 
     ghost view = { λ a. groups_in a.groups.entries };
 
-    ghost invariant = { λ a. AreGroups (groups_in a.groups.entries) × (a.members ≡ member_count (groups_in a.groups.entries)) };
+    ghost invariant = { λ a. AreGroups (groups_in a.groups.entries)
+        × (a.members ≡ member_count (groups_in a.groups.entries)) };
 }
 
 // Copies of names.
@@ -56,7 +57,8 @@ fn append_at(
     mut more: Vec<Text>,
 ) -> Result<(), Memory>
     requires { Some k ≡ position (λ key. bytes_eq name.now key.items) (keys_of groups.old.entries) }
-    ensures ok { OnOk result (groups_in groups.new.entries ≡ with_members (groups_in groups.old.entries) name.now more.items) }
+    ensures ok { OnOk result
+        (groups_in groups.new.entries ≡ with_members (groups_in groups.old.entries) name.now more.items) }
     ensures err { OnErr result (groups_in groups.new.entries ≡ groups_in groups.old.entries) }
 {
     let list = &mut groups[k];
@@ -73,7 +75,8 @@ fn append(
     name: &[u8],
     more: Vec<Text>,
 ) -> Result<(), Memory>
-    ensures ok { OnOk result (groups_in groups.new.entries ≡ with_members (groups_in groups.old.entries) name.now more.items) }
+    ensures ok { OnOk result
+        (groups_in groups.new.entries ≡ with_members (groups_in groups.old.entries) name.now more.items) }
     ensures err { OnErr result (groups_in groups.new.entries ≡ groups_in groups.old.entries) }
 {
     match groups.get_index_of(name) {
@@ -90,7 +93,8 @@ fn append(
 fn take_out(groups: &mut IndexMap<Vec<u8>, Vec<Text>>, name: &[u8]) -> Option<usize>
     ensures said { is_some result ≡ is_alias (groups_in groups.old.entries) name.now }
     ensures groups { groups_in groups.new.entries ≡ without (groups_in groups.old.entries) name.now }
-    ensures members { member_count (groups_in groups.new.entries) + unwrap_or result 0 ≡ member_count (groups_in groups.old.entries) }
+    ensures members { member_count (groups_in groups.new.entries) + unwrap_or result 0
+        ≡ member_count (groups_in groups.old.entries) }
 {
     match groups.shift_remove(name) {
         Some(members) => Some(members.as_slice().len()),
@@ -114,7 +118,8 @@ impl Aliases {
     /// `TooMany` comes exactly where all aliases together would have more than 100,000 members. After an error all is
     /// as before.
     pub fn define(&mut self, name: &[u8], to: &[Text]) -> Result<(), AliasError>
-        ensures refused { MatchOption (define_refusal self.old to.now) (IfErr result (λ e. e ≡ AliasError.Memory)) (λ e. result ≡ Err e) }
+        ensures refused { MatchOption (define_refusal self.old to.now)
+            (IfErr result (λ e. e ≡ AliasError.Memory)) (λ e. result ≡ Err e) }
         ensures ok { OnOk result (self.new ≡ with_members self.old name.now to.now) }
         ensures err { OnErr result (self.new ≡ self.old) }
     {
@@ -179,7 +184,8 @@ impl Aliases {
     pub fn expand(&self, names: &[Text], own: &Own, metoo: bool) -> Result<Vec<Text>, ExpandError>
         ensures names { IfOk result (λ all. all.items ≡ expansion self.now own.now metoo names.now) }
         ensures few { IfOk result (λ all. length all.items ≤ 10000) }
-        ensures too_many { result ≡ Err ExpandError.TooMany → 10000 < length (expansion self.now own.now metoo names.now) }
+        ensures too_many { result ≡ Err ExpandError.TooMany
+            → 10000 < length (expansion self.now own.now metoo names.now) }
     {
         let dropped = dropped_names(self.alloc, own, metoo)?;
         expand_all(self.alloc, self, &dropped, names)

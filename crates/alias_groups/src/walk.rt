@@ -32,7 +32,8 @@ impl<'a> Model for Walk<'a> {
 
     ghost Value = { Walking };
 
-    ghost view = { λ w. record { inside = map (λ e. (e.0.now, e.1.now)) w.inside.entries; over = map (λ k. k.now) w.over.keys; added = w.added } };
+    ghost view = { λ w. record { inside = map (λ e. (e.0.now, e.1.now)) w.inside.entries; over = map
+        (λ k. k.now) w.over.keys; added = w.added } };
 }
 
 impl<'a> Walk<'a> {
@@ -52,7 +53,8 @@ impl<'a> Walk<'a> {
         requires { length self.old.added ≤ 10000 }
         ensures ok { OnOk result (self.new ≡ named_in dropped.now self.old name.now) }
         ensures few { OnOk result (length self.new.added ≤ 10000) }
-        ensures too_many { result ≡ Err ExpandError.TooMany → 10000 < length (named_in dropped.now self.old name.now).added }
+        ensures too_many { result ≡ Err ExpandError.TooMany
+            → 10000 < length (named_in dropped.now self.old name.now).added }
     {
         if !self.inside.is_empty() && dropped.has(name)? {
             return Ok(());
@@ -76,7 +78,8 @@ impl<'a> Walk<'a> {
     ) -> Result<&'a [Text], ExpandError>
         requires { length self.old.added ≤ 10000 }
         ensures next { IfOk result (λ next. IsNamed dropped.now self.old name.now left.now self.new next.now) }
-        ensures too_many { result ≡ Err ExpandError.TooMany → 10000 < length (named_in dropped.now self.old name.now).added }
+        ensures too_many { result ≡ Err ExpandError.TooMany
+            → 10000 < length (named_in dropped.now self.old name.now).added }
     {
         match self.add_name(dropped, name) {
             Ok(()) => Ok(left),
@@ -93,8 +96,10 @@ impl<'a> Walk<'a> {
         left: &'a [Text],
     ) -> Result<&'a [Text], ExpandError>
         requires { Fits aliases.now self.old }
-        ensures next { IfOk result (λ next. IsNext aliases.now dropped.now self.old (name.now ∷ left.now) self.new next.now) }
-        ensures too_many { result ≡ Err ExpandError.TooMany → IsTooLong aliases.now dropped.now self.old (name.now ∷ left.now) }
+        ensures next { IfOk result
+            (λ next. IsNext aliases.now dropped.now self.old (name.now ∷ left.now) self.new next.now) }
+        ensures too_many { result ≡ Err ExpandError.TooMany
+            → IsTooLong aliases.now dropped.now self.old (name.now ∷ left.now) }
     {
         match aliases.members(name) {
             Some(members) => {
@@ -122,7 +127,9 @@ impl<'a> Walk<'a> {
 
     // Ends the innermost walk of an alias, and gives what is left of the list in which it was met.
     fn close(&mut self) -> Result<Option<&'a [Text]>, Memory>
-        ensures { IfOk result (λ left. MatchOption left ((self.old.inside ≡ []) × (self.new ≡ self.old)) (λ left. IsClosed self.old left.now self.new)) }
+        ensures { IfOk result
+            (λ left. MatchOption left ((self.old.inside ≡ []) × (self.new ≡ self.old))
+            (λ left. IsClosed self.old left.now self.new)) }
     {
         match self.inside.pop() {
             Some((name, left)) => {

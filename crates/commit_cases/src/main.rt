@@ -25,9 +25,9 @@
 //! | `taken ACTOR NAME` | whether the name is that of the actor's record |
 //! | `large` | what comes of files past a limit |
 //!
-//! A change of `do commit` is `KIND NAME TEXT|TEXT..`, and BASE, which may be left out with its slash, the text that the
-//! rewrites were made for. The kinds are `keep` and `drop`, which are rewrites, `add`, `front` and `raw`. For `stops`
-//! there comes a line where another stop inside a recovery, recovered again, leaves something else.
+//! A change of `do commit` is `KIND NAME TEXT|TEXT..`, and BASE, which may be left out with its slash, the text
+//! that the rewrites were made for. The kinds are `keep` and `drop`, which are rewrites, `add`, `front` and `raw`.
+//! For `stops` there comes a line where another stop inside a recovery, recovered again, leaves something else.
 //!
 //! Of a case with calls there are printed last how many events there are, and what became of the disk.
 #![tactic(auto)]

@@ -260,8 +260,9 @@ fn checked(alloc: Global, value: Record, bytes: &[u8]) -> Result<Record, RecordE
     }
 }
 
-/// The record that bytes are the text of. `NotARecord` comes exactly where they are the text of no valid record, so also
-/// where a byte stands behind the last line, a number has a leading zero, or a digit of the token is upper case.
+/// The record that bytes are the text of. `NotARecord` comes exactly where they are the text of no valid record, so
+/// also where a byte stands behind the last line, a number has a leading zero, or a digit of the token is upper
+/// case.
 pub fn read(alloc: Global, bytes: &[u8]) -> Result<Record, RecordError>
     ensures ok { IfOk result (λ r. IsWritten bytes.now r) }
     ensures not_a_record { result ≡ Err RecordError.NotARecord → (r : Record) → IsWritten bytes.now r → ⊥ }

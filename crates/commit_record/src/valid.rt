@@ -47,8 +47,8 @@ fn is_staged(name: &[u8]) -> bool
     is_staged_end(end)
 }
 
-/// Whether an entry may have this name: there are 1 to 4,000 bytes, none of them zero, and they end neither in `.lock` nor in
-/// `.mx` and 16 lower case hexadecimal digits. It takes no memory.
+/// Whether an entry may have this name: there are 1 to 4,000 bytes, none of them zero, and they end neither in
+/// `.lock` nor in `.mx` and 16 lower case hexadecimal digits. It takes no memory.
 pub fn is_lawful(name: &[u8]) -> bool
     ensures { result ≡ is_lawful name.now }
 {
@@ -106,8 +106,8 @@ fn fit_phase(phase: Phase, entries: &[Entry]) -> bool
     }
 }
 
-/// Whether the record has 1 to 16 entries with distinct lawful names, and before the decision removes no file. It takes no
-/// memory.
+/// Whether the record has 1 to 16 entries with distinct lawful names, and before the decision removes no file. It
+/// takes no memory.
 pub fn is_valid(value: &Record) -> bool
     ensures { result ≡ is_valid value.now }
 {

@@ -68,9 +68,9 @@ fn push_entries(text: &mut Text, entries: &[Entry]) -> Result<(), Memory>
     Ok(())
 }
 
-/// The text of a record: `mailx-commit 1`, the phase, the token in 16 lower case hexadecimal digits, the number of entries, a
-/// line for each entry with the number of bytes of its name and the name, and `end`; a line feed ends each line. The record
-/// has to be valid.
+/// The text of a record: `mailx-commit 1`, the phase, the token in 16 lower case hexadecimal digits, the number of
+/// entries, a line for each entry with the number of bytes of its name and the name, and `end`; a line feed ends
+/// each line. The record has to be valid.
 pub fn write(alloc: Global, value: &Record) -> Result<Text, Memory>
     requires { is_valid value.now ≡ true }
     ensures { IfOk result (λ text. text ≡ written value.now) }

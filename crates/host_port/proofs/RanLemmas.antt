@@ -67,7 +67,7 @@ Ran-map to x = record {
 -- one call is a stretch whose own event is its event
 pub called : {H : Type 0} {w : World H} {old new : H} {Happened : Disk → Event → Type 0} {P : List Event → Type 0}
     → ((d : Disk) (e : Event) → Happened d e → Agrees d e × P (own (e ∷ []))) → w.start new ≡ w.start old → NeverFall (w.counts old) (w.counts new)
-    → Calls (w.start old) (w.told old) (w.told new) Happened → Ran w old new P
+    → Calls w old new Happened → Ran w old new P
 called {w = w} {old = old} {Happened = Happened} {P = P} to same never calls = record {
   start_is = same;
   never_fall = never;

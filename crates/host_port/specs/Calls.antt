@@ -49,8 +49,8 @@ pub record Call (start : Disk) (before now : List Event) (Happened : Disk → Ev
   pub happened : Happened (disk start (before ++ map Foreign steps)) own
 
 -- while the trace is told after the call, it was told before, and the call added such a piece
-pub record Calls (start : Disk) (old new : Option (List Event)) (Happened : Disk → Event → Type 0) : Type 0 where
-  pub added : (now : List Event) → new ≡ Some now → (before : List Event) × (old ≡ Some before) × Call start before now Happened
+pub record Calls {H : Type 0} (w : World H) (old new : H) (Happened : Disk → Event → Type 0) : Type 0 where
+  pub added : (now : List Event) → w.told new ≡ Some now → (before : List Event) × (w.told old ≡ Some before) × Call (w.start old) before now Happened
 
 -- the event of a fill: the bytes at the front of the buffer, none after a fault
 abbrev pub Filled : Result ℕ InFault → List ℕ → Disk → Event → Type 0

@@ -37,8 +37,8 @@ pub enum LoadError {
 /// While a host tells its trace, each call adds steps of others and then its own one event, and answers what the
 /// disk at that step gives. A fault is answered only where the count of its kind has risen in that call.
 pub trait Host {
-    /// The disk before the first event, each event so far, while the host tells them, and how often each kind of call has
-    /// failed.
+    /// The disk before the first event, each event so far, while the host tells them, and how often each kind of
+    /// call has failed.
     ghost world: { World Self };
 
     /// Takes input: puts bytes at the front of `buf` and says how many. None are the end of the input.
@@ -46,14 +46,14 @@ pub trait Host {
         requires { 0 < length buf.old }
         ensures bound { IfOk result (λ n. n ≤ length buf.old) }
         ensures start { world.start self.new ≡ world.start self.old }
-        ensures call { Calls (world.start self.old) (world.told self.old) (world.told self.new) (Filled result buf.new) }
+        ensures call { Calls world self.old self.new (Filled result buf.new) }
         ensures counts { NeverFall (world.counts self.old) (world.counts self.new) }
         ensures cause { OnErr result (Rose (world.counts self.old).ins (world.counts self.new).ins) };
 
     /// Writes output. After Ok all of it went out.
     fn say(&mut self, bytes: &[u8]) -> Result<(), OutFault>
         ensures start { world.start self.new ≡ world.start self.old }
-        ensures call { Calls (world.start self.old) (world.told self.old) (world.told self.new) (Said result bytes.now) }
+        ensures call { Calls world self.old self.new (Said result bytes.now) }
         ensures counts { NeverFall (world.counts self.old) (world.counts self.new) }
         ensures cause { OnErr result (Rose (world.counts self.old).outs (world.counts self.new).outs) };
 
@@ -61,7 +61,7 @@ pub trait Host {
     fn load(&mut self, alloc: Global, name: &[u8]) -> Result<LoadAnswer, LoadError>
         requires { IsFileName name.now }
         ensures start { world.start self.new ≡ world.start self.old }
-        ensures call { Calls (world.start self.old) (world.told self.old) (world.told self.new) (Loaded name.now result) }
+        ensures call { Calls world self.old self.new (Loaded name.now result) }
         ensures counts { NeverFall (world.counts self.old) (world.counts self.new) }
         ensures cause { LoadCause (world.counts self.old).disks (world.counts self.new).disks result };
 
@@ -69,7 +69,7 @@ pub trait Host {
     fn stage(&mut self, name: &[u8], bytes: &[u8]) -> Result<(), DiskFault>
         requires { IsFileName name.now }
         ensures start { world.start self.new ≡ world.start self.old }
-        ensures call { Calls (world.start self.old) (world.told self.old) (world.told self.new) (Staged name.now bytes.now result) }
+        ensures call { Calls world self.old self.new (Staged name.now bytes.now result) }
         ensures counts { NeverFall (world.counts self.old) (world.counts self.new) }
         ensures cause { OnErr result (Rose (world.counts self.old).disks (world.counts self.new).disks) };
 
@@ -79,7 +79,7 @@ pub trait Host {
         requires source { IsFileName from.now }
         requires target { IsFileName to.now }
         ensures start { world.start self.new ≡ world.start self.old }
-        ensures call { Calls (world.start self.old) (world.told self.old) (world.told self.new) (Published from.now to.now result) }
+        ensures call { Calls world self.old self.new (Published from.now to.now result) }
         ensures counts { NeverFall (world.counts self.old) (world.counts self.new) }
         ensures cause { OnErr result (Rose (world.counts self.old).disks (world.counts self.new).disks) };
 
@@ -87,7 +87,7 @@ pub trait Host {
     fn erase(&mut self, name: &[u8]) -> Result<(), DiskFault>
         requires { IsFileName name.now }
         ensures start { world.start self.new ≡ world.start self.old }
-        ensures call { Calls (world.start self.old) (world.told self.old) (world.told self.new) (Erased name.now result) }
+        ensures call { Calls world self.old self.new (Erased name.now result) }
         ensures counts { NeverFall (world.counts self.old) (world.counts self.new) }
         ensures cause { OnErr result (Rose (world.counts self.old).disks (world.counts self.new).disks) };
 
@@ -95,7 +95,7 @@ pub trait Host {
     fn lock(&mut self, name: &[u8], token: u64) -> Result<bool, DiskFault>
         requires { IsFileName name.now }
         ensures start { world.start self.new ≡ world.start self.old }
-        ensures call { Calls (world.start self.old) (world.told self.old) (world.told self.new) (Locked name.now token result) }
+        ensures call { Calls world self.old self.new (Locked name.now token result) }
         ensures counts { NeverFall (world.counts self.old) (world.counts self.new) }
         ensures cause { OnErr result (Rose (world.counts self.old).disks (world.counts self.new).disks) };
 
@@ -103,16 +103,16 @@ pub trait Host {
     fn unlock(&mut self, name: &[u8], token: u64) -> Result<(), DiskFault>
         requires { IsFileName name.now }
         ensures start { world.start self.new ≡ world.start self.old }
-        ensures call { Calls (world.start self.old) (world.told self.old) (world.told self.new) (Unlocked name.now token result) }
+        ensures call { Calls world self.old self.new (Unlocked name.now token result) }
         ensures counts { NeverFall (world.counts self.old) (world.counts self.new) }
         ensures cause { OnErr result (Rose (world.counts self.old).disks (world.counts self.new).disks) };
 
-    /// Takes the right of a name. True where the caller has it now, false exactly where another has it. It ends when its
-    /// holder stops.
+    /// Takes the right of a name. True where the caller has it now, false exactly where another has it. It ends
+    /// when its holder stops.
     fn seize(&mut self, name: &[u8]) -> Result<bool, DiskFault>
         requires { IsFileName name.now }
         ensures start { world.start self.new ≡ world.start self.old }
-        ensures call { Calls (world.start self.old) (world.told self.old) (world.told self.new) (Seized name.now result) }
+        ensures call { Calls world self.old self.new (Seized name.now result) }
         ensures counts { NeverFall (world.counts self.old) (world.counts self.new) }
         ensures cause { OnErr result (Rose (world.counts self.old).disks (world.counts self.new).disks) };
 
@@ -120,6 +120,6 @@ pub trait Host {
     fn release(&mut self, name: &[u8])
         requires { IsFileName name.now }
         ensures start { world.start self.new ≡ world.start self.old }
-        ensures call { Calls (world.start self.old) (world.told self.old) (world.told self.new) (Released name.now) }
+        ensures call { Calls world self.old self.new (Released name.now) }
         ensures counts { NeverFall (world.counts self.old) (world.counts self.new) };
 }

@@ -1,5 +1,5 @@
-// Locks and rights made of files. The lock on F is the file F.lock, which holds its owner's token; the right of F is the
-// system's lock on the open file F, which ends with its holder.
+// Locks and rights made of files. The lock on F is the file F.lock, which holds its owner's token; the right of F
+// is the system's lock on the open file F, which ends with its holder.
 ghost use Rattle.std.specs.Prelude.{◌≡◌, IfOk};
 ghost use Rattle.host_port.specs.Calls.{FitsLoad};
 

@@ -195,8 +195,8 @@ fn a_right_ends_with_its_holder(rt: HostRuntime) -> Result<(), Fail> {
     Ok(())
 }
 
-// A shorter file over a longer one, an empty one, a target in no folder; a lock of other contents, an empty one, and what a
-// stopped lock has left.
+// A shorter file over a longer one, an empty one, a target in no folder; a lock of other contents, an empty one,
+// and what a stopped lock has left.
 const ODD: [Call; 19] = [
     Call::StageLong(Name::Letter),
     Call::Stage(Name::Letter),

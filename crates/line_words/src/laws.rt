@@ -1,8 +1,8 @@
 ghost use Rattle.line_words.specs.Laws.{NamesOne, SpellingsName, EachIsNamed, NamesAscend, WordsReadBack};
 
-/// Laws of the spellings: a word meets spellings of one command at most, which is the one that it names; what stands before
-/// the bracket of a spelling names its command, and so does its whole name; each command has a name; the whole names stand
-/// in the order of their bytes, each once.
+/// Laws of the spellings: a word meets spellings of one command at most, which is the one that it names; what
+/// stands before the bracket of a spelling names its command, and so does its whole name; each command has a name;
+/// the whole names stand in the order of their bytes, each once.
 pub fn a_word_names_one_command()
     ensures names_one { NamesOne }
     ensures spellings_name { SpellingsName }

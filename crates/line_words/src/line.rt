@@ -55,17 +55,17 @@ impl From<Memory> for LineError {
     }
 }
 
-/// Reads the line of a command: the command word and the words behind it, or for `!` and `#` the rest as it stands. Blanks,
-/// which are spaces and tabs, are passed over at the front. The command word is the first byte if it is `!`, `|`, `#`, `=`
-/// or `?`, else `z+` or `z-` where the line begins so, else the longest run of ASCII letters. An empty line is `next`, and
-/// one without a command word `print` with the line as words.
+/// Reads the line of a command: the command word and the words behind it, or for `!` and `#` the rest as it stands.
+/// Blanks, which are spaces and tabs, are passed over at the front. The command word is the first byte if it is
+/// `!`, `|`, `#`, `=` or `?`, else `z+` or `z-` where the line begins so, else the longest run of ASCII letters. An
+/// empty line is `next`, and one without a command word `print` with the line as words.
 ///
 /// Words are separated by blanks. In a word `"` to `"` and `'` to `'` stand for the bytes inside; outside quotes a
 /// backslash takes the next byte, and at the line's end it stands for itself.
 ///
-/// `TooLong` comes exactly where the line has more than 65,536 bytes, `Unknown` exactly where its command word names no
-/// command, `OpenQuote` exactly where a quote isn't closed behind a command that takes words. They are looked for in this
-/// order.
+/// `TooLong` comes exactly where the line has more than 65,536 bytes, `Unknown` exactly where its command word
+/// names no command, `OpenQuote` exactly where a quote isn't closed behind a command that takes words. They are
+/// looked for in this order.
 pub fn read_line(alloc: Global, line: &[u8]) -> Result<CommandLine, LineError>
     ensures reads { OrMemory result (reading line.now) }
     ensures too_long { ComesWhere result LineError.TooLong (65536 < length line.now) }

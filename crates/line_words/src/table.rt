@@ -120,8 +120,8 @@ fn spelling_of(word: &[u8]) -> Option<&'static Spelling>
     rows().iter().find(|s| s.is_met(word))
 }
 
-/// The command that a word names: the word begins with what stands before the bracket in a spelling of the command, and is
-/// a front of the whole name. No word names two commands.
+/// The command that a word names: the word begins with what stands before the bracket in a spelling of the command,
+/// and is a front of the whole name. No word names two commands.
 pub fn command_of(word: &[u8]) -> Option<Command>
     ensures { result ≡ command_of word.now }
 {
@@ -141,8 +141,8 @@ pub fn whole_name(word: &[u8]) -> Option<&'static [u8]>
     }
 }
 
-/// The whole name at place `k`, from 0, of all whole names in the order of their bytes, each once; `None` exactly past the
-/// last.
+/// The whole name at place `k`, from 0, of all whole names in the order of their bytes, each once; `None` exactly
+/// past the last.
 pub fn command_name(k: usize) -> Option<&'static [u8]>
     ensures { option_copied result ≡ slice_get names k }
 {

@@ -1,5 +1,5 @@
-//! Lists of mail addresses, read exactly (RFC 5322, section 3.4): a value gives the addresses that its pieces spell, or the
-//! number of the first piece that spells nothing.
+//! Lists of mail addresses, read exactly (RFC 5322, section 3.4): a value gives the addresses that its pieces
+//! spell, or the number of the first piece that spells nothing.
 #![tactic(auto)]
 
 mod address;

@@ -46,8 +46,9 @@ impl<'a> Plain<'a> {
     }
 }
 
-/// The one address of the value, where it is plain: a spec alone or behind a name, of atoms and dots, where the name is words
-/// with a space between or a quoted string without backslashes, and no blanks stand but behind the name.
+/// The one address of the value, where it is plain: a spec alone or behind a name, of atoms and dots, where the
+/// name is words with a space between or a quoted string without backslashes, and no blanks stand but behind the
+/// name.
 pub(crate) fn plain_address(value: &[u8]) -> Option<Plain<'_>>
     ensures { IfSome result (λ a. Reads value.now (a ∷ [])) }
 {

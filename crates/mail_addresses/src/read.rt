@@ -14,10 +14,10 @@ use crate::token::Token;
 use mail_text::Memory;
 use std::alloc::Global;
 
-/// Reads a list of addresses (RFC 5322, section 3.4). The answer is what the value's pieces spell, in order: a piece is
-/// a spec, an optional name and a spec in angle brackets, or a group, which gives the addresses in it; an empty piece
-/// gives nothing. `Syntax` comes exactly where a piece is neither empty nor one of these. It takes time in proportion to
-/// the value's length, however deep its comments are.
+/// Reads a list of addresses (RFC 5322, section 3.4). The answer is what the value's pieces spell, in order: a
+/// piece is a spec, an optional name and a spec in angle brackets, or a group, which gives the addresses in it; an
+/// empty piece gives nothing. `Syntax` comes exactly where a piece is neither empty nor one of these. It takes time
+/// in proportion to the value's length, however deep its comments are.
 pub fn read_list(alloc: Global, value: &[u8]) -> Result<Vec<Address>, AddressError>
     ensures ok { IfOk result (λ list. Reads value.now list.items) }
     ensures syntax { (at : ℕ) → result ≡ Err (AddressError.Syntax at)
@@ -36,8 +36,8 @@ pub fn read_list(alloc: Global, value: &[u8]) -> Result<Vec<Address>, AddressErr
     }
 }
 
-/// The first address of the list that a value gives; none where it gives no list, or an empty one. Only want of memory can
-/// fail. For a value that is one address as most are written it takes no memory.
+/// The first address of the list that a value gives; none where it gives no list, or an empty one. Only want of
+/// memory can fail. For a value that is one address as most are written it takes no memory.
 pub fn first_address(alloc: Global, value: &[u8]) -> Result<Option<FoundAddress<'_>>, Memory>
     ensures { IfOk result (IsFirstAddress value.now) }
 {
@@ -73,8 +73,8 @@ fn first_of(list: Vec<Address>) -> Option<Address>
     }
 }
 
-/// Puts the addresses of all pieces of a value at the end, or answers the number of the first bad piece. The tokens of one
-/// piece stand in memory at a time.
+/// Puts the addresses of all pieces of a value at the end, or answers the number of the first bad piece. The tokens
+/// of one piece stand in memory at a time.
 fn read_pieces(alloc: Global, value: &[u8], list: &mut Vec<Address>) -> Result<Option<u64>, Memory>
     ensures { IfOk result (λ bad. MatchOption bad
         (Adds (Reads value.now) list.old.items list.new.items)

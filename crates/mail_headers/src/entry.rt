@@ -21,7 +21,8 @@ impl<'a> Model for FieldRef<'a> {
 
     ghost view = { λ f. record { name = take f.colon f.bytes.now; value = drop (f.colon + 1) f.bytes.now } };
 
-    ghost invariant = { λ f. (f.colon < length f.bytes.now) × (slice_index f.bytes.now f.colon ≡ 58) × (f.flat ≡ true → IsFlat f.bytes.now) };
+    ghost invariant = { λ f. (f.colon < length f.bytes.now) × (slice_index f.bytes.now f.colon ≡ 58)
+        × (f.flat ≡ true → IsFlat f.bytes.now) };
 }
 
 impl<'a> FieldRef<'a> {
@@ -35,8 +36,8 @@ impl<'a> FieldRef<'a> {
         &self.bytes[..self.colon]
     }
 
-    /// The field as it stands in the header, without the line feed at its end: name, colon and value, and the line feeds
-    /// between folded lines.
+    /// The field as it stands in the header, without the line feed at its end: name, colon and value, and the line
+    /// feeds between folded lines.
     pub fn raw(&self) -> &'a [u8]
         ensures { result.now ≡ field_bytes self.now }
     {

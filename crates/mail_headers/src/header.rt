@@ -8,8 +8,8 @@ use mail_text::{Memory, same_ascii};
 use std::alloc::Global;
 use std::marker::Model;
 
-/// A message's text, cut into its From line, the lines of its header and its body (RFC 5322, section 2.1). Contracts see
-/// the text.
+/// A message's text, cut into its From line, the lines of its header and its body (RFC 5322, section 2.1).
+/// Contracts see the text.
 #[derive(Drop)]
 pub struct Header<'a> {
     text: &'a [u8],

@@ -60,8 +60,8 @@ impl<T> Reserved<T> {
         &self.items
     }
 
-    /// Makes room for one more value at least, and takes no memory where there is such room. After want of memory all is
-    /// as before.
+    /// Makes room for one more value at least, and takes no memory where there is such room. After want of memory
+    /// all is as before.
     pub fn reserve(&mut self) -> Result<(), Memory>
         ensures items { self.new.items ≡ self.old.items }
         ensures room { self.old.spare ≤ self.new.spare }
@@ -84,8 +84,8 @@ impl<T> Reserved<T> {
             Err(_) => unreachable!(),
         }
     }
-    /// Puts a value at the end, and makes room for it where there is none. After want of memory all is as before, and the
-    /// value is gone.
+    /// Puts a value at the end, and makes room for it where there is none. After want of memory all is as before,
+    /// and the value is gone.
     pub fn push(&mut self, x: T) -> Result<(), Memory>
     where
         T: Drop,

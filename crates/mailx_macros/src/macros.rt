@@ -153,7 +153,8 @@ impl Macros {
     /// Begins a definition without lines. After an error, which `refuses` foretells but for want of memory, all is as
     /// before.
     pub fn begin(&mut self, name: &[u8]) -> Result<(), MacroError>
-        ensures refused { MatchOption (begin_refusal self.old name.now) (IfErr result (λ e. e ≡ MacroError.Memory)) (λ e. result ≡ Err e) }
+        ensures refused { MatchOption (begin_refusal self.old name.now)
+            (IfErr result (λ e. e ≡ MacroError.Memory)) (λ e. result ≡ Err e) }
         ensures ok { OnOk result (self.new ≡ begun self.old name.now) }
         ensures err { OnErr result (self.new ≡ self.old) }
     {

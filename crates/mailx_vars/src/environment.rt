@@ -97,8 +97,8 @@ pub fn knows_user(pairs: &[(Text, Text)]) -> bool
 }
 
 impl Places {
-    /// The places that an environment names. Of several pairs of one name the first counts, and an empty value counts as
-    /// unset. None exactly where `knows_user` is false.
+    /// The places that an environment names. Of several pairs of one name the first counts, and an empty value
+    /// counts as unset. None exactly where `knows_user` is false.
     pub fn read(alloc: Global, pairs: &[(Text, Text)]) -> Result<Option<Places>, Memory>
         ensures places { IfOk result (λ found. found ≡ places_of pairs.now) }
         ensures width { IfOk result (λ found. IfSome found (λ places. (40 ≤ places.width) × (places.width ≤ 1000))) }

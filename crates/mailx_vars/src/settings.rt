@@ -23,8 +23,8 @@ pub struct Setting {
     pub value: Option<Text>,
 }
 
-/// Variables with their values, in order of first setting, and room for as many as can be set. Contracts see the list of
-/// pairs of name and value.
+/// Variables with their values, in order of first setting, and room for as many as can be set. Contracts see the
+/// list of pairs of name and value.
 #[derive(Drop)]
 pub struct Vars {
     list: Vec<(Text, Text)>,
@@ -177,7 +177,8 @@ impl Vars {
     /// Sets a variable. One that is set already keeps its place, a new one goes last. After an error, which `refuses`
     /// foretells but for want of memory, the variables are as before.
     pub fn set(&mut self, name: &[u8], value: &[u8]) -> Result<(), VarError>
-        ensures refused { MatchOption (refusal self.old name.now) (IfErr result (λ e. e ≡ VarError.Memory)) (λ e. result ≡ Err e) }
+        ensures refused { MatchOption (refusal self.old name.now) (IfErr result (λ e. e ≡ VarError.Memory))
+            (λ e. result ≡ Err e) }
         ensures ok { OnOk result (self.new ≡ with_value self.old name.now value.now) }
         ensures err { OnErr result (self.new ≡ self.old) }
     {
@@ -239,7 +240,8 @@ impl Vars {
         self.list.len()
     }
 
-    /// The name of the variable at place `k`, from 0, in order of first setting; none past the last. It takes no memory.
+    /// The name of the variable at place `k`, from 0, in order of first setting; none past the last. It takes no
+    /// memory.
     pub fn name(&self, k: usize) -> Option<&[u8]>
         ensures name { option_map (λ name. name.now) result ≡ slice_get (keys_of self.now) k }
         ensures found { IsSome result ↔ (k < length self.now) }
@@ -250,7 +252,8 @@ impl Vars {
         }
     }
 
-    /// The value of the variable at place `k`, from 0, in order of first setting; none past the last. It takes no memory.
+    /// The value of the variable at place `k`, from 0, in order of first setting; none past the last. It takes no
+    /// memory.
     pub fn value(&self, k: usize) -> Option<&[u8]>
         ensures value { option_map (λ value. value.now) result ≡ slice_get (values_of self.now) k }
         ensures found { IsSome result ↔ (k < length self.now) }

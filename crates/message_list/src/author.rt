@@ -6,8 +6,8 @@ ghost use Rattle.message_list.specs.Naming.{is_author};
 
 use mail_text::same_ascii;
 
-/// The local part of an author's bare address: the quoted string that it begins with, where that is closed, else the bytes
-/// before the first `@`, or all where there is none (RFC 5322, section 3.4.1). It takes no memory.
+/// The local part of an author's bare address: the quoted string that it begins with, where that is closed, else
+/// the bytes before the first `@`, or all where there is none (RFC 5322, section 3.4.1). It takes no memory.
 pub fn author_local_part(author: &[u8]) -> &[u8]
     ensures value { result.now ≡ local_part author.now }
     ensures quoted { (inside after : List ℕ) → IsQuotedContent inside → author.now ≡ 34 ∷ (inside ++ 34 ∷ after)

@@ -15,11 +15,12 @@ use mail_text::{Memory, Text};
 use message_state::{Row, Shown, State};
 use std::alloc::Global;
 
-/// The messages that a list selects, in the order of the view and each once: those of the base set (that of `purpose`) that a
-/// word names. Without a word it is the default message alone: the current one where it is in the base set; for
-/// `Purpose::Dead` the nearest deleted one at or before it in the view, else the first deleted one. `NoSuch` comes exactly
-/// where a word names no message of the base set, and has the first such word; `NoneMatch` exactly where there is no word
-/// and no default message. A list of one number or `.` is answered without a walk over the view.
+/// The messages that a list selects, in the order of the view and each once: those of the base set (that of
+/// `purpose`) that a word names. Without a word it is the default message alone: the current one where it is in the
+/// base set; for `Purpose::Dead` the nearest deleted one at or before it in the view, else the first deleted one.
+/// `NoSuch` comes exactly where a word names no message of the base set, and has the first such word; `NoneMatch`
+/// exactly where there is no word and no default message. A list of one number or `.` is answered without a walk
+/// over the view.
 pub fn select(
     alloc: Global,
     list: &ListSpec,
@@ -112,7 +113,8 @@ fn select_one(
 ) -> Result<Vec<u32>, ListError>
     requires valid { IsShown shown.now }
     requires one { items.now ≡ item.now ∷ [] }
-    ensures ok { IfOk result (λ found. found.items ≡ filter (is_named shown.now purpose items.now) (base_of shown.now purpose)) }
+    ensures ok { IfOk result
+        (λ found. found.items ≡ filter (is_named shown.now purpose items.now) (base_of shown.now purpose)) }
     ensures met { IfOk result (λ found. first_missing shown.now purpose items.now ≡ None) }
     ensures err { IfErr result (IsMissing shown.now purpose items.now) }
 {
@@ -133,7 +135,8 @@ fn select_message(
 ) -> Result<Vec<u32>, ListError>
     requires valid { IsShown shown.now }
     requires alone { (n : ℕ) → names shown.now purpose item.now n ≡ (n == k) }
-    ensures ok { IfOk result (λ found. found.items ≡ filter (is_named shown.now purpose (item.now ∷ [])) (base_of shown.now purpose)) }
+    ensures ok { IfOk result
+        (λ found. found.items ≡ filter (is_named shown.now purpose (item.now ∷ [])) (base_of shown.now purpose)) }
     ensures met { IfOk result (λ found. first_missing shown.now purpose (item.now ∷ []) ≡ None) }
     ensures err { IfErr result (IsMissing shown.now purpose (item.now ∷ [])) }
 {
@@ -180,7 +183,8 @@ fn select_named(
     purpose: Purpose,
 ) -> Result<Vec<u32>, ListError>
     requires { IsShown shown.now }
-    ensures ok { IfOk result (λ found. found.items ≡ filter (is_named shown.now purpose items.now) (base_of shown.now purpose)) }
+    ensures ok { IfOk result
+        (λ found. found.items ≡ filter (is_named shown.now purpose items.now) (base_of shown.now purpose)) }
     ensures met { IfOk result (λ found. first_missing shown.now purpose items.now ≡ None) }
     ensures err { IfErr result (IsMissing shown.now purpose items.now) }
 {

@@ -32,8 +32,8 @@ pub fn first_live(shown: &Shown) -> Option<u32>
     first_of(shown, Purpose::Live)
 }
 
-/// The next message after message `k` in the view that isn't deleted. None also where `k` is no message. In a view by number it is
-/// found without a walk over deleted messages.
+/// The next message after message `k` in the view that isn't deleted. None also where `k` is no message. In a view
+/// by number it is found without a walk over deleted messages.
 pub fn next_live(shown: &Shown, k: u32) -> Option<u32>
     requires { IsShown shown.now }
     ensures { result ≡ next_of shown.now Live k }

@@ -6,8 +6,8 @@ use mail_text::{Memory, Text};
 use std::alloc::Global;
 use std::marker::Model;
 
-/// Which fields of a header a shown message has. Names are compared with ASCII case ignored, and each is kept once, as it was
-/// spelled first. Contracts see both lists of names.
+/// Which fields of a header a shown message has. Names are compared with ASCII case ignored, and each is kept once,
+/// as it was spelled first. Contracts see both lists of names.
 #[derive(Drop)]
 pub struct FieldSets {
     ignored: Names,
@@ -52,8 +52,8 @@ impl FieldSets {
         self.retained.add(names)
     }
 
-    /// Whether a field of this name is kept: where any name is retained, exactly if this one is; else exactly if it isn't
-    /// ignored. It takes no memory.
+    /// Whether a field of this name is kept: where any name is retained, exactly if this one is; else exactly if it
+    /// isn't ignored. It takes no memory.
     pub fn keeps(&self, name: &[u8]) -> bool
         ensures { result ≡ keeps self.now name.now }
     {

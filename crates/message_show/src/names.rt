@@ -8,8 +8,8 @@ use mail_text::{Memory, Text, same_ascii};
 use std::alloc::Global;
 use std::marker::Model;
 
-// A name of up to so many bytes is looked for in the index; a longer one would make a header's line longer than RFC 5322,
-// section 2.1.1 allows, and is compared with each name.
+// A name of up to so many bytes is looked for in the index; a longer one would make a header's line longer than RFC
+// 5322, section 2.1.1 allows, and is compared with each name.
 const LONGEST: usize = 998;
 
 // Names in order of first naming, each once, ASCII case ignored. Contracts see the list of them.

@@ -8,9 +8,10 @@ use mail_text::{Memory, Text};
 use message_state::Shown;
 use std::alloc::Global;
 
-/// The summary line of message `k`, without a line feed: the mark `>` of the current message, the letter of its state (N U R D
-/// P S M for New, Unread, Read, Deleted, Preserved, Saved and Mboxed), its number, its author, its date as a clock at the
-/// date's own offset shows it, its size, its depth and its subject, cut to `width - 1` bytes. Only want of memory can fail.
+/// The summary line of message `k`, without a line feed: the mark `>` of the current message, the letter of its
+/// state (N U R D P S M for New, Unread, Read, Deleted, Preserved, Saved and Mboxed), its number, its author, its
+/// date as a clock at the date's own offset shows it, its size, its depth and its subject, cut to `width - 1`
+/// bytes. Only want of memory can fail.
 pub fn summary_line(alloc: Global, shown: &Shown, k: u32, width: usize) -> Result<Text, Memory>
     requires valid { IsShown shown.now }
     requires first { 1 ≤ k }
@@ -22,8 +23,8 @@ pub fn summary_line(alloc: Global, shown: &Shown, k: u32, width: usize) -> Resul
     summary_at(alloc, shown, shown.current, place, width)
 }
 
-/// The summary lines of these messages in this order, each ended by one line feed. Numbers that stand in the order of the view
-/// are found in one walk over it. Only want of memory can fail.
+/// The summary lines of these messages in this order, each ended by one line feed. Numbers that stand in the order
+/// of the view are found in one walk over it. Only want of memory can fail.
 pub fn summary_lines(
     alloc: Global,
     shown: &Shown,
@@ -44,8 +45,8 @@ pub fn summary_lines(
     Ok(text)
 }
 
-/// The summary lines of up to `lines` places of the view from place `start`, counted from 0, each ended by one line feed. Only
-/// want of memory can fail.
+/// The summary lines of up to `lines` places of the view from place `start`, counted from 0, each ended by one line
+/// feed. Only want of memory can fail.
 pub fn page(
     alloc: Global,
     shown: &Shown,
@@ -95,7 +96,9 @@ fn push_summary(
     requires valid { IsShown shown.now }
     requires place { place < length shown.now.order }
     requires width { 2 ≤ width }
-    ensures { OnOk result (text.new ≡ text.old ++ with_feed (summary (with_current shown.now current) (slice_index shown.now.order place) width)) }
+    ensures { OnOk result
+        (text.new ≡ text.old ++ with_feed
+        (summary (with_current shown.now current) (slice_index shown.now.order place) width)) }
 {
     let line = summary_at(alloc, shown, current, place, width)?;
     text.push(line.bytes())?;
@@ -113,7 +116,8 @@ fn summary_at(
     requires valid { IsShown shown.now }
     requires place { place < length shown.now.order }
     requires width { 2 ≤ width }
-    ensures { IfOk result (λ t. t ≡ summary (with_current shown.now current) (slice_index shown.now.order place) width) }
+    ensures { IfOk result
+        (λ t. t ≡ summary (with_current shown.now current) (slice_index shown.now.order place) width) }
 {
     let number = shown.order.items()[place];
     let depth = shown.depth.items()[place];
@@ -137,7 +141,8 @@ fn cut(alloc: Global, columns: Text, subject: &[u8], most: usize) -> Result<Text
     }
 }
 
-// The place of message `k` in the view. It is its place where no view is sorted, or stands after the place `from`, or before.
+// The place of message `k` in the view. It is its place where no view is sorted, or stands after the place `from`,
+// or before.
 fn place_of(shown: &Shown, k: u32, from: usize) -> usize
     requires valid { IsShown shown.now }
     requires first { 1 ≤ k }

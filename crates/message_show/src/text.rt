@@ -18,9 +18,9 @@ pub enum How {
     All,
 }
 
-/// The text of a message as it is shown: the From line, the lines of the header that are no field and the fields that are
-/// shown, in their order in the header, and, where there is a body, an empty line and the body. No line feed is put at its
-/// end. Only want of memory can fail.
+/// The text of a message as it is shown: the From line, the lines of the header that are no field and the fields
+/// that are shown, in their order in the header, and, where there is a body, an empty line and the body. No line
+/// feed is put at its end. Only want of memory can fail.
 pub fn shown_text(
     alloc: Global,
     m: &MessageRef<'_>,
@@ -41,8 +41,8 @@ pub fn shown_text(
     Ok(text)
 }
 
-/// The first `count` lines of what is shown of a message with its kept fields, each ended by one line feed; all lines where
-/// there are fewer. Only want of memory can fail.
+/// The first `count` lines of what is shown of a message with its kept fields, each ended by one line feed; all
+/// lines where there are fewer. Only want of memory can fail.
 pub fn top(alloc: Global, m: &MessageRef<'_>, sets: &FieldSets, count: u64) -> Result<Text, Memory>
     ensures { IfOk result (λ t. t ≡ top_text m.now sets.now count) }
 {

@@ -17,8 +17,8 @@ pub fn acts_by_the_table()
     ensures seen_stays { SeenStays }
 {}
 
-/// Laws of stamped texts: a stamped text has the letters of the mark, and so has its mark; a text that is stamped twice is as it was
-/// stamped once, and nothing but `Status` fields differs in it.
+/// Laws of stamped texts: a stamped text has the letters of the mark, and so has its mark; a text that is stamped
+/// twice is as it was stamped once, and nothing but `Status` fields differs in it.
 pub fn stamps_read_back()
     ensures reads { StampReads }
     ensures marks { StampMarks }

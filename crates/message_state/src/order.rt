@@ -5,7 +5,8 @@ use mail_text::{Items, Memory};
 use std::alloc::Global;
 use std::marker::Model;
 
-/// The numbers of messages in the order of a view. Contracts see the list of them. It knows whether it is the order by number.
+/// The numbers of messages in the order of a view. Contracts see the list of them. It knows whether it is the order
+/// by number.
 #[derive(Drop)]
 pub struct Order {
     numbers: Items<u32>,

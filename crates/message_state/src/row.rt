@@ -34,8 +34,8 @@ pub struct Row {
     pub size: u64,
 }
 
-/// What is known of a message of this text, which is read once. A value is taken as it is unfolded. Only want of memory can
-/// fail.
+/// What is known of a message of this text, which is read once. A value is taken as it is unfolded. Only want of
+/// memory can fail.
 pub fn row_of(alloc: Global, text: &[u8]) -> Result<Row, Memory>
     ensures row { IfOk result (IsRow text.now) }
     ensures years { IfOk result (λ row. IfSome row.moment IsInYears) }

@@ -9,8 +9,8 @@ use std::marker::Model;
 // How many rows a block has.
 const BLOCK: usize = 1_024;
 
-/// The rows of messages by number. Contracts see them as the list. It knows blocks of rows that are all deleted, so that the
-/// nearest row that isn't is found without a walk.
+/// The rows of messages by number. Contracts see them as the list. It knows blocks of rows that are all deleted, so
+/// that the nearest row that isn't is found without a walk.
 #[derive(Drop)]
 pub struct RowList {
     rows: Items<Row>,

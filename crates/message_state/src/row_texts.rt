@@ -35,7 +35,14 @@ impl RowTexts {
         to: &[u8],
         own_id: &[u8],
     ) -> Result<RowTexts, Memory>
-        ensures { IfOk result (λ texts. texts ≡ record { subject = subject.now; author = author.now; shown_author = shown_author.now; to = to.now; own_id = own_id.now }) }
+        ensures { IfOk result
+            (λ texts. texts ≡ record {
+                subject = subject.now;
+                author = author.now;
+                shown_author = shown_author.now;
+                to = to.now;
+                own_id = own_id.now;
+            }) }
     {
         let room = subject
             .len()
@@ -86,7 +93,8 @@ impl RowTexts {
         &self.bytes.bytes()[self.shown_author_end..self.to_end]
     }
 
-    /// The message's own identifier, the first of `Message-ID` (RFC 5322, section 3.6.4), with its angle brackets, or empty.
+    /// The message's own identifier, the first of `Message-ID` (RFC 5322, section 3.6.4), with its angle brackets,
+    /// or empty.
     pub fn own_id(&self) -> &[u8]
         ensures { result.now ≡ self.now.own_id }
     {

@@ -7,9 +7,9 @@ use mail_headers::{EntryRef, FieldRef, Header, unfolded};
 use mail_text::{Memory, Text, same_ascii};
 use std::alloc::Global;
 
-/// The text of a message with the mark stamped on it: where the value of its first `Status` field is `RO` for a message that was
-/// seen, and `O` for another, the text as it is; else the text without its `Status` fields, with a new one last in the header.
-/// Only want of memory can fail.
+/// The text of a message with the mark stamped on it: where the value of its first `Status` field is `RO` for a
+/// message that was seen, and `O` for another, the text as it is; else the text without its `Status` fields, with a
+/// new one last in the header. Only want of memory can fail.
 pub fn stamped(alloc: Global, text: &[u8], mark: Mark) -> Result<Text, Memory>
     ensures { IfOk result (λ t. t ≡ stamped text.now mark) }
 {

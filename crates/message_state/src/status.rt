@@ -4,8 +4,8 @@ ghost use Rattle.message_state.specs.Status.{mark_of, mark_of_status, mark_of_va
 use crate::{Mark, State};
 use mail_headers::{FieldRef, Header};
 
-/// The mark of a message by its first `Status` field: with an `R` it is read and seen, with an `O` and no `R` unread, else new.
-/// It takes no memory.
+/// The mark of a message by its first `Status` field: with an `R` it is read and seen, with an `O` and no `R`
+/// unread, else new. It takes no memory.
 pub fn mark_of(header: &Header<'_>) -> Mark
     ensures { result ≡ mark_of header.now }
 {

@@ -1,4 +1,5 @@
-//! What a quit makes of an open folder: which messages stay, which go to mbox and which leave, and the changes of both files.
+//! What a quit makes of an open folder: which messages stay, which go to mbox and which leave, and the changes of
+//! both files.
 #![tactic(auto)]
 
 mod count;

@@ -68,7 +68,8 @@ fn front(alloc: Global, folder: &Open, count: usize) -> Result<Items<Text>, Memo
     Ok(texts)
 }
 
-// The texts of a folder that stay and that go to mbox. The first ones, so many, stay as they are, so that they aren't read again.
+// The texts of a folder that stay and that go to mbox. The first ones, so many, stay as they are, so that they
+// aren't read again.
 fn parts_of(alloc: Global, folder: &Open, rules: Rules, unchanged: usize) -> Result<Parts, Memory>
     requires open { IsOpen folder.now }
     requires unchanged { unchanged ≡ unchanged_len rules (messages_of folder.now) }
@@ -119,9 +120,9 @@ fn mbox_changes(
     Ok(changes)
 }
 
-/// What a quit changes, in this order: the stamped texts that go to mbox are put there, where there are any; then the folder is
-/// rewritten to the stamped texts that stay, where these aren't the texts that it has. The base of that Rewrite is `folder`.
-/// Where nothing has changed there is no change at all, and no text is copied.
+/// What a quit changes, in this order: the stamped texts that go to mbox are put there, where there are any; then
+/// the folder is rewritten to the stamped texts that stay, where these aren't the texts that it has. The base of
+/// that Rewrite is `folder`. Where nothing has changed there is no change at all, and no text is copied.
 pub fn quit_changes(
     alloc: Global,
     folder: &Open,

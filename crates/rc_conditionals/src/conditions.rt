@@ -98,10 +98,10 @@ impl Conditions {
         self.open.truncate(depth);
     }
 
-    /// Carries out `if` with its test, `else` or `endif`, which `word` names. The tests are `s` for send mode, `r` for receive
-    /// mode and `t` for a terminal. `BadTest` comes where the test of an `if` is none of these, else `TooDeep` where 16
-    /// conditions are open; `ElseWithoutIf` where none is open or the innermost has had its else; `EndWithoutIf` where none
-    /// is open. After an error all is as before.
+    /// Carries out `if` with its test, `else` or `endif`, which `word` names. The tests are `s` for send mode, `r`
+    /// for receive mode and `t` for a terminal. `BadTest` comes where the test of an `if` is none of these, else
+    /// `TooDeep` where 16 conditions are open; `ElseWithoutIf` where none is open or the innermost has had its
+    /// else; `EndWithoutIf` where none is open. After an error all is as before.
     pub fn turn(
         &mut self,
         word: &[u8],
@@ -142,7 +142,8 @@ impl Conditions {
 
     // Turns the innermost condition round.
     fn turn_else(&mut self) -> Result<(), CondError>
-        ensures turned { MatchResult result (λ _. turned_else self.old ≡ Ok self.new) (λ e. turned_else self.old ≡ Err e) }
+        ensures turned { MatchResult result (λ _. turned_else self.old ≡ Ok self.new)
+            (λ e. turned_else self.old ≡ Err e) }
         ensures err { OnErr result (self.new ≡ self.old) }
     {
         match self.open.as_slice().last() {

@@ -1,4 +1,5 @@
-//! Conditions of start-up files and macros: `if`, `else` and `endif`, and whether the lines between them are carried out.
+//! Conditions of start-up files and macros: `if`, `else` and `endif`, and whether the lines between them are
+//! carried out.
 #![tactic(auto)]
 
 mod conditions;

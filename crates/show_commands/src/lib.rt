@@ -1,4 +1,5 @@
-//! Commands that show messages, or tell of them: print, top, next, the view by pages, summary lines, sizes, `=`, echo and help.
+//! Commands that show messages, or tell of them: print, top, next, the view by pages, summary lines, sizes, `=`,
+//! echo and help.
 #![tactic(auto)]
 
 mod paging;
