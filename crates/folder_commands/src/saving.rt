@@ -8,7 +8,9 @@ ghost use Rattle.folder_commands.specs.Saving.{marked, reply, body_line, adding,
 
 use crate::Filing;
 use crate::file_names::{file_word, list_words, named_after};
-use command_desk::{Desk, Effects, Refusal, chosen, expanded, fault, last_message, markings, message, moved};
+use command_desk::{
+    Desk, Effects, Refusal, chosen, expanded, fault, last_message, markings, message, moved,
+};
 use folder_change::Change;
 use itoa::Buffer;
 use mail_headers::Header;

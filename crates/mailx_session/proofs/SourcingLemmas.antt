@@ -1,15 +1,17 @@
 -- Lines that a command brings.
 use Rattle.std.proofs.Common.{◌≡◌, ◌+◌, ◌-◌, ◌*◌, ◌^◌, ◌<◌, ◌≤◌, ℕ, Bool, true, false, cond, List, [], ◌∷◌, ◌++◌, length, take, refl, sym, ◌∙◌, ap, subst, arith, ⊎_elim, append_assoc}
-use Rattle.std.specs.Prelude.{get_or}
+use Rattle.std.specs.Prelude.{get_or, nat_lt, if◌then◌else◌}
 use Rattle.std.specs.List.{list_any}
 use Rattle.std.proofs.lemmas.Bool.{cases_Bool}
 use Rattle.std.proofs.lemmas.List.{append-nil, take_at}
 use Rattle.std.proofs.lemmas.List.Folds.{list_any_at}
 use Rattle.std.proofs.lemmas.List.Sums.{sum_by-append}
-use Rattle.std.specs.declared.option.Option.TheVariants.{None}
+use Rattle.std.specs.declared.option.Option.TheVariants.{Some, None}
 use Rattle.std.specs.declared.result.Result.{Result}
 use Rattle.std.specs.declared.result.Result.TheVariants.{Ok, Err}
 use Rattle.mail_text.specs.Lines.{lines_of}
+use Rattle.mailx_vars.specs.Names.{is_short_name}
+use Rattle.command_desk.specs.Faults.{bad_name, sources_too_deep}
 use Rattle.mail_text.proofs.LineLemmas.{length-lines_of}
 use Rattle.command_desk.specs.declared.steps.Ask as asked_of
 use Rattle.read_commands.specs.declared.origin.Origin.{Origin}
@@ -21,7 +23,7 @@ use Rattle.mailx_session.specs.declared.state.SessionState.{SessionState}
 use Rattle.mailx_session.specs.Waits.{Pending}
 use Rattle.mailx_session.specs.Pending.{frame_of, lines_left}
 use Rattle.mailx_session.specs.States.{IsState, with_frames}
-use Rattle.mailx_session.specs.Sourcing.{is_source, sources, source_limit, origin_at, with_source, brings, room, weight, OnlyBrings}
+use Rattle.mailx_session.specs.Sourcing.{is_source, sources, source_limit, origin_at, source_fault, with_source, brings, room, weight, OnlyBrings}
 use Rattle.mailx_session.specs.Sessions.{after_asks, in_play, is_on, StaysUnlessOn}
 
 le-refl : (n : ℕ) → n ≤ n
@@ -49,7 +51,7 @@ brings_valid s t is b = subst IsState (sym b.rest) (record { desk = is.desk; act
 -- without what was brought the state is as before
 pub cut-back : (s t : SessionState) (depth : ℕ) → OnlyBrings s t → depth ≡ length s.frames → with_frames t (take depth t.frames) ≡ s
 cut-back s t depth b is =
-    let front : take depth t.frames ≡ s.frames = ap (take depth) b.inside.1 ∙ take_at s.frames b.inside.0 depth is in
+    let front : take depth t.frames ≡ s.frames = ap (take depth) b.inside.1 ∙ take_at s.frames b.inside.0 depth (sym is) in
     ap (with_frames t) front ∙ ap (λ (u : SessionState). with_frames u s.frames) b.rest
 
 -- one frame more
@@ -114,3 +116,11 @@ weight-taken s fs fewer = omega arith
 
 pub weight-fewer : (s : SessionState) (fs : List Pending) → lines_left fs ≤ lines_left s.frames → weight (with_frames s fs) ≤ weight s
 weight-fewer s fs fewer = omega arith
+
+-- a file that may be loaded has a file's name
+pub source-name : (frames : List Pending) (name : List ℕ) → source_fault frames name ≡ None → is_short_name name ≡ true
+source-name frames name plain = go (is_short_name name) (nat_lt (sources frames) source_limit) plain
+  where
+    go : (short few : Bool) → (if short then (if few then None else Some sources_too_deep) else Some (bad_name name)) ≡ None → short ≡ true
+    go true few h = refl
+    go false few h = absurd (cc h)

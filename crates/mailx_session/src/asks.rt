@@ -42,7 +42,7 @@ pub(crate) fn say<H: Host>(host: &mut H, bytes: &[u8]) -> Result<(), RunError>
 }
 
 // Does one thing that is asked for. The state stays, but for the lines that this brings.
-#[tactic(auto, using(mailx_session::proofs::SourcingLemmas::brings_none))]
+#[tactic(auto, using(crate::proofs::SourcingLemmas::brings_none))]
 fn do_ask<H: Host>(
     alloc: Global,
     state: &mut SessionState,

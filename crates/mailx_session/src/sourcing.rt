@@ -1,5 +1,5 @@
 // A file whose lines a command brings.
-ghost use Rattle.std.specs.Prelude.{◌≡◌, ◌<◌, None, IfOk, OnErr};
+ghost use Rattle.std.specs.Prelude.{◌≡◌, ◌<◌, ◌^◌, None, length, IfOk, OnErr};
 ghost use Rattle.host_port.specs.Calls.{NeverFall};
 ghost use Rattle.host_port.specs.Ran.{Ran};
 ghost use Rattle.session_play.specs.Play.{Play, Goes};
@@ -31,6 +31,14 @@ fn source_fault(alloc: Global, frames: &Frames, name: &[u8]) -> Result<Option<Te
     }
 }
 
+// How many bytes a text has: a number of 64 bits.
+fn size_of(text: &Text) -> usize
+    ensures size { result ≡ length text.now }
+    ensures small { length text.now < 2 ^ 64 }
+{
+    text.bytes().len()
+}
+
 // Puts the lines of a text in front of those that wait.
 fn bring(state: &mut SessionState, text: Text) -> Result<Asked, Memory>
     requires { sources state.old.frames < source_limit }
@@ -40,7 +48,7 @@ fn bring(state: &mut SessionState, text: Text) -> Result<Asked, Memory>
     ensures err { OnErr result (state.new ≡ state.old) }
 {
     // the clause `brings` speaks of how many lines a text can have
-    let _length = text.bytes().len();
+    let _size = size_of(&text);
     let frame = Frame::new(state.frames.origin(), FrameKind::Source, text);
     match state.frames.push(frame) {
         Ok(()) => Ok(Asked::On),
@@ -61,9 +69,12 @@ fn after_load(
     ensures end { IfOk result EndsByAsk }
 {
     match found {
-        Some(Found::Bytes {
-            bytes: Some(text), ..
-        }) => bring(state, text),
+        Some(
+            Found::Bytes {
+                bytes: Some(text),
+                ..
+            },
+        ) => bring(state, text),
         Some(Found::Bytes { bytes: None, .. }) => refused(alloc, name, b": no such file"),
         Some(Found::TooLarge { .. }) => refused(alloc, name, b": too large"),
         None => refused(alloc, name, b": cannot be read"),
