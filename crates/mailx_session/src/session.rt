@@ -142,6 +142,7 @@ impl Session {
     pub fn end<H: Host>(&mut self, host: &mut H) -> Result<Status, RunError>
         ensures ran { Ran H.world host.old host.new
             (λ es. Goes (leaving self.old) es (in_play (λ (e : Status). e) result)) }
+        ensures idle { rested self.old ≡ self.old }
         ensures stays { self.new ≡ self.old }
         ensures end { IfOk result IsEnd }
         ensures cause { LineCaused (H.world.counts host.old) (H.world.counts host.new) result }

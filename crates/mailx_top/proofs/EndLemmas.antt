@@ -79,16 +79,16 @@ actor-read env places is = ap (λ (p : Places). p.home ++ codes "/.mailx") (go (
     go false same = absurd (cc same)
 
 -- an error has the cause of its cut
-pub caused-line : {T : Type 0} (old new : Counts) (e : RunError) → LineCaused {T = T} old new (Err e) → Caused {T = Option Status} old new (Err (stop_of e))
-caused-line old new error.Output rose = rose
-caused-line old new error.Disk rose = rose
-caused-line old new error.Memory c = tt
+pub caused-line : (T : Type 0) (old new : Counts) (e : RunError) → LineCaused {T = T} old new (Err e) → Caused {T = Option Status} old new (Err (stop_of e))
+caused-line T old new error.Output rose = rose
+caused-line T old new error.Disk rose = rose
+caused-line T old new error.Memory c = tt
 
 -- where a run has ended nothing is said of its going on
-pub ended-whatever : (r : Result (Option Status) Stop) {P : Type 0} → IfOk r IsSome → IfOk r (λ e. IfNone e P)
-ended-whatever (Ok (Some e)) some = tt
-ended-whatever (Ok None) never = absurd never
-ended-whatever (Err cause) some = tt
+pub ended-whatever : (r : Result (Option Status) Stop) (P : Type 0) → IfOk r IsSome → IfOk r (λ e. IfNone e P)
+ended-whatever (Ok (Some e)) P some = tt
+ended-whatever (Ok None) P never = absurd (cc never)
+ended-whatever (Err cause) P some = tt
 
 -- a line ends a run so that isn't cut off
 pub line-ends : (r : Result (Option Status) Stop) → IfOk r (λ e. IfSome e IsLineEnd) → IfOk r (λ e. IfSome e IsEnd)

@@ -104,13 +104,13 @@ leads-once env x es (Ok (Last e)) goes = last goes
 leads-once env x es (Err cause) goes = cut goes
 
 -- the end of the input
-pub end-leads : (env : Environment) (s : SessionState) (i j : Input) (out : Result (Next RunState Status) Stop) → s.frames ≡ [] → (took es : List Event)
+pub end-leads : (env : Environment) (s : SessionState) (i j : Input) (out : Result (Next RunState Status) Stop) → s.frames ≡ [] → rested s ≡ s → (took es : List Event)
     → Goes (Ask (Line i) Ret) took (Ok (None, j)) → Goes (last_round s) es out → LeadsAfterPrompt env s i (took ++ es) out
-end-leads env s i j out idle took es takes goes = λ said says.
-    leads-more env (Reading s i) (Leaving s j) (said ++ took) es (said ++ (took ++ es)) out (sym (append_assoc said took es))
-    (subst (λ (l : List Event). Goes (round env (Reading s i)) (said ++ l) (Ok (Go (Leaving s j)))) (append-nil took)
-    (asked-round env s i j None said took [] (Ok (Go (Leaving s j))) idle says takes (refl, inl refl)))
-    (leads-once env (Leaving s j) es out goes)
+end-leads env s i j out idle at_rest took es takes goes = λ said says.
+    leads-more env (Reading s i) (Leaving (rested s) j) (said ++ took) es (said ++ (took ++ es)) out (sym (append_assoc said took es))
+    (subst (λ (l : List Event). Goes (round env (Reading s i)) (said ++ l) (Ok (Go (Leaving (rested s) j)))) (append-nil took)
+    (asked-round env s i j None said took [] (Ok (Go (Leaving (rested s) j))) idle says takes (refl, inl refl)))
+    (leads-once env (Leaving (rested s) j) es out (subst (λ (t : SessionState). Goes (last_round t) es out) (sym at_rest) goes))
 
 -- a line that isn't taken
 pub take-cut-leads : (env : Environment) (s : SessionState) (i : Input) (cause : Stop) → s.frames ≡ [] → (took : List Event) → Goes {R = Option (List ℕ) × Input} (Ask (Line i) Ret) took (Err cause)

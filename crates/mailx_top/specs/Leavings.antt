@@ -11,13 +11,12 @@ use Rattle.folder_change.specs.declared.change.Change.{Change}
 use Rattle.session_play.specs.declared.changing.Committed.{Committed}
 use Rattle.session_play.specs.declared.changing.Committed.TheVariants as committed
 use Rattle.session_play.specs.declared.stop.Stop.{Stop}
-use Rattle.session_play.specs.Play.{Act, Answer, Changes, Play, Ret, Ask, Goes, Last, Loop, again, last, cut}
+use Rattle.session_play.specs.Play.{Act, Answer, Changes, Play, Ret, Ask, Goes, Next, Last, Loop, again, last, cut}
 use Rattle.quit_rules.specs.Plans.{quit_changes}
 use Rattle.mailx_session.specs.declared.state.SessionState.{SessionState}
 use Rattle.mailx_session.specs.declared.status.Status.{Status}
 use Rattle.mailx_session.specs.Saving.{names_fault, is_changed}
-use Rattle.mailx_top.specs.declared.environment.Environment.{Environment}
-use Rattle.mailx_top.specs.Meaning.{RunState, Leaving, round}
+use Rattle.mailx_top.specs.Meaning.{RunState, Leaving}
 
 -- what an act was answered, if it commits; else a later answer
 abbrev pub or_answered : (act : Act) → Answer act → Option Committed → Option Committed
@@ -54,7 +53,7 @@ is_refused_at (Leaving s i) answer = is_quit_refused s answer
 is_refused_at x answer = false
 
 -- the last round of a run left the folder at the end of the input, and that quit was refused
-abbrev pub refused_at_end : {env : Environment} {x : RunState} {es : List Event} {out : Result Status Stop} → Loop (round env) x es out → Bool
+abbrev pub refused_at_end : {round : RunState → Play (Next RunState Status)} {x : RunState} {es : List Event} {out : Result Status Stop} → Loop round x es out → Bool
 refused_at_end (again front rest is goes more) = refused_at_end more
-refused_at_end {env = env} (last {x = x} {es = es} {r = r} goes) = is_refused_at x (first_answer (round env x) es (Ok (Last r)) goes)
+refused_at_end {round = round} (last {x = x} {es = es} {r = r} goes) = is_refused_at x (first_answer (round x) es (Ok (Last r)) goes)
 refused_at_end (cut goes) = false

@@ -24,7 +24,7 @@ use Rattle.mailx_session.specs.Openings.{first_state, with_opened, greeting}
 use Rattle.mailx_session.specs.declared.frames.WaitingLine.{WaitingLine}
 use Rattle.mailx_session.specs.Waits.{Pending}
 use Rattle.mailx_session.specs.Pending.{taken}
-use Rattle.mailx_session.specs.States.{with_frames}
+use Rattle.mailx_session.specs.States.{with_frames, rested}
 use Rattle.mailx_session.specs.Rounds.{typed_play, waiting_play}
 use Rattle.mailx_session.specs.Leaving.{leaving}
 use Rattle.mailx_top.specs.declared.environment.Environment.{Environment}
@@ -42,9 +42,9 @@ abbrev pub with_input : Input → Next SessionState Status → Play (Next RunSta
 with_input j (Go s) = Ret (Go (Reading s j))
 with_input j (Last e) = Ret (Last e)
 
--- what a line of the input does; without one the folder is left
+-- what a line of the input does; without one the folder is left, in a state at rest
 abbrev pub turn : SessionState → Input → Option (List ℕ) → Play (Next RunState Status)
-turn s j None = Ret (Go (Leaving s j))
+turn s j None = Ret (Go (Leaving (rested s) j))
 turn s j (Some line) = bind (typed_play s line) (with_input j)
 
 -- what is said before a line is asked for: on a terminal the value of `prompt`

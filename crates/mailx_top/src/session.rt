@@ -7,6 +7,7 @@ ghost use Rattle.session_play.specs.Input.{Input, left, no_input};
 ghost use Rattle.session_play.specs.Play.{Play, Goes, Loop, Caused};
 ghost use Rattle.mailx_session.specs.Rounds.{LineGoes};
 ghost use Rattle.mailx_session.specs.Sessions.{stop_of};
+ghost use Rattle.mailx_session.specs.States.{rested};
 ghost use Rattle.mailx_session.specs.Statuses.{IsEnd, IsLineEnd};
 ghost use Rattle.mailx_top.specs.declared.environment.Environment.{Environment};
 ghost use Rattle.mailx_top.specs.Meaning.{round, Reading, last_round, next_state, prompted, after_line, LeadsTo, LeadsAfterPrompt};
@@ -70,6 +71,7 @@ fn leave<H: Host>(host: &mut H, session: &mut Session) -> Result<Option<Status>,
     ensures ran { (j : Input) → Ran H.world host.old host.new
         (λ es. Goes (last_round session.old) es (next_state session.new j result)) }
     ensures cause { Caused (H.world.counts host.old) (H.world.counts host.new) result }
+    ensures idle { rested session.old ≡ session.old }
     ensures ended { IfOk result IsSome }
     ensures plain { IfOk result (λ end. IfSome end IsEnd) }
 {
