@@ -86,3 +86,15 @@ too_many_names = with_feed (codes "too many names")
 -- the message has no author
 abbrev pub no_author : List ℕ
 no_author = with_feed (codes "no author")
+
+-- there is no file of this name
+abbrev pub no_such_file : List ℕ → List ℕ
+no_such_file name = with_feed (name ++ codes ": no such file")
+
+-- the load of the file failed
+abbrev pub cannot_be_read : List ℕ → List ℕ
+cannot_be_read name = with_feed (name ++ codes ": cannot be read")
+
+-- as many sourced files are open as may be
+abbrev pub sources_too_deep : List ℕ
+sources_too_deep = with_feed (codes "sources nest too deep")

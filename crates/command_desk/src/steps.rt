@@ -14,6 +14,8 @@ pub enum Ask {
     Say(Text),
     /// These changes of files are committed at once. Their names may be some that no file can have.
     Commit { changes: Items<Change> },
+    /// The lines of the file of this name are carried out then. Its name may be one that no file can have.
+    Source { name: Text },
     /// The run ends without changes.
     Exit,
 }

@@ -5,9 +5,9 @@ use Rattle.message_state.specs.declared.mark.Act.{Act}
 use Rattle.message_list.specs.declared.list.Purpose.TheVariants.{Live}
 use Rattle.command_desk.specs.declared.desk.Desk.{Desk}
 use Rattle.command_desk.specs.Answers.{OrFault, next}
+use Rattle.command_desk.specs.FileNames.{expanded}
 use Rattle.command_desk.specs.Selecting.{chosen}
 use Rattle.folder_commands.specs.declared.wanted.Filing.{Filing}
-use Rattle.command_desk.specs.FileNames.{expanded}
 use Rattle.folder_commands.specs.Saving.{adding, writing, into_named, write_to}
 
 -- two things that nothing refuses, and what they come to

@@ -14,6 +14,7 @@ use Rattle.command_desk.specs.declared.steps.Ask.TheVariants as asks
 use Rattle.mailx_session.specs.declared.status.Status.TheVariants.{Done}
 use Rattle.folder_change.specs.declared.change.Change.{Change}
 use Rattle.mailx_session.specs.Saving.{names_fault, saved}
+use Rattle.mailx_session.specs.Sourcing.{source_fault, sourced}
 use Rattle.mailx_session.specs.Sessions.{asked, LineCaused}
 
 pub asked-say : (s : SessionState) (ask : asked_of.Ask) (bytes : List ℕ) → ask ≡ asks.Say bytes → asked s ask ≡ Ask (Say bytes) (λ _. Ret (On s))
@@ -21,6 +22,9 @@ asked-say s ask bytes is = ap (asked s) is
 
 pub asked-commit : (s : SessionState) (ask : asked_of.Ask) (changes : List Change) → ask ≡ asks.Commit changes → asked s ask ≡ saved s changes (names_fault s.actor changes)
 asked-commit s ask changes is = ap (asked s) is
+
+pub asked-source : (s : SessionState) (ask : asked_of.Ask) (name : List ℕ) → ask ≡ asks.Source name → asked s ask ≡ sourced s name (source_fault s.frames name)
+asked-source s ask name is = ap (asked s) is
 
 pub asked-exit : (s : SessionState) (ask : asked_of.Ask) → ask ≡ asks.Exit → asked s ask ≡ Ret (Ended Done)
 asked-exit s ask is = ap (asked s) is

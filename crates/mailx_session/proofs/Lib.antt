@@ -5,3 +5,4 @@ pub mod PendingLemmas
 pub mod RoundLemmas
 pub mod StateLemmas
 pub mod SavingLemmas
+pub mod SourcingLemmas

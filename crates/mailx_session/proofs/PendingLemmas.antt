@@ -10,21 +10,20 @@ use Rattle.std.specs.declared.option.Option.{Option}
 use Rattle.std.specs.declared.option.Option.TheVariants.{Some, None}
 use Rattle.mail_text.specs.Lines.{lines_of, in_front}
 use Rattle.mail_text.proofs.LineLemmas.{lines_of-nil, lines_of-feed, lines_of-byte, lines_of-some}
-use Rattle.read_commands.specs.declared.origin.Origin.{Origin}
 use Rattle.mailx_session.specs.declared.frames.WaitingLine.{WaitingLine}
 use Rattle.mailx_session.specs.Waits.{Pending}
 use Rattle.mailx_session.specs.Pending.{taken, or_own, own_line, line_from, lines_left, IsTaken, IsHanded}
 
 -- an innermost frame without a line counts for nothing
 pub taken-closed : (fs : List Pending) (f : Pending) → f.lines ≡ [] → taken (fs ++ f ∷ []) ≡ taken fs
-taken-closed [] f none = ap (own_line f.origin) none
+taken-closed [] f none = ap (own_line f) none
 taken-closed (g ∷ fs) f none = ap (or_own g) (taken-closed fs f none)
 
 -- an innermost frame with a line hands it out
-pub taken-last : (fs : List Pending) (f g : Pending) (line : List ℕ) → g.origin ≡ f.origin → f.lines ≡ line ∷ g.lines
+pub taken-last : (fs : List Pending) (f g : Pending) (line : List ℕ) → g ≡ record f { lines = g.lines } → f.lines ≡ line ∷ g.lines
     → taken (fs ++ f ∷ []) ≡ Some (line_from g.origin line, fs ++ g ∷ [])
 taken-last [] f g line same is =
-    ap (own_line f.origin) is ∙ ap (λ (o : Origin). Some (line_from o line, record { origin = o; lines = g.lines } ∷ [])) (sym same)
+    ap (own_line f) is ∙ ap (λ (h : Pending). Some (line_from h.origin line, h ∷ [])) (sym same)
 taken-last (h ∷ fs) f g line same is = ap (or_own h) (taken-last fs f g line same is)
 
 drop-more : (n b : ℕ) (bs : List ℕ) → drop (suc n + 1) (b ∷ bs) ≡ drop (n + 1) bs
@@ -62,10 +61,10 @@ abbrev frames_of : Option (WaitingLine × List Pending) → List Pending
 frames_of (Some p) = p.1
 frames_of None = []
 
-own-fewer : (f : Pending) (gs : List Pending) (line : WaitingLine) (n : ℕ) (ls : List (List ℕ)) → own_line f.origin ls ≡ Some (line, gs) → lines_left gs < length ls + n
+own-fewer : (f : Pending) (gs : List Pending) (line : WaitingLine) (n : ℕ) (ls : List (List ℕ)) → own_line f ls ≡ Some (line, gs) → lines_left gs < length ls + n
 own-fewer f gs line n [] is = absurd (cc is)
 own-fewer f gs line n (l ∷ ls) is =
-    let same : gs ≡ record { origin = f.origin; lines = ls } ∷ [] = sym (ap frames_of is) in
+    let same : gs ≡ record f { lines = ls } ∷ [] = sym (ap frames_of is) in
     let left : lines_left gs ≡ length ls + 0 = ap lines_left same in
     omega arith
 

@@ -3,6 +3,7 @@ pub mod Waits
 pub mod Pending
 pub mod States
 pub mod Saving
+pub mod Sourcing
 pub mod Sessions
 pub mod Leaving
 pub mod Follows

@@ -5,25 +5,26 @@ use Rattle.std.specs.declared.option.Option.TheVariants.{Some, None}
 use Rattle.mail_text.specs.Lines.{lines_of}
 use Rattle.read_commands.specs.declared.origin.Origin.{Origin}
 use Rattle.mailx_session.specs.declared.frames.WaitingLine.{WaitingLine}
+use Rattle.mailx_session.specs.declared.kinds.FrameKind.{FrameKind}
 use Rattle.mailx_session.specs.Waits.{Pending}
 
--- the lines of a text from somewhere
-abbrev pub frame_of : Origin → List ℕ → Pending
-frame_of origin text = record { origin = origin; lines = lines_of text }
+-- the lines of a text from somewhere, brought so
+abbrev pub frame_of : Origin → FrameKind → List ℕ → Pending
+frame_of origin kind text = record { origin = origin; kind = kind; lines = lines_of text }
 
 -- a line from somewhere
 abbrev pub line_from : Origin → List ℕ → WaitingLine
 line_from origin text = record { origin = origin; text = text }
 
 -- a frame's own next line, and the frame without it
-abbrev pub own_line : Origin → List (List ℕ) → Option (WaitingLine × List Pending)
-own_line origin [] = None
-own_line origin (l ∷ ls) = Some (line_from origin l, record { origin = origin; lines = ls } ∷ [])
+abbrev pub own_line : Pending → List (List ℕ) → Option (WaitingLine × List Pending)
+own_line f [] = None
+own_line f (l ∷ ls) = Some (line_from f.origin l, record f { lines = ls } ∷ [])
 
 -- the next line of frames inside of another, else its own
 abbrev pub or_own : Pending → Option (WaitingLine × List Pending) → Option (WaitingLine × List Pending)
 or_own f (Some taken) = Some (taken.0, f ∷ taken.1)
-or_own f None = own_line f.origin f.lines
+or_own f None = own_line f f.lines
 
 -- the next line of the innermost frame that has one, the last such of the list, and the frames with which that leaves: those
 -- inside of it, which have none, are closed
@@ -38,7 +39,7 @@ IsTaken None old new = (taken old ≡ None) × (new ≡ [])
 
 -- a frame handed out its next line, or has none
 abbrev pub IsHanded : Option (List ℕ) → Pending → Pending → Type 0
-IsHanded (Some line) old new = (new.origin ≡ old.origin) × (old.lines ≡ line ∷ new.lines)
+IsHanded (Some line) old new = (new ≡ record old { lines = new.lines }) × (old.lines ≡ line ∷ new.lines)
 IsHanded None old new = (old.lines ≡ []) × (new ≡ old)
 
 -- how many lines wait

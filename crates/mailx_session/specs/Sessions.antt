@@ -1,5 +1,5 @@
 -- What a session does with a line.
-use Rattle.std.specs.Prelude.{◌≡◌, ℕ, List}
+use Rattle.std.specs.Prelude.{◌≡◌, ℕ, Bool, true, false, List}
 use Rattle.std.specs.declared.result.Result.{Result}
 use Rattle.std.specs.declared.result.Result.TheVariants.{Ok, Err}
 use Rattle.host_port.specs.Calls.{Counts, Rose}
@@ -23,11 +23,13 @@ use Rattle.mailx_session.specs.declared.status.Status.TheVariants.{Done}
 use Rattle.mailx_session.specs.States.{settled}
 use Rattle.mailx_session.specs.Statuses.{IsLineEnd}
 use Rattle.mailx_session.specs.Saving.{names_fault, saved}
+use Rattle.mailx_session.specs.Sourcing.{source_fault, sourced}
 
 -- what is asked for, and what its answer leaves
 abbrev pub asked : SessionState → asked_of.Ask → Play (After SessionState Status)
 asked s (asks.Say bytes) = Ask (Say bytes) (λ _. Ret (On s))
 asked s (asks.Commit changes) = saved s changes (names_fault s.actor changes)
+asked s (asks.Source name) = sourced s name (source_fault s.frames name)
 asked s asks.Exit = Ret (Ended Done)
 
 -- a command's steps are carried out, or the line that refuses it is said
@@ -78,6 +80,16 @@ StaysAtEnd old new (flow.End s) = new ≡ old
 abbrev pub EndsByAsk : Asked → Type 0
 EndsByAsk (answered.Ended s) = IsLineEnd s
 EndsByAsk a = Unit {0}
+
+-- all was done
+abbrev pub is_on : Result Asked RunError → Bool
+is_on (Ok answered.On) = true
+is_on r = false
+
+-- where not all was done, the state stays
+abbrev pub StaysUnlessOn : SessionState → SessionState → Result Asked RunError → Type 0
+StaysUnlessOn old new (Ok answered.On) = Unit {0}
+StaysUnlessOn old new r = new ≡ old
 
 -- nothing is done, and the session goes on
 abbrev pub DoesNothing : SessionState → SessionState → Result Flow RunError → Type 0

@@ -49,6 +49,6 @@ rested s = record s { frames = []; count = 0 }
 abbrev pub settled : SessionState → Effects → SessionState
 settled s effects = with_desk s (effect s.desk effects)
 
--- only the desk changed
-abbrev pub KeepsLines : SessionState → SessionState → Type 0
-KeepsLines old new = new ≡ with_desk old new.desk
+-- only the desk and the lines that wait changed
+abbrev pub KeepsOthers : SessionState → SessionState → Type 0
+KeepsOthers old new = new ≡ with_frames (with_desk old new.desk) new.frames

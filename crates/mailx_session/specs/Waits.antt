@@ -1,8 +1,10 @@
 -- Lines that wait to be run.
 use Rattle.std.specs.Prelude.{ℕ, List}
 use Rattle.read_commands.specs.declared.origin.Origin.{Origin}
+use Rattle.mailx_session.specs.declared.kinds.FrameKind.{FrameKind}
 
--- lines from one place that are still to run, and where they come from
+-- lines from one place that are still to run, where they come from, and what brought them
 pub record Pending : Type 0 where
   pub origin : Origin
+  pub kind : FrameKind
   pub lines : List (List ℕ)

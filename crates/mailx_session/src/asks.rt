@@ -1,14 +1,17 @@
 // What a command asks for, in order, up to an answer that refuses what follows or ends the run.
-ghost use Rattle.std.specs.Prelude.{◌≡◌, IfOk};
+ghost use Rattle.std.specs.Prelude.{◌≡◌, false, IfOk};
+ghost use Rattle.std.specs.List.{list_any};
 ghost use Rattle.host_port.specs.Calls.{NeverFall};
 ghost use Rattle.host_port.specs.Ran.{Ran};
 ghost use Rattle.session_play.specs.Play.{Play, Ask, Ret, Say, Goes};
 ghost use Rattle.session_play.specs.Steps.{in_order};
 ghost use Rattle.mailx_session.specs.declared.state.SessionState.{SessionState};
 ghost use Rattle.mailx_session.specs.States.{IsState};
-ghost use Rattle.mailx_session.specs.Sessions.{asked, after_asks, in_play, LineCaused, EndsByAsk};
+ghost use Rattle.mailx_session.specs.Sourcing.{brings, OnlyBrings};
+ghost use Rattle.mailx_session.specs.Sessions.{asked, after_asks, in_play, is_on, LineCaused, EndsByAsk, StaysUnlessOn};
 
 use crate::saving::save;
+use crate::sourcing::source;
 use crate::{RunError, SessionState, Status};
 use host_port::Host;
 use mail_text::Text;
@@ -38,23 +41,27 @@ pub(crate) fn say<H: Host>(host: &mut H, bytes: &[u8]) -> Result<(), RunError>
     }
 }
 
-// Does one thing that is asked for.
+// Does one thing that is asked for. The state stays, but for the lines that this brings.
+#[tactic(auto, using(crate::proofs::SourcingLemmas::brings_none))]
 fn do_ask<H: Host>(
     alloc: Global,
-    state: &SessionState,
+    state: &mut SessionState,
     host: &mut H,
     ask: &Wanted,
 ) -> Result<Asked, RunError>
-    requires { IsState state.now }
+    requires { IsState state.old }
     ensures ran { Ran H.world host.old host.new
-        (λ es. Goes (asked state.now ask.now) es (in_play (after_asks state.now) result)) }
+        (λ es. Goes (asked state.old ask.now) es (in_play (after_asks state.new) result)) }
     ensures fall { NeverFall (H.world.counts host.old) (H.world.counts host.new) }
+    ensures brings { OnlyBrings state.old state.new }
+    ensures quiet { brings ask.now ≡ false → state.new ≡ state.old }
     ensures done { IfOk result EndsByAsk }
     ensures cause { LineCaused (H.world.counts host.old) (H.world.counts host.new) result }
 {
     match ask {
         Wanted::Say(bytes) => say_line(host, bytes),
         Wanted::Commit { changes } => save(alloc, state, host, changes.items()),
+        Wanted::Source { name } => source(alloc, state, host, name.bytes()),
         Wanted::Exit => Ok(Asked::Ended(Status::Done)),
     }
 }
@@ -73,17 +80,19 @@ fn say_line<H: Host>(host: &mut H, bytes: &Text) -> Result<Asked, RunError>
     }
 }
 
-/// Does what is asked for, in order, up to an answer that refuses what follows or ends the run.
-pub(crate) fn do_asks<H: Host>(
+// Does what is asked for, in order, up to an answer that refuses what follows or ends the run.
+fn ask_all<H: Host>(
     alloc: Global,
-    state: &SessionState,
+    state: &mut SessionState,
     host: &mut H,
     asks: &[Wanted],
 ) -> Result<Asked, RunError>
-    requires { IsState state.now }
+    requires { IsState state.old }
     ensures ran { Ran H.world host.old host.new
-        (λ es. Goes (in_order asked state.now asks.now) es (in_play (after_asks state.now) result)) }
+        (λ es. Goes (in_order asked state.old asks.now) es (in_play (after_asks state.new) result)) }
     ensures fall { NeverFall (H.world.counts host.old) (H.world.counts host.new) }
+    ensures brings { OnlyBrings state.old state.new }
+    ensures quiet { list_any brings asks.now ≡ false → state.new ≡ state.old }
     ensures done { IfOk result EndsByAsk }
     ensures cause { LineCaused (H.world.counts host.old) (H.world.counts host.new) result }
 {
@@ -96,4 +105,36 @@ pub(crate) fn do_asks<H: Host>(
         }
     }
     Ok(Asked::On)
+}
+
+// Whether all was done.
+fn is_on(asked: &Result<Asked, RunError>) -> bool
+    ensures { result ≡ is_on asked.now }
+{
+    matches!(asked, Ok(Asked::On))
+}
+
+/// Does what is asked for, in order, up to an answer that refuses what follows or ends the run; then no lines are brought.
+pub(crate) fn do_asks<H: Host>(
+    alloc: Global,
+    state: &mut SessionState,
+    host: &mut H,
+    asks: &[Wanted],
+) -> Result<Asked, RunError>
+    requires { IsState state.old }
+    ensures ran { Ran H.world host.old host.new
+        (λ es. Goes (in_order asked state.old asks.now) es (in_play (after_asks state.new) result)) }
+    ensures fall { NeverFall (H.world.counts host.old) (H.world.counts host.new) }
+    ensures brings { OnlyBrings state.old state.new }
+    ensures quiet { list_any brings asks.now ≡ false → state.new ≡ state.old }
+    ensures stays { StaysUnlessOn state.old state.new result }
+    ensures done { IfOk result EndsByAsk }
+    ensures cause { LineCaused (H.world.counts host.old) (H.world.counts host.new) result }
+{
+    let depth = state.frames.depth();
+    let asked = ask_all(alloc, state, host, asks);
+    if !is_on(&asked) {
+        state.frames.cut(depth);
+    }
+    asked
 }

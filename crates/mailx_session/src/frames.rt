@@ -1,16 +1,19 @@
 // Lines from elsewhere than the input that are still to run.
-ghost use Rattle.std.specs.Prelude.{◌≡◌, ◌≢◌, ◌++◌, ◌∷◌, [], Some, IfOk, IfSome, IfNone, OnOk, OnErr};
+ghost use Rattle.std.specs.Prelude.{◌≡◌, ◌≢◌, ◌≤◌, ◌++◌, ◌∷◌, [], Some, length, take, IfOk, IfSome, IfNone, OnOk, OnErr};
 ghost use Rattle.mailx_session.specs.Pending.{frame_of, line_from, IsTaken, IsHanded};
+ghost use Rattle.mailx_session.specs.Sourcing.{is_source, sources, origin_at};
 
+use crate::FrameKind;
 use mail_text::{Memory, Text, lines};
 use read_commands::Origin;
 use std::alloc::Global;
 use std::marker::Model;
 
-/// Lines from one place that are still to run. Contracts see where they come from, and their list.
+/// Lines from one place that are still to run. Contracts see where they come from, what brought them, and their list.
 #[derive(Drop)]
 pub struct Frame {
     origin: Origin,
+    kind: FrameKind,
     text: Text,
     // how many bytes of the text were used
     used: usize,
@@ -23,7 +26,7 @@ impl Model for Frame {
 
     ghost Value = { Pending };
 
-    ghost view = { λ f. record { origin = f.origin; lines = lines_of (drop f.used f.text) } };
+    ghost view = { λ f. record { origin = f.origin; kind = f.kind; lines = lines_of (drop f.used f.text) } };
 }
 
 /// A line, and where it comes from.
@@ -36,14 +39,25 @@ pub struct WaitingLine {
 }
 
 impl Frame {
-    /// The lines of a text from somewhere.
-    pub fn new(origin: Origin, text: Text) -> Frame
-        ensures { result ≡ frame_of origin text }
+    /// The lines of a text from somewhere, which this brought.
+    pub fn new(origin: Origin, kind: FrameKind, text: Text) -> Frame
+        ensures { result ≡ frame_of origin kind text }
     {
         Frame {
             origin,
+            kind,
             text,
             used: 0,
+        }
+    }
+
+    // Whether a command brought the lines out of a file.
+    fn is_source(&self) -> bool
+        ensures { result ≡ is_source self.now.kind }
+    {
+        match self.kind {
+            FrameKind::Source => true,
+            FrameKind::Startup => false,
         }
     }
 
@@ -88,6 +102,48 @@ impl Frames {
     {
         Frames {
             stack: Vec::new(alloc),
+        }
+    }
+
+    /// Where the line comes from that is carried out: it is one of the innermost frame, or of the input.
+    pub(crate) fn origin(&self) -> Origin
+        ensures { result ≡ origin_at self.now }
+    {
+        match self.stack.get(self.stack.len().saturating_sub(1)) {
+            Some(frame) => frame.origin,
+            None => Origin::Input,
+        }
+    }
+
+    /// How many sourced files are open.
+    pub(crate) fn sources(&self) -> usize
+        ensures { result ≡ sources self.now }
+    {
+        self.stack.iter().filter(|frame| frame.is_source()).count()
+    }
+
+    /// How many frames there are.
+    pub(crate) fn depth(&self) -> usize
+        ensures { result ≡ length self.now }
+    {
+        self.stack.len()
+    }
+
+    /// Leaves only the outermost `depth` frames.
+    pub(crate) fn cut(&mut self, depth: usize)
+        ensures { self.new ≡ take depth self.old }
+    {
+        self.stack.truncate(depth);
+    }
+
+    /// Puts a frame inside of all others.
+    pub(crate) fn push(&mut self, frame: Frame) -> Result<(), Memory>
+        ensures ok { OnOk result (self.new ≡ self.old ++ frame ∷ []) }
+        ensures err { OnErr result (self.new ≡ self.old) }
+    {
+        match self.stack.push(frame) {
+            Ok(()) => Ok(()),
+            Err(_) => Err(Memory),
         }
     }
 

@@ -1,25 +1,25 @@
 // Lines as they are carried out: one of the input, and then those that wait.
-ghost use Rattle.std.specs.Prelude.{◌≡◌, ◌≤◌, ◌≢◌, List, ℕ, [], Ok, Err, IfOk, OnErr};
-ghost use Rattle.std.specs.List.{list_all};
+ghost use Rattle.std.specs.Prelude.{◌≡◌, ◌≤◌, ◌≢◌, List, ℕ, [], false, Ok, Err, IfOk, OnErr};
+ghost use Rattle.std.specs.List.{list_all, list_any};
 ghost use Rattle.mail_text.specs.Ascii.{is_blank};
 ghost use Rattle.host_port.specs.Ran.{Ran};
 ghost use Rattle.session_play.specs.Play.{Play, Goes};
-ghost use Rattle.session_play.specs.Steps.{refused, concluded};
+ghost use Rattle.session_play.specs.Steps.{refused};
 ghost use Rattle.command_desk.specs.Desks.{IsDesk};
 ghost use Rattle.command_desk.specs.Effects.{effect};
 ghost use Rattle.read_commands.specs.Origins.{commanded};
 ghost use Rattle.read_commands.specs.declared.origin.Origin.{Origin};
-ghost use Rattle.mailx_session.specs.States.{IsState, settled, rested, KeepsLines};
-ghost use Rattle.mailx_session.specs.Pending.{lines_left};
+ghost use Rattle.mailx_session.specs.States.{IsState, rested, KeepsOthers};
+ghost use Rattle.mailx_session.specs.Sourcing.{brings, brings_lines, room, weight};
 ghost use Rattle.mailx_session.specs.Rounds.{line_play, typed_play, dropped_play, counted_play, waiting_play, WaitingGo, LineGoes};
-ghost use Rattle.mailx_session.specs.Sessions.{carried_out, after_asks, next_of, in_play, LineCaused, EndsByAsk, EndsByLine, StaysAtEnd, DoesNothing};
+ghost use Rattle.mailx_session.specs.Sessions.{carried_out, next_of, in_play, LineCaused, EndsByLine, StaysAtEnd, DoesNothing};
 
 use crate::asks::{Asked, do_asks, say};
 use crate::frames::Frames;
 use crate::{Flow, RunError, SessionState, WaitingLine};
 use host_port::Host;
 use mail_text::{Memory, Text, is_blank};
-use read_commands::{Effects, Origin, Refusal, Steps, perform_line};
+use read_commands::{Origin, Refusal, Steps, perform_line};
 use std::alloc::Global;
 
 /// The most commands that one input line gives.
@@ -38,36 +38,6 @@ fn refuse<H: Host>(state: &SessionState, host: &mut H, line: &Text) -> Result<Fl
     }
 }
 
-// Makes the changes of a command, unless an answer refused it or the run ends.
-fn finish<H: Host>(
-    state: &mut SessionState,
-    host: &mut H,
-    effects: Effects,
-    asked: Asked,
-) -> Result<Flow, RunError>
-    requires state { IsState state.old }
-    requires desk { IsDesk (effect state.old.desk effects) }
-    requires done { EndsByAsk asked }
-    ensures ran { Ran H.world host.old host.new
-        (λ es. Goes (concluded state.old (λ t. settled t effects) (after_asks state.old asked)) es
-        (in_play (next_of state.new) result)) }
-    ensures state { IsState state.new }
-    ensures lines { KeepsLines state.old state.new }
-    ensures done { IfOk result EndsByLine }
-    ensures end { IfOk result (StaysAtEnd state.old state.new) }
-    ensures err { OnErr result (state.new ≡ state.old) }
-    ensures cause { LineCaused (H.world.counts host.old) (H.world.counts host.new) result }
-{
-    match asked {
-        Asked::On => {
-            state.desk.settle(effects);
-            Ok(Flow::Go)
-        }
-        Asked::Refused { line } => refuse(state, host, &line),
-        Asked::Ended(status) => Ok(Flow::End(status)),
-    }
-}
-
 // Carries out a command's steps.
 fn carry_out<H: Host>(
     alloc: Global,
@@ -80,19 +50,28 @@ fn carry_out<H: Host>(
     ensures ran { Ran H.world host.old host.new
         (λ es. Goes (carried_out state.old (Ok steps)) es (in_play (next_of state.new) result)) }
     ensures state { IsState state.new }
-    ensures lines { KeepsLines state.old state.new }
+    ensures others { KeepsOthers state.old state.new }
+    ensures room { room state.new.frames ≤ room state.old.frames }
+    ensures quiet { list_any brings steps.asks ≡ false → state.new.frames ≡ state.old.frames }
     ensures done { IfOk result EndsByLine }
     ensures end { IfOk result (StaysAtEnd state.old state.new) }
     ensures err { OnErr result (state.new ≡ state.old) }
     ensures cause { LineCaused (H.world.counts host.old) (H.world.counts host.new) result }
 {
     let Steps { asks, effects } = steps;
-    let asked = do_asks(alloc, state, host, asks.items())?;
-    finish(state, host, effects, asked)
+    match do_asks(alloc, state, host, asks.items()) {
+        Ok(Asked::On) => {
+            state.desk.settle(effects);
+            Ok(Flow::Go)
+        }
+        Ok(Asked::Refused { line }) => refuse(state, host, &line),
+        Ok(Asked::Ended(status)) => Ok(Flow::End(status)),
+        Err(error) => Err(error),
+    }
 }
 
 // Carries out a line from somewhere, without its line feed. The desk changes only where the run goes on, and not where
-// the line is refused; nothing else changes.
+// the line is refused, and so do the lines that wait; nothing else changes.
 fn carry_line<H: Host>(
     alloc: Global,
     state: &mut SessionState,
@@ -104,7 +83,9 @@ fn carry_line<H: Host>(
     ensures ran { Ran H.world host.old host.new
         (λ es. Goes (line_play origin state.old line.now) es (in_play (next_of state.new) result)) }
     ensures state { IsState state.new }
-    ensures lines { KeepsLines state.old state.new }
+    ensures others { KeepsOthers state.old state.new }
+    ensures room { room state.new.frames ≤ room state.old.frames }
+    ensures quiet { brings_lines (commanded origin state.old.desk line.now) ≡ false → state.new.frames ≡ state.old.frames }
     ensures refused { (fault : List ℕ) → commanded origin state.old.desk line.now ≡ Err fault → state.new ≡ state.old }
     ensures goes_on { (fault : List ℕ) → commanded origin state.old.desk line.now ≡ Err fault
         → IfOk result (λ flow. flow ≡ Flow.Go) }
@@ -131,7 +112,7 @@ fn typed_line<H: Host>(
     ensures ran { Ran H.world host.old host.new
         (λ es. Goes (typed_play state.old line.now) es (in_play (next_of state.new) result)) }
     ensures state { IsState state.new }
-    ensures none_wait { state.new.frames ≡ [] }
+    ensures none_wait { brings_lines (commanded Origin.Input state.old.desk line.now) ≡ false → state.new.frames ≡ [] }
     ensures refused { (fault : List ℕ) → commanded Origin.Input state.old.desk line.now ≡ Err fault
         → rested state.new ≡ rested state.old }
     ensures goes_on { (fault : List ℕ) → commanded Origin.Input state.old.desk line.now ≡ Err fault
@@ -156,7 +137,7 @@ fn drop_waiting<H: Host>(
     ensures ran { Ran H.world host.old host.new
         (λ es. Goes (dropped_play state.old) es (in_play (next_of state.new) result)) }
     ensures state { IsState state.new }
-    ensures fewer { lines_left state.new.frames ≤ lines_left state.old.frames }
+    ensures falls { weight state.new ≤ weight state.old }
     ensures done { IfOk result EndsByLine }
     ensures cause { LineCaused (H.world.counts host.old) (H.world.counts host.new) result }
 {
@@ -180,7 +161,7 @@ fn counted_line<H: Host>(
     ensures ran { Ran H.world host.old host.new
         (λ es. Goes (counted_play state.old line.now) es (in_play (next_of state.new) result)) }
     ensures state { IsState state.new }
-    ensures fewer { lines_left state.new.frames ≤ lines_left state.old.frames }
+    ensures falls { weight state.new ≤ weight state.old }
     ensures done { IfOk result EndsByLine }
     ensures cause { LineCaused (H.world.counts host.old) (H.world.counts host.new) result }
 {
@@ -210,7 +191,7 @@ fn waiting_line<H: Host>(
     ensures ran { Ran H.world host.old host.new
         (λ es. Goes (waiting_play state.old line.now) es (in_play (next_of state.new) result)) }
     ensures state { IsState state.new }
-    ensures fewer { lines_left state.new.frames ≤ lines_left state.old.frames }
+    ensures falls { weight state.new ≤ weight state.old }
     ensures done { IfOk result EndsByLine }
     ensures cause { LineCaused (H.world.counts host.old) (H.world.counts host.new) result }
 {
@@ -264,8 +245,10 @@ pub(crate) fn input_line<H: Host>(
     ensures goes_on { (fault : List ℕ) → commanded Origin.Input state.old.desk line.now ≡ Err fault
         → IfOk result (λ flow. flow ≡ Flow.Go) }
     ensures done { IfOk result EndsByLine }
-    ensures end { IfOk result (StaysAtEnd (rested state.old) (rested state.new)) }
-    ensures err { OnErr result (rested state.new ≡ rested state.old) }
+    ensures end { brings_lines (commanded Origin.Input state.old.desk line.now) ≡ false
+        → IfOk result (StaysAtEnd (rested state.old) (rested state.new)) }
+    ensures err { brings_lines (commanded Origin.Input state.old.desk line.now) ≡ false
+        → OnErr result (rested state.new ≡ rested state.old) }
     ensures cause { LineCaused (H.world.counts host.old) (H.world.counts host.new) result }
 {
     match typed_line(alloc, state, host, line) {

@@ -23,7 +23,8 @@ use mailx_vars::is_short_name;
 use session_play::{Committed, Stop, change};
 use std::alloc::Global;
 
-fn line_of(alloc: Global, word: &[u8], fault: &[u8]) -> Result<Text, Memory>
+/// A word and what is wrong with it, as a line.
+pub(crate) fn line_of(alloc: Global, word: &[u8], fault: &[u8]) -> Result<Text, Memory>
     ensures { IfOk result (λ line. line ≡ with_feed (word.now ++ fault.now)) }
 {
     let mut line = Text::copy(alloc, word)?;
@@ -90,8 +91,8 @@ fn too_large(alloc: Global, changes: &[Change], name: &[u8], length: u64) -> Res
     }
 }
 
-// Refuses by a word and what is wrong with it.
-fn refused(alloc: Global, word: &[u8], fault: &[u8]) -> Result<Asked, Memory>
+/// Refuses by a word and what is wrong with it.
+pub(crate) fn refused(alloc: Global, word: &[u8], fault: &[u8]) -> Result<Asked, Memory>
     ensures { IfOk result (λ asked. asked ≡ Asked.Refused (with_feed (word.now ++ fault.now))) }
 {
     let line = line_of(alloc, word, fault)?;

@@ -1,5 +1,5 @@
 // A session and its lines.
-ghost use Rattle.std.specs.Prelude.{◌≡◌, true, List, ℕ, Ok, Err, IfOk, OnOk, OnErr};
+ghost use Rattle.std.specs.Prelude.{◌≡◌, true, false, List, ℕ, Ok, Err, IfOk, OnOk, OnErr};
 ghost use Rattle.host_port.specs.Ran.{Ran};
 ghost use Rattle.mailx_session.specs.declared.status.Status.{Status};
 ghost use Rattle.mailx_vars.specs.Environment.{knows_user};
@@ -11,6 +11,7 @@ ghost use Rattle.mailx_session.specs.Leaving.{leaving};
 ghost use Rattle.mailx_session.specs.Rounds.{LineGoes};
 ghost use Rattle.mailx_session.specs.Statuses.{IsEnd};
 ghost use Rattle.session_play.specs.Play.{Play, Goes};
+ghost use Rattle.mailx_session.specs.Sourcing.{brings_lines};
 ghost use Rattle.mailx_session.specs.Sessions.{next_of, in_play, LineCaused, EndsByLine, StaysAtEnd};
 ghost use Rattle.mailx_session.specs.Openings.{first_state, greeting, Opens};
 
@@ -116,8 +117,8 @@ impl Session {
         &self.state
     }
 
-    /// Takes one input line, without its line feed, and carries out the lines that it brings too. The state changes only
-    /// where the run goes on, and not where the line is refused.
+    /// Takes one input line, without its line feed, and carries out the lines that it brings too. Where it brings none, the state
+    /// changes only where the run goes on; it doesn't where the line is refused.
     pub fn step<H: Host>(&mut self, line: &[u8], host: &mut H) -> Result<Flow, RunError>
         ensures ran { Ran H.world host.old host.new
             (λ es. LineGoes self.old line.now es (in_play (next_of self.new) result)) }
@@ -126,8 +127,9 @@ impl Session {
         ensures goes_on { (fault : List ℕ) → commanded Origin.Input self.old.desk line.now ≡ Err fault
             → IfOk result (λ flow. flow ≡ Flow.Go) }
         ensures done { IfOk result EndsByLine }
-        ensures end { IfOk result (StaysAtEnd self.old self.new) }
-        ensures err { OnErr result (self.new ≡ self.old) }
+        ensures end { brings_lines (commanded Origin.Input self.old.desk line.now) ≡ false
+            → IfOk result (StaysAtEnd self.old self.new) }
+        ensures err { brings_lines (commanded Origin.Input self.old.desk line.now) ≡ false → OnErr result (self.new ≡ self.old) }
         ensures cause { LineCaused (H.world.counts host.old) (H.world.counts host.new) result }
     {
         let result = input_line(self.alloc, &mut self.state, host, line);

@@ -50,6 +50,7 @@ use Rattle.mailx_session.specs.Pending.{taken}
 use Rattle.mailx_session.specs.States.{settled, with_frames, with_count, rested, command_limit}
 use Rattle.mailx_session.specs.Saving.{names_fault, is_changed, commit_of, after_commit, saved}
 use Rattle.mailx_session.proofs.NameLemmas.{named-files}
+use Rattle.mailx_session.specs.Sourcing.{source_fault, after_load, sourced}
 use Rattle.mailx_session.specs.Sessions.{asked, carried_out}
 use Rattle.folder_commands.specs.Leaving.{quit}
 use Rattle.mailx_session.specs.Leaving.{left_by, leaving}
@@ -116,14 +117,30 @@ module _ (actor : List ℕ) (token : ℕ) where
   saved-of s changes (Some line) of = tt
   saved-of s changes None of = λ a. commit-of s changes a of
 
+  sourced-commits : (s : SessionState) (name : List ℕ) (fault : Option (List ℕ)) → EachCommit (IsBy actor token) (sourced s name fault)
+  sourced-commits s name (Some line) = tt
+  sourced-commits s name None = (tt, λ f. tt)
+
+  load-of : (s : SessionState) (name : List ℕ) (f : Option Found) → IsOf actor token s → AfterOf actor token (after_load s name f)
+  load-of s name None of = tt
+  load-of s name (Some (found.TooLarge n)) of = tt
+  load-of s name (Some (found.Bytes None held)) of = tt
+  load-of s name (Some (found.Bytes (Some text) held)) of = of
+
+  sourced-of : (s : SessionState) (name : List ℕ) (fault : Option (List ℕ)) → IsOf actor token s → AllEnds (AfterOf actor token) (sourced s name fault)
+  sourced-of s name (Some line) of = tt
+  sourced-of s name None of = λ f. load-of s name f of
+
   ask-commits : (s : SessionState) (ask : asked_of.Ask) → IsOf actor token s → EachCommit (IsBy actor token) (asked s ask)
   ask-commits s (asks.Say bytes) of = (tt, λ u. tt)
   ask-commits s (asks.Commit changes) of = saved-commits s changes (names_fault s.actor changes) refl of
+  ask-commits s (asks.Source name) of = sourced-commits s name (source_fault s.frames name)
   ask-commits s asks.Exit of = tt
 
   ask-of : (s : SessionState) (ask : asked_of.Ask) → IsOf actor token s → AllEnds (AfterOf actor token) (asked s ask)
   ask-of s (asks.Say bytes) of = λ u. of
   ask-of s (asks.Commit changes) of = saved-of s changes (names_fault s.actor changes) of
+  ask-of s (asks.Source name) of = sourced-of s name (source_fault s.frames name) of
   ask-of s asks.Exit of = tt
 
   onward-commits : (l : List asked_of.Ask) → ((t : SessionState) → IsOf actor token t → EachCommit (IsBy actor token) (in_order asked t l)) → (a : After SessionState Status) → AfterOf actor token a

@@ -19,6 +19,10 @@ use Rattle.mailx_session.specs.declared.status.Status.{Status}
 use Rattle.mailx_session.specs.declared.status.Status.TheVariants.{Done, BadRecord}
 use Rattle.mailx_session.specs.Statuses.{IsLineEnd}
 use Rattle.mailx_session.specs.Saving.{names_fault, is_changed, after_commit, saved}
+use Rattle.mailx_session.specs.Sourcing.{source_fault, after_load, sourced}
+use Rattle.session_play.specs.declared.act.Found.{Found}
+use Rattle.session_play.specs.declared.act.Found.TheVariants as found
+use Rattle.std.specs.Str.{bytes_eq}
 use Rattle.std.specs.declared.option.Option.{Option}
 use Rattle.std.specs.declared.option.Option.TheVariants.{Some, None}
 use Rattle.folder_change.specs.declared.change.Change.{Change}
@@ -72,20 +76,42 @@ saved-threads : (s : SessionState) (changes : List Change) (fault : Option (List
 saved-threads s changes (Some line) i = refl
 saved-threads s changes None i = (tt, λ a. refl)
 
+-- a file that is loaded, or refused before that
+sourced-acts : (s : SessionState) (name : List ℕ) (fault : Option (List ℕ)) → AllActs (may_load false) (sourced s name fault)
+sourced-acts s name (Some line) = tt
+sourced-acts s name None = (refl, λ f. tt)
+
+load-ends : (s : SessionState) (name : List ℕ) (f : Option Found) → IsDone (after_load s name f)
+load-ends s name None = tt
+load-ends s name (Some (found.TooLarge n)) = tt
+load-ends s name (Some (found.Bytes None held)) = tt
+load-ends s name (Some (found.Bytes (Some text) held)) = tt
+
+sourced-ends : (s : SessionState) (name : List ℕ) (fault : Option (List ℕ)) → AllEnds IsDone (sourced s name fault)
+sourced-ends s name (Some line) = tt
+sourced-ends s name None = λ f. load-ends s name f
+
+sourced-threads : (s : SessionState) (name : List ℕ) (fault : Option (List ℕ)) (i : Input) → Threads (Keeps i) i (sourced s name fault)
+sourced-threads s name (Some line) i = refl
+sourced-threads s name None i = (tt, λ f. refl)
+
 -- one ask
 ask-acts : (s : SessionState) (ask : asked_of.Ask) → AllActs (may_load false) (asked s ask)
 ask-acts s (asks.Say bytes) = (refl, λ u. tt)
 ask-acts s (asks.Commit changes) = saved-acts s changes (names_fault s.actor changes)
+ask-acts s (asks.Source name) = sourced-acts s name (source_fault s.frames name)
 ask-acts s asks.Exit = tt
 
 ask-ends : (s : SessionState) (ask : asked_of.Ask) → AllEnds IsDone (asked s ask)
 ask-ends s (asks.Say bytes) = λ u. tt
 ask-ends s (asks.Commit changes) = saved-ends s changes (names_fault s.actor changes)
+ask-ends s (asks.Source name) = sourced-ends s name (source_fault s.frames name)
 ask-ends s asks.Exit = tt
 
 ask-threads : (s : SessionState) (ask : asked_of.Ask) (i : Input) → Threads (Keeps i) i (asked s ask)
 ask-threads s (asks.Say bytes) i = (tt, λ u. refl)
 ask-threads s (asks.Commit changes) i = saved-threads s changes (names_fault s.actor changes) i
+ask-threads s (asks.Source name) i = sourced-threads s name (source_fault s.frames name) i
 ask-threads s asks.Exit i = refl
 
 -- asks in order

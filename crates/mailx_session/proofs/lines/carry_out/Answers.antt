@@ -1,22 +1,43 @@
-use Rattle.std.proofs.lemmas.Result.{err_from_is_err_and}
+use Rattle.std.proofs.Common.{◌≡◌, refl, subst}
 use Rattle.host_port.proofs.RanLemmas.{Ran-then, Ran-map}
-use Rattle.session_play.specs.Steps.{in_order, concluded}
-use Rattle.session_play.proofs.PlayLemmas.{goes-then, goes-cut}
+use Rattle.session_play.specs.Play.{Goes, Go, Last}
+use Rattle.session_play.specs.Steps.{On, Refused, Ended, in_order, refused, concluded}
+use Rattle.session_play.proofs.PlayLemmas.{goes-then, goes-as, goes-cut}
 use Rattle.mailx_session.specs.declared.state.SessionState.{SessionState}
 use Rattle.mailx_session.specs.States.{settled}
-use Rattle.mailx_session.specs.Sessions.{asked, after_asks}
+use Rattle.mailx_session.specs.Sessions.{asked, in_play, next_of}
 use Rattle.mailx_session.proofs.lines.carry_out.Goals as goal
 
-pub returns-in_err-asked-clause-ran : goal.returns-in_err-asked-clause-ran
-returns-in_err-asked-clause-ran g c =
+pub returns-in-Ok-On-clause-ran : goal.returns-in-Ok-On-clause-ran
+returns-in-Ok-On-clause-ran g c =
     let s = c.args.state.now in
-    let p = err_from_is_err_and c.from_residual.result c.from_residual.ensures.1 in
-    rw (p.1, p.2)
-    (Ran-map (goes-cut (in_order asked s c.args.steps.asks) (concluded s (λ (t : SessionState). settled t c.args.steps.effects)) _)
-    (rw c.items.ensures at c.in_err-asked.ensures.ran))
+    let t = c.do_asks.new.state in
+    let effects = c.args.steps.effects in
+    rw c.settle.ensures
+    (Ran-map (λ es went. goes-as (in_order asked s c.args.steps.asks) (concluded s (λ (t : SessionState). settled t effects)) (On t) (Go (settled t effects)) es refl went)
+    (rw (c.items.ensures, c.in-Ok-On.field-0-is) at c.in-Ok-On.ensures.ran))
+
+pub returns-in-Ok-Refused-clause-ran : goal.returns-in-Ok-Refused-clause-ran
+returns-in-Ok-Refused-clause-ran g c =
+    let s = c.args.state.now in
+    let t = c.do_asks.new.state in
+    let line = c.in-Ok-Refused.line in
+    let out = in_play (next_of t) c.refuse.result in
+    let same : t ≡ s = rw c.in-Ok-Refused.field-0-is at c.in-Ok-Refused.ensures.stays in
+    Ran-then
+    (λ es fs went says.
+    goes-then (in_order asked s c.args.steps.asks) (concluded s (λ (t : SessionState). settled t c.args.steps.effects)) (Refused line) out es fs went
+    (subst (λ (u : SessionState). Goes (refused u line) fs out) same says))
+    (rw (c.items.ensures, c.in-Ok-Refused.field-0-is) at c.in-Ok-Refused.ensures.ran) c.refuse.ensures.ran
+
+pub returns-in-Ok-Ended-clause-ran : goal.returns-in-Ok-Ended-clause-ran
+returns-in-Ok-Ended-clause-ran g c =
+    let s = c.args.state.now in
+    Ran-map (λ es went. goes-as (in_order asked s c.args.steps.asks) (concluded s (λ (t : SessionState). settled t c.args.steps.effects)) (Ended c.in-Ok-Ended.status) (Last c.in-Ok-Ended.status) es refl went)
+    (rw (c.items.ensures, c.in-Ok-Ended.field-0-is) at c.in-Ok-Ended.ensures.ran)
 
 pub returns-clause-ran : goal.returns-clause-ran
 returns-clause-ran g c =
     let s = c.args.state.now in
-    Ran-then (goes-then (in_order asked s c.args.steps.asks) (concluded s (λ (t : SessionState). settled t c.args.steps.effects)) (after_asks s c.in_ok-asked.asked) _)
-    (rw c.items.ensures at c.in_ok-asked.ensures.ran) c.finish.ensures.ran
+    Ran-map (goes-cut (in_order asked s c.args.steps.asks) (concluded s (λ (t : SessionState). settled t c.args.steps.effects)) _)
+    (rw c.items.ensures at c.in-Err.ensures.ran)

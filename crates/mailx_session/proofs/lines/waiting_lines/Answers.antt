@@ -4,6 +4,7 @@ use Rattle.mailx_session.specs.declared.state.SessionState.{SessionState}
 use Rattle.mailx_session.specs.Sessions.{stop_of}
 use Rattle.mailx_session.proofs.AskLemmas.{never-fall-then}
 use Rattle.mailx_session.proofs.PendingLemmas.{fewer-left, less-then, nothing-taken}
+use Rattle.mailx_session.proofs.SourcingLemmas.{weight-taken}
 use Rattle.mailx_session.proofs.RoundLemmas.{waits-more, waits-ended, waits-cut, waits-over, waits-short}
 use Rattle.mailx_session.proofs.lines.waiting_lines.Goals as goal
 
@@ -20,7 +21,7 @@ returns-in-Err-waiting_line-clause-ran g c =
 pub lines-smaller : goal.lines-smaller
 lines-smaller g c =
     let is = rw c.in-Ok-Some.field-0-is at c.in-Ok-Some.ensures.taken in
-    less-then _ _ _ c.in-Ok-Go.ensures.fewer (fewer-left _ _ _ is)
+    less-then _ _ _ c.in-Ok-Go.ensures.falls (weight-taken c.lines.state _ (fewer-left _ _ _ is))
 
 pub lines-preserved : goal.lines-preserved
 lines-preserved g c =

@@ -1,0 +1,126 @@
+-- Lines that a command brings.
+use Rattle.std.proofs.Common.{◌≡◌, ◌+◌, ◌-◌, ◌*◌, ◌^◌, ◌<◌, ◌≤◌, ℕ, Bool, true, false, cond, List, [], ◌∷◌, ◌++◌, length, take, refl, sym, ◌∙◌, ap, subst, arith, ⊎_elim, append_assoc}
+use Rattle.std.specs.Prelude.{get_or, nat_lt, if◌then◌else◌}
+use Rattle.std.specs.List.{list_any}
+use Rattle.std.proofs.lemmas.Bool.{cases_Bool}
+use Rattle.std.proofs.lemmas.List.{append-nil, take_at}
+use Rattle.std.proofs.lemmas.List.Folds.{list_any_at}
+use Rattle.std.proofs.lemmas.List.Sums.{sum_by-append}
+use Rattle.std.specs.declared.option.Option.TheVariants.{Some, None}
+use Rattle.std.specs.declared.result.Result.{Result}
+use Rattle.std.specs.declared.result.Result.TheVariants.{Ok, Err}
+use Rattle.mail_text.specs.Lines.{lines_of}
+use Rattle.mailx_vars.specs.Names.{is_short_name}
+use Rattle.command_desk.specs.Faults.{bad_name, sources_too_deep}
+use Rattle.mail_text.proofs.LineLemmas.{length-lines_of}
+use Rattle.command_desk.specs.declared.steps.Ask as asked_of
+use Rattle.read_commands.specs.declared.origin.Origin.{Origin}
+use Rattle.mailx_session.specs.declared.asks.Asked.{Asked}
+use Rattle.mailx_session.specs.declared.asks.Asked.TheVariants as answered
+use Rattle.mailx_session.specs.declared.error.RunError.{RunError}
+use Rattle.mailx_session.specs.declared.kinds.FrameKind.TheVariants as kind
+use Rattle.mailx_session.specs.declared.state.SessionState.{SessionState}
+use Rattle.mailx_session.specs.Waits.{Pending}
+use Rattle.mailx_session.specs.Pending.{frame_of, lines_left}
+use Rattle.mailx_session.specs.States.{IsState, with_frames}
+use Rattle.mailx_session.specs.Sourcing.{is_source, sources, source_limit, origin_at, source_fault, with_source, brings, room, weight, OnlyBrings}
+use Rattle.mailx_session.specs.Sessions.{after_asks, in_play, is_on, StaysUnlessOn}
+
+le-refl : (n : ℕ) → n ≤ n
+le-refl n = omega arith
+
+le-then : (a b c : ℕ) → a ≤ b → b ≤ c → a ≤ c
+le-then a b c x y = omega arith
+
+-- nothing is brought
+pub brings_none : (s t : SessionState) → t ≡ s → OnlyBrings s t
+brings_none s t same = subst (λ (u : SessionState). OnlyBrings s u) (sym same) (record { rest = refl; inside = ([], sym (append-nil s.frames)); room = le-refl (room s.frames) })
+
+-- what is brought after other lines
+pub brings-then : (a b c : SessionState) → OnlyBrings a b → OnlyBrings b c → OnlyBrings a c
+brings-then a b c x y = record {
+  rest = y.rest ∙ ap (λ (s : SessionState). with_frames s c.frames) x.rest;
+  inside = (x.inside.0 ++ y.inside.0, y.inside.1 ∙ (ap (λ (fs : List Pending). fs ++ y.inside.0) x.inside.1 ∙ append_assoc a.frames x.inside.0 y.inside.0));
+  room = le-then (room c.frames) (room b.frames) (room a.frames) y.room x.room;
+}
+
+-- the state stays valid
+pub brings_valid : (s t : SessionState) → IsState s → OnlyBrings s t → IsState t
+brings_valid s t is b = subst IsState (sym b.rest) (record { desk = is.desk; actor = is.actor })
+
+-- without what was brought the state is as before
+pub cut-back : (s t : SessionState) (depth : ℕ) → OnlyBrings s t → depth ≡ length s.frames → with_frames t (take depth t.frames) ≡ s
+cut-back s t depth b is =
+    let front : take depth t.frames ≡ s.frames = ap (take depth) b.inside.1 ∙ take_at s.frames b.inside.0 depth (sym is) in
+    ap (with_frames t) front ∙ ap (λ (u : SessionState). with_frames u s.frames) b.rest
+
+-- one frame more
+left-more : (fs : List Pending) (f : Pending) → lines_left (fs ++ f ∷ []) ≡ lines_left fs + length f.lines
+left-more [] f = omega arith
+left-more (g ∷ fs) f = let rest = left-more fs f in omega arith
+
+sources-more : (fs : List Pending) (origin : Origin) (text : List ℕ) → sources (fs ++ frame_of origin kind.Source text ∷ []) ≡ sources fs + 1
+sources-more fs origin text = sum_by-append (λ (f : Pending). cond (is_source f.kind) 1 0) fs (frame_of origin kind.Source text ∷ [])
+
+room-falls : (a b k n m : ℕ) → b ≡ a + k → k < 2 ^ 64 → m ≡ n + 1 → n < 16 → b + (16 - m) * 2 ^ 64 ≤ a + (16 - n) * 2 ^ 64
+room-falls a b k n m more small one few = omega arith
+
+below : (a b c : ℕ) → a ≤ b → b < c → a < c
+below a b c x y = omega arith
+
+-- the lines of a file are brought
+pub brings-source : (s : SessionState) (text : List ℕ) → sources s.frames < source_limit → length text < 2 ^ 64 → OnlyBrings s (with_source s text)
+brings-source s text few small =
+    let f = frame_of (origin_at s.frames) kind.Source text in
+    record {
+      rest = refl;
+      inside = (f ∷ [], refl);
+      room = room-falls (lines_left s.frames) (lines_left (s.frames ++ f ∷ [])) (length (lines_of text)) (sources s.frames) (sources (s.frames ++ f ∷ [])) (left-more s.frames f)
+          (below (length (lines_of text)) (length text) (2 ^ 64) (length-lines_of text) small) (sources-more s.frames (origin_at s.frames) text) few;
+    }
+
+-- an ask of some that bring nothing brings nothing
+pub quiet-at : (asks : List asked_of.Ask) (i : ℕ) (d a : asked_of.Ask) → list_any brings asks ≡ false → i < length asks → get_or asks i d ≡ a → brings a ≡ false
+quiet-at asks i d a none within is =
+    ⊎_elim (λ yes. absurd (cc (list_any_at brings asks i d within (ap brings is ∙ yes), none))) (λ no. no) (cases_Bool (brings a))
+
+-- what answers leave where not all was done
+pub after-same : (s t : SessionState) (r : Result Asked RunError) → is_on r ≡ false → in_play (after_asks s) r ≡ in_play (after_asks t) r
+after-same s t (Ok answered.On) off = absurd (cc off)
+after-same s t (Ok (answered.Refused line)) off = refl
+after-same s t (Ok (answered.Ended e)) off = refl
+after-same s t (Err e) off = refl
+
+pub stays-same : (s t : SessionState) (r : Result Asked RunError) → t ≡ s → StaysUnlessOn s t r
+stays-same s t (Ok answered.On) same = tt
+stays-same s t (Ok (answered.Refused line)) same = same
+stays-same s t (Ok (answered.Ended e)) same = same
+stays-same s t (Err e) same = same
+
+pub stays-on : (s t : SessionState) (r : Result Asked RunError) → is_on r ≡ true → StaysUnlessOn s t r
+stays-on s t (Ok answered.On) on = tt
+stays-on s t (Ok (answered.Refused line)) on = absurd (cc on)
+stays-on s t (Ok (answered.Ended e)) on = absurd (cc on)
+stays-on s t (Err e) on = absurd (cc on)
+
+weight-falls : (c d l m x y : ℕ) → c < 100000 → d ≡ c + 1 → m + (16 - y) * 2 ^ 64 ≤ l + (16 - x) * 2 ^ 64 → (100000 - d) * 2 ^ 70 + m ≤ (100000 - c) * 2 ^ 70 + l
+weight-falls c d l m x y within more room = omega arith
+
+-- one command more outweighs the lines that it brings
+pub weight-counted : (s t : SessionState) → s.count < 100000 → t.count ≡ s.count + 1 → room t.frames ≤ room s.frames → weight t ≤ weight s
+weight-counted s t within more fits = weight-falls s.count t.count (lines_left s.frames) (lines_left t.frames) (sources s.frames) (sources t.frames) within more fits
+
+-- and so does a line that is taken
+pub weight-taken : (s : SessionState) (fs : List Pending) → lines_left fs < lines_left s.frames → weight (with_frames s fs) < weight s
+weight-taken s fs fewer = omega arith
+
+pub weight-fewer : (s : SessionState) (fs : List Pending) → lines_left fs ≤ lines_left s.frames → weight (with_frames s fs) ≤ weight s
+weight-fewer s fs fewer = omega arith
+
+-- a file that may be loaded has a file's name
+pub source-name : (frames : List Pending) (name : List ℕ) → source_fault frames name ≡ None → is_short_name name ≡ true
+source-name frames name plain = go (is_short_name name) (nat_lt (sources frames) source_limit) plain
+  where
+    go : (short few : Bool) → (if short then (if few then None else Some sources_too_deep) else Some (bad_name name)) ≡ None → short ≡ true
+    go true few h = refl
+    go false few h = absurd (cc h)

@@ -1,0 +1,18 @@
+use Rattle.std.proofs.Common.{◌≡◌, ◌++◌, ◌∷◌, List, [], sym, ◌∙◌, ap, subst}
+use Rattle.read_commands.specs.declared.origin.Origin.{Origin}
+use Rattle.mailx_session.specs.declared.kinds.FrameKind.TheVariants as kind
+use Rattle.mailx_session.specs.Waits.{Pending}
+use Rattle.mailx_session.specs.Pending.{frame_of}
+use Rattle.mailx_session.specs.States.{with_frames}
+use Rattle.mailx_session.specs.Sourcing.{origin_at, OnlyBrings}
+use Rattle.mailx_session.proofs.SourcingLemmas.{brings-source}
+use Rattle.mailx_session.proofs.sourcing.bring.Goals as goal
+
+pub returns-in-Ok-clause-brings : goal.returns-in-Ok-clause-brings
+returns-in-Ok-clause-brings c =
+    let s = c.args.state.now in
+    let framed : c.new-frame.result ≡ frame_of (origin_at s.frames) kind.Source c.args.text =
+    c.new-frame.ensures ∙ ap (λ (o : Origin). frame_of o kind.Source c.args.text) c.origin.ensures in
+    let same : c.push.new.self ≡ s.frames ++ frame_of (origin_at s.frames) kind.Source c.args.text ∷ [] =
+    c.in-Ok.ensures.ok ∙ ap (λ (f : Pending). s.frames ++ f ∷ []) framed in
+    subst (λ (fs : List Pending). OnlyBrings s (with_frames s fs)) (sym same) (brings-source s c.args.text c.requires c.size_of-size.ensures.small)

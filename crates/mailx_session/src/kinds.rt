@@ -1,0 +1,8 @@
+/// What brought lines from elsewhere.
+#[derive(Clone, Copy, Debug, PartialEq, Eq)]
+pub enum FrameKind {
+    /// The start of the run: they are a start-up file's.
+    Startup,
+    /// The command `source`.
+    Source,
+}
