@@ -6,3 +6,4 @@ pub mod RoundLemmas
 pub mod StateLemmas
 pub mod SavingLemmas
 pub mod SourcingLemmas
+mod LeavingLemmas

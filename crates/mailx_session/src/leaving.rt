@@ -1,5 +1,6 @@
 // The end of the input, where the folder is left.
-ghost use Rattle.std.specs.Prelude.{◌≡◌, List, ℕ, IfOk};
+ghost use Rattle.std.specs.Prelude.{◌≡◌, List, ℕ, false, IfOk};
+ghost use Rattle.std.specs.List.{list_any};
 ghost use Rattle.host_port.specs.Ran.{Ran};
 ghost use Rattle.session_play.specs.Play.{Play, Ask, Ret, Say, Goes, bind};
 ghost use Rattle.session_play.specs.Steps.{in_order};
@@ -8,6 +9,7 @@ ghost use Rattle.mailx_session.specs.declared.status.Status.{Status};
 ghost use Rattle.mailx_session.specs.States.{IsState};
 ghost use Rattle.mailx_session.specs.Statuses.{IsEnd};
 ghost use Rattle.mailx_session.specs.Sessions.{asked, after_asks, in_play, LineCaused, EndsByAsk};
+ghost use Rattle.mailx_session.specs.Sourcing.{brings};
 ghost use Rattle.mailx_session.specs.Leaving.{left_by, leaving};
 
 use crate::asks::{Asked, do_asks, say};
@@ -48,13 +50,14 @@ fn end_by<H: Host>(host: &mut H, asked: Asked) -> Result<Status, RunError>
 // Does what a quit asks for, and ends the run.
 fn leave_by<H: Host>(
     alloc: Global,
-    state: &SessionState,
+    state: &mut SessionState,
     host: &mut H,
     asks: &[Wanted],
 ) -> Result<Status, RunError>
-    requires { IsState state.now }
+    requires { IsState state.old }
     ensures ran { Ran H.world host.old host.new
-        (λ es. Goes (bind (in_order asked state.now asks.now) left_by) es (in_play (λ (e : Status). e) result)) }
+        (λ es. Goes (bind (in_order asked state.old asks.now) left_by) es (in_play (λ (e : Status). e) result)) }
+    ensures quiet { list_any brings asks.now ≡ false → state.new ≡ state.old }
     ensures end { IfOk result IsEnd }
     ensures cause { LineCaused (H.world.counts host.old) (H.world.counts host.new) result }
 {
@@ -66,12 +69,13 @@ fn leave_by<H: Host>(
 /// so.
 pub(crate) fn leave<H: Host>(
     alloc: Global,
-    state: &SessionState,
+    state: &mut SessionState,
     host: &mut H,
 ) -> Result<Status, RunError>
-    requires { IsState state.now }
+    requires { IsState state.old }
     ensures ran { Ran H.world host.old host.new
-        (λ es. Goes (leaving state.now) es (in_play (λ (e : Status). e) result)) }
+        (λ es. Goes (leaving state.old) es (in_play (λ (e : Status). e) result)) }
+    ensures stays { state.new ≡ state.old }
     ensures end { IfOk result IsEnd }
     ensures cause { LineCaused (H.world.counts host.old) (H.world.counts host.new) result }
 {

@@ -138,13 +138,14 @@ impl Session {
     }
 
     /// The end of the input: the folder is left, as by `quit`, and the run ends. Where the quit is refused its line is
-    /// said.
-    pub fn end<H: Host>(&self, host: &mut H) -> Result<Status, RunError>
+    /// said. The state stays.
+    pub fn end<H: Host>(&mut self, host: &mut H) -> Result<Status, RunError>
         ensures ran { Ran H.world host.old host.new
-            (λ es. Goes (leaving self.now) es (in_play (λ (e : Status). e) result)) }
+            (λ es. Goes (leaving self.old) es (in_play (λ (e : Status). e) result)) }
+        ensures stays { self.new ≡ self.old }
         ensures end { IfOk result IsEnd }
         ensures cause { LineCaused (H.world.counts host.old) (H.world.counts host.new) result }
     {
-        leave(self.alloc, &self.state, host)
+        leave(self.alloc, &mut self.state, host)
     }
 }

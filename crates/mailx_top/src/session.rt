@@ -66,9 +66,9 @@ fn step<H: Host>(host: &mut H, session: &mut Session, line: &[u8]) -> Result<Opt
 }
 
 // Leaves the folder at the end of the input.
-fn leave<H: Host>(host: &mut H, session: &Session) -> Result<Option<Status>, Stop>
+fn leave<H: Host>(host: &mut H, session: &mut Session) -> Result<Option<Status>, Stop>
     ensures ran { (j : Input) → Ran H.world host.old host.new
-        (λ es. Goes (last_round session.now) es (next_state session.now j result)) }
+        (λ es. Goes (last_round session.old) es (next_state session.new j result)) }
     ensures cause { Caused (H.world.counts host.old) (H.world.counts host.new) result }
     ensures ended { IfOk result IsSome }
     ensures plain { IfOk result (λ end. IfSome end IsEnd) }
