@@ -2,7 +2,6 @@ pub mod Desks
 pub mod Effects
 pub mod Faults
 pub mod Answers
-pub mod FileNames
 pub mod Selecting
 pub mod Messages
 pub mod FileNames
