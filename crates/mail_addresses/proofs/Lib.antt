@@ -16,3 +16,4 @@ pub mod PlainLemmas
 pub mod TotalLemmas
 pub mod PieceReading
 pub mod CutAgain
+pub mod Walks

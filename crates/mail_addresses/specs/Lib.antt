@@ -6,3 +6,4 @@ pub mod Balance
 pub mod Plain
 pub mod Pieces
 pub mod Found
+pub mod Tokens

@@ -2,15 +2,15 @@ ghost use Rattle.std.specs.Prelude.{◌≡◌, ◌≤◌, ◌⊎◌, [], ℕ, Li
 ghost use Rattle.mail_addresses.specs.declared.address.Address.{Address};
 ghost use Rattle.mail_addresses.specs.Forms.{IsDisplayName};
 ghost use Rattle.mail_addresses.specs.Listing.{pieces, Gives, Lists, SpellsMailbox, IsGrouped, SpellsGroup, Spells, IsBad, IsFirstBad, Adds, AddsIf, Reads, IsFault, IsFirstAddress};
+ghost use Rattle.mail_addresses.specs.Tokens.{tokens_in};
 
 use crate::address::{Address, AddressError};
 use crate::found::{Found, FoundAddress};
 use crate::mailbox::mailbox;
 use crate::name::display_name;
 use crate::parts::{are_gaps, split_at_mark};
-use crate::pieces::{first_piece, piece_length};
+use crate::pieces::first_piece;
 use crate::plain::plain_address;
-use crate::token::Token;
 use mail_text::Memory;
 use std::alloc::Global;
 
@@ -73,8 +73,8 @@ fn first_of(list: Vec<Address>) -> Option<Address>
     }
 }
 
-/// Puts the addresses of all pieces of a value at the end, or answers the number of the first bad piece. The tokens
-/// of one piece stand in memory at a time.
+/// Puts the addresses of all pieces of a value at the end, or answers the number of the first bad piece. No
+/// tokens stand in memory.
 fn read_pieces(alloc: Global, value: &[u8], list: &mut Vec<Address>) -> Result<Option<u64>, Memory>
     ensures { IfOk result (λ bad. MatchOption bad
         (Adds (Reads value.now) list.old.items list.new.items)
@@ -83,8 +83,8 @@ fn read_pieces(alloc: Global, value: &[u8], list: &mut Vec<Address>) -> Result<O
     let mut rest = value;
     let mut number = 0;
     loop {
-        let (piece, after) = first_piece(alloc, rest)?;
-        let good = read_piece(alloc, &piece, list)?;
+        let (piece, after) = first_piece(rest);
+        let good = read_piece(alloc, piece, list)?;
         if !good {
             return Ok(Some(number));
         }
@@ -97,10 +97,10 @@ fn read_pieces(alloc: Global, value: &[u8], list: &mut Vec<Address>) -> Result<O
 }
 
 /// Puts the addresses of a piece at the end, or answers that the piece is bad.
-fn read_piece(alloc: Global, piece: &[Token], list: &mut Vec<Address>) -> Result<bool, Memory>
+fn read_piece(alloc: Global, piece: &[u8], list: &mut Vec<Address>) -> Result<bool, Memory>
     ensures { IfOk result (λ good. MatchBool good
-        (Adds (Gives Spells piece.now) list.old.items list.new.items)
-        (IsBad piece.now)) }
+        (Adds (Gives Spells (tokens_in piece.now)) list.old.items list.new.items)
+        (IsBad (tokens_in piece.now))) }
 {
     if are_gaps(piece) {
         return Ok(true);
@@ -115,9 +115,9 @@ fn read_piece(alloc: Global, piece: &[Token], list: &mut Vec<Address>) -> Result
     }
 }
 
-/// Puts the addresses of a group at the end, or answers that the tokens are none.
-fn read_group(alloc: Global, piece: &[Token], list: &mut Vec<Address>) -> Result<bool, Memory>
-    ensures { IfOk result (AddsIf (SpellsGroup piece.now) list.old.items list.new.items) }
+/// Puts the addresses of a group at the end, or answers that the piece is none.
+fn read_group(alloc: Global, piece: &[u8], list: &mut Vec<Address>) -> Result<bool, Memory>
+    ensures { IfOk result (AddsIf (SpellsGroup (tokens_in piece.now)) list.old.items list.new.items) }
 {
     let parts = split_at_mark(piece, b':');
     match parts {
@@ -129,11 +129,11 @@ fn read_group(alloc: Global, piece: &[Token], list: &mut Vec<Address>) -> Result
 /// Puts the addresses of a group with this name at the end, or answers that what follows its `:` doesn't make one.
 fn read_grouped(
     alloc: Global,
-    front: &[Token],
-    back: &[Token],
+    front: &[u8],
+    back: &[u8],
     list: &mut Vec<Address>,
 ) -> Result<bool, Memory>
-    ensures { IfOk result (AddsIf (IsGrouped front.now back.now) list.old.items list.new.items) }
+    ensures { IfOk result (AddsIf (IsGrouped (tokens_in front.now) (tokens_in back.now)) list.old.items list.new.items) }
 {
     let parts = split_at_mark(back, b';');
     match parts {
@@ -151,13 +151,13 @@ fn read_grouped(
     }
 }
 
-/// Whether the tokens give a name that isn't empty.
-fn has_name(alloc: Global, tokens: &[Token]) -> Result<bool, Memory>
+/// Whether the bytes give a name that isn't empty.
+fn has_name(alloc: Global, bytes: &[u8]) -> Result<bool, Memory>
     ensures { IfOk result (λ has. MatchBool has
-        ((name : List ℕ) × IsDisplayName tokens.now name × (name ≢ []))
-        ((name : List ℕ) → IsDisplayName tokens.now name → name ≡ [])) }
+        ((name : List ℕ) × IsDisplayName (tokens_in bytes.now) name × (name ≢ []))
+        ((name : List ℕ) → IsDisplayName (tokens_in bytes.now) name → name ≡ [])) }
 {
-    let name = display_name(alloc, tokens)?;
+    let name = display_name(alloc, bytes)?;
     match name {
         None => Ok(false),
         Some(name) => Ok(!name.bytes().is_empty()),
@@ -165,27 +165,27 @@ fn has_name(alloc: Global, tokens: &[Token]) -> Result<bool, Memory>
 }
 
 /// Puts the addresses of the list in a group at the end, or answers that it isn't one.
-fn read_members(alloc: Global, tokens: &[Token], list: &mut Vec<Address>) -> Result<bool, Memory>
+fn read_members(alloc: Global, bytes: &[u8], list: &mut Vec<Address>) -> Result<bool, Memory>
     ensures { IfOk result
-        (AddsIf (Lists SpellsMailbox (pieces tokens.now)) list.old.items list.new.items) }
+        (AddsIf (Lists SpellsMailbox (pieces (tokens_in bytes.now))) list.old.items list.new.items) }
 {
-    let mut rest = tokens;
+    let mut rest = bytes;
     loop {
-        let count = piece_length(rest);
-        let good = read_member(alloc, &rest[..count], list)?;
+        let (piece, after) = first_piece(rest);
+        let good = read_member(alloc, piece, list)?;
         if !good {
             return Ok(false);
         }
-        if count == rest.len() {
-            return Ok(true);
+        match after {
+            Some(after) => rest = after,
+            None => return Ok(true),
         }
-        rest = &rest[count + 1..];
     }
 }
 
 /// Puts the address of a piece in a group at the end, or answers that the piece is bad.
-fn read_member(alloc: Global, piece: &[Token], list: &mut Vec<Address>) -> Result<bool, Memory>
-    ensures { IfOk result (AddsIf (Gives SpellsMailbox piece.now) list.old.items list.new.items) }
+fn read_member(alloc: Global, piece: &[u8], list: &mut Vec<Address>) -> Result<bool, Memory>
+    ensures { IfOk result (AddsIf (Gives SpellsMailbox (tokens_in piece.now)) list.old.items list.new.items) }
 {
     if are_gaps(piece) {
         return Ok(true);

@@ -1,0 +1,6 @@
+use Rattle.mail_addresses.specs.Forms.{is_quoted}
+use Rattle.mail_addresses.proofs.Walks.{is_only, only_none}
+use Rattle.mail_addresses.proofs.parts.is_one_quoted.Goals as goal
+
+pub returns-in-None : goal.returns-in-None
+returns-in-None c = only_none is_quoted c.args.bytes.now c.in-None.ensures
