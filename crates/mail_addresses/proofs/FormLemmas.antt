@@ -204,12 +204,3 @@ is_cut ts front rest run after e f gaps starts solid ends = record {
   solid = solid;
   ends = ends;
 }
-
--- the texts of a front and then of the others are all texts
-pub texts_put : (ts : List Lexeme) (k : ℕ) (empty first both : List ℕ) → empty ≡ [] → first ≡ empty ++ texts (take k ts) → both ≡ first ++ texts (take (length ts - k) (drop k ts)) → (first ≡ texts (take k ts)) × (both ≡ texts ts)
-texts_put ts k empty first both e f g =
-    let first_is : first ≡ texts (take k ts) = f ∙ ap (λ (xs : List ℕ). xs ++ texts (take k ts)) e in (
-      first_is,
-      g ∙ ap (λ (xs : List ℕ). xs ++ texts (take (length ts - k) (drop k ts))) first_is ∙ ap (λ (us : List Lexeme). texts (take k ts) ++ texts us) (take_rest ts k)
-          ∙ sym (texts-append (take k ts) (drop k ts)) ∙ ap texts (take-append-drop k ts),
-    )

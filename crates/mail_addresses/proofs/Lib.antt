@@ -17,3 +17,4 @@ pub mod TotalLemmas
 pub mod PieceReading
 pub mod CutAgain
 pub mod Walks
+pub mod KeepLemmas

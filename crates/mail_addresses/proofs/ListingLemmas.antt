@@ -29,9 +29,6 @@ pub lists_end : (S : Form) (whole list : List (List Lexeme)) (piece : List Lexem
     → ((later : List Address) → Lists S list later → Lists S whole (added ++ later)) → Lists S whole (added ++ here)
 lists_end S whole list piece added here e gives so_far = so_far here (lists_last S list piece here e gives)
 
-pub put_more : (first added here old new : List Address) → old ≡ first ++ added → new ≡ old ++ here → new ≡ first ++ (added ++ here)
-put_more first added here old new e f = f ∙ ap (λ (xs : List Address). xs ++ here) e ∙ append_assoc first added here
-
 -- the first bad piece of the whole, once a piece more is read
 pub bad_step : (whole list rest : List (List Lexeme)) (piece : List Lexeme) (here : List Address) (number : ℕ) → list ≡ piece ∷ rest → Gives Spells piece here
     → ((at : ℕ) → IsFirstBad list at → IsFirstBad whole (number + at)) → (at : ℕ) → IsFirstBad rest at → IsFirstBad whole (number + 1 + at)
@@ -54,16 +51,3 @@ lists_others S list rest piece e all lists = let l = subst (λ (ps : List (List 
 pub no_member : (piece : List Lexeme) → list_all is_gap piece ≡ false → ((a : Address) → IsMailbox piece a → ⊥) → (added : List Address) → Gives SpellsMailbox piece added → ⊥
 no_member piece gaps none added (inl (g, e)) = both_ways _ gaps g
 no_member piece gaps none added (inr (a, e, is)) = none a is
-
--- the first piece, whether a comma cuts it off or not
-pub first_is : (ts : List Lexeme) (n : ℕ) → n ≤ length ts → (n ≡ length ts → pieces ts ≡ take n ts ∷ []) → (n < length ts → pieces ts ≡ take n ts ∷ pieces (drop (n + 1) ts))
-    → (others : List (List Lexeme)) × (pieces ts ≡ take n ts ∷ others)
-first_is ts n within last cut =
-    elim (cases_eq n (length ts)) [
-      | inl e ↦ ([], last e)
-      | inr less ↦ (pieces (drop (n + 1) ts), cut (omega arith))
-    ]
-
--- the rest as code writes it
-pub rest_is : (ts : List Lexeme) (n : ℕ) → take (length ts - n) (drop n ts) ≡ drop n ts
-rest_is ts n = take_rest ts n

@@ -1,25 +1,22 @@
 -- Tokens of bytes that are walked over, one by one.
-use Rattle.std.proofs.Common.{◌≡◌, ◌≢◌, ℕ, ◌+◌, ◌-◌, ◌≤◌, Bool, true, false, not, ◌&&◌, ◌==◌, List, [], ◌∷◌, ◌++◌, Option, Some, None, MatchOption, refl, sym, ap, ◌∙◌, length, take, arith, length-append}
+use Rattle.std.proofs.Common.{◌≡◌, ◌≢◌, ℕ, ◌+◌, ◌-◌, ◌≤◌, Bool, true, false, not, ◌&&◌, ◌==◌, List, [], ◌∷◌, ◌++◌, Option, Some, None, MatchOption, inl, inr, refl, sym, ap, ◌∙◌, length, take, arith, length-append}
 use Rattle.std.specs.Borrow.{Bor}
 use Rattle.std.specs.List.{list_all, list_any}
-use Rattle.std.proofs.lemmas.Bool.{and_parts, and_from, and_left, and_right, or_from, not-true}
+use Rattle.std.proofs.lemmas.Bool.{and_parts, and_from, and_left, and_right, or_from, not-true, ne_eqb, false≢true, both_ways}
 use Rattle.std.proofs.lemmas.List.{append-nil, take_at}
 use Rattle.mail_addresses.specs.Lexical.{Lexeme, blanks, comment, atom, quoted, literal, mark, unclosed, text_of, texts, is_blank_byte, is_atom_byte, begins, IsRun, IsToken, StandBefore, AreTokens}
-use Rattle.mail_addresses.specs.Forms.{is_mark, is_atom, is_dot_atom, is_one, Lacks, IsCutAtMark}
+use Rattle.mail_addresses.specs.Forms.{is_mark, is_atom, is_dot_atom, is_one, is_local_part, is_domain, IsSpec, Lacks, IsCutAtMark}
 use Rattle.mail_addresses.specs.Listing.{pieces}
 use Rattle.mail_addresses.specs.Pieces.{IsLastPiece, IsPieceBefore}
 use Rattle.mail_addresses.specs.Plain.{AreFront}
 use Rattle.mail_addresses.specs.Tokens.{tokens_in}
 use Rattle.mail_addresses.proofs.ListLemmas.{empty_front}
-use Rattle.mail_addresses.proofs.TotalLemmas.{tokens_of, mark_is}
+use Rattle.mail_addresses.proofs.MailboxLemmas.{has_mark}
+use Rattle.mail_addresses.proofs.TotalLemmas.{are_in, mark_is}
 use Rattle.mail_addresses.proofs.TokenUnique.{tokens_unique}
 use Rattle.mail_addresses.proofs.PlainLemmas.{front_append, front_one, front_none, front_within}
 
 -- ---- the tokens of bytes
-
-pub are_in : (bytes : List ℕ) → AreTokens bytes (tokens_in bytes)
-unfolding tokens_in
-are_in bytes = (tokens_of bytes).1
 
 pub in_is : (bytes : List ℕ) (ts : List Lexeme) → AreTokens bytes ts → tokens_in bytes ≡ ts
 in_is bytes ts are = tokens_unique bytes (tokens_in bytes) ts (are_in bytes) are
@@ -176,16 +173,16 @@ dots_one rest after t e is none = ap is_dot_atom (in_more rest after t e is ∙ 
 -- the first is no atom
 not_dots : (t : Lexeme) (ts : List Lexeme) → is_atom t ≡ false → is_dot_atom (t ∷ ts) ≡ false
 unfolding is_dot_atom
-not_dots t [] no = no
-not_dots t (dot ∷ ts) no = and_left _ _ no
+not_dots t [] other = other
+not_dots t (dot ∷ ts) other = and_left _ _ (and_left _ _ other)
 
 pub dots_other : (rest after : List ℕ) (t : Lexeme) → rest ≡ text_of t ++ after → IsToken t after → is_atom t ≡ false → is_dot_atom (tokens_in rest) ≡ false
-dots_other rest after t e is no = ap is_dot_atom (in_more rest after t e is) ∙ not_dots t (tokens_in after) no
+dots_other rest after t e is other = ap is_dot_atom (in_more rest after t e is) ∙ not_dots t (tokens_in after) other
 
 -- an atom and another token, before what is left
 two : (t u : Lexeme) (ts : List Lexeme) → is_atom t ≡ true → is_dot_atom (t ∷ u ∷ ts) ≡ (is_mark 46 u && is_dot_atom ts)
 unfolding is_dot_atom
-two t u ts atom_first = ap (λ (b : Bool). b && (is_mark 46 u && is_dot_atom ts)) atom_first
+two t u ts atom_first = ap (λ (b : Bool). (b && is_mark 46 u) && is_dot_atom ts) atom_first
 
 two_in : (rest after later : List ℕ) (t u : Lexeme) → rest ≡ text_of t ++ after → IsToken t after → after ≡ text_of u ++ later → IsToken u later → tokens_in rest ≡ t ∷ u ∷ tokens_in later
 two_in rest after later t u e is f is_u = in_more rest after t e is ∙ ap (λ (ts : List Lexeme). t ∷ ts) (in_more after later u f is_u)
@@ -200,14 +197,38 @@ pub dots_broken : (rest after later : List ℕ) (t u : Lexeme) → rest ≡ text
 dots_broken rest after later t u e is f is_u atom_first dot =
     ap is_dot_atom (two_in rest after later t u e is f is_u) ∙ two t u (tokens_in later) atom_first ∙ and_left _ _ dot
 
-one_of : (p : Lexeme → Bool) (t : Lexeme) (after : List ℕ) (empty : Bool) → empty ≡ (length after == 0) → (empty && p t) ≡ is_one p (t ∷ tokens_in after)
-one_of p t [] empty e = ap (λ (b : Bool). b && p t) e ∙ sym (ap (λ (ts : List Lexeme). is_one p (t ∷ ts)) (in_none [] refl))
-one_of p t (b ∷ bs) empty e =
-    let some = some_in (b ∷ bs) (λ z. cc) in
-    ap (λ (x : Bool). x && p t) e ∙ sym (ap (λ (ts : List Lexeme). is_one p (t ∷ ts)) some.1.1)
+pub only_one : (p : Lexeme → Bool) (rest after : List ℕ) (t : Lexeme) (empty : Bool) → rest ≡ text_of t ++ after → IsToken t after → empty ≡ (length after == 0) → empty ≡ true → is_one p (tokens_in rest) ≡ p t
+only_one p rest [] t empty e is same h = ap (is_one p) (in_more rest [] t e is ∙ ap (λ (ts : List Lexeme). t ∷ ts) (in_none [] refl))
+only_one p rest (b ∷ bs) t empty e is same h = absurd (false≢true (sym (ne_eqb (length (b ∷ bs)) 0 (λ z. absurd (omega (arith, z)))) ∙ sym same ∙ h))
 
-pub is_only : (p : Lexeme → Bool) (rest after : List ℕ) (t : Lexeme) (empty answer : Bool) → rest ≡ text_of t ++ after → IsToken t after → empty ≡ (length after == 0) → answer ≡ (empty && p t) → answer ≡ is_one p (tokens_in rest)
-is_only p rest after t empty answer e is is_empty is_answer = is_answer ∙ one_of p t after empty is_empty ∙ ap (is_one p) (sym (in_more rest after t e is))
+pub only_more : (p : Lexeme → Bool) (rest after : List ℕ) (t : Lexeme) (empty : Bool) → rest ≡ text_of t ++ after → IsToken t after → empty ≡ (length after == 0) → empty ≡ false → is_one p (tokens_in rest) ≡ false
+only_more p rest [] t empty e is same h = absurd (false≢true (sym h ∙ same))
+only_more p rest (b ∷ bs) t empty e is same h =
+    let some = some_in (b ∷ bs) (λ z. cc) in
+    ap (is_one p) (in_more rest (b ∷ bs) t e is ∙ ap (λ (ts : List Lexeme). t ∷ ts) some.1.1)
 
 pub only_none : (p : Lexeme → Bool) (rest : List ℕ) → rest ≡ [] → false ≡ is_one p (tokens_in rest)
 only_none p rest e = ap (is_one p) (sym (in_none rest e))
+
+-- ---- a spec
+
+pub spec_alone : (bytes : List ℕ) → is_local_part (tokens_in bytes) ≡ true → IsSpec (tokens_in bytes) (length bytes)
+spec_alone bytes h = inl (h, ap (λ (xs : List ℕ). length xs) (sym (texts_in bytes)))
+
+pub no_spec : (ts : List Lexeme) (n : ℕ) → Lacks 64 ts → is_local_part ts ≡ false → IsSpec ts n → ⊥
+no_spec ts n lacks other (inl (h, count)) = both_ways _ other h
+no_spec ts n lacks other (inr at) = both_ways _ lacks (ap (list_any (is_mark 64)) at.whole ∙ has_mark 64 at.local at.domain)
+
+pub spec_domain : (bytes local domain : List ℕ) → IsCutAtMark 64 (tokens_in bytes) (tokens_in local) (tokens_in domain) → is_local_part (tokens_in local) ≡ true → is_domain (tokens_in domain) ≡ true → IsSpec (tokens_in bytes) (length local)
+spec_domain bytes local domain cut h k = inr (record {
+  local = tokens_in local;
+  domain = tokens_in domain;
+  whole = cut.0;
+  is_local = h;
+  has_domain = k;
+  count = ap (λ (xs : List ℕ). length xs) (sym (texts_in local));
+})
+
+pub local_of : (ts : List Lexeme) (o : Option ℕ) → Lacks 64 ts → MatchOption o (is_local_part ts ≡ false) (λ n. IsSpec ts n) → MatchOption o ((n : ℕ) → IsSpec ts n → ⊥) (λ n. IsSpec ts n)
+local_of ts None lacks other = λ n spec. no_spec ts n lacks other spec
+local_of ts (Some k) lacks spec = spec

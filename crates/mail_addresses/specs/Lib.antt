@@ -7,3 +7,4 @@ pub mod Plain
 pub mod Pieces
 pub mod Found
 pub mod Tokens
+pub mod Keeping

@@ -131,6 +131,19 @@ pub(crate) fn split_at_gap(bytes: &[u8]) -> (&[u8], &[u8])
     (before(bytes, rest), rest)
 }
 
+/// How many bytes the bytes have, where they are a local part.
+fn whole_local(bytes: &[u8]) -> Option<usize>
+    ensures { MatchOption result
+        (is_local_part (tokens_in bytes.now) ≡ false)
+        (λ n. IsSpec (tokens_in bytes.now) n) }
+{
+    if is_local_part(bytes) {
+        Some(bytes.len())
+    } else {
+        None
+    }
+}
+
 /// How many bytes the local part has, where the bytes are a spec.
 pub(crate) fn local_length(bytes: &[u8]) -> Option<usize>
     ensures { MatchOption result
@@ -139,7 +152,7 @@ pub(crate) fn local_length(bytes: &[u8]) -> Option<usize>
 {
     let parts = split_at_mark(bytes, b'@');
     match parts {
-        None => is_local_part(bytes).then_some(bytes.len()),
+        None => whole_local(bytes),
         Some((local, domain)) => {
             if is_local_part(local) && is_domain(domain) {
                 Some(local.len())

@@ -6,7 +6,6 @@ use Rattle.mail_addresses.proofs.NameLemmas.{after, after-nil, after-append, nam
 use Rattle.mail_addresses.proofs.TokenLemmas.{token_less}
 use Rattle.mail_addresses.proofs.Walks.{in_none, in_more}
 use Rattle.mail_addresses.proofs.name.display_name.Goals as goal
-use Rattle.mail_addresses.proofs.name.display_name.Goals.{then-is_gap, else-is_gap+then-is_part+in_ok-push_next}
 
 pub loop-token-smaller : goal.loop-token-smaller
 loop-token-smaller c = token_less c.in-Some.token c.loop-token.rest.now c.in-Some.after.now c.in-Some.ensures.0 c.in-Some.ensures.1
@@ -20,6 +19,15 @@ returns-else-is_part c =
     (ap (name_from c.loop-token.begun c.loop-token.apart) here
     ∙ name_from-none c.loop-token.begun c.loop-token.apart t rest (sym c.is_gap.ensures ∙ c.if-is_gap.false) (sym c.is_part.ensures ∙ c.if-is_part.false)))
 
+pub loop-token-preserved-then-is_gap : goal.loop-token-preserved-then-is_gap
+loop-token-preserved-then-is_gap c =
+    let t = c.in-Some.token in
+    let begun = c.loop-token.begun in
+    let apart = c.loop-token.apart in
+    let rest = tokens_in c.in-Some.after.now in
+    let here = in_more c.loop-token.rest.now c.in-Some.after.now t c.in-Some.ensures.0 c.in-Some.ensures.1 in
+    ap (after c.loop-token.name) (sym (ap (name_from begun apart) here ∙ name_from-gap begun apart t rest (sym c.is_gap.ensures ∙ c.if-is_gap.true))) ∙ c.loop-token.invariant
+
 pub loop-token-preserved : goal.loop-token-preserved
 loop-token-preserved c =
     let t = c.in-Some.token in
@@ -27,16 +35,11 @@ loop-token-preserved c =
     let begun = c.loop-token.begun in
     let apart = c.loop-token.apart in
     let rest = tokens_in c.in-Some.after.now in
-    let here : name_from begun apart (tokens_in c.loop-token.rest.now) ≡ name_from begun apart (t ∷ rest) = ap (name_from begun apart) (in_more c.loop-token.rest.now c.in-Some.after.now t c.in-Some.ensures.0 c.in-Some.ensures.1) in
-    elim c.if-is_gap.branch [
-      | then-is_gap w ↦
-          same_state c.if-is_gap.name name c.if-is_gap.begun begun c.if-is_gap.apart begun rest w.name-is w.begun-is w.apart-is
-          ∙ ap (after name) (sym (here ∙ name_from-gap begun apart t rest (sym c.is_gap.ensures ∙ w.if-is_gap.true))) ∙ c.loop-token.invariant
-      | else-is_gap+then-is_part+in_ok-push_next w ↦
-          same_state c.if-is_gap.name (name ++ spaced apart (part_text t)) c.if-is_gap.begun true c.if-is_gap.apart false rest (w.name-is ∙ w.in_ok-push_next.ensures) w.begun-is w.apart-is
-          ∙ after-append name (spaced apart (part_text t)) (name_from true false rest)
-          ∙ ap (after name) (sym (here ∙ name_from-part begun apart t rest (sym c.is_gap.ensures ∙ w.if-is_gap.false) (sym w.is_part.ensures ∙ w.if-is_part.true))) ∙ c.loop-token.invariant
-    ]
+    let here = in_more c.loop-token.rest.now c.in-Some.after.now t c.in-Some.ensures.0 c.in-Some.ensures.1 in
+    ap (λ (x : List ℕ). after x (name_from true false rest)) c.in_ok-push_next.ensures
+    ∙ after-append name (spaced apart (part_text t)) (name_from true false rest)
+    ∙ ap (after name) (sym (ap (name_from begun apart) here ∙ name_from-part begun apart t rest (sym c.is_gap.ensures ∙ c.if-is_gap.false) (sym c.is_part.ensures ∙ c.if-is_part.true)))
+    ∙ c.loop-token.invariant
 
 pub returns : goal.returns
 returns c =

@@ -22,10 +22,10 @@ pub before-requires-2 : goal.before-requires-2
 before-requires-2 c = walked_within is_gap c.args.bytes.now c.loop-token.rest.now c.loop-token.invariant
 
 pub returns-then-not-is_gap-clause-cut : goal.returns-then-not-is_gap-clause-cut
-returns-then-not-is_gap-clause-cut c = walked_cut is_gap c.args.bytes.now c.loop-token.rest.now c.before.result.now c.loop-token.invariant c.before.ensures
+returns-then-not-is_gap-clause-cut c = walked_cut is_gap c.args.bytes.now c.loop-token.rest.now c.before-then-not-is_gap.result.now c.loop-token.invariant c.before-then-not-is_gap.ensures
 
 pub returns-then-not-is_gap-clause-gaps : goal.returns-then-not-is_gap-clause-gaps
-returns-then-not-is_gap-clause-gaps c = walked_front is_gap c.args.bytes.now c.loop-token.rest.now c.before.result.now c.loop-token.invariant c.before.ensures
+returns-then-not-is_gap-clause-gaps c = walked_front is_gap c.args.bytes.now c.loop-token.rest.now c.before-then-not-is_gap.result.now c.loop-token.invariant c.before-then-not-is_gap.ensures
 
 pub returns-then-not-is_gap-clause-ends : goal.returns-then-not-is_gap-clause-ends
 returns-then-not-is_gap-clause-ends c = begins_with is_gap c.loop-token.rest.now c.in-Some.after.now c.in-Some.token c.in-Some.ensures.0 c.in-Some.ensures.1 (sym c.is_gap.ensures ∙ c.if-not-is_gap.true)

@@ -22,10 +22,10 @@ pub before-requires-2 : goal.before-requires-2
 before-requires-2 c = walked_within is_solid c.args.bytes.now c.loop-token.rest.now c.loop-token.invariant
 
 pub returns-then-is_gap-clause-cut : goal.returns-then-is_gap-clause-cut
-returns-then-is_gap-clause-cut c = walked_cut is_solid c.args.bytes.now c.loop-token.rest.now c.before.result.now c.loop-token.invariant c.before.ensures
+returns-then-is_gap-clause-cut c = walked_cut is_solid c.args.bytes.now c.loop-token.rest.now c.before-then-is_gap.result.now c.loop-token.invariant c.before-then-is_gap.ensures
 
 pub returns-then-is_gap-clause-solid : goal.returns-then-is_gap-clause-solid
-returns-then-is_gap-clause-solid c = walked_front is_solid c.args.bytes.now c.loop-token.rest.now c.before.result.now c.loop-token.invariant c.before.ensures
+returns-then-is_gap-clause-solid c = walked_front is_solid c.args.bytes.now c.loop-token.rest.now c.before-then-is_gap.result.now c.loop-token.invariant c.before-then-is_gap.ensures
 
 pub returns-then-is_gap-clause-ends : goal.returns-then-is_gap-clause-ends
 returns-then-is_gap-clause-ends c = begins_with is_solid c.loop-token.rest.now c.in-Some.after.now c.in-Some.token c.in-Some.ensures.0 c.in-Some.ensures.1 (not_from_true _ (sym c.is_gap.ensures ∙ c.if-is_gap.true))

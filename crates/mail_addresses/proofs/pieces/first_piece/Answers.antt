@@ -28,7 +28,7 @@ before-requires c = front_within c.args.value.now c.loop-token.rest.now c.loop-t
 pub returns-then-is_cut : goal.returns-then-is_cut
 returns-then-is_cut c =
     let piece = c.loop-token.invariant.0 in
-    let same = ap tokens_in c.before.ensures ∙ front_alone c.args.value.now c.loop-token.rest.now piece c.loop-token.invariant.1.front in
+    let same = ap tokens_in c.before-then-is_cut.ensures ∙ front_alone c.args.value.now c.loop-token.rest.now piece c.loop-token.invariant.1.front in
     subst (λ (ts : List Lexeme). IsPieceBefore c.args.value.now ts c.in-Some.after.now) (sym same)
     (piece_cut c.args.value.now piece c.loop-token.place c.loop-token.rest.now c.in-Some.after.now c.in-Some.token c.loop-token.invariant.1 c.in-Some.ensures.0 c.in-Some.ensures.1 (sym c.is_cut.ensures ∙ c.if-is_cut.true))
 

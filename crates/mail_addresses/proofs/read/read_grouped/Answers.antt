@@ -21,7 +21,7 @@ returns-else-not-named c =
     let inside = tokens_in c.in-Some.inside.now in
     let after = tokens_in c.in-Some.after.now in
     let name = MatchBool-at_true _ _ c.if-not-named.false c.in_ok-named-in-Some.ensures in
-    added c.read_members.result _ _ (Lists SpellsMailbox (pieces inside)) (IsGrouped front back)
+    added c.args.keep c.read_members.result _ _ (Lists SpellsMailbox (pieces inside)) (IsGrouped front back)
     (λ list said. grouped_from front back inside after list c.in-Some.ensures.0 record {
       name = name.0;
       named = name.1;
