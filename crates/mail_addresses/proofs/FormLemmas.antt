@@ -1,10 +1,8 @@
 -- Which tokens the forms have, and that a spec is cut in one way.
-use Rattle.std.proofs.Common.{◌≡◌, ◌≢◌, ℕ, Bool, true, false, List, [], ◌∷◌, ◌++◌, inl, inr, refl, sym, ap, ◌∙◌, length, subst, take, drop, ◌-◌, take-append-drop, arith}
+use Rattle.std.proofs.Common.{◌≡◌, ◌≢◌, ℕ, Bool, true, false, List, [], ◌∷◌, ◌++◌, inl, inr, refl, sym, ap, ◌∙◌, length, subst, arith}
 use Rattle.std.specs.List.{list_all, list_any}
 use Rattle.std.proofs.lemmas.Bool.{and_parts, and_from, or_cases, or_from, or_right, both_ways, eqb-true, ne_eqb, false≢true, not-true, not_from_true}
 use Rattle.std.proofs.lemmas.List.Folds.{list_all-append}
-use Rattle.std.proofs.lemmas.List.{take_rest}
-use Rattle.mail_addresses.proofs.TokenLemmas.{texts-append}
 use Rattle.mail_addresses.specs.Lexical.{Lexeme, blanks, comment, atom, quoted, literal, mark, unclosed, texts, begins}
 use Rattle.mail_addresses.specs.Forms.{is_gap, is_solid, is_mark, is_atom, is_quoted, is_domain_literal, is_dot_atom, is_one, is_local_part, is_domain, IsSpec, GivesSpec}
 use Rattle.mail_addresses.specs.declared.address.Address.{Address}

@@ -1,12 +1,12 @@
 -- Lists of addresses: pieces read one after another.
-use Rattle.std.proofs.Common.{◌≡◌, ℕ, ◌+◌, false, List, [], ◌∷◌, ◌++◌, inl, inr, refl, sym, ap, ◌∙◌, subst, arith, append_assoc, ◌<◌, ◌≤◌, ◌-◌, length, take, drop}
+use Rattle.std.proofs.Common.{◌≡◌, ℕ, ◌+◌, false, List, [], ◌∷◌, ◌++◌, inl, inr, refl, sym, subst, arith, append_assoc}
 use Rattle.std.specs.List.{list_all}
-use Rattle.std.proofs.lemmas.Bool.{both_ways, cases_eq}
-use Rattle.std.proofs.lemmas.List.{append-nil, take_rest}
+use Rattle.std.proofs.lemmas.Bool.{both_ways}
+use Rattle.std.proofs.lemmas.List.{append-nil}
 use Rattle.mail_addresses.specs.declared.address.Address.{Address}
 use Rattle.mail_addresses.specs.Lexical.{Lexeme}
 use Rattle.mail_addresses.specs.Forms.{is_gap, IsMailbox}
-use Rattle.mail_addresses.specs.Listing.{pieces, Gives, Lists, SpellsMailbox, Spells, IsBad, IsFirstBad}
+use Rattle.mail_addresses.specs.Listing.{Gives, Lists, SpellsMailbox, Spells, IsBad, IsFirstBad}
 
 -- what pieces may spell
 abbrev pub Form : Type 1

@@ -7,7 +7,7 @@ use Rattle.std.proofs.lemmas.List.Folds.{list_all-append}
 use Rattle.mail_addresses.specs.declared.address.Address.{Address}
 use Rattle.mail_addresses.specs.Lexical.{Lexeme, blanks, comment, atom, quoted, literal, mark, unclosed, text_of, texts, begins, is_blank_byte, is_atom_byte, IsRun, IsCommentContent, IsQuotedContent, IsLiteralContent, NeverEnds, IsEnd, NeverCloses, IsToken, StandBefore, AreTokens}
 use Rattle.mail_addresses.specs.Lexical.NeverCloses.{comment_open, quote_open, literal_open}
-use Rattle.mail_addresses.specs.Forms.{is_gap, is_solid, is_mark, Lacks, IsCutAtMark, is_local_part, is_domain, IsSpec, GivesSpec, IsDisplayName, IsAngled, IsMailbox}
+use Rattle.mail_addresses.specs.Forms.{is_gap, is_solid, is_mark, Lacks, is_local_part, is_domain, IsSpec, GivesSpec, IsDisplayName, IsAngled, IsMailbox}
 use Rattle.mail_addresses.specs.Listing.{pieces, Gives, Lists, SpellsMailbox, IsGrouped, SpellsGroup, Spells, IsBad, IsFirstBad, Reads, IsFault}
 use Rattle.mail_addresses.specs.Tokens.{close, unquote, Step, first_step, tokens_within, tokens_in}
 use Rattle.mail_addresses.proofs.Closing.{comment_found, comment_none}

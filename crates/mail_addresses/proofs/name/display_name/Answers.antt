@@ -1,8 +1,8 @@
-use Rattle.std.proofs.Common.{◌≡◌, ◌++◌, ◌∷◌, [], ℕ, true, false, List, Some, sym, ap, ◌∙◌, arith}
+use Rattle.std.proofs.Common.{◌≡◌, [], ℕ, true, false, List, Some, sym, ap, ◌∙◌, arith}
 use Rattle.std.proofs.lemmas.List.{append-nil}
 use Rattle.mail_addresses.specs.Forms.{part_text, spaced}
 use Rattle.mail_addresses.specs.Tokens.{tokens_in}
-use Rattle.mail_addresses.proofs.NameLemmas.{after, after-nil, after-append, name_from, name_from-gap, name_from-part, name_from-none, name_from-end, read_is_name, no_name, same_state}
+use Rattle.mail_addresses.proofs.NameLemmas.{after, after-append, name_from, name_from-gap, name_from-part, name_from-none, name_from-end, read_is_name, no_name}
 use Rattle.mail_addresses.proofs.TokenLemmas.{token_less}
 use Rattle.mail_addresses.proofs.Walks.{in_none, in_more}
 use Rattle.mail_addresses.proofs.name.display_name.Goals as goal

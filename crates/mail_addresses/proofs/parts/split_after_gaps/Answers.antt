@@ -1,7 +1,5 @@
-use Rattle.std.proofs.Common.{true, false, sym, ap, ◌∙◌, not}
-use Rattle.std.proofs.lemmas.Bool.{not_from_true, not_from_false, not-true, not-false}
-use Rattle.mail_addresses.specs.Forms.{is_gap, is_solid}
-use Rattle.mail_addresses.specs.Tokens.{tokens_in}
+use Rattle.std.proofs.Common.{sym, ◌∙◌}
+use Rattle.mail_addresses.specs.Forms.{is_gap}
 use Rattle.mail_addresses.proofs.TokenLemmas.{token_less}
 use Rattle.mail_addresses.proofs.Walks.{walked_none, walked_more, walked_within, walked_front, walked_cut, begins_none, begins_with}
 use Rattle.mail_addresses.proofs.parts.split_after_gaps.Goals as goal

@@ -19,7 +19,7 @@ loop-token-preserved c =
     let piece = c.loop-token.invariant.0 in (
       piece ++ c.in-Some.token ∷ [],
       piece_more c.args.value.now piece _ c.loop-token.place c.place_after-place.result c.loop-token.rest.now c.in-Some.after.now c.in-Some.token c.loop-token.invariant.1 c.in-Some.ensures.0 c.in-Some.ensures.1
-        (sym c.is_cut.ensures ∙ c.if-is_cut.false) c.place_after-place.ensures refl,
+          (sym c.is_cut.ensures ∙ c.if-is_cut.false) c.place_after-place.ensures refl,
     )
 
 pub before-requires : goal.before-requires

@@ -1,6 +1,6 @@
-use Rattle.std.proofs.Common.{inl, inr, refl, ◌∙◌}
+use Rattle.std.proofs.Common.{inl, ◌∙◌}
 use Rattle.mail_addresses.proofs.KeepLemmas.{first_kept}
-use Rattle.mail_addresses.proofs.MailboxLemmas.{at_none, at_some}
+use Rattle.mail_addresses.proofs.MailboxLemmas.{at_none}
 use Rattle.mail_addresses.proofs.read.first_read.Goals as goal
 
 pub returns-in-None : goal.returns-in-None

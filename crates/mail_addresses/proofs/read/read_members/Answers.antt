@@ -1,7 +1,6 @@
-use Rattle.std.proofs.Common.{◌<◌, ◌+◌, [], ◌++◌, List, length, arith, sym}
+use Rattle.std.proofs.Common.{[], ◌++◌, sym}
 use Rattle.std.proofs.lemmas.Bool.{MatchBool-at_true, MatchBool-at_false}
-use Rattle.mail_addresses.specs.Lexical.{Lexeme}
-use Rattle.mail_addresses.specs.Listing.{pieces, Lists, SpellsMailbox}
+use Rattle.mail_addresses.specs.Listing.{pieces, SpellsMailbox}
 use Rattle.mail_addresses.specs.Pieces.{IsLastPiece, IsPieceBefore}
 use Rattle.mail_addresses.specs.Tokens.{tokens_in}
 use Rattle.mail_addresses.proofs.ListingLemmas.{lists_step, lists_end, lists_first, lists_others}

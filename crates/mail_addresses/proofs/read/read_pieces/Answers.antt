@@ -1,8 +1,5 @@
-use Rattle.std.proofs.Common.{◌≤◌, ◌<◌, ◌+◌, [], ◌++◌, List, length, arith, sym, subst}
+use Rattle.std.proofs.Common.{[], ◌++◌, arith, sym}
 use Rattle.std.proofs.lemmas.Bool.{MatchBool-at_true, MatchBool-at_false}
-use Rattle.mail_addresses.specs.declared.address.Address.{Address}
-use Rattle.mail_addresses.specs.Lexical.{Lexeme}
-use Rattle.mail_addresses.specs.Listing.{Gives, Spells, IsBad}
 use Rattle.mail_addresses.specs.Pieces.{IsPieceBefore}
 use Rattle.mail_addresses.specs.Tokens.{tokens_in}
 use Rattle.mail_addresses.proofs.KeepLemmas.{kept_none, put_more}
