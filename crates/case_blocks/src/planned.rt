@@ -3,7 +3,8 @@ ghost use Rattle.std.specs.Prelude.{◌≤◌};
 
 use crate::Answer;
 use crate::block::{Case, cut, number, value};
-use host_port::{ForeignStep, Part, Plan};
+use host_memory::Plan;
+use host_port::{ForeignStep, Part};
 use mail_text::Items;
 
 fn step(text: &str, out: &mut Answer) -> ForeignStep {

@@ -1,6 +1,6 @@
 // What became of a disk.
 use crate::Answer;
-use host_port::{DiskView, MemHost};
+use host_memory::{DiskView, MemHost};
 use mail_text::{Memory, Text};
 
 fn found<'a>(files: &'a [(Text, Text)], name: &[u8]) -> Option<&'a [u8]> {

@@ -4,7 +4,8 @@ ghost use Rattle.host_port.specs.Names.{IsFileName};
 use crate::commits;
 use crate::names::is_name;
 use case_blocks::{Answer, cut, number};
-use host_port::{Host, LoadAnswer, LoadError, MemHost};
+use host_memory::MemHost;
+use host_port::{Host, LoadAnswer, LoadError};
 
 fn done<E: Drop>(answer: Result<(), E>) -> &'static [u8] {
     match answer {

@@ -9,7 +9,7 @@ use case_blocks::{Answer, cut};
 use folder_change::{Change, change_name};
 use folder_commit::{CommitError, Passed, commit, is_file_name};
 use folder_recovery::{RecoverError, Recovered, recover};
-use host_port::MemHost;
+use host_memory::MemHost;
 use mail_text::{Items, Text};
 use mbox_scan::Folder;
 use std::alloc::Global;

@@ -3,7 +3,8 @@ use crate::calls::put_call;
 use crate::pure::put_answer;
 use crate::stops::{put_stop, put_stops};
 use case_blocks::{Answer, Case, Tells, cut, host, is_plain, put_disk, put_title, view};
-use host_port::{DiskView, Event, MemHost};
+use host_memory::{DiskView, MemHost};
+use host_port::Event;
 use mail_text::Memory;
 
 fn letter(event: &Event) -> u8 {

@@ -3,7 +3,7 @@ ghost use Rattle.std.specs.Prelude.{◌≤◌};
 
 use crate::commits::recovered;
 use case_blocks::{Answer, cut, number, part, put_changes, put_disk};
-use host_port::{DiskView, MemHost, Plan};
+use host_memory::{DiskView, MemHost, Plan};
 use mail_text::{Items, Memory, Text};
 use std::alloc::Global;
 

@@ -16,7 +16,7 @@ use Rattle.commit_machine.specs.Names.{staged_name}
 use Rattle.commit_machine.specs.Records.{is_go, names_of}
 use Rattle.commit_machine.specs.Jobs.{Ending, NoMemory, Edit, Job, Made, edits_of}
 use Rattle.commit_machine.specs.Machine.{State, Looking, loading, after_reply, went_on, faulted, too_long, wanted, saw, go_front}
-use Rattle.commit_machine.proofs.RecordLemmas.{valid-names}
+use Rattle.commit_machine.proofs.records.InFile.{valid-names}
 use Rattle.commit_driver.specs.declared.step.Passed.{Passed}
 use Rattle.commit_driver.specs.declared.step.End.{End}
 use Rattle.commit_driver.specs.declared.step.End.TheVariants as end

@@ -21,8 +21,8 @@ use Rattle.commit_driver.specs.Steps.{Kinds, call_at, count_at, passed_end, pass
 use Rattle.commit_driver.specs.Places.{nth, files_of, entries_of, kinds_of, PlacesSo, passed_as, found_as, end_as, then_as, made_from, names_as, state_as, WantedAs, IsMade, Holds, IsPlan, IsPlace}
 use Rattle.commit_driver.specs.Answers.{IsAnswer}
 use Rattle.commit_driver.proofs.StateLemmas.{drop-some, drop-map, nth-map, take-next, unlocking-view, undoing-view, KindsAre, unlocking-is, unlocking-all, undoing-is, placing-is, locking-is, staging-is}
-use Rattle.commit_machine.proofs.FrontLemmas.{front-taken}
-use Rattle.commit_machine.proofs.JobLemmas.{kind_of_entries}
+use Rattle.commit_machine.proofs.records.Front.{front-taken}
+use Rattle.commit_machine.proofs.records.OfJob.{kind_of_entries}
 use Rattle.commit_driver.proofs.KindLemmas.{kind-nth, kind-made, nth-Mem}
 use Rattle.commit_driver.proofs.NextLemmas.{files-long, edits-long, made-long, names-count}
 use Rattle.commit_driver.proofs.FitLemmas.{of-if, of-unlocking, of-undoing, of-placing, of-locking, of-staging, Loads}

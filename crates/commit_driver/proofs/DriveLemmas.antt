@@ -16,7 +16,7 @@ use Rattle.commit_machine.specs.Jobs.{NoMemory, Job}
 use Rattle.commit_machine.specs.Machine.{State, Seizing, Looking, Undoing, Placing, Testing, Removing, Discarding, Unlocking, Erasing, Clearing, Preparing, Publishing, Locking, Loading, Staging, Deciding, Committing, Checking, Releasing, Ended, GoOn, Answer, Reply, Went, Saw, Long, Short, Fault, next, refused, after_reply}
 use Rattle.commit_machine.specs.Machine as machine
 use Rattle.commit_machine.specs.Goes.{IsNext, Goes, reply}
-use Rattle.commit_machine.proofs.GoesLemmas.{stretches_join, refused_twice}
+use Rattle.commit_machine.proofs.runs.Stretches.{stretches_join, refused_twice}
 use Rattle.commit_driver.specs.declared.step.End.{End}
 use Rattle.commit_driver.specs.declared.step.End.TheVariants as end
 use Rattle.commit_driver.specs.declared.step.Then.{Then as Then_of}
@@ -264,17 +264,17 @@ driving-more {w = w} {old = old} {mid = mid} {now = now} plan changes base place
 pub driven : {H : Type 0} {w : World H} {old now : H} (plan : Plan) (changes : List Change) (base : List (List ℕ)) (place : Place) (result : End)
     → Driving w plan changes base old now place → call_at place.step ≡ None → ((e : End) → place.step ≡ step.Ended e → result ≡ e) → (j : Job) → IsPlan j plan → IsFor j changes base → Ran w old now (λ es. Drives j place.found es result)
 driven plan changes base place result d none is j p f =
-    let w = no-call place.step none in
-    Ran-map (λ es h. subst (Drives j place.found es) (sym (is w.0 w.1)) (finished j place w.0 es w.1 h)) (d.ran j p f)
+    let at = no-call place.step none in
+    Ran-map (λ es h. subst (Drives j place.found es) (sym (is at.0 at.1)) (finished j place at.0 es at.1 h)) (d.ran j p f)
 
 pub driven-fits : {H : Type 0} {w : World H} {old now : H} (plan : Plan) (changes : List Change) (base : List (List ℕ)) (place : Place) (result : End)
     → Driving w plan changes base old now place → call_at place.step ≡ None → ((e : End) → place.step ≡ step.Ended e → result ≡ e) → EndFits (files_of plan) (entries_of place) result
 driven-fits plan changes base place result d none is =
-    let w = no-call place.step none in
-    subst (EndFits (files_of plan) (entries_of place)) (sym (is w.0 w.1)) (subst (Fits (files_of plan) (entries_of place)) w.1 d.place_is.fits)
+    let at = no-call place.step none in
+    subst (EndFits (files_of plan) (entries_of place)) (sym (is at.0 at.1)) (subst (Fits (files_of plan) (entries_of place)) at.1 d.place_is.fits)
 
 pub driven-caused : {H : Type 0} {w : World H} {old now : H} (plan : Plan) (changes : List Change) (base : List (List ℕ)) (place : Place) (result : End)
     → Driving w plan changes base old now place → call_at place.step ≡ None → ((e : End) → place.step ≡ step.Ended e → result ≡ e) → EndCaused (w.counts old).disks (w.counts now).disks result
 driven-caused {w = w} {old = old} {now = now} plan changes base place result d none is =
-    let w = no-call place.step none in
-    subst (EndCaused (w.counts old).disks (w.counts now).disks) (sym (is w.0 w.1)) (subst (Caused (w.counts old).disks (w.counts now).disks) w.1 d.caused)
+    let at = no-call place.step none in
+    subst (EndCaused (w.counts old).disks (w.counts now).disks) (sym (is at.0 at.1)) (subst (Caused (w.counts old).disks (w.counts now).disks) at.1 d.caused)

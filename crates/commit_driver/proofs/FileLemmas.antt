@@ -9,10 +9,10 @@ use Rattle.commit_record.specs.Format.{is_valid, token_digits}
 use Rattle.commit_record.specs.Names.{is_lawful, is_lower_hex}
 use Rattle.commit_record.specs.declared.record.Entry.{Entry}
 use Rattle.commit_record.specs.declared.record.Record.{Record}
-use Rattle.commit_machine.specs.Names.{record_name, new_name, right_name, staged_name}
+use Rattle.commit_machine.specs.Names.{actor_limit, record_name, new_name, right_name, staged_name}
 use Rattle.commit_machine.specs.Settled.{Mem}
-use Rattle.commit_machine.proofs.NameLemmas.{token_digits-hex, token_digits-long}
-use Rattle.commit_machine.proofs.RecordLemmas.{valid-lawful}
+use Rattle.commit_machine.proofs.records.Names.{token_digits-hex, token_digits-long}
+use Rattle.commit_machine.proofs.records.InFile.{valid-lawful}
 
 -- the names of entries
 abbrev pub entry_names : List Entry → List (List ℕ)
@@ -32,15 +32,15 @@ with_end name end short some a b = record {
   no_zero = joined name end a b;
 }
 
-pub record-file : (actor : List ℕ) → length actor ≤ 4021 → has_no_zero actor ≡ true → IsFileName (record_name actor)
+pub record-file : (actor : List ℕ) → length actor ≤ actor_limit → has_no_zero actor ≡ true → IsFileName (record_name actor)
 unfolding record_name
 record-file actor short none = with_end actor (codes ".commit") (omega arith) (omega arith) none refl
 
-pub new-file : (actor : List ℕ) → length actor ≤ 4021 → has_no_zero actor ≡ true → IsFileName (new_name actor)
+pub new-file : (actor : List ℕ) → length actor ≤ actor_limit → has_no_zero actor ≡ true → IsFileName (new_name actor)
 unfolding new_name
 new-file actor short none = with_end actor (codes ".commit.new") (omega arith) (omega arith) none refl
 
-pub right-file : (actor : List ℕ) → length actor ≤ 4021 → has_no_zero actor ≡ true → IsFileName (right_name actor)
+pub right-file : (actor : List ℕ) → length actor ≤ actor_limit → has_no_zero actor ≡ true → IsFileName (right_name actor)
 unfolding right_name
 right-file actor short none = with_end actor (codes ".right") (omega arith) (omega arith) none refl
 

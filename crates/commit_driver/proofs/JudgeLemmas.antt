@@ -12,10 +12,12 @@ use Rattle.std.proofs.lemmas.List.Elements.{All-head, All-tail}
 use Rattle.folder_change.specs.declared.change.Change.{Change}
 use Rattle.folder_change.specs.Changes.{name_of}
 use Rattle.folder_change.specs.Outcomes.{outcome_of}
-use Rattle.folder_change.specs.Apply.{Files, Refusal, ChangedAt, TooLong, put, after, apply, first_refusal, refusal_of, or_else, outcome_on, put_outcome, most_bytes}
+use Rattle.folder_change.specs.Apply.{Files, put, after, apply, outcome_on, put_outcome}
+use Rattle.host_port.specs.Calls.{load_limit}
+use Rattle.commit_machine.specs.Refusals.{ChangeRefusal, ChangedAt, TooLong, first_refusal, refusal_of, or_else}
 use Rattle.folder_change.proofs.ApplyLemmas.{put-here, put-other}
 use Rattle.commit_machine.specs.Records.{has, AreDistinct}
-use Rattle.commit_machine.proofs.Same.{has_Mem, same_refl, same_true}
+use Rattle.commit_machine.proofs.records.Same.{has_Mem, same_refl, same_true}
 use Rattle.commit_driver.specs.declared.judge.Trouble.{Trouble}
 use Rattle.commit_driver.specs.declared.judge.Trouble.TheVariants as trouble
 use Rattle.commit_driver.specs.Judging.{excess_of, number_in, JudgesOne, JudgesSo, Judges, TroubleFits}
@@ -86,7 +88,7 @@ number-set (n ∷ ns) name files file d h = elim (cases_Bool (bytes_eq name n)) 
 
 refusal-none : (name : List ℕ) (file : Option (List ℕ)) → excess_of file ≡ None → refusal_of name (Ok file) ≡ None
 refusal-none name None h = refl
-refusal-none name (Some b) h = go (nat_le (length b) most_bytes) h
+refusal-none name (Some b) h = go (nat_le (length b) load_limit) h
   where
     go : (t : Bool) → (if t then None else Some (length b)) ≡ None → (if t then None else Some (TooLong name (length b))) ≡ None
     go true h = refl
@@ -94,20 +96,20 @@ refusal-none name (Some b) h = go (nat_le (length b) most_bytes) h
 
 refusal-long : (name : List ℕ) (file : Option (List ℕ)) (n : ℕ) → excess_of file ≡ Some n → refusal_of name (Ok file) ≡ Some (TooLong name n)
 refusal-long name None n h = absurd (cc h)
-refusal-long name (Some b) n h = go (nat_le (length b) most_bytes) h
+refusal-long name (Some b) n h = go (nat_le (length b) load_limit) h
   where
     go : (t : Bool) → (if t then None else Some (length b)) ≡ Some n → (if t then None else Some (TooLong name (length b))) ≡ Some (TooLong name n)
     go true h = absurd (cc h)
     go false h = let e : length b ≡ n = cc in ap (λ (k : ℕ). Some (TooLong name k)) e
 
 -- a file that is too long is past the limit
-pub excess-past : (file : Option (List ℕ)) (n : ℕ) → excess_of file ≡ Some n → most_bytes < n
+pub excess-past : (file : Option (List ℕ)) (n : ℕ) → excess_of file ≡ Some n → load_limit < n
 excess-past None n h = absurd (cc h)
-excess-past (Some b) n h = go (nat_le (length b) most_bytes) refl h
+excess-past (Some b) n h = go (nat_le (length b) load_limit) refl h
   where
-    go : (t : Bool) → nat_le (length b) most_bytes ≡ t → (if t then None else Some (length b)) ≡ Some n → most_bytes < n
+    go : (t : Bool) → nat_le (length b) load_limit ≡ t → (if t then None else Some (length b)) ≡ Some n → load_limit < n
     go true is h = absurd (cc h)
-    go false is h = let e : length b ≡ n = cc in let past : most_bytes < length b = leb-false (length b) most_bytes is in omega (arith, e, past)
+    go false is h = let e : length b ≡ n = cc in let past : load_limit < length b = leb-false (length b) load_limit is in omega (arith, e, past)
 
 module _ (first : Change) (rest : List Change) (base : List (List ℕ)) (names : List (List ℕ)) (among : has names (name_of first) ≡ true) where
   abbrev at : ℕ
@@ -117,9 +119,9 @@ module _ (first : Change) (rest : List Change) (base : List (List ℕ)) (names :
   on files seen o is out =
       sym (ap (λ (f : Option (List ℕ)). outcome_of f first base) (ap (λ (fs : List (Option (List ℕ))). get_or fs at None) is ∙ number-file names (name_of first) files among)) ∙ out
 
-  refused-first : (files : Files) (o : Result (Option (List ℕ)) ℕ) (r : Option Refusal) → outcome_on files first base ≡ o → refusal_of (name_of first) o ≡ r → first_refusal (first ∷ rest) base files ≡ or_else r (first_refusal rest base (after files first base))
+  refused-first : (files : Files) (o : Result (Option (List ℕ)) ℕ) (r : Option ChangeRefusal) → outcome_on files first base ≡ o → refusal_of (name_of first) o ≡ r → first_refusal (first ∷ rest) base files ≡ or_else r (first_refusal rest base (after files first base))
   unfolding first_refusal
-  refused-first files o r is made = ap (λ (x : Option Refusal). or_else x (first_refusal rest base (after files first base))) (ap (refusal_of (name_of first)) is ∙ made)
+  refused-first files o r is made = ap (λ (x : Option ChangeRefusal). or_else x (first_refusal rest base (after files first base))) (ap (refusal_of (name_of first)) is ∙ made)
 
   made-after : (files : Files) (file : Option (List ℕ)) → outcome_on files first base ≡ Ok file → after files first base ≡ put files (name_of first) file
   made-after files file is = ap (put_outcome files (name_of first)) is

@@ -12,8 +12,8 @@ use Rattle.commit_record.specs.declared.record.Entry.{Entry}
 use Rattle.commit_machine.specs.Records.{kind_in, has, AreDistinct}
 use Rattle.commit_machine.specs.Settled.{Mem}
 use Rattle.commit_machine.specs.Jobs.{Made, entries_for, made_at, kind_made}
-use Rattle.commit_machine.proofs.Same.{same_refl, same_false, Mem_has}
-use Rattle.commit_machine.proofs.JobLemmas.{tests, any-phase}
+use Rattle.commit_machine.proofs.records.Same.{same_refl, same_false, Mem_has}
+use Rattle.commit_machine.proofs.records.OfJob.{tests, any-phase}
 use Rattle.commit_driver.specs.Places.{nth, nth_kind, file_kind, decided_entries, decided_record}
 
 pub nth-Mem : (ns : List (List ℕ)) (at : ℕ) → at < length ns → Mem (nth ns at) ns

@@ -13,8 +13,9 @@ use Rattle.std.proofs.lemmas.List.{take_all}
 use Rattle.folder_change.specs.declared.change.Change.{Change}
 use Rattle.folder_change.specs.Changes.{name_of}
 use Rattle.folder_change.specs.Outcomes.{bytes_of}
-use Rattle.folder_change.specs.Apply.{ChangedAt, TooLong, apply, first_refusal, refusal_of, outcome_on, or_else, most_bytes, after}
-use Rattle.folder_change.specs.Apply as changes
+use Rattle.folder_change.specs.Apply.{apply, outcome_on, after}
+use Rattle.host_port.specs.Calls.{load_limit}
+use Rattle.commit_machine.specs.Refusals.{ChangeRefusal, ChangedAt, TooLong, first_refusal, refusal_of, or_else}
 use Rattle.folder_change.proofs.ApplyLemmas.{apply-alone}
 use Rattle.commit_record.specs.Format.{IsWritten, written}
 use Rattle.commit_record.specs.declared.record.Phase.TheVariants.{Go}
@@ -29,8 +30,8 @@ use Rattle.commit_machine.specs.Jobs as jobs
 use Rattle.commit_machine.specs.Edits.{first_names, edit_for, edits_for, outcome_for, cause_of}
 use Rattle.commit_machine.specs.Machine.{State, GoOn, loading, staging, unlocking, undoing, placing, place_one, tested, refusing, judged, mending, record_seen, looked, saw, refused, none_stands, passed_by, go_front}
 use Rattle.commit_machine.specs.Machine as machine
-use Rattle.commit_machine.proofs.RecordLemmas.{record_of-written, record_of-is, valid-names}
-use Rattle.commit_machine.proofs.Same.{same_refl, same_false}
+use Rattle.commit_machine.proofs.records.InFile.{record_of-written, record_of-is, valid-names}
+use Rattle.commit_machine.proofs.records.Same.{same_refl, same_false}
 use Rattle.commit_driver.specs.declared.step.Passed.{Passed}
 use Rattle.commit_driver.specs.declared.step.Passed.TheVariants as passed
 use Rattle.commit_driver.specs.declared.step.End.{End}
@@ -215,28 +216,28 @@ contents-are changes base files (n ∷ ns) =
     ∙ ap (λ (bs : List (List ℕ)). outcome_content (outcome_for (apply changes base (λ m. files n) n)) ∷ bs) (contents-are changes base files ns)
 
 -- a refusal names a file of the changes
-hide-one : (names : List (List ℕ)) (name : List ℕ) (o : Result (Option (List ℕ)) ℕ) (r : changes.Refusal) → Mem name names → refusal_of name o ≡ Some r → MayHide names (cause_of r)
+hide-one : (names : List (List ℕ)) (name : List ℕ) (o : Result (Option (List ℕ)) ℕ) (r : ChangeRefusal) → Mem name names → refusal_of name o ≡ Some r → MayHide names (cause_of r)
 hide-one names name (Ok None) r m e = absurd (cc)
-hide-one names name (Ok (Some b)) r m e = go (nat_le (length b) most_bytes) e
+hide-one names name (Ok (Some b)) r m e = go (nat_le (length b) load_limit) e
   where
     go : (t : Bool) → (if t then None else Some (TooLong name (length b))) ≡ Some r → MayHide names (cause_of r)
     go true h = absurd (cc h)
-    go false h = let is : TooLong name (length b) ≡ r = cc in subst (λ (z : changes.Refusal). MayHide names (cause_of z)) is m
-hide-one names name (Err at) r m e = let is : ChangedAt name at ≡ r = cc in subst (λ (z : changes.Refusal). MayHide names (cause_of z)) is m
+    go false h = let is : TooLong name (length b) ≡ r = cc in subst (λ (z : ChangeRefusal). MayHide names (cause_of z)) is m
+hide-one names name (Err at) r m e = let is : ChangedAt name at ≡ r = cc in subst (λ (z : ChangeRefusal). MayHide names (cause_of z)) is m
 
 -- each change is of one of these files
 abbrev pub AreNamed : List (List ℕ) → List Change → Type 0
 AreNamed names [] = Unit {0}
 AreNamed names (c ∷ cs) = Mem (name_of c) names × AreNamed names cs
 
-hide-so : (names : List (List ℕ)) (cs : List Change) (base : List (List ℕ)) (files : Files) (r : changes.Refusal) → AreNamed names cs → first_refusal cs base files ≡ Some r → MayHide names (cause_of r)
+hide-so : (names : List (List ℕ)) (cs : List Change) (base : List (List ℕ)) (files : Files) (r : ChangeRefusal) → AreNamed names cs → first_refusal cs base files ≡ Some r → MayHide names (cause_of r)
 unfolding first_refusal
 hide-so names [] base files r m e = absurd (let h : None ≡ Some r = e in cc)
 hide-so names (c ∷ cs) base files r m e = go (refusal_of (name_of c) (outcome_on files c base)) refl (hide-so names cs base (after files c base) r m.1) e
   where
-    go : (o : Option changes.Refusal) → refusal_of (name_of c) (outcome_on files c base) ≡ o → (first_refusal cs base (after files c base) ≡ Some r → MayHide names (cause_of r)) → or_else o (first_refusal cs base (after files c base)) ≡ Some r → MayHide names (cause_of r)
+    go : (o : Option ChangeRefusal) → refusal_of (name_of c) (outcome_on files c base) ≡ o → (first_refusal cs base (after files c base) ≡ Some r → MayHide names (cause_of r)) → or_else o (first_refusal cs base (after files c base)) ≡ Some r → MayHide names (cause_of r)
     go None is later h = later h
-    go (Some x) is later h = let same : x ≡ r = cc in subst (λ (z : changes.Refusal). MayHide names (cause_of z)) same (hide-one names (name_of c) (outcome_on files c base) x m.0 is)
+    go (Some x) is later h = let same : x ≡ r = cc in subst (λ (z : ChangeRefusal). MayHide names (cause_of z)) same (hide-one names (name_of c) (outcome_on files c base) x m.0 is)
 
 module _ (j : Job) (plan : Plan) (old : Place) (p : IsPlan j plan) (q : IsPlace plan old) (hidden : Ending) (wanted : WantedAs (all_of j) hidden) (made : List Made) (cs : List Change) (base : List (List ℕ)) (of : IsCommitOf j cs base) (named : AreNamed (names_of plan.value) cs) where
   some-edits : is_some j.edits ≡ true
@@ -348,7 +349,7 @@ module _ (j : Job) (plan : Plan) (old : Place) (p : IsPlan j plan) (q : IsPlace 
         (refusing j [] (all_of j) (Refused (jobs.TooLarge (nth (all_of j) k) m)), inl (sym (ap Judged why)), refused-step (end.TooLarge k m) hidden fs go wanted)
     judged-follows (Err trouble.Memory) fs go size go_is some so = wants (first_refusal cs base F) refl
       where
-        wants : (o : Option changes.Refusal) → first_refusal cs base F ≡ o → Follows j (Now (unlocking_at 0 (files_of plan) (then.Answer end.NoMemory)) fs go) (Judged (j.refusal F))
+        wants : (o : Option ChangeRefusal) → first_refusal cs base F ≡ o → Follows j (Now (unlocking_at 0 (files_of plan) (then.Answer end.NoMemory)) fs go) (Judged (j.refusal F))
         wants None is =
             let none : j.refusal F ≡ None = refusal-is ∙ ap (option_map cause_of) is in
             (refusing j [] (all_of j) NoMemory, inr (sym (ap (λ (o : Option jobs.Refusal). refused j (Judged o)) none ∙ no-memory all-made all-made (omega (arith, some, made-count)))), refused-step end.NoMemory NoMemory fs go (inl refl))

@@ -7,7 +7,9 @@ use Rattle.std.specs.declared.result.Result.TheVariants.{Ok, Err}
 use Rattle.std.specs.Str.{bytes_eq}
 use Rattle.folder_change.specs.declared.change.Change.{Change}
 use Rattle.folder_change.specs.Outcomes.{outcome_of}
-use Rattle.folder_change.specs.Apply.{Files, ChangedAt, TooLong, apply, first_refusal, most_bytes}
+use Rattle.folder_change.specs.Apply.{Files, apply}
+use Rattle.host_port.specs.Calls.{load_limit}
+use Rattle.commit_machine.specs.Refusals.{ChangedAt, TooLong, first_refusal}
 use Rattle.commit_machine.specs.Records.{AreDistinct}
 use Rattle.commit_driver.specs.declared.judge.Trouble.{Trouble}
 use Rattle.commit_driver.specs.declared.judge.Trouble.TheVariants as trouble
@@ -15,7 +17,7 @@ use Rattle.commit_driver.specs.declared.judge.Trouble.TheVariants as trouble
 -- how many bytes a file has that has too many
 abbrev pub excess_of : Option (List ℕ) → Option ℕ
 excess_of None = None
-excess_of (Some bytes) = if nat_le (length bytes) most_bytes then None else Some (length bytes)
+excess_of (Some bytes) = if nat_le (length bytes) load_limit then None else Some (length bytes)
 
 -- the number of a name among names; how many there are where it isn't among them
 abbrev pub number_in : List (List ℕ) → List ℕ → ℕ
@@ -44,5 +46,5 @@ Judges changes base names seen result now = (files : Files) → AreDistinct name
 -- the number of a file in a trouble is one of so many, and too many bytes are past the limit
 abbrev pub TroubleFits : ℕ → Result Unit Trouble → Type 0
 TroubleFits n (Err (trouble.Changed k message)) = k < n
-TroubleFits n (Err (trouble.TooLarge k long)) = (k < n) × (most_bytes < long)
+TroubleFits n (Err (trouble.TooLarge k long)) = (k < n) × (load_limit < long)
 TroubleFits n result = Unit {0}

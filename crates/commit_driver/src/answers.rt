@@ -134,7 +134,8 @@ fn end_of(place: &Place, then: Then) -> usize
 
 // The first step for the entry with this number.
 fn placing(place: &Place, at: usize, then: Then) -> Step
-    ensures { result ≡ placing_at (kinds_of place.now) at (count_at (length place.now.files) (entries_of place.now) then) then }
+    ensures { result ≡ placing_at (kinds_of place.now) at
+        (count_at (length place.now.files) (entries_of place.now) then) then }
 {
     let end = end_of(place, then);
     if at < end {
@@ -147,7 +148,8 @@ fn placing(place: &Place, at: usize, then: Then) -> Step
 // The first step for the entry behind this one.
 fn placing_next(place: &Place, at: usize, then: Then) -> Step
     requires { at < count_at (length place.now.files) (entries_of place.now) then }
-    ensures { result ≡ placing_at (kinds_of place.now) (at + 1) (count_at (length place.now.files) (entries_of place.now) then) then }
+    ensures { result ≡ placing_at (kinds_of place.now) (at + 1)
+        (count_at (length place.now.files) (entries_of place.now) then) then }
 {
     let end = end_of(place, then);
     prove!(at < end);
@@ -245,7 +247,8 @@ fn short(files: usize, step: Step) -> Step
 fn went(commits: bool, files: usize, place: &Place, did: bool) -> Step
     requires fits { Fits files (entries_of place.now) place.now.step }
     requires files { files ≡ length place.now.files }
-    ensures { result ≡ went_at (kinds_of place.now) commits files (entries_of place.now) (is_go place.now.found) place.now.step did }
+    ensures { result ≡ went_at (kinds_of place.now) commits files (entries_of place.now)
+        (is_go place.now.found) place.now.step did }
 {
     match place.step {
         Step::Seizing if did => Step::Looking,
@@ -289,7 +292,8 @@ pub struct Found {
     pub staged: Items<Text>,
 }
 
-// Reads the record that stands, and makes the staged names of its entries; or the end that follows where that can't be done.
+// Reads the record that stands, and makes the staged names of its entries; or the end that follows where that can't be
+// done.
 fn read_found(alloc: Global, bytes: &[u8]) -> Result<Found, End>
     ensures { Finds bytes.now result }
 {
@@ -431,7 +435,8 @@ fn saw(
     requires place { IsPlace plan.now place.old }
     requires named { All (λ c. has (names_of plan.now.value) (name_of c) ≡ true) changes.now }
     requires based { All (λ c. IsTrue (is_rewrite c) → IsSome base) changes.now }
-    ensures { SawSo plan.now file changes.now (base_list (option_copied base.entry)) place.old place.old.step place.new }
+    ensures { SawSo plan.now file changes.now (base_list (option_copied base.entry))
+        place.old place.old.step place.new }
 {
     match place.step {
         Step::Looking => look(alloc, plan, place, file),

@@ -112,8 +112,8 @@ fn end_at(step: Step) -> End
     }
 }
 
-/// Drives a job over the host, from its start to its end, and gives the end with the last place. Its own events are, one by one, the
-/// machine's next calls.
+/// Drives a job over the host, from its start to its end, and gives the end with the last place. Its own events are,
+/// one by one, the machine's next calls.
 pub fn drive<H: Host>(
     alloc: Global,
     plan: &Plan,
@@ -127,7 +127,8 @@ pub fn drive<H: Host>(
     requires room { length start.files ≡ files_of plan.now }
     requires named { All (λ c. has (names_of plan.now.value) (name_of c) ≡ true) changes.now }
     requires based { All (λ c. IsTrue (is_rewrite c) → IsSome base) changes.now }
-    ensures ran { (j : Job) → IsPlan j plan.now → IsFor j changes.now (base_list (option_copied base.entry)) → Ran H.world host.old host.new (λ es. Drives j result.1.found es result.0) }
+    ensures ran { (j : Job) → IsPlan j plan.now → IsFor j changes.now (base_list (option_copied base.entry))
+        → Ran H.world host.old host.new (λ es. Drives j result.1.found es result.0) }
     ensures place { IsPlace plan.now result.1 }
     ensures fits { EndFits (files_of plan.now) (entries_of result.1) result.0 }
     ensures cause { EndCaused (H.world.counts host.old).disks (H.world.counts host.new).disks result.0 }

@@ -107,7 +107,8 @@ pub fn judge(
     requires named { All (λ c. has (map (λ e. e.name) entries.now) (name_of c) ≡ true) changes.now }
     requires based { All (λ c. IsTrue (is_rewrite c) → IsSome base) changes.now }
     requires long { length files.old ≡ length entries.now }
-    ensures judged { Judges changes.now (base_list (option_copied base.entry)) (map (λ e. e.name) entries.now) files.old result files.new }
+    ensures judged { Judges changes.now (base_list (option_copied base.entry)) (map (λ e. e.name) entries.now)
+        files.old result files.new }
     ensures long { length files.new ≡ length files.old }
     ensures fits { TroubleFits (length entries.now) result }
 {

@@ -5,7 +5,8 @@ use Rattle.std.specs.Str.{bytes_eq}
 use Rattle.commit_record.specs.declared.record.EntryKind.TheVariants.{Replace, Remove}
 use Rattle.folder_change.specs.declared.change.Change.{Change}
 use Rattle.folder_change.specs.Changes.{name_of}
-use Rattle.folder_change.specs.Apply.{Refusal as ChangeRefusal, ChangedAt, TooLong, apply, first_refusal}
+use Rattle.folder_change.specs.Apply.{apply}
+use Rattle.commit_machine.specs.Refusals.{ChangeRefusal, ChangedAt, TooLong, first_refusal}
 use Rattle.commit_machine.specs.Settled.{Files}
 use Rattle.commit_machine.specs.Jobs.{Refusal, TooLarge, Changed, Outcome, Puts, Edit, Job}
 use Rattle.commit_machine.specs.Due.{applied}

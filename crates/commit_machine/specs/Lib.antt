@@ -6,6 +6,7 @@ pub mod Machine
 pub mod Goes
 pub mod Lawful
 pub mod Due
+pub mod Refusals
 pub mod Edits
 pub mod Laws
 pub mod Worked

@@ -3,6 +3,10 @@ use Rattle.std.specs.Prelude.{ℕ, Bool, ◌||◌, List, ◌++◌, codes}
 use Rattle.std.specs.Str.{bytes_eq}
 use Rattle.commit_record.specs.Format.{token_digits}
 
+-- the most bytes that the name of an actor has, so that its files can have their names
+abbrev pub actor_limit : ℕ
+actor_limit = 4021
+
 -- where the record of the actor's commit stands
 unfoldable pub record_name : List ℕ → List ℕ
 record_name actor = actor ++ codes ".commit"

@@ -15,7 +15,7 @@ use Rattle.host_port.specs.Calls.{Counts, Rose}
 use Rattle.host_port.specs.Disk.{Disk}
 use Rattle.host_port.specs.Own.{own}
 use Rattle.folder_change.specs.declared.change.Change.{Change}
-use Rattle.folder_change.specs.Apply.{Refusal as ChangeRefusal, ChangedAt, TooLong, first_refusal}
+use Rattle.commit_machine.specs.Refusals.{ChangeRefusal, ChangedAt, TooLong, first_refusal}
 use Rattle.commit_record.specs.declared.record.Record.{Record}
 use Rattle.commit_machine.specs.Names.{record_name, new_name, right_name}
 use Rattle.commit_machine.specs.Records.{record_of}
@@ -26,7 +26,7 @@ use Rattle.commit_machine.specs.Goes.{IsNext, Goes, reply}
 use Rattle.commit_machine.specs.Edits.{first_names, cause_of, job_for}
 use Rattle.commit_machine.specs.Restraints.{is_failed}
 use Rattle.commit_machine.specs.Runs.{MetAnother, is_hindrance, RunsSafely}
-use Rattle.commit_machine.proofs.EventLemmas.{own-split, or-parts, none-of, some-of}
+use Rattle.commit_machine.proofs.told.Events.{own-split, or-parts, none-of, some-of}
 use Rattle.folder_commit.specs.declared.error.CommitError.{CommitError}
 use Rattle.folder_commit.specs.declared.error.CommitError.TheVariants as error
 use Rattle.folder_commit.specs.Ends.{Commits, CommitCause}

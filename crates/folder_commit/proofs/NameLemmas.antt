@@ -2,7 +2,7 @@
 use Rattle.std.proofs.Common.{◌≡◌, ℕ, true, false, List, length, take, drop, codes, refl}
 use Rattle.std.specs.Str.{bytes_eq}
 use Rattle.commit_machine.specs.Names.{right_name}
-use Rattle.commit_machine.proofs.NameLemmas.{name_parts}
+use Rattle.commit_machine.proofs.records.Names.{name_parts}
 
 pub by_front : (actor n end : List ℕ) → bytes_eq (take (length actor) n) actor ≡ true → end ≡ drop (length actor) n → bytes_eq end (codes ".right") ≡ bytes_eq n (right_name actor)
 unfolding right_name

@@ -15,12 +15,12 @@ use Rattle.commit_record.specs.declared.record.Phase.{Phase}
 use Rattle.commit_record.specs.declared.record.Phase.TheVariants.{Prepare, Go}
 use Rattle.commit_record.specs.declared.record.EntryKind.TheVariants.{Replace}
 use Rattle.commit_record.specs.declared.record.Entry.{Entry}
-use Rattle.commit_machine.specs.Names.{is_record_name, staged_name}
+use Rattle.commit_machine.specs.Names.{actor_limit, is_record_name, staged_name}
 use Rattle.commit_machine.specs.Records.{names_of, has, AreDistinct}
 use Rattle.commit_machine.specs.Settled.{Mem}
 use Rattle.commit_machine.specs.Jobs.{Edit, IsJob, all_of}
 use Rattle.commit_machine.specs.Edits.{first_names, without, edit_for, job_for}
-use Rattle.commit_machine.proofs.Same.{same_refl, same_or_not}
+use Rattle.commit_machine.proofs.records.Same.{same_refl, same_or_not}
 use Rattle.commit_driver.specs.Places.{nth, IsPlan, IsSafe}
 use Rattle.commit_driver.specs.Answers.{IsCommitOf}
 use Rattle.commit_driver.proofs.StateLemmas.{length-map}
@@ -224,7 +224,7 @@ is-plan actor token cs base =
 pub is-for : (actor : List ℕ) (token : ℕ) (cs : List Change) (base : List (List ℕ)) → IsCommitOf (job_for actor token cs base) cs base
 is-for actor token cs base = record { edits_are = refl; refusal_is = λ files. refl }
 
-pub is-safe : (actor : List ℕ) (token : ℕ) (cs : List Change) → length actor ≤ 4021 → has_no_zero actor ≡ true → AreFiles actor cs → 1 ≤ length cs → length (first_names cs) ≤ 16 → IsSafe (commit_plan actor token (first_names cs))
+pub is-safe : (actor : List ℕ) (token : ℕ) (cs : List Change) → length actor ≤ actor_limit → has_no_zero actor ≡ true → AreFiles actor cs → 1 ≤ length cs → length (first_names cs) ≤ 16 → IsSafe (commit_plan actor token (first_names cs))
 is-safe actor token cs short none files some few =
     let r = record_for Go token (first_names cs) in
     let valid = is-valid-plan actor Go token cs files some few in

@@ -5,12 +5,13 @@ use Rattle.std.specs.declared.result.Result.{Result}
 use Rattle.std.specs.declared.result.Result.TheVariants.{Ok, Err}
 use Rattle.host_port.specs.declared.event.Event.{Event}
 use Rattle.host_port.specs.Disk.{Disk, disk}
-use Rattle.host_port.specs.Calls.{World}
+use Rattle.host_port.specs.Calls.{Counts, World}
 use Rattle.host_port.specs.Own.{own}
 use Rattle.host_port.specs.Ran.{Honest, Ran}
 use Rattle.host_port.proofs.RanLemmas.{Ran-since}
 use Rattle.folder_change.specs.declared.change.Change.{Change}
-use Rattle.folder_change.specs.Apply.{Refusal as ChangeRefusal, apply, first_refusal}
+use Rattle.folder_change.specs.Apply.{apply}
+use Rattle.commit_machine.specs.Refusals.{ChangeRefusal, first_refusal}
 use Rattle.commit_machine.specs.Settled.{Files}
 use Rattle.commit_machine.specs.Settled.{Mem}
 use Rattle.commit_machine.specs.Jobs.{Ending, IsJob, edits_of, all_of}
@@ -20,11 +21,11 @@ use Rattle.commit_machine.specs.Machine.{Ended}
 use Rattle.commit_machine.specs.Laws.{IsRun, TellsDecisions}
 use Rattle.commit_machine.specs.Laws as laws
 use Rattle.commit_machine.specs.Runs.{made_after}
-use Rattle.commit_machine.proofs.RunLemmas.{nothing_left}
-use Rattle.commit_machine.proofs.EditLemmas.{edits_are_changes}
-use Rattle.commit_machine.proofs.ToldLemmas.{decisions_are_told}
-use Rattle.commit_machine.proofs.RefusalLemmas.{no_refused_is_decided}
-use Rattle.commit_machine.proofs.SafetyLemmas.{after_made, runs_are_safe}
+use Rattle.commit_machine.proofs.runs.Moments.{nothing_left}
+use Rattle.commit_machine.proofs.records.Edits.{edits_are_changes}
+use Rattle.commit_machine.proofs.told.Decisions.{decisions_are_told}
+use Rattle.commit_machine.proofs.told.Refusals.{no_refused_is_decided}
+use Rattle.commit_machine.proofs.runs.Safety.{after_made, runs_are_safe}
 use Rattle.commit_driver.specs.declared.step.Passed.TheVariants as passed
 use Rattle.folder_commit.specs.declared.error.CommitError.{CommitError}
 use Rattle.folder_commit.specs.declared.error.CommitError.TheVariants as error

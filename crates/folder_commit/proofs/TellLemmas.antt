@@ -9,16 +9,17 @@ use Rattle.host_port.specs.declared.event.Event.{Event}
 use Rattle.folder_change.specs.declared.change.Change.{Change}
 use Rattle.folder_change.specs.Changes.{name_of}
 use Rattle.folder_change.specs.Outcomes.{outcome_of}
-use Rattle.folder_change.specs.Apply.{Refusal as ChangeRefusal, apply, after, first_refusal, refusal_of, or_else}
+use Rattle.folder_change.specs.Apply.{apply, after}
+use Rattle.commit_machine.specs.Refusals.{ChangeRefusal, first_refusal, refusal_of, or_else}
 use Rattle.folder_change.proofs.ApplyLemmas.{apply-alone}
 use Rattle.commit_record.specs.Names.{is_lawful}
 use Rattle.commit_machine.specs.Names.{record_name, new_name, staged_name}
 use Rattle.commit_machine.specs.Settled.{Files, Mem}
 use Rattle.commit_machine.specs.Jobs.{Job, IsJob, edits_of, all_of}
 use Rattle.commit_machine.specs.Edits.{without, first_names, job_for, edit_for, cause_of}
-use Rattle.commit_machine.proofs.NameLemmas.{lawful-staged}
-use Rattle.commit_machine.proofs.Decided.{named}
-use Rattle.commit_machine.proofs.JobLemmas.{valid-plain}
+use Rattle.commit_machine.proofs.records.Names.{lawful-staged}
+use Rattle.commit_machine.proofs.standing.Decided.{named}
+use Rattle.commit_machine.proofs.records.OfJob.{valid-plain}
 use Rattle.commit_driver.proofs.SawLemmas.{AreNamed}
 use Rattle.commit_driver.proofs.JudgeLemmas.{are-named}
 use Rattle.folder_commit.specs.declared.error.CommitError.{CommitError}

@@ -21,7 +21,7 @@ use Rattle.commit_machine.specs.Jobs.{Found, Refusal, Busy, NotARecord, TooLarge
 use Rattle.commit_machine.specs.Machine.{State, Seizing, Looking, Undoing, Placing, Testing, Removing, Discarding, Unlocking, Erasing, Clearing, Preparing, Publishing, Locking, Loading, Staging, Deciding, Committing, Checking, Releasing, Ended, Then, GoOn, Answer, unlocking, undoing, removing, place_one, placing, staging, mending, record_seen, refusing, judged, loading, locking, loaded, next, refused, after_reply}
 use Rattle.commit_machine.specs.Goes.{IsNext, reply, Goes}
 use Rattle.commit_machine.specs.Restraints.{is_failed}
-use Rattle.commit_machine.proofs.NameLemmas.{staged-new}
+use Rattle.commit_machine.proofs.records.Names.{staged-new}
 use Rattle.commit_driver.specs.Places.{WantedAs, made_by}
 use Rattle.commit_driver.proofs.StateLemmas.{loaded-by}
 use Rattle.folder_commit.specs.declared.error.CommitError.{CommitError}

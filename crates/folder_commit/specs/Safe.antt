@@ -7,7 +7,8 @@ use Rattle.host_port.specs.declared.event.Event.{Event}
 use Rattle.host_port.specs.Disk.{Disk, disk}
 use Rattle.host_port.specs.Calls.{Counts, Rose}
 use Rattle.folder_change.specs.declared.change.Change.{Change}
-use Rattle.folder_change.specs.Apply.{apply, first_refusal}
+use Rattle.folder_change.specs.Apply.{apply}
+use Rattle.commit_machine.specs.Refusals.{first_refusal}
 use Rattle.commit_machine.specs.Jobs.{Job}
 use Rattle.commit_machine.specs.Edits.{first_names, job_for}
 use Rattle.commit_machine.specs.Lawful.{IsSound, IsFresh, OthersAreLawful}

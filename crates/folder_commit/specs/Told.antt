@@ -12,7 +12,7 @@ use Rattle.host_port.specs.declared.event.Event.TheVariants.{Load, Publish, Lock
 use Rattle.host_port.specs.declared.event.Seen.TheVariants as seen
 use Rattle.commit_record.specs.declared.record.Record.{Record}
 use Rattle.folder_change.specs.declared.change.Change.{Change}
-use Rattle.folder_change.specs.Apply.{first_refusal}
+use Rattle.commit_machine.specs.Refusals.{first_refusal}
 use Rattle.commit_machine.specs.Names.{new_name}
 use Rattle.commit_machine.specs.Records.{record_of}
 use Rattle.commit_machine.specs.Settled.{Files}

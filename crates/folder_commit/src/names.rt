@@ -27,8 +27,8 @@ fn is_right_name(actor: &[u8], name: &[u8]) -> bool
     }
 }
 
-/// Whether a commit of the actor may change a file of this name: it has 1 to 4,000 bytes, none of them zero, and is neither
-/// one of the actor's own three nor the name of a lock or of a staged file. It takes no memory.
+/// Whether a commit of the actor may change a file of this name: it has 1 to 4,000 bytes, none of them zero, and is
+/// neither one of the actor's own three nor the name of a lock or of a staged file. It takes no memory.
 pub fn is_file_name(actor: &[u8], name: &[u8]) -> bool
     ensures { result ≡ is_file_name actor.now name.now }
 {

@@ -1,15 +1,15 @@
 // A commit, with its right.
-ghost use Rattle.std.specs.Prelude.{◌≡◌, ◌≤◌, ◌<◌, ◌++◌, ℕ, List, Some, true, length, All, IsTrue, IsSome, IfOk, option_copied};
+ghost use Rattle.std.specs.Prelude.{◌≡◌, ◌≤◌, ◌<◌, true, length, All, IsTrue, IsSome, IfOk, option_copied};
 ghost use Rattle.host_port.specs.Names.{has_no_zero};
 ghost use Rattle.host_port.specs.Ran.{Ran};
-ghost use Rattle.host_port.specs.Disk.{disk};
 ghost use Rattle.host_port.specs.Own.{own};
-ghost use Rattle.host_port.specs.declared.event.Event.{Event};
 ghost use Rattle.folder_change.specs.Changes.{is_rewrite};
 ghost use Rattle.folder_change.specs.Outcomes.{base_list};
+ghost use Rattle.commit_machine.specs.Names.{actor_limit};
 ghost use Rattle.commit_machine.specs.Records.{names_of};
 ghost use Rattle.commit_driver.specs.Steps.{EndFits};
 ghost use Rattle.commit_driver.specs.Places.{nth, files_of};
+ghost use Rattle.folder_recovery.specs.Safe.{WhereTold};
 ghost use Rattle.folder_commit.specs.Ends.{CommitCause};
 ghost use Rattle.folder_commit.specs.Plans.{AreFiles};
 ghost use Rattle.folder_commit.specs.Told.{IsTold};
@@ -97,12 +97,13 @@ fn some_changes<H: Host>(
     base: Option<&Folder>,
     host: &mut H,
 ) -> Result<(), CommitError>
-    requires short { length actor.now ≤ 4021 }
+    requires short { length actor.now ≤ actor_limit }
     requires no_zero { has_no_zero actor.now ≡ true }
     requires files { AreFiles actor.now changes.now }
     requires some { 1 ≤ length changes.now }
     requires based { All (λ c. IsTrue (is_rewrite c) → IsSome base) changes.now }
-    ensures ran { Ran H.world host.old host.new (λ es. IsCommit actor.now token changes.now (base_list (option_copied base.entry)) es result) }
+    ensures ran { Ran H.world host.old host.new
+        (λ es. IsCommit actor.now token changes.now (base_list (option_copied base.entry)) es result) }
     ensures cause { CommitCause (H.world.counts host.old) (H.world.counts host.new) result }
     ensures named { IsNamed actor.now changes.now result }
 {
@@ -122,11 +123,12 @@ fn whole<H: Host>(
     base: Option<&Folder>,
     host: &mut H,
 ) -> Result<(), CommitError>
-    requires short { length actor.now ≤ 4021 }
+    requires short { length actor.now ≤ actor_limit }
     requires no_zero { has_no_zero actor.now ≡ true }
     requires files { AreFiles actor.now changes.now }
     requires based { All (λ c. IsTrue (is_rewrite c) → IsSome base) changes.now }
-    ensures ran { Ran H.world host.old host.new (λ es. IsCommit actor.now token changes.now (base_list (option_copied base.entry)) es result) }
+    ensures ran { Ran H.world host.old host.new
+        (λ es. IsCommit actor.now token changes.now (base_list (option_copied base.entry)) es result) }
     ensures cause { CommitCause (H.world.counts host.old) (H.world.counts host.new) result }
     ensures named { IsNamed actor.now changes.now result }
 {
@@ -136,14 +138,17 @@ fn whole<H: Host>(
     }
 }
 
-/// Makes changes of up to 16 files as one commit: stopped at any moment, a recovery leaves all of them or none. The actor's right is
-/// taken first and given up at the end, and a commit that was stopped before is recovered. `token` is a number that no other
-/// run has. `base` is the folder for which a rewrite among the changes was made. Without a change nothing is done.
+/// Makes changes of up to 16 files as one commit: stopped at any moment, a recovery leaves all of them or none. The
+/// actor's right is taken first and given up at the end, and a commit that was stopped before is recovered. `token`
+/// is a number that no other run has. `base` is the folder for which a rewrite among the changes was made. Without a
+/// change nothing is done.
 ///
-/// `TooManyNames` comes where the changes name more than 16 files; then nothing is done. `Busy` comes where another has the right or a file's lock, `Record` where what stands as the record is none, `Changed`
-/// where the file's messages don't begin with those of `base`, and `TooLarge` where a file that is loaded or would be staged
-/// is too large. A file that the changes leave absent is removed. Then, as where memory is wanting, nothing is changed and nothing of this commit is left. `Disk` comes where a
-/// call failed; then nothing more is done but that the right is given up, and `passed` says whether the commit was decided.
+/// `TooManyNames` comes where the changes name more than 16 files; then nothing is done. `Busy` comes where another has
+/// the right or a file's lock, `Record` where what stands as the record is none, `Changed` where the file's messages
+/// don't begin with those of `base`, and `TooLarge` where a file that is loaded or would be staged is too large. A file
+/// that the changes leave absent is removed. Then, as where memory is wanting, nothing is changed and nothing of this
+/// commit is left. `Disk` comes where a call failed; then nothing more is done but that the right is given up, and
+/// `passed` says whether the commit was decided.
 pub fn commit<H: Host>(
     alloc: Global,
     actor: &[u8],
@@ -152,14 +157,19 @@ pub fn commit<H: Host>(
     base: Option<&Folder>,
     host: &mut H,
 ) -> Result<(), CommitError>
-    requires short { length actor.now ≤ 4021 }
+    requires short { length actor.now ≤ actor_limit }
     requires no_zero { has_no_zero actor.now ≡ true }
     requires files { AreFiles actor.now changes.now }
     requires based { All (λ c. IsTrue (is_rewrite c) → IsSome base) changes.now }
-    ensures ran { Ran H.world host.old host.new (λ es. IsCommit actor.now token changes.now (base_list (option_copied base.entry)) es result) }
-    ensures told { Ran H.world host.old host.new (λ es. IsTold actor.now changes.now (base_list (option_copied base.entry)) es result) }
-    ensures safe { (before es : List Event) → H.world.told host.old ≡ Some before → H.world.told host.new ≡ Some (before ++ es) → MayCommit actor.now token (disk (H.world.start host.old) before) es → IsSafe actor.now token changes.now (base_list (option_copied base.entry)) (disk (H.world.start host.old) before) es result }
-    ensures complete { (before es : List Event) → H.world.told host.old ≡ Some before → H.world.told host.new ≡ Some (before ++ es) → MayCommit actor.now token (disk (H.world.start host.old) before) es → IsComplete actor.now changes.now (base_list (option_copied base.entry)) (own es) (H.world.counts host.old) (H.world.counts host.new) result }
+    ensures ran { Ran H.world host.old host.new
+        (λ es. IsCommit actor.now token changes.now (base_list (option_copied base.entry)) es result) }
+    ensures told { Ran H.world host.old host.new
+        (λ es. IsTold actor.now changes.now (base_list (option_copied base.entry)) es result) }
+    ensures safe { WhereTold H.world host.old host.new (λ d es. MayCommit actor.now token d es
+        → IsSafe actor.now token changes.now (base_list (option_copied base.entry)) d es result) }
+    ensures complete { WhereTold H.world host.old host.new (λ d es. MayCommit actor.now token d es
+        → IsComplete actor.now changes.now (base_list (option_copied base.entry)) (own es)
+        (H.world.counts host.old) (H.world.counts host.new) result) }
     ensures cause { CommitCause (H.world.counts host.old) (H.world.counts host.new) result }
     ensures named { IsNamed actor.now changes.now result }
 {

@@ -26,7 +26,7 @@ use Rattle.commit_machine.specs.Goes.{IsNext, Goes, reply}
 use Rattle.commit_machine.specs.Edits.{recovery_for}
 use Rattle.commit_machine.specs.Restraints.{is_failed}
 use Rattle.commit_machine.specs.Runs.{MetAnother, is_hindrance, RunsSafely}
-use Rattle.commit_machine.proofs.EventLemmas.{own-split, or-parts, none-of}
+use Rattle.commit_machine.proofs.told.Events.{own-split, or-parts, none-of}
 use Rattle.commit_driver.specs.declared.step.Recovered.{Recovered as Answer}
 use Rattle.folder_recovery.specs.declared.error.RecoverError.{RecoverError}
 use Rattle.folder_recovery.specs.declared.error.RecoverError.TheVariants as error

@@ -6,7 +6,7 @@ use Rattle.std.specs.declared.result.Result.TheVariants.{Err}
 use Rattle.host_port.specs.declared.event.Event.{Event}
 use Rattle.host_port.specs.Calls.{Counts}
 use Rattle.host_port.specs.Names.{IsFileName, has_no_zero}
-use Rattle.commit_machine.specs.Names.{staged_name}
+use Rattle.commit_machine.specs.Names.{actor_limit, staged_name}
 use Rattle.commit_machine.specs.Records.{names_of}
 use Rattle.commit_machine.specs.Jobs.{Ending, Before, Refused, Failed, NoMemory, Job}
 use Rattle.commit_machine.specs.Jobs as jobs
@@ -28,7 +28,7 @@ use Rattle.folder_recovery.specs.declared.error.RecoverError.TheVariants as erro
 use Rattle.folder_recovery.specs.Recovering.{GoesTo, Recovers, RecoverCause, IsNamed, recovery_plan, answer_of}
 use Rattle.folder_recovery.proofs.GoesLemmas.{may-end}
 
-pub is-safe : (actor : List ℕ) → length actor ≤ 4021 → has_no_zero actor ≡ true → IsSafe (recovery_plan actor)
+pub is-safe : (actor : List ℕ) → length actor ≤ actor_limit → has_no_zero actor ≡ true → IsSafe (recovery_plan actor)
 is-safe actor short none = record {
   record_file = record-file actor short none;
   new_file = new-file actor short none;

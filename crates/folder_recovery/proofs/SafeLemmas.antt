@@ -17,8 +17,8 @@ use Rattle.commit_machine.specs.Jobs as jobs
 use Rattle.commit_machine.specs.Machine.{Seizing, Ended}
 use Rattle.commit_machine.specs.Goes.{Goes}
 use Rattle.commit_machine.specs.Laws.{IsRun}
-use Rattle.commit_machine.proofs.EndLemmas.{front_is_run, no_record_stands, recovery_settles}
-use Rattle.commit_machine.proofs.SafetyLemmas.{runs_are_safe}
+use Rattle.commit_machine.proofs.runs.Ends.{front_is_run, no_record_stands, recovery_settles}
+use Rattle.commit_machine.proofs.runs.Safety.{runs_are_safe}
 use Rattle.commit_driver.specs.declared.step.Recovered.{Recovered}
 use Rattle.folder_recovery.specs.declared.error.RecoverError.{RecoverError}
 use Rattle.folder_recovery.specs.declared.error.RecoverError.TheVariants as error

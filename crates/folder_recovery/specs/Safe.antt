@@ -1,12 +1,12 @@
 -- What a recovery leaves, whatever others lawfully do meanwhile and wherever it stops.
-use Rattle.std.specs.Prelude.{◌≡◌, ◌<◌, ◌^◌, ℕ, false, List, [], ◌∷◌, ◌++◌, None}
+use Rattle.std.specs.Prelude.{◌≡◌, ◌<◌, ◌^◌, ℕ, false, List, [], ◌∷◌, ◌++◌, Some, None}
 use Rattle.std.specs.List.{list_any}
 use Rattle.std.specs.declared.result.Result.{Result}
 use Rattle.std.specs.declared.result.Result.TheVariants.{Ok, Err}
 use Rattle.host_port.specs.declared.event.Event.{Event}
 use Rattle.host_port.specs.declared.event.Event.TheVariants.{Release}
 use Rattle.host_port.specs.Disk.{Disk, disk}
-use Rattle.host_port.specs.Calls.{Counts, Rose}
+use Rattle.host_port.specs.Calls.{World, Counts, Rose}
 use Rattle.host_port.specs.Own.{own}
 use Rattle.commit_machine.specs.Edits.{recovery_for}
 use Rattle.commit_machine.specs.Names.{record_name, right_name}
@@ -16,6 +16,10 @@ use Rattle.commit_machine.specs.Runs.{MetAnother, is_hindrance, RunsSafely}
 use Rattle.commit_driver.specs.declared.step.Recovered.{Recovered}
 use Rattle.folder_recovery.specs.declared.error.RecoverError.{RecoverError}
 use Rattle.folder_recovery.specs.declared.error.RecoverError.TheVariants as error
+
+-- From old to new the host was called so: where it is told, all events that were added, and the disk before them, are such.
+abbrev pub WhereTold : {H : Type 0} → World H → H → H → (Disk → List Event → Type 0) → Type 0
+WhereTold w old new P = (before es : List Event) → w.told old ≡ Some before → w.told new ≡ Some (before ++ es) → P (disk (w.start old) before) es
 
 -- A recovery begins on a disk that is sound, and others do only what is lawful. Some token is nobody's: of such a one the lawful
 -- steps speak, and a recovery itself has none.

@@ -1,14 +1,13 @@
 // Recovery.
-ghost use Rattle.std.specs.Prelude.{◌≡◌, ◌≤◌, ◌<◌, ◌++◌, ℕ, List, Some, true, length, IfOk};
+ghost use Rattle.std.specs.Prelude.{◌≡◌, ◌≤◌, ◌<◌, ℕ, true, length, IfOk};
 ghost use Rattle.host_port.specs.Names.{has_no_zero};
 ghost use Rattle.host_port.specs.Ran.{Ran};
-ghost use Rattle.host_port.specs.Disk.{disk};
-ghost use Rattle.host_port.specs.declared.event.Event.{Event};
+ghost use Rattle.commit_machine.specs.Names.{actor_limit};
 ghost use Rattle.commit_machine.specs.Edits.{recovery_for};
 ghost use Rattle.commit_driver.specs.Steps.{EndFits};
 ghost use Rattle.commit_driver.specs.Places.{nth};
 ghost use Rattle.folder_recovery.specs.Told.{IsTold};
-ghost use Rattle.folder_recovery.specs.Safe.{MayRecover, RecoversSafely, IsComplete};
+ghost use Rattle.folder_recovery.specs.Safe.{WhereTold, MayRecover, RecoversSafely, IsComplete};
 ghost use Rattle.folder_recovery.specs.Recovering.{Recovers, RecoverCause, IsNamed, recovery_plan, answer_of};
 
 use crate::RecoverError;
@@ -50,7 +49,8 @@ fn staged_file(place: Place, at: usize) -> Text
     staged.remove(at)
 }
 
-// The answer of a recovery that ended so. Since it has no files and isn't decided, what is left is that the record is none.
+// The answer of a recovery that ended so. Since it has no files and isn't decided, what is left is that the record is
+// none.
 fn answer(end: End, plan: Plan, place: Place) -> Result<Recovered, RecoverError>
     requires { EndFits 0 (length place.found_staged) end }
     ensures { result ≡ answer_of end plan place }
@@ -74,9 +74,10 @@ fn answer(end: End, plan: Plan, place: Place) -> Result<Recovered, RecoverError>
 
 // The whole of it, as a run of the machine.
 fn run<H: Host>(alloc: Global, actor: &[u8], host: &mut H) -> Result<Recovered, RecoverError>
-    requires short { length actor.now ≤ 4021 }
+    requires short { length actor.now ≤ actor_limit }
     requires no_zero { has_no_zero actor.now ≡ true }
-    ensures ran { (token : ℕ) → Ran H.world host.old host.new (λ es. Recovers (recovery_for actor.now token) es result) }
+    ensures ran { (token : ℕ)
+        → Ran H.world host.old host.new (λ es. Recovers (recovery_for actor.now token) es result) }
     ensures named { IsNamed actor.now result }
     ensures cause { RecoverCause (H.world.counts host.old) (H.world.counts host.new) result }
 {
@@ -86,23 +87,27 @@ fn run<H: Host>(alloc: Global, actor: &[u8], host: &mut H) -> Result<Recovered, 
     answer(end, plan, place)
 }
 
-/// Recovers what a stopped commit of the actor has left. A commit that was decided is carried out: its staged files are put in
-/// place, its locks are taken away, and its record is erased. One that wasn't decided is undone. It takes the actor's right
-/// first and gives it up at the end.
+/// Recovers what a stopped commit of the actor has left. A commit that was decided is carried out: its staged files
+/// are put in place, its locks are taken away, and its record is erased. One that wasn't decided is undone. It takes
+/// the actor's right first and gives it up at the end.
 ///
-/// `Busy` comes where another has the right, `NotARecord` where what stands as the record is none, `TooLarge` where it, or the
-/// staged file of a removal, is too large to load, and `Disk` where a call failed; then nothing more is done but that the right is given up.
+/// `Busy` comes where another has the right, `NotARecord` where what stands as the record is none, `TooLarge` where it,
+/// or the staged file of a removal, is too large to load, and `Disk` where a call failed; then nothing more is done but
+/// that the right is given up.
 pub fn recover<H: Host>(
     alloc: Global,
     actor: &[u8],
     host: &mut H,
 ) -> Result<Recovered, RecoverError>
-    requires short { length actor.now ≤ 4021 }
+    requires short { length actor.now ≤ actor_limit }
     requires no_zero { has_no_zero actor.now ≡ true }
-    ensures ran { (token : ℕ) → Ran H.world host.old host.new (λ es. Recovers (recovery_for actor.now token) es result) }
+    ensures ran { (token : ℕ)
+        → Ran H.world host.old host.new (λ es. Recovers (recovery_for actor.now token) es result) }
     ensures told { Ran H.world host.old host.new (λ es. IsTold actor.now es result) }
-    ensures safe { (token : ℕ) (before es : List Event) → H.world.told host.old ≡ Some before → H.world.told host.new ≡ Some (before ++ es) → MayRecover actor.now token (disk (H.world.start host.old) before) es → RecoversSafely actor.now token (disk (H.world.start host.old) before) es result }
-    ensures complete { Ran H.world host.old host.new (λ es. IsComplete actor.now es (H.world.counts host.old) (H.world.counts host.new) result) }
+    ensures safe { (token : ℕ) → WhereTold H.world host.old host.new
+        (λ d es. MayRecover actor.now token d es → RecoversSafely actor.now token d es result) }
+    ensures complete { Ran H.world host.old host.new
+        (λ es. IsComplete actor.now es (H.world.counts host.old) (H.world.counts host.new) result) }
     ensures named { IsNamed actor.now result }
     ensures cause { RecoverCause (H.world.counts host.old) (H.world.counts host.new) result }
 {

@@ -13,7 +13,7 @@ use Rattle.host_port.specs.declared.event.Part.TheVariants.{Before, After}
 use Rattle.std.specs.Prelude.{is_some, is_none}
 use Rattle.host_port.specs.Disk.{Disk, after, with_at, without_own}
 use Rattle.host_port.specs.Ends.{stopped, ended, carried_out, is_owner, is_open}
-use Rattle.host_port.specs.Tapes.{SameDisk}
+use Rattle.host_port.specs.Disk.{SameDisk}
 
 same : (d : Disk) → SameDisk d d
 same d = record { files = λ q. refl; locks = λ q. refl; rights = λ q. refl }

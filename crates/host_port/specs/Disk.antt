@@ -1,5 +1,5 @@
 -- A disk, and what the events of a trace do to it.
-use Rattle.std.specs.Prelude.{◌==◌, ℕ, true, List, [], ◌∷◌, if◌then◌else◌}
+use Rattle.std.specs.Prelude.{◌≡◌, ◌==◌, ℕ, true, List, [], ◌∷◌, if◌then◌else◌}
 use Rattle.std.specs.declared.option.Option.{Option}
 use Rattle.std.specs.declared.option.Option.TheVariants.{Some, None}
 use Rattle.std.specs.Str.{bytes_eq}
@@ -15,6 +15,16 @@ pub record Disk : Type 0 where
   pub files : List ℕ → Option (List ℕ)
   pub locks : List ℕ → Option ℕ
   pub rights : List ℕ → Option Holder
+
+-- a disk without files, locks and rights
+abbrev pub empty_disk : Disk
+empty_disk = record { files = λ q. None; locks = λ q. None; rights = λ q. None }
+
+-- both disks show the same at each name
+pub record SameDisk (left right : Disk) : Type 0 where
+  pub files : (q : List ℕ) → left.files q ≡ right.files q
+  pub locks : (q : List ℕ) → left.locks q ≡ right.locks q
+  pub rights : (q : List ℕ) → left.rights q ≡ right.rights q
 
 -- a map with another value at one name
 abbrev pub with_at : {A : Type 0} → (List ℕ → Option A) → List ℕ → Option A → List ℕ → Option A

@@ -4,9 +4,3 @@ pub mod Ends
 pub mod Calls
 pub mod Own
 pub mod Ran
-pub mod Views
-pub mod Plans
-pub mod Pairs
-pub mod Tapes
-pub mod Standings
-pub mod MemHosts

@@ -1,4 +1,4 @@
-use mail_text::{Items, Text};
+use mail_text::Text;
 
 /// What happened at the edge of the program: one call of the host with what it gave, or one step of another.
 #[derive(Drop, Debug)]
@@ -115,13 +115,6 @@ pub struct LoadAnswer {
     pub held: bool,
 }
 
-/// A disk as a list of files and a list of the owners of locks. Of several pairs of one name the first counts.
-#[derive(Drop)]
-pub struct DiskView {
-    pub files: Items<(Text, Text)>,
-    pub locks: Items<(Text, u64)>,
-}
-
 /// What a failing call leaves, and what a run leaves that stops inside a call.
 #[derive(Drop, Debug)]
 pub enum Part {
@@ -133,15 +126,4 @@ pub enum Part {
     Bytes(Text),
     /// No file stands. For a call that writes no file it counts as `Before`.
     Nothing,
-}
-
-/// What happens in a host in memory. Its calls are numbered from 1.
-#[derive(Drop)]
-pub struct Plan {
-    /// The most bytes that one fill gives, at least 1.
-    pub chunk: usize,
-    /// The steps of others, each before the call of its number.
-    pub foreign: Items<(u64, ForeignStep)>,
-    /// The calls that fail, with what they leave.
-    pub fails: Items<(u64, Part)>,
 }

@@ -1,30 +1,20 @@
-//! The outside as the program sees it: a trait whose calls tell a trace of events, the disk that such a trace
-//! makes, and a host in memory that tells its trace.
+//! The outside as the program sees it: a trait whose calls tell a trace of events, and the disk that such a trace
+//! makes.
 #![tactic(auto)]
 
-mod calls;
-mod disk_calls;
-mod ending;
 mod event;
 mod host;
-mod images;
-mod memory;
-mod named;
-mod standing;
-mod tape;
 
 ghost use Rattle.std.specs.Prelude.{◌≡◌, true, List};
-ghost use Rattle.host_port.specs.Disk.{Disk, after, disk};
+ghost use Rattle.host_port.specs.Disk.{Disk, SameDisk, after, disk};
 ghost use Rattle.host_port.specs.Ends.{carried_out, cut_short, ended, stopped};
 ghost use Rattle.host_port.specs.Own.{own, may_change, of_others, OnlyLooks};
 ghost use Rattle.host_port.specs.Ran.{Agrees};
-ghost use Rattle.host_port.specs.Tapes.{SameDisk};
 ghost use Rattle.host_port.specs.declared.event.Part.{Part};
 ghost use Rattle.host_port.specs.declared.event.Event.{Event};
 
-pub use event::{DiskView, Event, ForeignStep, Holder, LoadAnswer, Part, Plan, Seen};
+pub use event::{Event, ForeignStep, Holder, LoadAnswer, Part, Seen};
 pub use host::{DiskFault, Host, InFault, LoadError, OutFault};
-pub use memory::MemHost;
 
 /// A law: own events that may change no disk leave the disk that the steps of others make of the start.
 pub fn others_alone()

@@ -1,7 +1,7 @@
 // The host of the real machine. It tells no trace.
 ghost use Rattle.std.specs.Prelude.{None, ◌<◌, ◌≤◌, length, IfSome, OnErr};
 ghost use Rattle.host_port.specs.Calls.{Rose};
-ghost use Rattle.host_port.specs.Views.{disk_of};
+ghost use Rattle.host_port.specs.Disk.{empty_disk};
 
 use crate::files::{FileError, LOAD_LIMIT, path_of, remove_file, rename_file, write_file};
 use crate::locks::{lock, look, seize, unlock};
@@ -99,10 +99,8 @@ fn counted<T: Drop>(answer: Result<T, FileError>, count: &mut u64) -> Result<T, 
 }
 
 impl<R: Files<File = File> + Input + Print + Drop> Host for RealHost<R> {
-    ghost use Rattle.std.specs.Prelude.{[]};
-
     ghost world = { record {
-        start = λ _. disk_of [] [];
+        start = λ _. empty_disk;
         told = λ _. None;
         counts = λ m. record { ins = m.ins; outs = m.outs; disks = m.disks; children = 0 };
     } };

@@ -1,16 +1,13 @@
 -- What a session knows between two lines.
 use Rattle.std.specs.Prelude.{◌≡◌, ◌≤◌, ℕ, Bool, true, List, [], length}
 use Rattle.host_port.specs.Names.{has_no_zero}
+use Rattle.commit_machine.specs.Names.{actor_limit}
 use Rattle.command_desk.specs.declared.desk.Desk.{Desk}
 use Rattle.command_desk.specs.declared.effects.Effects.{Effects}
 use Rattle.command_desk.specs.Desks.{IsDesk}
 use Rattle.command_desk.specs.Effects.{effect}
 use Rattle.mailx_session.specs.declared.state.SessionState.{SessionState}
 use Rattle.mailx_session.specs.Waits.{Pending}
-
--- the most bytes that the name of an actor has, so that its files can have their names
-abbrev pub actor_limit : ℕ
-actor_limit = 4021
 
 -- the files of an actor of this name can have their names
 pub record IsActor (name : List ℕ) : Type 0 where

@@ -16,10 +16,10 @@ use Rattle.commit_machine.specs.Due.{settled_files, settled_locks, same_file, sa
 use Rattle.commit_machine.specs.Laws.{IsRun, IsSettledAs, decisions, in_flight}
 use Rattle.commit_machine.specs.Restraints.{is_failed}
 use Rattle.commit_machine.specs.Rows.{first_job, job_as, queue_after, run_files, run_locks, IsBracket}
-use Rattle.commit_machine.proofs.RunLemmas.{crash_safe, file_true, lock_true, renewed_is}
-use Rattle.commit_machine.proofs.StopLemmas.{stop_safe}
-use Rattle.commit_machine.proofs.EndLemmas.{front_is_run, lawful_front}
-use Rattle.play_safety.proofs.RowParts.{Stands, Due, undecided, one-at-most, run-of, due-as, due-then, flight, honest-back, looks-front, looks-back}
+use Rattle.commit_machine.proofs.runs.Moments.{crash_safe, file_true, lock_true, renewed_is}
+use Rattle.commit_machine.proofs.runs.Stops.{stop_safe}
+use Rattle.commit_machine.proofs.runs.Ends.{front_is_run, lawful_front}
+use Rattle.commit_machine.proofs.runs.OneJob.{Stands, Due, undecided, one-at-most, run-of, due-as, due-then, flight, honest-back, looks-front, looks-back}
 use Rattle.play_safety.proofs.TraceLemmas.{Fronts, fronts, Stands-in, stands-in, front-undecided, none-decides, flies-undecided, none-failed, decisions-then}
 
 module _ (actor : List ℕ) (token : ℕ) where

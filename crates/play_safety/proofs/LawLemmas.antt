@@ -23,8 +23,8 @@ use Rattle.commit_machine.specs.Lawful.{IsFresh}
 use Rattle.commit_machine.specs.Due.{settled_files, settled_locks}
 use Rattle.commit_machine.specs.Laws.{IsRun, TellsDecisions, decisions, in_flight}
 use Rattle.commit_machine.specs.Rows.{first_job, queue_after, run_files, run_locks}
-use Rattle.commit_machine.proofs.EndLemmas.{lawful_front}
-use Rattle.commit_machine.proofs.ToldLemmas.{decisions_are_told}
+use Rattle.commit_machine.proofs.runs.Ends.{lawful_front}
+use Rattle.commit_machine.proofs.told.Decisions.{decisions_are_told}
 use Rattle.folder_commit.specs.Commits.{IsCommit}
 use Rattle.folder_commit.specs.Plans.{AreFiles}
 use Rattle.folder_commit.proofs.PlanLemmas.{is-job}
@@ -36,7 +36,7 @@ use Rattle.session_play.specs.Play.{Act, Answer, Changes, Play, Ret, Ask, Did, P
 use Rattle.session_play.specs.Play as plays
 use Rattle.play_safety.specs.Passes.{decided_in, accepted_by, Commits, no_commits, behind, at_cut, Passes, PassesAll, again, last, cut}
 use Rattle.play_safety.specs.Safe.{IsBy, OfCommit, EachCommit, NextKeeps, MayRun, queue, IsCalm, IsCrashSafe, is_output, PlaysAreSafe, TracesAreRead, DoneIsDecided}
-use Rattle.play_safety.proofs.RowParts.{Stands, Due, between}
+use Rattle.commit_machine.proofs.runs.OneJob.{Stands, Due, between}
 use Rattle.play_safety.proofs.TraceLemmas.{parted, looks-undecided, decisions-then}
 use Rattle.play_safety.proofs.CoverLemmas.{looks-covered, covers-then}
 use Rattle.play_safety.proofs.SafeLemmas.{Passed, play-passed, loop-passed, honest-front, lawful-back}

@@ -1,4 +1,3 @@
-pub mod RowParts
 pub mod TraceLemmas
 pub mod CoverLemmas
 pub mod SafeLemmas

@@ -12,7 +12,7 @@ use Rattle.host_port.specs.Own.{own, OnlyLooks}
 use Rattle.host_port.specs.Ran.{Honest}
 use Rattle.host_port.proofs.RanLemmas.{disk-append}
 use Rattle.folder_change.specs.declared.change.Change.{Change}
-use Rattle.folder_change.specs.Apply.{first_refusal}
+use Rattle.commit_machine.specs.Refusals.{first_refusal}
 use Rattle.commit_machine.specs.Settled.{Files, Locks}
 use Rattle.commit_machine.specs.Jobs.{Refusal, Ending, Edit, Job, IsJob, all_of}
 use Rattle.commit_machine.specs.Machine.{Seizing, Ended}
@@ -22,9 +22,9 @@ use Rattle.commit_machine.specs.Lawful.{IsFresh, OthersAreLawful}
 use Rattle.commit_machine.specs.Laws.{IsSettledAs, MetNoFault, decisions}
 use Rattle.commit_machine.specs.Restraints.{is_failed}
 use Rattle.commit_machine.specs.Rows.{first_job, queue_after, run_files, run_locks, IsBracket}
-use Rattle.commit_machine.proofs.RunLemmas.{nothing_left}
-use Rattle.commit_machine.proofs.EndLemmas.{lawful_front}
-use Rattle.commit_machine.proofs.ToldLemmas.{few_decisions}
+use Rattle.commit_machine.proofs.runs.Moments.{nothing_left}
+use Rattle.commit_machine.proofs.runs.Ends.{lawful_front}
+use Rattle.commit_machine.proofs.told.Decisions.{few_decisions}
 use Rattle.folder_commit.specs.declared.error.CommitError.{CommitError}
 use Rattle.folder_commit.specs.declared.error.CommitError.TheVariants as error
 use Rattle.folder_commit.specs.Commits.{IsCommit}
@@ -45,7 +45,7 @@ use Rattle.session_play.proofs.CommitLemmas.{answer-fine}
 use Rattle.session_play.proofs.LooksLemmas.{neutral-did, neutral-part}
 use Rattle.play_safety.specs.Passes.{decided_in, accepted_by, Commits, behind, at_cut, Passes, PassesAll, again, last, cut}
 use Rattle.play_safety.specs.Safe.{IsBy, OfCommit, EachCommit, queue_of, queue, IsCalm, NextKeeps}
-use Rattle.play_safety.proofs.RowParts.{Stands, Due, Leaves, between, not-decided, was-decided, after-piece, due-then, queue-split, honest-back, run-of}
+use Rattle.commit_machine.proofs.runs.OneJob.{Stands, Due, Leaves, between, not-decided, was-decided, after-piece, due-then, queue-split, honest-back, run-of}
 use Rattle.play_safety.proofs.TraceLemmas.{looks-undecided, decisions-then, decisions-same}
 use Rattle.play_safety.proofs.CoverLemmas.{Covers, looks-covered, covers-then, bracket-covered}
 

@@ -15,7 +15,7 @@ use Rattle.commit_machine.specs.Due.{is_decision}
 use Rattle.commit_machine.specs.Laws.{decisions, in_flight}
 use Rattle.commit_machine.specs.Restraints.{is_failed}
 use Rattle.commit_machine.specs.Rows.{first_job}
-use Rattle.play_safety.proofs.RowParts.{decides-same, never-fewer, counted-yes, counted-no}
+use Rattle.commit_machine.proofs.runs.OneJob.{decides-same, never-fewer, counted-yes, counted-no}
 
 -- a front of two parts lies in the first, or takes in the first
 abbrev pub Fronts : List Event → List Event → List Event → List Event → Type 0

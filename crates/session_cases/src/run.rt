@@ -1,6 +1,7 @@
 // One case: its run, and what is printed of it.
 use case_blocks::{Answer, Case, Tells, host, is_plain, number, put_disk, put_title, value, view};
-use host_port::{Event, MemHost};
+use host_memory::MemHost;
+use host_port::Event;
 use mail_text::{Items, Memory, Text};
 use mailx_top::{Environment, run};
 

@@ -4,6 +4,7 @@ ghost use Rattle.host_port.specs.Names.{has_no_zero};
 ghost use Rattle.host_port.specs.Ran.{Ran};
 ghost use Rattle.folder_change.specs.Changes.{is_rewrite};
 ghost use Rattle.folder_change.specs.Outcomes.{base_list};
+ghost use Rattle.commit_machine.specs.Names.{actor_limit};
 ghost use Rattle.folder_commit.specs.Plans.{AreFiles};
 ghost use Rattle.session_play.specs.Committing.{wanted_of, taken};
 ghost use Rattle.session_play.specs.Cuts.{IsLoadCut};
@@ -60,7 +61,7 @@ pub fn change<H: Host>(
     changes: &[Change],
     base: Option<&Folder>,
 ) -> Result<Committed, Stop>
-    requires short { length actor.now ≤ 4021 }
+    requires short { length actor.now ≤ actor_limit }
     requires no_zero { has_no_zero actor.now ≡ true }
     requires files { AreFiles actor.now changes.now }
     requires based { All (λ c. IsTrue (is_rewrite c) → IsSome base) changes.now }

@@ -1,4 +1,4 @@
-use Rattle.commit_machine.proofs.WorkedLemmas.{alone_goes}
+use Rattle.commit_machine.proofs.runs.Worked.{alone_goes}
 use Rattle.commit_machine.proofs.laws.alone_goes.Goals as goal
 
 pub returns : goal.returns

@@ -1,4 +1,4 @@
-use Rattle.commit_machine.proofs.RunLemmas.{crash_safe}
+use Rattle.commit_machine.proofs.runs.Moments.{crash_safe}
 use Rattle.commit_machine.proofs.laws.crash_safe.Goals as goal
 
 pub returns : goal.returns

@@ -1,4 +1,4 @@
-use Rattle.commit_machine.proofs.StopLemmas.{decisions_apply}
+use Rattle.commit_machine.proofs.runs.Stops.{decisions_apply}
 use Rattle.commit_machine.proofs.laws.decisions_apply.Goals as goal
 
 pub returns : goal.returns

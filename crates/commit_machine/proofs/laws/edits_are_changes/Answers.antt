@@ -1,4 +1,4 @@
-use Rattle.commit_machine.proofs.EditLemmas.{edits_are_changes}
+use Rattle.commit_machine.proofs.records.Edits.{edits_are_changes}
 use Rattle.commit_machine.proofs.laws.edits_are_changes.Goals as goal
 
 pub returns : goal.returns

@@ -1,4 +1,4 @@
-use Rattle.commit_machine.proofs.EndLemmas.{front_is_run}
+use Rattle.commit_machine.proofs.runs.Ends.{front_is_run}
 use Rattle.commit_machine.proofs.laws.front_is_run.Goals as goal
 
 pub returns : goal.returns

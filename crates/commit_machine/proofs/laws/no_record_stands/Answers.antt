@@ -1,4 +1,4 @@
-use Rattle.commit_machine.proofs.EndLemmas.{no_record_stands}
+use Rattle.commit_machine.proofs.runs.Ends.{no_record_stands}
 use Rattle.commit_machine.proofs.laws.no_record_stands.Goals as goal
 
 pub returns : goal.returns

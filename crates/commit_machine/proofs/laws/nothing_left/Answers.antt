@@ -1,4 +1,4 @@
-use Rattle.commit_machine.proofs.RunLemmas.{nothing_left}
+use Rattle.commit_machine.proofs.runs.Moments.{nothing_left}
 use Rattle.commit_machine.proofs.laws.nothing_left.Goals as goal
 
 pub returns : goal.returns

@@ -1,4 +1,4 @@
-use Rattle.commit_machine.proofs.StopLemmas.{only_decisions}
+use Rattle.commit_machine.proofs.runs.Stops.{only_decisions}
 use Rattle.commit_machine.proofs.laws.only_decisions.Goals as goal
 
 pub returns : goal.returns

@@ -1,4 +1,4 @@
-use Rattle.commit_machine.proofs.EndLemmas.{recovery_settles}
+use Rattle.commit_machine.proofs.runs.Ends.{recovery_settles}
 use Rattle.commit_machine.proofs.laws.recovery_settles.Goals as goal
 
 pub returns : goal.returns

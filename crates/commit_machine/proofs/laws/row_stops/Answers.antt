@@ -1,4 +1,4 @@
-use Rattle.commit_machine.proofs.RowLemmas.{row_stops}
+use Rattle.commit_machine.proofs.runs.Rows.{row_stops}
 use Rattle.commit_machine.proofs.laws.row_stops.Goals as goal
 
 pub returns : goal.returns

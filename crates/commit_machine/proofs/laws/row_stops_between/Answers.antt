@@ -1,4 +1,4 @@
-use Rattle.commit_machine.proofs.RowLemmas.{row_stops_between}
+use Rattle.commit_machine.proofs.runs.Rows.{row_stops_between}
 use Rattle.commit_machine.proofs.laws.row_stops_between.Goals as goal
 
 pub returns : goal.returns

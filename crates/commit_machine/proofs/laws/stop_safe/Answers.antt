@@ -1,4 +1,4 @@
-use Rattle.commit_machine.proofs.StopLemmas.{stop_safe}
+use Rattle.commit_machine.proofs.runs.Stops.{stop_safe}
 use Rattle.commit_machine.proofs.laws.stop_safe.Goals as goal
 
 pub returns : goal.returns

@@ -1,4 +1,4 @@
-use Rattle.commit_machine.proofs.GoesLemmas.{stretches_join}
+use Rattle.commit_machine.proofs.runs.Stretches.{stretches_join}
 use Rattle.commit_machine.proofs.laws.stretches_join.Goals as goal
 
 pub returns : goal.returns

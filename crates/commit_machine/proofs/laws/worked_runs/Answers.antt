@@ -1,4 +1,4 @@
-use Rattle.commit_machine.proofs.WorkedLemmas.{worked_runs}
+use Rattle.commit_machine.proofs.runs.Worked.{worked_runs}
 use Rattle.commit_machine.proofs.laws.worked_runs.Goals as goal
 
 pub returns : goal.returns

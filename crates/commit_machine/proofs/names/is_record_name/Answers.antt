@@ -1,5 +1,5 @@
 use Rattle.std.proofs.Common.{◌∙◌}
-use Rattle.commit_machine.proofs.NameLemmas.{by_front, other_front}
+use Rattle.commit_machine.proofs.records.Names.{by_front, other_front}
 use Rattle.commit_machine.proofs.names.is_record_name.Goals as goal
 
 pub returns-in-Some : goal.returns-in-Some

@@ -1,4 +1,4 @@
-use Rattle.commit_machine.proofs.SafetyLemmas.{events_have_rows}
+use Rattle.commit_machine.proofs.runs.Safety.{events_have_rows}
 use Rattle.commit_machine.proofs.safety.events_have_rows.Goals as goal
 
 pub returns : goal.returns

@@ -1,0 +1,7 @@
+-- Names, records and jobs as they are written.
+pub mod Same
+pub mod Names
+pub mod InFile
+pub mod Front
+pub mod OfJob
+pub mod Edits

@@ -1,0 +1,118 @@
+-- The records of a job are valid together, and its edits are of files of their own.
+use Rattle.std.proofs.Common.{◌≡◌, ◌≢◌, ℕ, Bool, true, false, ◌&&◌, List, [], ◌∷◌, length, Some, refl, ap, sym, subst, inl, inr, ◌∙◌, arith}
+use Rattle.std.proofs.lemmas.Bool.{and_parts}
+use Rattle.std.specs.Str.{bytes_eq}
+use Rattle.commit_record.specs.Format.{is_valid}
+use Rattle.commit_record.specs.Names.{is_lawful}
+use Rattle.commit_record.specs.declared.record.EntryKind.{EntryKind}
+use Rattle.commit_record.specs.declared.record.EntryKind.TheVariants.{Replace}
+use Rattle.commit_record.specs.declared.record.Entry.{Entry}
+use Rattle.commit_machine.specs.Names.{is_record_name}
+use Rattle.commit_machine.specs.Records.{kind_in}
+use Rattle.commit_machine.specs.Settled.{Mem}
+use Rattle.commit_machine.specs.Jobs.{Edit, Job, Made, IsJob, edits_of, all_names, all_of, entries_for, prepare_of, go_of, made_at, kind_made}
+use Rattle.commit_machine.proofs.records.Same.{same_refl, same_or_not}
+use Rattle.commit_machine.proofs.records.InFile.{valid-lawful}
+use Rattle.commit_machine.proofs.standing.Decided.{IsDistinct, names_Mem}
+use Rattle.commit_machine.proofs.standing.KnownNext.{names-prepare}
+use Rattle.std.specs.List.{list_all, list_any}
+use Rattle.commit_record.specs.Format.{are_distinct, fit_phase}
+use Rattle.commit_record.specs.declared.record.Phase.TheVariants.{Prepare}
+use Rattle.std.proofs.Common.{not, nat_lt, nat_le, ◌||◌}
+use Rattle.std.proofs.lemmas.Bool.{or_left, or_right}
+
+length-entries : (k l : List ℕ → EntryKind) (ns : List (List ℕ)) → length (entries_for k ns) ≡ length (entries_for l ns)
+length-entries k l [] = refl
+length-entries k l (n ∷ ns) = let e = length-entries k l ns in omega (arith, e)
+
+lawful-entries : (k l : List ℕ → EntryKind) (ns : List (List ℕ)) → list_all (λ (e : Entry). is_lawful e.name) (entries_for k ns) ≡ list_all (λ (e : Entry). is_lawful e.name) (entries_for l ns)
+lawful-entries k l [] = refl
+lawful-entries k l (n ∷ ns) = ap (λ (b : Bool). is_lawful n && b) (lawful-entries k l ns)
+
+any-entries : (k l : List ℕ → EntryKind) (m : List ℕ) (ns : List (List ℕ)) → list_any (λ (e : Entry). bytes_eq m e.name) (entries_for k ns) ≡ list_any (λ (e : Entry). bytes_eq m e.name) (entries_for l ns)
+any-entries k l m [] = refl
+any-entries k l m (n ∷ ns) = ap (λ (b : Bool). bytes_eq m n || b) (any-entries k l m ns)
+
+distinct-entries : (k l : List ℕ → EntryKind) (ns : List (List ℕ)) → are_distinct (entries_for k ns) ≡ are_distinct (entries_for l ns)
+distinct-entries k l [] = refl
+distinct-entries k l (n ∷ ns) =
+    ap (λ (b : Bool). not b && are_distinct (entries_for k ns)) (any-entries k l n ns)
+    ∙ ap (λ (b : Bool). not (list_any (λ (e : Entry). bytes_eq n e.name) (entries_for l ns)) && b) (distinct-entries k l ns)
+
+abbrev pub tests : ℕ → Bool → Bool → Bool
+tests n a b = nat_lt 0 n && (nat_le n 16 && (a && b))
+
+-- the tests of a decision's record on entries of these kinds
+abbrev passes : (List ℕ → EntryKind) → List (List ℕ) → Bool
+passes k ns = tests (length (entries_for k ns)) (list_all (λ (e : Entry). is_lawful e.name) (entries_for k ns)) (are_distinct (entries_for k ns) && true)
+
+valid-entries : (k l : List ℕ → EntryKind) (ns : List (List ℕ)) → passes k ns ≡ passes l ns
+valid-entries k l ns =
+    ap (λ (n : ℕ). tests n (list_all (λ (e : Entry). is_lawful e.name) (entries_for k ns)) (are_distinct (entries_for k ns) && true)) (length-entries k l ns)
+    ∙ ap (λ (b : Bool). tests (length (entries_for l ns)) b (are_distinct (entries_for k ns) && true)) (lawful-entries k l ns)
+    ∙ ap (λ (b : Bool). tests (length (entries_for l ns)) (list_all (λ (e : Entry). is_lawful e.name) (entries_for l ns)) (b && true)) (distinct-entries k l ns)
+
+without-last : (b c : Bool) → (b && c) ≡ true → (b && true) ≡ true
+without-last true c h = refl
+without-last false c h = h
+
+under : (a b c : Bool) → (b ≡ true → c ≡ true) → (a && b) ≡ true → (a && c) ≡ true
+under true b c more h = more h
+under false b c more h = h
+
+-- what a record passes before the decision it passes with it
+pub any-phase : (n : ℕ) (a b c : Bool) → tests n a (b && c) ≡ true → tests n a (b && true) ≡ true
+any-phase n a b c h = under (nat_lt 0 n) (nat_le n 16 && (a && (b && c))) (nat_le n 16 && (a && (b && true))) (under (nat_le n 16) (a && (b && c)) (a && (b && true)) (under a (b && c) (b && true) (without-last b c))) h
+
+-- the record of the decision is valid as the one before it is
+pub valid-go : (j : Job) (made : List Made) → is_valid (prepare_of j) ≡ true → is_valid (go_of j made) ≡ true
+valid-go j made h =
+    valid-entries (λ n. kind_made (made_at made n)) (λ n. Replace) (all_of j)
+    ∙ any-phase (length (prepare_of j).entries) (list_all (λ (e : Entry). is_lawful e.name) (prepare_of j).entries) (are_distinct (prepare_of j).entries) (fit_phase Prepare (prepare_of j).entries) h
+
+any_name : (n : List ℕ) (es : List Edit) (x : Edit) → Mem x es → n ≡ x.name → list_any (λ (e : Entry). bytes_eq n e.name) (entries_for (λ m. Replace) (all_names es)) ≡ true
+any_name n [] x m e = absurd m
+any_name n (y ∷ ys) x (inl p) e = or_left _ _ (subst (λ (z : Edit). bytes_eq n z.name ≡ true) p (subst (λ (z : List ℕ). bytes_eq n z ≡ true) e (same_refl n)))
+any_name n (y ∷ ys) x (inr m) e = or_right _ _ (any_name n ys x m e)
+
+distinct_edits : (es : List Edit) → are_distinct (entries_for (λ m. Replace) (all_names es)) ≡ true → IsDistinct es
+distinct_edits [] h = tt
+distinct_edits (e ∷ es) h =
+    let p = and_parts (not (list_any (λ (o : Entry). bytes_eq e.name o.name) (entries_for (λ m. Replace) (all_names es)))) (are_distinct (entries_for (λ m. Replace) (all_names es))) h in
+    ((λ x m same. let w = any_name e.name es x m same in absurd (cc)), distinct_edits es p.1)
+
+-- each file has one edit
+pub valid-distinct : (j : Job) → is_valid (prepare_of j) ≡ true → IsDistinct (edits_of j)
+valid-distinct j h =
+    let behind = (and_parts (list_all (λ (e : Entry). is_lawful e.name) (prepare_of j).entries) _ (and_parts (nat_le (length (prepare_of j).entries) 16) _ (and_parts (nat_lt 0 (length (prepare_of j).entries)) _ h).1).1).1 in
+    distinct_edits (edits_of j) (and_parts (are_distinct (prepare_of j).entries) (fit_phase Prepare (prepare_of j).entries) behind).0
+
+-- the edits' files have lawful names, and none is a record name
+pub valid-plain : (j : Job) → IsJob j → is_valid (prepare_of j) ≡ true → (e : Edit) → Mem e (edits_of j) → (is_record_name j.actor e.name ≡ false) × (is_lawful e.name ≡ true)
+valid-plain j job h e m = (job.plain e m, valid-lawful (prepare_of j) e.name h (subst (Mem e.name) (sym (names-prepare j)) (names_Mem (edits_of j) e m)))
+
+-- edits of one name are one
+pub one_edit : (es : List Edit) (a b : Edit) → IsDistinct es → Mem a es → Mem b es → a.name ≡ b.name → a ≡ b
+one_edit [] a b h m n e = absurd m
+one_edit (x ∷ xs) a b h (inl p) (inl q) e = p ∙ sym q
+one_edit (x ∷ xs) a b h (inl p) (inr n) e = absurd (h.0 b n (ap (λ (z : Edit). z.name) (sym p) ∙ e))
+one_edit (x ∷ xs) a b h (inr m) (inl q) e = absurd (h.0 a m (ap (λ (z : Edit). z.name) (sym q) ∙ sym e))
+one_edit (x ∷ xs) a b h (inr m) (inr n) e = one_edit xs a b h.1 m n e
+
+-- the first that was made for a name
+pub made_first : (made : List Made) (w : Made) → Mem w made → (x : Made) × Mem x made × (x.edit.name ≡ w.edit.name) × (made_at made w.edit.name ≡ Some x)
+made_first [] w h = absurd h
+made_first (y ∷ ys) w h = elim (same_or_not w.edit.name y.edit.name) [ inl p ↦ (y, inl refl, sym p.0, rw p.1 refl) | inr p ↦ later p (made_first ys w) h ]
+  where
+    later : ((w.edit.name ≢ y.edit.name) × (bytes_eq w.edit.name y.edit.name ≡ false)) → (Mem w ys → (x : Made) × Mem x ys × (x.edit.name ≡ w.edit.name) × (made_at ys w.edit.name ≡ Some x)) → Mem w (y ∷ ys) → (x : Made) × Mem x (y ∷ ys) × (x.edit.name ≡ w.edit.name) × (made_at (y ∷ ys) w.edit.name ≡ Some x)
+    later p more (inl e) = absurd (p.0 (ap (λ (z : Made). z.edit.name) e))
+    later p more (inr h) = let q = more h in (q.0, inr q.1, q.2, rw p.1 q.3)
+
+-- an entry has the kind that it was made with
+pub kind_of_entries : (ns : List (List ℕ)) (f : List ℕ → EntryKind) (n : List ℕ) → Mem n ns → kind_in (entries_for f ns) n ≡ f n
+kind_of_entries [] f n h = absurd h
+kind_of_entries (m ∷ ms) f n h = elim (same_or_not n m) [ inl p ↦ rw p.1 (ap f (sym p.0)) | inr p ↦ later p (kind_of_entries ms f n) h ]
+  where
+    later : ((n ≢ m) × (bytes_eq n m ≡ false)) → (Mem n ms → kind_in (entries_for f ms) n ≡ f n) → Mem n (m ∷ ms) → kind_in (entries_for f (m ∷ ms)) n ≡ f n
+    later p more (inl e) = absurd (p.0 e)
+    later p more (inr h) = rw p.1 (more h)

@@ -1,0 +1,131 @@
+-- A change by others keeps what the run knows at each state.
+use Rattle.std.proofs.Common.{◌≡◌, ℕ, true, List, [], ◌∷◌, Option, Some, None, is_some, refl, ap, inl, inr, ◌∙◌}
+use Rattle.commit_record.specs.Format.{written}
+use Rattle.commit_record.specs.declared.record.Record.{Record}
+use Rattle.host_port.specs.Disk.{Disk}
+use Rattle.commit_machine.specs.Names.{record_name, new_name, staged_name, is_record_name}
+use Rattle.commit_machine.specs.Records.{record_in}
+use Rattle.commit_machine.specs.Settled.{Mem}
+use Rattle.commit_machine.specs.Jobs.{Ending, Done, Recovered, Refused, Failed, NoMemory, Job, Made, edits_of, all_of, prepare_of}
+use Rattle.commit_machine.specs.Machine.{Then, GoOn, Answer, State, Seizing, Looking, Undoing, Placing, Testing, Removing, Discarding, Unlocking, Erasing, Clearing, Preparing, Publishing, Locking, Loading, Staging, Deciding, Committing, Checking, Releasing, Ended}
+use Rattle.commit_machine.specs.Lawful.{standing, HasRight, IsGuarded, IsFresh}
+use Rattle.commit_machine.proofs.standing.Decided.{names_Mem}
+use Rattle.commit_machine.proofs.standing.Known.{Closing, Rest, Own, Clean, Idle, ThenOk, AllDone, Over, Ends, AreStaged, PartPlaced, Keeps, Knows}
+use Rattle.commit_machine.proofs.records.Same.{same_refl}
+use Rattle.std.proofs.lemmas.Bool.{or_left, or_right}
+
+module _ (j : Job) (d d' : Disk) (keep : Keeps j.actor j.token d d') where
+  record_is : is_record_name j.actor (record_name j.actor) ≡ true
+  record_is = or_left _ _ (same_refl (record_name j.actor))
+
+  new_is : is_record_name j.actor (new_name j.actor) ≡ true
+  new_is = or_right _ _ (same_refl (new_name j.actor))
+
+  record_stays : HasRight j.actor d → d'.files (record_name j.actor) ≡ d.files (record_name j.actor)
+  record_stays right = keep.records (record_name j.actor) right record_is
+
+  new_stays : HasRight j.actor d → d'.files (new_name j.actor) ≡ d.files (new_name j.actor)
+  new_stays right = keep.records (new_name j.actor) right new_is
+
+  others_fresh : IsFresh j.actor j.token d → IsFresh j.actor j.token d'
+  others_fresh k = record {
+    staged = λ m. keep.staged j.token m (inl refl) ∙ k.staged m;
+    locks = λ m. keep.free j.token m (inl refl) (k.locks m);
+    record_other = λ r. keep.fresh r (k.record_other r);
+  }
+
+  others_closing : (r : Record) (ns ls : List (List ℕ)) → Closing j.actor r ns ls d → Closing j.actor r ns ls d'
+  others_closing r ns ls k =
+      let guarded : IsGuarded j.actor j.token d r.token = inr (r, k.stands, refl) in
+      record {
+        right = keep.right k.right;
+        stands = ap record_in (record_stays k.right) ∙ k.stands;
+        gone = λ m h. elim (k.gone m h) [ inl a ↦ inl a | inr b ↦ inr (keep.staged r.token m guarded ∙ b) ];
+        free = λ m h. elim (k.free m h) [ inl a ↦ inl a | inr b ↦ inr (keep.free r.token m guarded b) ];
+      }
+
+  others_clean : Clean j d → Clean j d'
+  others_clean k = record { right = keep.right k.right; fresh = others_fresh k.fresh }
+
+  others_idle : (c : Option (List ℕ)) → Idle j c d → Idle j c d'
+  others_idle c k = record {
+    clean = others_clean k.clean;
+    none = record_stays k.clean.right ∙ k.none;
+    new = λ b e. new_stays k.clean.right ∙ k.new b e;
+  }
+
+  others_rest : Rest j d → Rest j d'
+  others_rest k = record {
+    staged = λ m. elim (k.staged m) [ inl a ↦ inl a | inr b ↦ inr (keep.staged j.token m (inl refl) ∙ b) ];
+    locks = λ m. elim (k.locks m) [ inl a ↦ inl a | inr b ↦ inr (keep.free j.token m (inl refl) b) ];
+  }
+
+  others_own : (ns ls : List (List ℕ)) (made left : List Made) → ((x : Made) → Mem x made → Mem x.edit.name ls) → Own j ns ls made left d → Own j ns ls made left d'
+  others_own ns ls made left cover k =
+      record {
+        closing = others_closing (prepare_of j) ns ls k.closing;
+        rest = others_rest k.rest;
+        locked = λ m h. keep.lock j.token m (inl refl) (k.locked m h);
+        seen = λ x h. keep.file j.token x.edit.name (inl refl) (k.locked x.edit.name (cover x h)) ∙ k.seen x h;
+        staged = λ x h. elim (k.staged x h) [ inl a ↦ inl a | inr b ↦ inr (keep.staged j.token x.edit.name (inl refl) ∙ b) ];
+      }
+
+  others_then : (r : Record) (th : Then) → ThenOk j r th d → ThenOk j r th d'
+  others_then r GoOn k = others_fresh k
+  others_then r (Answer e) k = record { token = k.token; names = k.names; rest = others_rest k.rest; own_end = k.own_end }
+
+  guards : (r : Record) → standing j.actor d ≡ Some r → IsGuarded j.actor j.token d r.token
+  guards r e = inr (r, e, refl)
+
+  others_some : (r : Record) (m : List ℕ) → standing j.actor d ≡ Some r → is_some (d.files (staged_name r.token m)) ≡ true → is_some (d'.files (staged_name r.token m)) ≡ true
+  others_some r m e h = ap is_some (keep.staged r.token m (guards r e)) ∙ h
+
+  others_staged : (r : Record) (ns : List (List ℕ)) (th : Then) → standing j.actor d ≡ Some r → AreStaged th r ns d → AreStaged th r ns d'
+  others_staged r ns GoOn e h = tt
+  others_staged r ns (Answer a) e h = λ m mem. others_some r m e (h m mem)
+
+  others_placed : (r : Record) (ns ls : List (List ℕ)) (th : Then) → PartPlaced j.actor r ns ls th d → PartPlaced j.actor r ns ls th d'
+  others_placed r ns ls th k = record { closing = others_closing r ns ls k.closing; go = k.go; within = k.within; locks_within = k.locks_within; distinct = k.distinct; staged = others_staged r ns th k.closing.stands k.staged }
+
+  -- a file that is locked with the record's token stays gone
+  others_gone : (r : Record) (n : List ℕ) → standing j.actor d ≡ Some r → d.locks n ≡ Some r.token → d.files n ≡ None → d'.files n ≡ None
+  others_gone r n e lock gone = keep.file r.token n (guards r e) lock ∙ gone
+
+  others_done : HasRight j.actor d → AllDone j d → AllDone j d'
+  others_done right k = record { fresh = others_fresh k.fresh; none = record_stays right ∙ k.none }
+
+  others_ends : (e : Ending) → Ends e j d → Ends e j d'
+  others_ends Done k = (others_done k.1 k.0, keep.right k.1)
+  others_ends (Recovered found) k = (record { done = others_done k.1 k.0.done; no_new = new_stays k.1 ∙ k.0.no_new }, keep.right k.1)
+  others_ends (Refused why) k = others_fresh k
+  others_ends (Failed passed) k = tt
+  others_ends NoMemory k = others_fresh k
+
+  others_over : (e : Ending) → Over e j d → Over e j d'
+  others_over Done k = others_fresh k
+  others_over (Recovered found) k = others_fresh k
+  others_over (Refused why) k = others_fresh k
+  others_over (Failed passed) k = tt
+  others_over NoMemory k = others_fresh k
+
+  pub others_knows : (s : State) → Knows j s d → Knows j s d'
+  others_knows Seizing k = others_fresh k
+  others_knows Looking k = others_clean k
+  others_knows (Undoing r n ns ls th) k = (others_closing r (n ∷ ns) ls k.0, k.1, k.2, k.3, others_then r th k.4)
+  others_knows (Placing r n ns ls th) k = (others_placed r (n ∷ ns) ls th k.0, others_then r th k.1, k.2)
+  others_knows (Testing r n ns ls) k = (others_placed r (n ∷ ns) ls GoOn k.0, others_fresh k.1, k.2)
+  others_knows (Removing r n ns ls th) k = (others_placed r (n ∷ ns) ls th k.0, others_then r th k.1, k.2, others_some r n k.0.closing.stands k.3)
+  others_knows (Discarding r n ns ls th) k = (others_placed r (n ∷ ns) ls th k.0, others_then r th k.1, k.2, keep.lock r.token n (guards r k.0.closing.stands) k.3, others_gone r n k.0.closing.stands k.3 k.4)
+  others_knows (Unlocking r n ns th) k = (others_closing r [] (n ∷ ns) k.0, k.1, others_then r th k.2)
+  others_knows (Erasing r th) k = (others_closing r [] [] k.0, others_then r th k.1)
+  others_knows (Clearing found) k = others_idle None k
+  others_knows Preparing k = (others_idle None k.0, k.1)
+  others_knows Publishing k = (others_idle (Some (written (prepare_of j))) k.0, k.1)
+  others_knows (Locking ls e left) k = (others_own [] ls [] [] (λ x h. absurd h) k.0, k.1)
+  others_knows (Loading made e left) k = (others_own [] (all_of j) made made (λ x h. names_Mem (edits_of j) x.edit (k.1.each x h).0) k.0, k.1)
+  others_knows (Staging ns made x left) k = (others_own ns (all_of j) made (x ∷ left) (λ y h. names_Mem (edits_of j) y.edit (k.1.each y h).0) k.0, k.1, k.2, k.3)
+  others_knows (Deciding made) k = (others_own (all_of j) (all_of j) made [] (λ x h. names_Mem (edits_of j) x.edit (k.1.each x h).0) k.0, k.1)
+  others_knows (Committing made) k = (others_own (all_of j) (all_of j) made [] (λ x h. names_Mem (edits_of j) x.edit (k.1.each x h).0) k.0, k.1, new_stays k.0.closing.right ∙ k.2)
+  others_knows Checking k = tt
+  others_knows (Releasing e) k = others_ends e k
+  others_knows (Ended e) k = others_over e k

@@ -1,0 +1,10 @@
+use Rattle.std.proofs.Common.{arith}
+use Rattle.host_memory.specs.Views.{named, names_of}
+use Rattle.host_memory.proofs.NamedLemmas.{among-more, among-all}
+use Rattle.host_memory.proofs.tape.show_locks.Goals as goal
+
+pub loop-k-preserved : goal.loop-k-preserved
+loop-k-preserved c = λ q. among-more (names_of c.args.locks.now) c.loop-k.k q (named c.args.locks.now q) _ _ (c.in_ok-show_lock.ensures q) (c.loop-k.invariant q)
+
+pub returns : goal.returns
+returns c = λ q. among-all c.args.locks.now c.loop-k.k q _ (omega (arith, c.loop-k-test.false, c.len-k-end.ensures)) (c.loop-k.invariant q)

@@ -1,0 +1,6 @@
+pub mod Views
+pub mod Plans
+pub mod Pairs
+pub mod Tapes
+pub mod Standings
+pub mod MemHosts

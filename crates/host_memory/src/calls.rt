@@ -1,0 +1,161 @@
+// What the calls of a host in memory add to its tape.
+ghost use Rattle.std.specs.Prelude.{◌≡◌, false, Option, Some, None, OnOk, IfOk};
+ghost use Rattle.std.specs.Option.{option_copied};
+ghost use Rattle.host_port.specs.Disk.{disk};
+ghost use Rattle.host_port.specs.Calls.{Loaded, LoadCause};
+ghost use Rattle.host_memory.specs.MemHosts.{wants_memory};
+ghost use Rattle.host_memory.specs.Plans.{TapeAdds, TapeAddsCall};
+ghost use Rattle.host_memory.specs.Views.{disk_of, steps_before, part_at};
+ghost use Rattle.host_port.specs.declared.event.Event.TheVariants as event;
+
+use crate::standing::copy_found;
+use crate::tape::{Tape, add_others};
+use host_port::{Event, ForeignStep, LoadAnswer, LoadError, Part, Seen};
+use mail_text::{Memory, Text};
+use std::alloc::Global;
+
+/// The most bytes of a file that a load takes.
+const LOAD_LIMIT: usize = 268_435_456;
+
+/// What a failing call of this number leaves, or None where it doesn't fail.
+pub fn failing(plan: &[(u64, Part)], call: u64) -> Option<&Part>
+    ensures { option_copied result ≡ part_at plan.now call }
+{
+    for (at, part) in plan {
+        if *at == call {
+            return Some(part);
+        }
+    }
+    None
+}
+
+// The steps of others before the call of this number, and its own event.
+fn tell(
+    alloc: Global,
+    plan: &[(u64, ForeignStep)],
+    call: u64,
+    tape: &mut Tape,
+    event: Event,
+) -> Result<(), Memory>
+    ensures ok { OnOk result (TapeAdds tape.old tape.new (steps_before plan.now call) event) }
+    ensures start { tape.new.start ≡ tape.old.start }
+{
+    add_others(alloc, plan, call, tape)?;
+    tape.add(alloc, event)
+}
+
+/// Tells that input was taken.
+pub fn tell_in(
+    alloc: Global,
+    plan: &[(u64, ForeignStep)],
+    call: u64,
+    tape: &mut Tape,
+    bytes: &[u8],
+    failed: bool,
+) -> Result<(), Memory>
+    ensures ok { OnOk result (TapeAdds tape.old tape.new (steps_before plan.now call) (event.In bytes.now failed)) }
+    ensures start { tape.new.start ≡ tape.old.start }
+{
+    let bytes = Text::copy(alloc, bytes)?;
+    tell(alloc, plan, call, tape, Event::In { bytes, failed })
+}
+
+/// Tells that output went out.
+pub fn tell_out(
+    alloc: Global,
+    plan: &[(u64, ForeignStep)],
+    call: u64,
+    tape: &mut Tape,
+    bytes: &[u8],
+    failed: bool,
+) -> Result<(), Memory>
+    ensures ok { OnOk result (TapeAdds tape.old tape.new (steps_before plan.now call) (event.Out bytes.now failed)) }
+    ensures start { tape.new.start ≡ tape.old.start }
+{
+    let bytes = Text::copy(alloc, bytes)?;
+    tell(alloc, plan, call, tape, Event::Out { bytes, failed })
+}
+
+// The answer of a load and what it sees, by the disk that the tape shows.
+fn look(
+    alloc: Global,
+    tape: &Tape,
+    name: &[u8],
+) -> Result<(Result<LoadAnswer, LoadError>, Event), Memory>
+    ensures loaded { IfOk result
+        (λ r. Loaded name.now r.0
+        (disk (disk_of tape.now.start.files tape.now.start.locks) tape.now.trace.items) r.1) }
+    ensures cause { IfOk result (λ r. LoadCause 0 0 r.0) }
+    ensures known { IfOk result (λ r. wants_memory r.0 ≡ false) }
+{
+    let held = tape.standing.locks.has(name);
+    let found = tape.standing.files.get(name);
+    let name = Text::copy(alloc, name)?;
+    if let Some(text) = found
+        && text.bytes().len() > LOAD_LIMIT
+    {
+        let length = text.bytes().len() as u64;
+        let seen = Seen::TooLarge { length };
+        return Ok((
+            Err(LoadError::TooLarge { length }),
+            Event::Load { name, seen },
+        ));
+    }
+    let bytes = copy_found(alloc, found)?;
+    let seen = Seen::Bytes {
+        bytes: copy_found(alloc, found)?,
+        held,
+    };
+    Ok((Ok(LoadAnswer { bytes, held }), Event::Load { name, seen }))
+}
+
+/// Tells a load, and gives its answer.
+pub fn tell_load(
+    alloc: Global,
+    plan: &[(u64, ForeignStep)],
+    call: u64,
+    tape: &mut Tape,
+    name: &[u8],
+) -> Result<Result<LoadAnswer, LoadError>, Memory>
+    ensures ok { IfOk result (λ r. TapeAddsCall tape.old tape.new (steps_before plan.now call) (Loaded name.now r)) }
+    ensures cause { IfOk result (λ r. LoadCause 0 0 r) }
+    ensures known { IfOk result (λ r. wants_memory r ≡ false) }
+    ensures start { tape.new.start ≡ tape.old.start }
+{
+    add_others(alloc, plan, call, tape)?;
+    let (answer, event) = look(alloc, tape, name)?;
+    tape.add(alloc, event)?;
+    Ok(answer)
+}
+
+/// Tells a load that failed.
+pub fn tell_failed_load(
+    alloc: Global,
+    plan: &[(u64, ForeignStep)],
+    call: u64,
+    tape: &mut Tape,
+    name: &[u8],
+) -> Result<(), Memory>
+    ensures ok { OnOk result
+        (TapeAddsCall tape.old tape.new (steps_before plan.now call) (Loaded name.now (Err LoadError.Failed))) }
+    ensures start { tape.new.start ≡ tape.old.start }
+{
+    let name = Text::copy(alloc, name)?;
+    let seen = Seen::Failed;
+    tell(alloc, plan, call, tape, Event::Load { name, seen })
+}
+
+/// Tells that a right was given up.
+pub fn tell_release(
+    alloc: Global,
+    plan: &[(u64, ForeignStep)],
+    call: u64,
+    tape: &mut Tape,
+    name: &[u8],
+) -> Result<(), Memory>
+    ensures ok { OnOk result (TapeAdds tape.old tape.new (steps_before plan.now call) (event.Release name.now)) }
+    ensures start { tape.new.start ≡ tape.old.start }
+{
+    let name = Text::copy(alloc, name)?;
+    tell(alloc, plan, call, tape, Event::Release { name })
+}

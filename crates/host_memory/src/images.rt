@@ -1,0 +1,108 @@
+// The disks that a run leaves where it stops inside an event.
+ghost use Rattle.std.specs.Prelude.{◌≡◌, ◌+◌, ◌++◌, ◌∷◌, List, IfOk, OnOk, length};
+ghost use Rattle.host_port.specs.Disk.{disk};
+ghost use Rattle.host_port.specs.Ends.{stopped};
+ghost use Rattle.host_memory.specs.Standings.{disk_now};
+ghost use Rattle.host_memory.specs.Tapes.{ShowsSame}
+ghost use Rattle.host_port.specs.Disk.{SameDisk};
+ghost use Rattle.host_memory.specs.Views.{disk_of};
+ghost use Rattle.host_port.specs.declared.event.Event.{Event};
+
+use crate::ending::{is_whole, leave, owns};
+use crate::named::Named;
+use crate::standing::{Standing, copy_found, effect, effect_of_step, rename, write};
+use crate::tape::{copy_files, copy_locks, show_files, show_locks};
+use crate::DiskView;
+use host_port::{Event, Part};
+use mail_text::Memory;
+use std::alloc::Global;
+
+// The disk after these events.
+fn replayed(alloc: Global, start: &DiskView, events: &[Event]) -> Result<Standing, Memory>
+    ensures { IfOk result (λ s. SameDisk (disk_now s) (disk (disk_of start.now.files start.now.locks) events.now)) }
+{
+    let mut disk = Standing {
+        files: copy_files(alloc, start.files.items())?,
+        locks: copy_locks(alloc, start.locks.items())?,
+        rights: Named::new(alloc),
+    };
+    for event in events {
+        effect(alloc, &mut disk, event)?;
+    }
+    Ok(disk)
+}
+
+// A stop inside an event, of which this part was done. Rights aren't looked at.
+fn stop(alloc: Global, disk: &mut Standing, event: &Event, part: &Part) -> Result<(), Memory>
+    ensures { OnOk result (ShowsSame (disk_now disk.new) (stopped (disk_now disk.old) event.now part.now)) }
+{
+    let whole = is_whole(part);
+    match event {
+        Event::Stage { name, bytes, .. } => {
+            let mut bytes = copy_found(alloc, bytes.as_ref())?;
+            leave(alloc, disk, name.bytes(), &mut bytes, part)?;
+            write(alloc, &mut disk.files, name.bytes(), bytes.as_ref())
+        }
+        Event::Publish { from, to, .. } if whole && disk.files.has(from.bytes()) => {
+            rename(alloc, &mut disk.files, from.bytes(), to.bytes())
+        }
+        Event::Erase { name, .. } if whole => disk.files.put(alloc, name.bytes(), None),
+        Event::Lock { name, token, .. } if whole && !disk.locks.has(name.bytes()) => {
+            disk.locks.put(alloc, name.bytes(), Some(*token))
+        }
+        Event::Unlock { name, token, .. } if whole && owns(disk, name.bytes(), *token) => {
+            disk.locks.put(alloc, name.bytes(), None)
+        }
+        Event::Foreign { step } if whole => effect_of_step(alloc, disk, step),
+        _ => Ok(()),
+    }
+}
+
+/// The files and locks as lists.
+pub fn show(alloc: Global, disk: &Standing) -> Result<DiskView, Memory>
+    ensures { IfOk result (λ v. ShowsSame (disk_of v.files v.locks) (disk_now disk.now)) }
+{
+    let files = show_files(alloc, &disk.files)?;
+    let locks = show_locks(alloc, &disk.locks)?;
+    Ok(DiskView { files, locks })
+}
+
+// What a stop inside an event leaves that comes after these events.
+fn image_inside(
+    alloc: Global,
+    start: &DiskView,
+    before: &[Event],
+    event: &Event,
+    part: &Part,
+) -> Result<DiskView, Memory>
+    ensures { IfOk result
+        (λ v. ShowsSame (disk_of v.files v.locks)
+        (stopped (disk (disk_of start.now.files start.now.locks) before.now) event.now part.now)) }
+{
+    let mut disk = replayed(alloc, start, before)?;
+    stop(alloc, &mut disk, event, part)?;
+    show(alloc, &disk)
+}
+
+/// What a stop inside the event of this number leaves. Past the trace's end what it gives is open.
+pub fn image(
+    alloc: Global,
+    start: &DiskView,
+    trace: &[Event],
+    n: usize,
+    part: &Part,
+) -> Result<DiskView, Memory>
+    ensures { IfOk result
+        (λ v. (before rest : List Event) (e : Event) → trace.now ≡ before ++ e ∷ rest → length before + 1 ≡ n
+        → ShowsSame (disk_of v.files v.locks)
+        (stopped (disk (disk_of start.now.files start.now.locks) before) e part.now)) }
+{
+    let at = n.saturating_sub(1);
+    match trace.get(at) {
+        Some(event) => image_inside(alloc, start, &trace[..at], event, part),
+        None => {
+            let disk = replayed(alloc, start, trace)?;
+            show(alloc, &disk)
+        }
+    }
+}

@@ -1,0 +1,16 @@
+//! A host in memory that tells its trace: its files, its input and what happens to it are given, its calls fail and others step in
+//! as planned, and what a stop at any of its calls leaves can be looked at.
+#![tactic(auto)]
+
+mod calls;
+mod disk_calls;
+mod ending;
+mod images;
+mod memory;
+mod named;
+mod plan;
+mod standing;
+mod tape;
+
+pub use memory::MemHost;
+pub use plan::{DiskView, Plan};

@@ -1,0 +1,437 @@
+// A host in memory, which tells its trace.
+ghost use Rattle.std.specs.Prelude.{◌≡◌, ◌<◌, ◌≤◌, ◌+◌, ◌++◌, ◌∷◌, [], List, Some, None, true, false, length, take, drop, IfOk, OnErr, is_err, IsTrue, ◌↔◌};
+ghost use Rattle.host_port.specs.Disk.{disk};
+ghost use Rattle.host_port.specs.Ends.{stopped};
+ghost use Rattle.host_port.specs.Names.{IsFileName};
+ghost use Rattle.host_port.specs.Calls.{Calls, NeverFall, Rose, Filled, Said, Loaded, LoadCause, Staged, Published, Erased, Locked, Unlocked, Seized, Released};
+ghost use Rattle.host_memory.specs.Tapes.{ShowsSame};
+ghost use Rattle.host_memory.specs.Views.{disk_of};
+ghost use Rattle.host_port.specs.declared.event.Event.{Event};
+ghost use Rattle.host_port.specs.declared.event.Event.TheVariants as event;
+
+use crate::calls::{failing, tell_failed_load, tell_in, tell_load, tell_out, tell_release};
+use crate::disk_calls::{tell_erase, tell_lock, tell_publish, tell_seize, tell_stage, tell_unlock};
+use crate::images::{image, show};
+use crate::named::Named;
+use crate::standing::Standing;
+use crate::tape::{Tape, copy_files, copy_locks};
+use crate::{DiskView, Plan};
+use host_port::{DiskFault, Event, Host, InFault, LoadAnswer, LoadError, OutFault, Part};
+use mail_text::{Memory, Text};
+use std::alloc::Global;
+
+/// A host in memory. It tells its trace until one of its calls is refused memory; from then on it is lost.
+///
+/// Until it is lost a call that can fail is answered a fault exactly where its plan names the call's number, and the
+/// steps of others stand where the plan has them.
+#[derive(Drop)]
+pub struct MemHost {
+    alloc: Global,
+    tape: Tape,
+    input: Text,
+    at: usize,
+    plan: Plan,
+    calls: u64,
+    lost: bool,
+    ins: u64,
+    outs: u64,
+    disks: u64,
+}
+
+impl MemHost {
+    ghost use Rattle.host_memory.specs.MemHosts.{host_told, host_start, IsUncalled};
+
+    /// A host whose disk is the view, with no event so far.
+    pub fn new(alloc: Global, view: DiskView, input: Text, plan: Plan) -> Result<MemHost, Memory>
+        requires { 1 ≤ plan.chunk }
+        ensures told { IfOk result (λ m. host_told m ≡ Some []) }
+        ensures start { IfOk result (λ m. host_start m ≡ disk_of view.files view.locks) }
+        ensures uncalled { IfOk result (IsUncalled input plan) }
+    {
+        let files = copy_files(alloc, view.files.items())?;
+        let locks = copy_locks(alloc, view.locks.items())?;
+        let standing = Standing {
+            files,
+            locks,
+            rights: Named::new(alloc),
+        };
+        let tape = Tape {
+            start: view,
+            standing,
+            trace: Vec::new(alloc),
+        };
+        Ok(MemHost {
+            alloc,
+            tape,
+            input,
+            at: 0,
+            plan,
+            calls: 0,
+            lost: false,
+            ins: 0,
+            outs: 0,
+            disks: 0,
+        })
+    }
+
+    /// The events so far. What it gives on a lost host is open. It takes no memory.
+    pub fn trace(&self) -> &[Event]
+        ensures { (trace : List Event) → host_told self.now ≡ Some trace → result.now ≡ trace }
+    {
+        &self.tape.trace
+    }
+
+    /// The disk as it stands, with each name once in a list. What it gives on a lost host is open.
+    pub fn view(&self) -> Result<DiskView, Memory>
+        ensures { IfOk result
+            (λ v. (trace : List Event) → host_told self.now ≡ Some trace
+            → ShowsSame (disk_of v.files v.locks) (disk (host_start self.now) trace)) }
+    {
+        show(self.alloc, &self.tape.standing)
+    }
+
+    /// The image of a stop inside the event of this number, counted from 1, of which this part was done: what
+    /// stands where the run ends there. Past the trace's end, and on a lost host, what it gives is open.
+    pub fn stop_at(&self, n: usize, part: &Part) -> Result<DiskView, Memory>
+        ensures { IfOk result
+            (λ v. (before rest : List Event) (e : Event) → host_told self.now ≡ Some (before ++ e ∷ rest)
+            → length before + 1 ≡ n
+            → ShowsSame (disk_of v.files v.locks) (stopped (disk (host_start self.now) before) e part.now)) }
+    {
+        image(self.alloc, &self.tape.start, &self.tape.trace, n, part)
+    }
+
+    /// Whether a call was refused memory. It takes no memory.
+    pub fn lost(&self) -> bool
+        ensures { IsTrue result ↔ (host_told self.now ≡ None) }
+    {
+        self.lost
+    }
+}
+
+impl Host for MemHost {
+    ghost use Rattle.host_memory.specs.MemHosts.{host_world, host_told, host_start, host_counts, is_failed_load, wants_memory, is_lost, next_part, input_left, next_input, after_input, after_output, after_disk, IsAsPlanned, IsDoneAsPlanned, SaysAsPlanned};
+
+    ghost world = { host_world };
+
+    fn fill(&mut self, buf: &mut [u8]) -> Result<usize, InFault>
+        requires { 0 < length buf.old }
+        ensures bound { IfOk result (λ n. n ≤ length buf.old) }
+        ensures start { host_start self.new ≡ host_start self.old }
+        ensures call { Calls host_world self.old self.new (Filled result buf.new) }
+        ensures counts { NeverFall (host_counts self.old) (host_counts self.new) }
+        ensures cause { OnErr result (Rose (host_counts self.old).ins (host_counts self.new).ins) }
+        ensures planned { IsAsPlanned self.old self.new (is_err result) }
+        ensures given { IfOk result (λ n. take n buf.new ≡ next_input self.old (length buf.old)) }
+        ensures left { IfOk result (λ n. input_left self.new ≡ drop n (input_left self.old)) }
+        ensures kept { OnErr result (input_left self.new ≡ input_left self.old) }
+        ensures counted { host_counts self.new ≡ after_input (is_err result) (host_counts self.old) }
+        ensures lost { is_lost self.new ≡ true → is_err result ≡ true }
+    {
+        self.calls = self.calls.saturating_add(1);
+        let fails = failing(self.plan.fails.items(), self.calls).is_some();
+        let whole = self.input.bytes();
+        let from = self.at.min(whole.len());
+        let n = (whole.len() - from).min(buf.len()).min(self.plan.chunk);
+        let n = if fails { 0 } else { n };
+        buf[..n].copy_from_slice(&whole[from..from + n]);
+        if !self.lost {
+            match tell_in(
+                self.alloc,
+                self.plan.foreign.items(),
+                self.calls,
+                &mut self.tape,
+                &buf[..n],
+                fails,
+            ) {
+                Ok(()) => {
+                    if !fails {
+                        self.at = from + n;
+                        return Ok(n);
+                    }
+                }
+                Err(_) => self.lost = true,
+            }
+        }
+        self.ins = self.ins.saturating_add(1);
+        Err(InFault)
+    }
+
+    fn say(&mut self, bytes: &[u8]) -> Result<(), OutFault>
+        ensures start { host_start self.new ≡ host_start self.old }
+        ensures call { Calls host_world self.old self.new (Said result bytes.now) }
+        ensures counts { NeverFall (host_counts self.old) (host_counts self.new) }
+        ensures cause { OnErr result (Rose (host_counts self.old).outs (host_counts self.new).outs) }
+        ensures planned { IsAsPlanned self.old self.new (is_err result) }
+        ensures sent { SaysAsPlanned self.old self.new bytes.now (is_err result) }
+        ensures kept { input_left self.new ≡ input_left self.old }
+        ensures counted { host_counts self.new ≡ after_output (is_err result) (host_counts self.old) }
+        ensures lost { is_lost self.new ≡ true → is_err result ≡ true }
+    {
+        self.calls = self.calls.saturating_add(1);
+        let part = failing(self.plan.fails.items(), self.calls);
+        let (sent, fails) = match part {
+            None => (bytes.len(), false),
+            Some(Part::After) => (bytes.len(), true),
+            Some(_) => (0, true),
+        };
+        if !self.lost {
+            match tell_out(
+                self.alloc,
+                self.plan.foreign.items(),
+                self.calls,
+                &mut self.tape,
+                &bytes[..sent],
+                fails,
+            ) {
+                Ok(()) => {
+                    if !fails {
+                        return Ok(());
+                    }
+                }
+                Err(_) => self.lost = true,
+            }
+        }
+        self.outs = self.outs.saturating_add(1);
+        Err(OutFault)
+    }
+
+    fn load(&mut self, alloc: Global, name: &[u8]) -> Result<LoadAnswer, LoadError>
+        requires { IsFileName name.now }
+        ensures start { host_start self.new ≡ host_start self.old }
+        ensures call { Calls host_world self.old self.new (Loaded name.now result) }
+        ensures counts { NeverFall (host_counts self.old) (host_counts self.new) }
+        ensures cause { LoadCause (host_counts self.old).disks (host_counts self.new).disks result }
+        ensures planned { IsAsPlanned self.old self.new (is_failed_load result) }
+        ensures kept { input_left self.new ≡ input_left self.old }
+        ensures counted { host_counts self.new ≡ after_disk (is_failed_load result) (host_counts self.old) }
+        ensures lost { wants_memory result ≡ is_lost self.new }
+    {
+        self.calls = self.calls.saturating_add(1);
+        if self.lost {
+            return Err(LoadError::Memory);
+        }
+        if failing(self.plan.fails.items(), self.calls).is_some() {
+            match tell_failed_load(
+                alloc,
+                self.plan.foreign.items(),
+                self.calls,
+                &mut self.tape,
+                name,
+            ) {
+                Ok(()) => {
+                    self.disks = self.disks.saturating_add(1);
+                    return Err(LoadError::Failed);
+                }
+                Err(_) => {
+                    self.lost = true;
+                    return Err(LoadError::Memory);
+                }
+            }
+        }
+        match tell_load(
+            alloc,
+            self.plan.foreign.items(),
+            self.calls,
+            &mut self.tape,
+            name,
+        ) {
+            Ok(answer) => answer,
+            Err(_) => {
+                self.lost = true;
+                Err(LoadError::Memory)
+            }
+        }
+    }
+
+    fn stage(&mut self, name: &[u8], bytes: &[u8]) -> Result<(), DiskFault>
+        requires { IsFileName name.now }
+        ensures start { host_start self.new ≡ host_start self.old }
+        ensures call { Calls host_world self.old self.new (Staged name.now bytes.now result) }
+        ensures counts { NeverFall (host_counts self.old) (host_counts self.new) }
+        ensures cause { OnErr result (Rose (host_counts self.old).disks (host_counts self.new).disks) }
+        ensures planned { IsDoneAsPlanned self.old self.new (event.Stage name.now (Some bytes.now) false)
+            (next_part self.old) (is_err result) }
+        ensures kept { input_left self.new ≡ input_left self.old }
+        ensures counted { host_counts self.new ≡ after_disk (is_err result) (host_counts self.old) }
+        ensures lost { is_lost self.new ≡ true → is_err result ≡ true }
+    {
+        self.calls = self.calls.saturating_add(1);
+        if !self.lost {
+            match tell_stage(
+                self.alloc,
+                &self.plan,
+                self.calls,
+                &mut self.tape,
+                name,
+                bytes,
+            ) {
+                Ok(Ok(())) => return Ok(()),
+                Ok(Err(_)) => {}
+                Err(_) => self.lost = true,
+            }
+        }
+        self.disks = self.disks.saturating_add(1);
+        Err(DiskFault)
+    }
+
+    fn publish(&mut self, from: &[u8], to: &[u8]) -> Result<bool, DiskFault>
+        requires source { IsFileName from.now }
+        requires target { IsFileName to.now }
+        ensures start { host_start self.new ≡ host_start self.old }
+        ensures call { Calls host_world self.old self.new (Published from.now to.now result) }
+        ensures counts { NeverFall (host_counts self.old) (host_counts self.new) }
+        ensures cause { OnErr result (Rose (host_counts self.old).disks (host_counts self.new).disks) }
+        ensures planned { IsDoneAsPlanned self.old self.new (event.Publish from.now to.now true false)
+            (next_part self.old) (is_err result) }
+        ensures kept { input_left self.new ≡ input_left self.old }
+        ensures counted { host_counts self.new ≡ after_disk (is_err result) (host_counts self.old) }
+        ensures lost { is_lost self.new ≡ true → is_err result ≡ true }
+    {
+        self.calls = self.calls.saturating_add(1);
+        if !self.lost {
+            match tell_publish(self.alloc, &self.plan, self.calls, &mut self.tape, from, to) {
+                Ok(Ok(answer)) => return Ok(answer),
+                Ok(Err(_)) => {}
+                Err(_) => self.lost = true,
+            }
+        }
+        self.disks = self.disks.saturating_add(1);
+        Err(DiskFault)
+    }
+
+    fn erase(&mut self, name: &[u8]) -> Result<(), DiskFault>
+        requires { IsFileName name.now }
+        ensures start { host_start self.new ≡ host_start self.old }
+        ensures call { Calls host_world self.old self.new (Erased name.now result) }
+        ensures counts { NeverFall (host_counts self.old) (host_counts self.new) }
+        ensures cause { OnErr result (Rose (host_counts self.old).disks (host_counts self.new).disks) }
+        ensures planned { IsDoneAsPlanned self.old self.new (event.Erase name.now true false)
+            (next_part self.old) (is_err result) }
+        ensures kept { input_left self.new ≡ input_left self.old }
+        ensures counted { host_counts self.new ≡ after_disk (is_err result) (host_counts self.old) }
+        ensures lost { is_lost self.new ≡ true → is_err result ≡ true }
+    {
+        self.calls = self.calls.saturating_add(1);
+        if !self.lost {
+            match tell_erase(self.alloc, &self.plan, self.calls, &mut self.tape, name) {
+                Ok(Ok(())) => return Ok(()),
+                Ok(Err(_)) => {}
+                Err(_) => self.lost = true,
+            }
+        }
+        self.disks = self.disks.saturating_add(1);
+        Err(DiskFault)
+    }
+
+    fn lock(&mut self, name: &[u8], token: u64) -> Result<bool, DiskFault>
+        requires { IsFileName name.now }
+        ensures start { host_start self.new ≡ host_start self.old }
+        ensures call { Calls host_world self.old self.new (Locked name.now token result) }
+        ensures counts { NeverFall (host_counts self.old) (host_counts self.new) }
+        ensures cause { OnErr result (Rose (host_counts self.old).disks (host_counts self.new).disks) }
+        ensures planned { IsDoneAsPlanned self.old self.new (event.Lock name.now token true false)
+            (next_part self.old) (is_err result) }
+        ensures kept { input_left self.new ≡ input_left self.old }
+        ensures counted { host_counts self.new ≡ after_disk (is_err result) (host_counts self.old) }
+        ensures lost { is_lost self.new ≡ true → is_err result ≡ true }
+    {
+        self.calls = self.calls.saturating_add(1);
+        if !self.lost {
+            match tell_lock(
+                self.alloc,
+                &self.plan,
+                self.calls,
+                &mut self.tape,
+                name,
+                token,
+            ) {
+                Ok(Ok(answer)) => return Ok(answer),
+                Ok(Err(_)) => {}
+                Err(_) => self.lost = true,
+            }
+        }
+        self.disks = self.disks.saturating_add(1);
+        Err(DiskFault)
+    }
+
+    fn unlock(&mut self, name: &[u8], token: u64) -> Result<(), DiskFault>
+        requires { IsFileName name.now }
+        ensures start { host_start self.new ≡ host_start self.old }
+        ensures call { Calls host_world self.old self.new (Unlocked name.now token result) }
+        ensures counts { NeverFall (host_counts self.old) (host_counts self.new) }
+        ensures cause { OnErr result (Rose (host_counts self.old).disks (host_counts self.new).disks) }
+        ensures planned { IsDoneAsPlanned self.old self.new (event.Unlock name.now token true false)
+            (next_part self.old) (is_err result) }
+        ensures kept { input_left self.new ≡ input_left self.old }
+        ensures counted { host_counts self.new ≡ after_disk (is_err result) (host_counts self.old) }
+        ensures lost { is_lost self.new ≡ true → is_err result ≡ true }
+    {
+        self.calls = self.calls.saturating_add(1);
+        if !self.lost {
+            match tell_unlock(
+                self.alloc,
+                &self.plan,
+                self.calls,
+                &mut self.tape,
+                name,
+                token,
+            ) {
+                Ok(Ok(())) => return Ok(()),
+                Ok(Err(_)) => {}
+                Err(_) => self.lost = true,
+            }
+        }
+        self.disks = self.disks.saturating_add(1);
+        Err(DiskFault)
+    }
+
+    fn seize(&mut self, name: &[u8]) -> Result<bool, DiskFault>
+        requires { IsFileName name.now }
+        ensures start { host_start self.new ≡ host_start self.old }
+        ensures call { Calls host_world self.old self.new (Seized name.now result) }
+        ensures counts { NeverFall (host_counts self.old) (host_counts self.new) }
+        ensures cause { OnErr result (Rose (host_counts self.old).disks (host_counts self.new).disks) }
+        ensures planned { IsDoneAsPlanned self.old self.new (event.Seize name.now true false)
+            (next_part self.old) (is_err result) }
+        ensures kept { input_left self.new ≡ input_left self.old }
+        ensures counted { host_counts self.new ≡ after_disk (is_err result) (host_counts self.old) }
+        ensures lost { is_lost self.new ≡ true → is_err result ≡ true }
+    {
+        self.calls = self.calls.saturating_add(1);
+        if !self.lost {
+            match tell_seize(self.alloc, &self.plan, self.calls, &mut self.tape, name) {
+                Ok(Ok(answer)) => return Ok(answer),
+                Ok(Err(_)) => {}
+                Err(_) => self.lost = true,
+            }
+        }
+        self.disks = self.disks.saturating_add(1);
+        Err(DiskFault)
+    }
+
+    fn release(&mut self, name: &[u8])
+        requires { IsFileName name.now }
+        ensures start { host_start self.new ≡ host_start self.old }
+        ensures call { Calls host_world self.old self.new (Released name.now) }
+        ensures counts { NeverFall (host_counts self.old) (host_counts self.new) }
+        ensures planned { IsDoneAsPlanned self.old self.new (event.Release name.now) None false }
+        ensures kept { input_left self.new ≡ input_left self.old }
+        ensures counted { host_counts self.new ≡ host_counts self.old }
+    {
+        self.calls = self.calls.saturating_add(1);
+        if self.lost {
+            return;
+        }
+        match tell_release(
+            self.alloc,
+            self.plan.foreign.items(),
+            self.calls,
+            &mut self.tape,
+            name,
+        ) {
+            Ok(()) => {}
+            Err(_) => self.lost = true,
+        }
+    }
+}

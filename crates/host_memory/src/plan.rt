@@ -1,0 +1,20 @@
+use host_port::{ForeignStep, Part};
+use mail_text::{Items, Text};
+
+/// A disk as a list of files and a list of the owners of locks. Of several pairs of one name the first counts.
+#[derive(Drop)]
+pub struct DiskView {
+    pub files: Items<(Text, Text)>,
+    pub locks: Items<(Text, u64)>,
+}
+
+/// What happens in a host in memory. Its calls are numbered from 1.
+#[derive(Drop)]
+pub struct Plan {
+    /// The most bytes that one fill gives, at least 1.
+    pub chunk: usize,
+    /// The steps of others, each before the call of its number.
+    pub foreign: Items<(u64, ForeignStep)>,
+    /// The calls that fail, with what they leave.
+    pub fails: Items<(u64, Part)>,
+}

@@ -1,0 +1,153 @@
+// What stands on the disk of a host in memory, and what events make of it.
+ghost use Rattle.std.specs.Prelude.{◌≡◌, List, ℕ, OnOk, OnErr, IfOk};
+ghost use Rattle.std.specs.Option.{option_copied};
+ghost use Rattle.host_port.specs.Disk.{with_at, after, after_step};
+ghost use Rattle.host_memory.specs.Standings.{disk_now};
+ghost use Rattle.host_port.specs.Disk.{SameDisk};
+ghost use Rattle.host_memory.specs.Views.{named};
+
+use crate::named::Named;
+use host_port::{Event, ForeignStep, Holder};
+use mail_text::{Memory, Text};
+use std::alloc::Global;
+
+/// The files, the owners of locks and the holders of rights, by name.
+#[derive(Drop)]
+pub struct Standing {
+    pub files: Named<Text>,
+    pub locks: Named<u64>,
+    pub rights: Named<Holder>,
+}
+
+/// A copy of what was found.
+pub fn copy_found(alloc: Global, found: Option<&Text>) -> Result<Option<Text>, Memory>
+    ensures { IfOk result (λ r. r ≡ option_copied found.entry) }
+{
+    match found {
+        None => Ok(None),
+        Some(text) => Ok(Some(Text::copy(alloc, text.bytes())?)),
+    }
+}
+
+/// Makes these bytes, or none, what stands at a name.
+pub fn write(
+    alloc: Global,
+    files: &mut Named<Text>,
+    name: &[u8],
+    bytes: Option<&Text>,
+) -> Result<(), Memory>
+    ensures ok { OnOk result
+        ((q : List ℕ) → named files.new q ≡ with_at (named files.old) name.now (option_copied bytes.entry) q) }
+    ensures err { OnErr result (files.new ≡ files.old) }
+{
+    match bytes {
+        None => files.put(alloc, name, None),
+        Some(text) => {
+            let copy = Text::copy(alloc, text.bytes())?;
+            files.put(alloc, name, Some(copy))
+        }
+    }
+}
+
+/// Gives a file another name.
+pub fn rename(alloc: Global, files: &mut Named<Text>, from: &[u8], to: &[u8]) -> Result<(), Memory>
+    ensures ok { OnOk result
+        ((q : List ℕ)
+        → named files.new q
+        ≡ with_at (with_at (named files.old) from.now None) to.now (named files.old from.now) q) }
+    ensures err { OnErr result (files.new ≡ files.old) }
+{
+    if from == to {
+        return Ok(());
+    }
+    match files.get(from) {
+        None => files.put(alloc, to, None)?,
+        Some(text) => {
+            let copy = Text::copy(alloc, text.bytes())?;
+            files.put(alloc, to, Some(copy))?;
+        }
+    }
+    files.clear(from);
+    Ok(())
+}
+
+/// Carries out a step of another. After want of memory all is as before.
+pub fn effect_of_step(alloc: Global, disk: &mut Standing, step: &ForeignStep) -> Result<(), Memory>
+    ensures ok { OnOk result (SameDisk (disk_now disk.new) (after_step (disk_now disk.old) step.now)) }
+    ensures err { OnErr result (disk.new ≡ disk.old) }
+{
+    match step {
+        ForeignStep::Write { name, bytes } => {
+            write(alloc, &mut disk.files, name.bytes(), Some(bytes))
+        }
+        ForeignStep::Remove { name } => disk.files.put(alloc, name.bytes(), None),
+        ForeignStep::Lock { name, token } => {
+            if disk.locks.has(name.bytes()) {
+                return Ok(());
+            }
+            disk.locks.put(alloc, name.bytes(), Some(*token))
+        }
+        ForeignStep::Unlock { name, token } => {
+            if disk.locks.get(name.bytes()) != Some(token) {
+                return Ok(());
+            }
+            disk.locks.put(alloc, name.bytes(), None)
+        }
+        ForeignStep::Seize { name } => {
+            if disk.rights.has(name.bytes()) {
+                return Ok(());
+            }
+            disk.rights.put(alloc, name.bytes(), Some(Holder::Other))
+        }
+        ForeignStep::Release { name } => {
+            if disk.rights.get(name.bytes()) != Some(&Holder::Other) {
+                return Ok(());
+            }
+            disk.rights.put(alloc, name.bytes(), None)
+        }
+    }
+}
+
+/// Carries out what an event says. After want of memory all is as before.
+pub fn effect(alloc: Global, disk: &mut Standing, event: &Event) -> Result<(), Memory>
+    ensures ok { OnOk result (SameDisk (disk_now disk.new) (after (disk_now disk.old) event.now)) }
+    ensures err { OnErr result (disk.new ≡ disk.old) }
+{
+    match event {
+        Event::Stage { name, bytes, .. } => {
+            write(alloc, &mut disk.files, name.bytes(), bytes.as_ref())
+        }
+        Event::Publish {
+            from,
+            to,
+            done: true,
+            ..
+        } => rename(alloc, &mut disk.files, from.bytes(), to.bytes()),
+        Event::Erase {
+            name,
+            done: true,
+            ..
+        } => disk.files.put(alloc, name.bytes(), None),
+        Event::Lock {
+            name,
+            token,
+            got: true,
+            ..
+        } => disk.locks.put(alloc, name.bytes(), Some(*token)),
+        Event::Unlock {
+            name,
+            done: true,
+            ..
+        } => disk.locks.put(alloc, name.bytes(), None),
+        Event::Seize {
+            name,
+            got: true,
+            ..
+        } => disk.rights.put(alloc, name.bytes(), Some(Holder::Own)),
+        Event::Release { name } if disk.rights.get(name.bytes()) == Some(&Holder::Own) => {
+            disk.rights.put(alloc, name.bytes(), None)
+        }
+        Event::Foreign { step } => effect_of_step(alloc, disk, step),
+        _ => Ok(()),
+    }
+}

@@ -1,6 +1,0 @@
-use Rattle.std.proofs.Common.{◌≡◌, ℕ, List, take}
-use Rattle.host_port.specs.Views.{lookup, named, names_of, among}
-use Rattle.host_port.proofs.tape.show_locks.Given as goal
-
-abbrev pub invariant-loop-k : goal.invariant-loop-k
-invariant-loop-k l = (q : List ℕ) → lookup l.shown q ≡ among (take l.k (names_of l.locks)) q (named l.locks q)
