@@ -178,7 +178,8 @@ fn read_grouped(
     keep: Keep,
     list: &mut Vec<Address>,
 ) -> Result<bool, Memory>
-    ensures { IfOk result (AddsIf keep (IsGrouped (tokens_in front.now) (tokens_in back.now)) list.old.items list.new.items) }
+    ensures { IfOk result
+        (AddsIf keep (IsGrouped (tokens_in front.now) (tokens_in back.now)) list.old.items list.new.items) }
 {
     let parts = split_at_mark(back, b';');
     match parts {
