@@ -1,6 +1,6 @@
 -- Bytes that are told to be atoms' by their place alone.
-use Rattle.std.proofs.Common.{◌≡◌, ℕ, ◌<◌, ◌≤◌, Bool, true, false, not, ◌==◌, nat_lt, ◌&&◌, refl, sym, ap, ◌∙◌, ⊎_elim, arith}
-use Rattle.std.proofs.lemmas.Bool.{ne_eqb, lt-ltb, or_from, and_from, cases_Bool}
+use Rattle.std.proofs.Common.{◌≡◌, ℕ, ◌<◌, ◌≤◌, Bool, true, false, not, ◌==◌, ◌&&◌, refl, ap, ◌∙◌, arith}
+use Rattle.std.proofs.lemmas.Bool.{ne_eqb, lt-ltb, or_from}
 use Rattle.mail_addresses.specs.Lexical.{is_special, is_atom_byte}
 
 no_special_above : (b : ℕ) → 93 < b → is_special b ≡ false

@@ -1,16 +1,11 @@
 -- Where a comment ends: the bytes after the opening parenthesis are read from the front.
-use Rattle.std.proofs.Common.{◌≡◌, ◌≢◌, ℕ, zero, suc, ◌+◌, ◌-◌, ◌<◌, ◌≤◌, Bool, true, false, ◌==◌, if◌then◌else◌, List, [], ◌∷◌, ◌++◌, Option, Some, None, refl, sym, ap, ◌∙◌, length, length-append, drop, get_or, take, arith, subst, append_assoc, add-one, inl, inr}
+use Rattle.std.proofs.Common.{◌≡◌, ◌≢◌, ℕ, zero, suc, ◌+◌, ◌-◌, ◌<◌, ◌≤◌, Bool, true, false, List, [], ◌∷◌, ◌++◌, Some, None, refl, sym, ap, ◌∙◌, length, length-append, drop, get_or, take, arith, subst, append_assoc, add-one, inl, inr}
 use Rattle.std.proofs.lemmas.Bool.{cases_eq, cond-true, cond-false, eq-eqb, ne_eqb}
 use Rattle.std.proofs.lemmas.List.{at_drop_more, at_drop_all}
 use Rattle.mail_addresses.specs.Lexical.{IsCommentContent}
 use Rattle.mail_addresses.specs.Lexical.IsCommentContent.{none, byte, pair, inner}
+use Rattle.mail_addresses.specs.Tokens.{close}
 use Rattle.mail_addresses.proofs.ListLemmas.{cut_here}
-
--- the place of the parenthesis that closes a comment, after i bytes, after a backslash or not, and with so many further comments open
-unfoldable pub close : Bool → ℕ → ℕ → List ℕ → Option ℕ
-close escaped depth i [] = None
-close true depth i (b ∷ bs) = close false depth (i + 1) bs
-close false depth i (b ∷ bs) = if b == 92 then close true depth (i + 1) bs else (if b == 40 then close false (depth + 1) (i + 1) bs else (if b == 41 then (if depth == 0 then Some i else close false (depth - 1) (i + 1) bs) else close false depth (i + 1) bs))
 
 pub close-backslash : (d i b : ℕ) (bs : List ℕ) → b ≡ 92 → close false d i (b ∷ bs) ≡ close true d (i + 1) bs
 unfolding close

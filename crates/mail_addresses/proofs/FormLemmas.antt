@@ -1,10 +1,8 @@
 -- Which tokens the forms have, and that a spec is cut in one way.
-use Rattle.std.proofs.Common.{◌≡◌, ◌≢◌, ℕ, Bool, true, false, List, [], ◌∷◌, ◌++◌, inl, inr, refl, sym, ap, ◌∙◌, length, subst, take, drop, ◌-◌, take-append-drop, arith}
+use Rattle.std.proofs.Common.{◌≡◌, ◌≢◌, ℕ, Bool, true, false, List, [], ◌∷◌, ◌++◌, inl, inr, refl, sym, ap, ◌∙◌, length, subst, arith}
 use Rattle.std.specs.List.{list_all, list_any}
 use Rattle.std.proofs.lemmas.Bool.{and_parts, and_from, or_cases, or_from, or_right, both_ways, eqb-true, ne_eqb, false≢true, not-true, not_from_true}
 use Rattle.std.proofs.lemmas.List.Folds.{list_all-append}
-use Rattle.std.proofs.lemmas.List.{take_rest}
-use Rattle.mail_addresses.proofs.TokenLemmas.{texts-append}
 use Rattle.mail_addresses.specs.Lexical.{Lexeme, blanks, comment, atom, quoted, literal, mark, unclosed, texts, begins}
 use Rattle.mail_addresses.specs.Forms.{is_gap, is_solid, is_mark, is_atom, is_quoted, is_domain_literal, is_dot_atom, is_one, is_local_part, is_domain, IsSpec, GivesSpec}
 use Rattle.mail_addresses.specs.declared.address.Address.{Address}
@@ -204,12 +202,3 @@ is_cut ts front rest run after e f gaps starts solid ends = record {
   solid = solid;
   ends = ends;
 }
-
--- the texts of a front and then of the others are all texts
-pub texts_put : (ts : List Lexeme) (k : ℕ) (empty first both : List ℕ) → empty ≡ [] → first ≡ empty ++ texts (take k ts) → both ≡ first ++ texts (take (length ts - k) (drop k ts)) → (first ≡ texts (take k ts)) × (both ≡ texts ts)
-texts_put ts k empty first both e f g =
-    let first_is : first ≡ texts (take k ts) = f ∙ ap (λ (xs : List ℕ). xs ++ texts (take k ts)) e in (
-      first_is,
-      g ∙ ap (λ (xs : List ℕ). xs ++ texts (take (length ts - k) (drop k ts))) first_is ∙ ap (λ (us : List Lexeme). texts (take k ts) ++ texts us) (take_rest ts k)
-          ∙ sym (texts-append (take k ts) (drop k ts)) ∙ ap texts (take-append-drop k ts),
-    )

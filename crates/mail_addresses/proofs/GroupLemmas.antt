@@ -8,6 +8,8 @@ use Rattle.mail_addresses.specs.declared.pieces.Place.TheVariants.{Outside}
 use Rattle.mail_addresses.specs.Lexical.{Lexeme, mark}
 use Rattle.mail_addresses.specs.Forms.{is_gap, is_mark, Lacks, IsDisplayName, IsMailbox}
 use Rattle.mail_addresses.specs.Listing.{place_after, is_cut, in_first, pieces_from, pieces, Gives, Lists, SpellsMailbox, IsGrouped, SpellsGroup, Spells, IsBad}
+use Rattle.mail_addresses.specs.declared.read.Keep.{Keep}
+use Rattle.mail_addresses.specs.Keeping.{kept}
 use Rattle.mail_addresses.proofs.ListLemmas.{split_unique}
 use Rattle.mail_addresses.proofs.FormLemmas.{one_mark}
 use Rattle.mail_addresses.proofs.PieceLemmas.{cut_is_comma}
@@ -88,20 +90,20 @@ pub no_group : (piece : List Lexeme) (list : List Address) → Lacks 58 piece �
 no_group piece list lacks (first, (rest, whole, is)) = both_ways _ lacks (ap (list_any (is_mark 58)) whole ∙ has_mark 58 first rest)
 
 -- an answer for one form of list is an answer for another
-pub added : {E : Type 0} (r : Result Bool E) (old new : List Address) (Said Form : List Address → Type 0) → ((list : List Address) → Said list → Form list) → ((list : List Address) → Form list → Said list)
-    → IfOk r (λ good. MatchBool good ((list : List Address) × (new ≡ old ++ list) × Said list) ((list : List Address) → Said list → ⊥))
-    → IfOk r (λ good. MatchBool good ((list : List Address) × (new ≡ old ++ list) × Form list) ((list : List Address) → Form list → ⊥))
-added (Err e) old new Said Form f g h = tt
-added (Ok true) old new Said Form f g (list, put, said) = (list, put, f list said)
-added (Ok false) old new Said Form f g h = λ list form. h list (g list form)
+pub added : {E : Type 0} (keep : Keep) (r : Result Bool E) (old new : List Address) (Said Form : List Address → Type 0) → ((list : List Address) → Said list → Form list) → ((list : List Address) → Form list → Said list)
+    → IfOk r (λ good. MatchBool good ((list : List Address) × (new ≡ kept keep old list) × Said list) ((list : List Address) → Said list → ⊥))
+    → IfOk r (λ good. MatchBool good ((list : List Address) × (new ≡ kept keep old list) × Form list) ((list : List Address) → Form list → ⊥))
+added keep (Err e) old new Said Form f g h = tt
+added keep (Ok true) old new Said Form f g (list, put, said) = (list, put, f list said)
+added keep (Ok false) old new Said Form f g h = λ list form. h list (g list form)
 
 -- what a piece that is neither blanks nor a mailbox gives, by what it spells as a group
-pub piece_answers : {E : Type 0} (r : Result Bool E) (old new : List Address) (piece : List Lexeme) → list_all is_gap piece ≡ false → ((a : Address) → IsMailbox piece a → ⊥)
-    → IfOk r (λ good. MatchBool good ((list : List Address) × (new ≡ old ++ list) × SpellsGroup piece list) ((list : List Address) → SpellsGroup piece list → ⊥))
-    → IfOk r (λ good. MatchBool good ((list : List Address) × (new ≡ old ++ list) × Gives Spells piece list) (IsBad piece))
-piece_answers (Err e) old new piece gaps none h = tt
-piece_answers (Ok true) old new piece gaps none (list, put, group) = (list, put, inr (inr group))
-piece_answers (Ok false) old new piece gaps none h = (gaps, bad)
+pub piece_answers : {E : Type 0} (keep : Keep) (r : Result Bool E) (old new : List Address) (piece : List Lexeme) → list_all is_gap piece ≡ false → ((a : Address) → IsMailbox piece a → ⊥)
+    → IfOk r (λ good. MatchBool good ((list : List Address) × (new ≡ kept keep old list) × SpellsGroup piece list) ((list : List Address) → SpellsGroup piece list → ⊥))
+    → IfOk r (λ good. MatchBool good ((list : List Address) × (new ≡ kept keep old list) × Gives Spells piece list) (IsBad piece))
+piece_answers keep (Err e) old new piece gaps none h = tt
+piece_answers keep (Ok true) old new piece gaps none (list, put, group) = (list, put, inr (inr group))
+piece_answers keep (Ok false) old new piece gaps none h = (gaps, bad)
   where
     bad : (list : List Address) → Spells piece list → ⊥
     bad list (inl (a, e, is)) = none a is

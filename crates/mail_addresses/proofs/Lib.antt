@@ -16,3 +16,5 @@ pub mod PlainLemmas
 pub mod TotalLemmas
 pub mod PieceReading
 pub mod CutAgain
+pub mod Walks
+pub mod KeepLemmas

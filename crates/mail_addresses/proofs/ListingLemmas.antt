@@ -1,12 +1,12 @@
 -- Lists of addresses: pieces read one after another.
-use Rattle.std.proofs.Common.{◌≡◌, ℕ, ◌+◌, false, List, [], ◌∷◌, ◌++◌, inl, inr, refl, sym, ap, ◌∙◌, subst, arith, append_assoc, ◌<◌, ◌≤◌, ◌-◌, length, take, drop}
+use Rattle.std.proofs.Common.{◌≡◌, ℕ, ◌+◌, false, List, [], ◌∷◌, ◌++◌, inl, inr, refl, sym, subst, arith, append_assoc}
 use Rattle.std.specs.List.{list_all}
-use Rattle.std.proofs.lemmas.Bool.{both_ways, cases_eq}
-use Rattle.std.proofs.lemmas.List.{append-nil, take_rest}
+use Rattle.std.proofs.lemmas.Bool.{both_ways}
+use Rattle.std.proofs.lemmas.List.{append-nil}
 use Rattle.mail_addresses.specs.declared.address.Address.{Address}
 use Rattle.mail_addresses.specs.Lexical.{Lexeme}
 use Rattle.mail_addresses.specs.Forms.{is_gap, IsMailbox}
-use Rattle.mail_addresses.specs.Listing.{pieces, Gives, Lists, SpellsMailbox, Spells, IsBad, IsFirstBad}
+use Rattle.mail_addresses.specs.Listing.{Gives, Lists, SpellsMailbox, Spells, IsBad, IsFirstBad}
 
 -- what pieces may spell
 abbrev pub Form : Type 1
@@ -28,9 +28,6 @@ lists_step S whole list rest piece added here e gives so_far later lists =
 pub lists_end : (S : Form) (whole list : List (List Lexeme)) (piece : List Lexeme) (added here : List Address) → list ≡ piece ∷ [] → Gives S piece here
     → ((later : List Address) → Lists S list later → Lists S whole (added ++ later)) → Lists S whole (added ++ here)
 lists_end S whole list piece added here e gives so_far = so_far here (lists_last S list piece here e gives)
-
-pub put_more : (first added here old new : List Address) → old ≡ first ++ added → new ≡ old ++ here → new ≡ first ++ (added ++ here)
-put_more first added here old new e f = f ∙ ap (λ (xs : List Address). xs ++ here) e ∙ append_assoc first added here
 
 -- the first bad piece of the whole, once a piece more is read
 pub bad_step : (whole list rest : List (List Lexeme)) (piece : List Lexeme) (here : List Address) (number : ℕ) → list ≡ piece ∷ rest → Gives Spells piece here
@@ -54,16 +51,3 @@ lists_others S list rest piece e all lists = let l = subst (λ (ps : List (List 
 pub no_member : (piece : List Lexeme) → list_all is_gap piece ≡ false → ((a : Address) → IsMailbox piece a → ⊥) → (added : List Address) → Gives SpellsMailbox piece added → ⊥
 no_member piece gaps none added (inl (g, e)) = both_ways _ gaps g
 no_member piece gaps none added (inr (a, e, is)) = none a is
-
--- the first piece, whether a comma cuts it off or not
-pub first_is : (ts : List Lexeme) (n : ℕ) → n ≤ length ts → (n ≡ length ts → pieces ts ≡ take n ts ∷ []) → (n < length ts → pieces ts ≡ take n ts ∷ pieces (drop (n + 1) ts))
-    → (others : List (List Lexeme)) × (pieces ts ≡ take n ts ∷ others)
-first_is ts n within last cut =
-    elim (cases_eq n (length ts)) [
-      | inl e ↦ ([], last e)
-      | inr less ↦ (pieces (drop (n + 1) ts), cut (omega arith))
-    ]
-
--- the rest as code writes it
-pub rest_is : (ts : List Lexeme) (n : ℕ) → take (length ts - n) (drop n ts) ≡ drop n ts
-rest_is ts n = take_rest ts n

@@ -1,7 +1,7 @@
 -- What names stand for: quoted strings without their backslashes, and parts joined.
 use Rattle.std.proofs.Common.{◌≡◌, ◌≢◌, ℕ, suc, ◌+◌, ◌-◌, take, ◌<◌, ◌≤◌, Bool, true, false, not, ◌||◌, ◌==◌, if◌then◌else◌, List, [], ◌∷◌, ◌++◌, Option, Some, None, MatchBool, ◌⊎◌, inl, inr, refl, sym, ap, ◌∙◌, subst, length, drop, get_or, arith, append_assoc}
 use Rattle.std.specs.List.{list_all}
-use Rattle.std.proofs.lemmas.Bool.{cond-true, cond-false, eq-eqb, ne_eqb, eqb-true, false≢true, and_parts, and_from, or_right, cases_Bool}
+use Rattle.std.proofs.lemmas.Bool.{cond-true, cond-false, ne_eqb, eqb-true, false≢true, and_parts, and_from, or_right, cases_Bool}
 use Rattle.std.proofs.lemmas.List.{append-nil, take_all, at_drop_more, at_drop_all}
 use Rattle.mail_addresses.specs.Lexical.{Lexeme, blanks, comment, atom, quoted, literal, mark, unclosed}
 use Rattle.mail_addresses.specs.Forms.{unescaped, is_gap, is_part, part_text, IsName, IsDisplayName, spaced}

@@ -1,7 +1,6 @@
 -- Pieces: the first one, while its tokens are walked over.
-use Rattle.std.proofs.Common.{◌≡◌, ℕ, ◌+◌, ◌<◌, ◌≤◌, true, false, List, [], ◌∷◌, ◌++◌, refl, sym, ap, ◌∙◌, length, drop, get_or, take, append_assoc, inl, inr}
+use Rattle.std.proofs.Common.{◌≡◌, true, List, [], ◌∷◌, ◌++◌, refl, sym, ap, ◌∙◌, append_assoc, inl, inr}
 use Rattle.std.proofs.lemmas.Bool.{cases_Bool, cond-true, cond-false, false≢true}
-use Rattle.std.proofs.lemmas.List.{append-nil, at_drop_more, at_drop_all, take_more}
 use Rattle.mail_addresses.specs.Lexical.{Lexeme}
 use Rattle.mail_addresses.specs.declared.pieces.Place.{Place}
 use Rattle.mail_addresses.specs.declared.pieces.Place.TheVariants.{Outside, Brackets, Group, GroupBrackets}
@@ -39,30 +38,6 @@ with_front-nil place ts = let l = full place ts in ap (with_front []) l.whole �
 pub with_front-in_first : (front : List Lexeme) (t : Lexeme) (list : List (List Lexeme)) → IsFull list → with_front front (in_first t list) ≡ with_front (front ++ t ∷ []) list
 with_front-in_first front t list l =
     ap (λ (m : List (List Lexeme)). with_front front (in_first t m)) l.whole ∙ ap (λ (p : List Lexeme). p ∷ l.others) (sym (append_assoc front (t ∷ []) l.first)) ∙ ap (with_front (front ++ t ∷ [])) (sym l.whole)
-
--- the next token doesn't cut
-pub pieces-more : (place next : Place) (i : ℕ) (ts : List Lexeme) (t : Lexeme) → i < length ts → t ≡ get_or ts i t → is_cut place t ≡ false → next ≡ place_after place t
-    → with_front (take (i + 1) ts) (pieces_from next (drop (i + 1) ts)) ≡ with_front (take i ts) (pieces_from place (drop i ts))
-unfolding pieces_from
-pieces-more place next i ts t lt is e n =
-    let later = pieces_from (place_after place t) (drop (i + 1) ts) in
-    let here : pieces_from place (drop i ts) ≡ in_first t later = at_drop_more (pieces_from place) ts i t lt ∙ ap (λ (u : Lexeme). pieces_from place (u ∷ drop (i + 1) ts)) (sym is) ∙ cond-false _ _ _ e in
-    ap (λ (p : Place). with_front (take (i + 1) ts) (pieces_from p (drop (i + 1) ts))) n
-    ∙ ap (λ (f : List Lexeme). with_front f later) (take_more ts i t lt ∙ ap (λ (u : Lexeme). take i ts ++ u ∷ []) (sym is))
-    ∙ sym (ap (with_front (take i ts)) here ∙ with_front-in_first (take i ts) t later (full (place_after place t) (drop (i + 1) ts)))
-
--- the next token cuts
-pub pieces-cut : (place : Place) (i : ℕ) (ts : List Lexeme) (t : Lexeme) → i < length ts → t ≡ get_or ts i t → is_cut place t ≡ true
-    → with_front (take i ts) (pieces_from place (drop i ts)) ≡ take i ts ∷ pieces (drop (i + 1) ts)
-unfolding pieces_from
-pieces-cut place i ts t lt is e =
-    ap (with_front (take i ts)) (at_drop_more (pieces_from place) ts i t lt ∙ ap (λ (u : Lexeme). pieces_from place (u ∷ drop (i + 1) ts)) (sym is) ∙ cond-true _ _ _ e) ∙ ap (λ (f : List Lexeme). f ∷ pieces (drop (i + 1) ts)) (append-nil (take i ts))
-
--- no token is left
-pub pieces-end : (place : Place) (i : ℕ) (ts : List Lexeme) → length ts ≤ i → with_front (take i ts) (pieces_from place (drop i ts)) ≡ take i ts ∷ []
-unfolding pieces_from
-pieces-end place i ts h =
-    ap (with_front (take i ts)) (at_drop_all (pieces_from place) ts i h) ∙ ap (λ (f : List Lexeme). f ∷ []) (append-nil (take i ts))
 
 pub cut_is_comma : (place : Place) (t : Lexeme) → is_cut place t ≡ true → is_mark 44 t ≡ true
 cut_is_comma Outside t h = h

@@ -1,13 +1,13 @@
 -- Pieces read one by one from the bytes of a value.
-use Rattle.std.proofs.Common.{◌≡◌, ℕ, ◌+◌, ◌<◌, ◌≤◌, true, false, List, [], ◌∷◌, ◌++◌, length, Option, Some, None, MatchOption, refl, sym, ap, ◌∙◌, subst, arith, append_assoc}
+use Rattle.std.proofs.Common.{◌≡◌, ℕ, ◌+◌, true, false, List, [], ◌∷◌, ◌++◌, Option, Some, None, MatchOption, refl, sym, ap, ◌∙◌, subst, arith, append_assoc}
 use Rattle.std.specs.Borrow.{Bor}
 use Rattle.std.proofs.lemmas.Bool.{cond-true, cond-false}
 use Rattle.std.proofs.lemmas.List.{append-nil}
 use Rattle.mail_addresses.specs.declared.address.Address.{Address}
 use Rattle.mail_addresses.specs.declared.pieces.Place.{Place}
 use Rattle.mail_addresses.specs.declared.pieces.Place.TheVariants.{Outside}
-use Rattle.mail_addresses.specs.Lexical.{Lexeme, mark, text_of, texts, IsToken, StandBefore, AreTokens}
-use Rattle.mail_addresses.specs.Listing.{place_after, is_cut, in_first, pieces_from, pieces, Gives, Lists, Spells, IsBad, IsFirstBad, Reads, IsFault}
+use Rattle.mail_addresses.specs.Lexical.{Lexeme, mark, text_of, texts, IsToken, AreTokens}
+use Rattle.mail_addresses.specs.Listing.{place_after, is_cut, pieces_from, pieces, Gives, Lists, Spells, IsBad, IsFirstBad, Reads, IsFault}
 use Rattle.mail_addresses.specs.Plain.{AreFront}
 use Rattle.mail_addresses.specs.Pieces.{IsLastPiece, IsPieceBefore}
 use Rattle.mail_addresses.proofs.TokenLemmas.{token_less}

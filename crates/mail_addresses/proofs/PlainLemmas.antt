@@ -1,12 +1,12 @@
 -- Addresses as most are written: the tokens of their parts, and the list that they are.
-use Rattle.std.proofs.Common.{◌≡◌, ◌≢◌, ℕ, ◌+◌, ◌-◌, ◌<◌, ◌≤◌, suc, Bool, true, false, ◌==◌, Option, Some, None, IfSome, List, [], ◌∷◌, ◌++◌, inl, inr, refl, sym, ap, ◌∙◌, subst, length, take, drop, take-append-drop, get_or, arith, append_assoc, length-append}
+use Rattle.std.proofs.Common.{◌≡◌, ℕ, ◌+◌, ◌-◌, ◌<◌, ◌≤◌, suc, Bool, true, false, ◌==◌, Option, Some, None, IfSome, List, [], ◌∷◌, ◌++◌, inl, inr, refl, sym, ap, ◌∙◌, subst, length, take, drop, take-append-drop, get_or, arith, append_assoc, length-append}
 use Rattle.std.proofs.lemmas.Bool.{or_left, or_parts, and_parts, cond-false, ne_eqb, false≢true}
 use Rattle.std.specs.List.{list_all}
 use Rattle.std.proofs.lemmas.List.{append-nil, take_at}
 use Rattle.mail_addresses.specs.declared.address.Address.{Address}
 use Rattle.mail_addresses.specs.declared.pieces.Place.{Place}
 use Rattle.mail_addresses.specs.declared.pieces.Place.TheVariants.{Outside, Brackets, Group, GroupBrackets}
-use Rattle.mail_addresses.specs.Lexical.{Lexeme, blanks, atom, quoted, mark, text_of, texts, begins, is_blank_byte, is_atom_byte, is_special, IsRun, IsQuotedContent, IsToken, StandBefore}
+use Rattle.mail_addresses.specs.Lexical.{Lexeme, blanks, atom, quoted, mark, text_of, texts, begins, is_blank_byte, is_atom_byte, is_special, IsQuotedContent, IsToken, StandBefore}
 use Rattle.mail_addresses.specs.Forms.{is_mark, Lacks, is_dot_atom, IsSpec, GivesSpec, unescaped, IsName, IsMailbox}
 use Rattle.mail_addresses.specs.Forms.IsName.{one}
 use Rattle.mail_addresses.specs.Listing.{is_cut, in_first, place_after, pieces_from, pieces, Spells, Reads}

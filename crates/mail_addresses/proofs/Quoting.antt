@@ -1,16 +1,11 @@
 -- Where a quoted string ends: the bytes after the opening quote are read from the front.
-use Rattle.std.proofs.Common.{◌≡◌, ◌≢◌, ℕ, ◌+◌, ◌<◌, ◌≤◌, Bool, true, false, ◌==◌, if◌then◌else◌, List, [], ◌∷◌, ◌++◌, Option, Some, None, refl, sym, ap, ◌∙◌, length, drop, get_or, take, arith, subst, inl, inr}
+use Rattle.std.proofs.Common.{◌≡◌, ◌≢◌, ℕ, ◌+◌, ◌<◌, ◌≤◌, Bool, true, false, List, [], ◌∷◌, ◌++◌, Some, None, refl, sym, ap, ◌∙◌, length, drop, get_or, take, arith, subst, inl, inr}
 use Rattle.std.proofs.lemmas.Bool.{cases_eq, cond-true, cond-false, eq-eqb, ne_eqb}
 use Rattle.std.proofs.lemmas.List.{at_drop_more, at_drop_all}
 use Rattle.mail_addresses.specs.Lexical.{IsQuotedContent}
 use Rattle.mail_addresses.specs.Lexical.IsQuotedContent.{none, byte, pair}
+use Rattle.mail_addresses.specs.Tokens.{unquote}
 use Rattle.mail_addresses.proofs.ListLemmas.{cut_here}
-
--- the place of the quote that closes a quoted string, after i bytes, after a backslash or not
-unfoldable pub unquote : Bool → ℕ → List ℕ → Option ℕ
-unquote escaped i [] = None
-unquote true i (b ∷ bs) = unquote false (i + 1) bs
-unquote false i (b ∷ bs) = if b == 92 then unquote true (i + 1) bs else (if b == 34 then Some i else unquote false (i + 1) bs)
 
 pub unquote-escaped : (i b : ℕ) (bs : List ℕ) → unquote true i (b ∷ bs) ≡ unquote false (i + 1) bs
 unfolding unquote

@@ -5,45 +5,11 @@ use Rattle.std.proofs.lemmas.Bool.{and_parts, or_parts, cond-true, cond-false, e
 use Rattle.std.proofs.lemmas.List.{append-nil, take_at, drop_at}
 use Rattle.mail_addresses.specs.Lexical.{is_blank_byte, is_special, is_atom_byte, IsCommentContent, IsQuotedContent, IsLiteralContent, NeverEnds, Lexeme, blanks, comment, atom, quoted, literal, mark, unclosed, text_of, texts, begins, IsRun, NeverCloses, IsToken, StandBefore, AreTokens}
 use Rattle.mail_addresses.specs.Lexical.NeverCloses.{comment_open, quote_open, literal_open}
+use Rattle.mail_addresses.specs.Tokens.{close, unquote, Step, step, enclosed, count_while, one_more, find_byte, run_step, first_step}
 use Rattle.mail_addresses.proofs.ListLemmas.{cut_here, empty_front}
-use Rattle.mail_addresses.proofs.Closing.{close, comment_found, comment_place}
-use Rattle.mail_addresses.proofs.Quoting.{unquote, quoted_found, quoted_place}
+use Rattle.mail_addresses.proofs.Closing.{comment_found, comment_place}
+use Rattle.mail_addresses.proofs.Quoting.{quoted_found, quoted_place}
 use Rattle.mail_addresses.proofs.TokenLemmas.{token_some}
-
--- a token and what follows it
-record Step : Type 0 where
-  token : Lexeme
-  rest : List ℕ
-
-abbrev step : Lexeme → List ℕ → Step
-step t rest = record { token = t; rest = rest }
-
--- a token with this content and end, or the whole as unclosed
-enclosed : (List ℕ → Lexeme) → List ℕ → List ℕ → Option ℕ → Step
-enclosed make whole inside None = step (unclosed whole) []
-enclosed make whole inside (Some n) = step (make (take n inside)) (drop (n + 1) inside)
-
--- how many bytes at the front pass
-count_while : (ℕ → Bool) → List ℕ → ℕ
-count_while p [] = 0
-count_while p (b ∷ bs) = if p b then count_while p bs + 1 else 0
-
-one_more : Option ℕ → Option ℕ
-one_more None = None
-one_more (Some n) = Some (n + 1)
-
--- the place of the first byte that passes
-find_byte : (ℕ → Bool) → List ℕ → Option ℕ
-find_byte p [] = None
-find_byte p (b ∷ bs) = if p b then Some 0 else one_more (find_byte p bs)
-
-run_step : (List ℕ → Lexeme) → (ℕ → Bool) → List ℕ → Step
-run_step make p bs = step (make (take (count_while p bs) bs)) (drop (count_while p bs) bs)
-
--- the first token, computed
-first_step : List ℕ → Step
-first_step [] = step (unclosed []) []
-first_step (b ∷ bs) = if b == 40 then enclosed comment (b ∷ bs) bs (close false 0 0 bs) else (if b == 34 then enclosed quoted (b ∷ bs) bs (unquote false 0 bs) else (if b == 91 then enclosed literal (b ∷ bs) bs (find_byte (λ c. c == 93) bs) else (if is_blank_byte b then run_step blanks is_blank_byte (b ∷ bs) else (if is_atom_byte b then run_step atom is_atom_byte (b ∷ bs) else step (mark b) bs))))
 
 count_while_run : (p : ℕ → Bool) (run rest : List ℕ) → list_all p run ≡ true → begins p rest ≡ false → count_while p (run ++ rest) ≡ length run
 unfolding count_while
@@ -178,7 +144,7 @@ unclosed_step (b ∷ bs) (quote_open never) = never_quote bs (unquote false 0 bs
 unclosed_step (b ∷ bs) (literal_open never) = never_bracket bs (find_byte (λ c. c == 93) bs) refl never
 
 -- a token that stands rightly is the first one
-first_is : (t : Lexeme) (rest : List ℕ) → IsToken t rest → first_step (text_of t ++ rest) ≡ step t rest
+pub first_is : (t : Lexeme) (rest : List ℕ) → IsToken t rest → first_step (text_of t ++ rest) ≡ step t rest
 first_is (blanks run) rest is = blanks_step run rest is
 first_is (comment inside) rest is = comment_step inside rest is
 first_is (atom run) rest is = atom_step run rest is

@@ -7,11 +7,13 @@ use Rattle.std.proofs.lemmas.List.Folds.{list_all-append}
 use Rattle.mail_addresses.specs.declared.address.Address.{Address}
 use Rattle.mail_addresses.specs.Lexical.{Lexeme, blanks, comment, atom, quoted, literal, mark, unclosed, text_of, texts, begins, is_blank_byte, is_atom_byte, IsRun, IsCommentContent, IsQuotedContent, IsLiteralContent, NeverEnds, IsEnd, NeverCloses, IsToken, StandBefore, AreTokens}
 use Rattle.mail_addresses.specs.Lexical.NeverCloses.{comment_open, quote_open, literal_open}
-use Rattle.mail_addresses.specs.Forms.{is_gap, is_solid, is_mark, Lacks, IsCutAtMark, is_local_part, is_domain, IsSpec, GivesSpec, IsDisplayName, IsAngled, IsMailbox}
+use Rattle.mail_addresses.specs.Forms.{is_gap, is_solid, is_mark, Lacks, is_local_part, is_domain, IsSpec, GivesSpec, IsDisplayName, IsAngled, IsMailbox}
 use Rattle.mail_addresses.specs.Listing.{pieces, Gives, Lists, SpellsMailbox, IsGrouped, SpellsGroup, Spells, IsBad, IsFirstBad, Reads, IsFault}
-use Rattle.mail_addresses.proofs.Closing.{close, comment_found, comment_none}
-use Rattle.mail_addresses.proofs.Quoting.{unquote, quoted_found, quoted_none}
+use Rattle.mail_addresses.specs.Tokens.{close, unquote, Step, first_step, tokens_within, tokens_in}
+use Rattle.mail_addresses.proofs.Closing.{comment_found, comment_none}
+use Rattle.mail_addresses.proofs.Quoting.{quoted_found, quoted_none}
 use Rattle.mail_addresses.proofs.TokenLemmas.{enclosed_begins, token_less}
+use Rattle.mail_addresses.proofs.TokenUnique.{first_is}
 use Rattle.mail_addresses.proofs.FormLemmas.{spec_at, IsCut, is_cut, spec_is_run, run_is_spec}
 use Rattle.mail_addresses.proofs.NameLemmas.{name_from, read_is_name, no_name, name_unique}
 use Rattle.mail_addresses.proofs.MailboxLemmas.{has_mark, angled_parts, angled_from, no_angled, mailbox_angled, mailbox_bare}
@@ -130,21 +132,33 @@ first_token b bs =
     ]
 
 -- the tokens of a value of at most n bytes
-tokens_within : (n : ℕ) (bs : List ℕ) → length bs ≤ n → (ts : List Lexeme) × (texts ts ≡ bs) × StandBefore ts []
-unfolding texts
-tokens_within n [] le = ([], refl, tt)
-tokens_within zero (b ∷ bs) le = absurd (omega arith)
-tokens_within (suc n) (b ∷ bs) le =
+within_are : (n : ℕ) (bs : List ℕ) → length bs ≤ n → (texts (tokens_within n bs) ≡ bs) × StandBefore (tokens_within n bs) []
+unfolding texts tokens_within
+within_are zero [] le = (refl, tt)
+within_are (suc n) [] le = (refl, tt)
+within_are zero (b ∷ bs) le = absurd (omega arith)
+within_are (suc n) (b ∷ bs) le =
     let first = first_token b bs in
+    let is = ap first_step first.joined ∙ first_is first.token first.rest first.is_token in
+    let token = ap (λ (s : Step). s.token) is in
+    let rest = ap (λ (s : Step). s.rest) is in
     let less = token_less first.token (b ∷ bs) first.rest first.joined first.is_token in
-    let later = tokens_within n first.rest (omega arith) in (
-      first.token ∷ later.0,
-      ap (λ (xs : List ℕ). text_of first.token ++ xs) later.1 ∙ sym first.joined,
-      (subst (IsToken first.token) (sym (append-nil (texts later.0) ∙ later.1)) first.is_token, later.2),
-    )
+    let later = within_are n first.rest (omega arith) in
+    let P : Lexeme → List ℕ → Type 0 = λ t after. (text_of t ++ texts (tokens_within n after) ≡ b ∷ bs) × IsToken t (texts (tokens_within n after) ++ []) × StandBefore (tokens_within n after) [] in
+    let found : P first.token first.rest = (
+      ap (λ (xs : List ℕ). text_of first.token ++ xs) later.0 ∙ sym first.joined,
+      subst (IsToken first.token) (sym (append-nil (texts (tokens_within n first.rest)) ∙ later.0)) first.is_token,
+      later.1,
+    ) in
+    let all = subst (λ (t : Lexeme). P t (first_step (b ∷ bs)).rest) (sym token) (subst (λ (after : List ℕ). P first.token after) (sym rest) found) in
+    (all.0, (all.1, all.2))
+
+pub are_in : (bytes : List ℕ) → AreTokens bytes (tokens_in bytes)
+unfolding tokens_in
+are_in bytes = let all = within_are (length bytes) bytes (omega arith) in record { joined = all.0; stand = all.1 }
 
 pub tokens_of : (value : List ℕ) → (ts : List Lexeme) × AreTokens value ts
-tokens_of value = let all = tokens_within (length value) value (omega arith) in (all.0, record { joined = all.1; stand = all.2 })
+tokens_of value = (tokens_in value, are_in value)
 
 -- ---- forms
 

@@ -1,17 +1,17 @@
 -- A list of tokens spells one list of addresses or has one first bad piece, and never both.
-use Rattle.std.proofs.Common.{◌≡◌, ℕ, ◌+◌, ◌≤◌, true, List, [], ◌∷◌, ◌++◌, inl, inr, Option, Some, None, MatchOption, refl, sym, ap, ◌∙◌, subst, arith, length, length-append, All}
+use Rattle.std.proofs.Common.{◌≡◌, ℕ, ◌+◌, ◌≤◌, true, List, [], ◌∷◌, ◌++◌, inl, inr, refl, sym, ap, ◌∙◌, subst, arith, length, length-append, All}
 use Rattle.std.specs.List.{list_all, list_any}
 use Rattle.std.proofs.lemmas.Bool.{and_parts, both_ways, not-true}
 use Rattle.std.proofs.lemmas.List.Folds.{list_all-append}
 use Rattle.std.proofs.lemmas.List.Elements.{All-nil, All-cons, All-append, All-same}
 use Rattle.mail_addresses.specs.declared.address.Address.{Address}
-use Rattle.mail_addresses.specs.Lexical.{Lexeme, mark, texts, AreTokens}
+use Rattle.mail_addresses.specs.Lexical.{Lexeme, mark, texts}
 use Rattle.mail_addresses.specs.Forms.{is_gap, is_solid, is_mark, IsSpec, GivesSpec, IsAngled, IsMailbox}
 use Rattle.mail_addresses.specs.Listing.{pieces, Gives, Lists, SpellsMailbox, SpellsGroup, Spells, IsBad, IsFirstBad, Reads, IsFault}
 use Rattle.mail_addresses.proofs.FormLemmas.{local_lacks, spec_at, spec_solid, begins_solid, ends_solid, IsSolid, IsCut, spec_is_run}
 use Rattle.mail_addresses.proofs.TokenLemmas.{texts-append}
 use Rattle.mail_addresses.proofs.NameLemmas.{name_unique}
-use Rattle.mail_addresses.proofs.MailboxLemmas.{has_mark, gaps_lack, gives_lacks, display_lacks, mailbox_lacks, mailbox_angled, angled_parts, at_none, at_some}
+use Rattle.mail_addresses.proofs.MailboxLemmas.{has_mark, gaps_lack, gives_lacks, display_lacks, mailbox_lacks, mailbox_angled, angled_parts}
 use Rattle.mail_addresses.proofs.GroupLemmas.{inside_lacks, grouped_parts, group_parts}
 use Rattle.mail_addresses.proofs.ListingLemmas.{Form}
 use Rattle.mail_addresses.proofs.TokenUnique.{tokens_unique}

@@ -6,3 +6,5 @@ pub mod Balance
 pub mod Plain
 pub mod Pieces
 pub mod Found
+pub mod Tokens
+pub mod Keeping

@@ -1,5 +1,5 @@
 -- The pieces of an address list and what they spell (RFC 5322, section 3.4, address-list and group, with the empty pieces of section 4.4).
-use Rattle.std.specs.Prelude.{◌≡◌, ◌≢◌, ◌⊎◌, ℕ, Bool, false, ◌+◌, if◌then◌else◌, List, [], ◌∷◌, ◌++◌, slice_get, Option, None, MatchBool}
+use Rattle.std.specs.Prelude.{◌≡◌, ◌≢◌, ◌⊎◌, ℕ, Bool, false, ◌+◌, if◌then◌else◌, List, [], ◌∷◌, ◌++◌, slice_get, Option, None}
 use Rattle.std.specs.List.{list_all}
 use Rattle.mail_addresses.specs.declared.address.Address.{Address}
 use Rattle.mail_addresses.specs.declared.pieces.Place.{Place}
@@ -78,14 +78,6 @@ IsBad piece = (list_all is_gap piece ≡ false) × ((list : List Address) → Sp
 abbrev pub IsFirstBad : List (List Lexeme) → ℕ → Type 0
 IsFirstBad [] number = ⊥
 IsFirstBad (piece ∷ pieces) number = (IsBad piece × (number ≡ 0)) ⊎ ((list : List Address) × Gives Spells piece list × ((later : ℕ) × (number ≡ later + 1) × IsFirstBad pieces later))
-
--- addresses of which this holds are put at the end
-abbrev pub Adds : (List Address → Type 0) → List Address → List Address → Type 0
-Adds P old new = (added : List Address) × (new ≡ old ++ added) × P added
-
--- the same where it is so, and otherwise it holds of none
-abbrev pub AddsIf : (List Address → Type 0) → List Address → List Address → Bool → Type 0
-AddsIf P old new good = MatchBool good (Adds P old new) ((list : List Address) → P list → ⊥)
 
 -- the value's list of addresses
 pub record Reads (value : List ℕ) (list : List Address) : Type 0 where

@@ -1,18 +1,28 @@
-ghost use Rattle.std.specs.Prelude.{◌≡◌, ◌≤◌, ◌⊎◌, [], ℕ, List, length, slice_get, IfOk, IfErr, IsErrAnd, All, Err, MatchOption, MatchBool, ◌≢◌};
+ghost use Rattle.std.specs.Prelude.{◌≡◌, ◌≤◌, ◌⊎◌, [], ◌∷◌, ℕ, List, length, slice_get, IfOk, OnOk, IfErr, IsErrAnd, All, Err, MatchOption, MatchBool, ◌≢◌};
 ghost use Rattle.mail_addresses.specs.declared.address.Address.{Address};
 ghost use Rattle.mail_addresses.specs.Forms.{IsDisplayName};
-ghost use Rattle.mail_addresses.specs.Listing.{pieces, Gives, Lists, SpellsMailbox, IsGrouped, SpellsGroup, Spells, IsBad, IsFirstBad, Adds, AddsIf, Reads, IsFault, IsFirstAddress};
+ghost use Rattle.mail_addresses.specs.Listing.{pieces, Gives, Lists, SpellsMailbox, IsGrouped, SpellsGroup, Spells, IsBad, IsFirstBad, Reads, IsFault, IsFirstAddress};
+ghost use Rattle.mail_addresses.specs.Keeping.{kept, Adds, AddsIf};
+ghost use Rattle.mail_addresses.specs.Tokens.{tokens_in};
 
 use crate::address::{Address, AddressError};
 use crate::found::{Found, FoundAddress};
 use crate::mailbox::mailbox;
 use crate::name::display_name;
 use crate::parts::{are_gaps, split_at_mark};
-use crate::pieces::{first_piece, piece_length};
+use crate::pieces::first_piece;
 use crate::plain::plain_address;
-use crate::token::Token;
 use mail_text::Memory;
 use std::alloc::Global;
+
+/// Which of the addresses that are read are kept.
+#[derive(Clone, Copy)]
+pub(crate) enum Keep {
+    /// Each of them.
+    Each,
+    /// The first alone.
+    First,
+}
 
 /// Reads a list of addresses (RFC 5322, section 3.4). The answer is what the value's pieces spell, in order: a
 /// piece is a spec, an optional name and a spec in angle brackets, or a group, which gives the addresses in it; an
@@ -29,7 +39,7 @@ pub fn read_list(alloc: Global, value: &[u8]) -> Result<Vec<Address>, AddressErr
     ensures local { IfOk result (λ list. All (λ a. a.local ≤ length a.spec) list.items) }
 {
     let mut list = Vec::new(alloc);
-    let bad = read_pieces(alloc, value, &mut list)?;
+    let bad = read_pieces(alloc, value, Keep::Each, &mut list)?;
     match bad {
         None => Ok(list),
         Some(at) => Err(AddressError::Syntax { at }),
@@ -43,21 +53,25 @@ pub fn first_address(alloc: Global, value: &[u8]) -> Result<Option<FoundAddress<
 {
     match plain_address(value) {
         Some(plain) => Ok(Some(FoundAddress::of(Found::InPlace(plain)))),
-        None => match read_list(alloc, value) {
-            Ok(list) => Ok(found_first(list)),
-            Err(AddressError::Syntax { at: _ }) => Ok(None),
-            Err(AddressError::Memory) => Err(Memory),
-        },
+        None => {
+            let first = first_read(alloc, value)?;
+            match first {
+                Some(address) => Ok(Some(FoundAddress::of(Found::Own(address)))),
+                None => Ok(None),
+            }
+        }
     }
 }
 
-/// The first address of a list, as one that was found.
-fn found_first<'a>(list: Vec<Address>) -> Option<FoundAddress<'a>>
-    ensures { result ≡ slice_get list.items 0 }
+/// The same, with texts of its own. No other address stands in memory.
+fn first_read(alloc: Global, value: &[u8]) -> Result<Option<Address>, Memory>
+    ensures { IfOk result (IsFirstAddress value.now) }
 {
-    match first_of(list) {
-        Some(address) => Some(FoundAddress::of(Found::Own(address))),
-        None => None,
+    let mut list = Vec::new(alloc);
+    let bad = read_pieces(alloc, value, Keep::First, &mut list)?;
+    match bad {
+        None => Ok(first_of(list)),
+        Some(_) => Ok(None),
     }
 }
 
@@ -73,18 +87,38 @@ fn first_of(list: Vec<Address>) -> Option<Address>
     }
 }
 
-/// Puts the addresses of all pieces of a value at the end, or answers the number of the first bad piece. The tokens
-/// of one piece stand in memory at a time.
-fn read_pieces(alloc: Global, value: &[u8], list: &mut Vec<Address>) -> Result<Option<u64>, Memory>
+/// Puts an address at the end, if it is kept.
+fn put(address: Address, keep: Keep, list: &mut Vec<Address>) -> Result<(), Memory>
+    ensures { OnOk result (list.new.items ≡ kept keep list.old.items (address ∷ [])) }
+{
+    match keep {
+        Keep::Each => Ok(list.push(address)?),
+        Keep::First => {
+            if list.is_empty() {
+                list.push(address)?;
+            }
+            Ok(())
+        }
+    }
+}
+
+/// Puts the addresses of all pieces of a value at the end, or answers the number of the first bad piece. No
+/// tokens stand in memory.
+fn read_pieces(
+    alloc: Global,
+    value: &[u8],
+    keep: Keep,
+    list: &mut Vec<Address>,
+) -> Result<Option<u64>, Memory>
     ensures { IfOk result (λ bad. MatchOption bad
-        (Adds (Reads value.now) list.old.items list.new.items)
+        (Adds keep (Reads value.now) list.old.items list.new.items)
         (IsFault value.now)) }
 {
     let mut rest = value;
     let mut number = 0;
     loop {
-        let (piece, after) = first_piece(alloc, rest)?;
-        let good = read_piece(alloc, &piece, list)?;
+        let (piece, after) = first_piece(rest);
+        let good = read_piece(alloc, piece, keep, list)?;
         if !good {
             return Ok(Some(number));
         }
@@ -97,10 +131,15 @@ fn read_pieces(alloc: Global, value: &[u8], list: &mut Vec<Address>) -> Result<O
 }
 
 /// Puts the addresses of a piece at the end, or answers that the piece is bad.
-fn read_piece(alloc: Global, piece: &[Token], list: &mut Vec<Address>) -> Result<bool, Memory>
+fn read_piece(
+    alloc: Global,
+    piece: &[u8],
+    keep: Keep,
+    list: &mut Vec<Address>,
+) -> Result<bool, Memory>
     ensures { IfOk result (λ good. MatchBool good
-        (Adds (Gives Spells piece.now) list.old.items list.new.items)
-        (IsBad piece.now)) }
+        (Adds keep (Gives Spells (tokens_in piece.now)) list.old.items list.new.items)
+        (IsBad (tokens_in piece.now))) }
 {
     if are_gaps(piece) {
         return Ok(true);
@@ -108,32 +147,39 @@ fn read_piece(alloc: Global, piece: &[Token], list: &mut Vec<Address>) -> Result
     let address = mailbox(alloc, piece)?;
     match address {
         Some(address) => {
-            list.push(address)?;
+            put(address, keep, list)?;
             Ok(true)
         }
-        None => read_group(alloc, piece, list),
+        None => read_group(alloc, piece, keep, list),
     }
 }
 
-/// Puts the addresses of a group at the end, or answers that the tokens are none.
-fn read_group(alloc: Global, piece: &[Token], list: &mut Vec<Address>) -> Result<bool, Memory>
-    ensures { IfOk result (AddsIf (SpellsGroup piece.now) list.old.items list.new.items) }
+/// Puts the addresses of a group at the end, or answers that the piece is none.
+fn read_group(
+    alloc: Global,
+    piece: &[u8],
+    keep: Keep,
+    list: &mut Vec<Address>,
+) -> Result<bool, Memory>
+    ensures { IfOk result (AddsIf keep (SpellsGroup (tokens_in piece.now)) list.old.items list.new.items) }
 {
     let parts = split_at_mark(piece, b':');
     match parts {
         None => Ok(false),
-        Some((front, back)) => read_grouped(alloc, front, back, list),
+        Some((front, back)) => read_grouped(alloc, front, back, keep, list),
     }
 }
 
 /// Puts the addresses of a group with this name at the end, or answers that what follows its `:` doesn't make one.
 fn read_grouped(
     alloc: Global,
-    front: &[Token],
-    back: &[Token],
+    front: &[u8],
+    back: &[u8],
+    keep: Keep,
     list: &mut Vec<Address>,
 ) -> Result<bool, Memory>
-    ensures { IfOk result (AddsIf (IsGrouped front.now back.now) list.old.items list.new.items) }
+    ensures { IfOk result
+        (AddsIf keep (IsGrouped (tokens_in front.now) (tokens_in back.now)) list.old.items list.new.items) }
 {
     let parts = split_at_mark(back, b';');
     match parts {
@@ -146,18 +192,18 @@ fn read_grouped(
             if !named {
                 return Ok(false);
             }
-            read_members(alloc, inside, list)
+            read_members(alloc, inside, keep, list)
         }
     }
 }
 
-/// Whether the tokens give a name that isn't empty.
-fn has_name(alloc: Global, tokens: &[Token]) -> Result<bool, Memory>
+/// Whether the bytes give a name that isn't empty.
+fn has_name(alloc: Global, bytes: &[u8]) -> Result<bool, Memory>
     ensures { IfOk result (λ has. MatchBool has
-        ((name : List ℕ) × IsDisplayName tokens.now name × (name ≢ []))
-        ((name : List ℕ) → IsDisplayName tokens.now name → name ≡ [])) }
+        ((name : List ℕ) × IsDisplayName (tokens_in bytes.now) name × (name ≢ []))
+        ((name : List ℕ) → IsDisplayName (tokens_in bytes.now) name → name ≡ [])) }
 {
-    let name = display_name(alloc, tokens)?;
+    let name = display_name(alloc, bytes)?;
     match name {
         None => Ok(false),
         Some(name) => Ok(!name.bytes().is_empty()),
@@ -165,27 +211,37 @@ fn has_name(alloc: Global, tokens: &[Token]) -> Result<bool, Memory>
 }
 
 /// Puts the addresses of the list in a group at the end, or answers that it isn't one.
-fn read_members(alloc: Global, tokens: &[Token], list: &mut Vec<Address>) -> Result<bool, Memory>
+fn read_members(
+    alloc: Global,
+    bytes: &[u8],
+    keep: Keep,
+    list: &mut Vec<Address>,
+) -> Result<bool, Memory>
     ensures { IfOk result
-        (AddsIf (Lists SpellsMailbox (pieces tokens.now)) list.old.items list.new.items) }
+        (AddsIf keep (Lists SpellsMailbox (pieces (tokens_in bytes.now))) list.old.items list.new.items) }
 {
-    let mut rest = tokens;
+    let mut rest = bytes;
     loop {
-        let count = piece_length(rest);
-        let good = read_member(alloc, &rest[..count], list)?;
+        let (piece, after) = first_piece(rest);
+        let good = read_member(alloc, piece, keep, list)?;
         if !good {
             return Ok(false);
         }
-        if count == rest.len() {
-            return Ok(true);
+        match after {
+            Some(after) => rest = after,
+            None => return Ok(true),
         }
-        rest = &rest[count + 1..];
     }
 }
 
 /// Puts the address of a piece in a group at the end, or answers that the piece is bad.
-fn read_member(alloc: Global, piece: &[Token], list: &mut Vec<Address>) -> Result<bool, Memory>
-    ensures { IfOk result (AddsIf (Gives SpellsMailbox piece.now) list.old.items list.new.items) }
+fn read_member(
+    alloc: Global,
+    piece: &[u8],
+    keep: Keep,
+    list: &mut Vec<Address>,
+) -> Result<bool, Memory>
+    ensures { IfOk result (AddsIf keep (Gives SpellsMailbox (tokens_in piece.now)) list.old.items list.new.items) }
 {
     if are_gaps(piece) {
         return Ok(true);
@@ -194,7 +250,7 @@ fn read_member(alloc: Global, piece: &[Token], list: &mut Vec<Address>) -> Resul
     match address {
         None => Ok(false),
         Some(address) => {
-            list.push(address)?;
+            put(address, keep, list)?;
             Ok(true)
         }
     }

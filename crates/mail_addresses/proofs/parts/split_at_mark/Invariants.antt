@@ -1,8 +1,10 @@
-use Rattle.std.proofs.Common.{◌≡◌, take, false}
-use Rattle.std.specs.List.{list_any}
-use Rattle.mail_addresses.specs.Forms.{is_mark}
+use Rattle.std.proofs.Common.{length}
+use Rattle.mail_addresses.proofs.Walks.{Walked, is_other}
 use Rattle.mail_addresses.proofs.parts.split_at_mark.Given as goal
 
 -- no such mark stands before
-abbrev pub invariant-loop-i : goal.invariant-loop-i
-invariant-loop-i l = list_any (is_mark l.byte) (take l.i l.tokens) ≡ false
+abbrev pub invariant-loop-token : goal.invariant-loop-token
+invariant-loop-token l = Walked (is_other l.byte) l.bytes l.rest
+
+abbrev pub decreases-loop-token : goal.decreases-loop-token
+decreases-loop-token l = length l.rest

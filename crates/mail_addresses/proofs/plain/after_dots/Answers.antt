@@ -1,5 +1,3 @@
-use Rattle.std.proofs.Common.{ℕ, List}
-use Rattle.mail_addresses.specs.Plain.{HasDots}
 use Rattle.mail_addresses.proofs.PlainLemmas.{dots_last, dots_more}
 use Rattle.mail_addresses.proofs.plain.after_dots.Goals as goal
 

@@ -1,4 +1,3 @@
-use Rattle.std.proofs.Common.{sym, ◌∙◌, take-append-drop}
 use Rattle.mail_addresses.proofs.PlainLemmas.{atom_front_is}
 use Rattle.mail_addresses.proofs.plain.atom_front.Goals as goal
 

@@ -1,5 +1,3 @@
-use Rattle.std.proofs.Common.{IfSome}
-use Rattle.mail_addresses.specs.Plain.{HasGaps}
 use Rattle.mail_addresses.proofs.PlainLemmas.{gaps_none, gaps_space, if_some}
 use Rattle.mail_addresses.proofs.plain.behind_bracket.Goals as goal
 

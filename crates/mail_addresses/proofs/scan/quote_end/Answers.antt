@@ -1,5 +1,6 @@
 use Rattle.std.proofs.Common.{◌<◌, ◌+◌, Bool, false, true, sym, ap, ◌∙◌, arith, drop, get_or, length}
-use Rattle.mail_addresses.proofs.Quoting.{unquote, unquote-escaped, unquote-backslash, unquote-last, unquote-byte, unquote-here, unquote-end, quoted_found, quoted_none}
+use Rattle.mail_addresses.specs.Tokens.{unquote}
+use Rattle.mail_addresses.proofs.Quoting.{unquote-escaped, unquote-backslash, unquote-last, unquote-byte, unquote-here, unquote-end, quoted_found, quoted_none}
 use Rattle.mail_addresses.proofs.scan.quote_end.Goals as goal
 use Rattle.mail_addresses.proofs.scan.quote_end.Goals.{then-escaped, else-escaped+then-b-eq92, else-escaped+else-b-eq92+else-b-eq34}
 

@@ -1,5 +1,5 @@
 use Rattle.std.proofs.Common.{◌≡◌, false, drop}
-use Rattle.mail_addresses.proofs.Quoting.{unquote}
+use Rattle.mail_addresses.specs.Tokens.{unquote}
 use Rattle.mail_addresses.proofs.scan.quote_end.Given as goal
 
 -- the answer on what is left is the answer on the whole
