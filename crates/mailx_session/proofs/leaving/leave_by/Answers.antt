@@ -14,4 +14,5 @@ returns-in_err-asked-clause-ran g c =
 pub returns-clause-ran : goal.returns-clause-ran
 returns-clause-ran g c =
     let s = c.args.state.now in
-    Ran-then (goes-then (in_order asked s c.args.asks.now) left_by (after_asks s c.in_ok-asked.asked) _) c.in_ok-asked.ensures.ran (c.end_by.ensures.ran s)
+    let t = c.do_asks.new.state in
+    Ran-then (goes-then (in_order asked s c.args.asks.now) left_by (after_asks t c.in_ok-asked.asked) _) c.in_ok-asked.ensures.ran (c.end_by.ensures.ran t)
