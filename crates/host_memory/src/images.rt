@@ -3,7 +3,7 @@ ghost use Rattle.std.specs.Prelude.{◌≡◌, ◌+◌, ◌++◌, ◌∷◌, Lis
 ghost use Rattle.host_port.specs.Disk.{disk};
 ghost use Rattle.host_port.specs.Ends.{stopped};
 ghost use Rattle.host_memory.specs.Standings.{disk_now};
-ghost use Rattle.host_memory.specs.Tapes.{ShowsSame}
+ghost use Rattle.host_memory.specs.Tapes.{ShowsSame};
 ghost use Rattle.host_port.specs.Disk.{SameDisk};
 ghost use Rattle.host_memory.specs.Views.{disk_of};
 ghost use Rattle.host_port.specs.declared.event.Event.{Event};
