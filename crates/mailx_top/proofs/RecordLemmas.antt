@@ -1,5 +1,5 @@
 -- A run ends for its record exactly where a commit or a recovery of it met one that can't be read.
-use Rattle.std.proofs.Common.{◌≡◌, ◌<◌, ◌^◌, ◌+◌, ◌||◌, ℕ, Bool, true, false, List, [], ◌∷◌, ◌++◌, length, refl, sym, ◌∙◌, ap, subst, inl, inr}
+use Rattle.std.proofs.Common.{◌≡◌, ◌<◌, ◌^◌, ◌+◌, ◌||◌, ℕ, Bool, true, false, List, [], ◌∷◌, length, refl, sym, ◌∙◌, ap, subst, inl, inr}
 use Rattle.std.specs.Prelude.{nat_lt, not, if◌then◌else◌}
 use Rattle.std.specs.List.{list_all}
 use Rattle.std.specs.declared.option.Option.{Option}
@@ -12,7 +12,6 @@ use Rattle.mbox_scan.specs.Mailbox.{list_of}
 use Rattle.folder_change.specs.declared.change.Change.{Change}
 use Rattle.commit_machine.specs.Jobs.{Ending}
 use Rattle.commit_machine.specs.Edits.{first_names}
-use Rattle.folder_commit.specs.declared.error.CommitError.{CommitError}
 use Rattle.folder_commit.specs.declared.error.CommitError.TheVariants as error
 use Rattle.folder_commit.specs.Commits.{IsCommit}
 use Rattle.folder_commit.specs.Plans.{AreFiles}
@@ -24,7 +23,7 @@ use Rattle.session_play.specs.declared.changing.Committed.{Committed}
 use Rattle.session_play.specs.declared.changing.Committed.TheVariants as committed
 use Rattle.session_play.specs.declared.stop.Stop.{Stop}
 use Rattle.session_play.specs.Input.{Input}
-use Rattle.session_play.specs.Committing.{Commit, answer_as}
+use Rattle.session_play.specs.Committing.{answer_as}
 use Rattle.session_play.specs.Play.{Act, Answer, Line, Say, Read, Try, Changes, Recover, Know, Play, Ret, Ask, Did, Goes, Next, Go, Last, Loop, again, last, cut, bind}
 use Rattle.session_play.specs.Steps.{After, On, Refused, Ended, onward, in_order, concluded}
 use Rattle.session_play.proofs.ShapeLemmas.{came-same, goes-ends}
@@ -47,7 +46,7 @@ use Rattle.mailx_session.specs.Openings.{with_opened}
 use Rattle.mailx_session.specs.Waits.{Pending}
 use Rattle.mailx_session.specs.Pending.{taken}
 use Rattle.mailx_session.specs.States.{settled, with_frames, with_count, rested, command_limit}
-use Rattle.mailx_session.specs.Saving.{names_fault, is_changed, commit_of, after_commit, saved}
+use Rattle.mailx_session.specs.Saving.{names_fault, is_changed, after_commit, saved}
 use Rattle.mailx_session.specs.Sourcing.{source_fault, after_load, sourced}
 use Rattle.mailx_session.specs.Sessions.{asked, carried_out}
 use Rattle.folder_commands.specs.Leaving.{quit}
@@ -55,7 +54,7 @@ use Rattle.mailx_session.specs.Leaving.{left_by, leaving}
 use Rattle.mailx_session.specs.Rounds.{line_play, typed_play, dropped_play, counted_play, waiting_play}
 use Rattle.mailx_top.specs.declared.environment.Environment.{Environment}
 use Rattle.mailx_top.specs.Words.{Start}
-use Rattle.mailx_top.specs.Meaning.{RunState, Opening, Reading, Leaving, round, last_round, opening, folder_name, with_name_or_fault, loaded, with_list, greeted, turn, line_round, with_input, prompted, message_limit, first_of, actor_in}
+use Rattle.mailx_top.specs.Meaning.{RunState, Opening, Reading, Leaving, round, last_round, folder_name, with_name_or_fault, loaded, with_list, greeted, turn, line_round, with_input, prompted, message_limit, first_of, actor_in}
 use Rattle.mailx_top.specs.Unreadable.{is_unreadable, found_unreadable, met_unreadable, some_unreadable, some_unreadable_in, IsRecordExplained}
 use Rattle.mailx_top.proofs.CrashLemmas.{StateOf, round-commits, round-of}
 

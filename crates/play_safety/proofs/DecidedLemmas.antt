@@ -55,9 +55,10 @@ module _ (actor : List ℕ) (token : ℕ) (fits : token < 2 ^ 64) where
       let others = lawful_front (first_job actor token []) front rest d lawful_so in
       let x = act-answered actor token fits act answer d files owners front (queue later ++ more) each.0 s here others did in
       let q = queue_of (accepted_by act d front) ++ (queue later ++ more) in
-      let now = after-piece actor token d q (queue later ++ more) files owners front (x.leaves tt) in
-      (act-decided act answer d front each.0 (may-run d files owners front s here others) did,
-      play-decided (go answer) (disk d front) rest later out more (run_files actor token d q files front) (run_locks actor token d owners front) (each.1 answer) now (honest-back front rest d honest_so) (lawful-back actor token front rest d lawful_so) goes)
+      let now = after-piece actor token d q (queue later ++ more) files owners front (x.leaves tt) in (
+        act-decided act answer d front each.0 (may-run d files owners front s here others) did,
+        play-decided (go answer) (disk d front) rest later out more (run_files actor token d q files front) (run_locks actor token d owners front) (each.1 answer) now (honest-back front rest d honest_so) (lawful-back actor token front rest d lawful_so) goes,
+      )
   play-decided (Ask act go) d es commits out more files owners each s honest lawful (inr stopped) = tt
 
   module _ {X R : Type 0} (round : X → Play (Next X R)) (Keeps : X → Type 0) (each : (x : X) → Keeps x → EachCommit (IsBy actor token) (round x)) (ends : (x : X) → Keeps x → AllEnds (NextKeeps Keeps) (round x)) where
@@ -73,9 +74,10 @@ module _ (actor : List ℕ) (token : ℕ) (fits : token < 2 ^ 64) where
         let q = queue_of first ++ (queue later ++ more) in
         let whole : queue (record { accepted = first; pending = [] }) ++ (queue later ++ more) ≡ q = ap (λ (cs : List Commit). queue_of cs ++ (queue later ++ more)) (append-nil first) in
         let z = passed-as actor token d (queue (record { accepted = first; pending = [] }) ++ (queue later ++ more)) q (queue later ++ more) (length first) (length first) files owners front whole refl one in
-        let now = after-piece actor token d q (queue later ++ more) files owners front (z.leaves tt) in
-        (play-decided (round x) d front (record { accepted = first; pending = [] }) (Ok (Go y)) (queue later ++ more) files owners (each x keeps) s here others goes,
-        loop-decided more (run_files actor token d q files front) (run_locks actor token d owners front) kept now (honest-back front rest d honest_so) (lawful-back actor token front rest d lawful_so) all)
+        let now = after-piece actor token d q (queue later ++ more) files owners front (z.leaves tt) in (
+          play-decided (round x) d front (record { accepted = first; pending = [] }) (Ok (Go y)) (queue later ++ more) files owners (each x keeps) s here others goes,
+          loop-decided more (run_files actor token d q files front) (run_locks actor token d owners front) kept now (honest-back front rest d honest_so) (lawful-back actor token front rest d lawful_so) all,
+        )
     loop-decided {x = x} {d = d} {es = es} {commits = commits} more files owners keeps s honest lawful (last {r = r} goes) = play-decided (round x) d es commits (Ok (Last r)) more files owners (each x keeps) s honest lawful goes
     loop-decided {x = x} {d = d} {es = es} {commits = commits} more files owners keeps s honest lawful (cut {cause = cause} goes) = play-decided (round x) d es commits (Err cause) more files owners (each x keeps) s honest lawful goes
 

@@ -31,7 +31,7 @@ use Rattle.session_play.specs.declared.changing.Committed.TheVariants as committ
 use Rattle.session_play.specs.declared.stop.Stop.{Stop}
 use Rattle.session_play.specs.Acts.{AllActs, AllEnds, is_neutral}
 use Rattle.session_play.specs.Committing.{Commit}
-use Rattle.session_play.specs.Play.{Act, Answer, Changes, Play, Ret, Ask, Did, Partly, Goes, Next, Go, Last, Loop, Line, Say, Read, Try, Recover, Know}
+use Rattle.session_play.specs.Play.{Act, Changes, Play, Ret, Ask, Did, Partly, Goes, Next, Go, Last, Loop, Line, Say, Read, Try, Recover, Know}
 use Rattle.session_play.specs.Play as plays
 use Rattle.play_safety.specs.Passes.{decided_in, accepted_by, Commits, no_commits, behind, at_cut, Passes, PassesAll, again, last, cut}
 use Rattle.play_safety.specs.Safe.{IsBy, OfCommit, EachCommit, NextKeeps, MayRun, queue, IsCalm, IsCrashSafe, is_output, PlaysAreSafe, TracesAreRead}

@@ -25,7 +25,7 @@ use Rattle.session_play.specs.declared.stop.Stop.TheVariants as stop
 use Rattle.session_play.specs.Committing.{Commit, wanted_of}
 use Rattle.session_play.specs.declared.changing.Committed.{Committed}
 use Rattle.session_play.specs.declared.changing.Committed.TheVariants as committed
-use Rattle.session_play.specs.Play.{Act, Answer, Changes, Recover, Play, Ret, Ask, Did, Goes, Next, Go, Last}
+use Rattle.session_play.specs.Play.{Act, Answer, Changes, Recover, Play, Ret, Ask, Goes, Next, Go, Last}
 use Rattle.play_safety.specs.Passes.{decided_in, Commits, Passes, PassesAll, again, last, cut}
 
 -- a commit of this actor under this token, of files that it may change
