@@ -7,3 +7,4 @@ pub mod OpeningLemmas
 pub mod OrderLemmas
 pub mod RoundLemmas
 pub mod WaitingLemmas
+pub mod RecoveringLemmas

@@ -7,4 +7,5 @@ pub mod Runs
 pub mod Ends
 pub mod Usage
 pub mod Openings
+pub mod Starts
 pub mod Crash

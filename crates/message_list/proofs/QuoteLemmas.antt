@@ -5,7 +5,8 @@ use Rattle.std.proofs.lemmas.List.{at_drop_more, at_drop_all, take_all}
 use Rattle.std.proofs.lemmas.Bool.{cases_eq}
 use Rattle.std.proofs.lemmas.List.{take-append-le}
 use Rattle.mail_addresses.specs.Lexical.{IsQuotedContent}
-use Rattle.mail_addresses.proofs.Quoting.{unquote, unquote-backslash, unquote-last, unquote-byte, quoted_found, quoted_place}
+use Rattle.mail_addresses.specs.Tokens.{unquote}
+use Rattle.mail_addresses.proofs.Quoting.{unquote-backslash, unquote-last, unquote-byte, quoted_found, quoted_place}
 use Rattle.message_list.specs.LocalParts.{closing_quote, quoted_or_before_at, before_at, local_part}
 
 pub closing-escaped : (i b : ℕ) (bs : List ℕ) → closing_quote true i (b ∷ bs) ≡ closing_quote false (i + 1) bs

@@ -3,7 +3,8 @@ use Rattle.std.proofs.Common.{◌≡◌, ◌≢◌, ℕ, zero, suc, ◌+◌, ◌
 use Rattle.std.proofs.lemmas.Bool.{cases_eq, cond-true, cond-false, eq-eqb, ne_eqb}
 use Rattle.mail_addresses.specs.Lexical.{IsCommentContent, NeverEnds}
 use Rattle.mail_addresses.specs.Lexical.IsCommentContent.{none, byte, pair, inner}
-use Rattle.mail_addresses.proofs.Closing.{close, close-backslash, close-open, close-last, close-inner, close-byte, close-escaped, comment_found}
+use Rattle.mail_addresses.specs.Tokens.{close}
+use Rattle.mail_addresses.proofs.Closing.{close-backslash, close-open, close-last, close-inner, close-byte, close-escaped, comment_found}
 use Rattle.mail_dates.specs.Parts.{Place, Outside, Inside, Escaped, closed, after_comment_byte, without_comments}
 
 -- ---- a byte of a comment
