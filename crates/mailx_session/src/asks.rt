@@ -114,7 +114,8 @@ fn is_on(asked: &Result<Asked, RunError>) -> bool
     matches!(asked, Ok(Asked::On))
 }
 
-/// Does what is asked for, in order, up to an answer that refuses what follows or ends the run; then no lines are brought.
+/// Does what is asked for, in order, up to an answer that refuses what follows or ends the run; then no lines are
+/// brought.
 pub(crate) fn do_asks<H: Host>(
     alloc: Global,
     state: &mut SessionState,

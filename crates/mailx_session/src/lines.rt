@@ -85,7 +85,8 @@ fn carry_line<H: Host>(
     ensures state { IsState state.new }
     ensures others { KeepsOthers state.old state.new }
     ensures room { room state.new.frames ≤ room state.old.frames }
-    ensures quiet { brings_lines (commanded origin state.old.desk line.now) ≡ false → state.new.frames ≡ state.old.frames }
+    ensures quiet { brings_lines (commanded origin state.old.desk line.now) ≡ false
+        → state.new.frames ≡ state.old.frames }
     ensures refused { (fault : List ℕ) → commanded origin state.old.desk line.now ≡ Err fault → state.new ≡ state.old }
     ensures goes_on { (fault : List ℕ) → commanded origin state.old.desk line.now ≡ Err fault
         → IfOk result (λ flow. flow ≡ Flow.Go) }

@@ -117,8 +117,8 @@ impl Session {
         &self.state
     }
 
-    /// Takes one input line, without its line feed, and carries out the lines that it brings too. Where it brings none, the state
-    /// changes only where the run goes on; it doesn't where the line is refused.
+    /// Takes one input line, without its line feed, and carries out the lines that it brings too. Where it brings none,
+    /// the state changes only where the run goes on; it doesn't where the line is refused.
     pub fn step<H: Host>(&mut self, line: &[u8], host: &mut H) -> Result<Flow, RunError>
         ensures ran { Ran H.world host.old host.new
             (λ es. LineGoes self.old line.now es (in_play (next_of self.new) result)) }
@@ -129,7 +129,8 @@ impl Session {
         ensures done { IfOk result EndsByLine }
         ensures end { brings_lines (commanded Origin.Input self.old.desk line.now) ≡ false
             → IfOk result (StaysAtEnd self.old self.new) }
-        ensures err { brings_lines (commanded Origin.Input self.old.desk line.now) ≡ false → OnErr result (self.new ≡ self.old) }
+        ensures err { brings_lines (commanded Origin.Input self.old.desk line.now) ≡ false
+            → OnErr result (self.new ≡ self.old) }
         ensures cause { LineCaused (H.world.counts host.old) (H.world.counts host.new) result }
     {
         let result = input_line(self.alloc, &mut self.state, host, line);

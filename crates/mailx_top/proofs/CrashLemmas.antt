@@ -35,6 +35,7 @@ use Rattle.session_play.proofs.ShapeLemmas.{bind-ends, weaker-acts, may-neutral}
 use Rattle.play_safety.specs.Safe.{IsBy, EachCommit, NextKeeps, MayRun, IsCrashSafe}
 use Rattle.play_safety.proofs.TraceLemmas.{parted}
 use Rattle.play_safety.proofs.LawLemmas.{read-loop, run-safe, neutral-commits}
+use Rattle.play_safety.proofs.DecidedLemmas.{run-decided}
 use Rattle.mailx_vars.specs.Names.{is_short_name}
 use Rattle.command_desk.specs.declared.desk.Desk.{Desk}
 use Rattle.command_desk.specs.declared.effects.Effects.{Effects}
@@ -71,7 +72,7 @@ use Rattle.mailx_top.proofs.LeavingLemmas.{any-ends}
 use Rattle.mailx_top.proofs.RoundLemmas.{loads-round}
 
 -- a state of this actor and this token
-abbrev IsOf : List ℕ → ℕ → SessionState → Type 0
+abbrev pub IsOf : List ℕ → ℕ → SessionState → Type 0
 IsOf actor token s = (s.actor ≡ actor) × (s.token ≡ token)
 
 -- what an ask or a line leaves is such a state
@@ -84,7 +85,7 @@ abbrev NextOf : List ℕ → ℕ → Next SessionState Status → Type 0
 NextOf actor token (Go s) = IsOf actor token s
 NextOf actor token (Last e) = Unit {0}
 
-abbrev StateOf : List ℕ → ℕ → RunState → Type 0
+abbrev pub StateOf : List ℕ → ℕ → RunState → Type 0
 StateOf actor token (Recovering start) = Unit {0}
 StateOf actor token (Opening start) = Unit {0}
 StateOf actor token (Reading s i) = IsOf actor token s
@@ -306,7 +307,7 @@ module _ (actor : List ℕ) (token : ℕ) where
   recovered-of start (recovery.TooLarge name length) = tt
 
 -- each commit of a round is one of the run
-round-commits : (env : Environment) (x : RunState) → StateOf (actor_in env) env.token x → EachCommit (IsBy (actor_in env) env.token) (round env x)
+pub round-commits : (env : Environment) (x : RunState) → StateOf (actor_in env) env.token x → EachCommit (IsBy (actor_in env) env.token) (round env x)
 round-commits env (Recovering None) of = tt
 round-commits env (Recovering (Some start)) of =
     let none : AreFiles (actor_in env) [] = All-nil (λ (c : Change). is_file_name (actor_in env) (name_of c) ≡ true) in
@@ -317,7 +318,7 @@ round-commits env (Reading s i) of = line-commits (actor_in env) env.token s i (
 round-commits env (Leaving s i) of = last-commits (actor_in env) env.token s of
 
 -- and each round leaves a state of its actor and token
-round-of : (env : Environment) (x : RunState) → StateOf (actor_in env) env.token x → AllEnds (NextKeeps (StateOf (actor_in env) env.token)) (round env x)
+pub round-of : (env : Environment) (x : RunState) → StateOf (actor_in env) env.token x → AllEnds (NextKeeps (StateOf (actor_in env) env.token)) (round env x)
 round-of env (Recovering None) of = tt
 round-of env (Recovering (Some start)) of = recovered-of (actor_in env) env.token start
 round-of env (Opening None) of = λ u. tt
@@ -355,6 +356,8 @@ safely words env s d es fits honest may run =
       is = parts.2;
       plays = read.1;
       ending = ending;
+      answered = run-decided (round env) (Recovering (start_of words env.pairs)) actor env.token d front rest read.0 w.out (StateOf actor env.token)
+          (round-commits env) (round-of env) tt run_so read.1;
       safe = subst C (sym parts.2) (run-safe (round env) (Recovering (start_of words env.pairs)) actor env.token d front rest read.0 w.out (StateOf actor env.token)
           (round-commits env) (round-of env) tt run_so read.1 (ending-looks actor (are_read words) s w.out (own rest) ending));
     }

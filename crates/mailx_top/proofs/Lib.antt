@@ -8,3 +8,4 @@ pub mod OrderLemmas
 pub mod RoundLemmas
 pub mod WaitingLemmas
 pub mod RecoveringLemmas
+pub mod RecordLemmas

@@ -6,7 +6,7 @@ use Rattle.host_port.specs.Disk.{Disk}
 use Rattle.host_port.specs.Own.{own}
 use Rattle.session_play.specs.declared.stop.Stop.{Stop}
 use Rattle.play_safety.specs.Passes.{Commits, PassesAll}
-use Rattle.play_safety.specs.Safe.{IsCrashSafe}
+use Rattle.play_safety.specs.Safe.{IsCrashSafe, AllAnswersAreDecided}
 use Rattle.mailx_session.specs.declared.status.Status.{Status}
 use Rattle.mailx_top.specs.declared.environment.Environment.{Environment}
 use Rattle.mailx_top.specs.Words.{are_read, start_of}
@@ -14,7 +14,8 @@ use Rattle.mailx_top.specs.Meaning.{Recovering, round, actor_in}
 use Rattle.mailx_top.specs.Runs.{Ending}
 
 -- The events of a run, steps of others among them, carry out its meaning, and then what its ending adds. The commits that are accepted are read
--- off the same stretches, and with them the run is crash safe.
+-- off the same stretches, and with them the run is crash safe. Each commit that was answered as done is decided in its own stretch, before anything
+-- is said of it.
 pub record IsSafe (words : List (List ℕ)) (env : Environment) (s : Status) (d : Disk) (es : List Event) : Type 0 where
   pub out : Result Status Stop
   pub front : List Event
@@ -24,3 +25,4 @@ pub record IsSafe (words : List (List ℕ)) (env : Environment) (s : Status) (d 
   pub plays : PassesAll (round env) (Recovering (start_of words env.pairs)) d front commits out
   pub ending : Ending (actor_in env) (are_read words) s out (own rest)
   pub safe : IsCrashSafe (actor_in env) env.token d es commits out
+  pub answered : AllAnswersAreDecided plays

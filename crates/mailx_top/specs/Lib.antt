@@ -8,4 +8,5 @@ pub mod Ends
 pub mod Usage
 pub mod Openings
 pub mod Starts
+pub mod Unreadable
 pub mod Crash

@@ -34,7 +34,7 @@ use Rattle.session_play.specs.Committing.{Commit}
 use Rattle.session_play.specs.Play.{Act, Answer, Changes, Play, Ret, Ask, Did, Partly, Goes, Next, Go, Last, Loop, Line, Say, Read, Try, Recover, Know}
 use Rattle.session_play.specs.Play as plays
 use Rattle.play_safety.specs.Passes.{decided_in, accepted_by, Commits, no_commits, behind, at_cut, Passes, PassesAll, again, last, cut}
-use Rattle.play_safety.specs.Safe.{IsBy, OfCommit, EachCommit, NextKeeps, MayRun, queue, IsCalm, IsCrashSafe, is_output, PlaysAreSafe, TracesAreRead, DoneIsDecided}
+use Rattle.play_safety.specs.Safe.{IsBy, OfCommit, EachCommit, NextKeeps, MayRun, queue, IsCalm, IsCrashSafe, is_output, PlaysAreSafe, TracesAreRead}
 use Rattle.commit_machine.proofs.runs.OneJob.{Stands, Due, between}
 use Rattle.play_safety.proofs.TraceLemmas.{parted, looks-undecided, decisions-then}
 use Rattle.play_safety.proofs.CoverLemmas.{looks-covered, covers-then}
@@ -181,8 +181,10 @@ same-commit c actor token by =
     ap (λ (a : List ℕ). record { actor = a; token = c.token; changes = c.changes; base = c.base }) by.actor_is
     ∙ ap (λ (t : ℕ). record { actor = actor; token = t; changes = c.changes; base = c.base }) by.token_is
 
-pub done_is_decided : DoneIsDecided
-done_is_decided c actor token d es by may some did =
+-- a commit that is answered as done is decided in its events, which hold no output
+pub done-decided : (c : Commit) (actor : List ℕ) (token : ℕ) (d : Disk) (es : List Event) → IsBy actor token c → MayRun actor token d es → 0 < length c.changes
+    → Did (Changes c) committed.Done (own es) → (decided_in c d es ≡ 1) × (list_any is_output es ≡ false)
+done-decided c actor token d es by may some did =
     let P : Commit → Type 0 = λ c. Did (Changes c) committed.Done (own es) → (decided_in c d es ≡ 1) × (list_any is_output es ≡ false) in
     subst P (sym (same-commit c actor token by)) (λ h. done-of c.changes c.base actor token d es by.files may some h) did
 

@@ -2,3 +2,4 @@ pub mod TraceLemmas
 pub mod CoverLemmas
 pub mod SafeLemmas
 pub mod LawLemmas
+pub mod DecidedLemmas

@@ -94,7 +94,7 @@ module _ (actor : List ℕ) (token : ℕ) where
     pub count : counted d es ≡ n
     pub fresh : calm → IsFresh actor token (disk d es)
 
-  passed-as : {ended calm : Type 0} (d : Disk) (queue other left : List (List Edit)) (n m : ℕ) (files : Files) (owners : Locks) (es : List Event) → queue ≡ other → n ≡ m
+  pub passed-as : {ended calm : Type 0} (d : Disk) (queue other left : List (List Edit)) (n m : ℕ) (files : Files) (owners : Locks) (es : List Event) → queue ≡ other → n ≡ m
       → Passed ended calm d queue left n files owners es → Passed ended calm d other left m files owners es
   passed-as {ended = ended} {calm = calm} d queue other left n m files owners es q k p =
       subst (λ (q : List (List Edit)). Passed ended calm d q left m files owners es) q (subst (λ (k : ℕ). Passed ended calm d queue left k files owners es) k p)
@@ -298,7 +298,7 @@ module _ (actor : List ℕ) (token : ℕ) where
         ap (λ (a : List ℕ). record { actor = a; token = c.token; changes = c.changes; base = c.base }) by.actor_is
         ∙ ap (λ (t : ℕ). record { actor = actor; token = t; changes = c.changes; base = c.base }) by.token_is
 
-    act-answered : (act : Act) (a : Answer act) (d : Disk) (files : Files) (owners : Locks) (es : List Event) (more : List (List Edit)) → OfCommit (IsBy actor token) act → Stands actor token d files owners → Honest d es → OthersAreLawful actor token d es
+    pub act-answered : (act : Act) (a : Answer act) (d : Disk) (files : Files) (owners : Locks) (es : List Event) (more : List (List Edit)) → OfCommit (IsBy actor token) act → Stands actor token d files owners → Honest d es → OthersAreLawful actor token d es
         → Did act a (own es) → Answered act d files owners es more
     act-answered (Line i) a d files owners es more by s honest lawful did = looks-passed d more files owners es s (neutral-did (Line i) a (own es) refl did) lawful
     act-answered (Say bytes) a d files owners es more by s honest lawful did = looks-passed d more files owners es s (neutral-did (Say bytes) a (own es) refl did) lawful
@@ -421,7 +421,7 @@ module _ (actor : List ℕ) (token : ℕ) where
         (record { covers = x.covers; leaves = λ never. absurd never; count = x.count; fresh = λ c. x.fresh (calm-cut R cause c) }))
 
     -- where a play comes to its end, that is such an end
-    passes-ends : {R : Type 0} (P : R → Type 0) (p : Play R) (d : Disk) (es : List Event) (commits : Commits) (r : R) → AllEnds P p → Passes p d es commits (Ok r) → P r
+    pub passes-ends : {R : Type 0} (P : R → Type 0) (p : Play R) (d : Disk) (es : List Event) (commits : Commits) (r : R) → AllEnds P p → Passes p d es commits (Ok r) → P r
     passes-ends P (Ret q) d es commits r ends (none, is, inl same) = subst P (sym (came-same r q same)) ends
     passes-ends P (Ret q) d es commits r ends (none, is, inr other) = absurd (cc other)
     passes-ends P (Ask act go) d es commits r ends (inl (answer, front, rest, later, is, did, commits_is, goes)) = passes-ends P (go answer) (disk d front) rest later r (ends answer) goes

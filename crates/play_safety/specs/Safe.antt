@@ -1,8 +1,9 @@
 -- What the traces of plays leave, whatever others lawfully do meanwhile and wherever a run stops.
+use Rattle.std.proofs.Common.{inl, inr}
 use Rattle.std.specs.Prelude.{◌≡◌, ◌<◌, ◌^◌, ℕ, Bool, true, false, List, [], ◌∷◌, ◌++◌, map, length}
 use Rattle.std.specs.declared.option.Option.TheVariants.{None}
 use Rattle.std.specs.declared.result.Result.{Result}
-use Rattle.std.specs.declared.result.Result.TheVariants.{Err}
+use Rattle.std.specs.declared.result.Result.TheVariants.{Ok, Err}
 use Rattle.host_port.specs.declared.event.Event.{Event}
 use Rattle.host_port.specs.declared.event.Event.TheVariants as event
 use Rattle.host_port.specs.declared.event.Part.{Part}
@@ -22,9 +23,10 @@ use Rattle.folder_commit.specs.Plans.{AreFiles}
 use Rattle.session_play.specs.declared.stop.Stop.{Stop}
 use Rattle.session_play.specs.declared.stop.Stop.TheVariants as stop
 use Rattle.session_play.specs.Committing.{Commit, wanted_of}
+use Rattle.session_play.specs.declared.changing.Committed.{Committed}
 use Rattle.session_play.specs.declared.changing.Committed.TheVariants as committed
 use Rattle.session_play.specs.Play.{Act, Answer, Changes, Recover, Play, Ret, Ask, Did, Goes, Next, Go, Last}
-use Rattle.play_safety.specs.Passes.{decided_in, Commits, Passes}
+use Rattle.play_safety.specs.Passes.{decided_in, Commits, Passes, PassesAll, again, last, cut}
 
 -- a commit of this actor under this token, of files that it may change
 pub record IsBy (actor : List ℕ) (token : ℕ) (c : Commit) : Type 0 where
@@ -97,7 +99,33 @@ PlaysAreSafe = (p : Play (Unit {0})) (actor : List ℕ) (token : ℕ) (d : Disk)
 abbrev pub TracesAreRead : Type 0
 TracesAreRead = (p : Play (Unit {0})) (d : Disk) (es : List Event) (out : Result Unit Stop) → Goes p (own es) out → (commits : Commits) × Passes p d es commits out
 
--- An answered commit that was done is decided in its own stretch, which holds no output. So what is said of it is said behind its decision.
+-- A commit that was answered as done is decided in these events, and they hold no output; without a change there is nothing to decide. A
+-- recovery decides nothing.
+abbrev pub IsDecidedAs : Commit → Committed → Disk → List Event → Type 0
+IsDecidedAs c committed.Done d es = 0 < length c.changes → (decided_in c d es ≡ 1) × (list_any is_output es ≡ false)
+IsDecidedAs c a d es = Unit {0}
+
+abbrev pub OfAnswer : (act : Act) → Answer act → Disk → List Event → Type 0
+OfAnswer (Changes c) a d es = IsDecidedAs c a d es
+OfAnswer act a d es = Unit {0}
+
+-- Each commit of a play that was answered as done is decided in its own stretch, which holds no output. So whatever is said behind its answer is
+-- said behind its decision.
+abbrev pub AnswersAreDecided : {R : Type 0} (p : Play R) (d : Disk) (es : List Event) (commits : Commits) (out : Result R Stop) → Passes p d es commits out → Type 0
+AnswersAreDecided (Ret r) d es commits out passes = Unit {0}
+AnswersAreDecided (Ask act go) d es commits out (inl (answer, front, rest, later, is, did, commits_is, goes)) =
+    OfAnswer act answer d front × AnswersAreDecided (go answer) (disk d front) rest later out goes
+AnswersAreDecided (Ask act go) d es commits out (inr stopped) = Unit {0}
+
+-- the same of all rounds of a loop
+abbrev pub AllAnswersAreDecided : {X R : Type 0} {round : X → Play (Next X R)} {x : X} {d : Disk} {es : List Event} {commits : Commits} {out : Result R Stop}
+    → PassesAll round x d es commits out → Type 0
+AllAnswersAreDecided {round = round} (again {x = x} {y = y} {d = d} front rest first later is commits_is goes more) =
+    AnswersAreDecided (round x) d front (record { accepted = first; pending = [] }) (Ok (Go y)) goes × AllAnswersAreDecided more
+AllAnswersAreDecided {round = round} (last {x = x} {d = d} {es = es} {commits = commits} {r = r} goes) = AnswersAreDecided (round x) d es commits (Ok (Last r)) goes
+AllAnswersAreDecided {round = round} (cut {x = x} {d = d} {es = es} {commits = commits} {cause = cause} goes) = AnswersAreDecided (round x) d es commits (Err cause) goes
+
+-- so it is in the traces of plays whose commits are all of one actor and token
 abbrev pub DoneIsDecided : Type 0
-DoneIsDecided = (c : Commit) (actor : List ℕ) (token : ℕ) (d : Disk) (es : List Event) → IsBy actor token c → MayRun actor token d es → 0 < length c.changes
-    → Did (Changes c) committed.Done (own es) → (decided_in c d es ≡ 1) × (list_any is_output es ≡ false)
+DoneIsDecided = (p : Play (Unit {0})) (actor : List ℕ) (token : ℕ) (d : Disk) (es : List Event) (commits : Commits) (out : Result Unit Stop)
+    → EachCommit (IsBy actor token) p → MayRun actor token d es → (passes : Passes p d es commits out) → AnswersAreDecided p d es commits out passes

@@ -12,7 +12,7 @@ pub fn traces_are_read()
     ensures { TracesAreRead }
 {}
 
-/// A commit that is answered as done is decided in its own stretch of events, which holds no output.
+/// Each commit of a play that is answered as done is decided in its own stretch of events, which holds no output.
 pub fn done_is_decided()
     ensures { DoneIsDecided }
 {}

@@ -6,14 +6,17 @@ use Rattle.mailx_top.proofs.EndLemmas.{end-no-fault, only-usage, usage-ended, us
 use Rattle.mailx_top.proofs.RecoveringLemmas.{recovering-explained}
 use Rattle.mailx_top.proofs.RoundLemmas.{threads-round, loads-round}
 use Rattle.mailx_top.proofs.CrashLemmas.{safely}
+use Rattle.mailx_top.proofs.RecordLemmas.{record-explained}
 use Rattle.mailx_top.proofs.top.run.Goals as goal
 
 pub returns-in-Ok-clause-run : goal.returns-in-Ok-clause-run
 returns-in-Ok-clause-run g c =
     let env = c.args.env.now in
+    let fits : env.token < 2 ^ 64 = omega arith in
     Ran-then (λ front rest loop said. record {
       whole = record { out = Ok c.in-Ok.«end».status; front = front; behind = rest; is = refl; plays = loop; ending = (refl, rw c.in-Ok.ensures.line at said) };
       explained = loop-explained (round env) input_of is_opening _ front _ (threads-round env) (loads-round env) refl loop;
+      record_met = record-explained env fits _ front _ loop;
       start = recovering-explained env _ front _ loop;
     }) c.in-Ok.ensures.ran c.say_end.ensures
 
@@ -44,9 +47,11 @@ returns-in-Err-clause-bad_name g c = λ bad. rw c.stop_status.ensures (bad-cut c
 pub returns-in-Err-clause-run : goal.returns-in-Err-clause-run
 returns-in-Err-clause-run g c =
     let env = c.args.env.now in
+    let fits : env.token < 2 ^ 64 = omega arith in
     Ran-then (λ front rest loop said. record {
       whole = record { out = Err c.in-Err.cause; front = front; behind = rest; is = refl; plays = loop; ending = (c.stop_status.ensures, said) };
       explained = loop-explained (round env) input_of is_opening _ front _ (threads-round env) (loads-round env) refl loop;
+      record_met = record-explained env fits _ front _ loop;
       start = recovering-explained env _ front _ loop;
     }) c.in-Err.ensures.ran c.say_cut.ensures
 
