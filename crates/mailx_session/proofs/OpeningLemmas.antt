@@ -1,5 +1,5 @@
 -- The desk of a folder that is opened is valid.
-use Rattle.std.proofs.Common.{◌≡◌, ◌≤◌, ℕ, List, [], ◌∷◌, ◌++◌, length, map, refl, sym, ap, ◌∙◌, arith}
+use Rattle.std.proofs.Common.{◌≡◌, Bool, ◌≤◌, ℕ, List, [], ◌∷◌, ◌++◌, length, map, refl, sym, ap, ◌∙◌, arith}
 use Rattle.std.specs.Prelude.{All, IfSome, false}
 use Rattle.std.specs.List.{AllZip, range_with_len}
 use Rattle.std.proofs.lemmas.List.Sorted.{IsPermutation-refl}
@@ -16,7 +16,7 @@ use Rattle.message_state.specs.Status.{mark_of}
 use Rattle.session_play.specs.Knowing.{AreRows}
 use Rattle.command_desk.specs.declared.desk.Desk.{Desk}
 use Rattle.command_desk.specs.Desks.{IsDesk, AreRowsButMarks}
-use Rattle.mailx_session.specs.Openings.{desk_with, with_folder, with_page, plain, first_current, opened}
+use Rattle.mailx_session.specs.Openings.{desk_with, is_system, with_folder, with_page, plain, first_current, opened}
 
 -- a row more
 pub zip-push : {A B : Type 0} (R : A → B → Type 0) (xs : List A) (ys : List B) (x : A) (y : B) → AllZip R xs ys → R x y → AllZip R (xs ++ x ∷ []) (ys ++ y ∷ [])
@@ -36,9 +36,9 @@ all-aside (t ∷ ts) [] h = absurd h
 all-aside (t ∷ ts) (r ∷ rs) h = (marks-aside t r h.0, all-aside ts rs h.1)
 
 -- a folder that was just loaded
-pub opened-desk : (desk : Desk) (name bytes : List ℕ) (rows : List Row) → 2 ≤ desk.places.width → AreRows (texts_of bytes) rows → All (λ (row : Row). IfSome row.moment IsInYears) rows → length rows ≤ 1_000_000 → first_current rows ≤ length rows
-    → IsDesk (with_folder desk (record { name = name; system = false; folder = bytes; marks = map (λ row. row.mark) rows }) (plain rows))
-opened-desk desk name bytes rows wide are years few within = record {
+pub opened-desk : (desk : Desk) (name bytes : List ℕ) (system : Bool) (rows : List Row) → 2 ≤ desk.places.width → AreRows (texts_of bytes) rows → All (λ (row : Row). IfSome row.moment IsInYears) rows → length rows ≤ 1_000_000 → first_current rows ≤ length rows
+    → IsDesk (with_folder desk (record { name = name; system = system; folder = bytes; marks = map (λ row. row.mark) rows }) (plain rows))
+opened-desk desk name bytes system rows wide are years few within = record {
   shown = record { few = few; order = IsPermutation-refl (range_with_len 1 (length rows)); depths = length-replicate (length rows) 0 ∙ sym (length-range_with_len 1 (length rows)); current = within; years = years };
   rows = all-aside (texts_of bytes) rows are;
   marks = refl;
@@ -60,10 +60,12 @@ pub paged-desk : (desk : Desk) → IsDesk desk → IsDesk (with_page desk)
 paged-desk desk d = record { shown = d.shown; rows = d.rows; marks = d.marks; width = d.width }
 
 -- a folder that was put on the desk is opened
-pub opened-is : (desk new : Desk) (name bytes : List ℕ) (rows : List Row) (marks : List Mark) (shown : Shown) → new ≡ with_page (with_folder desk (record { name = name; system = false; folder = bytes; marks = marks }) shown)
+pub opened-is : (desk new : Desk) (name bytes : List ℕ) (system : Bool) (rows : List Row) (marks : List Mark) (shown : Shown)
+    → new ≡ with_page (with_folder desk (record { name = name; system = system; folder = bytes; marks = marks }) shown) → system ≡ is_system desk.places name
     → marks ≡ map (λ row. row.mark) rows → shown ≡ plain rows → new ≡ opened desk name bytes rows
 unfolding opened
-opened-is desk new name bytes rows marks shown put same is =
+opened-is desk new name bytes system rows marks shown put mailbox same is =
     put
-    ∙ ap (λ (s : Shown). with_page (with_folder desk (record { name = name; system = false; folder = bytes; marks = marks }) s)) is
-    ∙ ap (λ (ms : List Mark). with_page (with_folder desk (record { name = name; system = false; folder = bytes; marks = ms }) (plain rows))) same
+    ∙ ap (λ (s : Shown). with_page (with_folder desk (record { name = name; system = system; folder = bytes; marks = marks }) s)) is
+    ∙ ap (λ (ms : List Mark). with_page (with_folder desk (record { name = name; system = system; folder = bytes; marks = ms }) (plain rows))) same
+    ∙ ap (λ (b : Bool). with_page (with_folder desk (record { name = name; system = b; folder = bytes; marks = map (λ (row : Row). row.mark) rows }) (plain rows))) mailbox

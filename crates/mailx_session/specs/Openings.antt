@@ -1,7 +1,8 @@
 -- The desk that a session begins with.
-use Rattle.std.specs.Prelude.{◌≡◌, ℕ, ◌+◌, min, Bool, true, false, ◌==◌, List, [], ◌++◌, map, length, replicate, codes, Option, Some, None, position, if◌then◌else◌}
+use Rattle.std.specs.Prelude.{◌≡◌, ℕ, ◌+◌, min, Bool, true, false, not, ◌&&◌, ◌==◌, List, [], ◌++◌, map, length, replicate, codes, Option, Some, None, position, if◌then◌else◌}
 use Rattle.std.specs.List.{range_with_len, count_by}
 use Rattle.std.specs.Fmt.{decimal}
+use Rattle.std.specs.Str.{bytes_eq}
 use Rattle.std.specs.declared.result.Result.TheVariants.{Ok, Err}
 use Rattle.mail_text.specs.Lines.{with_feed}
 use Rattle.mbox_scan.specs.Mailbox.{texts_of}
@@ -77,13 +78,17 @@ with_page desk = record desk { page = page_at desk (page_size desk) }
 abbrev pub plain : List Row → Shown
 plain rows = record { rows = rows; order = range_with_len 1 (length rows); depth = replicate (length rows) 0; current = first_current rows }
 
+-- the file of this name is the system mailbox; where mbox has that name too it counts as another folder, so that nothing is moved within one file
+abbrev pub is_system : Places → List ℕ → Bool
+is_system places name = bytes_eq name places.mail && not (bytes_eq name places.mbox)
+
 -- the desk with another folder, whose messages are shown so
 abbrev pub with_folder : Desk → Open → Shown → Desk
 with_folder desk folder shown = record desk { folder = folder; shown = shown; fresh = true }
 
 -- a folder of these bytes is opened, with the rows of its texts, in order of number
 unfoldable pub opened : Desk → List ℕ → List ℕ → List Row → Desk
-opened desk name bytes rows = with_page (with_folder desk (record { name = name; system = false; folder = bytes; marks = map (λ row. row.mark) rows }) (plain rows))
+opened desk name bytes rows = with_page (with_folder desk (record { name = name; system = is_system desk.places name; folder = bytes; marks = map (λ row. row.mark) rows }) (plain rows))
 
 -- the state once a folder was opened on its desk
 abbrev pub with_opened : SessionState → List ℕ → List ℕ → List Row → SessionState

@@ -6,7 +6,7 @@ ghost use Rattle.mail_dates.specs.Clock.{IsInYears};
 ghost use Rattle.mbox_scan.specs.Mailbox.{texts_of};
 ghost use Rattle.session_play.specs.Knowing.{AreRows};
 ghost use Rattle.message_state.specs.declared.row.Row.{Row};
-ghost use Rattle.mailx_session.specs.Openings.{is_in, first_current, desk_with, state_with, IsKnownSize, plain, with_folder, with_page};
+ghost use Rattle.mailx_session.specs.Openings.{is_in, is_system, first_current, desk_with, state_with, IsKnownSize, plain, with_folder, with_page};
 ghost use Rattle.command_desk.specs.Desks.{IsDesk};
 
 use crate::{Frames, SessionState};
@@ -17,6 +17,14 @@ use message_show::FieldSets;
 use message_state::{Mark, Order, Row, RowList, Shown, State, row_of};
 use read_commands::{Desk, Open, Refusal, page_of, page_size};
 use std::alloc::Global;
+
+/// Whether the file of this name is the system mailbox. Where mbox has that name too it counts as another folder, so
+/// that nothing is moved within one file.
+pub(crate) fn is_system(places: &Places, name: &[u8]) -> bool
+    ensures { result ≡ is_system places.now name.now }
+{
+    name == places.mail.bytes() && name != places.mbox.bytes()
+}
 
 // The desk before a folder is opened.
 fn first_desk(alloc: Global, places: Places) -> Result<Desk, Memory>

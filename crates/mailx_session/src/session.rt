@@ -18,7 +18,9 @@ ghost use Rattle.mailx_session.specs.Openings.{first_state, greeting, Opens};
 use crate::greeting::greeting;
 use crate::leaving::leave;
 use crate::lines::input_line;
-use crate::opening::{first_state, known_page_size, marks_of, plain_view, put_folder, rows_of};
+use crate::opening::{
+    first_state, is_system, known_page_size, marks_of, plain_view, put_folder, rows_of,
+};
 use crate::{Flow, Frames, RunError, SessionState, Status};
 use host_port::Host;
 use mail_text::{Memory, Text};
@@ -84,9 +86,10 @@ impl Session {
         let rows = rows_of(self.alloc, &folder)?;
         let marks = marks_of(self.alloc, rows.items())?;
         let shown = plain_view(self.alloc, rows)?;
+        let system = is_system(&self.state.desk.places, name.bytes());
         let folder = Open {
             name,
-            system: false,
+            system,
             folder,
             marks,
         };
