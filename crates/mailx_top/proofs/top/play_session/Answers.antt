@@ -2,7 +2,7 @@ use Rattle.std.proofs.Common.{refl}
 use Rattle.host_port.proofs.RanLemmas.{Ran-then, Ran-map}
 use Rattle.session_play.specs.Play.{again, last, cut}
 use Rattle.mailx_top.specs.Wants.{start_from}
-use Rattle.mailx_top.proofs.EndLemmas.{opens-none, start-unopened, start-end}
+use Rattle.mailx_top.proofs.EndLemmas.{caused-since, opens-none, start-unopened, start-end}
 use Rattle.mailx_top.proofs.top.play_session.Goals as goal
 
 pub returns-in-Ok-None-clause-ran : goal.returns-in-Ok-None-clause-ran
@@ -23,3 +23,8 @@ returns-in-Ok-Some-clause-bad_name g c = λ bad. start-unopened _ (rw c.in-Ok-So
 
 pub returns-in-Ok-Some-clause-plain : goal.returns-in-Ok-Some-clause-plain
 returns-in-Ok-Some-clause-plain g c = start-end _ (rw c.in-Ok-Some.field-0-is at c.in-Ok-Some.ensures.stops)
+
+pub returns-in-Ok-None-clause-cause : goal.returns-in-Ok-None-clause-cause
+returns-in-Ok-None-clause-cause g c =
+    caused-since (g.H.Host.world.counts c.args.host.now) (g.H.Host.world.counts c.recover_first.new.host) (g.H.Host.world.counts c.open_session.new.host) c.open_session.result
+    (c.in-Ok-None.ensures.ran (start_from c.args.start)).never_fall c.open_session.ensures.cause
