@@ -20,6 +20,11 @@ use Rattle.session_play.specs.declared.act.Found.{Found}
 use Rattle.session_play.specs.declared.act.Found.TheVariants as found
 use Rattle.session_play.specs.declared.changing.Committed.{Committed}
 use Rattle.session_play.specs.declared.changing.Committed.TheVariants as committed
+use Rattle.std.proofs.lemmas.List.Elements.{All-nil}
+use Rattle.folder_change.specs.Changes.{name_of}
+use Rattle.folder_commit.specs.Names.{is_file_name}
+use Rattle.session_play.specs.declared.recovering.RecoveryAnswer.{RecoveryAnswer}
+use Rattle.session_play.specs.declared.recovering.RecoveryAnswer.TheVariants as recovery
 use Rattle.session_play.specs.declared.stop.Stop.{Stop}
 use Rattle.session_play.specs.Input.{Input}
 use Rattle.session_play.specs.Acts.{AllEnds, is_neutral, may_load}
@@ -58,7 +63,7 @@ use Rattle.mailx_session.specs.Leaving.{left_by, leaving}
 use Rattle.mailx_session.specs.Rounds.{line_play, typed_play, dropped_play, counted_play, waiting_play}
 use Rattle.mailx_top.specs.declared.environment.Environment.{Environment}
 use Rattle.mailx_top.specs.Words.{Start, are_read, start_of}
-use Rattle.mailx_top.specs.Meaning.{RunState, Opening, Reading, Leaving, round, last_round, opening, folder_name, with_name_or_fault, loaded, with_list, greeted, turn, line_round, with_input, prompted, message_limit, first_of, actor_in}
+use Rattle.mailx_top.specs.Meaning.{RunState, Recovering, recovered, Opening, Reading, Leaving, round, last_round, opening, folder_name, with_name_or_fault, loaded, with_list, greeted, turn, line_round, with_input, prompted, message_limit, first_of, actor_in}
 use Rattle.mailx_top.specs.Statuses.{line_at_stop, line_at_end}
 use Rattle.mailx_top.specs.Runs.{Ending, IsRun}
 use Rattle.mailx_top.specs.Crash.{IsSafe}
@@ -81,6 +86,7 @@ NextOf actor token (Go s) = IsOf actor token s
 NextOf actor token (Last e) = Unit {0}
 
 abbrev pub StateOf : List ℕ → ℕ → RunState → Type 0
+StateOf actor token (Recovering start) = Unit {0}
 StateOf actor token (Opening start) = Unit {0}
 StateOf actor token (Reading s i) = IsOf actor token s
 StateOf actor token (Leaving s i) = IsOf actor token s
@@ -288,8 +294,24 @@ module _ (actor : List ℕ) (token : ℕ) where
   named-of s start (Ok name) of = either-of (is_short_name name) _ _ (λ f. loaded-of s start name f of) (λ u. tt)
   named-of s start (Err line) of = λ u. tt
 
+  recovered-commits : (start : Start) (a : RecoveryAnswer) → EachCommit (IsBy actor token) (recovered start a)
+  recovered-commits start (recovery.Done found) = tt
+  recovered-commits start (recovery.Busy name) = (tt, λ u. tt)
+  recovered-commits start recovery.NotARecord = tt
+  recovered-commits start (recovery.TooLarge name length) = tt
+
+  recovered-of : (start : Start) (a : RecoveryAnswer) → AllEnds (NextKeeps (StateOf actor token)) (recovered start a)
+  recovered-of start (recovery.Done found) = tt
+  recovered-of start (recovery.Busy name) = λ u. tt
+  recovered-of start recovery.NotARecord = tt
+  recovered-of start (recovery.TooLarge name length) = tt
+
 -- each commit of a round is one of the run
 pub round-commits : (env : Environment) (x : RunState) → StateOf (actor_in env) env.token x → EachCommit (IsBy (actor_in env) env.token) (round env x)
+round-commits env (Recovering None) of = tt
+round-commits env (Recovering (Some start)) of =
+    let none : AreFiles (actor_in env) [] = All-nil (λ (c : Change). is_file_name (actor_in env) (name_of c) ≡ true) in
+    (record { actor_is = refl; token_is = refl; files = none }, recovered-commits (actor_in env) env.token start)
 round-commits env (Opening start) of =
     neutral-commits (IsBy (actor_in env) env.token) (opening env start) (weaker-acts (may_load true) is_neutral may-neutral (opening env start) (loads-round env (Opening start)))
 round-commits env (Reading s i) of = line-commits (actor_in env) env.token s i (taken s.frames) of
@@ -297,6 +319,8 @@ round-commits env (Leaving s i) of = last-commits (actor_in env) env.token s of
 
 -- and each round leaves a state of its actor and token
 pub round-of : (env : Environment) (x : RunState) → StateOf (actor_in env) env.token x → AllEnds (NextKeeps (StateOf (actor_in env) env.token)) (round env x)
+round-of env (Recovering None) of = tt
+round-of env (Recovering (Some start)) of = recovered-of (actor_in env) env.token start
 round-of env (Opening None) of = λ u. tt
 round-of env (Opening (Some start)) of = named-of (actor_in env) env.token (first_of env) start (folder_name (first_of env) start) (refl, refl)
 round-of env (Reading s i) of = line-of (actor_in env) env.token s i (taken s.frames) of
@@ -332,8 +356,8 @@ safely words env s d es fits honest may run =
       is = parts.2;
       plays = read.1;
       ending = ending;
-      answered = run-decided (round env) (Opening (start_of words env.pairs)) actor env.token d front rest read.0 w.out (StateOf actor env.token)
+      answered = run-decided (round env) (Recovering (start_of words env.pairs)) actor env.token d front rest read.0 w.out (StateOf actor env.token)
           (round-commits env) (round-of env) tt run_so read.1;
-      safe = subst C (sym parts.2) (run-safe (round env) (Opening (start_of words env.pairs)) actor env.token d front rest read.0 w.out (StateOf actor env.token)
+      safe = subst C (sym parts.2) (run-safe (round env) (Recovering (start_of words env.pairs)) actor env.token d front rest read.0 w.out (StateOf actor env.token)
           (round-commits env) (round-of env) tt run_so read.1 (ending-looks actor (are_read words) s w.out (own rest) ending));
     }

@@ -1,5 +1,5 @@
 -- How a run ends, and the last line of one that was cut off.
-use Rattle.std.proofs.Common.{◌≡◌, ℕ, Bool, true, false, List, [], ◌∷◌, refl, sym, ◌∙◌, ap, subst, inl, inr, take}
+use Rattle.std.proofs.Common.{◌≡◌, ◌≤◌, arith, ℕ, Bool, true, false, List, [], ◌∷◌, refl, sym, ◌∙◌, ap, subst, inl, inr, take}
 use Rattle.std.specs.declared.result.Result.{Result}
 use Rattle.std.specs.declared.result.Result.TheVariants.{Ok, Err}
 use Rattle.host_port.specs.declared.event.Event.{Event}
@@ -9,7 +9,7 @@ use Rattle.host_port.specs.Disk.{Disk}
 use Rattle.host_port.specs.Calls.{Said}
 use Rattle.host_port.specs.Ran.{Agrees}
 use Rattle.host_port.specs.Own.{own, OnlyLooks}
-use Rattle.host_port.specs.Calls.{Counts}
+use Rattle.host_port.specs.Calls.{Counts, NeverFall, Rose}
 use Rattle.session_play.specs.declared.stop.Stop.{Stop}
 use Rattle.session_play.specs.declared.stop.Stop.TheVariants as stop
 use Rattle.std.specs.Prelude.{codes, ◌++◌, if◌then◌else◌, IfOk, IfSome, IfNone, IsSome}
@@ -17,7 +17,10 @@ use Rattle.session_play.specs.Play.{Caused, Play, Ret, Ask, Goes, Next, Go, Last
 use Rattle.mailx_vars.specs.declared.environment.Places.{Places}
 use Rattle.mailx_vars.specs.Environment.{knows_user, places_in, places_of}
 use Rattle.mailx_top.specs.declared.environment.Environment.{Environment}
-use Rattle.mailx_top.specs.Meaning.{actor_in}
+use Rattle.mailx_top.specs.Meaning.{actor_in, next_state, after_recovery}
+use Rattle.mailx_session.specs.declared.state.SessionState.{SessionState}
+use Rattle.session_play.specs.Input.{Input}
+use Rattle.session_play.specs.Cuts.{IsLoadCut}
 use Rattle.mailx_session.specs.declared.error.RunError.{RunError}
 use Rattle.mailx_session.specs.declared.error.RunError.TheVariants as error
 use Rattle.mailx_session.specs.declared.status.Status.{Status}
@@ -27,7 +30,7 @@ use Rattle.mailx_session.specs.Statuses.{IsEnd, IsLineEnd}
 use Rattle.std.specs.declared.option.Option.{Option}
 use Rattle.std.specs.declared.option.Option.TheVariants.{Some, None}
 use Rattle.mailx_top.specs.Statuses.{status_at_stop}
-use Rattle.mailx_top.specs.Usage.{IsSayCut, EndsAsNamed, IsBadName, IsOrCut}
+use Rattle.mailx_top.specs.Usage.{IsSayCut, IsStartCut, IsStartEnd, EndsOr, EndsOrOpens, StopsAtStart, EndsUnopened, EndsAsNamed, IsBadName, IsOrCut, IsUnopened}
 use Rattle.mailx_top.specs.Words.{Start}
 use Rattle.mailx_top.specs.Runs.{AsFar, SaysLast, SaysAtEnd}
 
@@ -83,6 +86,18 @@ pub caused-line : (T : Type 0) (old new : Counts) (e : RunError) → LineCaused 
 caused-line T old new error.Output rose = rose
 caused-line T old new error.Disk rose = rose
 caused-line T old new error.Memory c = tt
+
+rose-later : (a b c : ℕ) → a ≤ b → Rose b c → Rose a c
+rose-later a b c le rose = omega arith
+
+-- the cause of a later cut is one since before
+pub caused-since : {T : Type 0} (a b c : Counts) (r : Result T Stop) → NeverFall a b → Caused b c r → Caused a c r
+caused-since a b c (Ok t) fall u = tt
+caused-since a b c (Err stop.Input) fall rose = rose-later a.ins b.ins c.ins fall.ins rose
+caused-since a b c (Err stop.Output) fall rose = rose-later a.outs b.outs c.outs fall.outs rose
+caused-since a b c (Err stop.Disk) fall rose = rose-later a.disks b.disks c.disks fall.disks rose
+caused-since a b c (Err stop.TooMuch) fall u = tt
+caused-since a b c (Err stop.Memory) fall u = tt
 
 -- where a run has ended nothing is said of its going on
 pub ended-whatever : (r : Result (Option Status) Stop) (P : Type 0) → IfOk r IsSome → IfOk r (λ e. IfNone e P)
@@ -163,10 +178,87 @@ pub usage-cut : (env : Environment) (start : Option Start) (cause : Stop) → En
 usage-cut env None cause named none = or-cut status.Usage cause named
 usage-cut env (Some start) cause named none = absurd (cc none)
 
-pub bad-ended : (env : Environment) (start : Option Start) (s : Status) → EndsAsNamed env start (Ok s) → IsBadName env start → IsOrCut status.NoFolder s
-bad-ended env None s named never = absurd never
-bad-ended env (Some start) s named bad = or-same status.NoFolder s (named.1 bad)
+-- a run that opened no folder
+unopened-end : (s : Status) → EndsUnopened (Ok s) → IsUnopened s
+unopened-end status.NoFolder u = tt
+unopened-end status.Refused u = tt
+unopened-end status.BadRecord u = tt
+unopened-end status.Done never = absurd never
+unopened-end status.Usage never = absurd never
+unopened-end status.InputFault never = absurd never
+unopened-end status.OutputFault never = absurd never
+unopened-end status.DiskFault never = absurd never
+unopened-end status.Memory never = absurd never
+unopened-end status.InputLimit never = absurd never
 
-pub bad-cut : (env : Environment) (start : Option Start) (cause : Stop) → EndsAsNamed env start (Err cause) → IsBadName env start → IsOrCut status.NoFolder (status_at_stop cause)
+unopened-cut : (cause : Stop) → IsStartCut cause → IsUnopened (status_at_stop cause)
+unopened-cut stop.Output c = tt
+unopened-cut stop.Disk c = tt
+unopened-cut stop.Memory c = tt
+unopened-cut stop.Input never = absurd never
+unopened-cut stop.TooMuch never = absurd never
+
+pub bad-ended : (env : Environment) (start : Option Start) (s : Status) → EndsAsNamed env start (Ok s) → IsBadName env start → IsUnopened s
+bad-ended env None s named never = absurd never
+bad-ended env (Some start) s named bad = unopened-end s (named.1 bad)
+
+pub bad-cut : (env : Environment) (start : Option Start) (cause : Stop) → EndsAsNamed env start (Err cause) → IsBadName env start → IsUnopened (status_at_stop cause)
 bad-cut env None cause named never = absurd never
-bad-cut env (Some start) cause named bad = or-cut status.NoFolder cause (named.1 bad)
+bad-cut env (Some start) cause named bad = unopened-cut cause (named.1 bad)
+
+say-start : (cause : Stop) → IsSayCut cause → IsStartCut cause
+say-start stop.Output c = tt
+say-start stop.Memory c = tt
+say-start stop.Input never = absurd never
+say-start stop.Disk never = absurd never
+say-start stop.TooMuch never = absurd never
+
+-- the opening opened none
+pub opens-none : (out : Result Status Stop) → EndsOr status.NoFolder out → EndsUnopened out
+opens-none (Ok s) is = subst (λ (s : Status). EndsUnopened (Ok s)) (sym is) tt
+opens-none (Err cause) c = say-start cause c
+
+-- the recovery ended the run
+pub start-unopened : (s : Status) → IsStartEnd s → EndsUnopened (Ok s)
+start-unopened status.Refused e = tt
+start-unopened status.BadRecord e = tt
+start-unopened status.Done never = absurd never
+start-unopened status.NoFolder never = absurd never
+start-unopened status.Usage never = absurd never
+start-unopened status.InputFault never = absurd never
+start-unopened status.OutputFault never = absurd never
+start-unopened status.DiskFault never = absurd never
+start-unopened status.Memory never = absurd never
+start-unopened status.InputLimit never = absurd never
+
+pub start-end : (s : Status) → IsStartEnd s → IsEnd s
+start-end status.Refused e = tt
+start-end status.BadRecord e = tt
+start-end status.Done never = absurd never
+start-end status.NoFolder never = absurd never
+start-end status.Usage never = absurd never
+start-end status.InputFault never = absurd never
+start-end status.OutputFault never = absurd never
+start-end status.DiskFault never = absurd never
+start-end status.Memory never = absurd never
+start-end status.InputLimit never = absurd never
+
+-- a line that is said where the recovery ends the run
+pub said-stops : (result : Result (Option Status) Stop) → EndsOrOpens status.Refused result → StopsAtStart result
+said-stops (Ok None) never = absurd never
+said-stops (Ok (Some s)) is = subst IsStartEnd (sym is) tt
+said-stops (Err cause) c = say-start cause c
+
+-- a load's cut is one of the start
+pub load-stops : (cause : Stop) → IsLoadCut cause → IsStartCut cause
+load-stops stop.Disk c = tt
+load-stops stop.Memory c = tt
+load-stops stop.Input never = absurd never
+load-stops stop.Output never = absurd never
+load-stops stop.TooMuch never = absurd never
+
+-- what a line leads to behind a busy right
+pub said-next : (s : SessionState) (i : Input) (start : Start) (result : Result (Option Status) Stop) → EndsOrOpens status.Refused result → next_state s i result ≡ after_recovery start result
+said-next s i start (Ok None) never = absurd never
+said-next s i start (Ok (Some e)) is = refl
+said-next s i start (Err cause) c = refl

@@ -7,4 +7,5 @@ pub mod OpeningLemmas
 pub mod OrderLemmas
 pub mod RoundLemmas
 pub mod WaitingLemmas
+pub mod RecoveringLemmas
 pub mod RecordLemmas

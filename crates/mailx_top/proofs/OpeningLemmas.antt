@@ -32,7 +32,7 @@ use Rattle.mailx_session.specs.States.{with_frames}
 use Rattle.mailx_session.specs.Rounds.{typed_play, waiting_play}
 use Rattle.mailx_top.specs.declared.environment.Environment.{Environment}
 use Rattle.mailx_top.specs.Words.{Start}
-use Rattle.mailx_top.specs.Meaning.{RunState, first_of, Opening, Reading, Leaving, round, opening, folder_name, with_name_or_fault, loaded, with_list, greeted, turn, next_turn, line_round, with_input, prompted, says_and_ends, is_opening, usage, message_limit}
+use Rattle.mailx_top.specs.Meaning.{RunState, first_of, Recovering, Opening, Reading, Leaving, round, opening, folder_name, with_name_or_fault, loaded, with_list, greeted, turn, next_turn, line_round, with_input, prompted, says_and_ends, is_opening, usage, message_limit}
 use Rattle.session_play.specs.Acts.{AllActs, AllEnds, loads_nothing}
 use Rattle.session_play.specs.Causes.{some_load_saw, counted, events_at}
 use Rattle.session_play.proofs.SawLemmas.{Unseen, unseen-then, goes-unseen}
@@ -46,7 +46,8 @@ use Rattle.mailx_top.proofs.RoundLemmas.{loaded-acts}
 use Rattle.mailx_top.specs.Openings.{saw_held, is_no_list, saw_no_folder, OpensNone, EndsOrIsCut, IsOpeningExplained}
 use Rattle.mailx_top.specs.Usage.{IsNoName, IsBadName}
 
-abbrev IsReadingState : RunState → Type 0
+abbrev pub IsReadingState : RunState → Type 0
+IsReadingState (Recovering start) = ⊥
 IsReadingState (Opening start) = ⊥
 IsReadingState (Reading s i) = Unit {0}
 IsReadingState (Leaving s i) = Unit {0}
@@ -108,7 +109,7 @@ ends-line-round s i (Some p) =
     let t = with_frames s p.1 in bind-ends EndsByLine ReadsOn (waiting_play t p.0) (with_input i) (waiting-ends t p.0) (ends-with i)
 
 -- a round is followed by none that opens a folder
-abbrev ReadsNext : Next RunState Status → Type 0
+abbrev pub ReadsNext : Next RunState Status → Type 0
 ReadsNext (Go y) = IsReadingState y
 ReadsNext (Last e) = Unit {0}
 
@@ -117,7 +118,8 @@ only-next (Ret (Go y)) ends = ends
 only-next (Ret (Last e)) ends = tt
 only-next (Ask act go) ends = λ a. only-next (go a) (ends a)
 
-next-round : (env : Environment) (x : RunState) → IsReadingState x → AllEnds ReadsNext (round env x)
+pub next-round : (env : Environment) (x : RunState) → IsReadingState x → AllEnds ReadsNext (round env x)
+next-round env (Recovering start) never = absurd never
 next-round env (Opening start) never = absurd never
 next-round env (Reading s i) reading = only-next (round env (Reading s i)) (ends-line-round s i (taken s.frames))
 next-round env (Leaving s i) reading = bind-ends (λ (e : Status). Unit {0}) ReadsNext (leaving s) (λ e. Ret (Last e)) (any-ends (leaving s)) (λ e t. tt)
@@ -125,11 +127,13 @@ next-round env (Leaving s i) reading = bind-ends (λ (e : Status). Unit {0}) Rea
 -- how the last round of a run ends it
 round-ends : (env : Environment) (x : RunState) (es : List Event) (r : Status) → IsReadingState x → (goes : Goes (round env x) es (Ok (Last r)))
     → opened_end r ≡ end_at (is_refused_at x (first_answer (round env x) es (Ok (Last r)) goes))
+round-ends env (Recovering start) es r never goes = absurd never
 round-ends env (Opening start) es r never goes = absurd never
 round-ends env (Reading s i) es r reading goes = goes-ends ReadsOn (round env (Reading s i)) es (Last r) (ends-line-round s i (taken s.frames)) goes
 round-ends env (Leaving s i) es r reading goes = last-ends s es r goes
 
 reads-nothing : (x : RunState) → IsReadingState x → is_opening x ≡ false
+reads-nothing (Recovering start) never = absurd never
 reads-nothing (Opening start) never = absurd never
 reads-nothing (Reading s i) reading = refl
 reads-nothing (Leaving s i) reading = refl
@@ -391,7 +395,7 @@ opening-next : (env : Environment) (start : Option Start) → AllEnds ReadsNext 
 opening-next env None = λ u. tt
 opening-next env (Some start) = named-next (first_of env) start (folder_name (first_of env) start)
 
-opening-reads : (env : Environment) (start : Option Start) (y : RunState) (es : List Event) → Goes (opening env start) es (Ok (Go y)) → IsReadingState y
+pub opening-reads : (env : Environment) (start : Option Start) (y : RunState) (es : List Event) → Goes (opening env start) es (Ok (Go y)) → IsReadingState y
 opening-reads env start y es goes = goes-ends ReadsNext (opening env start) es (Go y) (opening-next env start) goes
 
 -- a run from its opening tells why it opened no folder, and why it was refused

@@ -17,10 +17,15 @@ use Rattle.folder_commit.specs.Commits.{IsCommit}
 use Rattle.folder_commit.specs.Plans.{AreFiles}
 use Rattle.folder_commit.specs.Told.{end_told, TellsEnd}
 use Rattle.folder_commit.proofs.LookLemmas.{is-told}
+use Rattle.folder_recovery.specs.Told.{told_end}
+use Rattle.folder_recovery.proofs.ToldLemmas as recoveries
 use Rattle.session_play.specs.declared.act.Found.{Found}
 use Rattle.session_play.specs.declared.act.Found.TheVariants as found
 use Rattle.session_play.specs.declared.changing.Committed.{Committed}
 use Rattle.session_play.specs.declared.changing.Committed.TheVariants as committed
+use Rattle.session_play.specs.declared.recovering.RecoveryAnswer.{RecoveryAnswer}
+use Rattle.session_play.specs.declared.recovering.RecoveryAnswer.TheVariants as recovery
+use Rattle.session_play.specs.Recovering.{recovery_as, IsRecoveryOf}
 use Rattle.session_play.specs.declared.stop.Stop.{Stop}
 use Rattle.session_play.specs.Input.{Input}
 use Rattle.session_play.specs.Committing.{answer_as}
@@ -54,8 +59,9 @@ use Rattle.mailx_session.specs.Leaving.{left_by, leaving}
 use Rattle.mailx_session.specs.Rounds.{line_play, typed_play, dropped_play, counted_play, waiting_play}
 use Rattle.mailx_top.specs.declared.environment.Environment.{Environment}
 use Rattle.mailx_top.specs.Words.{Start}
-use Rattle.mailx_top.specs.Meaning.{RunState, Opening, Reading, Leaving, round, last_round, folder_name, with_name_or_fault, loaded, with_list, greeted, turn, line_round, with_input, prompted, message_limit, first_of, actor_in}
-use Rattle.mailx_top.specs.Unreadable.{is_unreadable, found_unreadable, met_unreadable, some_unreadable, some_unreadable_in, IsRecordExplained}
+use Rattle.mailx_top.specs.Meaning.{RunState, Recovering, recovered, Opening, Reading, Leaving, round, last_round, opening, folder_name, with_name_or_fault, loaded, with_list, greeted, turn, line_round, with_input, prompted, message_limit, first_of, actor_in}
+use Rattle.mailx_top.specs.Starts.{is_bad_record}
+use Rattle.mailx_top.specs.Unreadable.{is_unreadable, met_unreadable, some_unreadable, some_unreadable_in, IsRecordExplained}
 use Rattle.mailx_top.proofs.CrashLemmas.{StateOf, round-commits, round-of}
 
 -- the answer to a commit of these changes is that the record can't be read
@@ -110,6 +116,18 @@ changes-told actor token (c ∷ cs) base es a fits files (inr (few, h)) =
     let told = is-told actor token (c ∷ cs) base es (answer_as a) fits files (inr (few, h)) in
     end-unreadable (c ∷ cs) (first_names (c ∷ cs)) (end_told actor (c ∷ cs) base es) a (told.2 few)
 
+-- so is the answer to a recovery
+abbrev found_unreadable : RecoveryAnswer → Bool
+found_unreadable recovery.NotARecord = true
+found_unreadable (recovery.TooLarge name n) = true
+found_unreadable a = false
+
+recovery-told : (actor : List ℕ) (token : ℕ) (es : List Event) (a : RecoveryAnswer) → IsRecoveryOf actor token es (recovery_as a) → is_bad_record (told_end actor es) ≡ found_unreadable a
+recovery-told actor token es (recovery.Done f) did = ap is_bad_record (recoveries.is-told actor token es (recovery_as (recovery.Done f)) did)
+recovery-told actor token es (recovery.Busy name) did = ap is_bad_record (recoveries.is-told actor token es (recovery_as (recovery.Busy name)) did)
+recovery-told actor token es recovery.NotARecord did = ap is_bad_record (recoveries.is-told actor token es (recovery_as recovery.NotARecord) did)
+recovery-told actor token es (recovery.TooLarge name n) did = ap is_bad_record (recoveries.is-told actor token es (recovery_as (recovery.TooLarge name n)) did)
+
 -- the same of each act
 abbrev unreadable_by : (act : Act) → Answer act → Bool
 unreadable_by (Changes c) a = answers_unreadable c.changes a
@@ -142,7 +160,7 @@ module _ (actor : List ℕ) (token : ℕ) (fits : token < 2 ^ 64) where
   act-told (Say bytes) a es by did = refl
   act-told (Read name) a es by did = refl
   act-told (Try name) a es by did = refl
-  act-told (Recover b t) a es by did = refl
+  act-told (Recover b t) a es by did = recovery-told b t es a did
   act-told (Know texts) a es by did = refl
 
   -- a play that came to its end
@@ -283,7 +301,15 @@ named-tells : (s : SessionState) (start : Start) (name : OrFault (List ℕ)) →
 named-tells s start (Ok name) = either-tells (is_short_name name) _ _ (λ f. loaded-tells s start name f) (λ u. refl)
 named-tells s start (Err line) = λ u. refl
 
+recovered-tells : (start : Start) (a : RecoveryAnswer) → Tells next_ends (found_unreadable a || false) (recovered start a)
+recovered-tells start (recovery.Done f) = refl
+recovered-tells start (recovery.Busy name) = λ u. refl
+recovered-tells start recovery.NotARecord = refl
+recovered-tells start (recovery.TooLarge name n) = refl
+
 round-tells : (env : Environment) (x : RunState) → Tells next_ends false (round env x)
+round-tells env (Recovering None) = refl
+round-tells env (Recovering (Some start)) = λ a. recovered-tells start a
 round-tells env (Opening None) = λ u. refl
 round-tells env (Opening (Some start)) = named-tells (first_of env) start (folder_name (first_of env) start)
 round-tells env (Reading s i) = line-tells s i (taken s.frames)
@@ -322,5 +348,5 @@ explained-as (Ok e) met tells = record {
 }
 explained-as (Err cause) met tells = record { only = λ is. absurd (cc is); always = λ h. tt }
 
-pub record-explained : (env : Environment) → env.token < 2 ^ 64 → (start : Option Start) (es : List Event) (out : Result Status Stop) (loop : Loop (round env) (Opening start) es out) → IsRecordExplained out (some_unreadable_in loop)
+pub record-explained : (env : Environment) → env.token < 2 ^ 64 → (start : Option Start) (es : List Event) (out : Result Status Stop) (loop : Loop (round env) (Recovering start) es out) → IsRecordExplained out (some_unreadable_in loop)
 record-explained env fits start es out loop = explained-as out (some_unreadable_in loop) (loop-told env fits tt loop)

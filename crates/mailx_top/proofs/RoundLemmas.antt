@@ -6,6 +6,8 @@ use Rattle.std.specs.declared.option.Option.TheVariants.{Some, None}
 use Rattle.mbox_scan.specs.Mailbox.{list_of}
 use Rattle.session_play.specs.declared.act.Found.{Found}
 use Rattle.session_play.specs.declared.act.Found.TheVariants as found
+use Rattle.session_play.specs.declared.recovering.RecoveryAnswer.{RecoveryAnswer}
+use Rattle.session_play.specs.declared.recovering.RecoveryAnswer.TheVariants as recovery
 use Rattle.session_play.specs.Input.{Input, no_input}
 use Rattle.session_play.specs.Play.{Act, Line, Play, Ret, Ask, Next, Go, Last}
 use Rattle.session_play.specs.Acts.{AllActs, Threads, may_load, loads_nothing}
@@ -24,7 +26,7 @@ use Rattle.mailx_session.specs.States.{with_frames}
 use Rattle.mailx_session.specs.Rounds.{typed_play, waiting_play}
 use Rattle.mailx_top.specs.declared.environment.Environment.{Environment}
 use Rattle.mailx_top.specs.Words.{Start}
-use Rattle.mailx_top.specs.Meaning.{RunState, first_of, Opening, Reading, Leaving, round, opening, folder_name, with_name_or_fault, loaded, with_list, greeted, turn, next_turn, line_round, with_input, prompted, input_of, is_opening, message_limit}
+use Rattle.mailx_top.specs.Meaning.{RunState, first_of, Recovering, recovering, recovered, Opening, Reading, Leaving, round, opening, folder_name, with_name_or_fault, loaded, with_list, greeted, turn, next_turn, line_round, with_input, prompted, input_of, is_opening, message_limit}
 use Rattle.session_play.proofs.ShapeLemmas.{bind-acts, bind-threads, weaker-acts, may-all}
 use Rattle.mailx_session.specs.Leaving.{leaving}
 use Rattle.mailx_top.proofs.OrderLemmas.{Keeps}
@@ -61,6 +63,16 @@ threads-opening : (env : Environment) (start : Option Start) → On no_input (op
 threads-opening env None = (tt, λ u. tt)
 threads-opening env (Some start) = threads-named (first_of env) start (folder_name (first_of env) start)
 
+threads-recovered : (start : Start) (a : RecoveryAnswer) → On no_input (recovered start a)
+threads-recovered start (recovery.Done found) = refl
+threads-recovered start (recovery.Busy name) = (tt, λ u. tt)
+threads-recovered start recovery.NotARecord = tt
+threads-recovered start (recovery.TooLarge name length) = tt
+
+threads-recovering : (env : Environment) (start : Option Start) → On no_input (recovering env start)
+threads-recovering env None = refl
+threads-recovering env (Some start) = (tt, threads-recovered start)
+
 threads-with : (i : Input) (n : Next SessionState Status) (j : Input) → j ≡ i → On j (with_input i n)
 threads-with i (Go s) j same = same
 threads-with i (Last e) j same = tt
@@ -86,6 +98,7 @@ threads-line-round s i (Some p) =
     bind-threads (λ (n : Next SessionState Status) (k : Input). k ≡ i) (NextFrom input_of) (waiting_play t p.0) (with_input i) i (waiting-threads t p.0 i) (threads-with i)
 
 pub threads-round : (env : Environment) (x : RunState) → On (input_of x) (round env x)
+threads-round env (Recovering start) = threads-recovering env start
 threads-round env (Opening start) = threads-opening env start
 threads-round env (Reading s i) = threads-line-round s i (taken s.frames)
 threads-round env (Leaving s i) = bind-threads (Keeps i) (NextFrom input_of) (leaving s) (λ e. Ret (Last e)) i (leaving-threads s i) (λ e j same. tt)
@@ -122,6 +135,16 @@ opening-acts : (env : Environment) (start : Option Start) → AllActs (may_load 
 opening-acts env None = (refl, λ u. tt)
 opening-acts env (Some start) = named-acts (first_of env) start (folder_name (first_of env) start)
 
+recovered-acts : (start : Start) (a : RecoveryAnswer) → AllActs (may_load false) (recovered start a)
+recovered-acts start (recovery.Done found) = tt
+recovered-acts start (recovery.Busy name) = (refl, λ u. tt)
+recovered-acts start recovery.NotARecord = tt
+recovered-acts start (recovery.TooLarge name length) = tt
+
+recovering-acts : (env : Environment) (start : Option Start) → AllActs (may_load false) (recovering env start)
+recovering-acts env None = tt
+recovering-acts env (Some start) = (refl, recovered-acts start)
+
 with-acts : (i : Input) (n : Next SessionState Status) → AllActs (may_load false) (with_input i n)
 with-acts i (Go s) = tt
 with-acts i (Last e) = tt
@@ -148,6 +171,7 @@ reading-acts env s i = line-round-acts s i (taken s.frames)
 
 -- where a folder is opened each load that fails cuts the run off, and elsewhere none does
 pub loads-round : (env : Environment) (x : RunState) → AllActs (may_load (is_opening x)) (round env x)
+loads-round env (Recovering start) = recovering-acts env start
 loads-round env (Opening start) = opening-acts env start
 loads-round env (Reading s i) = reading-acts env s i
 loads-round env (Leaving s i) = last-acts s

@@ -10,7 +10,7 @@ use Rattle.play_safety.specs.Safe.{IsCrashSafe, AllAnswersAreDecided}
 use Rattle.mailx_session.specs.declared.status.Status.{Status}
 use Rattle.mailx_top.specs.declared.environment.Environment.{Environment}
 use Rattle.mailx_top.specs.Words.{are_read, start_of}
-use Rattle.mailx_top.specs.Meaning.{Opening, round, actor_in}
+use Rattle.mailx_top.specs.Meaning.{Recovering, round, actor_in}
 use Rattle.mailx_top.specs.Runs.{Ending}
 
 -- The events of a run, steps of others among them, carry out its meaning, and then what its ending adds. The commits that are accepted are read
@@ -22,7 +22,7 @@ pub record IsSafe (words : List (List ℕ)) (env : Environment) (s : Status) (d 
   pub rest : List Event
   pub commits : Commits
   pub is : es ≡ front ++ rest
-  pub plays : PassesAll (round env) (Opening (start_of words env.pairs)) d front commits out
+  pub plays : PassesAll (round env) (Recovering (start_of words env.pairs)) d front commits out
   pub ending : Ending (actor_in env) (are_read words) s out (own rest)
   pub safe : IsCrashSafe (actor_in env) env.token d es commits out
   pub answered : AllAnswersAreDecided plays

@@ -7,5 +7,6 @@ pub mod Runs
 pub mod Ends
 pub mod Usage
 pub mod Openings
+pub mod Starts
 pub mod Unreadable
 pub mod Crash

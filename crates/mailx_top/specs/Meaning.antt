@@ -10,7 +10,9 @@ use Rattle.session_play.specs.declared.act.Found.{Found}
 use Rattle.session_play.specs.declared.act.Found.TheVariants as found
 use Rattle.session_play.specs.declared.stop.Stop.{Stop}
 use Rattle.session_play.specs.Input.{Input, no_input}
-use Rattle.session_play.specs.Play.{Play, Ret, Ask, Line, Say, Read, Know, Next, Go, Last, Goes, Loop, bind}
+use Rattle.session_play.specs.declared.recovering.RecoveryAnswer.{RecoveryAnswer}
+use Rattle.session_play.specs.declared.recovering.RecoveryAnswer.TheVariants as recovery
+use Rattle.session_play.specs.Play.{Play, Ret, Ask, Line, Say, Read, Recover, Know, Next, Go, Last, Goes, Loop, bind}
 use Rattle.host_port.specs.declared.event.Event.{Event}
 use Rattle.mailx_vars.specs.Names.{is_short_name}
 use Rattle.mailx_vars.specs.Settings.{value_of}
@@ -33,6 +35,7 @@ use Rattle.mailx_top.specs.Words.{Start}
 -- where a run is between two rounds: at the opening of a folder, if one is named; before a line; or at the end of the input, where the folder
 -- is left
 pub data RunState : Type 0 where
+  Recovering : Option Start → RunState
   Opening : Option Start → RunState
   Reading : SessionState → Input → RunState
   Leaving : SessionState → Input → RunState
@@ -132,23 +135,51 @@ abbrev pub opening : Environment → Option Start → Play (Next RunState Status
 opening env None = says_and_ends usage status.Usage
 opening env (Some start) = starting (first_of env) start
 
+-- what follows the recovery at the start: the opening, once it is done
+abbrev pub recovered : Start → RecoveryAnswer → Play (Next RunState Status)
+recovered start (recovery.Done found) = Ret (Go (Opening (Some start)))
+recovered start (recovery.Busy name) = says_and_ends (with_feed (name ++ codes ": busy")) status.Refused
+recovered start recovery.NotARecord = Ret (Last status.BadRecord)
+recovered start (recovery.TooLarge name length) = Ret (Last status.BadRecord)
+
+-- what a stopped commit of the actor has left is recovered before all else, unless the words are refused
+abbrev pub recovering : Environment → Option Start → Play (Next RunState Status)
+recovering env None = Ret (Go (Opening None))
+recovering env (Some start) = Ask (Recover (actor_in env) env.token) (recovered start)
+
 -- what a run in this environment does from a state on, to its next state or its end
 abbrev pub round : Environment → RunState → Play (Next RunState Status)
+round env (Recovering start) = recovering env start
 round env (Opening start) = opening env start
 round env (Reading s i) = line_round s i (taken s.frames)
 round env (Leaving s i) = last_round s
 
+-- a recovery is to be made
+abbrev pub is_recovering : RunState → Bool
+is_recovering (Recovering start) = true
+is_recovering (Opening start) = false
+is_recovering (Reading s i) = false
+is_recovering (Leaving s i) = false
+
 -- a folder is to be opened
 abbrev pub is_opening : RunState → Bool
+is_opening (Recovering start) = false
 is_opening (Opening start) = true
 is_opening (Reading s i) = false
 is_opening (Leaving s i) = false
 
 -- the input that a state begins with
 abbrev pub input_of : RunState → Input
+input_of (Recovering start) = no_input
 input_of (Opening start) = no_input
 input_of (Reading s i) = i
 input_of (Leaving s i) = i
+
+-- the opening after the recovery, or the end
+abbrev pub after_recovery : Start → Result (Option Status) Stop → Result (Next RunState Status) Stop
+after_recovery start (Ok None) = Ok (Go (Opening (Some start)))
+after_recovery start (Ok (Some e)) = Ok (Last e)
+after_recovery start (Err cause) = Err cause
 
 -- the state after a line, or the end
 abbrev pub next_state : SessionState → Input → Result (Option Status) Stop → Result (Next RunState Status) Stop

@@ -11,9 +11,11 @@ use Rattle.session_play.specs.Play.{Whole}
 use Rattle.session_play.specs.Causes.{IsExplained, events_at, commits_in}
 use Rattle.mailx_session.specs.declared.status.Status.{Status}
 use Rattle.mailx_top.specs.declared.environment.Environment.{Environment}
-use Rattle.mailx_top.specs.Meaning.{Opening, round, actor_in, is_opening}
+use Rattle.folder_recovery.specs.Told.{told_end}
+use Rattle.mailx_top.specs.Meaning.{Recovering, round, actor_in, is_recovering, is_opening}
 use Rattle.mailx_top.specs.Leavings.{refused_at_end}
 use Rattle.mailx_top.specs.Openings.{IsOpeningExplained}
+use Rattle.mailx_top.specs.Starts.{IsStartExplained}
 use Rattle.mailx_top.specs.Unreadable.{some_unreadable_in, IsRecordExplained}
 use Rattle.mailx_top.specs.Words.{are_read, start_of}
 use Rattle.mailx_top.specs.Statuses.{status_at_stop, line_at_stop, line_at_end}
@@ -38,10 +40,12 @@ Ending actor read s (Ok e) es = (s ≡ e) × SaysAtEnd read (line_at_end actor e
 Ending actor read s (Err cause) es = (s ≡ status_at_stop cause) × SaysLast read (line_at_stop cause) es
 
 -- The own events of a run with these words in this environment, which ends with this status: those of its meaning, with
--- each cut explained. A load counts as one of the folder where its round opens the folder, and a fault of the disk in a commit counts too. A run
--- ends for its record exactly where a commit or a recovery of it met one that can't be read.
+-- each cut explained. A load counts as one of the folder where its round opens the folder, and a fault of the disk in a commit or in the recovery
+-- counts too. A run ends for its record exactly where its recovery or a commit of it met one that can't be read. How the recovery ended its own
+-- events tell.
 pub record IsRun (words : List (List ℕ)) (env : Environment) (s : Status) (es : List Event) : Type 0 where
-  pub whole : Whole (round env) (Opening (start_of words env.pairs)) (Ending (actor_in env) (are_read words) s) es
+  pub whole : Whole (round env) (Recovering (start_of words env.pairs)) (Ending (actor_in env) (are_read words) s) es
   pub explained : IsExplained whole.out whole.front (events_at is_opening whole.plays) (commits_in whole.plays)
   pub record_met : IsRecordExplained whole.out (some_unreadable_in whole.plays)
-  pub opening : IsOpeningExplained env (start_of words env.pairs) whole.out (events_at is_opening whole.plays) (refused_at_end whole.plays)
+  pub start : IsStartExplained whole.out (told_end (actor_in env) (events_at is_recovering whole.plays))
+      (IsOpeningExplained env (start_of words env.pairs) whole.out (events_at is_opening whole.plays) (refused_at_end whole.plays))

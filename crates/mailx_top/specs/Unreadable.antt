@@ -1,4 +1,4 @@
--- Whether a run met a record of its actor that can't be read, by the own events of its commits and what its recoveries were answered.
+-- Whether a run met a record of its actor that can't be read, by the own events of its commits and recoveries.
 use Rattle.std.proofs.Common.{inl, inr}
 use Rattle.std.specs.Prelude.{◌≡◌, ◌||◌, not, Bool, true, false, List}
 use Rattle.std.specs.declared.result.Result.{Result}
@@ -7,14 +7,14 @@ use Rattle.host_port.specs.declared.event.Event.{Event}
 use Rattle.folder_change.specs.declared.change.Change.{Change}
 use Rattle.commit_machine.specs.Jobs.{Ending, Refused, NotARecord, TooLarge}
 use Rattle.folder_commit.specs.Told.{end_told}
-use Rattle.session_play.specs.declared.recovering.RecoveryAnswer.{RecoveryAnswer}
-use Rattle.session_play.specs.declared.recovering.RecoveryAnswer.TheVariants as recovery
+use Rattle.folder_recovery.specs.Told.{told_end}
 use Rattle.session_play.specs.declared.stop.Stop.{Stop}
 use Rattle.session_play.specs.Play.{Act, Answer, Changes, Recover, Play, Ret, Ask, Goes, Next, Go, Last, Loop, again, last, cut}
 use Rattle.mailx_session.specs.Saving.{is_changed}
 use Rattle.mailx_session.specs.declared.status.Status.{Status}
 use Rattle.mailx_session.specs.declared.status.Status.TheVariants as status
 use Rattle.mailx_top.specs.Openings.{EndsOrIsCut}
+use Rattle.mailx_top.specs.Starts.{is_bad_record}
 
 -- A commit of these changes ended because what stands as the record is none, or because it or a staged file is too large to load.
 abbrev pub is_unreadable : List Change → Ending → Bool
@@ -22,16 +22,10 @@ is_unreadable changes (Refused NotARecord) = true
 is_unreadable changes (Refused (TooLarge name length)) = not (is_changed changes name)
 is_unreadable changes end = false
 
--- A recovery was answered so. It loads nothing but the record and staged files.
-abbrev pub found_unreadable : RecoveryAnswer → Bool
-found_unreadable recovery.NotARecord = true
-found_unreadable (recovery.TooLarge name length) = true
-found_unreadable answer = false
-
--- The own events of an act tell of a commit that ended so, or a recovery was answered so.
+-- The own events of an act tell of a commit or a recovery that ended so. A recovery loads nothing but the record and staged files.
 abbrev pub met_unreadable : (act : Act) → Answer act → List Event → Bool
 met_unreadable (Changes c) answer es = is_unreadable c.changes (end_told c.actor c.changes c.base es)
-met_unreadable (Recover actor token) answer es = found_unreadable answer
+met_unreadable (Recover actor token) answer es = is_bad_record (told_end actor es)
 met_unreadable act answer es = false
 
 -- some act of a play met such a record

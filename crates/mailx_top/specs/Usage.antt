@@ -42,14 +42,49 @@ abbrev pub IsBadName : Environment → Option Start → Type 0
 IsBadName env None = ⊥
 IsBadName env (Some start) = IsNoName (folder_name (first_of env) start)
 
+-- the recovery at the start is cut off by a fault of the disk, or for want of memory; so is the line that it may say, where the output fails
+abbrev pub IsStartCut : Stop → Type 0
+IsStartCut stop.Output = Unit {0}
+IsStartCut stop.Disk = Unit {0}
+IsStartCut stop.Memory = Unit {0}
+IsStartCut cause = ⊥
+
+-- how the recovery at the start may end a run: it met another's right, or a record that can't be read
+abbrev pub IsStartEnd : Status → Type 0
+IsStartEnd status.Refused = Unit {0}
+IsStartEnd status.BadRecord = Unit {0}
+IsStartEnd s = ⊥
+
+-- the recovery is done, or it ends the run so or is cut off so
+abbrev pub StopsAtStart : Result (Option Status) Stop → Type 0
+StopsAtStart (Ok None) = Unit {0}
+StopsAtStart (Ok (Some s)) = IsStartEnd s
+StopsAtStart (Err cause) = IsStartCut cause
+
+-- a run that opens no folder ends without one, where it didn't end at its start
+abbrev pub EndsUnopened : Result Status Stop → Type 0
+EndsUnopened (Ok status.NoFolder) = Unit {0}
+EndsUnopened (Ok s) = IsStartEnd s
+EndsUnopened (Err cause) = IsStartCut cause
+
 -- a run ends as refused words do exactly where there is no way to start, and without a folder where its word stands for
 -- no file
 abbrev pub EndsAsNamed : Environment → Option Start → Result Status Stop → Type 0
 EndsAsNamed env None out = EndsOr status.Usage out
-EndsAsNamed env (Some start) out = IfOk out IsEnd × (IsBadName env (Some start) → EndsOr status.NoFolder out)
+EndsAsNamed env (Some start) out = IfOk out IsEnd × (IsBadName env (Some start) → EndsUnopened out)
 
 -- this status, or that of such a cut in its place
 abbrev pub IsOrCut : Status → Status → Type 0
 IsOrCut wanted status.OutputFault = Unit {0}
 IsOrCut wanted status.Memory = Unit {0}
 IsOrCut wanted s = s ≡ wanted
+
+-- the status of a run that opens no folder: there is none, or the recovery at the start or a line that is said ended the run
+abbrev pub IsUnopened : Status → Type 0
+IsUnopened status.NoFolder = Unit {0}
+IsUnopened status.Refused = Unit {0}
+IsUnopened status.BadRecord = Unit {0}
+IsUnopened status.DiskFault = Unit {0}
+IsUnopened status.OutputFault = Unit {0}
+IsUnopened status.Memory = Unit {0}
+IsUnopened s = ⊥

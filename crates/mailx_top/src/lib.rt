@@ -3,6 +3,7 @@
 
 mod environment;
 mod open;
+mod recovering;
 mod session;
 mod status;
 mod top;

@@ -63,8 +63,8 @@ fn fault_line(alloc: Global, name: &[u8], fault: &[u8]) -> Result<Text, Memory>
     Ok(line)
 }
 
-// Says what is wrong with a file and ends.
-fn end_at_file<H: Host>(
+/// Says what is wrong with a file and ends.
+pub(crate) fn end_at_file<H: Host>(
     alloc: Global,
     host: &mut H,
     name: &[u8],

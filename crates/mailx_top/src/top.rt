@@ -6,12 +6,12 @@ ghost use Rattle.host_port.specs.Ran.{Ran};
 ghost use Rattle.host_port.specs.declared.event.Event.{Event};
 ghost use Rattle.session_play.specs.Play.{Play, Loop, Caused};
 ghost use Rattle.mailx_vars.specs.Environment.{knows_user};
-ghost use Rattle.mailx_top.specs.Meaning.{round, first_of, actor_in, Opening};
+ghost use Rattle.mailx_top.specs.Meaning.{round, first_of, actor_in, Recovering, Opening};
 ghost use Rattle.mailx_top.specs.Runs.{IsRun, SaysLast, SaysAtEnd};
 ghost use Rattle.mailx_top.specs.Ends.{ended_as};
 ghost use Rattle.mailx_top.specs.Statuses.{line_at_stop, line_at_end, not_a_record};
 ghost use Rattle.mailx_session.specs.Statuses.{IsEnd};
-ghost use Rattle.mailx_top.specs.Usage.{EndsAsNamed, EndsOr, IsBadName, IsOrCut};
+ghost use Rattle.mailx_top.specs.Usage.{EndsAsNamed, EndsOr, EndsUnopened, IsBadName, IsOrCut, IsUnopened};
 ghost use Rattle.mailx_top.specs.Wants.{start_from};
 ghost use Rattle.folder_commit.specs.Safe.{MayCommit};
 ghost use Rattle.mailx_top.specs.Crash.{IsSafe};
@@ -19,6 +19,7 @@ ghost use Rattle.mailx_top.specs.Words.{are_read, start_of};
 
 use crate::Environment;
 use crate::open::{end_with_usage, open};
+use crate::recovering::recover_first;
 use crate::session::lines;
 use crate::status::{stop_line, stop_status};
 use crate::words::{Wanted, are_read, start_of};
@@ -30,8 +31,8 @@ use mailx_vars::Places;
 use session_play::Stop;
 use std::alloc::Global;
 
-// A session from its opening to its end.
-fn play_session<H: Host>(
+// A session from the opening of its folder to its end.
+fn open_session<H: Host>(
     alloc: Global,
     host: &mut H,
     env: &Environment,
@@ -52,6 +53,28 @@ fn play_session<H: Host>(
     }
 }
 
+// A session from its recovery to its end.
+fn play_session<H: Host>(
+    alloc: Global,
+    host: &mut H,
+    env: &Environment,
+    start: Wanted<'_>,
+    session: &mut Session,
+) -> Result<Status, Stop>
+    requires { session.old ≡ first_of env.now }
+    ensures ran { Ran H.world host.old host.new
+        (λ es. Loop (round env.now) (Recovering (Some (start_from start.entry))) es result) }
+    ensures cause { Caused (H.world.counts host.old) (H.world.counts host.new) result }
+    ensures plain { IfOk result (λ e. IsEnd e) }
+    ensures bad_name { IsBadName env.now (Some (start_from start.entry)) → EndsUnopened result }
+{
+    match recover_first(alloc, host, session) {
+        Ok(None) => open_session(alloc, host, env, start, session),
+        Ok(Some(end)) => Ok(end),
+        Err(cause) => Err(cause),
+    }
+}
+
 fn start_session<H: Host>(
     alloc: Global,
     host: &mut H,
@@ -60,10 +83,10 @@ fn start_session<H: Host>(
 ) -> Result<Status, Stop>
     requires { knows_user env.now.pairs ≡ true }
     ensures ran { Ran H.world host.old host.new
-        (λ es. Loop (round env.now) (Opening (Some (start_from start.entry))) es result) }
+        (λ es. Loop (round env.now) (Recovering (Some (start_from start.entry))) es result) }
     ensures cause { Caused (H.world.counts host.old) (H.world.counts host.new) result }
     ensures plain { IfOk result (λ e. IsEnd e) }
-    ensures bad_name { IsBadName env.now (Some (start_from start.entry)) → EndsOr Status.NoFolder result }
+    ensures bad_name { IsBadName env.now (Some (start_from start.entry)) → EndsUnopened result }
 {
     match Session::new(alloc, env.pairs.items(), env.terminal, env.token) {
         Ok(mut session) => play_session(alloc, host, env, start, &mut session),
@@ -78,7 +101,7 @@ fn play<H: Host>(
     env: &Environment,
 ) -> Result<Status, Stop>
     ensures ran { Ran H.world host.old host.new
-        (λ es. Loop (round env.now) (Opening (start_of words.now env.now.pairs)) es result) }
+        (λ es. Loop (round env.now) (Recovering (start_of words.now env.now.pairs)) es result) }
     ensures cause { Caused (H.world.counts host.old) (H.world.counts host.new) result }
     ensures named { EndsAsNamed env.now (start_of words.now env.now.pairs) result }
 {
@@ -138,7 +161,7 @@ fn play_to_end<H: Host>(
     env: &Environment,
 ) -> Result<End, Stop>
     ensures ran { Ran H.world host.old host.new
-        (λ es. Loop (round env.now) (Opening (start_of words.now env.now.pairs)) es (ended_as result)) }
+        (λ es. Loop (round env.now) (Recovering (start_of words.now env.now.pairs)) es (ended_as result)) }
     ensures cause { Caused (H.world.counts host.old) (H.world.counts host.new) result }
     ensures named { EndsAsNamed env.now (start_of words.now env.now.pairs) (ended_as result) }
     ensures line { IfOk result (λ end. end.line ≡ line_at_end (actor_in env.now) end.status) }
@@ -180,9 +203,9 @@ fn say_cut<H: Host>(host: &mut H, words: &[Text], cause: Stop)
     }
 }
 
-/// All that the program does: it reads the words of the command line without the program's own name, opens the folder
-/// that they name, carries out the lines of its input, and answers how it ended. The status' cause is the clause of
-/// its name.
+/// All that the program does: it reads the words of the command line without the program's own name, recovers what a
+/// stopped run has left, opens the folder that they name, carries out the lines of its input, and answers how it ended.
+/// The status' cause is the clause of its name.
 pub fn run<H: Host>(alloc: Global, words: &[Text], env: &Environment, host: &mut H) -> Status
     // The own events are those of the command meaning, and output and status are its.
     ensures run { Ran H.world host.old host.new (IsRun words.now env.now result) }
@@ -194,7 +217,7 @@ pub fn run<H: Host>(alloc: Global, words: &[Text], env: &Environment, host: &mut
     ensures usage_only { result ≡ Status.Usage → start_of words.now env.now.pairs ≡ None }
     ensures usage_always { start_of words.now env.now.pairs ≡ None → IsOrCut Status.Usage result }
     // A folder whose word stands for no file, or for a name that no file can have, is none, whatever the host tells.
-    ensures bad_name { IsBadName env.now (start_of words.now env.now.pairs) → IsOrCut Status.NoFolder result }
+    ensures bad_name { IsBadName env.now (start_of words.now env.now.pairs) → IsUnopened result }
     // From a disk that is sound and carries nothing of the token, with lawful steps of others: at every moment, and wherever
     // the run stops, what recovery would make of the files is what the accepted commits and others give.
     ensures safe { (before es : List Event) → H.world.told host.old ≡ Some before → H.world.told host.new ≡ Some (before ++ es)

@@ -3,7 +3,7 @@ use Rattle.host_port.proofs.RanLemmas.{Ran-then, Ran-since}
 use Rattle.session_play.proofs.CauseLemmas.{loop-explained}
 use Rattle.mailx_top.specs.Meaning.{round, input_of, is_opening}
 use Rattle.mailx_top.proofs.EndLemmas.{end-no-fault, only-usage, usage-ended, usage-cut, bad-ended, bad-cut}
-use Rattle.mailx_top.proofs.OpeningLemmas.{opening-explained}
+use Rattle.mailx_top.proofs.RecoveringLemmas.{recovering-explained}
 use Rattle.mailx_top.proofs.RoundLemmas.{threads-round, loads-round}
 use Rattle.mailx_top.proofs.CrashLemmas.{safely}
 use Rattle.mailx_top.proofs.RecordLemmas.{record-explained}
@@ -17,7 +17,7 @@ returns-in-Ok-clause-run g c =
       whole = record { out = Ok c.in-Ok.«end».status; front = front; behind = rest; is = refl; plays = loop; ending = (refl, rw c.in-Ok.ensures.line at said) };
       explained = loop-explained (round env) input_of is_opening _ front _ (threads-round env) (loads-round env) refl loop;
       record_met = record-explained env fits _ front _ loop;
-      opening = opening-explained env _ front _ loop;
+      start = recovering-explained env _ front _ loop;
     }) c.in-Ok.ensures.ran c.say_end.ensures
 
 pub returns-in-Ok-clause-input_fault : goal.returns-in-Ok-clause-input_fault
@@ -52,7 +52,7 @@ returns-in-Err-clause-run g c =
       whole = record { out = Err c.in-Err.cause; front = front; behind = rest; is = refl; plays = loop; ending = (c.stop_status.ensures, said) };
       explained = loop-explained (round env) input_of is_opening _ front _ (threads-round env) (loads-round env) refl loop;
       record_met = record-explained env fits _ front _ loop;
-      opening = opening-explained env _ front _ loop;
+      start = recovering-explained env _ front _ loop;
     }) c.in-Err.ensures.ran c.say_cut.ensures
 
 pub returns-in-Ok-clause-safe : goal.returns-in-Ok-clause-safe

@@ -1,0 +1,311 @@
+-- What the recovery at the start of a run comes to.
+use Rattle.std.proofs.lemmas.List.{append-nil}
+use Rattle.std.proofs.Common.{◌≡◌, ◌⊎◌, ◌||◌, ℕ, Bool, true, false, List, [], ◌∷◌, ◌++◌, refl, sym, ◌∙◌, ap, subst, inl, inr}
+use Rattle.std.specs.List.{list_any}
+use Rattle.std.specs.Prelude.{if◌then◌else◌, codes}
+use Rattle.std.specs.declared.option.Option.{Option}
+use Rattle.std.specs.declared.option.Option.TheVariants.{Some, None}
+use Rattle.std.specs.declared.result.Result.{Result}
+use Rattle.std.specs.declared.result.Result.TheVariants.{Ok, Err}
+use Rattle.mail_text.specs.Lines.{with_feed}
+use Rattle.host_port.specs.declared.event.Event.{Event}
+use Rattle.host_port.specs.declared.event.Event.TheVariants as event
+use Rattle.host_port.specs.declared.event.Seen.{Seen}
+use Rattle.host_port.specs.declared.event.Seen.TheVariants as seen
+use Rattle.commit_record.specs.declared.record.Record.{Record}
+use Rattle.commit_machine.specs.Records.{record_of, is_go}
+use Rattle.commit_machine.specs.Jobs.{Before, Found, Busy, NotARecord, TooLarge, Ending, Recovered, Refused, Failed, NoMemory}
+use Rattle.commit_machine.specs.Restraints.{is_failed}
+use Rattle.folder_recovery.specs.Recovering.{found}
+use Rattle.folder_recovery.specs.Told.{told_end, unless_failed, unless_long, end_by, end_seen, end_found, end_read}
+use Rattle.folder_recovery.proofs.ToldLemmas.{is-told}
+use Rattle.session_play.specs.declared.stop.Stop.{Stop}
+use Rattle.session_play.specs.declared.stop.Stop.TheVariants as stop
+use Rattle.session_play.specs.declared.recovering.RecoveryAnswer.{RecoveryAnswer}
+use Rattle.session_play.specs.declared.recovering.RecoveryAnswer.TheVariants as recovery
+use Rattle.session_play.specs.Recovering.{recovery_as, IsRecoveryOf}
+use Rattle.session_play.specs.Causes.{counted, events_at}
+use Rattle.session_play.specs.Play.{Play, Ret, Ask, Recover, Says, Goes, Next, Go, Last, Loop, again, last, cut}
+use Rattle.session_play.proofs.ShapeLemmas.{came-same, goes-ends}
+use Rattle.mailx_session.specs.declared.status.Status.{Status}
+use Rattle.mailx_session.specs.declared.status.Status.TheVariants as status
+use Rattle.mailx_top.specs.declared.environment.Environment.{Environment}
+use Rattle.mailx_top.specs.Words.{Start}
+use Rattle.mailx_top.specs.Meaning.{RunState, Recovering, Opening, Reading, Leaving, round, recovered, actor_in, says_and_ends, usage, is_recovering, is_opening}
+use Rattle.mailx_top.specs.Openings.{IsOpeningExplained}
+use Rattle.mailx_top.specs.Leavings.{refused_at_end}
+use Rattle.mailx_top.specs.Starts.{is_recovered, is_right_busy, is_bad_record, IsStartExplained}
+use Rattle.mailx_top.proofs.OpeningLemmas.{IsReadingState, ReadsNext, next-round, opening-reads, opening-explained}
+
+abbrev ends : RunState → Next RunState Status
+ends y = Go y
+
+abbrev ended : Status → Result (Next RunState Status) Stop
+ended r = Ok (Last r)
+
+go-same : (x y : RunState) → ends x ≡ ends y → x ≡ y
+go-same x y e = cc
+
+reading-next : (env : Environment) (x y : RunState) (es : List Event) → IsReadingState x → Goes (round env x) es (Ok (Go y)) → IsReadingState y
+reading-next env x y es reading goes = goes-ends ReadsNext (round env x) es (Go y) (next-round env x reading) goes
+
+-- a run from its opening or from a line recovers nothing
+plain-state : (x : RunState) → IsReadingState x → is_recovering x ≡ false
+plain-state (Recovering start) never = absurd never
+plain-state (Opening start) never = absurd never
+plain-state (Reading s i) reading = refl
+plain-state (Leaving s i) reading = refl
+
+plain-counted : (x : RunState) (es : List Event) → IsReadingState x → counted (is_recovering x) es ≡ []
+plain-counted x es reading = ap (λ (b : Bool). counted b es) (plain-state x reading)
+
+lines-plain : (env : Environment) {x : RunState} {es : List Event} {out : Result Status Stop} → IsReadingState x → (loop : Loop (round env) x es out) → events_at is_recovering loop ≡ []
+lines-plain env {x = x} reading (again {y = y} front rest is goes more) =
+    let on = reading-next env x y front reading goes in
+    ap (λ (l : List Event). l ++ events_at is_recovering more) (plain-counted x front reading) ∙ lines-plain env on more
+lines-plain env {x = x} {es = es} reading (last goes) = plain-counted x es reading
+lines-plain env {x = x} {es = es} reading (cut goes) = plain-counted x es reading
+
+opening-plain : (env : Environment) (start : Option Start) {es : List Event} {out : Result Status Stop} (loop : Loop (round env) (Opening start) es out) → events_at is_recovering loop ≡ []
+opening-plain env start (again {y = y} front rest is goes more) = lines-plain env (opening-reads env start y front goes) more
+opening-plain env start (last goes) = refl
+opening-plain env start (cut goes) = refl
+
+-- what is explained behind the recovery
+abbrev Explained : Environment → Option Start → Result Status Stop → Ending → List Event → Bool → Type 0
+Explained env start out recovery es at_end = IsStartExplained out recovery (IsOpeningExplained env start out es at_end)
+
+recovered-free : (e : Ending) → is_recovered e ≡ true → (is_right_busy e ≡ false) × (is_bad_record e ≡ false)
+recovered-free (Recovered f) h = (refl, refl)
+recovered-free (Refused why) h = absurd (cc h)
+recovered-free e h = absurd (cc h)
+
+or-right : (b c : Bool) → c ≡ true → (b || c) ≡ true
+or-right true c h = refl
+or-right false c h = h
+
+with-recovery : (env : Environment) (start : Option Start) (out : Result Status Stop) (recovery : Ending) (es : List Event) (b : Bool) → is_recovered recovery ≡ true → IsOpeningExplained env start out es b → Explained env start out recovery es b
+with-recovery env start out recovery es b done opening =
+    let free = recovered-free recovery done in
+    record {
+      opens = λ h. opening;
+      busy = λ h. absurd (let f = free.0 in cc (h, f));
+      bad = λ h. absurd (let f = free.1 in cc (h, f));
+      refused_only = λ is. or-right (is_right_busy recovery) (is_recovered recovery) done;
+      bad_record_only = λ is. or-right (is_bad_record recovery) (is_recovered recovery) done;
+      no_folder_only = λ is. done;
+      done_only = λ is. done;
+    }
+
+-- after a recovery that is done
+opened-after : (env : Environment) (start : Option Start) (front : List Event) {rest : List Event} {out : Result Status Stop} (more : Loop (round env) (Opening start) rest out) → is_recovered (told_end (actor_in env) front) ≡ true
+    → Explained env start out (told_end (actor_in env) (front ++ events_at is_recovering more)) (events_at is_opening more) (refused_at_end more)
+opened-after env start front {rest = rest} {out = out} more done =
+    let E : List Event → Type 0 = λ l. Explained env start out (told_end (actor_in env) l) (events_at is_opening more) (refused_at_end more) in
+    subst E (sym (ap (λ (l : List Event). front ++ l) (opening-plain env start more) ∙ append-nil front))
+    (with-recovery env start out (told_end (actor_in env) front) (events_at is_opening more) (refused_at_end more) done (opening-explained env start rest out more))
+
+-- the same where the next state is known to be that
+opened-at : (env : Environment) (start : Option Start) (y : RunState) (front rest : List Event) (out : Result Status Stop) → y ≡ Opening start → is_recovered (told_end (actor_in env) front) ≡ true
+    → (more : Loop (round env) y rest out) → Explained env start out (told_end (actor_in env) (front ++ events_at is_recovering more)) (events_at is_opening more) (refused_at_end more)
+opened-at env start y front rest out is done =
+    let E : RunState → Type 0 = λ y. (more : Loop (round env) y rest out) → Explained env start out (told_end (actor_in env) (front ++ events_at is_recovering more)) (events_at is_opening more) (refused_at_end more) in
+    subst E (sym is) (λ more. opened-after env start front more done)
+
+explained-cut : (env : Environment) (start : Option Start) (cause : Stop) (recovery : Ending) (es : List Event) (b : Bool) → IsOpeningExplained env start (Err cause) es b → Explained env start (Err cause) recovery es b
+explained-cut env start cause recovery es b opening = record {
+  opens = λ h. opening;
+  busy = λ h. tt;
+  bad = λ h. tt;
+  refused_only = λ e. absurd (cc e);
+  bad_record_only = λ e. absurd (cc e);
+  no_folder_only = λ e. absurd (cc e);
+  done_only = λ e. absurd (cc e);
+}
+
+ended-busy : (env : Environment) (start : Option Start) (recovery : Ending) (name : List ℕ) → recovery ≡ Refused (Busy name) → Explained env start (Ok status.Refused) recovery [] false
+ended-busy env start recovery name is = record {
+  opens = λ h. absurd (let not = ap is_recovered is in cc (h, not));
+  busy = λ h. refl;
+  bad = λ h. absurd (let good = ap is_bad_record is in cc (h, good));
+  refused_only = λ e. ap (λ (r : Ending). is_right_busy r || is_recovered r) is;
+  bad_record_only = λ e. absurd (cc e);
+  no_folder_only = λ e. absurd (cc e);
+  done_only = λ e. absurd (cc e);
+}
+
+ended-bad : (env : Environment) (start : Option Start) (recovery : Ending) → is_right_busy recovery ≡ false → is_recovered recovery ≡ false → is_bad_record recovery ≡ true → Explained env start (Ok status.BadRecord) recovery [] false
+ended-bad env start recovery free not bad = record {
+  opens = λ h. absurd (cc (h, not));
+  busy = λ h. absurd (cc (h, free));
+  bad = λ h. refl;
+  refused_only = λ e. absurd (cc e);
+  bad_record_only = λ e. ap (λ (b : Bool). b || is_recovered recovery) bad;
+  no_folder_only = λ e. absurd (cc e);
+  done_only = λ e. absurd (cc e);
+}
+
+-- refused words: nothing is recovered, and the run ends with the usage
+ended-usage : (env : Environment) (recovery : Ending) (es : List Event) → recovery ≡ NoMemory → Explained env None (Ok status.Usage) recovery es false
+ended-usage env recovery es is = record {
+  opens = λ h. absurd (let not = ap is_recovered is in cc (h, not));
+  busy = λ h. absurd (let not = ap is_right_busy is in cc (h, not));
+  bad = λ h. absurd (let not = ap is_bad_record is in cc (h, not));
+  refused_only = λ e. absurd (cc e);
+  bad_record_only = λ e. absurd (cc e);
+  no_folder_only = λ e. absurd (cc e);
+  done_only = λ e. absurd (cc e);
+}
+
+-- what is said behind a seizure that another's right refused changes nothing of what its events tell
+says-fine : (bytes : List ℕ) (es : List Event) → Says bytes es → list_any is_failed es ≡ false
+says-fine bytes [] s = refl
+says-fine bytes (event.Out front false ∷ es) s = says-fine s.0 es s.2
+says-fine bytes (e ∷ es) never = absurd never
+
+fine-append : (xs ys : List Event) → list_any is_failed xs ≡ false → list_any is_failed ys ≡ false → list_any is_failed (xs ++ ys) ≡ false
+fine-append [] ys x y = y
+fine-append (e ∷ xs) ys x y = go (is_failed e) x (fine-append xs ys)
+  where
+    go : (b : Bool) → (b || list_any is_failed xs) ≡ false → (list_any is_failed xs ≡ false → list_any is_failed ys ≡ false → list_any is_failed (xs ++ ys) ≡ false) → (b || list_any is_failed (xs ++ ys)) ≡ false
+    go true h more = absurd (cc h)
+    go false h more = more h y
+
+long-free : (es : List Event) (end : Ending) → is_right_busy end ≡ false → is_right_busy (unless_long es end) ≡ false
+long-free [] end h = h
+long-free (event.Load n (seen.TooLarge length) ∷ es) end h = refl
+long-free (e ∷ es) end h = long-free es end h
+
+read-free : (o : Option Record) → is_right_busy (end_read o) ≡ false
+read-free None = refl
+read-free (Some r) = refl
+
+seen-free : (actor : List ℕ) (s : Seen) → is_right_busy (end_seen actor s) ≡ false
+seen-free actor (seen.Bytes None held) = refl
+seen-free actor (seen.Bytes (Some bytes) held) = read-free (record_of bytes)
+seen-free actor (seen.TooLarge n) = refl
+seen-free actor seen.Failed = refl
+seen-free actor seen.Memory = refl
+
+not-busy : {A : Type 0} (end : Ending) (name : List ℕ) → is_right_busy end ≡ false → end ≡ Refused (Busy name) → A
+not-busy end name free is = absurd (let busy = ap is_right_busy is in cc (free, busy))
+
+end-behind : (actor : List ℕ) (front outs : List Event) (name : List ℕ) → end_by actor front ≡ Refused (Busy name) → end_by actor (front ++ outs) ≡ Refused (Busy name)
+end-behind actor [] outs name is = absurd (cc is)
+end-behind actor (event.Seize n false failed ∷ es) outs name is = is
+end-behind actor (event.Seize n true failed ∷ event.Load m s ∷ es) outs name is = not-busy (unless_long es (end_seen actor s)) name (long-free es (end_seen actor s) (seen-free actor s)) is
+end-behind actor (event.Seize n true failed ∷ es) outs name is = absurd (cc is)
+end-behind actor (e ∷ es) outs name is = absurd (cc is)
+
+told-behind : (actor : List ℕ) (front outs : List Event) (name : List ℕ) → told_end actor front ≡ Refused (Busy name) → list_any is_failed outs ≡ false → told_end actor (front ++ outs) ≡ Refused (Busy name)
+told-behind actor front outs name is fine = go (list_any is_failed front) refl is
+  where
+    go : (b : Bool) → list_any is_failed front ≡ b → (if b then Failed Before else end_by actor front) ≡ Refused (Busy name) → told_end actor (front ++ outs) ≡ Refused (Busy name)
+    go true h is = absurd (cc is)
+    go false h is = ap (λ (b : Bool). if b then Failed Before else end_by actor (front ++ outs)) (fine-append front outs h fine) ∙ end-behind actor front outs name is
+
+-- the end that a line behind a busy right leads to, and its events
+abbrev EndsSo : Status → Next RunState Status → Type 0
+EndsSo e (Go y) = ⊥
+EndsSo e (Last r) = r ≡ e
+
+said-so : (text : List ℕ) (e r : Status) (es : List Event) → Goes (says_and_ends text e) es (Ok (Last r)) → (r ≡ e) × (list_any is_failed es ≡ false)
+said-so text e r es goes = (goes-ends (EndsSo e) (says_and_ends text e) es (Last r) (λ u. refl) goes, fine goes)
+  where
+    fine : Goes (says_and_ends text e) es (Ok (Last r)) → list_any is_failed es ≡ false
+    fine (inl (u, front, rest, is, did, end)) = subst (λ (l : List Event). list_any is_failed l ≡ false) (sym (is ∙ ap (λ (l : List Event). front ++ l) end.0 ∙ append-nil front)) (says-fine text front did)
+    fine (inr (cause, other, part)) = absurd (cc other)
+
+last-same : (r e : Status) → (ended r ≡ ended e) ⊎ (ended r ≡ Err stop.Memory) → r ≡ e
+last-same r e (inl same) = cc same
+last-same r e (inr other) = absurd (cc other)
+
+-- without a line
+ended-plainly : (env : Environment) (actor : List ℕ) (start : Option Start) (e : Ending) (r : Status) (front rest : List Event) → is_right_busy e ≡ false → is_recovered e ≡ false → is_bad_record e ≡ true → told_end actor front ≡ e → rest ≡ [] → r ≡ status.BadRecord
+    → Explained env start (Ok r) (told_end actor (front ++ rest)) [] false
+ended-plainly env actor start e r front rest free not bad told none is =
+    let whole : told_end actor (front ++ rest) ≡ e = ap (λ (l : List Event). told_end actor (front ++ l)) none ∙ (ap (told_end actor) (append-nil front) ∙ told) in
+    subst (λ (r : Status). Explained env start (Ok r) (told_end actor (front ++ rest)) [] false) (sym is)
+    (ended-bad env start (told_end actor (front ++ rest)) (ap is_right_busy whole ∙ free) (ap is_recovered whole ∙ not) (ap is_bad_record whole ∙ bad))
+
+-- the states that a round leads to
+abbrev Ends : Next RunState Status → Type 0
+Ends (Go y) = ⊥
+Ends (Last r) = Unit {0}
+
+module _ (env : Environment) (actor : List ℕ) (token : ℕ) (start : Start) where
+  -- a recovery whose answer ends the run
+  ended-by : (a : RecoveryAnswer) (r : Status) (front rest : List Event) → IsRecoveryOf actor token front (recovery_as a) → Goes (recovered start a) rest (Ok (Last r))
+      → Explained env (Some start) (Ok r) (told_end actor (front ++ rest)) [] false
+  ended-by (recovery.Done f) r front rest did (none, inl other) = absurd (cc other)
+  ended-by (recovery.Done f) r front rest did (none, inr other) = absurd (cc other)
+  ended-by (recovery.Busy name) r front rest did goes =
+      let said = said-so (with_feed (name ++ codes ": busy")) status.Refused r rest goes in
+      let told = told-behind actor front rest name (is-told actor token front (recovery_as (recovery.Busy name)) did) said.1 in
+      subst (λ (r : Status). Explained env (Some start) (Ok r) (told_end actor (front ++ rest)) [] false) (sym said.0) (ended-busy env (Some start) (told_end actor (front ++ rest)) name told)
+  ended-by recovery.NotARecord r front rest did (none, end) =
+      ended-plainly env actor (Some start) (Refused NotARecord) r front rest refl refl refl (is-told actor token front (recovery_as recovery.NotARecord) did) none (last-same r status.BadRecord end)
+  ended-by (recovery.TooLarge name n) r front rest did (none, end) =
+      ended-plainly env actor (Some start) (Refused (TooLarge name n)) r front rest refl refl refl (is-told actor token front (recovery_as (recovery.TooLarge name n)) did) none (last-same r status.BadRecord end)
+
+  -- one that leaves the folder to be opened
+  abbrev Reaches : RunState → List Event → List Event → Type 0
+  Reaches y front rest = (y ≡ Opening (Some start)) × (is_recovered (told_end actor (front ++ rest)) ≡ true)
+
+  reaches-with : (y : RunState) (f : Found) (front rest : List Event) → y ≡ Opening (Some start) → told_end actor front ≡ Recovered f → rest ≡ [] → Reaches y front rest
+  reaches-with y f front rest is told none =
+      (is, ap is_recovered (ap (λ (l : List Event). told_end actor (front ++ l)) none ∙ (ap (told_end actor) (append-nil front) ∙ told)))
+
+  reaches : (a : RecoveryAnswer) (y : RunState) (front rest : List Event) → IsRecoveryOf actor token front (recovery_as a) → Goes (recovered start a) rest (Ok (Go y)) → Reaches y front rest
+  reaches (recovery.Done f) y front rest did (none, inl same) =
+      reaches-with y (found f) front rest (go-same y (Opening (Some start)) (came-same (Go y) (Go (Opening (Some start))) same)) (is-told actor token front (recovery_as (recovery.Done f)) did) none
+  reaches (recovery.Done f) y front rest did (none, inr other) = absurd (cc other)
+  reaches (recovery.Busy name) y front rest did goes = absurd (goes-ends Ends (says_and_ends (with_feed (name ++ codes ": busy")) status.Refused) rest (Go y) (λ u. tt) goes)
+  reaches recovery.NotARecord y front rest did (none, inl other) = absurd (cc other)
+  reaches recovery.NotARecord y front rest did (none, inr other) = absurd (cc other)
+  reaches (recovery.TooLarge name n) y front rest did (none, inl other) = absurd (cc other)
+  reaches (recovery.TooLarge name n) y front rest did (none, inr other) = absurd (cc other)
+
+-- the usage is said, or that is cut off
+usage-told : (env : Environment) (front : List Event) {rest : List Event} {out : Result Status Stop} (more : Loop (round env) (Opening None) rest out) → front ≡ []
+    → Explained env None out (told_end (actor_in env) (front ++ events_at is_recovering more)) (events_at is_opening more) (refused_at_end more)
+usage-told env front more none = usage-by more (ap (λ (l : List Event). told_end (actor_in env) (l ++ events_at is_recovering more)) none ∙ ap (told_end (actor_in env)) (opening-plain env None more))
+  where
+    usage-by : {rest : List Event} {out : Result Status Stop} (more : Loop (round env) (Opening None) rest out) {recovery : Ending} → recovery ≡ NoMemory → Explained env None out recovery (events_at is_opening more) (refused_at_end more)
+    usage-by (again {y = y} xs ys is goes later) told = absurd (goes-ends Ends (says_and_ends usage status.Usage) xs (Go y) (λ u. tt) goes)
+    usage-by {rest = rest} (last {r = r} goes) {recovery = recovery} told =
+        let said = said-so usage status.Usage r rest goes in
+        subst (λ (r : Status). Explained env None (Ok r) recovery rest false) (sym said.0) (ended-usage env recovery rest told)
+    usage-by {rest = rest} (cut {cause = cause} goes) {recovery = recovery} told = explained-cut env None cause recovery rest false (opening-explained env None rest (Err cause) (cut goes))
+
+usage-at : (env : Environment) (y : RunState) (front rest : List Event) (out : Result Status Stop) → y ≡ Opening None → front ≡ [] → (more : Loop (round env) y rest out)
+    → Explained env None out (told_end (actor_in env) (front ++ events_at is_recovering more)) (events_at is_opening more) (refused_at_end more)
+usage-at env y front rest out is none =
+    let E : RunState → Type 0 = λ y. (more : Loop (round env) y rest out) → Explained env None out (told_end (actor_in env) (front ++ events_at is_recovering more)) (events_at is_opening more) (refused_at_end more) in
+    subst E (sym is) (λ more. usage-told env front more none)
+
+-- a run that is cut off in its recovery
+cut-plain : (env : Environment) (start : Option Start) (cause : Stop) → IsOpeningExplained env start (Err cause) [] false
+cut-plain env start cause = record {
+  refused_only = λ e. absurd (cc e);
+  refused_always = λ h. tt;
+  no_folder_only = λ e. absurd (cc e);
+  no_folder_always = λ h. tt;
+}
+
+-- a run from its start tells how its recovery ended, and why it opened no folder
+pub recovering-explained : (env : Environment) (start : Option Start) (es : List Event) (out : Result Status Stop) (loop : Loop (round env) (Recovering start) es out)
+    → Explained env start out (told_end (actor_in env) (events_at is_recovering loop)) (events_at is_opening loop) (refused_at_end loop)
+recovering-explained env None es out (again {y = y} front rest is (none, inl same) more) =
+    usage-at env y front rest out (go-same y (Opening None) (came-same (Go y) (Go (Opening None)) same)) none more
+recovering-explained env None es out (again front rest is (none, inr other) more) = absurd (cc other)
+recovering-explained env None es out (last (none, inl other)) = absurd (cc other)
+recovering-explained env None es out (last (none, inr other)) = absurd (cc other)
+recovering-explained env (Some start) es out (again {y = y} front rest is (inl (a, xs, ys, parts, did, goes)) more) =
+    let r = reaches env (actor_in env) env.token start a y xs ys did goes in
+    opened-at env (Some start) y front rest out r.0 (subst (λ (l : List Event). is_recovered (told_end (actor_in env) l) ≡ true) (sym parts) r.1) more
+recovering-explained env (Some start) es out (again front rest is (inr (cause, other, part)) more) = absurd (cc other)
+recovering-explained env (Some start) es out (last {r = r} (inl (a, xs, ys, parts, did, goes))) =
+    subst (λ (l : List Event). Explained env (Some start) (Ok r) (told_end (actor_in env) l) [] false) (sym parts) (ended-by env (actor_in env) env.token start a r xs ys did goes)
+recovering-explained env (Some start) es out (last (inr (cause, other, part))) = absurd (cc other)
+recovering-explained env start es out (cut {cause = cause} goes) = explained-cut env start cause (told_end (actor_in env) es) [] false (cut-plain env start cause)

@@ -1,0 +1,50 @@
+// What a stopped commit has left is recovered before a folder is opened.
+ghost use Rattle.host_port.specs.Ran.{Ran};
+ghost use Rattle.session_play.specs.Play.{Play, Ask, Recover, Goes, Caused};
+ghost use Rattle.mailx_top.specs.Words.{Start};
+ghost use Rattle.mailx_top.specs.Meaning.{recovered, after_recovery};
+ghost use Rattle.mailx_top.specs.Usage.{StopsAtStart};
+
+use crate::open::end_at_file;
+use host_port::Host;
+use mailx_session::{Session, Status};
+use session_play::{RecoveryAnswer, Stop, recovery};
+use std::alloc::Global;
+
+// What follows the recovery's answer.
+fn answered<H: Host>(
+    alloc: Global,
+    host: &mut H,
+    answer: RecoveryAnswer,
+) -> Result<Option<Status>, Stop>
+    ensures ran { (start : Start) → Ran H.world host.old host.new
+        (λ es. Goes (recovered start answer) es (after_recovery start result)) }
+    ensures cause { Caused (H.world.counts host.old) (H.world.counts host.new) result }
+    ensures stops { StopsAtStart result }
+{
+    match answer {
+        RecoveryAnswer::Done(_) => Ok(None),
+        RecoveryAnswer::Busy { name } => {
+            end_at_file(alloc, host, name.bytes(), b": busy", Status::Refused)
+        }
+        RecoveryAnswer::NotARecord | RecoveryAnswer::TooLarge { .. } => Ok(Some(Status::BadRecord)),
+    }
+}
+
+/// Recovers what a stopped commit of the session's actor has left. None where the folder is to be opened then, else how
+/// the run ends.
+pub(crate) fn recover_first<H: Host>(
+    alloc: Global,
+    host: &mut H,
+    session: &Session,
+) -> Result<Option<Status>, Stop>
+    ensures ran { (start : Start) → Ran H.world host.old host.new
+        (λ es. Goes (Ask (Recover session.now.actor session.now.token) (recovered start)) es (after_recovery start result)) }
+    ensures cause { Caused (H.world.counts host.old) (H.world.counts host.new) result }
+    ensures stops { StopsAtStart result }
+{
+    match recovery(alloc, host, session.state().actor.bytes()) {
+        Ok(answer) => answered(alloc, host, answer),
+        Err(cause) => Err(cause),
+    }
+}
