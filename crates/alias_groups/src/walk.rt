@@ -32,8 +32,12 @@ impl<'a> Model for Walk<'a> {
 
     ghost Value = { Walking };
 
-    ghost view = { λ w. record { inside = map (λ e. (e.0.now, e.1.now)) w.inside.entries; over = map
-        (λ k. k.now) w.over.keys; added = w.added } };
+    ghost view = { λ w. record {
+      inside = map (λ e. (e.0.now, e.1.now)) w.inside.entries;
+      over = map
+          (λ k. k.now) w.over.keys;
+      added = w.added;
+    } };
 }
 
 impl<'a> Walk<'a> {

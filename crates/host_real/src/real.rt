@@ -100,9 +100,9 @@ fn counted<T: Drop>(answer: Result<T, FileError>, count: &mut u64) -> Result<T, 
 
 impl<R: Files<File = File> + Input + Print + Drop> Host for RealHost<R> {
     ghost world = { record {
-        start = λ _. empty_disk;
-        told = λ _. None;
-        counts = λ m. record { ins = m.ins; outs = m.outs; disks = m.disks; children = 0 };
+      start = λ _. empty_disk;
+      told = λ _. None;
+      counts = λ m. record { ins = m.ins; outs = m.outs; disks = m.disks; children = 0 };
     } };
 
     fn fill(&mut self, buf: &mut [u8]) -> Result<usize, InFault> {

@@ -37,11 +37,11 @@ impl RowTexts {
     ) -> Result<RowTexts, Memory>
         ensures { IfOk result
             (λ texts. texts ≡ record {
-                subject = subject.now;
-                author = author.now;
-                shown_author = shown_author.now;
-                to = to.now;
-                own_id = own_id.now;
+              subject = subject.now;
+              author = author.now;
+              shown_author = shown_author.now;
+              to = to.now;
+              own_id = own_id.now;
             }) }
     {
         let room = subject
