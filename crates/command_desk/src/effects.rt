@@ -145,7 +145,8 @@ pub fn markings(alloc: Global, act: Act, numbers: &[u32]) -> Result<Items<Markin
     Ok(marks)
 }
 
-/// An act on each of these messages, of which the last becomes current; it is unwritten, where another was current before.
+/// An act on each of these messages, of which the last becomes current; it is unwritten, where another was current
+/// before.
 pub fn marked(alloc: Global, desk: &Desk, act: Act, numbers: &[u32]) -> Result<Effects, Memory>
     requires desk { IsDesk desk.now }
     requires some { 0 < length numbers.now }

@@ -1,5 +1,5 @@
-//! What the commands of a session stand on: the desk between two commands, what a command asks for and changes, the lines that
-//! refuse it, the messages that its words select, and a message as it is printed.
+//! What the commands of a session stand on: the desk between two commands, what a command asks for and changes, the
+//! lines that refuse it, the messages that its words select, and a message as it is printed.
 #![tactic(auto)]
 
 mod desk;

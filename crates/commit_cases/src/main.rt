@@ -7,7 +7,8 @@
 //! | Line | What is printed |
 //! |---|---|
 //! | `do fill` | the bytes of the input that come, of 8 at most |
-//! | `do say TEXT`, `do stage NAME TEXT`, `do erase NAME`, `do unlock NAME TOKEN`, `do release NAME` | `done` or `fault` |
+//! | `do say TEXT`, `do stage NAME TEXT`, `do erase NAME` | `done` or `fault` |
+//! | `do unlock NAME TOKEN`, `do release NAME` | `done` or `fault` |
 //! | `do publish FROM TO`, `do lock NAME TOKEN`, `do seize NAME` | `yes`, `no` or `fault` |
 //! | `do load NAME` | what was seen |
 //! | `do recover`, `do add NAME TEXT` | how the recovery, or the commit that adds the text to the file, ended |

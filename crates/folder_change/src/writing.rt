@@ -1,5 +1,5 @@
 ghost use Rattle.std.specs.Prelude.{◌≡◌, ◌++◌, ◌<◌, Ok, None, IsTrue, IsSome, IfSome, IfOk, IfErr, OnOk, option_copied};
-ghost use Rattle.mbox_scan.specs.Mailbox.{join, written, texts_of, list_of};
+ghost use Rattle.mbox_scan.specs.Mailbox.{join, written, texts_of, list_of, message_limit};
 ghost use Rattle.folder_change.specs.Changes.{is_rewrite};
 ghost use Rattle.folder_change.specs.Outcomes.{bytes_of, base_list, missing_feeds, file_of, rewrite_of, outcome_of, DiffersAt, Explains};
 
@@ -55,7 +55,7 @@ fn push_rest(file: &mut Text, texts: &mut Texts<'_>) -> Result<(), Memory>
 fn first_difference(texts: &mut Texts<'_>, base: &Folder) -> Option<usize>
     ensures same { result ≡ None → texts.old ≡ texts_of base.now ++ texts.new }
     ensures differs { IfSome result (λ k. DiffersAt (texts_of base.now) texts.old k) }
-    ensures bound { IfSome result (λ k. k < 1000000) }
+    ensures bound { IfSome result (λ k. k < message_limit) }
 {
     for k in 0..base.count() {
         match texts.next_text() {

@@ -6,7 +6,7 @@ use Rattle.std.proofs.lemmas.List.Sorted.{IsPermutation-refl}
 use Rattle.std.proofs.lemmas.List.{length-replicate}
 use Rattle.std.proofs.lemmas.List.FromFn.{length-range_with_len}
 use Rattle.mail_dates.specs.Clock.{IsInYears}
-use Rattle.mbox_scan.specs.Mailbox.{texts_of, pieces, starts}
+use Rattle.mbox_scan.specs.Mailbox.{texts_of, pieces, starts, message_limit}
 use Rattle.mailx_vars.specs.declared.environment.Places.{Places}
 use Rattle.message_state.specs.declared.mark.Mark.{Mark}
 use Rattle.message_state.specs.declared.row.Row.{Row}
@@ -36,7 +36,7 @@ all-aside (t ∷ ts) [] h = absurd h
 all-aside (t ∷ ts) (r ∷ rs) h = (marks-aside t r h.0, all-aside ts rs h.1)
 
 -- a folder that was just loaded
-pub opened-desk : (desk : Desk) (name bytes : List ℕ) (system : Bool) (rows : List Row) → 2 ≤ desk.places.width → AreRows (texts_of bytes) rows → All (λ (row : Row). IfSome row.moment IsInYears) rows → length rows ≤ 1_000_000 → first_current rows ≤ length rows
+pub opened-desk : (desk : Desk) (name bytes : List ℕ) (system : Bool) (rows : List Row) → 2 ≤ desk.places.width → AreRows (texts_of bytes) rows → All (λ (row : Row). IfSome row.moment IsInYears) rows → length rows ≤ message_limit → first_current rows ≤ length rows
     → IsDesk (with_folder desk (record { name = name; system = system; folder = bytes; marks = map (λ row. row.mark) rows }) (plain rows))
 opened-desk desk name bytes system rows wide are years few within = record {
   shown = record { few = few; order = IsPermutation-refl (range_with_len 1 (length rows)); depths = length-replicate (length rows) 0 ∙ sym (length-range_with_len 1 (length rows)); current = within; years = years };

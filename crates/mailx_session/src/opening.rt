@@ -3,7 +3,7 @@ ghost use Rattle.std.specs.Prelude.{◌≡◌, ◌++◌, ◌<◌, ◌≤◌, len
 ghost use Rattle.std.specs.List.{range_with_len, position};
 ghost use Rattle.show_commands.specs.Paging.{page_size};
 ghost use Rattle.mail_dates.specs.Clock.{IsInYears};
-ghost use Rattle.mbox_scan.specs.Mailbox.{texts_of};
+ghost use Rattle.mbox_scan.specs.Mailbox.{texts_of, message_limit};
 ghost use Rattle.session_play.specs.Knowing.{AreRows};
 ghost use Rattle.message_state.specs.declared.row.Row.{Row};
 ghost use Rattle.mailx_session.specs.Openings.{is_in, is_system, first_current, desk_with, state_with, IsKnownSize, plain, with_folder, with_page};
@@ -101,7 +101,7 @@ pub(crate) fn known_page_size(alloc: Global, desk: &Desk) -> Result<Option<usize
 pub(crate) fn rows_of(alloc: Global, folder: &Folder) -> Result<Items<Row>, Memory>
     ensures rows { IfOk result (λ rows. AreRows (texts_of folder.now) rows) }
     ensures years { IfOk result (λ rows. All (λ (row : Row). IfSome row.moment IsInYears) rows) }
-    ensures few { IfOk result (λ rows. length rows ≤ 1_000_000) }
+    ensures few { IfOk result (λ rows. length rows ≤ message_limit) }
 {
     let mut rows = Items::of(Vec::with_capacity(alloc, folder.count())?);
     for k in 0..folder.count() {
@@ -141,7 +141,7 @@ fn first_in(rows: &[Row], state: State) -> Option<usize>
 
 /// The message that is current first.
 pub(crate) fn first_current(rows: &[Row]) -> u32
-    requires { length rows.now ≤ 1_000_000 }
+    requires { length rows.now ≤ message_limit }
     ensures current { result ≡ first_current rows.now }
     ensures within { result ≤ length rows.now }
 {
@@ -156,7 +156,7 @@ pub(crate) fn first_current(rows: &[Row]) -> u32
 
 /// The messages in order of number.
 pub(crate) fn plain_view(alloc: Global, rows: Items<Row>) -> Result<Shown, Memory>
-    requires { length rows ≤ 1_000_000 }
+    requires { length rows ≤ message_limit }
     ensures shown { IfOk result (λ shown. shown ≡ plain rows) }
     ensures current { IfOk result (λ shown. shown.current ≤ length rows) }
 {
@@ -170,8 +170,8 @@ pub(crate) fn plain_view(alloc: Global, rows: Items<Row>) -> Result<Shown, Memor
     })
 }
 
-/// Puts a folder on the desk, whose messages are shown so. The page is that of the current message, where the size of a page is
-/// known.
+/// Puts a folder on the desk, whose messages are shown so. The page is that of the current message, where the size of
+/// a page is known.
 pub(crate) fn put_folder(desk: &mut Desk, size: Option<usize>, folder: Open, shown: Shown)
     requires size { IsKnownSize (page_size desk.old) size }
     requires some { IfSome size (λ n. 0 < n) }

@@ -9,9 +9,9 @@ pub enum Status {
     InputFault,
     /// Output could not be written.
     OutputFault,
-    /// The folder could not be read.
+    /// A file could not be read, or written.
     DiskFault,
-    /// Another has the lock of the folder, or the quit at the end of the input was refused.
+    /// Another has the lock of a file, or the quit at the end of the input was refused.
     Refused,
     /// Out of memory.
     Memory,

@@ -9,7 +9,7 @@ use Rattle.std.specs.declared.result.Result.TheVariants.{Err}
 use Rattle.mbox_scan.specs.declared.folder.Folder.{Folder}
 use Rattle.mbox_scan.specs.declared.error.ScanError.{ScanError}
 use Rattle.mbox_scan.specs.declared.error.ScanError.TheVariants as scan
-use Rattle.mbox_scan.specs.Mailbox.{list_of, is_mailbox, texts_of, starts, pieces}
+use Rattle.mbox_scan.specs.Mailbox.{list_of, is_mailbox, texts_of, starts, pieces, message_limit}
 use Rattle.mail_text.specs.Lines.{with_feed}
 use Rattle.mailx_session.specs.declared.status.Status.TheVariants as status
 use Rattle.mailx_top.specs.Words.{Start}
@@ -20,7 +20,7 @@ use Rattle.command_desk.specs.Answers.{OrFault}
 use Rattle.mailx_session.specs.declared.state.SessionState.{SessionState}
 use Rattle.mailx_session.specs.declared.status.Status.{Status}
 use Rattle.mailx_session.specs.Openings.{Opens}
-use Rattle.mailx_top.specs.Meaning.{RunState, starting, folder_name, with_name, with_name_or_fault, loaded, with_list, begun, greeted, says_and_ends, message_limit}
+use Rattle.mailx_top.specs.Meaning.{RunState, starting, folder_name, with_name, with_name_or_fault, loaded, with_list, begun, greeted, says_and_ends}
 use Rattle.std.specs.Prelude.{◌++◌, codes, Bool, false}
 use Rattle.mail_text.specs.declared.text.Text.{Text}
 use Rattle.session_play.specs.declared.act.Found.{Found}
@@ -72,7 +72,7 @@ pub with-word : (s : SessionState) (start : Start) (name : OrFault (List ℕ)) �
 with-word s start name is = ap (with_name_or_fault s start) is
 
 -- what is done where more messages start than a folder may have
-pub with-too-many : (s : SessionState) (start : Start) (name b : List ℕ) (count : ℕ) (e : ScanError) → e ≡ scan.TooMany count → (list_of b ≡ None → failed e ≡ failed scan.NotAMailbox) → count ≡ length (starts b) → 1000000 < count
+pub with-too-many : (s : SessionState) (start : Start) (name b : List ℕ) (count : ℕ) (e : ScanError) → e ≡ scan.TooMany count → (list_of b ≡ None → failed e ≡ failed scan.NotAMailbox) → count ≡ length (starts b) → message_limit < count
     → with_list s start name b (list_of b) ≡ says_and_ends (with_feed (name ++ codes ": too many messages")) status.NoFolder
 with-too-many s start name b count e found some is many =
     let long : nat_lt message_limit (length (texts_of b)) ≡ true = lt-ltb _ _ (let e = length-texts b in omega arith) in

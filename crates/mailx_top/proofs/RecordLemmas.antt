@@ -8,7 +8,7 @@ use Rattle.std.specs.declared.result.Result.{Result}
 use Rattle.std.specs.declared.result.Result.TheVariants.{Ok, Err}
 use Rattle.mail_text.specs.Ascii.{is_blank}
 use Rattle.host_port.specs.declared.event.Event.{Event}
-use Rattle.mbox_scan.specs.Mailbox.{list_of}
+use Rattle.mbox_scan.specs.Mailbox.{list_of, message_limit}
 use Rattle.folder_change.specs.declared.change.Change.{Change}
 use Rattle.commit_machine.specs.Jobs.{Ending}
 use Rattle.commit_machine.specs.Edits.{first_names}
@@ -59,7 +59,7 @@ use Rattle.mailx_session.specs.Leaving.{left_by, leaving}
 use Rattle.mailx_session.specs.Rounds.{line_play, typed_play, dropped_play, counted_play, waiting_play}
 use Rattle.mailx_top.specs.declared.environment.Environment.{Environment}
 use Rattle.mailx_top.specs.Words.{Start}
-use Rattle.mailx_top.specs.Meaning.{RunState, Recovering, recovered, Opening, Reading, Leaving, round, last_round, opening, folder_name, with_name_or_fault, loaded, with_list, greeted, turn, line_round, with_input, prompted, message_limit, first_of, actor_in}
+use Rattle.mailx_top.specs.Meaning.{RunState, Recovering, recovered, Opening, Reading, Leaving, round, last_round, opening, folder_name, with_name_or_fault, loaded, with_list, greeted, turn, line_round, with_input, prompted, first_of, actor_in}
 use Rattle.mailx_top.specs.Starts.{is_bad_record}
 use Rattle.mailx_top.specs.Unreadable.{is_unreadable, met_unreadable, some_unreadable, some_unreadable_in, IsRecordExplained}
 use Rattle.mailx_top.proofs.CrashLemmas.{StateOf, round-commits, round-of}

@@ -5,7 +5,7 @@ use Rattle.std.specs.declared.option.Option.TheVariants.{Some, None}
 use Rattle.std.specs.declared.result.Result.{Result}
 use Rattle.std.specs.declared.result.Result.TheVariants.{Ok, Err}
 use Rattle.mail_text.specs.Lines.{with_feed}
-use Rattle.mbox_scan.specs.Mailbox.{list_of}
+use Rattle.mbox_scan.specs.Mailbox.{list_of, message_limit}
 use Rattle.session_play.specs.declared.act.Found.{Found}
 use Rattle.session_play.specs.declared.act.Found.TheVariants as found
 use Rattle.session_play.specs.declared.stop.Stop.{Stop}
@@ -32,8 +32,8 @@ use Rattle.mailx_session.specs.Leaving.{leaving}
 use Rattle.mailx_top.specs.declared.environment.Environment.{Environment}
 use Rattle.mailx_top.specs.Words.{Start}
 
--- where a run is between two rounds: at the opening of a folder, if one is named; before a line; or at the end of the input, where the folder
--- is left
+-- where a run is between two rounds: before what a stopped run has left is recovered, and then a folder opened, if one is named; before the
+-- folder is opened; before a line; or at the end of the input, where the folder is left
 pub data RunState : Type 0 where
   Recovering : Option Start → RunState
   Opening : Option Start → RunState
@@ -75,10 +75,6 @@ says_and_ends text e = Ask (Say text) (λ _. Ret (Last e))
 abbrev pub greeted : Bool → SessionState → Play (Next RunState Status)
 greeted true s = Ret (Go (Reading s no_input))
 greeted false s = Ask (Say (greeting s.desk)) (λ _. Ret (Go (Reading s no_input)))
-
--- the most messages of a folder
-abbrev pub message_limit : ℕ
-message_limit = 1000000
 
 -- a folder of this name with these texts is opened
 abbrev pub begun : SessionState → Start → List ℕ → List ℕ → List (List ℕ) → Play (Next RunState Status)

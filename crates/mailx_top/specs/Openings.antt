@@ -8,14 +8,13 @@ use Rattle.host_port.specs.declared.event.Event.{Event}
 use Rattle.host_port.specs.declared.event.Event.TheVariants as event
 use Rattle.host_port.specs.declared.event.Seen.{Seen}
 use Rattle.host_port.specs.declared.event.Seen.TheVariants as seen
-use Rattle.mbox_scan.specs.Mailbox.{list_of}
+use Rattle.mbox_scan.specs.Mailbox.{list_of, message_limit}
 use Rattle.session_play.specs.declared.stop.Stop.{Stop}
 use Rattle.session_play.specs.Causes.{some_load_saw}
 use Rattle.mailx_session.specs.declared.status.Status.{Status}
 use Rattle.mailx_session.specs.declared.status.Status.TheVariants as status
 use Rattle.mailx_top.specs.declared.environment.Environment.{Environment}
 use Rattle.mailx_top.specs.Words.{Start}
-use Rattle.mailx_top.specs.Meaning.{message_limit}
 use Rattle.mailx_top.specs.Usage.{IsBadName}
 
 -- a load saw that the folder is held

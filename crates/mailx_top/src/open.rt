@@ -183,7 +183,8 @@ fn open_found<H: Host>(
     session: &mut Session,
 ) -> Result<Option<Status>, Stop>
     ensures ran { Ran H.world host.old host.new
-        (λ es. Goes (loaded session.old (start_from start.entry) name.now found) es (next_state session.new no_input result)) }
+        (λ es. Goes (loaded session.old (start_from start.entry) name.now found) es
+        (next_state session.new no_input result)) }
     ensures cause { Caused (H.world.counts host.old) (H.world.counts host.new) result }
     ensures plain { IfOk result (λ end. IfSome end (λ e. IsEnd e)) }
 {
@@ -234,7 +235,8 @@ fn open_name<H: Host>(
     session: &mut Session,
 ) -> Result<Option<Status>, Stop>
     ensures ran { Ran H.world host.old host.new
-        (λ es. Goes (with_name session.old (start_from start.entry) name.now) es (next_state session.new no_input result)) }
+        (λ es. Goes (with_name session.old (start_from start.entry) name.now) es
+        (next_state session.new no_input result)) }
     ensures cause { Caused (H.world.counts host.old) (H.world.counts host.new) result }
     ensures plain { IfOk result (λ end. IfSome end (λ e. IsEnd e)) }
     ensures bad_name { is_short_name name.now ≡ false → EndsOrOpens Status.NoFolder result }
@@ -257,7 +259,8 @@ pub(crate) fn open<H: Host>(
         (λ es. Goes (starting session.old (start_from start.entry)) es (next_state session.new no_input result)) }
     ensures cause { Caused (H.world.counts host.old) (H.world.counts host.new) result }
     ensures plain { IfOk result (λ end. IfSome end (λ e. IsEnd e)) }
-    ensures bad_name { IsNoName (folder_name session.old (start_from start.entry)) → EndsOrOpens Status.NoFolder result }
+    ensures bad_name { IsNoName (folder_name session.old (start_from start.entry))
+        → EndsOrOpens Status.NoFolder result }
 {
     match expanded(alloc, session.desk(), start.word) {
         Ok(name) => open_name(alloc, host, start, name.bytes(), session),

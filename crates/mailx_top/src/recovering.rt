@@ -39,7 +39,8 @@ pub(crate) fn recover_first<H: Host>(
     session: &Session,
 ) -> Result<Option<Status>, Stop>
     ensures ran { (start : Start) → Ran H.world host.old host.new
-        (λ es. Goes (Ask (Recover session.now.actor session.now.token) (recovered start)) es (after_recovery start result)) }
+        (λ es. Goes (Ask (Recover session.now.actor session.now.token) (recovered start)) es
+        (after_recovery start result)) }
     ensures cause { Caused (H.world.counts host.old) (H.world.counts host.new) result }
     ensures stops { StopsAtStart result }
 {

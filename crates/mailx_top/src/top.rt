@@ -210,17 +210,21 @@ pub fn run<H: Host>(alloc: Global, words: &[Text], env: &Environment, host: &mut
     // The own events are those of the command meaning, and output and status are its.
     ensures run { Ran H.world host.old host.new (IsRun words.now env.now result) }
     // A fault is answered only where the host's count of it rose.
-    ensures input_fault { result ≡ Status.InputFault → Rose (H.world.counts host.old).ins (H.world.counts host.new).ins }
-    ensures output_fault { result ≡ Status.OutputFault → Rose (H.world.counts host.old).outs (H.world.counts host.new).outs }
-    ensures disk_fault { result ≡ Status.DiskFault → Rose (H.world.counts host.old).disks (H.world.counts host.new).disks }
+    ensures input_fault { result ≡ Status.InputFault
+        → Rose (H.world.counts host.old).ins (H.world.counts host.new).ins }
+    ensures output_fault { result ≡ Status.OutputFault
+        → Rose (H.world.counts host.old).outs (H.world.counts host.new).outs }
+    ensures disk_fault { result ≡ Status.DiskFault
+        → Rose (H.world.counts host.old).disks (H.world.counts host.new).disks }
     // The usage is answered exactly where the words or the environment are refused.
     ensures usage_only { result ≡ Status.Usage → start_of words.now env.now.pairs ≡ None }
     ensures usage_always { start_of words.now env.now.pairs ≡ None → IsOrCut Status.Usage result }
     // A folder whose word stands for no file, or for a name that no file can have, is none, whatever the host tells.
     ensures bad_name { IsBadName env.now (start_of words.now env.now.pairs) → IsUnopened result }
-    // From a disk that is sound and carries nothing of the token, with lawful steps of others: at every moment, and wherever
-    // the run stops, what recovery would make of the files is what the accepted commits and others give.
-    ensures safe { (before es : List Event) → H.world.told host.old ≡ Some before → H.world.told host.new ≡ Some (before ++ es)
+    // From a disk that is sound and carries nothing of the token, with lawful steps of others: at every moment, and
+    // wherever the run stops, what recovery would make of the files is what the accepted commits and others give.
+    ensures safe { (before es : List Event) → H.world.told host.old ≡ Some before
+        → H.world.told host.new ≡ Some (before ++ es)
         → MayCommit (actor_in env.now) env.now.token (disk (H.world.start host.old) before) es
         → IsSafe words.now env.now result (disk (H.world.start host.old) before) es }
 {

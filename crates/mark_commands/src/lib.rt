@@ -1,5 +1,5 @@
-//! Commands that mark messages: delete, dp and undelete, and those that say what becomes of messages as the folder is left:
-//! hold, mbox and touch.
+//! Commands that mark messages: delete, dp and undelete, and those that say what becomes of messages as the folder is
+//! left: hold, mbox and touch.
 #![tactic(auto)]
 
 mod deleting;

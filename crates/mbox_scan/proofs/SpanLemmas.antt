@@ -5,7 +5,7 @@ use Rattle.std.proofs.lemmas.List.{map-append, append-nil, length-map}
 use Rattle.std.proofs.lemmas.Option.{slice_get-map, slice_get_read}
 use Rattle.std.proofs.lemmas.List.Elements.{All-push, All-same}
 use Rattle.mbox_scan.specs.declared.span.Span.{Span}
-use Rattle.mbox_scan.specs.Mailbox.{is_mailbox, texts_of, starts}
+use Rattle.mbox_scan.specs.Mailbox.{is_mailbox, texts_of, starts, message_limit}
 use Rattle.mbox_scan.specs.Spans.{text_at, IsWithin, IsScanned}
 use Rattle.mbox_scan.proofs.TextLemmas.{length-texts}
 use Rattle.mbox_scan.proofs.MailboxLemmas.{texts-end}
@@ -16,9 +16,9 @@ pub record IsScannedTo (b : List ℕ) (spans : List Span) (start : ℕ) : Type 0
   pub mailbox : is_mailbox (drop start b) ≡ true
   pub so_far : map (text_at b) spans ++ texts_of (drop start b) ≡ texts_of b
   pub within : All (IsWithin b) spans
-  pub few : length spans ≤ 1000000
+  pub few : length spans ≤ message_limit
 
-pub span-more : (b rest : List ℕ) (spans more : List Span) (start end next : ℕ) → IsScannedTo b spans start → rest ≡ drop start b → length spans < 1000000
+pub span-more : (b rest : List ℕ) (spans more : List Span) (start end next : ℕ) → IsScannedTo b spans start → rest ≡ drop start b → length spans < message_limit
     → texts_of rest ≡ take end rest ∷ texts_of (drop next rest) → is_mailbox (drop next rest) ≡ true → end ≤ next → next ≤ length rest
     → more ≡ spans ++ record { start = start; len = end } ∷ [] → IsScannedTo b more (start + next)
 span-more b rest spans more start end next h part room texts mailbox order within pushed =

@@ -2,6 +2,10 @@
 use Rattle.std.specs.Prelude.{◌≡◌, ℕ, ◌-◌, Bool, true, ◌||◌, ◌&&◌, ◌==◌, nat_eq, List, [], ◌∷◌, ◌++◌, Option, Some, None, length, take, drop, slice_range, filter, if◌then◌else◌}
 use Rattle.std.specs.List.{starts_with, ends_with, range_with_len, suffix_len, flat_map}
 
+-- the most messages of a folder
+abbrev pub message_limit : ℕ
+message_limit = 1000000
+
 -- the bytes of `From `
 abbrev pub from_mark : List ℕ
 from_mark = 70 ∷ 114 ∷ 111 ∷ 109 ∷ 32 ∷ []

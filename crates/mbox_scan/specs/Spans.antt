@@ -1,7 +1,7 @@
 -- The places of a mailbox's texts.
 use Rattle.std.specs.Prelude.{◌≡◌, ℕ, ◌+◌, ◌≤◌, IsTrue, List, length, map, slice_range, All}
 use Rattle.mbox_scan.specs.declared.span.Span.{Span}
-use Rattle.mbox_scan.specs.Mailbox.{is_mailbox, texts_of}
+use Rattle.mbox_scan.specs.Mailbox.{is_mailbox, texts_of, message_limit}
 
 abbrev pub text_at : List ℕ → Span → List ℕ
 text_at b s = slice_range b s.start (s.start + s.len)
@@ -15,4 +15,4 @@ pub record IsScanned (b : List ℕ) (spans : List Span) : Type 0 where
   pub mailbox : IsTrue (is_mailbox b)
   pub texts : map (text_at b) spans ≡ texts_of b
   pub within : All (IsWithin b) spans
-  pub few : length spans ≤ 1000000
+  pub few : length spans ≤ message_limit

@@ -1,5 +1,5 @@
 ghost use Rattle.std.specs.Prelude.{◌≡◌, ◌+◌, ◌<◌, ◌≤◌, ◌↔◌, [], ◌∷◌, ◌++◌, ℕ, Some, None, Err, IsTrue, IfOk, OnOk, length, take, slice_get};
-ghost use Rattle.mbox_scan.specs.Mailbox.{is_mailbox, starts, texts_of, list_of};
+ghost use Rattle.mbox_scan.specs.Mailbox.{is_mailbox, starts, texts_of, list_of, message_limit};
 ghost use Rattle.mbox_scan.specs.Spans.{IsScanned};
 
 use crate::ScanError;
@@ -18,7 +18,7 @@ fn find_spans(alloc: Global, bytes: &[u8]) -> Result<Vec<Span>, ScanError>
     requires { IsTrue (is_mailbox bytes.now) }
     ensures ok { IfOk result (λ spans. IsScanned bytes.now spans.items) }
     ensures too_many { (count : ℕ) → result ≡ Err (ScanError.TooMany count)
-        → (count ≡ length (starts bytes.now)) × (1000000 < count) }
+        → (count ≡ length (starts bytes.now)) × (message_limit < count) }
     ensures defined { result ≡ Err ScanError.NotAMailbox → ⊥ }
 {
     let finder = Finder::new(BREAK);
@@ -68,10 +68,10 @@ impl Folder {
     pub fn open(alloc: Global, bytes: Text) -> Result<Folder, ScanError>
         ensures ok { IfOk result (λ f. f ≡ bytes) }
         ensures listed { OnOk result (list_of bytes ≡ Some (texts_of bytes)) }
-        ensures few { OnOk result (length (texts_of bytes) ≤ 1000000) }
+        ensures few { OnOk result (length (texts_of bytes) ≤ message_limit) }
         ensures not_a_mailbox { (result ≡ Err ScanError.NotAMailbox) ↔ (list_of bytes ≡ None) }
         ensures too_many { (count : ℕ) → result ≡ Err (ScanError.TooMany count)
-            → (count ≡ length (starts bytes)) × (1000000 < count) }
+            → (count ≡ length (starts bytes)) × (message_limit < count) }
     {
         if !is_mailbox(bytes.bytes()) {
             return Err(ScanError::NotAMailbox);
@@ -84,7 +84,7 @@ impl Folder {
     pub fn count(&self) -> usize
         ensures count { result ≡ length (texts_of self.now) }
         ensures listed { list_of self.now ≡ Some (texts_of self.now) }
-        ensures few { result ≤ 1000000 }
+        ensures few { result ≤ message_limit }
     {
         self.spans.len()
     }

@@ -131,8 +131,9 @@ fn filed(alloc: Global, desk: &Desk, filing: Result<Filing, Refusal>) -> Result<
     }
 }
 
-/// What the command of a line asks for and what it changes, or the one line that refuses it. A refused command changes
-/// nothing. Nothing is said or done yet: the asks are carried out in order, and then `Desk::settle` carries out the changes.
+/// What the command of a line asks for and what it changes, or the one line that refuses it. A refused command
+/// changes nothing. Nothing is said or done yet: the asks are carried out in order, and then `Desk::settle` carries
+/// out the changes.
 pub fn perform(alloc: Global, line: &CommandLine, desk: &Desk) -> Result<Steps, Refusal>
     requires { IsDesk desk.now }
     ensures means { Means result (meaning line.now desk.now) }

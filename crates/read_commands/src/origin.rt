@@ -95,9 +95,9 @@ fn built(alloc: Global, line: &CommandLine) -> Result<(), Refusal>
     }
 }
 
-/// Reads a line from somewhere. It is refused by its form, then where its command isn't built, and else where it may not
-/// stand there: a start-up file holds settings, sets of fields, aliases, macros, conditions, `source`, `echo` and comments
-/// alone, and a draft can't leave itself.
+/// Reads a line from somewhere. It is refused by its form, then where its command isn't built, and else where it may
+/// not stand there: a start-up file holds settings, sets of fields, aliases, macros, conditions, `source`, `echo` and
+/// comments alone, and a draft can't leave itself.
 #[tactic(auto, using(command_desk::proofs::MeansLemmas::means_refused_by, command_desk::proofs::MeansLemmas::unless_none))]
 pub fn read_command(alloc: Global, origin: Origin, line: &[u8]) -> Result<CommandLine, Refusal>
     ensures { Means result (read_from origin line.now) }

@@ -51,8 +51,9 @@ fn taken(answer: Result<(), CommitError>) -> Result<Committed, Stop>
     }
 }
 
-/// Makes changes of up to 16 files as one commit of this actor, under a token that no other run has. `base` is the folder
-/// that a rewrite among them was made for. A fault of the disk and want of memory cut the run off; all else is an answer.
+/// Makes changes of up to 16 files as one commit of this actor, under a token that no other run has. `base` is the
+/// folder that a rewrite among them was made for. A fault of the disk and want of memory cut the run off; all else is
+/// an answer.
 pub fn change<H: Host>(
     alloc: Global,
     host: &mut H,

@@ -29,8 +29,8 @@ fn source_word(alloc: Global, desk: &Desk, word: &[u8]) -> Result<Steps, Refusal
     Ok(bringing(alloc, name)?)
 }
 
-/// `source`: the lines of the file that its one word stands for are carried out next. Refused are another number of words,
-/// and a word that stands for no file.
+/// `source`: the lines of the file that its one word stands for are carried out next. Refused are another number of
+/// words, and a word that stands for no file.
 pub fn source(alloc: Global, desk: &Desk, words: &[Text]) -> Result<Steps, Refusal>
     ensures means { Means result (source desk.now words.now) }
     ensures within { IsWithin desk.now result }
