@@ -40,12 +40,13 @@ effect desk effects =
     let with_marks = with_rows desk (rows_after desk.shown.rows effects.marks) in
     record (with_current with_marks (unwrap_or effects.current desk.shown.current) (unwrap_or effects.fresh desk.fresh)) {
       vars = fold changed desk.vars effects.settings;
+      conditions = unwrap_or effects.conditions desk.conditions;
       page = unwrap_or effects.page desk.page;
     }
 
 -- no change
 abbrev pub unchanged : Effects
-unchanged = record { marks = []; current = None; fresh = None; page = None; settings = [] }
+unchanged = record { marks = []; current = None; fresh = None; page = None; settings = []; conditions = None }
 
 -- message n becomes current; it is unwritten, where another was current before
 abbrev pub moved : Desk → ℕ → Effects

@@ -34,6 +34,19 @@ not_a_number name = with_feed (name ++ codes ": not a number")
 abbrev pub bad_name : List ℕ → List ℕ
 bad_name name = with_feed (name ++ codes ": bad name")
 
+-- the test of an `if` is none
+abbrev pub bad_condition : List ℕ → List ℕ
+bad_condition test = with_feed (test ++ codes ": bad condition")
+
+abbrev pub conditions_too_deep : List ℕ
+conditions_too_deep = with_feed (codes "conditions nest too deep")
+
+abbrev pub else_without_if : List ℕ
+else_without_if = with_feed (codes "else without if")
+
+abbrev pub endif_without_if : List ℕ
+endif_without_if = with_feed (codes "endif without if")
+
 abbrev pub too_many_variables : List ℕ
 too_many_variables = with_feed (codes "too many variables")
 

@@ -2,6 +2,7 @@ use mailx_vars::{Places, Vars};
 use message_show::FieldSets;
 use message_state::Shown;
 use quit_rules::Open;
+use rc_conditionals::Conditions;
 
 /// The state of a session between two commands. Calls that take one ask for a valid one: what it shows is valid, its
 /// rows are those of the folder's texts, marks aside, its marks are those of the folder, and a line has room for two
@@ -16,6 +17,10 @@ pub struct Desk {
     pub vars: Vars,
     /// The names of fields that are left out when a message is printed, or shown alone.
     pub sets: FieldSets,
+    /// The conditions that are open.
+    pub conditions: Conditions,
+    /// Whether the input is a terminal, which the condition `t` asks for.
+    pub terminal: bool,
     /// The page that was said last, from 0.
     pub page: usize,
     /// Whether the current message is unwritten: it wasn't printed since it became current.

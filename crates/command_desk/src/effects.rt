@@ -1,4 +1,4 @@
-ghost use Rattle.std.specs.Prelude.{◌≡◌, ◌≤◌, ◌<◌, map, All, IfOk, IfSome, length};
+ghost use Rattle.std.specs.Prelude.{◌≡◌, ◌≤◌, ◌<◌, map, All, IfOk, IfSome, length, unwrap_or};
 ghost use Rattle.std.specs.List.{fold};
 ghost use Rattle.mailx_vars.specs.Changes.{changed};
 ghost use Rattle.message_state.specs.declared.row.Row.{Row};
@@ -11,6 +11,7 @@ use crate::selecting::last_message;
 use mail_text::{Items, Memory};
 use mailx_vars::{Setting, Vars};
 use message_state::{Act, Mark, RowList, after};
+use rc_conditionals::Conditions;
 use std::alloc::Global;
 
 /// An act on a message.
@@ -35,6 +36,8 @@ pub struct Effects {
     pub page: Option<usize>,
     /// Changes of variables, in order.
     pub settings: Items<Setting>,
+    /// The conditions that are open then.
+    pub conditions: Option<Conditions>,
 }
 
 // Marks a row of the messages and the mark beside it.
@@ -59,6 +62,15 @@ fn change_all(vars: &mut Vars, settings: Items<Setting>)
     }
 }
 
+// Puts other conditions in the place of these, where there are such.
+fn turn(conditions: &mut Conditions, turned: Option<Conditions>)
+    ensures { conditions.new ≡ unwrap_or turned conditions.old }
+{
+    if let Some(turned) = turned {
+        *conditions = turned;
+    }
+}
+
 impl Desk {
     /// Carries out the changes of a command once what it asked for was done. It takes no memory, and as much time
     /// as there are changes.
@@ -73,6 +85,7 @@ impl Desk {
             fresh,
             page,
             settings,
+            conditions,
         } = effects;
         for marking in marks.items() {
             mark_row(&mut self.shown.rows, &mut self.folder.marks, *marking);
@@ -81,6 +94,7 @@ impl Desk {
         self.fresh = fresh.unwrap_or(self.fresh);
         self.page = page.unwrap_or(self.page);
         change_all(&mut self.vars, settings);
+        turn(&mut self.conditions, conditions);
     }
 }
 
@@ -94,6 +108,7 @@ pub fn unchanged(alloc: Global) -> Effects
         fresh: None,
         page: None,
         settings: Items::new(alloc),
+        conditions: None,
     }
 }
 

@@ -46,9 +46,9 @@ opened-desk desk name bytes system rows wide are years few within = record {
 }
 
 -- a desk without messages
-pub empty-desk : (places : Places) → 2 ≤ places.width → IsDesk (desk_with places)
+pub empty-desk : (places : Places) (terminal : Bool) → 2 ≤ places.width → IsDesk (desk_with places terminal)
 unfolding texts_of pieces starts
-empty-desk places wide = record {
+empty-desk places terminal wide = record {
   shown = record { few = omega arith; order = IsPermutation-refl []; depths = refl; current = omega arith; years = λ k d within. absurd (omega arith) };
   rows = tt;
   marks = refl;

@@ -2,7 +2,7 @@
 use Rattle.std.proofs.Common.{◌≡◌, ◌+◌, ◌<◌, ◌≤◌, ◌==◌, ℕ, suc, List, [], ◌∷◌, ◌++◌, length, drop, refl, sym, ◌∙◌, ap, subst, arith, ⊎_elim}
 use Rattle.std.proofs.lemmas.Bool.{cases_Bool}
 use Rattle.std.specs.Prelude.{min, IfOk, OnOk}
-use Rattle.std.proofs.lemmas.List.{drop_min, drop-drop}
+use Rattle.std.proofs.lemmas.List.{drop_at, drop_min, drop-drop}
 use Rattle.std.specs.declared.result.Result.{Result}
 use Rattle.std.specs.declared.result.Result.TheVariants.{Ok, Err}
 use Rattle.mail_text.specs.declared.memory.Memory.{Memory}
@@ -11,8 +11,9 @@ use Rattle.std.specs.declared.option.Option.TheVariants.{Some, None}
 use Rattle.mail_text.specs.Lines.{lines_of, in_front}
 use Rattle.mail_text.proofs.LineLemmas.{lines_of-nil, lines_of-feed, lines_of-byte, lines_of-some}
 use Rattle.mailx_session.specs.declared.frames.WaitingLine.{WaitingLine}
+use Rattle.mailx_session.specs.declared.frames.Taken.{Taken}
 use Rattle.mailx_session.specs.Waits.{Pending}
-use Rattle.mailx_session.specs.Pending.{taken, or_own, own_line, line_from, lines_left, IsTaken, IsHanded}
+use Rattle.mailx_session.specs.Pending.{taken, or_own, own_line, line_from, lines_left, open_before, closed, IsTaken, IsHanded}
 
 -- an innermost frame without a line counts for nothing
 pub taken-closed : (fs : List Pending) (f : Pending) → f.lines ≡ [] → taken (fs ++ f ∷ []) ≡ taken fs
@@ -93,12 +94,25 @@ not-none [] f is = absurd (cc is)
 not-none (g ∷ fs) f is = absurd (cc is)
 
 -- a frame that handed out a line is put back
-pub put-back : (r : Result (Option WaitingLine) Memory) (old before now : List Pending) (f g : Pending) (text : List ℕ) → IfOk r (λ line. line ≡ Some (line_from g.origin text))
-    → OnOk r (now ≡ before ++ g ∷ []) → taken (before ++ f ∷ []) ≡ taken old → IsHanded (Some text) f g → IfOk r (λ line. IsTaken line old now)
+pub put-back : (r : Result Taken Memory) (old before now : List Pending) (f g : Pending) (text : List ℕ) → IfOk r (λ t. t.line ≡ Some (line_from g.origin text))
+    → OnOk r (now ≡ before ++ g ∷ []) → taken (before ++ f ∷ []) ≡ taken old → IsHanded (Some text) f g → IfOk r (λ t. IsTaken t.line old now)
 put-back (Err e) old before now f g text line back same handed = tt
 put-back (Ok given) old before now f g text line back same handed =
     let T : Option WaitingLine → Type 0 = λ l. IsTaken l old now in
     subst T (sym line) (sym same ∙ taken-last before f g text handed.0 handed.1 ∙ ap (λ (fs : List Pending). Some (line_from g.origin text, fs)) (sym back))
+
+one-longer : (fs : List Pending) (f g : Pending) → length (fs ++ f ∷ []) ≡ length (fs ++ g ∷ [])
+one-longer [] f g = refl
+one-longer (h ∷ fs) f g = ap suc (one-longer fs f g)
+
+-- what was open before the frames that are closed then
+pub open-then : (r : Result Taken Memory) (old before now shut : List Pending) (f g : Pending) (nested : Option ℕ) → IfOk r (λ t. t.nested ≡ nested)
+    → OnOk r (now ≡ before ++ g ∷ []) → old ≡ (before ++ f ∷ []) ++ shut → nested ≡ open_before shut → IfOk r (λ t. t.nested ≡ open_before (closed old now))
+open-then (Err e) old before now shut f g nested said back is was = tt
+open-then (Ok given) old before now shut f g nested said back is was =
+    let long : length (before ++ f ∷ []) ≡ length now = one-longer before f g ∙ ap (λ (fs : List Pending). length fs) (sym back) in
+    let left : closed old now ≡ shut = ap (drop (length now)) is ∙ drop_at (before ++ f ∷ []) shut (length now) long in
+    said ∙ was ∙ ap open_before (sym left)
 
 -- the line at the front of what is left of a text, and what is left behind it
 pub handed-line : (text : List ℕ) (used at : ℕ) (line : List ℕ) (rest : List (List ℕ)) → at ≡ min used (length text) → lines_of (drop at text) ≡ line ∷ rest

@@ -1,6 +1,7 @@
 -- Lines that wait, so far.
 use Rattle.std.proofs.Common.{◌≡◌, ℕ, List, [], ◌++◌, refl, sym, ◌∙◌, ap, subst, append_assoc}
 use Rattle.std.proofs.lemmas.List.{append-nil}
+use Rattle.std.specs.declared.option.Option.{Option}
 use Rattle.std.specs.declared.option.Option.TheVariants.{Some, None}
 use Rattle.std.specs.declared.result.Result.{Result}
 use Rattle.std.specs.declared.result.Result.TheVariants.{Ok, Err}
@@ -8,12 +9,14 @@ use Rattle.host_port.specs.declared.event.Event.{Event}
 use Rattle.session_play.specs.declared.stop.Stop.{Stop}
 use Rattle.session_play.specs.declared.stop.Stop.TheVariants as stop
 use Rattle.session_play.specs.Play.{Goes, Next, Go, Last}
+use Rattle.command_desk.specs.declared.desk.Desk.{Desk}
+use Rattle.command_desk.specs.Desks.{IsDesk}
 use Rattle.mailx_session.specs.declared.frames.WaitingLine.{WaitingLine}
 use Rattle.mailx_session.specs.declared.state.SessionState.{SessionState}
 use Rattle.mailx_session.specs.declared.status.Status.{Status}
 use Rattle.mailx_session.specs.Waits.{Pending}
-use Rattle.mailx_session.specs.Pending.{taken}
-use Rattle.mailx_session.specs.States.{IsSession, with_frames, with_count, rested}
+use Rattle.mailx_session.specs.Pending.{taken, open_before, closed}
+use Rattle.mailx_session.specs.States.{IsState, IsSession, with_frames, with_count, cut_to, resumed, rested}
 use Rattle.mailx_session.specs.Rounds.{waiting_play, WaitingGo, none, more, ended, cut, short}
 
 -- these events lead from s to t: lines that go on waiting at t go on from s with them in front
@@ -23,27 +26,56 @@ pub record WaitsSoFar (s t : SessionState) (es : List Event) : Type 0 where
 pub waits-none : (s : SessionState) → WaitsSoFar s s []
 waits-none s = record { whole = λ rest out w. w }
 
-pub waits-more : (s t u : SessionState) (line : WaitingLine) (frames : List Pending) → taken t.frames ≡ Some (line, frames) → (es fs : List Event) → WaitsSoFar s t es
-    → Goes (waiting_play (with_frames t frames) line) fs (Ok (Go u)) → WaitsSoFar s u (es ++ fs)
-waits-more s t u line frames is es fs so goes = record {
+pub waits-more : (s t v u : SessionState) (line : WaitingLine) → taken t.frames ≡ Some (line, v.frames) → v ≡ resumed t v.frames → (es fs : List Event) → WaitsSoFar s t es
+    → Goes (waiting_play v line) fs (Ok (Go u)) → WaitsSoFar s u (es ++ fs)
+waits-more s t v u line is same es fs so goes = record {
   whole = λ rest out w.
-      subst (λ (l : List Event). WaitingGo s l out) (sym (append_assoc es fs rest)) (so.whole (fs ++ rest) out (more line frames fs rest is refl goes w));
+      subst (λ (l : List Event). WaitingGo s l out) (sym (append_assoc es fs rest))
+      (so.whole (fs ++ rest) out (more line v.frames fs rest is refl (subst (λ (x : SessionState). Goes (waiting_play x line) fs (Ok (Go u))) same goes) w));
 }
 
-pub waits-ended : (s t : SessionState) (e : Status) (line : WaitingLine) (frames : List Pending) → taken t.frames ≡ Some (line, frames) → (es fs : List Event) → WaitsSoFar s t es
-    → Goes (waiting_play (with_frames t frames) line) fs (Ok (Last e)) → WaitingGo s (es ++ fs) (Ok (Last e))
-waits-ended s t e line frames is es fs so goes = so.whole fs (Ok (Last e)) (ended line frames is goes)
+pub waits-ended : (s t v : SessionState) (e : Status) (line : WaitingLine) → taken t.frames ≡ Some (line, v.frames) → v ≡ resumed t v.frames → (es fs : List Event) → WaitsSoFar s t es
+    → Goes (waiting_play v line) fs (Ok (Last e)) → WaitingGo s (es ++ fs) (Ok (Last e))
+waits-ended s t v e line is same es fs so goes =
+    so.whole fs (Ok (Last e)) (ended line v.frames is (subst (λ (x : SessionState). Goes (waiting_play x line) fs (Ok (Last e))) same goes))
 
-pub waits-cut : (s t : SessionState) (cause : Stop) (line : WaitingLine) (frames : List Pending) → taken t.frames ≡ Some (line, frames) → (es fs : List Event) → WaitsSoFar s t es
-    → Goes (waiting_play (with_frames t frames) line) fs (Err cause) → WaitingGo s (es ++ fs) (Err cause)
-waits-cut s t cause line frames is es fs so goes = so.whole fs (Err cause) (cut line frames is goes)
+pub waits-cut : (s t v : SessionState) (cause : Stop) (line : WaitingLine) → taken t.frames ≡ Some (line, v.frames) → v ≡ resumed t v.frames → (es fs : List Event) → WaitsSoFar s t es
+    → Goes (waiting_play v line) fs (Err cause) → WaitingGo s (es ++ fs) (Err cause)
+waits-cut s t v cause line is same es fs so goes =
+    so.whole fs (Err cause) (cut line v.frames is (subst (λ (x : SessionState). Goes (waiting_play x line) fs (Err cause)) same goes))
 
-pub waits-over : (s t : SessionState) → taken t.frames ≡ None → (es : List Event) → WaitsSoFar s t es → WaitingGo s es (Ok (Go (rested t)))
-waits-over s t over es so = subst (λ (l : List Event). WaitingGo s l (Ok (Go (rested t)))) (append-nil es) (so.whole [] (Ok (Go (rested t))) (none over))
+-- where no line is left, the state is at rest but for the count
+pub rested-resumed : (t v : SessionState) → v ≡ resumed t v.frames → v.frames ≡ [] → rested v ≡ rested t
+rested-resumed t v same none =
+    let left : v ≡ resumed t [] = same ∙ ap (resumed t) none in
+    let rests : rested (resumed t []) ≡ rested t = refl in
+    ap rested left ∙ rests
+
+pub waits-over : (s t v : SessionState) → taken t.frames ≡ None → v ≡ resumed t v.frames → v.frames ≡ [] → (es : List Event) → WaitsSoFar s t es
+    → WaitingGo s es (Ok (Go (rested v)))
+waits-over s t v over same left es so =
+    subst (λ (l : List Event). WaitingGo s l (Ok (Go (rested v)))) (append-nil es)
+    (so.whole [] (Ok (Go (rested v))) (subst (λ (x : SessionState). WaitingGo t [] (Ok (Go x))) (sym (rested-resumed t v same left)) (none over)))
 
 pub waits-short : (s t : SessionState) (es : List Event) → WaitsSoFar s t es → WaitingGo s es (Err stop.Memory)
 waits-short s t es so = subst (λ (l : List Event). WaitingGo s l (Err stop.Memory)) (append-nil es) (so.whole [] (Err stop.Memory) short)
 
 -- a session between two lines is at rest
 pub rested-same : (s : SessionState) → IsSession s → rested s ≡ s
-rested-same s is = ap (λ (fs : List Pending). with_count (with_frames s fs) 0) (sym is.frames) ∙ ap (λ (n : ℕ). with_count s n) (sym is.count)
+rested-same s is =
+    let cuts : rested s ≡ with_count (with_frames s []) 0 = ap (λ (fs : List Pending). record s { desk = cut_to (open_before fs) s.desk; frames = []; count = 0 }) is.frames in
+    cuts ∙ ap (λ (fs : List Pending). with_count (with_frames s fs) 0) (sym is.frames) ∙ ap (λ (n : ℕ). with_count s n) (sym is.count)
+
+-- and a line of the input is the first command
+pub typed-same : (s : SessionState) → IsSession s → with_count (rested s) 1 ≡ with_count s 1
+typed-same s is = ap (λ (t : SessionState). with_count t 1) (rested-same s is)
+
+desk-cut : (o : Option ℕ) (desk : Desk) → IsDesk desk → IsDesk (cut_to o desk)
+desk-cut o desk d = record { shown = d.shown; rows = d.rows; marks = d.marks; width = d.width }
+
+-- conditions are no matter of validity
+pub resumed-valid : (s : SessionState) (fs : List Pending) → IsState s → IsState (resumed s fs)
+resumed-valid s fs is = record { desk = desk-cut (open_before (closed s.frames fs)) s.desk is.desk; actor = is.actor }
+
+pub rested-valid : (s : SessionState) → IsState s → IsSession (rested s)
+rested-valid s is = record { state = record { desk = desk-cut (open_before s.frames) s.desk is.desk; actor = is.actor }; frames = refl; count = refl }

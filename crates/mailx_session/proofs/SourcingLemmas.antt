@@ -59,8 +59,8 @@ left-more : (fs : List Pending) (f : Pending) → lines_left (fs ++ f ∷ []) �
 left-more [] f = omega arith
 left-more (g ∷ fs) f = let rest = left-more fs f in omega arith
 
-sources-more : (fs : List Pending) (origin : Origin) (text : List ℕ) → sources (fs ++ frame_of origin kind.Source text ∷ []) ≡ sources fs + 1
-sources-more fs origin text = sum_by-append (λ (f : Pending). cond (is_source f.kind) 1 0) fs (frame_of origin kind.Source text ∷ [])
+sources-more : (fs : List Pending) (origin : Origin) (nested : ℕ) (text : List ℕ) → sources (fs ++ frame_of origin kind.Source nested text ∷ []) ≡ sources fs + 1
+sources-more fs origin nested text = sum_by-append (λ (f : Pending). cond (is_source f.kind) 1 0) fs (frame_of origin kind.Source nested text ∷ [])
 
 room-falls : (a b k n m : ℕ) → b ≡ a + k → k < 2 ^ 64 → m ≡ n + 1 → n < 16 → b + (16 - m) * 2 ^ 64 ≤ a + (16 - n) * 2 ^ 64
 room-falls a b k n m more small one few = omega arith
@@ -71,12 +71,12 @@ below a b c x y = omega arith
 -- the lines of a file are brought
 pub brings-source : (s : SessionState) (text : List ℕ) → sources s.frames < source_limit → length text < 2 ^ 64 → OnlyBrings s (with_source s text)
 brings-source s text few small =
-    let f = frame_of (origin_at s.frames) kind.Source text in
+    let f = frame_of (origin_at s.frames) kind.Source (length s.desk.conditions) text in
     record {
       rest = refl;
       inside = (f ∷ [], refl);
       room = room-falls (lines_left s.frames) (lines_left (s.frames ++ f ∷ [])) (length (lines_of text)) (sources s.frames) (sources (s.frames ++ f ∷ [])) (left-more s.frames f)
-          (below (length (lines_of text)) (length text) (2 ^ 64) (length-lines_of text) small) (sources-more s.frames (origin_at s.frames) text) few;
+          (below (length (lines_of text)) (length text) (2 ^ 64) (length-lines_of text) small) (sources-more s.frames (origin_at s.frames) (length s.desk.conditions) text) few;
     }
 
 -- an ask of some that bring nothing brings nothing

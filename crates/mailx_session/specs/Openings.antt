@@ -23,12 +23,14 @@ use Rattle.mailx_session.specs.declared.state.SessionState.{SessionState}
 use Rattle.mailx_session.specs.States.{with_desk}
 
 -- a desk without messages, with the variables that are set at the start
-abbrev pub desk_with : Places → Desk
-desk_with places = record {
+abbrev pub desk_with : Places → Bool → Desk
+desk_with places terminal = record {
   folder = record { name = []; system = false; folder = []; marks = [] };
   shown = record { rows = []; order = []; depth = []; current = 0 };
   vars = defaults;
   sets = record { ignored = []; retained = [] };
+  conditions = [];
+  terminal = terminal;
   page = 0;
   fresh = true;
   places = places;
@@ -37,7 +39,7 @@ desk_with places = record {
 -- the state before a folder is opened, in a run of this token: the name of the actor is `.mailx` in the home folder
 abbrev pub state_with : Places → Bool → ℕ → SessionState
 state_with places terminal token = record {
-  desk = desk_with places;
+  desk = desk_with places terminal;
   actor = places.home ++ codes "/.mailx";
   token = token;
   terminal = terminal;

@@ -1,5 +1,5 @@
 -- The next of the lines from elsewhere that are still to run.
-use Rattle.std.specs.Prelude.{◌≡◌, ◌+◌, ℕ, List, [], ◌∷◌, length}
+use Rattle.std.specs.Prelude.{◌≡◌, ◌+◌, ℕ, List, [], ◌∷◌, drop, length}
 use Rattle.std.specs.declared.option.Option.{Option}
 use Rattle.std.specs.declared.option.Option.TheVariants.{Some, None}
 use Rattle.mail_text.specs.Lines.{lines_of}
@@ -8,9 +8,9 @@ use Rattle.mailx_session.specs.declared.frames.WaitingLine.{WaitingLine}
 use Rattle.mailx_session.specs.declared.kinds.FrameKind.{FrameKind}
 use Rattle.mailx_session.specs.Waits.{Pending}
 
--- the lines of a text from somewhere, brought so
-abbrev pub frame_of : Origin → FrameKind → List ℕ → Pending
-frame_of origin kind text = record { origin = origin; kind = kind; lines = lines_of text }
+-- the lines of a text from somewhere, brought so, where this many conditions are open
+abbrev pub frame_of : Origin → FrameKind → ℕ → List ℕ → Pending
+frame_of origin kind nested text = record { origin = origin; kind = kind; nested = nested; lines = lines_of text }
 
 -- a line from somewhere
 abbrev pub line_from : Origin → List ℕ → WaitingLine
@@ -41,6 +41,15 @@ IsTaken None old new = (taken old ≡ None) × (new ≡ [])
 abbrev pub IsHanded : Option (List ℕ) → Pending → Pending → Type 0
 IsHanded (Some line) old new = (new ≡ record old { lines = new.lines }) × (old.lines ≡ line ∷ new.lines)
 IsHanded None old new = (old.lines ≡ []) × (new ≡ old)
+
+-- how many conditions were open before the outermost of these frames
+abbrev pub open_before : List Pending → Option ℕ
+open_before [] = None
+open_before (f ∷ fs) = Some f.nested
+
+-- the frames that are closed where these are left
+abbrev pub closed : List Pending → List Pending → List Pending
+closed frames left = drop (length left) frames
 
 -- how many lines wait
 abbrev pub lines_left : List Pending → ℕ

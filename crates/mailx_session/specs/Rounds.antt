@@ -1,5 +1,5 @@
 -- The lines of a session: one of the input, and those that wait.
-use Rattle.std.specs.Prelude.{◌≡◌, ◌+◌, nat_lt, ℕ, List, [], ◌++◌, codes, if◌then◌else◌}
+use Rattle.std.specs.Prelude.{◌≡◌, ◌+◌, nat_lt, ℕ, Bool, ◌||◌, List, [], ◌++◌, codes, if◌then◌else◌}
 use Rattle.std.specs.List.{list_all}
 use Rattle.std.specs.declared.option.Option.TheVariants.{Some, None}
 use Rattle.std.specs.declared.result.Result.{Result}
@@ -12,13 +12,13 @@ use Rattle.session_play.specs.declared.stop.Stop.TheVariants as stop
 use Rattle.session_play.specs.Play.{Play, Ret, Ask, Say, Next, Go, Last, Goes}
 use Rattle.read_commands.specs.declared.origin.Origin.{Origin}
 use Rattle.read_commands.specs.declared.origin.Origin.TheVariants.{Input}
-use Rattle.read_commands.specs.Origins.{commanded}
+use Rattle.read_commands.specs.Origins.{commanded, passes_over}
 use Rattle.mailx_session.specs.declared.frames.WaitingLine.{WaitingLine}
 use Rattle.mailx_session.specs.declared.state.SessionState.{SessionState}
 use Rattle.mailx_session.specs.declared.status.Status.{Status}
 use Rattle.mailx_session.specs.Waits.{Pending}
 use Rattle.mailx_session.specs.Pending.{taken}
-use Rattle.mailx_session.specs.States.{command_limit, with_frames, with_count, rested}
+use Rattle.mailx_session.specs.States.{command_limit, with_count, resumed, rested}
 use Rattle.mailx_session.specs.Sessions.{carried_out}
 
 -- what a line from somewhere does
@@ -32,9 +32,9 @@ typed_play s line = line_play Input (with_count (rested s) 1) line
 abbrev pub too_many_commands : List ℕ
 too_many_commands = with_feed (codes "too many commands")
 
--- this is said, and the lines that wait are dropped
+-- this is said, and the lines that wait are dropped, with the conditions that they left open
 abbrev pub dropped_play : SessionState → Play (Next SessionState Status)
-dropped_play s = Ask (Say too_many_commands) (λ _. Ret (Go (with_frames s [])))
+dropped_play s = Ask (Say too_many_commands) (λ _. Ret (Go (resumed s [])))
 
 -- a line from elsewhere is a command more, unless that passes the limit: then all lines that wait are dropped
 abbrev pub counted_play : SessionState → WaitingLine → Play (Next SessionState Status)
@@ -42,21 +42,25 @@ counted_play s line =
     if nat_lt s.count command_limit then line_play line.origin (with_count s (s.count + 1)) line.text
     else dropped_play s
 
--- a line from elsewhere; an empty one is passed over
+-- a line from elsewhere is no command: it is empty, or passed over
+abbrev pub is_idle : SessionState → WaitingLine → Bool
+is_idle s line = list_all is_blank line.text || passes_over s.desk line.text
+
+-- a line from elsewhere
 abbrev pub waiting_play : SessionState → WaitingLine → Play (Next SessionState Status)
-waiting_play s line = if list_all is_blank line.text then Ret (Go s) else counted_play s line
+waiting_play s line = if is_idle s line then Ret (Go s) else counted_play s line
 
 -- The lines that wait are carried out, each on the state that the one before it left, until none is left, the run ends or is
 -- cut off.
 pub data WaitingGo : SessionState → List Event → Result (Next SessionState Status) Stop → Type 0 where
   none : {s : SessionState} → taken s.frames ≡ None → WaitingGo s [] (Ok (Go (rested s)))
   more : {s t : SessionState} {es : List Event} {out : Result (Next SessionState Status) Stop} (line : WaitingLine) (frames : List Pending) (front rest : List Event)
-      → taken s.frames ≡ Some (line, frames) → es ≡ front ++ rest → Goes (waiting_play (with_frames s frames) line) front (Ok (Go t))
+      → taken s.frames ≡ Some (line, frames) → es ≡ front ++ rest → Goes (waiting_play (resumed s frames) line) front (Ok (Go t))
       → WaitingGo t rest out → WaitingGo s es out
   ended : {s : SessionState} {es : List Event} {e : Status} (line : WaitingLine) (frames : List Pending) → taken s.frames ≡ Some (line, frames)
-      → Goes (waiting_play (with_frames s frames) line) es (Ok (Last e)) → WaitingGo s es (Ok (Last e))
+      → Goes (waiting_play (resumed s frames) line) es (Ok (Last e)) → WaitingGo s es (Ok (Last e))
   cut : {s : SessionState} {es : List Event} {cause : Stop} (line : WaitingLine) (frames : List Pending) → taken s.frames ≡ Some (line, frames)
-      → Goes (waiting_play (with_frames s frames) line) es (Err cause) → WaitingGo s es (Err cause)
+      → Goes (waiting_play (resumed s frames) line) es (Err cause) → WaitingGo s es (Err cause)
   short : {s : SessionState} → WaitingGo s [] (Err stop.Memory)
 
 -- A line of the input is carried out, and then the lines that it brings.

@@ -53,7 +53,7 @@ source_fault frames name =
 
 -- the lines of a sourced file are put in front of those that wait; they come from where the command does
 abbrev pub with_source : SessionState → List ℕ → SessionState
-with_source s text = with_frames s (s.frames ++ frame_of (origin_at s.frames) kind.Source text ∷ [])
+with_source s text = with_frames s (s.frames ++ frame_of (origin_at s.frames) kind.Source (length s.desk.conditions) text ∷ [])
 
 -- what follows the load of a file of this name; a lock on it is no matter
 abbrev pub after_load : SessionState → List ℕ → Option Found → After SessionState Status

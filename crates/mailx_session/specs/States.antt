@@ -1,13 +1,17 @@
 -- What a session knows between two lines.
-use Rattle.std.specs.Prelude.{◌≡◌, ◌≤◌, ℕ, Bool, true, List, [], length}
+use Rattle.std.specs.Prelude.{◌≡◌, ◌≤◌, ℕ, Bool, true, List, [], length, take}
+use Rattle.std.specs.declared.option.Option.{Option}
+use Rattle.std.specs.declared.option.Option.TheVariants.{Some, None}
 use Rattle.host_port.specs.Names.{has_no_zero}
 use Rattle.commit_machine.specs.Names.{actor_limit}
+use Rattle.rc_conditionals.specs.declared.conditions.Condition.{Condition}
 use Rattle.command_desk.specs.declared.desk.Desk.{Desk}
 use Rattle.command_desk.specs.declared.effects.Effects.{Effects}
 use Rattle.command_desk.specs.Desks.{IsDesk}
 use Rattle.command_desk.specs.Effects.{effect}
 use Rattle.mailx_session.specs.declared.state.SessionState.{SessionState}
 use Rattle.mailx_session.specs.Waits.{Pending}
+use Rattle.mailx_session.specs.Pending.{open_before, closed}
 
 -- the files of an actor of this name can have their names
 pub record IsActor (name : List ℕ) : Type 0 where
@@ -41,9 +45,22 @@ with_frames s frames = record s { frames = frames }
 abbrev pub with_count : SessionState → ℕ → SessionState
 with_count s count = record s { count = count }
 
--- the state without lines that wait, and with no command counted
+-- the conditions that stay open, where this many were before
+abbrev pub still_open : Option ℕ → List Condition → List Condition
+still_open None conditions = conditions
+still_open (Some n) conditions = take n conditions
+
+-- the desk without the conditions that were opened since this many were open
+abbrev pub cut_to : Option ℕ → Desk → Desk
+cut_to nested desk = record desk { conditions = still_open nested desk.conditions }
+
+-- the state with these frames alone, the outermost of those that it has: the conditions that the others left open are cut
+abbrev pub resumed : SessionState → List Pending → SessionState
+resumed s frames = record s { desk = cut_to (open_before (closed s.frames frames)) s.desk; frames = frames }
+
+-- the state without lines that wait and without the conditions that they left open, and with no command counted
 abbrev pub rested : SessionState → SessionState
-rested s = record s { frames = []; count = 0 }
+rested s = record s { desk = cut_to (open_before s.frames) s.desk; frames = []; count = 0 }
 
 -- the state after a command: what its effects don't name stays
 abbrev pub settled : SessionState → Effects → SessionState

@@ -3,8 +3,9 @@ use Rattle.std.specs.Prelude.{ℕ, List}
 use Rattle.read_commands.specs.declared.origin.Origin.{Origin}
 use Rattle.mailx_session.specs.declared.kinds.FrameKind.{FrameKind}
 
--- lines from one place that are still to run, where they come from, and what brought them
+-- lines from one place that are still to run, where they come from, what brought them, and how many conditions were open before
 pub record Pending : Type 0 where
   pub origin : Origin
   pub kind : FrameKind
+  pub nested : ℕ
   pub lines : List (List ℕ)

@@ -1,6 +1,6 @@
 // Lines from elsewhere than the input that are still to run.
 ghost use Rattle.std.specs.Prelude.{◌≡◌, ◌≢◌, ◌≤◌, ◌++◌, ◌∷◌, [], Some, length, take, IfOk, IfSome, IfNone, OnOk, OnErr};
-ghost use Rattle.mailx_session.specs.Pending.{frame_of, line_from, IsTaken, IsHanded};
+ghost use Rattle.mailx_session.specs.Pending.{frame_of, line_from, open_before, closed, IsTaken, IsHanded};
 ghost use Rattle.mailx_session.specs.Sourcing.{is_source, sources, origin_at};
 
 use crate::FrameKind;
@@ -9,11 +9,14 @@ use read_commands::Origin;
 use std::alloc::Global;
 use std::marker::Model;
 
-/// Lines from one place that are still to run. Contracts see where they come from, what brought them, and their list.
+/// Lines from one place that are still to run. Contracts see where they come from, what brought them, how many
+/// conditions were open before, and their list.
 #[derive(Drop)]
 pub struct Frame {
     origin: Origin,
     kind: FrameKind,
+    // how many conditions were open before
+    nested: usize,
     text: Text,
     // how many bytes of the text were used
     used: usize,
@@ -26,7 +29,7 @@ impl Model for Frame {
 
     ghost Value = { Pending };
 
-    ghost view = { λ f. record { origin = f.origin; kind = f.kind; lines = lines_of (drop f.used f.text) } };
+    ghost view = { λ f. record { origin = f.origin; kind = f.kind; nested = f.nested; lines = lines_of (drop f.used f.text) } };
 }
 
 /// A line, and where it comes from.
@@ -38,14 +41,24 @@ pub struct WaitingLine {
     pub text: Text,
 }
 
+/// The line that is taken, and how many conditions were open before the outermost of the frames that are closed then.
+#[derive(Drop)]
+pub(crate) struct Taken {
+    /// The line, where one waits.
+    pub line: Option<WaitingLine>,
+    /// The number of conditions, where a frame is closed.
+    pub nested: Option<usize>,
+}
+
 impl Frame {
-    /// The lines of a text from somewhere, which this brought.
-    pub fn new(origin: Origin, kind: FrameKind, text: Text) -> Frame
-        ensures { result ≡ frame_of origin kind text }
+    /// The lines of a text from somewhere, which this brought, where this many conditions are open.
+    pub fn new(origin: Origin, kind: FrameKind, nested: usize, text: Text) -> Frame
+        ensures { result ≡ frame_of origin kind nested text }
     {
         Frame {
             origin,
             kind,
+            nested,
             text,
             used: 0,
         }
@@ -115,6 +128,16 @@ impl Frames {
         }
     }
 
+    /// How many conditions were open before the outermost frame, if there is one.
+    pub(crate) fn open_before(&self) -> Option<usize>
+        ensures { result ≡ open_before self.now }
+    {
+        match self.stack.first() {
+            Some(frame) => Some(frame.nested),
+            None => None,
+        }
+    }
+
     /// How many sourced files are open.
     pub(crate) fn sources(&self) -> usize
         ensures { result ≡ sources self.now }
@@ -148,18 +171,20 @@ impl Frames {
     }
 
     /// Takes the next line of the innermost frame that has one. The frames inside of it, which have none, are closed.
-    pub(crate) fn next_line(&mut self, alloc: Global) -> Result<Option<WaitingLine>, Memory>
-        ensures taken { IfOk result (λ line. IsTaken line self.old self.new) }
+    pub(crate) fn next_line(&mut self, alloc: Global) -> Result<Taken, Memory>
+        ensures taken { IfOk result (λ t. IsTaken t.line self.old self.new) }
+        ensures nested { IfOk result (λ t. t.nested ≡ open_before (closed self.old self.new)) }
         ensures err { OnErr result (self.old ≢ []) }
     {
+        let mut nested = None;
         'frames: loop {
             match self.pop() {
                 Some(mut frame) => match frame.next_line(alloc) {
-                    Ok(Some(text)) => return self.put_back(frame, text),
-                    Ok(None) => {}
+                    Ok(Some(text)) => return self.put_back(frame, text, nested),
+                    Ok(None) => nested = Some(frame.nested),
                     Err(Memory) => return Err(Memory),
                 },
-                None => return Ok(None),
+                None => return Ok(Taken { line: None, nested }),
             }
         }
     }
@@ -173,13 +198,17 @@ impl Frames {
     }
 
     // A line with its origin, once its frame is back.
-    fn put_back(&mut self, frame: Frame, text: Text) -> Result<Option<WaitingLine>, Memory>
-        ensures line { IfOk result (λ line. line ≡ Some (line_from frame.origin text)) }
+    fn put_back(&mut self, frame: Frame, text: Text, nested: Option<usize>) -> Result<Taken, Memory>
+        ensures line { IfOk result (λ t. t.line ≡ Some (line_from frame.origin text)) }
+        ensures nested { IfOk result (λ t. t.nested ≡ nested) }
         ensures back { OnOk result (self.new ≡ self.old ++ frame ∷ []) }
     {
         let origin = frame.origin;
         match self.stack.push(frame) {
-            Ok(()) => Ok(Some(WaitingLine { origin, text })),
+            Ok(()) => Ok(Taken {
+                line: Some(WaitingLine { origin, text }),
+                nested,
+            }),
             Err(_) => Err(Memory),
         }
     }

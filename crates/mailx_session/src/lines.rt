@@ -1,5 +1,5 @@
 // Lines as they are carried out: one of the input, and then those that wait.
-ghost use Rattle.std.specs.Prelude.{◌≡◌, ◌≤◌, ◌≢◌, List, ℕ, [], false, Ok, Err, IfOk, OnErr};
+ghost use Rattle.std.specs.Prelude.{◌≡◌, ◌≤◌, ◌≢◌, List, ℕ, [], false, Ok, Err, IfOk, OnOk, OnErr};
 ghost use Rattle.std.specs.List.{list_all, list_any};
 ghost use Rattle.mail_text.specs.Ascii.{is_blank};
 ghost use Rattle.host_port.specs.Ran.{Ran};
@@ -9,17 +9,19 @@ ghost use Rattle.command_desk.specs.Desks.{IsDesk};
 ghost use Rattle.command_desk.specs.Effects.{effect};
 ghost use Rattle.read_commands.specs.Origins.{commanded};
 ghost use Rattle.read_commands.specs.declared.origin.Origin.{Origin};
-ghost use Rattle.mailx_session.specs.States.{IsState, rested, KeepsOthers};
+ghost use Rattle.mailx_session.specs.Pending.{IsTaken};
+ghost use Rattle.mailx_session.specs.States.{IsState, IsSession, resumed, rested, KeepsOthers};
 ghost use Rattle.mailx_session.specs.Sourcing.{brings, brings_lines, room, weight};
-ghost use Rattle.mailx_session.specs.Rounds.{line_play, typed_play, dropped_play, counted_play, waiting_play, WaitingGo, LineGoes};
+ghost use Rattle.mailx_session.specs.Rounds.{line_play, typed_play, dropped_play, counted_play, is_idle, waiting_play, WaitingGo, LineGoes};
 ghost use Rattle.mailx_session.specs.Sessions.{carried_out, next_of, in_play, LineCaused, EndsByLine, StaysAtEnd, DoesNothing};
 
 use crate::asks::{Asked, do_asks, say};
-use crate::frames::Frames;
+use crate::frames::Taken;
+use crate::state::{cut_to, drop_lines};
 use crate::{Flow, RunError, SessionState, WaitingLine};
 use host_port::Host;
 use mail_text::{Memory, Text, is_blank};
-use read_commands::{Origin, Refusal, Steps, perform_line};
+use read_commands::{Origin, Refusal, Steps, passes_over, perform_line};
 use std::alloc::Global;
 
 /// The most commands that one input line gives.
@@ -102,33 +104,32 @@ fn carry_line<H: Host>(
     }
 }
 
-// Carries out a line of the input, which begins the count of commands anew.
+// Carries out a line of the input, which is the first command that is counted.
 fn typed_line<H: Host>(
     alloc: Global,
     state: &mut SessionState,
     host: &mut H,
     line: &[u8],
 ) -> Result<Flow, RunError>
-    requires { IsState state.old }
+    requires { IsSession state.old }
     ensures ran { Ran H.world host.old host.new
         (λ es. Goes (typed_play state.old line.now) es (in_play (next_of state.new) result)) }
     ensures state { IsState state.new }
     ensures none_wait { brings_lines (commanded Origin.Input state.old.desk line.now) ≡ false → state.new.frames ≡ [] }
     ensures refused { (fault : List ℕ) → commanded Origin.Input state.old.desk line.now ≡ Err fault
-        → rested state.new ≡ rested state.old }
+        → rested state.new ≡ state.old }
     ensures goes_on { (fault : List ℕ) → commanded Origin.Input state.old.desk line.now ≡ Err fault
         → IfOk result (λ flow. flow ≡ Flow.Go) }
     ensures done { IfOk result EndsByLine }
-    ensures end { IfOk result (StaysAtEnd (rested state.old) (rested state.new)) }
-    ensures err { OnErr result (rested state.new ≡ rested state.old) }
+    ensures end { IfOk result (StaysAtEnd state.old (rested state.new)) }
+    ensures err { OnErr result (rested state.new ≡ state.old) }
     ensures cause { LineCaused (H.world.counts host.old) (H.world.counts host.new) result }
 {
-    state.frames = Frames::new(alloc);
     state.count = 1;
     carry_line(alloc, state, host, Origin::Input, line)
 }
 
-// Says that there are too many commands, and drops the lines that wait.
+// Says that there are too many commands, and drops the lines that wait, with the conditions that they left open.
 fn drop_waiting<H: Host>(
     alloc: Global,
     state: &mut SessionState,
@@ -144,7 +145,7 @@ fn drop_waiting<H: Host>(
 {
     match say(host, b"too many commands\n") {
         Ok(()) => {
-            state.frames = Frames::new(alloc);
+            drop_lines(alloc, state);
             Ok(Flow::Go)
         }
         Err(error) => Err(error),
@@ -181,6 +182,17 @@ fn is_empty(line: &[u8]) -> bool
     line.iter().all(|byte| is_blank(*byte))
 }
 
+// Whether a line from elsewhere is no command: it is empty, or passed over.
+fn is_idle(alloc: Global, state: &SessionState, line: &WaitingLine) -> Result<bool, Memory>
+    ensures { IfOk result (λ idle. idle ≡ is_idle state.now line.now) }
+{
+    if is_empty(line.text.bytes()) {
+        Ok(true)
+    } else {
+        passes_over(alloc, &state.desk, line.text.bytes())
+    }
+}
+
 // Carries out a line from elsewhere.
 fn waiting_line<H: Host>(
     alloc: Global,
@@ -196,10 +208,32 @@ fn waiting_line<H: Host>(
     ensures done { IfOk result EndsByLine }
     ensures cause { LineCaused (H.world.counts host.old) (H.world.counts host.new) result }
 {
-    if is_empty(line.text.bytes()) {
-        Ok(Flow::Go)
-    } else {
-        counted_line(alloc, state, host, line)
+    match is_idle(alloc, state, line) {
+        Ok(idle) => {
+            if idle {
+                Ok(Flow::Go)
+            } else {
+                counted_line(alloc, state, host, line)
+            }
+        }
+        Err(Memory) => Err(RunError::Memory),
+    }
+}
+
+// Takes the next line that waits, and cuts the conditions that the frames left open which are closed then.
+fn next_waiting(alloc: Global, state: &mut SessionState) -> Result<Option<WaitingLine>, Memory>
+    requires { IsState state.old }
+    ensures taken { IfOk result (λ line. IsTaken line state.old.frames state.new.frames) }
+    ensures resumed { OnOk result (state.new ≡ resumed state.old state.new.frames) }
+    ensures state { IsState state.new }
+    ensures err { OnErr result (state.old.frames ≢ []) }
+{
+    match state.frames.next_line(alloc) {
+        Ok(Taken { line, nested }) => {
+            cut_to(&mut state.desk, nested);
+            Ok(line)
+        }
+        Err(Memory) => Err(Memory),
     }
 }
 
@@ -218,7 +252,7 @@ fn waiting_lines<H: Host>(
     ensures cause { LineCaused (H.world.counts host.old) (H.world.counts host.new) result }
 {
     'lines: loop {
-        match state.frames.next_line(alloc) {
+        match next_waiting(alloc, state) {
             Ok(Some(line)) => match waiting_line(alloc, state, host, &line) {
                 Ok(Flow::Go) => {}
                 Ok(Flow::End(status)) => return Ok(Flow::End(status)),
@@ -237,19 +271,19 @@ pub(crate) fn input_line<H: Host>(
     host: &mut H,
     line: &[u8],
 ) -> Result<Flow, RunError>
-    requires { IsState state.old }
+    requires { IsSession state.old }
     ensures ran { Ran H.world host.old host.new
         (λ es. LineGoes state.old line.now es (in_play (next_of (rested state.new)) result)) }
     ensures state { IsState state.new }
     ensures refused { (fault : List ℕ) → commanded Origin.Input state.old.desk line.now ≡ Err fault
-        → rested state.new ≡ rested state.old }
+        → rested state.new ≡ state.old }
     ensures goes_on { (fault : List ℕ) → commanded Origin.Input state.old.desk line.now ≡ Err fault
         → IfOk result (λ flow. flow ≡ Flow.Go) }
     ensures done { IfOk result EndsByLine }
     ensures end { brings_lines (commanded Origin.Input state.old.desk line.now) ≡ false
-        → IfOk result (StaysAtEnd (rested state.old) (rested state.new)) }
+        → IfOk result (StaysAtEnd state.old (rested state.new)) }
     ensures err { brings_lines (commanded Origin.Input state.old.desk line.now) ≡ false
-        → OnErr result (rested state.new ≡ rested state.old) }
+        → OnErr result (rested state.new ≡ state.old) }
     ensures cause { LineCaused (H.world.counts host.old) (H.world.counts host.new) result }
 {
     match typed_line(alloc, state, host, line) {

@@ -15,6 +15,7 @@ use mailx_vars::{Places, Vars};
 use mbox_scan::Folder;
 use message_show::FieldSets;
 use message_state::{Mark, Order, Row, RowList, Shown, State, row_of};
+use rc_conditionals::Conditions;
 use read_commands::{Desk, Open, Refusal, page_of, page_size};
 use std::alloc::Global;
 
@@ -27,8 +28,8 @@ pub(crate) fn is_system(places: &Places, name: &[u8]) -> bool
 }
 
 // The desk before a folder is opened.
-fn first_desk(alloc: Global, places: Places) -> Result<Desk, Memory>
-    ensures { IfOk result (λ desk. desk ≡ desk_with places) }
+fn first_desk(alloc: Global, places: Places, terminal: bool) -> Result<Desk, Memory>
+    ensures { IfOk result (λ desk. desk ≡ desk_with places terminal) }
 {
     let none = Text::new(alloc);
     let folder = match Folder::open(alloc, none) {
@@ -50,6 +51,8 @@ fn first_desk(alloc: Global, places: Places) -> Result<Desk, Memory>
         },
         vars: Vars::new(alloc)?,
         sets: FieldSets::new(alloc),
+        conditions: Conditions::new(),
+        terminal,
         page: 0,
         fresh: true,
         places,
@@ -76,7 +79,7 @@ pub(crate) fn first_state(
 {
     let actor = actor_of(alloc, places.home.bytes())?;
     Ok(SessionState {
-        desk: first_desk(alloc, places)?,
+        desk: first_desk(alloc, places, terminal)?,
         actor,
         token,
         terminal,

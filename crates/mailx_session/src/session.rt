@@ -6,7 +6,7 @@ ghost use Rattle.mailx_vars.specs.Environment.{knows_user};
 ghost use Rattle.command_desk.specs.Desks.{IsDesk};
 ghost use Rattle.read_commands.specs.declared.origin.Origin.{Origin};
 ghost use Rattle.read_commands.specs.Origins.{commanded};
-ghost use Rattle.mailx_session.specs.States.{IsSession, rested};
+ghost use Rattle.mailx_session.specs.States.{IsState, IsSession, rested};
 ghost use Rattle.mailx_session.specs.Leaving.{leaving};
 ghost use Rattle.mailx_session.specs.Rounds.{LineGoes};
 ghost use Rattle.mailx_session.specs.Statuses.{IsEnd};
@@ -21,7 +21,8 @@ use crate::lines::input_line;
 use crate::opening::{
     first_state, is_system, known_page_size, marks_of, plain_view, put_folder, rows_of,
 };
-use crate::{Flow, Frames, RunError, SessionState, Status};
+use crate::state::drop_lines;
+use crate::{Flow, RunError, SessionState, Status};
 use host_port::Host;
 use mail_text::{Memory, Text};
 use mailx_vars::Places;
@@ -48,11 +49,13 @@ impl Model for Session {
     ghost invariant = { λ s. IsSession s.state };
 }
 
-// Drops the lines that wait, and counts no command any more.
+// Drops the lines that wait, with the conditions that they left open, and counts no command any more.
 fn rest(alloc: Global, state: &mut SessionState)
-    ensures { state.new ≡ rested state.old }
+    requires { IsState state.old }
+    ensures rested { state.new ≡ rested state.old }
+    ensures valid { IsSession state.new }
 {
-    state.frames = Frames::new(alloc);
+    drop_lines(alloc, state);
     state.count = 0;
 }
 

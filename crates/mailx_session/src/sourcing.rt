@@ -49,7 +49,8 @@ fn bring(state: &mut SessionState, text: Text) -> Result<Asked, Memory>
 {
     // the clause `brings` speaks of how many lines a text can have
     let _size = size_of(&text);
-    let frame = Frame::new(state.frames.origin(), FrameKind::Source, text);
+    let nested = state.desk.conditions.depth();
+    let frame = Frame::new(state.frames.origin(), FrameKind::Source, nested, text);
     match state.frames.push(frame) {
         Ok(()) => Ok(Asked::On),
         Err(Memory) => Err(Memory),

@@ -1,6 +1,11 @@
+// What a session knows between two lines.
+ghost use Rattle.std.specs.Prelude.{◌≡◌, []};
+ghost use Rattle.mailx_session.specs.States.{IsState, cut_to, resumed};
+
 use crate::Frames;
 use mail_text::Text;
 use read_commands::Desk;
+use std::alloc::Global;
 
 /// What a session knows between two lines. Calls that take one ask for a valid one: the desk is, and the actor's files
 /// can have their names.
@@ -18,4 +23,22 @@ pub struct SessionState {
     pub frames: Frames,
     /// How many commands the last line of the input has given so far, itself among them.
     pub count: u32,
+}
+
+/// Cuts the conditions that were opened since this many were open.
+pub(crate) fn cut_to(desk: &mut Desk, nested: Option<usize>)
+    ensures { desk.new ≡ cut_to nested desk.old }
+{
+    if let Some(count) = nested {
+        desk.conditions.cut(count.min(desk.conditions.depth()));
+    }
+}
+
+/// Drops the lines that wait, and the conditions that they left open.
+pub(crate) fn drop_lines(alloc: Global, state: &mut SessionState)
+    ensures dropped { state.new ≡ resumed state.old [] }
+    ensures valid { IsState state.old → IsState state.new }
+{
+    cut_to(&mut state.desk, state.frames.open_before());
+    state.frames = Frames::new(alloc);
 }

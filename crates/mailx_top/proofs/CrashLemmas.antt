@@ -1,12 +1,10 @@
 -- A run is crash safe.
 use Rattle.std.proofs.Common.{◌≡◌, ◌<◌, ◌^◌, ◌+◌, ℕ, Bool, true, false, List, [], ◌∷◌, ◌++◌, length, refl, sym, subst}
 use Rattle.std.specs.Prelude.{nat_lt, if◌then◌else◌}
-use Rattle.std.specs.List.{list_all}
 use Rattle.std.specs.declared.option.Option.{Option}
 use Rattle.std.specs.declared.option.Option.TheVariants.{Some, None}
 use Rattle.std.specs.declared.result.Result.{Result}
 use Rattle.std.specs.declared.result.Result.TheVariants.{Ok, Err}
-use Rattle.mail_text.specs.Ascii.{is_blank}
 use Rattle.host_port.specs.declared.event.Event.{Event}
 use Rattle.host_port.specs.Disk.{Disk}
 use Rattle.host_port.specs.Own.{own, OnlyLooks}
@@ -53,14 +51,14 @@ use Rattle.mailx_session.specs.declared.status.Status.TheVariants.{BadRecord}
 use Rattle.mailx_session.specs.Openings.{with_opened}
 use Rattle.mailx_session.specs.Waits.{Pending}
 use Rattle.mailx_session.specs.Pending.{taken}
-use Rattle.mailx_session.specs.States.{settled, with_frames, with_count, rested, command_limit}
+use Rattle.mailx_session.specs.States.{settled, resumed, with_count, rested, command_limit}
 use Rattle.mailx_session.specs.Saving.{names_fault, is_changed, commit_of, after_commit, saved}
 use Rattle.mailx_session.proofs.NameLemmas.{named-files}
 use Rattle.mailx_session.specs.Sourcing.{source_fault, after_load, sourced}
 use Rattle.mailx_session.specs.Sessions.{asked, carried_out}
 use Rattle.folder_commands.specs.Leaving.{quit}
 use Rattle.mailx_session.specs.Leaving.{left_by, leaving}
-use Rattle.mailx_session.specs.Rounds.{line_play, typed_play, dropped_play, counted_play, waiting_play}
+use Rattle.mailx_session.specs.Rounds.{line_play, typed_play, dropped_play, counted_play, is_idle, waiting_play}
 use Rattle.mailx_top.specs.declared.environment.Environment.{Environment}
 use Rattle.mailx_top.specs.Words.{Start, are_read, start_of}
 use Rattle.mailx_top.specs.Meaning.{RunState, Recovering, recovered, Opening, Reading, Leaving, round, last_round, opening, folder_name, with_name_or_fault, loaded, with_list, greeted, turn, line_round, with_input, prompted, first_of, actor_in}
@@ -223,13 +221,13 @@ module _ (actor : List ℕ) (token : ℕ) where
   turn-commits : (s : SessionState) (j : Input) (line : Option (List ℕ)) → IsOf actor token s → EachCommit (IsBy actor token) (turn s j line)
   turn-commits s j None of = tt
   turn-commits s j (Some line) of =
-      bind-commits (IsBy actor token) (NextOf actor token) (typed_play s line) (with_input j) (carried-commits (with_count (rested s) 1) (commanded origin.Input s.desk line) of)
-      (carried-of (with_count (rested s) 1) (commanded origin.Input s.desk line) of) (with-commits j)
+      bind-commits (IsBy actor token) (NextOf actor token) (typed_play s line) (with_input j) (carried-commits (with_count (rested s) 1) (commanded origin.Input (rested s).desk line) of)
+      (carried-of (with_count (rested s) 1) (commanded origin.Input (rested s).desk line) of) (with-commits j)
 
   turn-of : (s : SessionState) (j : Input) (line : Option (List ℕ)) → IsOf actor token s → AllEnds (NextKeeps (StateOf actor token)) (turn s j line)
   turn-of s j None of = of
   turn-of s j (Some line) of =
-      bind-ends (NextOf actor token) (NextKeeps (StateOf actor token)) (typed_play s line) (with_input j) (carried-of (with_count (rested s) 1) (commanded origin.Input s.desk line) of) (with-of j)
+      bind-ends (NextOf actor token) (NextKeeps (StateOf actor token)) (typed_play s line) (with_input j) (carried-of (with_count (rested s) 1) (commanded origin.Input (rested s).desk line) of) (with-of j)
 
   prompted-commits : (terminal : Bool) (desk : Desk) → EachCommit (IsBy actor token) (prompted terminal desk)
   prompted-commits true desk = (tt, λ u. tt)
@@ -244,8 +242,8 @@ module _ (actor : List ℕ) (token : ℕ) where
       bind-commits (IsBy actor token) (λ (u : Unit {0}). Unit {0}) (prompted s.terminal s.desk) (λ u. Ask (Line i) (λ a. turn s a.1 a.0)) (prompted-commits s.terminal s.desk) (prompted-ends s.terminal s.desk)
       (λ u t. (tt, λ a. turn-commits s a.1 a.0 of))
   line-commits s i (Some p) of =
-      let t = with_frames s p.1 in
-      let b = list_all is_blank p.0.text in
+      let t = resumed s p.1 in
+      let b = is_idle t p.0 in
       bind-commits (IsBy actor token) (NextOf actor token) (waiting_play t p.0) (with_input i) (waiting-commits b t p.0 of) (waiting-of b t p.0 of) (with-commits i)
 
   line-of : (s : SessionState) (i : Input) (next : Option (WaitingLine × List Pending)) → IsOf actor token s → AllEnds (NextKeeps (StateOf actor token)) (line_round s i next)
@@ -253,8 +251,8 @@ module _ (actor : List ℕ) (token : ℕ) where
       bind-ends (λ (u : Unit {0}). Unit {0}) (NextKeeps (StateOf actor token)) (prompted s.terminal s.desk) (λ u. Ask (Line i) (λ a. turn s a.1 a.0)) (prompted-ends s.terminal s.desk)
       (λ u t a. turn-of s a.1 a.0 of)
   line-of s i (Some p) of =
-      let t = with_frames s p.1 in
-      bind-ends (NextOf actor token) (NextKeeps (StateOf actor token)) (waiting_play t p.0) (with_input i) (waiting-of (list_all is_blank p.0.text) t p.0 of) (with-of i)
+      let t = resumed s p.1 in
+      bind-ends (NextOf actor token) (NextKeeps (StateOf actor token)) (waiting_play t p.0) (with_input i) (waiting-of (is_idle t p.0) t p.0 of) (with-of i)
 
   -- the end of the input
   left-commits : (a : After SessionState Status) → AfterOf actor token a → EachCommit (IsBy actor token) (left_by a)

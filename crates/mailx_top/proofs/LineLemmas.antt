@@ -29,14 +29,12 @@ use Rattle.folder_change.specs.declared.change.Change.{Change}
 use Rattle.session_play.specs.declared.changing.Committed.{Committed}
 use Rattle.session_play.specs.declared.changing.Committed.TheVariants as committed
 use Rattle.command_desk.specs.Faults.{too_large}
-use Rattle.mail_text.specs.Ascii.{is_blank}
-use Rattle.std.specs.List.{list_all}
 use Rattle.std.specs.Prelude.{nat_lt, if◌then◌else◌, ◌+◌}
 use Rattle.session_play.specs.Play.{Ret}
 use Rattle.mailx_session.specs.declared.frames.WaitingLine.{WaitingLine}
 use Rattle.mailx_session.specs.States.{settled, with_count, rested, command_limit}
 use Rattle.mailx_session.specs.Sessions.{asked, carried_out}
-use Rattle.mailx_session.specs.Rounds.{line_play, typed_play, dropped_play, counted_play, waiting_play}
+use Rattle.mailx_session.specs.Rounds.{line_play, typed_play, dropped_play, counted_play, is_idle, waiting_play}
 
 abbrev pub After-line : Type 0
 After-line = After SessionState Status
@@ -158,13 +156,13 @@ carried-threads s i (Err line) = (tt, λ u. refl)
 
 -- a line of the input
 pub typed-acts : (s : SessionState) (line : List ℕ) → AllActs (may_load false) (typed_play s line)
-typed-acts s line = carried-acts (with_count (rested s) 1) (commanded origin.Input s.desk line)
+typed-acts s line = carried-acts (with_count (rested s) 1) (commanded origin.Input (rested s).desk line)
 
 pub typed-ends : (s : SessionState) (line : List ℕ) → AllEnds EndsByLine (typed_play s line)
-typed-ends s line = carried-ends (with_count (rested s) 1) (commanded origin.Input s.desk line)
+typed-ends s line = carried-ends (with_count (rested s) 1) (commanded origin.Input (rested s).desk line)
 
 pub typed-threads : (s : SessionState) (line : List ℕ) (i : Input) → Threads (λ n j. j ≡ i) i (typed_play s line)
-typed-threads s line i = carried-threads (with_count (rested s) 1) i (commanded origin.Input s.desk line)
+typed-threads s line i = carried-threads (with_count (rested s) 1) i (commanded origin.Input (rested s).desk line)
 
 -- a line from elsewhere
 counted-acts : (b : Bool) (s : SessionState) (line : WaitingLine)
@@ -195,10 +193,10 @@ empty-threads true s line i = refl
 empty-threads false s line i = counted-threads (nat_lt s.count command_limit) s line i
 
 pub waiting-acts : (s : SessionState) (line : WaitingLine) → AllActs (may_load false) (waiting_play s line)
-waiting-acts s line = empty-acts (list_all is_blank line.text) s line
+waiting-acts s line = empty-acts (is_idle s line) s line
 
 pub waiting-ends : (s : SessionState) (line : WaitingLine) → AllEnds EndsByLine (waiting_play s line)
-waiting-ends s line = empty-ends (list_all is_blank line.text) s line
+waiting-ends s line = empty-ends (is_idle s line) s line
 
 pub waiting-threads : (s : SessionState) (line : WaitingLine) (i : Input) → Threads (λ n j. j ≡ i) i (waiting_play s line)
-waiting-threads s line i = empty-threads (list_all is_blank line.text) s line i
+waiting-threads s line i = empty-threads (is_idle s line) s line i

@@ -28,7 +28,7 @@ use Rattle.mailx_session.specs.Openings.{with_opened}
 use Rattle.mailx_session.specs.declared.frames.WaitingLine.{WaitingLine}
 use Rattle.mailx_session.specs.Waits.{Pending}
 use Rattle.mailx_session.specs.Pending.{taken}
-use Rattle.mailx_session.specs.States.{with_frames}
+use Rattle.mailx_session.specs.States.{resumed}
 use Rattle.mailx_session.specs.Rounds.{typed_play, waiting_play}
 use Rattle.mailx_top.specs.declared.environment.Environment.{Environment}
 use Rattle.mailx_top.specs.Words.{Start}
@@ -106,7 +106,7 @@ ends-next s i =
 ends-line-round : (s : SessionState) (i : Input) (next : Option (WaitingLine × List Pending)) → AllEnds ReadsOn (line_round s i next)
 ends-line-round s i None = ends-next s i
 ends-line-round s i (Some p) =
-    let t = with_frames s p.1 in bind-ends EndsByLine ReadsOn (waiting_play t p.0) (with_input i) (waiting-ends t p.0) (ends-with i)
+    let t = resumed s p.1 in bind-ends EndsByLine ReadsOn (waiting_play t p.0) (with_input i) (waiting-ends t p.0) (ends-with i)
 
 -- a round is followed by none that opens a folder
 abbrev pub ReadsNext : Next RunState Status → Type 0

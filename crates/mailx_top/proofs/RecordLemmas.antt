@@ -1,12 +1,10 @@
 -- A run ends for its record exactly where a commit or a recovery of it met one that can't be read.
 use Rattle.std.proofs.Common.{◌≡◌, ◌<◌, ◌^◌, ◌+◌, ◌||◌, ℕ, Bool, true, false, List, [], ◌∷◌, length, refl, sym, ◌∙◌, ap, subst, inl, inr}
 use Rattle.std.specs.Prelude.{nat_lt, not, if◌then◌else◌}
-use Rattle.std.specs.List.{list_all}
 use Rattle.std.specs.declared.option.Option.{Option}
 use Rattle.std.specs.declared.option.Option.TheVariants.{Some, None}
 use Rattle.std.specs.declared.result.Result.{Result}
 use Rattle.std.specs.declared.result.Result.TheVariants.{Ok, Err}
-use Rattle.mail_text.specs.Ascii.{is_blank}
 use Rattle.host_port.specs.declared.event.Event.{Event}
 use Rattle.mbox_scan.specs.Mailbox.{list_of, message_limit}
 use Rattle.folder_change.specs.declared.change.Change.{Change}
@@ -50,13 +48,13 @@ use Rattle.mailx_session.specs.declared.status.Status.TheVariants as status
 use Rattle.mailx_session.specs.Openings.{with_opened}
 use Rattle.mailx_session.specs.Waits.{Pending}
 use Rattle.mailx_session.specs.Pending.{taken}
-use Rattle.mailx_session.specs.States.{settled, with_frames, with_count, rested, command_limit}
+use Rattle.mailx_session.specs.States.{settled, resumed, with_count, rested, command_limit}
 use Rattle.mailx_session.specs.Saving.{names_fault, is_changed, after_commit, saved}
 use Rattle.mailx_session.specs.Sourcing.{source_fault, after_load, sourced}
 use Rattle.mailx_session.specs.Sessions.{asked, carried_out}
 use Rattle.folder_commands.specs.Leaving.{quit}
 use Rattle.mailx_session.specs.Leaving.{left_by, leaving}
-use Rattle.mailx_session.specs.Rounds.{line_play, typed_play, dropped_play, counted_play, waiting_play}
+use Rattle.mailx_session.specs.Rounds.{line_play, typed_play, dropped_play, counted_play, is_idle, waiting_play}
 use Rattle.mailx_top.specs.declared.environment.Environment.{Environment}
 use Rattle.mailx_top.specs.Words.{Start}
 use Rattle.mailx_top.specs.Meaning.{RunState, Recovering, recovered, Opening, Reading, Leaving, round, last_round, opening, folder_name, with_name_or_fault, loaded, with_list, greeted, turn, line_round, with_input, prompted, first_of, actor_in}
@@ -252,7 +250,7 @@ with-tells i (Last e) = refl
 
 turn-tells : (s : SessionState) (j : Input) (line : Option (List ℕ)) → Tells next_ends false (turn s j line)
 turn-tells s j None = refl
-turn-tells s j (Some line) = bind-tells next_ends next_ends false (typed_play s line) (with_input j) (carried-tells (with_count (rested s) 1) (commanded origin.Input s.desk line)) (with-tells j)
+turn-tells s j (Some line) = bind-tells next_ends next_ends false (typed_play s line) (with_input j) (carried-tells (with_count (rested s) 1) (commanded origin.Input (rested s).desk line)) (with-tells j)
 
 -- what no commit stands in
 abbrev none_met : Unit {0} → Bool
@@ -265,8 +263,8 @@ prompted-tells false desk = refl
 line-tells : (s : SessionState) (i : Input) (next : Option (WaitingLine × List Pending)) → Tells next_ends false (line_round s i next)
 line-tells s i None = bind-tells none_met next_ends false (prompted s.terminal s.desk) (λ u. Ask (Line i) (λ a. turn s a.1 a.0)) (prompted-tells s.terminal s.desk) (λ u a. turn-tells s a.1 a.0)
 line-tells s i (Some p) =
-    let t = with_frames s p.1 in
-    bind-tells next_ends next_ends false (waiting_play t p.0) (with_input i) (waiting-tells (list_all is_blank p.0.text) t p.0) (with-tells i)
+    let t = resumed s p.1 in
+    bind-tells next_ends next_ends false (waiting_play t p.0) (with_input i) (waiting-tells (is_idle t p.0) t p.0) (with-tells i)
 
 -- the end of the input
 left-tells : (a : After SessionState Status) → Tells is_for_record (after_ends a) (left_by a)

@@ -22,7 +22,7 @@ use Rattle.mailx_session.specs.Openings.{with_opened}
 use Rattle.mailx_session.specs.declared.frames.WaitingLine.{WaitingLine}
 use Rattle.mailx_session.specs.Waits.{Pending}
 use Rattle.mailx_session.specs.Pending.{taken}
-use Rattle.mailx_session.specs.States.{with_frames}
+use Rattle.mailx_session.specs.States.{resumed}
 use Rattle.mailx_session.specs.Rounds.{typed_play, waiting_play}
 use Rattle.mailx_top.specs.declared.environment.Environment.{Environment}
 use Rattle.mailx_top.specs.Words.{Start}
@@ -94,7 +94,7 @@ threads-turn-next s i =
 threads-line-round : (s : SessionState) (i : Input) (next : Option (WaitingLine × List Pending)) → On i (line_round s i next)
 threads-line-round s i None = threads-turn-next s i
 threads-line-round s i (Some p) =
-    let t = with_frames s p.1 in
+    let t = resumed s p.1 in
     bind-threads (λ (n : Next SessionState Status) (k : Input). k ≡ i) (NextFrom input_of) (waiting_play t p.0) (with_input i) i (waiting-threads t p.0 i) (threads-with i)
 
 pub threads-round : (env : Environment) (x : RunState) → On (input_of x) (round env x)
@@ -164,7 +164,7 @@ next-acts s i =
 line-round-acts : (s : SessionState) (i : Input) (next : Option (WaitingLine × List Pending)) → AllActs (may_load false) (line_round s i next)
 line-round-acts s i None = next-acts s i
 line-round-acts s i (Some p) =
-    let t = with_frames s p.1 in bind-acts (may_load false) (waiting_play t p.0) (with_input i) (waiting-acts t p.0) (with-acts i)
+    let t = resumed s p.1 in bind-acts (may_load false) (waiting_play t p.0) (with_input i) (waiting-acts t p.0) (with-acts i)
 
 pub reading-acts : (env : Environment) (s : SessionState) (i : Input) → AllActs (may_load false) (round env (Reading s i))
 reading-acts env s i = line-round-acts s i (taken s.frames)

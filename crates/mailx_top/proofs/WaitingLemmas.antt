@@ -16,7 +16,7 @@ use Rattle.mailx_session.specs.declared.state.SessionState.{SessionState}
 use Rattle.mailx_session.specs.declared.status.Status.{Status}
 use Rattle.mailx_session.specs.Waits.{Pending}
 use Rattle.mailx_session.specs.Pending.{taken}
-use Rattle.mailx_session.specs.States.{with_frames, rested}
+use Rattle.mailx_session.specs.States.{resumed, rested}
 use Rattle.mailx_session.specs.Rounds.{typed_play, waiting_play, WaitingGo, none, more, ended, LineGoes, typed}
 use Rattle.mailx_session.specs.Rounds as rounds
 use Rattle.mailx_top.specs.declared.environment.Environment.{Environment}
@@ -53,14 +53,14 @@ waiting-leads env i {s = s} (none none_left) = λ rest out loop. same-round env 
 waiting-leads env i {s = s} {es = es} (more {t = t} {out = out} line frames front rest is_next is goes later) =
     leads-more env (Reading s i) (Reading t i) front rest es (onward i out) is
     (subst (λ (p : Play (Next RunState Status)). Goes p front (Ok (Go (Reading t i)))) (sym (ap (line_round s i) is_next))
-    (goes-as (waiting_play (with_frames s frames) line) (with_input i) (Go t) (Go (Reading t i)) front refl goes))
+    (goes-as (waiting_play (resumed s frames) line) (with_input i) (Go t) (Go (Reading t i)) front refl goes))
     (waiting-leads env i later)
 waiting-leads env i {s = s} {es = es} (ended {e = e} line frames is_next goes) =
     last (subst (λ (p : Play (Next RunState Status)). Goes p es (Ok (Last e))) (sym (ap (line_round s i) is_next))
-    (goes-as (waiting_play (with_frames s frames) line) (with_input i) (Last e) (Last e) es refl goes))
+    (goes-as (waiting_play (resumed s frames) line) (with_input i) (Last e) (Last e) es refl goes))
 waiting-leads env i {s = s} {es = es} (rounds.cut {cause = cause} line frames is_next goes) =
     cut (subst (λ (p : Play (Next RunState Status)). Goes p es (Err cause)) (sym (ap (line_round s i) is_next))
-    (goes-cut (waiting_play (with_frames s frames) line) (with_input i) cause es goes))
+    (goes-cut (waiting_play (resumed s frames) line) (with_input i) cause es goes))
 waiting-leads env i {s = s} rounds.short = cut (at-memory (round env (Reading s i)))
 
 -- a line is asked for and taken, where none waits

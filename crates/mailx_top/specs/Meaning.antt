@@ -26,7 +26,7 @@ use Rattle.mailx_session.specs.Openings.{first_state, with_opened, greeting}
 use Rattle.mailx_session.specs.declared.frames.WaitingLine.{WaitingLine}
 use Rattle.mailx_session.specs.Waits.{Pending}
 use Rattle.mailx_session.specs.Pending.{taken}
-use Rattle.mailx_session.specs.States.{with_frames, rested}
+use Rattle.mailx_session.specs.States.{resumed, rested}
 use Rattle.mailx_session.specs.Rounds.{typed_play, waiting_play}
 use Rattle.mailx_session.specs.Leaving.{leaving}
 use Rattle.mailx_top.specs.declared.environment.Environment.{Environment}
@@ -62,7 +62,7 @@ next_turn s i = bind (prompted s.terminal s.desk) (λ u. Ask (Line i) (λ a. tur
 -- a line that waits is taken first; where none does, the input is asked for one
 abbrev pub line_round : SessionState → Input → Option (WaitingLine × List Pending) → Play (Next RunState Status)
 line_round s i None = next_turn s i
-line_round s i (Some (line, frames)) = bind (waiting_play (with_frames s frames) line) (with_input i)
+line_round s i (Some (line, frames)) = bind (waiting_play (resumed s frames) line) (with_input i)
 
 -- the folder is left, and the run ends
 abbrev pub last_round : SessionState → Play (Next RunState Status)

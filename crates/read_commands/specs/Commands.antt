@@ -21,6 +21,7 @@ use Rattle.show_commands.specs.Paging.{headers, scroll}
 use Rattle.mark_commands.specs.Deleting.{delete, delete_and_print, undelete}
 use Rattle.mark_commands.specs.Leaving.{hold, mbox, touch}
 use Rattle.setting_commands.specs.Setting.{set, unset}
+use Rattle.setting_commands.specs.Conditions.{condition}
 use Rattle.setting_commands.specs.Sourcing.{source}
 use Rattle.folder_commands.specs.declared.wanted.Filing.{Filing}
 use Rattle.folder_commands.specs.Saving.{copy, copy_by_author, save, save_by_author, write}
@@ -73,6 +74,7 @@ meaning_of command.Touch line desk = touch desk line.words
 meaning_of command.Set line desk = set desk line.words
 meaning_of command.Unset line desk = unset desk line.words
 meaning_of command.Source line desk = source desk line.words
+meaning_of command.Condition line desk = condition desk (name_of line.word) line.words
 meaning_of command.Help line desk = alone line (help desk)
 meaning_of command.Comment line desk = quietly unchanged
 meaning_of command.Copy line desk = filed (copy desk line.words)
@@ -105,6 +107,7 @@ is_built command.Touch = true
 is_built command.Set = true
 is_built command.Unset = true
 is_built command.Source = true
+is_built command.Condition = true
 is_built command.Help = true
 is_built command.Comment = true
 is_built command.Copy = true

@@ -1,14 +1,18 @@
 -- Where a line comes from, and the commands that may stand there.
-use Rattle.std.specs.Prelude.{ℕ, Bool, true, false, List, Option, if◌then◌else◌}
+use Rattle.std.specs.Prelude.{ℕ, Bool, true, false, not, ◌&&◌, List, Option, if◌then◌else◌}
 use Rattle.std.specs.declared.option.Option.TheVariants.{Some, None}
-use Rattle.std.specs.declared.result.Result.TheVariants.{Ok}
+use Rattle.std.specs.declared.result.Result.{Result}
+use Rattle.std.specs.declared.result.Result.TheVariants.{Ok, Err}
 use Rattle.line_words.specs.declared.line.CommandLine.{CommandLine}
 use Rattle.line_words.specs.declared.command.Command.{Command}
 use Rattle.line_words.specs.declared.command.Command.TheVariants as command
+use Rattle.line_words.specs.declared.line.LineError.{LineError}
 use Rattle.line_words.specs.Line.{reading}
+use Rattle.rc_conditionals.specs.Turns.{is_live}
 use Rattle.command_desk.specs.declared.desk.Desk.{Desk}
 use Rattle.command_desk.specs.declared.steps.Steps.{Steps}
-use Rattle.command_desk.specs.Answers.{OrFault, next, unless}
+use Rattle.command_desk.specs.Answers.{OrFault, next, unless, quietly}
+use Rattle.command_desk.specs.Effects.{unchanged}
 use Rattle.command_desk.specs.Faults.{not_built, not_in_startup, not_composing}
 use Rattle.read_commands.specs.declared.origin.Origin.{Origin}
 use Rattle.read_commands.specs.declared.origin.Origin.TheVariants as origin
@@ -71,6 +75,22 @@ allowed from line =
 abbrev pub read_from : Origin → List ℕ → OrFault CommandLine
 read_from from line = next (read_or_fault (reading line)) (allowed from)
 
--- what a line from somewhere comes to: it is read first, then its command is carried out
+-- the command is `if`, `else` or `endif`
+abbrev pub is_condition : Command → Bool
+is_condition command.Condition = true
+is_condition other = false
+
+-- what is read is such a command
+abbrev pub turns_lines : Result CommandLine LineError → Bool
+turns_lines (Ok line) = is_condition line.command
+turns_lines (Err e) = false
+
+-- a line is passed over: a condition that is open doesn't hold, and the line is none of `if`, `else` and `endif`
+abbrev pub passes_over : Desk → List ℕ → Bool
+passes_over desk line = not (is_live desk.conditions) && not (turns_lines (reading line))
+
+-- what a line from somewhere comes to, unless it is passed over: it is read first, then its command is carried out
 abbrev pub commanded : Origin → Desk → List ℕ → OrFault Steps
-commanded from desk line = next (read_from from line) (λ command. meaning command desk)
+commanded from desk line =
+    if passes_over desk line then quietly unchanged
+    else next (read_from from line) (λ command. meaning command desk)

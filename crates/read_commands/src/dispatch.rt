@@ -18,7 +18,7 @@ use line_words::{Command, CommandLine, LineError, read_line, whole_name};
 use mail_text::{Items, Memory};
 use mark_commands::{delete, delete_and_print, hold, mbox, touch, undelete};
 use message_show::How;
-use setting_commands::{set, source, unset};
+use setting_commands::{condition, set, source, unset};
 use show_commands::{echo, from, headers, help, number, print, print_following, scroll, size, top};
 use std::alloc::Global;
 
@@ -173,6 +173,7 @@ fn carry_out(alloc: Global, line: &CommandLine, desk: &Desk) -> Result<Steps, Re
         Command::Set => set(alloc, desk, words),
         Command::Unset => unset(alloc, desk, words),
         Command::Source => source(alloc, desk, words),
+        Command::Condition => condition(alloc, desk, name_of(line.word.bytes()), words),
         Command::Comment => Ok(quietly(alloc, unchanged(alloc))),
         Command::Number => lone_number(alloc, line, desk),
         Command::Help => lone_help(alloc, line, desk),
@@ -212,6 +213,7 @@ pub(crate) fn is_built(command: Command) -> bool
         | Command::Set
         | Command::Unset
         | Command::Source
+        | Command::Condition
         | Command::Help
         | Command::Comment
         | Command::Copy

@@ -1,13 +1,16 @@
 // Where a line comes from, and the commands that may stand there.
 ghost use Rattle.std.specs.Prelude.{◌≡◌, None, IfErr, IfOk, OnOk};
-ghost use Rattle.command_desk.specs.Answers.{Means, IsRefusedBy};
+ghost use Rattle.line_words.specs.Line.{reading};
+ghost use Rattle.command_desk.specs.Answers.{Means, IsRefusedBy, next};
 ghost use Rattle.command_desk.specs.Desks.{IsDesk};
 ghost use Rattle.command_desk.specs.Effects.{effect};
-ghost use Rattle.read_commands.specs.Origins.{is_of_startup, leaves_draft, line_if_unbuilt, line_of_origin, read_from, commanded};
+ghost use Rattle.read_commands.specs.Commands.{meaning};
+ghost use Rattle.read_commands.specs.Origins.{is_of_startup, leaves_draft, line_if_unbuilt, line_of_origin, read_from, turns_lines, passes_over, commanded};
 
 use crate::dispatch::{command_line, is_built, name_of, perform};
-use command_desk::{Desk, Refusal, Steps, fault};
-use line_words::{Command, CommandLine};
+use command_desk::{Desk, Refusal, Steps, fault, quietly, unchanged};
+use line_words::{Command, CommandLine, LineError, read_line};
+use mail_text::Memory;
 use std::alloc::Global;
 
 /// Where a line comes from.
@@ -108,7 +111,41 @@ pub fn read_command(alloc: Global, origin: Origin, line: &[u8]) -> Result<Comman
     Ok(line)
 }
 
-/// What a line from somewhere comes to: it is read first, and then its command is performed.
+// Whether the line of a command reads as `if`, `else` or `endif`.
+fn turns_lines(alloc: Global, line: &[u8]) -> Result<bool, Memory>
+    ensures { IfOk result (λ turns. turns ≡ turns_lines (reading line.now)) }
+{
+    match read_line(alloc, line) {
+        Ok(line) => Ok(matches!(line.command, Command::Condition)),
+        Err(LineError::Memory) => Err(Memory),
+        Err(_) => Ok(false),
+    }
+}
+
+/// Whether a line is passed over: a condition that is open doesn't hold, and the line is none of `if`, `else` and
+/// `endif`. It may be no command.
+pub fn passes_over(alloc: Global, desk: &Desk, line: &[u8]) -> Result<bool, Memory>
+    ensures { IfOk result (λ passes. passes ≡ passes_over desk.now line.now) }
+{
+    if desk.conditions.live() {
+        Ok(false)
+    } else {
+        Ok(!turns_lines(alloc, line)?)
+    }
+}
+
+// What a line comes to that isn't passed over.
+fn perform_read(alloc: Global, origin: Origin, line: &[u8], desk: &Desk) -> Result<Steps, Refusal>
+    requires { IsDesk desk.now }
+    ensures means { Means result (next (read_from origin line.now) (λ command. meaning command desk.now)) }
+    ensures desk { IfOk result (λ steps. IsDesk (effect desk.now steps.effects)) }
+{
+    let line = read_command(alloc, origin, line)?;
+    perform(alloc, &line, desk)
+}
+
+/// What a line from somewhere comes to: nothing, where it is passed over; else it is read first, and then its command
+/// is performed.
 pub fn perform_line(
     alloc: Global,
     origin: Origin,
@@ -119,6 +156,9 @@ pub fn perform_line(
     ensures means { Means result (commanded origin desk.now line.now) }
     ensures desk { IfOk result (λ steps. IsDesk (effect desk.now steps.effects)) }
 {
-    let line = read_command(alloc, origin, line)?;
-    perform(alloc, &line, desk)
+    if passes_over(alloc, desk, line)? {
+        Ok(quietly(alloc, unchanged(alloc)))
+    } else {
+        perform_read(alloc, origin, line, desk)
+    }
 }

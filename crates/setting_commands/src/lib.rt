@@ -1,8 +1,11 @@
-//! Commands that set and unset variables, and the one that brings the lines of a file, of settings mostly.
+//! Commands that set and unset variables, conditions, and the command that brings the lines of a file, of settings
+//! mostly.
 #![tactic(auto)]
 
+mod conditions;
 mod setting;
 mod sourcing;
 
+pub use conditions::condition;
 pub use setting::{set, unset};
 pub use sourcing::source;

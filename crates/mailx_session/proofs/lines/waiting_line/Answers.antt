@@ -1,8 +1,8 @@
-use Rattle.std.proofs.Common.{refl, sym, ◌∙◌, ap, inl}
-use Rattle.std.specs.List.{list_all}
-use Rattle.mail_text.specs.Ascii.{is_blank}
+use Rattle.std.proofs.Common.{refl, sym, ◌∙◌, inl}
 use Rattle.host_port.proofs.RanLemmas.{Ran-none}
+use Rattle.session_play.proofs.PlayLemmas.{at-memory}
+use Rattle.mailx_session.specs.Rounds.{waiting_play}
 use Rattle.mailx_session.proofs.lines.waiting_line.Goals as goal
 
-pub returns-then-is_empty-clause-ran : goal.returns-then-is_empty-clause-ran
-returns-then-is_empty-clause-ran g c = rw (ap (list_all is_blank) (sym c.bytes.ensures) ∙ (sym c.is_empty.ensures ∙ c.if-is_empty.true)) (Ran-none (refl, inl refl))
+pub returns-in-Err-clause-ran : goal.returns-in-Err-clause-ran
+returns-in-Err-clause-ran g c = Ran-none (at-memory (waiting_play c.args.state.now c.args.line.now))

@@ -1,4 +1,4 @@
-use Rattle.std.proofs.Common.{◌≡◌, ◌++◌, ◌∷◌, List, [], sym, ◌∙◌, ap, subst}
+use Rattle.std.proofs.Common.{◌≡◌, ◌++◌, ◌∷◌, ℕ, List, [], length, sym, ◌∙◌, ap, subst}
 use Rattle.read_commands.specs.declared.origin.Origin.{Origin}
 use Rattle.mailx_session.specs.declared.kinds.FrameKind.TheVariants as kind
 use Rattle.mailx_session.specs.Waits.{Pending}
@@ -11,8 +11,8 @@ use Rattle.mailx_session.proofs.sourcing.bring.Goals as goal
 pub returns-in-Ok-clause-brings : goal.returns-in-Ok-clause-brings
 returns-in-Ok-clause-brings c =
     let s = c.args.state.now in
-    let framed : c.new-frame.result ≡ frame_of (origin_at s.frames) kind.Source c.args.text =
-    c.new-frame.ensures ∙ ap (λ (o : Origin). frame_of o kind.Source c.args.text) c.origin.ensures in
-    let same : c.push.new.self ≡ s.frames ++ frame_of (origin_at s.frames) kind.Source c.args.text ∷ [] =
+    let framed : c.new-frame.result ≡ frame_of (origin_at s.frames) kind.Source (length s.desk.conditions) c.args.text =
+    c.new-frame.ensures ∙ ap (λ (o : Origin). frame_of o kind.Source c.depth-nested.result c.args.text) c.origin.ensures ∙ ap (λ (n : ℕ). frame_of (origin_at s.frames) kind.Source n c.args.text) c.depth-nested.ensures.depth in
+    let same : c.push.new.self ≡ s.frames ++ frame_of (origin_at s.frames) kind.Source (length s.desk.conditions) c.args.text ∷ [] =
     c.in-Ok.ensures.ok ∙ ap (λ (f : Pending). s.frames ++ f ∷ []) framed in
     subst (λ (fs : List Pending). OnlyBrings s (with_frames s fs)) (sym same) (brings-source s c.args.text c.requires c.size_of-size.ensures.small)

@@ -1,11 +1,13 @@
-use Rattle.std.specs.Prelude.{◌≡◌, [], length}
-use Rattle.mailx_session.specs.Pending.{taken}
+use Rattle.std.specs.Prelude.{◌≡◌, ◌++◌, [], List, length}
+use Rattle.mailx_session.specs.Waits.{Pending}
+use Rattle.mailx_session.specs.Pending.{taken, open_before}
 use Rattle.mailx_session.proofs.frames.Frames.next_line.Given as goal
 
 abbrev pub invariant-frames : goal.invariant-frames
 invariant-frames l = record {
   same : taken l.self ≡ taken l.fn.self;
   none : l.fn.self ≡ [] → l.self ≡ [];
+  shut : (shut : List Pending) × (l.fn.self ≡ l.self ++ shut) × (l.nested ≡ open_before shut);
 }
 
 abbrev pub decreases-frames : goal.decreases-frames
