@@ -5,18 +5,22 @@ use Rattle.std.specs.declared.option.Option.{Option}
 use Rattle.std.specs.declared.option.Option.TheVariants.{Some, None}
 use Rattle.std.specs.declared.result.Result.{Result}
 use Rattle.std.specs.declared.result.Result.TheVariants.{Ok, Err}
+use Rattle.std.specs.Prelude.{OnErr}
 use Rattle.host_port.specs.declared.event.Event.{Event}
 use Rattle.session_play.specs.declared.stop.Stop.{Stop}
 use Rattle.session_play.specs.declared.stop.Stop.TheVariants as stop
 use Rattle.session_play.specs.Play.{Goes, Next, Go, Last}
 use Rattle.command_desk.specs.declared.desk.Desk.{Desk}
 use Rattle.command_desk.specs.Desks.{IsDesk}
+use Rattle.mailx_session.specs.declared.flow.Flow.{Flow}
+use Rattle.mailx_session.specs.declared.flow.Flow.TheVariants as flow
+use Rattle.mailx_session.specs.Sessions.{StaysAtEnd}
 use Rattle.mailx_session.specs.declared.frames.WaitingLine.{WaitingLine}
 use Rattle.mailx_session.specs.declared.state.SessionState.{SessionState}
 use Rattle.mailx_session.specs.declared.status.Status.{Status}
 use Rattle.mailx_session.specs.Waits.{Pending}
 use Rattle.mailx_session.specs.Pending.{taken, open_before, closed}
-use Rattle.mailx_session.specs.States.{IsState, IsSession, with_frames, with_count, cut_to, resumed, rested}
+use Rattle.mailx_session.specs.States.{IsActor, IsState, IsSession, with_frames, with_count, cut_to, resumed, rested}
 use Rattle.mailx_session.specs.Rounds.{waiting_play, WaitingGo, none, more, ended, cut, short}
 
 -- these events lead from s to t: lines that go on waiting at t go on from s with them in front
@@ -74,8 +78,19 @@ desk-cut : (o : Option ℕ) (desk : Desk) → IsDesk desk → IsDesk (cut_to o d
 desk-cut o desk d = record { shown = d.shown; rows = d.rows; marks = d.marks; width = d.width }
 
 -- conditions are no matter of validity
-pub resumed-valid : (s : SessionState) (fs : List Pending) → IsState s → IsState (resumed s fs)
-resumed-valid s fs is = record { desk = desk-cut (open_before (closed s.frames fs)) s.desk is.desk; actor = is.actor }
+pub rested_valid : (s t : SessionState) → t ≡ rested s → IsState s → IsSession t
+rested_valid s t same is =
+    subst IsSession (sym same) (record { state = record { desk = desk-cut (open_before s.frames) s.desk is.desk; actor = is.actor }; frames = refl; count = refl })
 
-pub rested-valid : (s : SessionState) → IsState s → IsSession (rested s)
-rested-valid s is = record { state = record { desk = desk-cut (open_before s.frames) s.desk is.desk; actor = is.actor }; frames = refl; count = refl }
+-- the desk but for its conditions, and the actor, are as in a valid state
+pub kept_valid : (s t : SessionState) (o : Option ℕ) → t.desk ≡ cut_to o s.desk → t.actor ≡ s.actor → IsState s → IsState t
+kept_valid s t o desk actor is = record { desk = subst IsDesk (sym desk) (desk-cut o s.desk is.desk); actor = subst IsActor (sym actor) is.actor }
+
+pub on-err : {T E : Type 0} (r : Result T E) {P Q : Type 0} → (P → Q) → OnErr r P → OnErr r Q
+on-err (Ok t) f h = tt
+on-err (Err e) f h = f h
+
+-- what stays where a line of the input ends the run
+pub stays-rested : (s u : SessionState) → IsSession s → (went : Flow) → StaysAtEnd (with_count s 1) u went → StaysAtEnd s (rested u) went
+stays-rested s u is flow.Go h = tt
+stays-rested s u is (flow.End e) h = ap rested h ∙ rested-same s is

@@ -22,7 +22,7 @@ use Rattle.mailx_session.specs.declared.kinds.FrameKind.TheVariants as kind
 use Rattle.mailx_session.specs.declared.state.SessionState.{SessionState}
 use Rattle.mailx_session.specs.Waits.{Pending}
 use Rattle.mailx_session.specs.Pending.{frame_of, lines_left}
-use Rattle.mailx_session.specs.States.{IsState, with_frames}
+use Rattle.mailx_session.specs.States.{IsState, with_frames, resumed}
 use Rattle.mailx_session.specs.Sourcing.{is_source, sources, source_limit, origin_at, source_fault, with_source, brings, room, weight, OnlyBrings}
 use Rattle.mailx_session.specs.Sessions.{after_asks, in_play, is_on, StaysUnlessOn}
 
@@ -116,6 +116,9 @@ weight-taken s fs fewer = omega arith
 
 pub weight-fewer : (s : SessionState) (fs : List Pending) → lines_left fs ≤ lines_left s.frames → weight (with_frames s fs) ≤ weight s
 weight-fewer s fs fewer = omega arith
+
+pub weight_dropped : (s t : SessionState) → t ≡ resumed s [] → weight t ≤ weight s
+weight_dropped s t is = subst (λ (u : SessionState). weight u ≤ weight s) (sym is) (weight-fewer s [] (omega arith))
 
 -- a file that may be loaded has a file's name
 pub source-name : (frames : List Pending) (name : List ℕ) → source_fault frames name ≡ None → is_short_name name ≡ true

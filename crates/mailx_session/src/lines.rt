@@ -130,6 +130,7 @@ fn typed_line<H: Host>(
 }
 
 // Says that there are too many commands, and drops the lines that wait, with the conditions that they left open.
+#[tactic(auto, using(crate::proofs::SourcingLemmas::weight_dropped))]
 fn drop_waiting<H: Host>(
     alloc: Global,
     state: &mut SessionState,
@@ -221,6 +222,7 @@ fn waiting_line<H: Host>(
 }
 
 // Takes the next line that waits, and cuts the conditions that the frames left open which are closed then.
+#[tactic(auto, using(crate::proofs::RoundLemmas::kept_valid))]
 fn next_waiting(alloc: Global, state: &mut SessionState) -> Result<Option<WaitingLine>, Memory>
     requires { IsState state.old }
     ensures taken { IfOk result (λ line. IsTaken line state.old.frames state.new.frames) }

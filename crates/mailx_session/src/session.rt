@@ -50,6 +50,7 @@ impl Model for Session {
 }
 
 // Drops the lines that wait, with the conditions that they left open, and counts no command any more.
+#[tactic(auto, using(crate::proofs::RoundLemmas::rested_valid))]
 fn rest(alloc: Global, state: &mut SessionState)
     requires { IsState state.old }
     ensures rested { state.new ≡ rested state.old }

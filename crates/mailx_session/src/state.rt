@@ -35,6 +35,7 @@ pub(crate) fn cut_to(desk: &mut Desk, nested: Option<usize>)
 }
 
 /// Drops the lines that wait, and the conditions that they left open.
+#[tactic(auto, using(crate::proofs::RoundLemmas::kept_valid))]
 pub(crate) fn drop_lines(alloc: Global, state: &mut SessionState)
     ensures dropped { state.new ≡ resumed state.old [] }
     ensures valid { IsState state.old → IsState state.new }

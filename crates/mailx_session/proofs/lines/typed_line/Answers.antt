@@ -1,5 +1,20 @@
-use Rattle.mailx_session.proofs.RoundLemmas.{typed-same}
+use Rattle.std.proofs.Common.{ap, ◌∙◌}
+use Rattle.command_desk.proofs.DeskLemmas.{if-ok}
+use Rattle.mailx_session.specs.States.{rested}
+use Rattle.mailx_session.proofs.RoundLemmas.{typed-same, rested-same, stays-rested, on-err}
 use Rattle.mailx_session.proofs.lines.typed_line.Goals as goal
 
 pub returns-clause-ran : goal.returns-clause-ran
 returns-clause-ran g c = rw (typed-same c.args.state.now c.requires) c.carry_line.ensures.ran
+
+pub returns-clause-none_wait : goal.returns-clause-none_wait
+returns-clause-none_wait g c = λ none. c.carry_line.ensures.quiet none ∙ c.requires.frames
+
+pub returns-clause-refused : goal.returns-clause-refused
+returns-clause-refused g c = λ fault is. ap rested (c.carry_line.ensures.refused fault is) ∙ rested-same c.args.state.now c.requires
+
+pub returns-clause-end : goal.returns-clause-end
+returns-clause-end g c = if-ok c.carry_line.result (stays-rested c.args.state.now c.carry_line.new.state c.requires) c.carry_line.ensures.end
+
+pub returns-clause-err : goal.returns-clause-err
+returns-clause-err g c = on-err c.carry_line.result (λ same. ap rested same ∙ rested-same c.args.state.now c.requires) c.carry_line.ensures.err
