@@ -12,6 +12,7 @@ use Rattle.folder_change.specs.declared.error.ChangeError.{ChangeError}
 use Rattle.folder_change.specs.declared.error.ChangeError.TheVariants as error
 use Rattle.folder_change.specs.Changes.{name_of}
 use Rattle.folder_change.specs.Outcomes.{outcome_of}
+use Rattle.folder_change.specs.Apply.{Files, apply}
 use Rattle.command_desk.specs.Answers.{OrFault}
 use Rattle.command_desk.specs.Faults.{changed_at, no_such_file, not_a_mailbox, too_large, too_many_messages}
 
@@ -61,3 +62,8 @@ openable_made name (Err at) stood = Err (changed_at name at)
 -- the bytes that are opened of the file of this name once the changes were made, or the line that says why it can't be opened then
 abbrev pub made_folder : List Change → List (List ℕ) → List ℕ → Option (List ℕ) → OrFault (List ℕ)
 made_folder changes base name file = openable_made name (made changes base name file) (is_some file)
+
+-- what is made of a file is what all of the changes together make of it, among any files
+abbrev pub MadeIsApplied : Type 0
+MadeIsApplied = (changes : List Change) (base : List (List ℕ)) (files : Files) (name : List ℕ) (file : Option (List ℕ))
+    → made changes base name (files name) ≡ Ok file → apply changes base files name ≡ file

@@ -4,12 +4,14 @@
 #![tactic(auto)]
 
 mod file_names;
+mod laws;
 mod leaving;
 mod making;
 mod opening;
 mod saving;
 mod wanted;
 
+pub use laws::made_is_applied;
 pub use leaving::quit;
 pub use making::made_folder;
 pub use opening::{file, opening_line};

@@ -42,7 +42,7 @@ fn made(
                 return made(alloc, rest, base, name, file);
             }
             match outcome(alloc, bytes_of(&file), first, Some(base)) {
-                Ok(file) => made(alloc, rest, base, name, file),
+                Ok(now) => made(alloc, rest, base, name, now),
                 Err(error) => Err(error),
             }
         }

@@ -68,7 +68,19 @@ same-desk s t (Ok (answered.Refused line)) same = ap (λ (u : SessionState). u.d
 same-desk s t (Ok (answered.Ended e)) same = ap (λ (u : SessionState). u.desk) same
 same-desk s t (Err e) same = ap (λ (u : SessionState). u.desk) same
 
--- and where not all was done
+-- or its own desk
+pub keeps-desk : (s t : SessionState) (r : Result Asked RunError) → t.desk ≡ s.desk → KeepsDesk s t r
+keeps-desk s t (Ok answered.On) same = same
+keeps-desk s t (Ok answered.Over) same = tt
+keeps-desk s t (Ok (answered.Refused line)) same = same
+keeps-desk s t (Ok (answered.Ended e)) same = same
+keeps-desk s t (Err e) same = same
+
+-- where the desk stays the state stays valid
+pub kept-valid : (s t : SessionState) → IsState s → OnlyBrings s t → t.desk ≡ s.desk → IsState t
+kept-valid s t is b same = subst IsState (sym b.rest) (record { desk = subst IsDesk (sym same) is.desk; actor = is.actor })
+
+-- the desk stays too where not all was done
 pub off-desk : (s t : SessionState) (r : Result Asked RunError) → KeepsDesk s t r → is_on r ≡ false → t.desk ≡ s.desk
 off-desk s t (Ok answered.On) keeps off = absurd (cc off)
 off-desk s t (Ok answered.Over) keeps off = absurd (cc off)

@@ -4,7 +4,7 @@ use Rattle.std.specs.Prelude.{if◌then◌else◌}
 use Rattle.std.specs.declared.option.Option.{Option}
 use Rattle.std.specs.declared.option.Option.TheVariants.{Some, None}
 use Rattle.std.specs.declared.result.Result.{Result}
-use Rattle.std.specs.declared.result.Result.TheVariants.{Ok}
+use Rattle.std.specs.declared.result.Result.TheVariants.{Ok, Err}
 use Rattle.host_port.specs.declared.event.Event.{Event}
 use Rattle.folder_change.specs.declared.change.Change.{Change}
 use Rattle.mailx_vars.specs.Names.{is_short_name}
@@ -12,7 +12,14 @@ use Rattle.session_play.specs.declared.stop.Stop.{Stop}
 use Rattle.session_play.specs.Play.{Play, Goes}
 use Rattle.session_play.specs.Steps.{After}
 use Rattle.command_desk.specs.declared.desk.Desk.{Desk}
+use Rattle.command_desk.specs.Answers.{OrFault, Means}
 use Rattle.command_desk.specs.Faults.{bad_name}
+use Rattle.command_desk.specs.declared.steps.Refusal.{Refusal}
+use Rattle.command_desk.specs.declared.steps.Refusal.TheVariants as refusal
+use Rattle.session_play.proofs.PlayLemmas.{at-memory}
+use Rattle.mailx_session.specs.declared.asks.Asked.{Asked}
+use Rattle.mailx_session.specs.declared.error.RunError.{RunError}
+use Rattle.mailx_session.specs.Sessions.{after_asks, in_play, IsRefusedSo}
 use Rattle.mailx_session.specs.declared.opening.Opening.{Opening}
 use Rattle.mailx_session.specs.declared.state.SessionState.{SessionState}
 use Rattle.mailx_session.specs.declared.status.Status.{Status}
@@ -35,6 +42,17 @@ laid-switched : (desk : Desk) (name bytes : List ℕ) (o : Opening) (previous : 
 laid-switched desk name bytes o previous is same =
     ap (λ (d : Desk). record d { previous = previous }) (laid-is desk name bytes o is)
     ∙ ap (λ (p : List ℕ). record (opened desk name bytes is.rows) { previous = p }) same
+
+-- a load that refuses the command
+pub refused-switched : (s : SessionState) (name : List ℕ) (changes : List Change) (reply : List ℕ) (f : OrFault (List ℕ)) (r : Refusal) (result : Result Asked RunError) (t : SessionState)
+    → Means {A = List ℕ} (Err r) f → IsRefusedSo r result → Goes (switched_to s name changes reply f) [] (in_play (after_asks t) result)
+refused-switched s name changes reply f (refusal.Fault line) result t is so =
+    let G : OrFault (List ℕ) → Type 0 = λ h. Goes (switched_to s name changes reply h) [] (in_play (after_asks t) result) in
+    let K : Result Asked RunError → Type 0 = λ h. Goes (switched_to s name changes reply (Err line)) [] (in_play (after_asks t) h) in
+    subst G (sym is) (subst K (sym so) (refl, inl refl))
+refused-switched s name changes reply f refusal.Memory result t is so =
+    let K : Result Asked RunError → Type 0 = λ h. Goes (switched_to s name changes reply f) [] (in_play (after_asks t) h) in
+    subst K (sym so) (at-memory (switched_to s name changes reply f))
 
 -- once the rows are known it goes on with that desk
 pub know-switched : (s : SessionState) (name bytes : List ℕ) (changes : List Change) (reply : List ℕ) (o : Opening) (previous : List ℕ) (out : Result (After SessionState Status) Stop)

@@ -9,6 +9,8 @@ use Rattle.session_play.specs.Play.{Play, Ret, Ask, Say, Next, Go, Last, bind}
 use Rattle.session_play.specs.Steps.{After, On, Over, Refused, Ended, in_order, refused, concluded}
 use Rattle.command_desk.specs.declared.steps.Ask as asked_of
 use Rattle.command_desk.specs.declared.steps.Ask.TheVariants as asks
+use Rattle.command_desk.specs.declared.steps.Refusal.{Refusal}
+use Rattle.command_desk.specs.declared.steps.Refusal.TheVariants as refusal
 use Rattle.command_desk.specs.declared.steps.Steps.{Steps}
 use Rattle.command_desk.specs.Answers.{OrFault}
 use Rattle.mailx_session.specs.declared.asks.Asked.{Asked}
@@ -100,6 +102,11 @@ StaysUnlessOn old new r = new ≡ old
 abbrev pub KeepsDesk : SessionState → SessionState → Result Asked RunError → Type 0
 KeepsDesk old new (Ok answered.Over) = Unit {0}
 KeepsDesk old new r = new.desk ≡ old.desk
+
+-- a refusal leaves its line, or is a cut for want of memory
+abbrev pub IsRefusedSo : Refusal → Result Asked RunError → Type 0
+IsRefusedSo (refusal.Fault line) r = r ≡ Ok (answered.Refused line)
+IsRefusedSo refusal.Memory r = r ≡ Err error.Memory
 
 -- nothing is done, and the session goes on
 abbrev pub DoesNothing : SessionState → SessionState → Result Flow RunError → Type 0

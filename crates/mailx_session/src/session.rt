@@ -18,7 +18,7 @@ ghost use Rattle.mailx_session.specs.Openings.{first_state, greeting, Opens};
 use crate::greeting::greeting;
 use crate::leaving::leave;
 use crate::lines::input_line;
-use crate::opening::{Opening, first_state, opening_of, put_folder};
+use crate::opening::{first_state, opening_of, put_folder};
 use crate::{Flow, Frames, RunError, SessionState, Status};
 use host_port::Host;
 use mail_text::{Memory, Text};
@@ -80,12 +80,13 @@ impl Session {
         ensures ok { OnOk result (Opens self.old name folder self.new) }
         ensures err { OnErr result (self.new ≡ self.old) }
     {
-        let Opening {
-            size,
-            folder,
-            shown,
-        } = opening_of(self.alloc, &self.state.desk, name, folder)?;
-        put_folder(&mut self.state.desk, size, folder, shown);
+        let opening = opening_of(self.alloc, &self.state.desk, name, folder)?;
+        put_folder(
+            &mut self.state.desk,
+            opening.size,
+            opening.folder,
+            opening.shown,
+        );
         Ok(())
     }
 

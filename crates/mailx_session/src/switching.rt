@@ -1,6 +1,6 @@
 // Another file, which is opened in place of the folder.
-ghost use Rattle.std.specs.Prelude.{◌≡◌, ◌++◌, ◌<◌, ◌×◌, None, Ok, IfOk, IfSome};
-ghost use Rattle.host_port.specs.Calls.{NeverFall};
+ghost use Rattle.std.specs.Prelude.{◌≡◌, ◌++◌, ◌<◌, None, Ok, IfOk, IfSome};
+ghost use Rattle.host_port.specs.Calls.{Counts, NeverFall};
 ghost use Rattle.host_port.specs.Ran.{Ran};
 ghost use Rattle.session_play.specs.Play.{Play, Ask, Ret, Say, Goes};
 ghost use Rattle.session_play.specs.Steps.{On};
@@ -12,7 +12,7 @@ ghost use Rattle.mailx_session.specs.Saving.{names_fault};
 ghost use Rattle.mailx_session.specs.Openings.{IsKnownSize, IsOpening, with_folder};
 ghost use Rattle.mailx_session.specs.Sourcing.{OnlyBrings};
 ghost use Rattle.mailx_session.specs.Switching.{open_fault, loaded_folder, laid_as, announcement, announced, switching, switched_to, switches, with_laid, laid_on};
-ghost use Rattle.mailx_session.specs.Sessions.{after_asks, in_play, LineCaused, EndsByAsk, KeepsDesk};
+ghost use Rattle.mailx_session.specs.Sessions.{after_asks, in_play, LineCaused, EndsByAsk, KeepsDesk, IsRefusedSo};
 
 use crate::asks::{Asked, say};
 use crate::greeting::announcement;
@@ -252,6 +252,18 @@ fn switch_to<H: Host>(
     }
 }
 
+// What a refusal leaves.
+fn refused_by(refusal: Refusal) -> Result<Asked, RunError>
+    ensures refused { IsRefusedSo refusal result }
+    ensures end { IfOk result EndsByAsk }
+    ensures cause { (old : Counts) (new : Counts) → LineCaused old new result }
+{
+    match refusal {
+        Refusal::Fault { line } => Ok(Asked::Refused { line }),
+        Refusal::Memory => Err(RunError::Memory),
+    }
+}
+
 // Opens a file by what its load found, once the changes were committed.
 fn switch_found<H: Host>(
     alloc: Global,
@@ -275,8 +287,7 @@ fn switch_found<H: Host>(
 {
     match loaded_folder(alloc, &state.desk, changes, name, found) {
         Ok(folder) => switch_to(alloc, state, host, name, changes, reply, folder),
-        Err(Refusal::Fault { line }) => Ok(Asked::Refused { line }),
-        Err(Refusal::Memory) => Err(RunError::Memory),
+        Err(refusal) => refused_by(refusal),
     }
 }
 
