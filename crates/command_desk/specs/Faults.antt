@@ -98,3 +98,11 @@ cannot_be_read name = with_feed (name ++ codes ": cannot be read")
 -- as many sourced files are open as may be
 abbrev pub sources_too_deep : List ℕ
 sources_too_deep = with_feed (codes "sources nest too deep")
+
+-- the file is no mailbox
+abbrev pub not_a_mailbox : List ℕ → List ℕ
+not_a_mailbox name = with_feed (name ++ codes ": not a mailbox")
+
+-- the file has more messages than a folder may have
+abbrev pub too_many_messages : List ℕ → List ℕ
+too_many_messages name = with_feed (name ++ codes ": too many messages")

@@ -1,3 +1,4 @@
+use mail_text::Text;
 use mailx_vars::{Places, Vars};
 use message_show::FieldSets;
 use message_state::Shown;
@@ -10,6 +11,8 @@ use quit_rules::Open;
 pub struct Desk {
     /// The open folder.
     pub folder: Open,
+    /// The name of the file that was open before it; empty where none was.
+    pub previous: Text,
     /// Its messages as they are shown.
     pub shown: Shown,
     /// The variables.

@@ -64,6 +64,7 @@ fn carry_out<H: Host>(
             state.desk.settle(effects);
             Ok(Flow::Go)
         }
+        Ok(Asked::Over) => Ok(Flow::Go),
         Ok(Asked::Refused { line }) => refuse(state, host, &line),
         Ok(Asked::Ended(status)) => Ok(Flow::End(status)),
         Err(error) => Err(error),

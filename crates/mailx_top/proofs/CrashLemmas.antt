@@ -30,7 +30,7 @@ use Rattle.session_play.specs.Input.{Input}
 use Rattle.session_play.specs.Acts.{AllEnds, is_neutral, may_load}
 use Rattle.session_play.specs.Committing.{Commit}
 use Rattle.session_play.specs.Play.{Play, Ret, Ask, Line, Next, Go, Last, bind}
-use Rattle.session_play.specs.Steps.{After, On, Refused, Ended, onward, in_order, concluded}
+use Rattle.session_play.specs.Steps.{After, On, Over, Refused, Ended, onward, in_order, concluded}
 use Rattle.session_play.proofs.ShapeLemmas.{bind-ends, weaker-acts, may-neutral}
 use Rattle.play_safety.specs.Safe.{IsBy, EachCommit, NextKeeps, MayRun, IsCrashSafe}
 use Rattle.play_safety.proofs.TraceLemmas.{parted}
@@ -57,6 +57,8 @@ use Rattle.mailx_session.specs.States.{settled, with_frames, with_count, rested,
 use Rattle.mailx_session.specs.Saving.{names_fault, is_changed, commit_of, after_commit, saved}
 use Rattle.mailx_session.proofs.NameLemmas.{named-files}
 use Rattle.mailx_session.specs.Sourcing.{source_fault, after_load, sourced}
+use Rattle.mailx_session.specs.Switching.{open_fault, loaded_folder, switched, announced, switched_to, switches}
+use Rattle.mailx_session.proofs.SwitchingLemmas.{open-fault-none}
 use Rattle.mailx_session.specs.Sessions.{asked, carried_out}
 use Rattle.folder_commands.specs.Leaving.{quit}
 use Rattle.mailx_session.specs.Leaving.{left_by, leaving}
@@ -78,6 +80,7 @@ IsOf actor token s = (s.actor ≡ actor) × (s.token ≡ token)
 -- what an ask or a line leaves is such a state
 abbrev AfterOf : List ℕ → ℕ → After SessionState Status → Type 0
 AfterOf actor token (On s) = IsOf actor token s
+AfterOf actor token (Over s) = IsOf actor token s
 AfterOf actor token (Refused line) = Unit {0}
 AfterOf actor token (Ended e) = Unit {0}
 
@@ -138,21 +141,55 @@ module _ (actor : List ℕ) (token : ℕ) where
   sourced-of s name (Some line) of = tt
   sourced-of s name None of = λ f. load-of s name f of
 
+  announced-commits : (reply : List ℕ) (desk : Desk) (a : After SessionState Status) → EachCommit (IsBy actor token) (announced reply desk a)
+  announced-commits reply desk (On s) = (tt, λ u. tt)
+  announced-commits reply desk (Over s) = tt
+  announced-commits reply desk (Refused line) = tt
+  announced-commits reply desk (Ended e) = tt
+
+  switched-commits : (s : SessionState) (name : List ℕ) (changes : List Change) (reply : List ℕ) (f : OrFault (List ℕ)) → names_fault s.actor changes ≡ None → IsOf actor token s
+      → EachCommit (IsBy actor token) (switched_to s name changes reply f)
+  switched-commits s name changes reply (Err line) plain of = tt
+  switched-commits s name changes reply (Ok bytes) plain of = (tt, λ rows. (commit-by s changes of plain, λ a. announced-commits reply (switched s.desk name bytes rows) (after_commit s changes a)))
+
+  switches-commits : (s : SessionState) (name : List ℕ) (changes : List Change) (reply : List ℕ) (fault : Option (List ℕ)) → open_fault s.actor name changes ≡ fault → IsOf actor token s
+      → EachCommit (IsBy actor token) (switches s name changes reply fault)
+  switches-commits s name changes reply (Some line) is of = tt
+  switches-commits s name changes reply None is of =
+      (tt, λ f. switched-commits s name changes reply (loaded_folder s.desk changes name f) (open-fault-none s.actor name changes is).1 of)
+
+  announced-of : (reply : List ℕ) (desk : Desk) (a : After SessionState Status) → AfterOf actor token a → AllEnds (AfterOf actor token) (announced reply desk a)
+  announced-of reply desk (On s) of = λ u. of
+  announced-of reply desk (Over s) of = of
+  announced-of reply desk (Refused line) of = of
+  announced-of reply desk (Ended e) of = of
+
+  switched-of : (s : SessionState) (name : List ℕ) (changes : List Change) (reply : List ℕ) (f : OrFault (List ℕ)) → IsOf actor token s → AllEnds (AfterOf actor token) (switched_to s name changes reply f)
+  switched-of s name changes reply (Err line) of = tt
+  switched-of s name changes reply (Ok bytes) of = λ rows a. announced-of reply (switched s.desk name bytes rows) (after_commit s changes a) (commit-of s changes a of)
+
+  switches-of : (s : SessionState) (name : List ℕ) (changes : List Change) (reply : List ℕ) (fault : Option (List ℕ)) → IsOf actor token s → AllEnds (AfterOf actor token) (switches s name changes reply fault)
+  switches-of s name changes reply (Some line) of = tt
+  switches-of s name changes reply None of = λ f. switched-of s name changes reply (loaded_folder s.desk changes name f) of
+
   ask-commits : (s : SessionState) (ask : asked_of.Ask) → IsOf actor token s → EachCommit (IsBy actor token) (asked s ask)
   ask-commits s (asks.Say bytes) of = (tt, λ u. tt)
   ask-commits s (asks.Commit changes) of = saved-commits s changes (names_fault s.actor changes) refl of
   ask-commits s (asks.Source name) of = sourced-commits s name (source_fault s.frames name)
+  ask-commits s (asks.Open name changes reply) of = switches-commits s name changes reply (open_fault s.actor name changes) refl of
   ask-commits s asks.Exit of = tt
 
   ask-of : (s : SessionState) (ask : asked_of.Ask) → IsOf actor token s → AllEnds (AfterOf actor token) (asked s ask)
   ask-of s (asks.Say bytes) of = λ u. of
   ask-of s (asks.Commit changes) of = saved-of s changes (names_fault s.actor changes) of
   ask-of s (asks.Source name) of = sourced-of s name (source_fault s.frames name) of
+  ask-of s (asks.Open name changes reply) of = switches-of s name changes reply (open_fault s.actor name changes) of
   ask-of s asks.Exit of = tt
 
   onward-commits : (l : List asked_of.Ask) → ((t : SessionState) → IsOf actor token t → EachCommit (IsBy actor token) (in_order asked t l)) → (a : After SessionState Status) → AfterOf actor token a
       → EachCommit (IsBy actor token) (onward (λ (t : SessionState). in_order asked t l) a)
   onward-commits l each (On t) of = each t of
+  onward-commits l each (Over t) of = tt
   onward-commits l each (Refused line) of = tt
   onward-commits l each (Ended e) of = tt
 
@@ -165,6 +202,7 @@ module _ (actor : List ℕ) (token : ℕ) where
   onward-of : (l : List asked_of.Ask) → ((t : SessionState) → IsOf actor token t → AllEnds (AfterOf actor token) (in_order asked t l)) → (a : After SessionState Status) → AfterOf actor token a
       → AllEnds (AfterOf actor token) (onward (λ (t : SessionState). in_order asked t l) a)
   onward-of l each (On t) of = each t of
+  onward-of l each (Over t) of = of
   onward-of l each (Refused line) of = tt
   onward-of l each (Ended e) of = tt
 
@@ -175,11 +213,13 @@ module _ (actor : List ℕ) (token : ℕ) where
 
   finished-commits : (s : SessionState) (effects : Effects) (a : After SessionState Status) → AfterOf actor token a → EachCommit (IsBy actor token) (concluded s (λ (t : SessionState). settled t effects) a)
   finished-commits s effects (On t) of = tt
+  finished-commits s effects (Over t) of = tt
   finished-commits s effects (Refused line) of = (tt, λ u. tt)
   finished-commits s effects (Ended e) of = tt
 
   finished-of : (s : SessionState) (effects : Effects) → IsOf actor token s → (a : After SessionState Status) → AfterOf actor token a → AllEnds (NextOf actor token) (concluded s (λ (t : SessionState). settled t effects) a)
   finished-of s effects begins (On t) of = of
+  finished-of s effects begins (Over t) of = of
   finished-of s effects begins (Refused line) of = λ u. begins
   finished-of s effects begins (Ended e) of = tt
 
@@ -259,6 +299,7 @@ module _ (actor : List ℕ) (token : ℕ) where
   -- the end of the input
   left-commits : (a : After SessionState Status) → AfterOf actor token a → EachCommit (IsBy actor token) (left_by a)
   left-commits (On s) of = tt
+  left-commits (Over s) of = tt
   left-commits (Refused line) of = (tt, λ u. tt)
   left-commits (Ended e) of = tt
 

@@ -30,7 +30,7 @@ use Rattle.session_play.specs.declared.stop.Stop.{Stop}
 use Rattle.session_play.specs.Input.{Input}
 use Rattle.session_play.specs.Committing.{answer_as}
 use Rattle.session_play.specs.Play.{Act, Answer, Line, Say, Read, Try, Changes, Recover, Know, Play, Ret, Ask, Did, Goes, Next, Go, Last, Loop, again, last, cut, bind}
-use Rattle.session_play.specs.Steps.{After, On, Refused, Ended, onward, in_order, concluded}
+use Rattle.session_play.specs.Steps.{After, On, Over, Refused, Ended, onward, in_order, concluded}
 use Rattle.session_play.proofs.ShapeLemmas.{came-same, goes-ends}
 use Rattle.play_safety.specs.Safe.{IsBy, OfCommit, EachCommit, NextKeeps}
 use Rattle.mailx_vars.specs.Names.{is_short_name}
@@ -52,6 +52,7 @@ use Rattle.mailx_session.specs.Waits.{Pending}
 use Rattle.mailx_session.specs.Pending.{taken}
 use Rattle.mailx_session.specs.States.{settled, with_frames, with_count, rested, command_limit}
 use Rattle.mailx_session.specs.Saving.{names_fault, is_changed, after_commit, saved}
+use Rattle.mailx_session.specs.Switching.{open_fault, loaded_folder, switched, announced, switched_to, switches}
 use Rattle.mailx_session.specs.Sourcing.{source_fault, after_load, sourced}
 use Rattle.mailx_session.specs.Sessions.{asked, carried_out}
 use Rattle.folder_commands.specs.Leaving.{quit}
@@ -180,6 +181,7 @@ is_for_record e = false
 
 abbrev after_ends : After SessionState Status → Bool
 after_ends (On s) = false
+after_ends (Over s) = false
 after_ends (Refused line) = false
 after_ends (Ended e) = is_for_record e
 
@@ -213,14 +215,32 @@ sourced-tells : (s : SessionState) (name : List ℕ) (fault : Option (List ℕ))
 sourced-tells s name (Some line) = refl
 sourced-tells s name None = λ f. load-tells s name f
 
+announced-tells : (reply : List ℕ) (desk : Desk) (a : After SessionState Status) → Tells after_ends (after_ends a) (announced reply desk a)
+announced-tells reply desk (On s) = λ u. refl
+announced-tells reply desk (Over s) = refl
+announced-tells reply desk (Refused line) = refl
+announced-tells reply desk (Ended e) = refl
+
+switched-tells : (s : SessionState) (name : List ℕ) (changes : List Change) (reply : List ℕ) (f : OrFault (List ℕ)) → Tells after_ends false (switched_to s name changes reply f)
+switched-tells s name changes reply (Err line) = refl
+switched-tells s name changes reply (Ok bytes) = λ rows.
+    let desk = switched s.desk name bytes rows in
+    bind-tells after_ends after_ends false (saved s changes None) (announced reply desk) (saved-tells s changes None) (announced-tells reply desk)
+
+switches-tells : (s : SessionState) (name : List ℕ) (changes : List Change) (reply : List ℕ) (fault : Option (List ℕ)) → Tells after_ends false (switches s name changes reply fault)
+switches-tells s name changes reply (Some line) = refl
+switches-tells s name changes reply None = λ f. switched-tells s name changes reply (loaded_folder s.desk changes name f)
+
 ask-tells : (s : SessionState) (ask : asked_of.Ask) → Tells after_ends false (asked s ask)
 ask-tells s (asks.Say bytes) = λ u. refl
 ask-tells s (asks.Commit changes) = saved-tells s changes (names_fault s.actor changes)
 ask-tells s (asks.Source name) = sourced-tells s name (source_fault s.frames name)
+ask-tells s (asks.Open name changes reply) = switches-tells s name changes reply (open_fault s.actor name changes)
 ask-tells s asks.Exit = refl
 
 onward-tells : (l : List asked_of.Ask) → ((t : SessionState) → Tells after_ends false (in_order asked t l)) → (a : After SessionState Status) → Tells after_ends (after_ends a) (onward (λ (t : SessionState). in_order asked t l) a)
 onward-tells l each (On t) = each t
+onward-tells l each (Over t) = refl
 onward-tells l each (Refused line) = refl
 onward-tells l each (Ended e) = refl
 
@@ -230,6 +250,7 @@ order-tells s (a ∷ rest) = bind-tells after_ends after_ends false (asked s a) 
 
 finished-tells : (s : SessionState) (effects : Effects) (a : After SessionState Status) → Tells next_ends (after_ends a) (concluded s (λ (t : SessionState). settled t effects) a)
 finished-tells s effects (On t) = refl
+finished-tells s effects (Over t) = refl
 finished-tells s effects (Refused line) = λ u. refl
 finished-tells s effects (Ended e) = refl
 
@@ -271,6 +292,7 @@ line-tells s i (Some p) =
 -- the end of the input
 left-tells : (a : After SessionState Status) → Tells is_for_record (after_ends a) (left_by a)
 left-tells (On s) = refl
+left-tells (Over s) = refl
 left-tells (Refused line) = λ u. refl
 left-tells (Ended e) = refl
 

@@ -13,7 +13,7 @@ ghost use Rattle.read_commands.specs.Commands.{name_of, alone, exit, filed, step
 ghost use Rattle.show_commands.specs.Telling.{number, help};
 
 use command_desk::{Ask, Desk, Refusal, Steps, fault, quietly, unchanged};
-use folder_commands::{Filing, copy, copy_by_author, quit, save, save_by_author, write};
+use folder_commands::{Filing, copy, copy_by_author, file, quit, save, save_by_author, write};
 use line_words::{Command, CommandLine, LineError, read_line, whole_name};
 use mail_text::{Items, Memory};
 use mark_commands::{delete, delete_and_print, hold, mbox, touch, undelete};
@@ -181,6 +181,7 @@ fn carry_out(alloc: Global, line: &CommandLine, desk: &Desk) -> Result<Steps, Re
         Command::Save => filed(alloc, desk, save(alloc, desk, words)),
         Command::SaveByAuthor => filed(alloc, desk, save_by_author(alloc, desk, words)),
         Command::Write => filed(alloc, desk, write(alloc, desk, words)),
+        Command::File => file(alloc, name_of(line.word.bytes()), desk, words),
         Command::Quit => lone_quit(alloc, line, desk),
         Command::Exit => lone_exit(alloc, line, desk),
         Command::Scroll => lone_scroll(alloc, line, desk),
@@ -219,6 +220,7 @@ pub(crate) fn is_built(command: Command) -> bool
         | Command::Save
         | Command::SaveByAuthor
         | Command::Write
+        | Command::File
         | Command::Quit
         | Command::Exit => true,
         _ => false,

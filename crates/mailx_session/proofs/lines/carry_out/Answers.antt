@@ -1,12 +1,20 @@
-use Rattle.std.proofs.Common.{◌≡◌, refl, subst}
+use Rattle.std.proofs.Common.{◌≡◌, refl, sym, subst}
 use Rattle.host_port.proofs.RanLemmas.{Ran-then, Ran-map}
 use Rattle.session_play.specs.Play.{Goes, Go, Last}
-use Rattle.session_play.specs.Steps.{On, Refused, Ended, in_order, refused, concluded}
+use Rattle.session_play.specs.Steps.{On, Over, Refused, Ended, in_order, refused, concluded}
 use Rattle.session_play.proofs.PlayLemmas.{goes-then, goes-as, goes-cut}
 use Rattle.mailx_session.specs.declared.state.SessionState.{SessionState}
+use Rattle.command_desk.specs.declared.desk.Desk.{Desk}
+use Rattle.command_desk.specs.Desks.{IsDesk}
+use Rattle.command_desk.specs.Effects.{effect}
 use Rattle.mailx_session.specs.States.{settled}
 use Rattle.mailx_session.specs.Sessions.{asked, in_play, next_of}
 use Rattle.mailx_session.proofs.lines.carry_out.Goals as goal
+
+pub settle-requires-clause-after : goal.settle-requires-clause-after
+settle-requires-clause-after g c =
+    let same : c.do_asks.new.state.desk ≡ c.args.state.now.desk = rw c.in-Ok-On.field-0-is at c.in-Ok-On.ensures.desk in
+    subst (λ (d : Desk). IsDesk (effect d c.args.steps.effects)) (sym same) c.requires.desk
 
 pub returns-in-Ok-On-clause-ran : goal.returns-in-Ok-On-clause-ran
 returns-in-Ok-On-clause-ran g c =
@@ -16,6 +24,13 @@ returns-in-Ok-On-clause-ran g c =
     rw c.settle.ensures
     (Ran-map (λ es went. goes-as (in_order asked s c.args.steps.asks) (concluded s (λ (t : SessionState). settled t effects)) (On t) (Go (settled t effects)) es refl went)
     (rw (c.items.ensures, c.in-Ok-On.field-0-is) at c.in-Ok-On.ensures.ran))
+
+pub returns-in-Ok-Over-clause-ran : goal.returns-in-Ok-Over-clause-ran
+returns-in-Ok-Over-clause-ran g c =
+    let s = c.args.state.now in
+    let t = c.do_asks.new.state in
+    Ran-map (λ es went. goes-as (in_order asked s c.args.steps.asks) (concluded s (λ (t : SessionState). settled t c.args.steps.effects)) (Over t) (Go t) es refl went)
+    (rw (c.items.ensures, c.in-Ok-Over.field-0-is) at c.in-Ok-Over.ensures.ran)
 
 pub returns-in-Ok-Refused-clause-ran : goal.returns-in-Ok-Refused-clause-ran
 returns-in-Ok-Refused-clause-ran g c =
