@@ -1,5 +1,5 @@
 ghost use Rattle.std.specs.Prelude.{◌≡◌, ◌≤◌, ◌<◌, ◌+◌, ◌↔◌, [], length, slice_get, option_map, unwrap_or, is_some, IsSome, IfOk, IfErr, OnOk, OnErr, MatchOption, Ok, Err, Some};
-ghost use Rattle.std.specs.Map.{keys_of};
+ghost use Rattle.std.specs.Map.{keys_of, values_of};
 ghost use Rattle.std.specs.Prelude.{position};
 ghost use Rattle.std.specs.Str.{bytes_eq};
 ghost use Rattle.alias_groups.specs.Groups.{AreGroups, define_refusal, is_alias, member_count, members_of, with_members, without};
@@ -210,6 +210,18 @@ impl Aliases {
     {
         match self.groups.get_index(k) {
             Some((name, _)) => Some(name.as_slice()),
+            None => None,
+        }
+    }
+
+    /// The members of the alias at place `k`, from 0, in order of first definition; none past the last. It takes no
+    /// memory.
+    pub fn members_at(&self, k: usize) -> Option<&[Text]>
+        ensures members { option_map (λ members. members.now) result ≡ slice_get (values_of self.now) k }
+        ensures found { IsSome result ↔ (k < length self.now) }
+    {
+        match self.groups.get_index(k) {
+            Some((_, members)) => Some(members.as_slice()),
             None => None,
         }
     }
