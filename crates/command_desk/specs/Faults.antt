@@ -37,6 +37,10 @@ bad_name name = with_feed (name ++ codes ": bad name")
 abbrev pub too_many_variables : List ℕ
 too_many_variables = with_feed (codes "too many variables")
 
+-- all aliases together would have more members than they may
+abbrev pub too_many_aliases : List ℕ
+too_many_aliases = with_feed (codes "too many aliases")
+
 -- no command is spelled so
 abbrev pub unknown_command : List ℕ → List ℕ
 unknown_command word = with_feed (word ++ codes ": unknown command")

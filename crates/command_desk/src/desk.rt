@@ -1,3 +1,4 @@
+use alias_groups::{Aliases, Own};
 use mail_text::Text;
 use mailx_vars::{Places, Vars};
 use message_show::FieldSets;
@@ -17,6 +18,10 @@ pub struct Desk {
     pub shown: Shown,
     /// The variables.
     pub vars: Vars,
+    /// The aliases.
+    pub aliases: Aliases,
+    /// The user's own names.
+    pub own: Own,
     /// The names of fields that are left out when a message is printed, or shown alone.
     pub sets: FieldSets,
     /// The page that was said last, from 0.
