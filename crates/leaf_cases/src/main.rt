@@ -7,6 +7,7 @@
 #![tactic(auto)]
 
 mod addresses;
+mod aliases;
 mod case;
 mod commands;
 mod conditions;
@@ -46,6 +47,7 @@ fn put_answer(kept: &mut Kept, case: &[Text], out: &mut Answer) {
         "list" => lists::put(kept.messages.items(), case, out),
         "show" => show::put(kept.messages.items(), case, out),
         "condition" => conditions::put(case, out),
+        "alias" => aliases::put(case, out),
         "quit" => quits::put(&kept.vars, case, out),
         "laws" => laws::put(out),
         _ => out.put_bad(),

@@ -21,13 +21,16 @@ use Rattle.mailx_session.specs.declared.opening.Opening.{Opening}
 use Rattle.mailx_session.specs.declared.state.SessionState.{SessionState}
 use Rattle.mailx_session.specs.States.{with_desk}
 
--- a desk without messages and without a previous file, with the variables that are set at the start
+-- a desk without messages and without a previous file, with the variables that are set at the start; the user's own name is that of the
+-- environment
 abbrev pub desk_with : Places → Desk
 desk_with places = record {
   folder = record { name = []; system = false; folder = []; marks = [] };
   previous = [];
   shown = record { rows = []; order = []; depth = []; current = 0 };
   vars = defaults;
+  aliases = [];
+  own = record { user = places.user; alternates = [] };
   sets = record { ignored = []; retained = [] };
   page = 0;
   fresh = true;

@@ -11,6 +11,7 @@ ghost use Rattle.mailx_session.specs.Openings.{is_system, first_current, desk_wi
 ghost use Rattle.command_desk.specs.Desks.{IsDesk};
 
 use crate::{Frames, SessionState};
+use alias_groups::{Aliases, Own};
 use mail_text::{Items, Memory, Text};
 use mailx_vars::{Places, Vars};
 use mbox_scan::Folder;
@@ -62,6 +63,11 @@ fn first_desk(alloc: Global, places: Places) -> Result<Desk, Memory>
             current: 0,
         },
         vars: Vars::new(alloc)?,
+        aliases: Aliases::new(alloc),
+        own: Own {
+            user: Text::copy(alloc, places.user.bytes())?,
+            alternates: Items::new(alloc),
+        },
         sets: FieldSets::new(alloc),
         page: 0,
         fresh: true,

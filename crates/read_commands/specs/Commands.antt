@@ -22,6 +22,7 @@ use Rattle.mark_commands.specs.Deleting.{delete, delete_and_print, undelete}
 use Rattle.mark_commands.specs.Leaving.{hold, mbox, touch}
 use Rattle.setting_commands.specs.Setting.{set, unset}
 use Rattle.setting_commands.specs.Sourcing.{source}
+use Rattle.naming_commands.specs.Naming.{alias, unalias, alternates, ignore, retain}
 use Rattle.folder_commands.specs.declared.wanted.Filing.{Filing}
 use Rattle.folder_commands.specs.Saving.{copy, copy_by_author, save, save_by_author, write}
 use Rattle.folder_commands.specs.Leaving.{quit}
@@ -74,6 +75,11 @@ meaning_of command.Touch line desk = touch desk line.words
 meaning_of command.Set line desk = set desk line.words
 meaning_of command.Unset line desk = unset desk line.words
 meaning_of command.Source line desk = source desk line.words
+meaning_of command.Alias line desk = alias desk line.words
+meaning_of command.Unalias line desk = unalias desk line.words
+meaning_of command.Alternates line desk = alternates desk line.words
+meaning_of command.Ignore line desk = ignore desk line.words
+meaning_of command.Retain line desk = retain desk line.words
 meaning_of command.Help line desk = alone line (help desk)
 meaning_of command.Comment line desk = quietly unchanged
 meaning_of command.Copy line desk = filed (copy desk line.words)
@@ -107,6 +113,11 @@ is_built command.Touch = true
 is_built command.Set = true
 is_built command.Unset = true
 is_built command.Source = true
+is_built command.Alias = true
+is_built command.Unalias = true
+is_built command.Alternates = true
+is_built command.Ignore = true
+is_built command.Retain = true
 is_built command.Help = true
 is_built command.Comment = true
 is_built command.Copy = true

@@ -18,6 +18,7 @@ use line_words::{Command, CommandLine, LineError, read_line, whole_name};
 use mail_text::{Items, Memory};
 use mark_commands::{delete, delete_and_print, hold, mbox, touch, undelete};
 use message_show::How;
+use naming_commands::{alias, alternates, ignore, retain, unalias};
 use setting_commands::{set, source, unset};
 use show_commands::{echo, from, headers, help, number, print, print_following, scroll, size, top};
 use std::alloc::Global;
@@ -173,6 +174,11 @@ fn carry_out(alloc: Global, line: &CommandLine, desk: &Desk) -> Result<Steps, Re
         Command::Set => set(alloc, desk, words),
         Command::Unset => unset(alloc, desk, words),
         Command::Source => source(alloc, desk, words),
+        Command::Alias => alias(alloc, desk, words),
+        Command::Unalias => unalias(alloc, desk, words),
+        Command::Alternates => alternates(alloc, desk, words),
+        Command::Ignore => ignore(alloc, desk, words),
+        Command::Retain => retain(alloc, desk, words),
         Command::Comment => Ok(quietly(alloc, unchanged(alloc))),
         Command::Number => lone_number(alloc, line, desk),
         Command::Help => lone_help(alloc, line, desk),
@@ -213,6 +219,11 @@ pub(crate) fn is_built(command: Command) -> bool
         | Command::Set
         | Command::Unset
         | Command::Source
+        | Command::Alias
+        | Command::Unalias
+        | Command::Alternates
+        | Command::Ignore
+        | Command::Retain
         | Command::Help
         | Command::Comment
         | Command::Copy
