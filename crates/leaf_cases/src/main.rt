@@ -7,6 +7,7 @@
 #![tactic(auto)]
 
 mod addresses;
+mod asked;
 mod case;
 mod commands;
 mod conditions;
@@ -45,6 +46,7 @@ fn put_answer(kept: &mut Kept, case: &[Text], out: &mut Answer) {
         "messages" => kept.keep_messages(case, out),
         "list" => lists::put(kept.messages.items(), case, out),
         "show" => show::put(kept.messages.items(), case, out),
+        "words" => asked::put(case, out),
         "condition" => conditions::put(case, out),
         "quit" => quits::put(&kept.vars, case, out),
         "laws" => laws::put(out),
