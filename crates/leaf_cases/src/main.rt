@@ -8,6 +8,7 @@
 
 mod addresses;
 mod aliases;
+mod asked;
 mod case;
 mod commands;
 mod conditions;
@@ -46,6 +47,7 @@ fn put_answer(kept: &mut Kept, case: &[Text], out: &mut Answer) {
         "messages" => kept.keep_messages(case, out),
         "list" => lists::put(kept.messages.items(), case, out),
         "show" => show::put(kept.messages.items(), case, out),
+        "words" => asked::put(case, out),
         "condition" => conditions::put(case, out),
         "alias" => aliases::put(case, out),
         "quit" => quits::put(&kept.vars, case, out),

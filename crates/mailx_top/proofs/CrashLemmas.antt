@@ -64,12 +64,14 @@ use Rattle.folder_commands.specs.Leaving.{quit}
 use Rattle.mailx_session.specs.Leaving.{left_by, leaving}
 use Rattle.mailx_session.specs.Rounds.{line_play, typed_play, dropped_play, counted_play, waiting_play}
 use Rattle.mailx_top.specs.declared.environment.Environment.{Environment}
-use Rattle.mailx_top.specs.Words.{Start, are_read, start_of}
-use Rattle.mailx_top.specs.Meaning.{RunState, Recovering, recovered, Opening, Reading, Leaving, round, last_round, opening, folder_name, with_name_or_fault, loaded, with_list, greeted, turn, line_round, with_input, prompted, first_of, actor_in}
-use Rattle.mailx_top.specs.Statuses.{line_at_stop, line_at_end}
+use Rattle.mailx_top.specs.declared.words.Manner.{Manner}
+use Rattle.mailx_top.specs.declared.words.Manner.TheVariants.{Silent, Rows, Quiet, Greeting}
+use Rattle.mailx_top.specs.Words.{Start, may_say, start_of}
+use Rattle.mailx_top.specs.Meaning.{RunState, Recovering, recovered, Opening, Reading, Leaving, round, last_round, opening, folder_name, with_name_or_fault, loaded, unheld, is_no_mail, with_list, greeted, turn, line_round, with_input, prompted, first_of, actor_in}
+use Rattle.mailx_top.specs.Statuses.{line_at_end}
 use Rattle.mailx_top.specs.Runs.{Ending, IsRun}
 use Rattle.mailx_top.specs.Crash.{IsSafe}
-use Rattle.mailx_top.proofs.EndLemmas.{last-looks, end-looks}
+use Rattle.mailx_top.proofs.EndLemmas.{cut-looks, end-looks, actor-same}
 use Rattle.mailx_top.proofs.LeavingLemmas.{any-ends}
 use Rattle.mailx_top.proofs.RoundLemmas.{loads-round}
 
@@ -312,9 +314,11 @@ module _ (actor : List ℕ) (token : ℕ) where
   last-of : (s : SessionState) → AllEnds (NextKeeps (StateOf actor token)) (last_round s)
   last-of s = bind-ends (λ (e : Status). Unit {0}) (NextKeeps (StateOf actor token)) (leaving s) (λ e. Ret (Last e)) (any-ends (leaving s)) (λ e t. tt)
 
-  greeted-of : (quiet : Bool) (s : SessionState) → IsOf actor token s → AllEnds (NextKeeps (StateOf actor token)) (greeted quiet s)
-  greeted-of true s of = of
-  greeted-of false s of = λ u. of
+  greeted-of : (manner : Manner) (s : SessionState) → IsOf actor token s → AllEnds (NextKeeps (StateOf actor token)) (greeted manner s)
+  greeted-of Silent s of = tt
+  greeted-of Rows s of = λ u. tt
+  greeted-of Quiet s of = of
+  greeted-of Greeting s of = λ u. of
 
   either-of : (b : Bool) (p q : Play (Next RunState Status)) → AllEnds (NextKeeps (StateOf actor token)) p → AllEnds (NextKeeps (StateOf actor token)) q → AllEnds (NextKeeps (StateOf actor token)) (if b then p else q)
   either-of true p q x y = x
@@ -323,12 +327,16 @@ module _ (actor : List ℕ) (token : ℕ) where
   list-of : (s : SessionState) (start : Start) (name bytes : List ℕ) (l : Option (List (List ℕ))) → IsOf actor token s → AllEnds (NextKeeps (StateOf actor token)) (with_list s start name bytes l)
   list-of s start name bytes None of = λ u. tt
   list-of s start name bytes (Some texts) of =
-      either-of (nat_lt message_limit (length texts)) _ _ (λ u. tt) (λ rows. greeted-of start.quiet (with_opened s name bytes rows) of)
+      either-of (nat_lt message_limit (length texts)) _ _ (λ u. tt) (λ rows. greeted-of start.manner (with_opened s name bytes rows) of)
+
+  unheld-of : (s : SessionState) (start : Start) (name : List ℕ) (bytes : Option (List ℕ)) (b : Bool) → IsOf actor token s → AllEnds (NextKeeps (StateOf actor token)) (unheld s start name bytes b)
+  unheld-of s start name bytes true of = λ u. tt
+  unheld-of s start name None false of = λ u. tt
+  unheld-of s start name (Some bytes) false of = list-of s start name bytes (list_of bytes) of
 
   loaded-of : (s : SessionState) (start : Start) (name : List ℕ) (f : Found) → IsOf actor token s → AllEnds (NextKeeps (StateOf actor token)) (loaded s start name f)
   loaded-of s start name (found.Bytes bytes true) of = λ u. tt
-  loaded-of s start name (found.Bytes None false) of = λ u. tt
-  loaded-of s start name (found.Bytes (Some bytes) false) of = list-of s start name bytes (list_of bytes) of
+  loaded-of s start name (found.Bytes bytes false) of = unheld-of s start name bytes (is_no_mail start.named bytes) of
   loaded-of s start name (found.TooLarge n) of = λ u. tt
 
   named-of : (s : SessionState) (start : Start) (name : OrFault (List ℕ)) → IsOf actor token s → AllEnds (NextKeeps (StateOf actor token)) (with_name_or_fault s start name)
@@ -363,24 +371,24 @@ pub round-of : (env : Environment) (x : RunState) → StateOf (actor_in env) env
 round-of env (Recovering None) of = tt
 round-of env (Recovering (Some start)) of = recovered-of (actor_in env) env.token start
 round-of env (Opening None) of = λ u. tt
-round-of env (Opening (Some start)) of = named-of (actor_in env) env.token (first_of env) start (folder_name (first_of env) start) (refl, refl)
+round-of env (Opening (Some start)) of = named-of (actor_in env) env.token (first_of env start.user) start (folder_name (first_of env start.user) start) (actor-same env start.user, refl)
 round-of env (Reading s i) of = line-of (actor_in env) env.token s i (taken s.frames) of
 round-of env (Leaving s i) of = last-of (actor_in env) env.token s
 
 -- what an ending adds only looks
-ending-looks : (actor : List ℕ) (read : Bool) (s : Status) (out : Result Status Stop) (es : List Event) → Ending actor read s out es → OnlyLooks es
-ending-looks actor read s (Ok e) es end = end-looks read (line_at_end actor e) es end.1
-ending-looks actor read s (Err cause) es end = last-looks read (line_at_stop cause) es end.1
+ending-looks : (actor : List ℕ) (may : Bool) (s : Status) (out : Result Status Stop) (es : List Event) → Ending actor may s out es → OnlyLooks es
+ending-looks actor may s (Ok e) es end = end-looks may (line_at_end actor e) es end.1
+ending-looks actor may s (Err cause) es end = cut-looks may cause es end.1
 
-pub safely : (words : List (List ℕ)) (env : Environment) (s : Status) (d : Disk) (es : List Event) → env.token < 2 ^ 64 → Honest d es → MayCommit (actor_in env) env.token d es → IsRun words env s (own es) → IsSafe words env s d es
-safely words env s d es fits honest may run =
+pub safely : (start : Option Start) (env : Environment) (s : Status) (d : Disk) (es : List Event) → env.token < 2 ^ 64 → Honest d es → MayCommit (actor_in env) env.token d es → IsRun start env s (own es) → IsSafe start env s d es
+safely start env s d es fits honest may run =
     let w = run.whole in
     let actor = actor_in env in
     let parts = parted es w.front w.behind w.is in
     let front = parts.0 in
     let rest = parts.1 in
     let read = read-loop (round env) d front parts.3 w.plays in
-    let ending = subst (Ending actor (are_read words) s w.out) (sym parts.4) w.ending in
+    let ending = subst (Ending actor (may_say start) s w.out) (sym parts.4) w.ending in
     let run_so : MayRun actor env.token d (front ++ rest) = record {
       fits = fits;
       fresh = may.fresh;
@@ -397,8 +405,8 @@ safely words env s d es fits honest may run =
       is = parts.2;
       plays = read.1;
       ending = ending;
-      answered = run-decided (round env) (Recovering (start_of words env.pairs)) actor env.token d front rest read.0 w.out (StateOf actor env.token)
+      answered = run-decided (round env) (Recovering (start_of start env.pairs)) actor env.token d front rest read.0 w.out (StateOf actor env.token)
           (round-commits env) (round-of env) tt run_so read.1;
-      safe = subst C (sym parts.2) (run-safe (round env) (Recovering (start_of words env.pairs)) actor env.token d front rest read.0 w.out (StateOf actor env.token)
-          (round-commits env) (round-of env) tt run_so read.1 (ending-looks actor (are_read words) s w.out (own rest) ending));
+      safe = subst C (sym parts.2) (run-safe (round env) (Recovering (start_of start env.pairs)) actor env.token d front rest read.0 w.out (StateOf actor env.token)
+          (round-commits env) (round-of env) tt run_so read.1 (ending-looks actor (may_say start) s w.out (own rest) ending));
     }

@@ -59,8 +59,10 @@ use Rattle.folder_commands.specs.Leaving.{quit}
 use Rattle.mailx_session.specs.Leaving.{left_by, leaving}
 use Rattle.mailx_session.specs.Rounds.{line_play, typed_play, dropped_play, counted_play, waiting_play}
 use Rattle.mailx_top.specs.declared.environment.Environment.{Environment}
+use Rattle.mailx_top.specs.declared.words.Manner.{Manner}
+use Rattle.mailx_top.specs.declared.words.Manner.TheVariants.{Silent, Rows, Quiet, Greeting}
 use Rattle.mailx_top.specs.Words.{Start}
-use Rattle.mailx_top.specs.Meaning.{RunState, Recovering, recovered, Opening, Reading, Leaving, round, last_round, opening, folder_name, with_name_or_fault, loaded, with_list, greeted, turn, line_round, with_input, prompted, first_of, actor_in}
+use Rattle.mailx_top.specs.Meaning.{RunState, Recovering, recovered, Opening, Reading, Leaving, round, last_round, opening, folder_name, with_name_or_fault, loaded, unheld, is_no_mail, with_list, greeted, turn, line_round, with_input, prompted, first_of, actor_in}
 use Rattle.mailx_top.specs.Starts.{is_bad_record}
 use Rattle.mailx_top.specs.Unreadable.{is_unreadable, met_unreadable, some_unreadable, some_unreadable_in, IsRecordExplained}
 use Rattle.mailx_top.proofs.CrashLemmas.{StateOf, round-commits, round-of}
@@ -305,18 +307,24 @@ either-tells : (b : Bool) (p q : Play (Next RunState Status)) → Tells next_end
 either-tells true p q x y = x
 either-tells false p q x y = y
 
-greeted-tells : (quiet : Bool) (s : SessionState) → Tells next_ends false (greeted quiet s)
-greeted-tells true s = refl
-greeted-tells false s = λ u. refl
+greeted-tells : (manner : Manner) (s : SessionState) → Tells next_ends false (greeted manner s)
+greeted-tells Silent s = refl
+greeted-tells Rows s = λ u. refl
+greeted-tells Quiet s = refl
+greeted-tells Greeting s = λ u. refl
 
 list-tells : (s : SessionState) (start : Start) (name bytes : List ℕ) (l : Option (List (List ℕ))) → Tells next_ends false (with_list s start name bytes l)
 list-tells s start name bytes None = λ u. refl
-list-tells s start name bytes (Some texts) = either-tells (nat_lt message_limit (length texts)) _ _ (λ u. refl) (λ rows. greeted-tells start.quiet (with_opened s name bytes rows))
+list-tells s start name bytes (Some texts) = either-tells (nat_lt message_limit (length texts)) _ _ (λ u. refl) (λ rows. greeted-tells start.manner (with_opened s name bytes rows))
+
+unheld-tells : (s : SessionState) (start : Start) (name : List ℕ) (bytes : Option (List ℕ)) (b : Bool) → Tells next_ends false (unheld s start name bytes b)
+unheld-tells s start name bytes true = λ u. refl
+unheld-tells s start name None false = λ u. refl
+unheld-tells s start name (Some bytes) false = list-tells s start name bytes (list_of bytes)
 
 loaded-tells : (s : SessionState) (start : Start) (name : List ℕ) (f : Found) → Tells next_ends false (loaded s start name f)
 loaded-tells s start name (found.Bytes bytes true) = λ u. refl
-loaded-tells s start name (found.Bytes None false) = λ u. refl
-loaded-tells s start name (found.Bytes (Some bytes) false) = list-tells s start name bytes (list_of bytes)
+loaded-tells s start name (found.Bytes bytes false) = unheld-tells s start name bytes (is_no_mail start.named bytes)
 loaded-tells s start name (found.TooLarge n) = λ u. refl
 
 named-tells : (s : SessionState) (start : Start) (name : OrFault (List ℕ)) → Tells next_ends false (with_name_or_fault s start name)
@@ -333,7 +341,7 @@ round-tells : (env : Environment) (x : RunState) → Tells next_ends false (roun
 round-tells env (Recovering None) = refl
 round-tells env (Recovering (Some start)) = λ a. recovered-tells start a
 round-tells env (Opening None) = λ u. refl
-round-tells env (Opening (Some start)) = named-tells (first_of env) start (folder_name (first_of env) start)
+round-tells env (Opening (Some start)) = named-tells (first_of env start.user) start (folder_name (first_of env start.user) start)
 round-tells env (Reading s i) = line-tells s i (taken s.frames)
 round-tells env (Leaving s i) = last-tells s
 
@@ -354,6 +362,7 @@ loop-told env fits of (cut goes) = tt
 for-record : (e : Status) → is_for_record e ≡ true → e ≡ status.BadRecord
 for-record status.BadRecord is = refl
 for-record status.Done is = absurd (cc is)
+for-record status.NoMail is = absurd (cc is)
 for-record status.Usage is = absurd (cc is)
 for-record status.InputFault is = absurd (cc is)
 for-record status.OutputFault is = absurd (cc is)
