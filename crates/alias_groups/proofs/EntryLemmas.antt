@@ -6,7 +6,7 @@ use Rattle.std.specs.declared.alloc.Global.{Global}
 use Rattle.std.specs.declared.option.Option.{Option}
 use Rattle.std.specs.declared.option.Option.TheVariants.{Some, None}
 use Rattle.std.specs.List.{list_any, position_or_len}
-use Rattle.std.specs.Map.{lookup, remove_entry, keys_of}
+use Rattle.std.specs.Map.{lookup, remove_entry, keys_of, values_of}
 use Rattle.std.specs.Str.{bytes_eq}
 use Rattle.std.proofs.lemmas.Bool.{cases_Bool, cond-true, cond-false, ltb-true}
 use Rattle.indexmap.specs.IndexMap.{insert_entry, set_value_at}
@@ -54,6 +54,11 @@ without-view (e ∷ es) name = go (bytes_eq name e.0.items) (without-view es nam
 pub length-view : (es : List Entry) → length (groups_in es) ≡ length es
 length-view [] = refl
 length-view (e ∷ es) = let rest = length-view es in omega arith
+
+pub members_at-view : (es : List Entry) (k : ℕ) → option_map (λ (e : Entry). e.1.items) (slice_get es k) ≡ slice_get (values_of (groups_in es)) k
+members_at-view [] k = refl
+members_at-view (e ∷ es) zero = refl
+members_at-view (e ∷ es) (suc k) = members_at-view es k
 
 pub name-view : (es : List Entry) (k : ℕ) → option_map (λ (e : Entry). e.0.items) (slice_get es k) ≡ slice_get (keys_of (groups_in es)) k
 name-view [] k = refl

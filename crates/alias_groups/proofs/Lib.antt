@@ -7,3 +7,4 @@ pub mod FreshLemmas
 pub mod StepLemmas
 pub mod DepthLemmas
 pub mod LawLemmas
+pub mod RemovalLemmas

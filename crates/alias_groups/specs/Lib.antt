@@ -3,6 +3,7 @@ pub mod Keys
 pub mod Groups
 pub mod Entries
 pub mod Walk
+pub mod Removal
 pub mod Expansion
 pub mod Unwinding
 pub mod GroupLaws

@@ -1,13 +1,15 @@
 ghost use Rattle.std.specs.Prelude.{◌≡◌, ◌≤◌, ◌<◌, ◌+◌, ◌↔◌, [], length, slice_get, option_map, unwrap_or, is_some, IsSome, IfOk, IfErr, OnOk, OnErr, MatchOption, Ok, Err, Some};
-ghost use Rattle.std.specs.Map.{keys_of};
+ghost use Rattle.std.specs.Map.{keys_of, values_of};
 ghost use Rattle.std.specs.Prelude.{position};
 ghost use Rattle.std.specs.Str.{bytes_eq};
 ghost use Rattle.alias_groups.specs.Groups.{AreGroups, define_refusal, is_alias, member_count, members_of, with_members, without};
 ghost use Rattle.alias_groups.specs.Entries.{groups_in};
 ghost use Rattle.alias_groups.specs.Expansion.{expansion};
+ghost use Rattle.alias_groups.specs.Removal.{given, without_these};
 
 use crate::error::{AliasError, ExpandError};
 use crate::own::{Own, dropped_names};
+use crate::removal::{count_members, names_in, take_out_these};
 use crate::walk::expand_all;
 use indexmap::IndexMap;
 use mail_text::{Memory, Text};
@@ -123,13 +125,37 @@ impl Aliases {
         ensures ok { OnOk result (self.new ≡ with_members self.old name.now to.now) }
         ensures err { OnErr result (self.new ≡ self.old) }
     {
-        if to.len() > MEMBER_LIMIT - self.members {
-            return Err(AliasError::TooMany);
+        if let Some(e) = self.refuses(to) {
+            return Err(e);
         }
         let more = copies(self.alloc, to)?;
         append(self.alloc, &mut self.groups, name, more)?;
         self.members += to.len();
         Ok(())
+    }
+
+    /// Why an alias takes no such members: all aliases together would have more than 100,000. It takes no memory.
+    pub fn refuses(&self, to: &[Text]) -> Option<AliasError>
+        ensures { result ≡ define_refusal self.now to.now }
+    {
+        if to.len() > MEMBER_LIMIT - self.members {
+            Some(AliasError::TooMany)
+        } else {
+            None
+        }
+    }
+
+    /// Puts members at the end of the list of an alias, as `define` does, where `refuses` doesn't refuse them. After
+    /// want of memory all is as before.
+    pub fn give(&mut self, name: &[u8], to: &[Text]) -> Result<(), Memory>
+        ensures ok { OnOk result (self.new ≡ given self.old name.now to.now) }
+        ensures err { OnErr result (self.new ≡ self.old) }
+    {
+        match self.define(name, to) {
+            Ok(()) => Ok(()),
+            Err(AliasError::TooMany) => Ok(()),
+            Err(AliasError::Memory) => Err(Memory),
+        }
     }
 
     /// Removes an alias, and says whether it was defined. It takes no memory.
@@ -144,6 +170,18 @@ impl Aliases {
             }
             None => false,
         }
+    }
+
+    /// Removes the aliases of these names, in time that grows with the aliases and the names. One that isn't defined is
+    /// passed over. After want of memory all is as before.
+    pub fn remove_all(&mut self, names: &[Text]) -> Result<(), Memory>
+        ensures ok { OnOk result (self.new ≡ without_these self.old names.now) }
+        ensures err { OnErr result (self.new ≡ self.old) }
+    {
+        let gone = names_in(self.alloc, names)?;
+        take_out_these(&mut self.groups, &gone);
+        self.members = count_members(&self.groups);
+        Ok(())
     }
 
     /// The members of an alias; none exactly where the name isn't defined. It takes no memory.
@@ -172,6 +210,18 @@ impl Aliases {
     {
         match self.groups.get_index(k) {
             Some((name, _)) => Some(name.as_slice()),
+            None => None,
+        }
+    }
+
+    /// The members of the alias at place `k`, from 0, in order of first definition; none past the last. It takes no
+    /// memory.
+    pub fn members_at(&self, k: usize) -> Option<&[Text]>
+        ensures members { option_map (λ members. members.now) result ≡ slice_get (values_of self.now) k }
+        ensures found { IsSome result ↔ (k < length self.now) }
+    {
+        match self.groups.get_index(k) {
+            Some((_, members)) => Some(members.as_slice()),
             None => None,
         }
     }

@@ -6,9 +6,10 @@ mod error;
 mod laws;
 mod names;
 mod own;
+mod removal;
 mod walk;
 
 pub use aliases::Aliases;
 pub use error::{AliasError, ExpandError};
 pub use laws::{aliases_are_kept, each_name_once, no_walk_is_cut};
-pub use own::Own;
+pub use own::{Own, each_once};

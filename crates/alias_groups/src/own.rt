@@ -1,5 +1,6 @@
-ghost use Rattle.std.specs.Prelude.{◌≡◌, IfOk};
+ghost use Rattle.std.specs.Prelude.{◌≡◌, [], IfOk};
 ghost use Rattle.alias_groups.specs.Expansion.{dropped_names};
+ghost use Rattle.alias_groups.specs.Names.{with_names};
 
 use crate::names::Names;
 use mail_text::{Items, Memory, Text};
@@ -12,6 +13,15 @@ pub struct Own {
     pub user: Text,
     /// Other names of the user.
     pub alternates: Items<Text>,
+}
+
+/// These names in order of first naming, each once, ASCII case ignored.
+pub fn each_once(alloc: Global, names: &[Text]) -> Result<Items<Text>, Memory>
+    ensures { IfOk result (λ once. once ≡ with_names [] names.now) }
+{
+    let mut once = Names::new(alloc);
+    once.put_all(names)?;
+    Ok(Items::of(once.into_vec()))
 }
 
 // The own names that are left out where an alias leads to them: none with `metoo`.

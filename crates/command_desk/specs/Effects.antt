@@ -1,14 +1,16 @@
 -- What a command changes, and the desk that it leaves.
-use Rattle.std.specs.Prelude.{ℕ, Bool, ◌-◌, ◌==◌, true, false, List, [], map, slice_get, slice_set, None, Some, unwrap_or, if◌then◌else◌}
+use Rattle.std.specs.Prelude.{ℕ, Bool, ◌-◌, ◌==◌, true, false, List, [], map, slice_get, slice_set, Option, None, Some, unwrap_or, if◌then◌else◌}
 use Rattle.std.specs.List.{fold}
 use Rattle.std.specs.Option.{option_map_or}
 use Rattle.mailx_vars.specs.Changes.{changed}
+use Rattle.mailx_vars.specs.declared.settings.Setting.{Setting}
 use Rattle.message_state.specs.declared.mark.Act.{Act}
 use Rattle.message_state.specs.declared.row.Row.{Row}
 use Rattle.message_state.specs.States.{after}
 use Rattle.command_desk.specs.declared.desk.Desk.{Desk}
 use Rattle.command_desk.specs.declared.effects.Marking.{Marking}
 use Rattle.command_desk.specs.declared.effects.Effects.{Effects}
+use Rattle.command_desk.specs.Naming.{renamed}
 use Rattle.command_desk.specs.Selecting.{last_message}
 
 -- a row once an act was done on its message
@@ -34,19 +36,24 @@ with_rows desk rows = record desk {
 abbrev pub with_current : Desk → ℕ → Bool → Desk
 with_current desk current fresh = record desk { shown = record desk.shown { current = current }; fresh = fresh }
 
+-- the desk after changes but those of names: what isn't named stays
+abbrev pub carried : Desk → List Marking → Option ℕ → Option Bool → Option ℕ → List Setting → Desk
+carried desk marks current fresh page settings =
+    let with_marks = with_rows desk (rows_after desk.shown.rows marks) in
+    record (with_current with_marks (unwrap_or current desk.shown.current) (unwrap_or fresh desk.fresh)) {
+      vars = fold changed desk.vars settings;
+      page = unwrap_or page desk.page;
+    }
+
 -- the desk after a command: what its effects don't name stays
 abbrev pub effect : Desk → Effects → Desk
-effect desk effects =
-    let with_marks = with_rows desk (rows_after desk.shown.rows effects.marks) in
-    record (with_current with_marks (unwrap_or effects.current desk.shown.current) (unwrap_or effects.fresh desk.fresh)) {
-      vars = fold changed desk.vars effects.settings;
-      conditions = unwrap_or effects.conditions desk.conditions;
-      page = unwrap_or effects.page desk.page;
-    }
+effect desk effects = record (carried (renamed desk effects.naming) effects.marks effects.current effects.fresh effects.page effects.settings) {
+  conditions = unwrap_or effects.conditions desk.conditions;
+}
 
 -- no change
 abbrev pub unchanged : Effects
-unchanged = record { marks = []; current = None; fresh = None; page = None; settings = []; conditions = None }
+unchanged = record { marks = []; current = None; fresh = None; page = None; settings = []; naming = None; conditions = None }
 
 -- message n becomes current; it is unwritten, where another was current before
 abbrev pub moved : Desk → ℕ → Effects

@@ -50,6 +50,10 @@ endif_without_if = with_feed (codes "endif without if")
 abbrev pub too_many_variables : List ℕ
 too_many_variables = with_feed (codes "too many variables")
 
+-- all aliases together would have more members than they may
+abbrev pub too_many_aliases : List ℕ
+too_many_aliases = with_feed (codes "too many aliases")
+
 -- no command is spelled so
 abbrev pub unknown_command : List ℕ → List ℕ
 unknown_command word = with_feed (word ++ codes ": unknown command")
@@ -111,3 +115,11 @@ cannot_be_read name = with_feed (name ++ codes ": cannot be read")
 -- as many sourced files are open as may be
 abbrev pub sources_too_deep : List ℕ
 sources_too_deep = with_feed (codes "sources nest too deep")
+
+-- the file is no mailbox
+abbrev pub not_a_mailbox : List ℕ → List ℕ
+not_a_mailbox name = with_feed (name ++ codes ": not a mailbox")
+
+-- the file has more messages than a folder may have
+abbrev pub too_many_messages : List ℕ → List ℕ
+too_many_messages name = with_feed (name ++ codes ": too many messages")

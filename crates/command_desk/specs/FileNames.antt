@@ -19,6 +19,6 @@ abbrev pub name_or_fault : Result (List ℕ) NameError → OrFault (List ℕ)
 name_or_fault (Ok name) = Ok name
 name_or_fault (Err e) = Err (name_fault e)
 
--- the name of the file that a word stands for; there is no previous file yet
+-- the name of the file that a word stands for
 abbrev pub expanded : Desk → List ℕ → OrFault (List ℕ)
-expanded desk word = name_or_fault (expansion desk.places desk.vars [] word)
+expanded desk word = name_or_fault (expansion desk.places desk.vars desk.previous word)

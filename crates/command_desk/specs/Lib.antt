@@ -1,4 +1,5 @@
 pub mod Desks
+pub mod Naming
 pub mod Effects
 pub mod Faults
 pub mod Answers

@@ -1,3 +1,5 @@
+use alias_groups::{Aliases, Own};
+use mail_text::Text;
 use mailx_vars::{Places, Vars};
 use message_show::FieldSets;
 use message_state::Shown;
@@ -11,10 +13,16 @@ use rc_conditionals::Conditions;
 pub struct Desk {
     /// The open folder.
     pub folder: Open,
+    /// The name of the file that was open before it; empty where none was.
+    pub previous: Text,
     /// Its messages as they are shown.
     pub shown: Shown,
     /// The variables.
     pub vars: Vars,
+    /// The aliases.
+    pub aliases: Aliases,
+    /// The user's own names.
+    pub own: Own,
     /// The names of fields that are left out when a message is printed, or shown alone.
     pub sets: FieldSets,
     /// The conditions that are open.

@@ -1,13 +1,13 @@
-ghost use Rattle.std.specs.Prelude.{◌≡◌, ◌≤◌, ◌<◌, map, All, IfOk, IfSome, length, unwrap_or};
+ghost use Rattle.std.specs.Prelude.{◌≡◌, ◌≤◌, ◌<◌, None, map, All, IfOk, IfSome, IsOk, OnOk, OnErr, length, unwrap_or};
 ghost use Rattle.std.specs.List.{fold};
 ghost use Rattle.mailx_vars.specs.Changes.{changed};
 ghost use Rattle.message_state.specs.declared.row.Row.{Row};
 ghost use Rattle.message_state.specs.declared.mark.Mark.{Mark};
 ghost use Rattle.command_desk.specs.Desks.{IsDesk, IsMessageOf};
-ghost use Rattle.command_desk.specs.Effects.{acted, effect, unchanged, moved, written, marking, markings, marked, marked_and_written};
+ghost use Rattle.command_desk.specs.Effects.{acted, effect, carried, unchanged, moved, written, marking, markings, marked, marked_and_written};
 
-use crate::Desk;
 use crate::selecting::last_message;
+use crate::{Desk, Naming};
 use mail_text::{Items, Memory};
 use mailx_vars::{Setting, Vars};
 use message_state::{Act, Mark, RowList, after};
@@ -36,6 +36,8 @@ pub struct Effects {
     pub page: Option<usize>,
     /// Changes of variables, in order.
     pub settings: Items<Setting>,
+    /// A change of the names that the user has given.
+    pub naming: Option<Naming>,
     /// The conditions that are open then.
     pub conditions: Option<Conditions>,
 }
@@ -72,12 +74,35 @@ fn turn(conditions: &mut Conditions, turned: Option<Conditions>)
 }
 
 impl Desk {
-    /// Carries out the changes of a command once what it asked for was done. It takes no memory, and as much time
-    /// as there are changes.
-    pub fn settle(&mut self, effects: Effects)
+    // Carries out changes but those of names.
+    fn carry(
+        &mut self,
+        marks: &[Marking],
+        current: Option<u32>,
+        fresh: Option<bool>,
+        page: Option<usize>,
+        settings: Items<Setting>,
+    )
+        requires { self.old.folder.marks ≡ map (λ (row : Row). row.mark) self.old.shown.rows }
+        ensures { self.new ≡ carried self.old marks.now current fresh page settings }
+    {
+        for marking in marks {
+            mark_row(&mut self.shown.rows, &mut self.folder.marks, *marking);
+        }
+        self.shown.current = current.unwrap_or(self.shown.current);
+        self.fresh = fresh.unwrap_or(self.fresh);
+        self.page = page.unwrap_or(self.page);
+        change_all(&mut self.vars, settings);
+    }
+
+    /// Carries out the changes of a command once what it asked for was done, in as much time as there are changes.
+    /// It takes no memory where no names are changed; after want of memory all is as before.
+    pub fn settle(&mut self, effects: Effects) -> Result<(), Memory>
         requires before { IsDesk self.old }
         requires after { IsDesk (effect self.old effects) }
-        ensures { self.new ≡ effect self.old effects }
+        ensures ok { OnOk result (self.new ≡ effect self.old effects) }
+        ensures err { OnErr result (self.new ≡ self.old) }
+        ensures unnamed { effects.naming ≡ None → IsOk result }
     {
         let Effects {
             marks,
@@ -85,16 +110,13 @@ impl Desk {
             fresh,
             page,
             settings,
+            naming,
             conditions,
         } = effects;
-        for marking in marks.items() {
-            mark_row(&mut self.shown.rows, &mut self.folder.marks, *marking);
-        }
-        self.shown.current = current.unwrap_or(self.shown.current);
-        self.fresh = fresh.unwrap_or(self.fresh);
-        self.page = page.unwrap_or(self.page);
-        change_all(&mut self.vars, settings);
+        self.rename(naming)?;
+        self.carry(marks.items(), current, fresh, page, settings);
         turn(&mut self.conditions, conditions);
+        Ok(())
     }
 }
 
@@ -108,6 +130,7 @@ pub fn unchanged(alloc: Global) -> Effects
         fresh: None,
         page: None,
         settings: Items::new(alloc),
+        naming: None,
         conditions: None,
     }
 }

@@ -13,7 +13,7 @@ use std::alloc::Global;
 pub fn expanded(alloc: Global, desk: &Desk, word: &[u8]) -> Result<Text, Refusal>
     ensures { Means result (expanded desk.now word.now) }
 {
-    match expand_name(alloc, word, &desk.places, &desk.vars, b"") {
+    match expand_name(alloc, word, &desk.places, &desk.vars, desk.previous.bytes()) {
         Ok(name) => Ok(name),
         Err(NameError::NoPrevious) => Err(fault(alloc, b"", b"no previous file")),
         Err(NameError::NoFolder) => Err(fault(alloc, b"", b"folder is not set")),

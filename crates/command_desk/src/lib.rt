@@ -7,6 +7,7 @@ mod effects;
 mod faults;
 mod file_names;
 mod messages;
+mod naming;
 mod selecting;
 mod steps;
 
@@ -17,6 +18,7 @@ pub use effects::{
 pub use faults::fault;
 pub use file_names::expanded;
 pub use messages::{message, printed, put_heading, put_printed};
+pub use naming::Naming;
 pub use quit_rules::Open;
 pub use selecting::{Among, chosen, last_message, single};
 pub use steps::{Ask, Refusal, Steps, quietly, says};

@@ -13,9 +13,20 @@ pub enum Ask {
     /// These bytes are said.
     Say(Text),
     /// These changes of files are committed at once. Their names may be some that no file can have.
-    Commit { changes: Items<Change> },
+    Commit {
+        changes: Items<Change>,
+    },
     /// The lines of the file of this name are carried out then. Its name may be one that no file can have.
-    Source { name: Text },
+    Source {
+        name: Text,
+    },
+    /// The file of this name is opened in place of the folder, once these changes were committed, which leave that. Then
+    /// the reply and the new folder's opening line are said. The names may be some that no file can have.
+    Open {
+        name: Text,
+        changes: Items<Change>,
+        reply: Text,
+    },
     /// The run ends without changes.
     Exit,
 }

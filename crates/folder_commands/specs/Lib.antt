@@ -1,3 +1,5 @@
 pub mod FileNames
 pub mod Saving
 pub mod Leaving
+pub mod Making
+pub mod Opening

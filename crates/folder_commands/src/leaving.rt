@@ -26,8 +26,8 @@ fn put_count(
     out.push(line.bytes())
 }
 
-// What is said once the folder was left.
-fn left_reply(alloc: Global, desk: &Desk) -> Result<Text, Memory>
+/// What is said once the folder was left.
+pub(crate) fn left_reply(alloc: Global, desk: &Desk) -> Result<Text, Memory>
     requires { IsDesk desk.now }
     ensures { IfOk result (λ reply. reply ≡ left_reply desk.now) }
 {

@@ -1,13 +1,19 @@
 //! Commands that put messages into files: copy, Copy, save, Save and write, each of which comes to one change of one
-//! file, or to the line that refuses it; and quit, which comes to the changes of mbox and of the folder. Nothing is
-//! changed yet.
+//! file, or to the line that refuses it; and quit and file, which come to the changes of mbox and of the folder. Nothing
+//! is changed yet. What these make of the file that is opened is said here too.
 #![tactic(auto)]
 
 mod file_names;
+mod laws;
 mod leaving;
+mod making;
+mod opening;
 mod saving;
 mod wanted;
 
+pub use laws::made_is_applied;
 pub use leaving::quit;
+pub use making::made_folder;
+pub use opening::{file, opening_line};
 pub use saving::{copy, copy_by_author, save, save_by_author, write};
 pub use wanted::Filing;

@@ -42,10 +42,13 @@ pub fn lock<R: Files>(rt: &R, alloc: Global, name: &[u8], token: u64) -> Result<
     write_new(rt, lock.as_str(), beside.as_str(), text.as_bytes())
 }
 
-/// Takes the lock on a name away where it holds this token.
+/// Takes the lock on a name away where it holds this token, and what a stopped run has left of the making of that lock.
 pub fn unlock<R: Files>(rt: &R, alloc: Global, name: &[u8], token: u64) -> Result<(), FileError> {
-    let lock = lock_path(alloc, path_of(name)?)?;
+    let path = path_of(name)?;
+    let lock = lock_path(alloc, path)?;
+    let beside = beside_path(alloc, path, token)?;
     let text = token_text(alloc, token)?;
+    let _ = rt.remove_file(beside.as_str());
     match read_file(rt, alloc, lock.as_str())? {
         None => Ok(()),
         Some(owner) => {

@@ -197,7 +197,7 @@ fn a_right_ends_with_its_holder(rt: HostRuntime) -> Result<(), Fail> {
 
 // A shorter file over a longer one, an empty one, a target in no folder; a lock of other contents, an empty one,
 // and what a stopped lock has left.
-const ODD: [Call; 19] = [
+const ODD: [Call; 22] = [
     Call::StageLong(Name::Letter),
     Call::Stage(Name::Letter),
     Call::Load(Name::Letter),
@@ -215,7 +215,10 @@ const ODD: [Call; 19] = [
     Call::Lock(Name::Letter, 0xab),
     Call::Load(Name::LetterLock),
     Call::Load(Name::LetterBeside),
+    Call::Stage(Name::LetterBeside),
     Call::Unlock(Name::Letter, 0xab),
+    Call::Load(Name::LetterBeside),
+    Call::Load(Name::LetterLock),
     Call::Erase(Name::Letter),
 ];
 
@@ -224,7 +227,7 @@ fn odd_files_and_locks(rt: HostRuntime) -> Result<(), Fail> {
     let alloc = rt.alloc();
     let mut host = RealHost::new(rt, alloc);
     let got = answers(alloc, &mut host, &ODD)?;
-    assert_eq!(rt; got.bytes(), b"..m.e!..h..h..yta..".as_slice());
+    assert_eq!(rt; got.bytes(), b"..m.e!..h..h..yta..aa.".as_slice());
     Ok(())
 }
 

@@ -1,4 +1,5 @@
 // The laws of the leaf crates: their conditions can be met.
+use alias_groups::{aliases_are_kept, each_name_once, no_walk_is_cut};
 use case_blocks::Answer;
 use mail_addresses::{
     comments_are_balanced, each_value_is_read, one_reading, pieces_are_cut_again,
@@ -55,6 +56,9 @@ fn speak_of_sessions() {
     line_words::words_read_back();
     variables_are_kept();
     conditions_nest();
+    aliases_are_kept();
+    each_name_once();
+    no_walk_is_cut();
     a_quit_loses_nothing();
     what_is_unchanged_stays();
     all_fields_make_the_text();

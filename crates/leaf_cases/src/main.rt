@@ -7,6 +7,8 @@
 #![tactic(auto)]
 
 mod addresses;
+mod aliases;
+mod asked;
 mod case;
 mod commands;
 mod conditions;
@@ -45,7 +47,9 @@ fn put_answer(kept: &mut Kept, case: &[Text], out: &mut Answer) {
         "messages" => kept.keep_messages(case, out),
         "list" => lists::put(kept.messages.items(), case, out),
         "show" => show::put(kept.messages.items(), case, out),
+        "words" => asked::put(case, out),
         "condition" => conditions::put(case, out),
+        "alias" => aliases::put(case, out),
         "quit" => quits::put(&kept.vars, case, out),
         "laws" => laws::put(out),
         _ => out.put_bad(),

@@ -6,4 +6,5 @@ pub mod RoundLemmas
 pub mod StateLemmas
 pub mod SavingLemmas
 pub mod SourcingLemmas
+pub mod SwitchingLemmas
 mod LeavingLemmas

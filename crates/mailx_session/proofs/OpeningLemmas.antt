@@ -16,7 +16,9 @@ use Rattle.message_state.specs.Status.{mark_of}
 use Rattle.session_play.specs.Knowing.{AreRows}
 use Rattle.command_desk.specs.declared.desk.Desk.{Desk}
 use Rattle.command_desk.specs.Desks.{IsDesk, AreRowsButMarks}
-use Rattle.mailx_session.specs.Openings.{desk_with, is_system, with_folder, with_page, plain, first_current, opened}
+use Rattle.quit_rules.specs.declared.open.Open.{Open}
+use Rattle.mailx_session.specs.declared.opening.Opening.{Opening}
+use Rattle.mailx_session.specs.Openings.{desk_with, is_system, with_folder, with_page, plain, first_current, opened, IsOpening}
 
 -- a row more
 pub zip-push : {A B : Type 0} (R : A → B → Type 0) (xs : List A) (ys : List B) (x : A) (y : B) → AllZip R xs ys → R x y → AllZip R (xs ++ x ∷ []) (ys ++ y ∷ [])
@@ -59,13 +61,9 @@ empty-desk places terminal wide = record {
 pub paged-desk : (desk : Desk) → IsDesk desk → IsDesk (with_page desk)
 paged-desk desk d = record { shown = d.shown; rows = d.rows; marks = d.marks; width = d.width }
 
--- a folder that was put on the desk is opened
-pub opened-is : (desk new : Desk) (name bytes : List ℕ) (system : Bool) (rows : List Row) (marks : List Mark) (shown : Shown)
-    → new ≡ with_page (with_folder desk (record { name = name; system = system; folder = bytes; marks = marks }) shown) → system ≡ is_system desk.places name
-    → marks ≡ map (λ row. row.mark) rows → shown ≡ plain rows → new ≡ opened desk name bytes rows
+-- what is to be put on the desk for a folder opens it
+pub laid-is : (desk : Desk) (name bytes : List ℕ) (o : Opening) (is : IsOpening desk name bytes o) → with_page (with_folder desk o.folder o.shown) ≡ opened desk name bytes is.rows
 unfolding opened
-opened-is desk new name bytes system rows marks shown put mailbox same is =
-    put
-    ∙ ap (λ (s : Shown). with_page (with_folder desk (record { name = name; system = system; folder = bytes; marks = marks }) s)) is
-    ∙ ap (λ (ms : List Mark). with_page (with_folder desk (record { name = name; system = system; folder = bytes; marks = ms }) (plain rows))) same
-    ∙ ap (λ (b : Bool). with_page (with_folder desk (record { name = name; system = b; folder = bytes; marks = map (λ (row : Row). row.mark) rows }) (plain rows))) mailbox
+laid-is desk name bytes o is =
+    ap (λ (f : Open). with_page (with_folder desk f o.shown)) is.folder
+    ∙ ap (λ (s : Shown). with_page (with_folder desk (record { name = name; system = is_system desk.places name; folder = bytes; marks = map (λ (row : Row). row.mark) is.rows }) s)) is.shown

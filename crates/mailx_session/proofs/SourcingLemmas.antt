@@ -11,6 +11,7 @@ use Rattle.std.specs.declared.result.Result.{Result}
 use Rattle.std.specs.declared.result.Result.TheVariants.{Ok, Err}
 use Rattle.mail_text.specs.Lines.{lines_of}
 use Rattle.mailx_vars.specs.Names.{is_short_name}
+use Rattle.command_desk.specs.Desks.{IsDesk}
 use Rattle.command_desk.specs.Faults.{bad_name, sources_too_deep}
 use Rattle.mail_text.proofs.LineLemmas.{length-lines_of}
 use Rattle.command_desk.specs.declared.steps.Ask as asked_of
@@ -22,9 +23,10 @@ use Rattle.mailx_session.specs.declared.kinds.FrameKind.TheVariants as kind
 use Rattle.mailx_session.specs.declared.state.SessionState.{SessionState}
 use Rattle.mailx_session.specs.Waits.{Pending}
 use Rattle.mailx_session.specs.Pending.{frame_of, lines_left}
-use Rattle.mailx_session.specs.States.{IsState, with_frames, resumed}
+use Rattle.mailx_session.specs.States.{IsState, with_desk, with_frames, resumed, KeepsOthers}
 use Rattle.mailx_session.specs.Sourcing.{is_source, sources, source_limit, origin_at, source_fault, with_source, brings, room, weight, OnlyBrings}
-use Rattle.mailx_session.specs.Sessions.{after_asks, in_play, is_on, StaysUnlessOn}
+use Rattle.mailx_session.specs.Sessions.{after_asks, in_play, is_on, StaysUnlessOn, KeepsDesk}
+use Rattle.command_desk.specs.declared.desk.Desk.{Desk}
 
 le-refl : (n : ℕ) → n ≤ n
 le-refl n = omega arith
@@ -39,20 +41,60 @@ brings_none s t same = subst (λ (u : SessionState). OnlyBrings s u) (sym same) 
 -- what is brought after other lines
 pub brings-then : (a b c : SessionState) → OnlyBrings a b → OnlyBrings b c → OnlyBrings a c
 brings-then a b c x y = record {
-  rest = y.rest ∙ ap (λ (s : SessionState). with_frames s c.frames) x.rest;
+  rest = y.rest ∙ ap (λ (s : SessionState). with_frames (with_desk s c.desk) c.frames) x.rest;
   inside = (x.inside.0 ++ y.inside.0, y.inside.1 ∙ (ap (λ (fs : List Pending). fs ++ y.inside.0) x.inside.1 ∙ append_assoc a.frames x.inside.0 y.inside.0));
   room = le-then (room c.frames) (room b.frames) (room a.frames) y.room x.room;
 }
 
--- the state stays valid
-pub brings_valid : (s t : SessionState) → IsState s → OnlyBrings s t → IsState t
-brings_valid s t is b = subst IsState (sym b.rest) (record { desk = is.desk; actor = is.actor })
-
--- without what was brought the state is as before
-pub cut-back : (s t : SessionState) (depth : ℕ) → OnlyBrings s t → depth ≡ length s.frames → with_frames t (take depth t.frames) ≡ s
-cut-back s t depth b is =
+-- without what was brought the state is as before, where the desk is
+pub cut-back : (s t : SessionState) (depth : ℕ) → OnlyBrings s t → t.desk ≡ s.desk → depth ≡ length s.frames → with_frames t (take depth t.frames) ≡ s
+cut-back s t depth b same is =
     let front : take depth t.frames ≡ s.frames = ap (take depth) b.inside.1 ∙ take_at s.frames b.inside.0 depth (sym is) in
-    ap (with_frames t) front ∙ ap (λ (u : SessionState). with_frames u s.frames) b.rest
+    ap (with_frames t) front ∙ (ap (λ (u : SessionState). with_frames u s.frames) b.rest ∙ ap (λ (d : Desk). with_desk s d) same)
+
+-- another desk is put
+pub brings-desk : (s : SessionState) (desk : Desk) → OnlyBrings s (with_desk s desk)
+brings-desk s desk = record { rest = refl; inside = ([], sym (append-nil s.frames)); room = le-refl (room s.frames) }
+
+-- the state stays valid where its desk is
+pub valid-desk : (s : SessionState) (desk : Desk) → IsState s → IsDesk desk → IsState (with_desk s desk)
+valid-desk s desk is valid = record { desk = valid; actor = is.actor }
+
+-- the desk stays where the state does
+pub same-desk : (s t : SessionState) (r : Result Asked RunError) → t ≡ s → KeepsDesk s t r
+same-desk s t (Ok answered.On) same = ap (λ (u : SessionState). u.desk) same
+same-desk s t (Ok answered.Over) same = tt
+same-desk s t (Ok (answered.Refused line)) same = ap (λ (u : SessionState). u.desk) same
+same-desk s t (Ok (answered.Ended e)) same = ap (λ (u : SessionState). u.desk) same
+same-desk s t (Err e) same = ap (λ (u : SessionState). u.desk) same
+
+-- or its own desk
+pub keeps-desk : (s t : SessionState) (r : Result Asked RunError) → t.desk ≡ s.desk → KeepsDesk s t r
+keeps-desk s t (Ok answered.On) same = same
+keeps-desk s t (Ok answered.Over) same = tt
+keeps-desk s t (Ok (answered.Refused line)) same = same
+keeps-desk s t (Ok (answered.Ended e)) same = same
+keeps-desk s t (Err e) same = same
+
+-- where the desk stays the state stays valid
+pub kept-valid : (s t : SessionState) → IsState s → OnlyBrings s t → t.desk ≡ s.desk → IsState t
+kept-valid s t is b same = subst IsState (sym b.rest) (record { desk = subst IsDesk (sym same) is.desk; actor = is.actor })
+
+-- the desk stays too where not all was done
+pub off-desk : (s t : SessionState) (r : Result Asked RunError) → KeepsDesk s t r → is_on r ≡ false → t.desk ≡ s.desk
+off-desk s t (Ok answered.On) keeps off = absurd (cc off)
+off-desk s t (Ok answered.Over) keeps off = absurd (cc off)
+off-desk s t (Ok (answered.Refused line)) keeps off = keeps
+off-desk s t (Ok (answered.Ended e)) keeps off = keeps
+off-desk s t (Err e) keeps off = keeps
+
+-- the desk stays in one ask after another, the first of which left it
+pub desk-then : (s t u : SessionState) (r : Result Asked RunError) → t.desk ≡ s.desk → KeepsDesk t u r → KeepsDesk s u r
+desk-then s t u (Ok answered.On) same keeps = keeps ∙ same
+desk-then s t u (Ok answered.Over) same keeps = tt
+desk-then s t u (Ok (answered.Refused line)) same keeps = keeps ∙ same
+desk-then s t u (Ok (answered.Ended e)) same keeps = keeps ∙ same
+desk-then s t u (Err e) same keeps = keeps ∙ same
 
 -- one frame more
 left-more : (fs : List Pending) (f : Pending) → lines_left (fs ++ f ∷ []) ≡ lines_left fs + length f.lines
@@ -87,18 +129,21 @@ quiet-at asks i d a none within is =
 -- what answers leave where not all was done
 pub after-same : (s t : SessionState) (r : Result Asked RunError) → is_on r ≡ false → in_play (after_asks s) r ≡ in_play (after_asks t) r
 after-same s t (Ok answered.On) off = absurd (cc off)
+after-same s t (Ok answered.Over) off = absurd (cc off)
 after-same s t (Ok (answered.Refused line)) off = refl
 after-same s t (Ok (answered.Ended e)) off = refl
 after-same s t (Err e) off = refl
 
 pub stays-same : (s t : SessionState) (r : Result Asked RunError) → t ≡ s → StaysUnlessOn s t r
 stays-same s t (Ok answered.On) same = tt
+stays-same s t (Ok answered.Over) same = tt
 stays-same s t (Ok (answered.Refused line)) same = same
 stays-same s t (Ok (answered.Ended e)) same = same
 stays-same s t (Err e) same = same
 
 pub stays-on : (s t : SessionState) (r : Result Asked RunError) → is_on r ≡ true → StaysUnlessOn s t r
 stays-on s t (Ok answered.On) on = tt
+stays-on s t (Ok answered.Over) on = tt
 stays-on s t (Ok (answered.Refused line)) on = absurd (cc on)
 stays-on s t (Ok (answered.Ended e)) on = absurd (cc on)
 stays-on s t (Err e) on = absurd (cc on)

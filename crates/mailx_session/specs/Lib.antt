@@ -4,6 +4,7 @@ pub mod Pending
 pub mod States
 pub mod Saving
 pub mod Sourcing
+pub mod Switching
 pub mod Sessions
 pub mod Leaving
 pub mod Follows

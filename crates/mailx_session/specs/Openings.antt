@@ -1,33 +1,36 @@
 -- The desk that a session begins with.
-use Rattle.std.specs.Prelude.{◌≡◌, ℕ, ◌+◌, min, Bool, true, false, not, ◌&&◌, ◌==◌, List, [], ◌++◌, map, length, replicate, codes, Option, Some, None, position, if◌then◌else◌}
-use Rattle.std.specs.List.{range_with_len, count_by}
-use Rattle.std.specs.Fmt.{decimal}
+use Rattle.std.specs.Prelude.{◌≡◌, ◌<◌, ℕ, ◌+◌, min, Bool, true, false, not, ◌&&◌, List, [], ◌++◌, map, length, replicate, codes, IfSome, Option, Some, None, position, if◌then◌else◌}
+use Rattle.std.specs.List.{range_with_len}
 use Rattle.std.specs.Str.{bytes_eq}
 use Rattle.std.specs.declared.result.Result.TheVariants.{Ok, Err}
-use Rattle.mail_text.specs.Lines.{with_feed}
 use Rattle.mbox_scan.specs.Mailbox.{texts_of}
 use Rattle.mailx_vars.specs.declared.environment.Places.{Places}
 use Rattle.mailx_vars.specs.Environment.{Pairs, places_in}
 use Rattle.mailx_vars.specs.Settings.{defaults, is_set}
-use Rattle.message_state.specs.declared.mark.State.{State}
 use Rattle.message_state.specs.declared.mark.State.TheVariants.{New, Unread}
 use Rattle.message_state.specs.declared.row.Row.{Row}
 use Rattle.message_state.specs.declared.shown.Shown.{Shown}
-use Rattle.message_state.specs.States.{place}
 use Rattle.session_play.specs.Knowing.{AreRows}
 use Rattle.command_desk.specs.declared.desk.Desk.{Desk}
 use Rattle.quit_rules.specs.declared.open.Open.{Open}
 use Rattle.command_desk.specs.Answers.{OrFault}
+use Rattle.command_desk.specs.Desks.{IsDesk}
 use Rattle.show_commands.specs.Paging.{page_size, page_of, current_page}
+use Rattle.folder_commands.specs.Opening.{is_in, opening_line}
+use Rattle.mailx_session.specs.declared.opening.Opening.{Opening}
 use Rattle.mailx_session.specs.declared.state.SessionState.{SessionState}
 use Rattle.mailx_session.specs.States.{with_desk}
 
--- a desk without messages, with the variables that are set at the start
+-- a desk without messages and without a previous file, with the variables that are set at the start; the user's own name is that of the
+-- environment
 abbrev pub desk_with : Places → Bool → Desk
 desk_with places terminal = record {
   folder = record { name = []; system = false; folder = []; marks = [] };
+  previous = [];
   shown = record { rows = []; order = []; depth = []; current = 0 };
   vars = defaults;
+  aliases = [];
+  own = record { user = places.user; alternates = [] };
   sets = record { ignored = []; retained = [] };
   conditions = [];
   terminal = terminal;
@@ -49,10 +52,6 @@ state_with places terminal token = record {
 
 abbrev pub first_state : Pairs → Bool → ℕ → SessionState
 first_state pairs terminal token = state_with (places_in pairs) terminal token
-
--- the row's message is in this state
-abbrev pub is_in : State → Row → Bool
-is_in state row = place row.mark.state == place state
 
 -- the number of the message at a place from 0, or what stands in its stead
 abbrev pub number_or : ℕ → Option ℕ → ℕ
@@ -96,14 +95,20 @@ opened desk name bytes rows = with_page (with_folder desk (record { name = name;
 abbrev pub with_opened : SessionState → List ℕ → List ℕ → List Row → SessionState
 with_opened s name bytes rows = with_desk s (opened s.desk name bytes rows)
 
+-- What is to be put on the desk for a folder of these bytes and this name: its messages in order of number, by the rows of its texts, and how many
+-- a page has.
+pub record IsOpening (desk : Desk) (name bytes : List ℕ) (opening : Opening) : Type 0 where
+  pub rows : List Row
+  pub are : AreRows (texts_of bytes) rows
+  pub size : IsKnownSize (page_size desk) opening.size
+  pub some : IfSome opening.size (λ n. 0 < n)
+  pub folder : opening.folder ≡ record { name = name; system = is_system desk.places name; folder = bytes; marks = map (λ row. row.mark) rows }
+  pub shown : opening.shown ≡ plain rows
+  pub valid : IsDesk (with_folder desk opening.folder opening.shown)
+
 -- a folder was opened
 abbrev pub Opens : SessionState → List ℕ → List ℕ → SessionState → Type 0
 Opens old name bytes new = (rows : List Row) × AreRows (texts_of bytes) rows × (new ≡ with_opened old name bytes rows)
-
--- the opening line: the folder's name, how many messages it has, and how many are new and unread
-abbrev pub opening_line : Desk → List ℕ
-opening_line desk = with_feed (codes "\"" ++ desk.folder.name ++ codes "\": " ++ decimal (length desk.shown.rows) ++ codes " messages, "
-    ++ decimal (count_by (is_in New) desk.shown.rows) ++ codes " new, " ++ decimal (count_by (is_in Unread) desk.shown.rows) ++ codes " unread")
 
 -- the page of the current message, where there is one
 abbrev pub page_or_none : OrFault (List ℕ) → List ℕ

@@ -6,9 +6,11 @@ use Rattle.host_port.specs.Calls.{Counts, Rose}
 use Rattle.session_play.specs.declared.stop.Stop.{Stop}
 use Rattle.session_play.specs.declared.stop.Stop.TheVariants as stop
 use Rattle.session_play.specs.Play.{Play, Ret, Ask, Say, Next, Go, Last, bind}
-use Rattle.session_play.specs.Steps.{After, On, Refused, Ended, in_order, refused, concluded}
+use Rattle.session_play.specs.Steps.{After, On, Over, Refused, Ended, in_order, refused, concluded}
 use Rattle.command_desk.specs.declared.steps.Ask as asked_of
 use Rattle.command_desk.specs.declared.steps.Ask.TheVariants as asks
+use Rattle.command_desk.specs.declared.steps.Refusal.{Refusal}
+use Rattle.command_desk.specs.declared.steps.Refusal.TheVariants as refusal
 use Rattle.command_desk.specs.declared.steps.Steps.{Steps}
 use Rattle.command_desk.specs.Answers.{OrFault}
 use Rattle.mailx_session.specs.declared.asks.Asked.{Asked}
@@ -24,12 +26,14 @@ use Rattle.mailx_session.specs.States.{settled}
 use Rattle.mailx_session.specs.Statuses.{IsLineEnd}
 use Rattle.mailx_session.specs.Saving.{names_fault, saved}
 use Rattle.mailx_session.specs.Sourcing.{source_fault, sourced}
+use Rattle.mailx_session.specs.Switching.{open_fault, switches}
 
 -- what is asked for, and what its answer leaves
 abbrev pub asked : SessionState → asked_of.Ask → Play (After SessionState Status)
 asked s (asks.Say bytes) = Ask (Say bytes) (λ _. Ret (On s))
 asked s (asks.Commit changes) = saved s changes (names_fault s.actor changes)
 asked s (asks.Source name) = sourced s name (source_fault s.frames name)
+asked s (asks.Open name changes reply) = switches s name changes reply (open_fault s.actor name changes)
 asked s asks.Exit = Ret (Ended Done)
 
 -- a command's steps are carried out, or the line that refuses it is said
@@ -40,6 +44,7 @@ carried_out s (Err line) = refused s line
 -- what the answers to a command's asks leave
 abbrev pub after_asks : SessionState → Asked → After SessionState Status
 after_asks s answered.On = On s
+after_asks s answered.Over = Over s
 after_asks s (answered.Refused line) = Refused line
 after_asks s (answered.Ended e) = Ended e
 
@@ -81,15 +86,27 @@ abbrev pub EndsByAsk : Asked → Type 0
 EndsByAsk (answered.Ended s) = IsLineEnd s
 EndsByAsk a = Unit {0}
 
--- all was done
+-- all was done, to the last or to one with which the command is over
 abbrev pub is_on : Result Asked RunError → Bool
 is_on (Ok answered.On) = true
+is_on (Ok answered.Over) = true
 is_on r = false
 
 -- where not all was done, the state stays
 abbrev pub StaysUnlessOn : SessionState → SessionState → Result Asked RunError → Type 0
 StaysUnlessOn old new (Ok answered.On) = Unit {0}
+StaysUnlessOn old new (Ok answered.Over) = Unit {0}
 StaysUnlessOn old new r = new ≡ old
+
+-- the desk stays, unless the command is over with an ask
+abbrev pub KeepsDesk : SessionState → SessionState → Result Asked RunError → Type 0
+KeepsDesk old new (Ok answered.Over) = Unit {0}
+KeepsDesk old new r = new.desk ≡ old.desk
+
+-- a refusal leaves its line, or is a cut for want of memory
+abbrev pub IsRefusedSo : Refusal → Result Asked RunError → Type 0
+IsRefusedSo (refusal.Fault line) r = r ≡ Ok (answered.Refused line)
+IsRefusedSo refusal.Memory r = r ≡ Err error.Memory
 
 -- nothing is done, and the session goes on
 abbrev pub DoesNothing : SessionState → SessionState → Result Flow RunError → Type 0

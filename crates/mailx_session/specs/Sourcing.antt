@@ -22,7 +22,7 @@ use Rattle.mailx_session.specs.declared.state.SessionState.{SessionState}
 use Rattle.mailx_session.specs.declared.status.Status.{Status}
 use Rattle.mailx_session.specs.Waits.{Pending}
 use Rattle.mailx_session.specs.Pending.{frame_of, lines_left}
-use Rattle.mailx_session.specs.States.{command_limit, with_frames}
+use Rattle.mailx_session.specs.States.{command_limit, with_frames, KeepsOthers}
 
 -- the most sourced files that are open at once
 abbrev pub source_limit : ℕ
@@ -67,12 +67,13 @@ abbrev pub sourced : SessionState → List ℕ → Option (List ℕ) → Play (A
 sourced s name (Some line) = Ret (Refused line)
 sourced s name None = Ask (Try name) (λ a. Ret (after_load s name a))
 
--- the ask brings lines from elsewhere
+-- the ask brings something into the session: lines from elsewhere, or another folder
 abbrev pub brings : asked_of.Ask → Bool
 brings (asks.Source name) = true
+brings (asks.Open name changes reply) = true
 brings ask = false
 
--- a command's steps bring lines
+-- a command's steps bring lines or a folder
 abbrev pub brings_lines : OrFault Steps → Bool
 brings_lines (Ok steps) = list_any brings steps.asks
 brings_lines (Err line) = false
@@ -81,9 +82,9 @@ brings_lines (Err line) = false
 abbrev pub room : List Pending → ℕ
 room frames = lines_left frames + (source_limit - sources frames) * 2 ^ 64
 
--- asks change the lines that wait alone: they may put frames inside of those that are there
+-- asks change the desk and the lines that wait alone: they may put frames inside of those that are there
 pub record OnlyBrings (old new : SessionState) : Type 0 where
-  pub rest : new ≡ with_frames old new.frames
+  pub rest : KeepsOthers old new
   pub inside : (more : List Pending) × (new.frames ≡ old.frames ++ more)
   pub room : room new.frames ≤ room old.frames
 

@@ -6,6 +6,7 @@ use Rattle.mailx_session.specs.declared.status.Status.TheVariants as status
 -- the exit status of the program
 abbrev pub status_number : Status → ℕ
 status_number status.Done = 0
+status_number status.NoMail = 1
 status_number status.Usage = 2
 status_number status.InputFault = 3
 status_number status.OutputFault = 4
@@ -19,6 +20,7 @@ status_number status.BadRecord = 11
 -- a run ends so that isn't cut off, and whose words aren't refused
 abbrev pub IsEnd : Status → Type 0
 IsEnd status.Done = Unit {0}
+IsEnd status.NoMail = Unit {0}
 IsEnd status.Refused = Unit {0}
 IsEnd status.NoFolder = Unit {0}
 IsEnd status.BadRecord = Unit {0}

@@ -8,10 +8,11 @@ ghost use Rattle.session_play.specs.Steps.{in_order};
 ghost use Rattle.mailx_session.specs.declared.state.SessionState.{SessionState};
 ghost use Rattle.mailx_session.specs.States.{IsState};
 ghost use Rattle.mailx_session.specs.Sourcing.{brings, OnlyBrings};
-ghost use Rattle.mailx_session.specs.Sessions.{asked, after_asks, in_play, is_on, LineCaused, EndsByAsk, StaysUnlessOn};
+ghost use Rattle.mailx_session.specs.Sessions.{asked, after_asks, in_play, is_on, LineCaused, EndsByAsk, StaysUnlessOn, KeepsDesk};
 
 use crate::saving::save;
 use crate::sourcing::source;
+use crate::switching::switch;
 use crate::{RunError, SessionState, Status};
 use host_port::Host;
 use mail_text::Text;
@@ -23,6 +24,8 @@ use std::alloc::Global;
 pub(crate) enum Asked {
     /// All was done.
     On,
+    /// The command is over: nothing that follows is done.
+    Over,
     /// The command is refused by this line.
     Refused { line: Text },
     /// The run ends.
@@ -41,7 +44,7 @@ pub(crate) fn say<H: Host>(host: &mut H, bytes: &[u8]) -> Result<(), RunError>
     }
 }
 
-// Does one thing that is asked for. The state stays, but for the lines that this brings.
+// Does one thing that is asked for. The state stays, but for the lines and the folder that this brings.
 #[tactic(auto, using(crate::proofs::SourcingLemmas::brings_none))]
 fn do_ask<H: Host>(
     alloc: Global,
@@ -54,6 +57,8 @@ fn do_ask<H: Host>(
         (λ es. Goes (asked state.old ask.now) es (in_play (after_asks state.new) result)) }
     ensures fall { NeverFall (H.world.counts host.old) (H.world.counts host.new) }
     ensures brings { OnlyBrings state.old state.new }
+    ensures valid { IsState state.new }
+    ensures desk { KeepsDesk state.old state.new result }
     ensures quiet { brings ask.now ≡ false → state.new ≡ state.old }
     ensures done { IfOk result EndsByAsk }
     ensures cause { LineCaused (H.world.counts host.old) (H.world.counts host.new) result }
@@ -62,6 +67,11 @@ fn do_ask<H: Host>(
         Wanted::Say(bytes) => say_line(host, bytes),
         Wanted::Commit { changes } => save(alloc, state, host, changes.items()),
         Wanted::Source { name } => source(alloc, state, host, name.bytes()),
+        Wanted::Open {
+            name,
+            changes,
+            reply,
+        } => switch(alloc, state, host, name.bytes(), changes.items(), reply),
         Wanted::Exit => Ok(Asked::Ended(Status::Done)),
     }
 }
@@ -80,7 +90,8 @@ fn say_line<H: Host>(host: &mut H, bytes: &Text) -> Result<Asked, RunError>
     }
 }
 
-// Does what is asked for, in order, up to an answer that refuses what follows or ends the run.
+// Does what is asked for, in order, up to an answer with which the command is over, or that refuses what follows or
+// ends the run.
 fn ask_all<H: Host>(
     alloc: Global,
     state: &mut SessionState,
@@ -92,6 +103,8 @@ fn ask_all<H: Host>(
         (λ es. Goes (in_order asked state.old asks.now) es (in_play (after_asks state.new) result)) }
     ensures fall { NeverFall (H.world.counts host.old) (H.world.counts host.new) }
     ensures brings { OnlyBrings state.old state.new }
+    ensures valid { IsState state.new }
+    ensures desk { KeepsDesk state.old state.new result }
     ensures quiet { list_any brings asks.now ≡ false → state.new ≡ state.old }
     ensures done { IfOk result EndsByAsk }
     ensures cause { LineCaused (H.world.counts host.old) (H.world.counts host.new) result }
@@ -99,6 +112,7 @@ fn ask_all<H: Host>(
     for ask in asks {
         match do_ask(alloc, state, host, ask) {
             Ok(Asked::On) => {}
+            Ok(Asked::Over) => return Ok(Asked::Over),
             Ok(Asked::Refused { line }) => return Ok(Asked::Refused { line }),
             Ok(Asked::Ended(status)) => return Ok(Asked::Ended(status)),
             Err(error) => return Err(error),
@@ -107,15 +121,15 @@ fn ask_all<H: Host>(
     Ok(Asked::On)
 }
 
-// Whether all was done.
+// Whether all was done, to the last or to one with which the command is over.
 fn is_on(asked: &Result<Asked, RunError>) -> bool
     ensures { result ≡ is_on asked.now }
 {
-    matches!(asked, Ok(Asked::On))
+    matches!(asked, Ok(Asked::On) | Ok(Asked::Over))
 }
 
-/// Does what is asked for, in order, up to an answer that refuses what follows or ends the run; then no lines are
-/// brought.
+/// Does what is asked for, in order, up to an answer with which the command is over, or that refuses what follows or
+/// ends the run; in the latter two cases nothing is brought.
 pub(crate) fn do_asks<H: Host>(
     alloc: Global,
     state: &mut SessionState,
@@ -127,6 +141,8 @@ pub(crate) fn do_asks<H: Host>(
         (λ es. Goes (in_order asked state.old asks.now) es (in_play (after_asks state.new) result)) }
     ensures fall { NeverFall (H.world.counts host.old) (H.world.counts host.new) }
     ensures brings { OnlyBrings state.old state.new }
+    ensures valid { IsState state.new }
+    ensures desk { KeepsDesk state.old state.new result }
     ensures quiet { list_any brings asks.now ≡ false → state.new ≡ state.old }
     ensures stays { StaysUnlessOn state.old state.new result }
     ensures done { IfOk result EndsByAsk }

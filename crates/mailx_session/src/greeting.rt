@@ -1,40 +1,15 @@
-// What is said of a folder at the start.
-ghost use Rattle.std.specs.Prelude.{◌≡◌, ◌++◌, IfOk, OnOk};
-ghost use Rattle.std.specs.List.{count_by};
+// What is said of a folder that was opened.
+ghost use Rattle.std.specs.Prelude.{◌≡◌, ◌++◌, [], codes, IfOk, OnOk, if◌then◌else◌};
+ghost use Rattle.mailx_vars.specs.Settings.{is_set};
 ghost use Rattle.command_desk.specs.Desks.{IsDesk};
 ghost use Rattle.show_commands.specs.Paging.{current_page};
-ghost use Rattle.mailx_session.specs.Openings.{is_in, opening_line, page_or_none, greeting};
+ghost use Rattle.mailx_session.specs.Openings.{page_or_none, greeting};
+ghost use Rattle.mailx_session.specs.Switching.{announcement};
 
-use itoa::Buffer;
+use folder_commands::opening_line;
 use mail_text::{Memory, Text};
-use message_state::{Row, State};
 use read_commands::{Desk, Refusal, current_page};
 use std::alloc::Global;
-
-// How many messages are in a state.
-fn count_in(rows: &[Row], state: State) -> usize
-    ensures { result ≡ count_by (is_in state) rows.now }
-{
-    rows.iter().filter(|row| row.mark.state == state).count()
-}
-
-// The folder's name, how many messages it has, and how many are new and unread.
-fn opening_line(alloc: Global, desk: &Desk) -> Result<Text, Memory>
-    ensures { IfOk result (λ line. line ≡ opening_line desk.now) }
-{
-    let rows = desk.shown.rows.items();
-    let mut buffer = Buffer::new();
-    let mut line = Text::copy(alloc, b"\"")?;
-    line.push(desk.folder.name.bytes())?;
-    line.push(b"\": ")?;
-    line.push(buffer.format(rows.len()).as_bytes())?;
-    line.push(b" messages, ")?;
-    line.push(buffer.format(count_in(rows, State::New)).as_bytes())?;
-    line.push(b" new, ")?;
-    line.push(buffer.format(count_in(rows, State::Unread)).as_bytes())?;
-    line.push(b" unread\n")?;
-    Ok(line)
-}
 
 // Puts the page of the current message, where there is one.
 fn put_page(alloc: Global, out: &mut Text, desk: &Desk) -> Result<(), Memory>
@@ -58,5 +33,30 @@ pub(crate) fn greeting(alloc: Global, desk: &Desk) -> Result<Text, Memory>
     }
     let mut out = opening_line(alloc, desk)?;
     put_page(alloc, &mut out, desk)?;
+    Ok(out)
+}
+
+// Puts the page of the current message where `header` is set.
+fn put_page_by_header(alloc: Global, out: &mut Text, desk: &Desk) -> Result<(), Memory>
+    requires { IsDesk desk.now }
+    ensures { OnOk result (out.new ≡ out.old ++
+        (if is_set desk.now.vars (codes "header") then page_or_none (current_page desk.now) else [])) }
+{
+    if desk.vars.flag(b"header") {
+        put_page(alloc, out, desk)
+    } else {
+        Ok(())
+    }
+}
+
+/// The opening line, and with `header` set the page of the current message, behind a reply.
+pub(crate) fn announcement(alloc: Global, desk: &Desk, reply: &[u8]) -> Result<Text, Memory>
+    requires { IsDesk desk.now }
+    ensures { IfOk result (λ text. text ≡ reply.now ++ announcement desk.now) }
+{
+    let line = opening_line(alloc, desk)?;
+    let mut out = Text::copy(alloc, reply)?;
+    out.push(line.bytes())?;
+    put_page_by_header(alloc, &mut out, desk)?;
     Ok(out)
 }

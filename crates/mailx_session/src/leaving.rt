@@ -41,7 +41,7 @@ fn end_by<H: Host>(host: &mut H, asked: Asked) -> Result<Status, RunError>
     ensures cause { LineCaused (H.world.counts host.old) (H.world.counts host.new) result }
 {
     match asked {
-        Asked::On => Ok(Status::Done),
+        Asked::On | Asked::Over => Ok(Status::Done),
         Asked::Refused { line } => end_refused(host, &line),
         Asked::Ended(status) => Ok(status),
     }

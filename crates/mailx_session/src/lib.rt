@@ -16,6 +16,7 @@ mod session;
 mod sourcing;
 mod state;
 mod status;
+mod switching;
 
 pub use error::RunError;
 pub use flow::Flow;

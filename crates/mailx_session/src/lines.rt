@@ -1,5 +1,5 @@
 // Lines as they are carried out: one of the input, and then those that wait.
-ghost use Rattle.std.specs.Prelude.{◌≡◌, ◌≤◌, ◌≢◌, List, ℕ, [], false, Ok, Err, IfOk, OnOk, OnErr};
+ghost use Rattle.std.specs.Prelude.{◌≡◌, ◌≤◌, ◌≢◌, List, ℕ, [], false, Ok, Err, IfErr, IfOk, OnErr, OnOk, take};
 ghost use Rattle.std.specs.List.{list_all, list_any};
 ghost use Rattle.mail_text.specs.Ascii.{is_blank};
 ghost use Rattle.host_port.specs.Ran.{Ran};
@@ -10,7 +10,7 @@ ghost use Rattle.command_desk.specs.Effects.{effect};
 ghost use Rattle.read_commands.specs.Origins.{commanded};
 ghost use Rattle.read_commands.specs.declared.origin.Origin.{Origin};
 ghost use Rattle.mailx_session.specs.Pending.{IsTaken};
-ghost use Rattle.mailx_session.specs.States.{IsState, IsSession, resumed, rested, KeepsOthers};
+ghost use Rattle.mailx_session.specs.States.{IsState, IsSession, resumed, rested, settled, with_frames, KeepsOthers};
 ghost use Rattle.mailx_session.specs.Sourcing.{brings, brings_lines, room, weight};
 ghost use Rattle.mailx_session.specs.Rounds.{line_play, typed_play, dropped_play, counted_play, is_idle, waiting_play, WaitingGo, LineGoes};
 ghost use Rattle.mailx_session.specs.Sessions.{carried_out, next_of, in_play, LineCaused, EndsByLine, StaysAtEnd, DoesNothing};
@@ -21,7 +21,7 @@ use crate::state::{cut_to, drop_lines};
 use crate::{Flow, RunError, SessionState, WaitingLine};
 use host_port::Host;
 use mail_text::{Memory, Text, is_blank};
-use read_commands::{Origin, Refusal, Steps, passes_over, perform_line};
+use read_commands::{Effects, Origin, Refusal, Steps, passes_over, perform_line};
 use std::alloc::Global;
 
 /// The most commands that one input line gives.
@@ -37,6 +37,24 @@ fn refuse<H: Host>(state: &SessionState, host: &mut H, line: &Text) -> Result<Fl
     match say(host, line.bytes()) {
         Ok(()) => Ok(Flow::Go),
         Err(error) => Err(error),
+    }
+}
+
+// Makes the changes of a command once what it asked for was done. After want of memory the lines that it brought are
+// gone: the first `depth` frames stay.
+fn settle(state: &mut SessionState, depth: usize, effects: Effects) -> Result<(), RunError>
+    requires before { IsDesk state.old.desk }
+    requires after { IsDesk (effect state.old.desk effects) }
+    ensures ok { OnOk result (state.new ≡ settled state.old effects) }
+    ensures err { IfErr result (λ e. e ≡ RunError.Memory) }
+    ensures back { OnErr result (state.new ≡ with_frames state.old (take depth state.old.frames)) }
+{
+    match state.desk.settle(effects) {
+        Ok(()) => Ok(()),
+        Err(Memory) => {
+            state.frames.cut(depth);
+            Err(RunError::Memory)
+        }
     }
 }
 
@@ -61,11 +79,13 @@ fn carry_out<H: Host>(
     ensures cause { LineCaused (H.world.counts host.old) (H.world.counts host.new) result }
 {
     let Steps { asks, effects } = steps;
+    let depth = state.frames.depth();
     match do_asks(alloc, state, host, asks.items()) {
-        Ok(Asked::On) => {
-            state.desk.settle(effects);
-            Ok(Flow::Go)
-        }
+        Ok(Asked::On) => match settle(state, depth, effects) {
+            Ok(()) => Ok(Flow::Go),
+            Err(error) => Err(error),
+        },
+        Ok(Asked::Over) => Ok(Flow::Go),
         Ok(Asked::Refused { line }) => refuse(state, host, &line),
         Ok(Asked::Ended(status)) => Ok(Flow::End(status)),
         Err(error) => Err(error),

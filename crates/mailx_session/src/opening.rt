@@ -6,10 +6,12 @@ ghost use Rattle.mail_dates.specs.Clock.{IsInYears};
 ghost use Rattle.mbox_scan.specs.Mailbox.{texts_of, message_limit};
 ghost use Rattle.session_play.specs.Knowing.{AreRows};
 ghost use Rattle.message_state.specs.declared.row.Row.{Row};
-ghost use Rattle.mailx_session.specs.Openings.{is_in, is_system, first_current, desk_with, state_with, IsKnownSize, plain, with_folder, with_page};
+ghost use Rattle.folder_commands.specs.Opening.{is_in};
+ghost use Rattle.mailx_session.specs.Openings.{is_system, first_current, desk_with, state_with, IsKnownSize, IsOpening, plain, with_folder, with_page, page_at};
 ghost use Rattle.command_desk.specs.Desks.{IsDesk};
 
 use crate::{Frames, SessionState};
+use alias_groups::{Aliases, Own};
 use mail_text::{Items, Memory, Text};
 use mailx_vars::{Places, Vars};
 use mbox_scan::Folder;
@@ -18,6 +20,17 @@ use message_state::{Mark, Order, Row, RowList, Shown, State, row_of};
 use rc_conditionals::Conditions;
 use read_commands::{Desk, Open, Refusal, page_of, page_size};
 use std::alloc::Global;
+
+/// What is to be put on the desk for a folder.
+#[derive(Drop)]
+pub(crate) struct Opening {
+    /// How many messages a page has, where that is known.
+    pub(crate) size: Option<usize>,
+    /// The folder.
+    pub(crate) folder: Open,
+    /// Its messages as they are shown.
+    pub(crate) shown: Shown,
+}
 
 /// Whether the file of this name is the system mailbox. Where mbox has that name too it counts as another folder, so
 /// that nothing is moved within one file.
@@ -43,6 +56,7 @@ fn first_desk(alloc: Global, places: Places, terminal: bool) -> Result<Desk, Mem
             folder,
             marks: Items::new(alloc),
         },
+        previous: Text::new(alloc),
         shown: Shown {
             rows: RowList::new(alloc),
             order: Order::new(alloc),
@@ -50,6 +64,11 @@ fn first_desk(alloc: Global, places: Places, terminal: bool) -> Result<Desk, Mem
             current: 0,
         },
         vars: Vars::new(alloc)?,
+        aliases: Aliases::new(alloc),
+        own: Own {
+            user: Text::copy(alloc, places.user.bytes())?,
+            alternates: Items::new(alloc),
+        },
         sets: FieldSets::new(alloc),
         conditions: Conditions::new(),
         terminal,
@@ -173,6 +192,47 @@ pub(crate) fn plain_view(alloc: Global, rows: Items<Row>) -> Result<Shown, Memor
     })
 }
 
+/// What is to be put on a desk for a folder that was loaded from the file of this name.
+pub(crate) fn opening_of(
+    alloc: Global,
+    desk: &Desk,
+    name: Text,
+    folder: Folder,
+) -> Result<Opening, Memory>
+    requires { IsDesk desk.now }
+    ensures { IfOk result (IsOpening desk.now name folder) }
+{
+    let size = known_page_size(alloc, desk)?;
+    let rows = rows_of(alloc, &folder)?;
+    let marks = marks_of(alloc, rows.items())?;
+    let shown = plain_view(alloc, rows)?;
+    let system = is_system(&desk.places, name.bytes());
+    let folder = Open {
+        name,
+        system,
+        folder,
+        marks,
+    };
+    Ok(Opening {
+        size,
+        folder,
+        shown,
+    })
+}
+
+/// The page of the current message, where the size of a page is known.
+pub(crate) fn page_here(desk: &Desk, size: Option<usize>) -> usize
+    requires size { IsKnownSize (page_size desk.now) size }
+    requires some { IfSome size (λ n. 0 < n) }
+    requires desk { IsDesk desk.now }
+    ensures { result ≡ page_at desk.now (page_size desk.now) }
+{
+    match size {
+        Some(size) => page_of(desk, desk.shown.current, size),
+        None => 0,
+    }
+}
+
 /// Puts a folder on the desk, whose messages are shown so. The page is that of the current message, where the size of
 /// a page is known.
 pub(crate) fn put_folder(desk: &mut Desk, size: Option<usize>, folder: Open, shown: Shown)
@@ -185,9 +245,5 @@ pub(crate) fn put_folder(desk: &mut Desk, size: Option<usize>, folder: Open, sho
     desk.folder = folder;
     desk.shown = shown;
     desk.fresh = true;
-    let page = match size {
-        Some(size) => page_of(desk, desk.shown.current, size),
-        None => 0,
-    };
-    desk.page = page;
+    desk.page = page_here(desk, size);
 }

@@ -46,8 +46,12 @@ fn name_fault(alloc: Global, actor: &[u8], name: &[u8]) -> Result<Option<Text>, 
     }
 }
 
-// The line of the first of these changes whose file's name is at fault.
-fn names_fault(alloc: Global, actor: &[u8], changes: &[Change]) -> Result<Option<Text>, Memory>
+/// The line of the first of these changes whose file's name is at fault.
+pub(crate) fn names_fault(
+    alloc: Global,
+    actor: &[u8],
+    changes: &[Change],
+) -> Result<Option<Text>, Memory>
     ensures { IfOk result (λ fault. fault ≡ names_fault actor.now changes.now) }
 {
     for change in changes {
@@ -152,8 +156,8 @@ fn followed(
     }
 }
 
-// Commits changes of files whose names were tested.
-fn commit<H: Host>(
+/// Commits changes of files whose names were tested.
+pub(crate) fn commit<H: Host>(
     alloc: Global,
     state: &SessionState,
     host: &mut H,

@@ -18,16 +18,13 @@ ghost use Rattle.mailx_session.specs.Openings.{first_state, greeting, Opens};
 use crate::greeting::greeting;
 use crate::leaving::leave;
 use crate::lines::input_line;
-use crate::opening::{
-    first_state, is_system, known_page_size, marks_of, plain_view, put_folder, rows_of,
-};
-use crate::state::drop_lines;
-use crate::{Flow, RunError, SessionState, Status};
+use crate::opening::{first_state, opening_of, put_folder};
+use crate::{Flow, Frames, RunError, SessionState, Status};
 use host_port::Host;
 use mail_text::{Memory, Text};
 use mailx_vars::Places;
 use mbox_scan::Folder;
-use read_commands::{Desk, Open};
+use read_commands::Desk;
 use std::alloc::Global;
 use std::marker::Model;
 
@@ -86,18 +83,13 @@ impl Session {
         ensures ok { OnOk result (Opens self.old name folder self.new) }
         ensures err { OnErr result (self.new ≡ self.old) }
     {
-        let size = known_page_size(self.alloc, &self.state.desk)?;
-        let rows = rows_of(self.alloc, &folder)?;
-        let marks = marks_of(self.alloc, rows.items())?;
-        let shown = plain_view(self.alloc, rows)?;
-        let system = is_system(&self.state.desk.places, name.bytes());
-        let folder = Open {
-            name,
-            system,
-            folder,
-            marks,
-        };
-        put_folder(&mut self.state.desk, size, folder, shown);
+        let opening = opening_of(self.alloc, &self.state.desk, name, folder)?;
+        put_folder(
+            &mut self.state.desk,
+            opening.size,
+            opening.folder,
+            opening.shown,
+        );
         Ok(())
     }
 

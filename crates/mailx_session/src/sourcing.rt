@@ -45,6 +45,7 @@ fn bring(state: &mut SessionState, text: Text) -> Result<Asked, Memory>
     ensures on { IfOk result (λ asked. asked ≡ Asked.On) }
     ensures ok { IfOk result (λ asked. state.new ≡ with_source state.old text) }
     ensures brings { OnlyBrings state.old state.new }
+    ensures desk { state.new.desk ≡ state.old.desk }
     ensures err { OnErr result (state.new ≡ state.old) }
 {
     // the clause `brings` speaks of how many lines a text can have
@@ -67,6 +68,7 @@ fn after_load(
     requires { sources state.old.frames < source_limit }
     ensures means { IfOk result (λ asked. after_asks state.new asked ≡ after_load state.old name.now found) }
     ensures brings { OnlyBrings state.old state.new }
+    ensures desk { state.new.desk ≡ state.old.desk }
     ensures end { IfOk result EndsByAsk }
 {
     match found {
@@ -94,6 +96,7 @@ fn load_lines<H: Host>(
         (λ es. Goes (sourced state.old name.now None) es (in_play (after_asks state.new) result)) }
     ensures fall { NeverFall (H.world.counts host.old) (H.world.counts host.new) }
     ensures brings { OnlyBrings state.old state.new }
+    ensures desk { state.new.desk ≡ state.old.desk }
     ensures end { IfOk result EndsByAsk }
     ensures cause { LineCaused (H.world.counts host.old) (H.world.counts host.new) result }
 {
@@ -118,6 +121,7 @@ pub(crate) fn source<H: Host>(
         (in_play (after_asks state.new) result)) }
     ensures fall { NeverFall (H.world.counts host.old) (H.world.counts host.new) }
     ensures brings { OnlyBrings state.old state.new }
+    ensures desk { state.new.desk ≡ state.old.desk }
     ensures end { IfOk result EndsByAsk }
     ensures cause { LineCaused (H.world.counts host.old) (H.world.counts host.new) result }
 {

@@ -3,6 +3,8 @@
 pub enum Status {
     /// The session ended by its meaning.
     Done,
+    /// There is no mail in the system mailbox.
+    NoMail,
     /// The words of the command line or the environment are refused.
     Usage,
     /// Input could not be read.
@@ -33,6 +35,7 @@ impl Status {
     {
         match self {
             Status::Done => 0,
+            Status::NoMail => 1,
             Status::Usage => 2,
             Status::InputFault => 3,
             Status::OutputFault => 4,

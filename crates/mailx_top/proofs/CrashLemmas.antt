@@ -28,7 +28,7 @@ use Rattle.session_play.specs.Input.{Input}
 use Rattle.session_play.specs.Acts.{AllEnds, is_neutral, may_load}
 use Rattle.session_play.specs.Committing.{Commit}
 use Rattle.session_play.specs.Play.{Play, Ret, Ask, Line, Next, Go, Last, bind}
-use Rattle.session_play.specs.Steps.{After, On, Refused, Ended, onward, in_order, concluded}
+use Rattle.session_play.specs.Steps.{After, On, Over, Refused, Ended, onward, in_order, concluded}
 use Rattle.session_play.proofs.ShapeLemmas.{bind-ends, weaker-acts, may-neutral}
 use Rattle.play_safety.specs.Safe.{IsBy, EachCommit, NextKeeps, MayRun, IsCrashSafe}
 use Rattle.play_safety.proofs.TraceLemmas.{parted}
@@ -55,17 +55,21 @@ use Rattle.mailx_session.specs.States.{settled, resumed, with_count, rested, com
 use Rattle.mailx_session.specs.Saving.{names_fault, is_changed, commit_of, after_commit, saved}
 use Rattle.mailx_session.proofs.NameLemmas.{named-files}
 use Rattle.mailx_session.specs.Sourcing.{source_fault, after_load, sourced}
+use Rattle.mailx_session.specs.Switching.{open_fault, loaded_folder, switched, announced, switched_to, switches}
+use Rattle.mailx_session.proofs.SwitchingLemmas.{open-fault-none}
 use Rattle.mailx_session.specs.Sessions.{asked, carried_out}
 use Rattle.folder_commands.specs.Leaving.{quit}
 use Rattle.mailx_session.specs.Leaving.{left_by, leaving}
 use Rattle.mailx_session.specs.Rounds.{line_play, typed_play, dropped_play, counted_play, is_idle, waiting_play}
 use Rattle.mailx_top.specs.declared.environment.Environment.{Environment}
-use Rattle.mailx_top.specs.Words.{Start, are_read, start_of}
-use Rattle.mailx_top.specs.Meaning.{RunState, Recovering, recovered, Opening, Reading, Leaving, round, last_round, opening, folder_name, with_name_or_fault, loaded, with_list, greeted, turn, line_round, with_input, prompted, first_of, actor_in}
-use Rattle.mailx_top.specs.Statuses.{line_at_stop, line_at_end}
+use Rattle.mailx_top.specs.declared.words.Manner.{Manner}
+use Rattle.mailx_top.specs.declared.words.Manner.TheVariants.{Silent, Rows, Quiet, Greeting}
+use Rattle.mailx_top.specs.Words.{Start, may_say, start_of}
+use Rattle.mailx_top.specs.Meaning.{RunState, Recovering, recovered, Opening, Reading, Leaving, round, last_round, opening, folder_name, with_name_or_fault, loaded, unheld, is_no_mail, with_list, greeted, turn, line_round, with_input, prompted, first_of, actor_in}
+use Rattle.mailx_top.specs.Statuses.{line_at_end}
 use Rattle.mailx_top.specs.Runs.{Ending, IsRun}
 use Rattle.mailx_top.specs.Crash.{IsSafe}
-use Rattle.mailx_top.proofs.EndLemmas.{last-looks, end-looks}
+use Rattle.mailx_top.proofs.EndLemmas.{cut-looks, end-looks, actor-same}
 use Rattle.mailx_top.proofs.LeavingLemmas.{any-ends}
 use Rattle.mailx_top.proofs.RoundLemmas.{loads-round}
 
@@ -76,6 +80,7 @@ IsOf actor token s = (s.actor ≡ actor) × (s.token ≡ token)
 -- what an ask or a line leaves is such a state
 abbrev AfterOf : List ℕ → ℕ → After SessionState Status → Type 0
 AfterOf actor token (On s) = IsOf actor token s
+AfterOf actor token (Over s) = IsOf actor token s
 AfterOf actor token (Refused line) = Unit {0}
 AfterOf actor token (Ended e) = Unit {0}
 
@@ -136,21 +141,55 @@ module _ (actor : List ℕ) (token : ℕ) where
   sourced-of s name (Some line) of = tt
   sourced-of s name None of = λ f. load-of s name f of
 
+  announced-commits : (reply : List ℕ) (desk : Desk) (a : After SessionState Status) → EachCommit (IsBy actor token) (announced reply desk a)
+  announced-commits reply desk (On s) = (tt, λ u. tt)
+  announced-commits reply desk (Over s) = tt
+  announced-commits reply desk (Refused line) = tt
+  announced-commits reply desk (Ended e) = tt
+
+  switched-commits : (s : SessionState) (name : List ℕ) (changes : List Change) (reply : List ℕ) (f : OrFault (List ℕ)) → names_fault s.actor changes ≡ None → IsOf actor token s
+      → EachCommit (IsBy actor token) (switched_to s name changes reply f)
+  switched-commits s name changes reply (Err line) plain of = tt
+  switched-commits s name changes reply (Ok bytes) plain of = (tt, λ rows. (commit-by s changes of plain, λ a. announced-commits reply (switched s.desk name bytes rows) (after_commit s changes a)))
+
+  switches-commits : (s : SessionState) (name : List ℕ) (changes : List Change) (reply : List ℕ) (fault : Option (List ℕ)) → open_fault s.actor name changes ≡ fault → IsOf actor token s
+      → EachCommit (IsBy actor token) (switches s name changes reply fault)
+  switches-commits s name changes reply (Some line) is of = tt
+  switches-commits s name changes reply None is of =
+      (tt, λ f. switched-commits s name changes reply (loaded_folder s.desk changes name f) (open-fault-none s.actor name changes is).1 of)
+
+  announced-of : (reply : List ℕ) (desk : Desk) (a : After SessionState Status) → AfterOf actor token a → AllEnds (AfterOf actor token) (announced reply desk a)
+  announced-of reply desk (On s) of = λ u. of
+  announced-of reply desk (Over s) of = of
+  announced-of reply desk (Refused line) of = of
+  announced-of reply desk (Ended e) of = of
+
+  switched-of : (s : SessionState) (name : List ℕ) (changes : List Change) (reply : List ℕ) (f : OrFault (List ℕ)) → IsOf actor token s → AllEnds (AfterOf actor token) (switched_to s name changes reply f)
+  switched-of s name changes reply (Err line) of = tt
+  switched-of s name changes reply (Ok bytes) of = λ rows a. announced-of reply (switched s.desk name bytes rows) (after_commit s changes a) (commit-of s changes a of)
+
+  switches-of : (s : SessionState) (name : List ℕ) (changes : List Change) (reply : List ℕ) (fault : Option (List ℕ)) → IsOf actor token s → AllEnds (AfterOf actor token) (switches s name changes reply fault)
+  switches-of s name changes reply (Some line) of = tt
+  switches-of s name changes reply None of = λ f. switched-of s name changes reply (loaded_folder s.desk changes name f) of
+
   ask-commits : (s : SessionState) (ask : asked_of.Ask) → IsOf actor token s → EachCommit (IsBy actor token) (asked s ask)
   ask-commits s (asks.Say bytes) of = (tt, λ u. tt)
   ask-commits s (asks.Commit changes) of = saved-commits s changes (names_fault s.actor changes) refl of
   ask-commits s (asks.Source name) of = sourced-commits s name (source_fault s.frames name)
+  ask-commits s (asks.Open name changes reply) of = switches-commits s name changes reply (open_fault s.actor name changes) refl of
   ask-commits s asks.Exit of = tt
 
   ask-of : (s : SessionState) (ask : asked_of.Ask) → IsOf actor token s → AllEnds (AfterOf actor token) (asked s ask)
   ask-of s (asks.Say bytes) of = λ u. of
   ask-of s (asks.Commit changes) of = saved-of s changes (names_fault s.actor changes) of
   ask-of s (asks.Source name) of = sourced-of s name (source_fault s.frames name) of
+  ask-of s (asks.Open name changes reply) of = switches-of s name changes reply (open_fault s.actor name changes) of
   ask-of s asks.Exit of = tt
 
   onward-commits : (l : List asked_of.Ask) → ((t : SessionState) → IsOf actor token t → EachCommit (IsBy actor token) (in_order asked t l)) → (a : After SessionState Status) → AfterOf actor token a
       → EachCommit (IsBy actor token) (onward (λ (t : SessionState). in_order asked t l) a)
   onward-commits l each (On t) of = each t of
+  onward-commits l each (Over t) of = tt
   onward-commits l each (Refused line) of = tt
   onward-commits l each (Ended e) of = tt
 
@@ -163,6 +202,7 @@ module _ (actor : List ℕ) (token : ℕ) where
   onward-of : (l : List asked_of.Ask) → ((t : SessionState) → IsOf actor token t → AllEnds (AfterOf actor token) (in_order asked t l)) → (a : After SessionState Status) → AfterOf actor token a
       → AllEnds (AfterOf actor token) (onward (λ (t : SessionState). in_order asked t l) a)
   onward-of l each (On t) of = each t of
+  onward-of l each (Over t) of = of
   onward-of l each (Refused line) of = tt
   onward-of l each (Ended e) of = tt
 
@@ -173,11 +213,13 @@ module _ (actor : List ℕ) (token : ℕ) where
 
   finished-commits : (s : SessionState) (effects : Effects) (a : After SessionState Status) → AfterOf actor token a → EachCommit (IsBy actor token) (concluded s (λ (t : SessionState). settled t effects) a)
   finished-commits s effects (On t) of = tt
+  finished-commits s effects (Over t) of = tt
   finished-commits s effects (Refused line) of = (tt, λ u. tt)
   finished-commits s effects (Ended e) of = tt
 
   finished-of : (s : SessionState) (effects : Effects) → IsOf actor token s → (a : After SessionState Status) → AfterOf actor token a → AllEnds (NextOf actor token) (concluded s (λ (t : SessionState). settled t effects) a)
   finished-of s effects begins (On t) of = of
+  finished-of s effects begins (Over t) of = of
   finished-of s effects begins (Refused line) of = λ u. begins
   finished-of s effects begins (Ended e) of = tt
 
@@ -257,6 +299,7 @@ module _ (actor : List ℕ) (token : ℕ) where
   -- the end of the input
   left-commits : (a : After SessionState Status) → AfterOf actor token a → EachCommit (IsBy actor token) (left_by a)
   left-commits (On s) of = tt
+  left-commits (Over s) of = tt
   left-commits (Refused line) of = (tt, λ u. tt)
   left-commits (Ended e) of = tt
 
@@ -269,9 +312,11 @@ module _ (actor : List ℕ) (token : ℕ) where
   last-of : (s : SessionState) → AllEnds (NextKeeps (StateOf actor token)) (last_round s)
   last-of s = bind-ends (λ (e : Status). Unit {0}) (NextKeeps (StateOf actor token)) (leaving s) (λ e. Ret (Last e)) (any-ends (leaving s)) (λ e t. tt)
 
-  greeted-of : (quiet : Bool) (s : SessionState) → IsOf actor token s → AllEnds (NextKeeps (StateOf actor token)) (greeted quiet s)
-  greeted-of true s of = of
-  greeted-of false s of = λ u. of
+  greeted-of : (manner : Manner) (s : SessionState) → IsOf actor token s → AllEnds (NextKeeps (StateOf actor token)) (greeted manner s)
+  greeted-of Silent s of = tt
+  greeted-of Rows s of = λ u. tt
+  greeted-of Quiet s of = of
+  greeted-of Greeting s of = λ u. of
 
   either-of : (b : Bool) (p q : Play (Next RunState Status)) → AllEnds (NextKeeps (StateOf actor token)) p → AllEnds (NextKeeps (StateOf actor token)) q → AllEnds (NextKeeps (StateOf actor token)) (if b then p else q)
   either-of true p q x y = x
@@ -280,12 +325,16 @@ module _ (actor : List ℕ) (token : ℕ) where
   list-of : (s : SessionState) (start : Start) (name bytes : List ℕ) (l : Option (List (List ℕ))) → IsOf actor token s → AllEnds (NextKeeps (StateOf actor token)) (with_list s start name bytes l)
   list-of s start name bytes None of = λ u. tt
   list-of s start name bytes (Some texts) of =
-      either-of (nat_lt message_limit (length texts)) _ _ (λ u. tt) (λ rows. greeted-of start.quiet (with_opened s name bytes rows) of)
+      either-of (nat_lt message_limit (length texts)) _ _ (λ u. tt) (λ rows. greeted-of start.manner (with_opened s name bytes rows) of)
+
+  unheld-of : (s : SessionState) (start : Start) (name : List ℕ) (bytes : Option (List ℕ)) (b : Bool) → IsOf actor token s → AllEnds (NextKeeps (StateOf actor token)) (unheld s start name bytes b)
+  unheld-of s start name bytes true of = λ u. tt
+  unheld-of s start name None false of = λ u. tt
+  unheld-of s start name (Some bytes) false of = list-of s start name bytes (list_of bytes) of
 
   loaded-of : (s : SessionState) (start : Start) (name : List ℕ) (f : Found) → IsOf actor token s → AllEnds (NextKeeps (StateOf actor token)) (loaded s start name f)
   loaded-of s start name (found.Bytes bytes true) of = λ u. tt
-  loaded-of s start name (found.Bytes None false) of = λ u. tt
-  loaded-of s start name (found.Bytes (Some bytes) false) of = list-of s start name bytes (list_of bytes) of
+  loaded-of s start name (found.Bytes bytes false) of = unheld-of s start name bytes (is_no_mail start.named bytes) of
   loaded-of s start name (found.TooLarge n) of = λ u. tt
 
   named-of : (s : SessionState) (start : Start) (name : OrFault (List ℕ)) → IsOf actor token s → AllEnds (NextKeeps (StateOf actor token)) (with_name_or_fault s start name)
@@ -320,24 +369,24 @@ pub round-of : (env : Environment) (x : RunState) → StateOf (actor_in env) env
 round-of env (Recovering None) of = tt
 round-of env (Recovering (Some start)) of = recovered-of (actor_in env) env.token start
 round-of env (Opening None) of = λ u. tt
-round-of env (Opening (Some start)) of = named-of (actor_in env) env.token (first_of env) start (folder_name (first_of env) start) (refl, refl)
+round-of env (Opening (Some start)) of = named-of (actor_in env) env.token (first_of env start.user) start (folder_name (first_of env start.user) start) (actor-same env start.user, refl)
 round-of env (Reading s i) of = line-of (actor_in env) env.token s i (taken s.frames) of
 round-of env (Leaving s i) of = last-of (actor_in env) env.token s
 
 -- what an ending adds only looks
-ending-looks : (actor : List ℕ) (read : Bool) (s : Status) (out : Result Status Stop) (es : List Event) → Ending actor read s out es → OnlyLooks es
-ending-looks actor read s (Ok e) es end = end-looks read (line_at_end actor e) es end.1
-ending-looks actor read s (Err cause) es end = last-looks read (line_at_stop cause) es end.1
+ending-looks : (actor : List ℕ) (may : Bool) (s : Status) (out : Result Status Stop) (es : List Event) → Ending actor may s out es → OnlyLooks es
+ending-looks actor may s (Ok e) es end = end-looks may (line_at_end actor e) es end.1
+ending-looks actor may s (Err cause) es end = cut-looks may cause es end.1
 
-pub safely : (words : List (List ℕ)) (env : Environment) (s : Status) (d : Disk) (es : List Event) → env.token < 2 ^ 64 → Honest d es → MayCommit (actor_in env) env.token d es → IsRun words env s (own es) → IsSafe words env s d es
-safely words env s d es fits honest may run =
+pub safely : (start : Option Start) (env : Environment) (s : Status) (d : Disk) (es : List Event) → env.token < 2 ^ 64 → Honest d es → MayCommit (actor_in env) env.token d es → IsRun start env s (own es) → IsSafe start env s d es
+safely start env s d es fits honest may run =
     let w = run.whole in
     let actor = actor_in env in
     let parts = parted es w.front w.behind w.is in
     let front = parts.0 in
     let rest = parts.1 in
     let read = read-loop (round env) d front parts.3 w.plays in
-    let ending = subst (Ending actor (are_read words) s w.out) (sym parts.4) w.ending in
+    let ending = subst (Ending actor (may_say start) s w.out) (sym parts.4) w.ending in
     let run_so : MayRun actor env.token d (front ++ rest) = record {
       fits = fits;
       fresh = may.fresh;
@@ -354,8 +403,8 @@ safely words env s d es fits honest may run =
       is = parts.2;
       plays = read.1;
       ending = ending;
-      answered = run-decided (round env) (Recovering (start_of words env.pairs)) actor env.token d front rest read.0 w.out (StateOf actor env.token)
+      answered = run-decided (round env) (Recovering (start_of start env.pairs)) actor env.token d front rest read.0 w.out (StateOf actor env.token)
           (round-commits env) (round-of env) tt run_so read.1;
-      safe = subst C (sym parts.2) (run-safe (round env) (Recovering (start_of words env.pairs)) actor env.token d front rest read.0 w.out (StateOf actor env.token)
-          (round-commits env) (round-of env) tt run_so read.1 (ending-looks actor (are_read words) s w.out (own rest) ending));
+      safe = subst C (sym parts.2) (run-safe (round env) (Recovering (start_of start env.pairs)) actor env.token d front rest read.0 w.out (StateOf actor env.token)
+          (round-commits env) (round-of env) tt run_so read.1 (ending-looks actor (may_say start) s w.out (own rest) ending));
     }

@@ -15,9 +15,9 @@ use Rattle.session_play.specs.declared.stop.Stop.TheVariants as stop
 use Rattle.std.specs.Prelude.{codes, ◌++◌, if◌then◌else◌, IfOk, IfSome, IfNone, IsSome}
 use Rattle.session_play.specs.Play.{Caused, Play, Ret, Ask, Goes, Next, Go, Last, Loop, again, last, cut}
 use Rattle.mailx_vars.specs.declared.environment.Places.{Places}
-use Rattle.mailx_vars.specs.Environment.{knows_user, places_in, places_of}
+use Rattle.mailx_vars.specs.Environment.{Pairs, knows_user, places_in, places_of}
 use Rattle.mailx_top.specs.declared.environment.Environment.{Environment}
-use Rattle.mailx_top.specs.Meaning.{actor_in, next_state, after_recovery}
+use Rattle.mailx_top.specs.Meaning.{actor_in, first_of, pairs_for, next_state, after_recovery}
 use Rattle.mailx_session.specs.declared.state.SessionState.{SessionState}
 use Rattle.session_play.specs.Input.{Input}
 use Rattle.session_play.specs.Cuts.{IsLoadCut}
@@ -29,10 +29,10 @@ use Rattle.mailx_session.specs.Sessions.{LineCaused, stop_of}
 use Rattle.mailx_session.specs.Statuses.{IsEnd, IsLineEnd}
 use Rattle.std.specs.declared.option.Option.{Option}
 use Rattle.std.specs.declared.option.Option.TheVariants.{Some, None}
-use Rattle.mailx_top.specs.Statuses.{status_at_stop}
+use Rattle.mailx_top.specs.Statuses.{status_at_stop, line_at_stop}
 use Rattle.mailx_top.specs.Usage.{IsSayCut, IsStartCut, IsStartEnd, EndsOr, EndsOrOpens, StopsAtStart, EndsUnopened, EndsAsNamed, IsBadName, IsOrCut, IsUnopened}
 use Rattle.mailx_top.specs.Words.{Start}
-use Rattle.mailx_top.specs.Runs.{AsFar, SaysLast, SaysAtEnd}
+use Rattle.mailx_top.specs.Runs.{AsFar, SaysLast, SaysAtCut, SaysAtEnd, SaysUnlessIdle}
 
 pub said-far : (r : Result Unit OutFault) (bytes line : List ℕ) → bytes ≡ line → (d : Disk) (e : Event) → Said r bytes d e → Agrees d e × AsFar line (own (e ∷ []))
 said-far (Ok u) bytes line same d e is =
@@ -57,6 +57,32 @@ pub end-looks : (read : Bool) (line : Option (List ℕ)) (es : List Event) → S
 end-looks read None es is = subst OnlyLooks (sym is) tt
 end-looks read (Some line) es is = last-looks read line es is
 
+-- so does what is said at a cut
+pub cut-looks : (may : Bool) (cause : Stop) (es : List Event) → SaysAtCut may cause es → OnlyLooks es
+cut-looks may stop.Memory es (inl said) = last-looks may (line_at_stop stop.Memory) es said
+cut-looks may stop.Memory es (inr none) = subst OnlyLooks (sym none) tt
+cut-looks may stop.Input es said = last-looks may (line_at_stop stop.Input) es said
+cut-looks may stop.Output es said = last-looks may (line_at_stop stop.Output) es said
+cut-looks may stop.Disk es said = last-looks may (line_at_stop stop.Disk) es said
+cut-looks may stop.TooMuch es said = last-looks may (line_at_stop stop.TooMuch) es said
+
+-- the line of a cut is said
+pub cut-said : (may : Bool) (cause : Stop) (es : List Event) → SaysLast may (line_at_stop cause) es → SaysAtCut may cause es
+cut-said may stop.Memory es said = inl said
+cut-said may stop.Input es said = said
+cut-said may stop.Output es said = said
+cut-said may stop.Disk es said = said
+cut-said may stop.TooMuch es said = said
+
+far-some : {A : Type 0} (bytes : List ℕ) (es : List Event) → AsFar bytes es → es ≡ [] → A
+far-some bytes es (inl is) none = absurd (cc (is, none))
+far-some bytes es (inr part) none = absurd (let is = part.1 in cc (is, none))
+
+-- so it isn't left out
+pub cut-unless-idle : (may : Bool) (bytes : List ℕ) (cause : Stop) (front behind : List Event) → SaysLast may bytes behind → SaysUnlessIdle may (Err cause) front behind
+cut-unless-idle true bytes cause front behind said = λ is none. far-some bytes behind said none
+cut-unless-idle false bytes cause front behind said = λ is none. absurd (cc is)
+
 -- where memory is wanting at an end, the play is cut off there
 goes-short : {R : Type 0} (p : Play R) (es : List Event) (r : R) → Goes p es (Ok r) → Goes p es (Err stop.Memory)
 goes-short (Ret q) es r (none, end) = (none, inr refl)
@@ -72,6 +98,15 @@ loop-short round e is (cut goes) = absurd (cc is)
 pub named-short : (env : Environment) (start : Option Start) (s : Status) → EndsAsNamed env start (Ok s) → EndsAsNamed env start (Err stop.Memory)
 named-short env None s named = tt
 named-short env (Some start) s named = (tt, λ bad. tt)
+
+-- the actor is the same whatever user's mailbox is opened
+pub actor-same : (env : Environment) (user : Option (List ℕ)) → (first_of env user).actor ≡ actor_in env
+actor-same env None = refl
+actor-same env (Some user) = refl
+
+-- so is what is known of home folder and user
+pub user-known : (user : List ℕ) (pairs : Pairs) → knows_user (pairs_for (Some user) pairs) ≡ knows_user pairs
+user-known user pairs = refl
 
 -- the actor of a run whose places are read
 pub actor-read : (env : Environment) (places : Places) → Some places ≡ places_of env.pairs → places.home ++ codes "/.mailx" ≡ actor_in env
@@ -112,6 +147,7 @@ line-ends (Ok (Some e)) ends = go e ends
     go : (e : Status) → IsLineEnd e → IsEnd e
     go status.Done t = tt
     go status.BadRecord t = tt
+    go status.NoMail never = absurd never
     go status.Usage never = absurd never
     go status.InputFault never = absurd never
     go status.OutputFault never = absurd never
@@ -137,6 +173,7 @@ end-no-fault {A = A} env (Some start) s f named fault is = go f (subst IsEnd is 
   where
     go : (f : Status) → IsEnd f → IsFault f → A
     go status.Done e never = absurd never
+    go status.NoMail e never = absurd never
     go status.Refused e never = absurd never
     go status.NoFolder e never = absurd never
     go status.BadRecord e never = absurd never
@@ -153,6 +190,7 @@ only-usage env (Some start) s named is = absurd (subst IsEnd is named.0)
 
 or-same : (wanted s : Status) → s ≡ wanted → IsOrCut wanted s
 or-same wanted status.Done is = is
+or-same wanted status.NoMail is = is
 or-same wanted status.Usage is = is
 or-same wanted status.InputFault is = is
 or-same wanted status.OutputFault is = tt
@@ -184,6 +222,7 @@ unopened-end status.NoFolder u = tt
 unopened-end status.Refused u = tt
 unopened-end status.BadRecord u = tt
 unopened-end status.Done never = absurd never
+unopened-end status.NoMail never = absurd never
 unopened-end status.Usage never = absurd never
 unopened-end status.InputFault never = absurd never
 unopened-end status.OutputFault never = absurd never
@@ -224,6 +263,7 @@ start-unopened status.Refused e = tt
 start-unopened status.BadRecord e = tt
 start-unopened status.Done never = absurd never
 start-unopened status.NoFolder never = absurd never
+start-unopened status.NoMail never = absurd never
 start-unopened status.Usage never = absurd never
 start-unopened status.InputFault never = absurd never
 start-unopened status.OutputFault never = absurd never
@@ -236,6 +276,7 @@ start-end status.Refused e = tt
 start-end status.BadRecord e = tt
 start-end status.Done never = absurd never
 start-end status.NoFolder never = absurd never
+start-end status.NoMail never = absurd never
 start-end status.Usage never = absurd never
 start-end status.InputFault never = absurd never
 start-end status.OutputFault never = absurd never

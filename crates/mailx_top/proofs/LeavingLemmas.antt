@@ -12,7 +12,7 @@ use Rattle.session_play.specs.declared.changing.Committed.TheVariants as committ
 use Rattle.session_play.specs.Input.{Input}
 use Rattle.session_play.specs.Acts.{AllActs, AllEnds, Threads, may_load}
 use Rattle.session_play.specs.Play.{Play, Ret, Ask, Next, Go, Last, Goes, bind}
-use Rattle.session_play.specs.Steps.{After, On, Refused, Ended, onward, in_order}
+use Rattle.session_play.specs.Steps.{After, On, Over, Refused, Ended, onward, in_order}
 use Rattle.session_play.proofs.ShapeLemmas.{bind-acts, bind-threads, goes-ends}
 use Rattle.command_desk.specs.declared.steps.Ask as asked_of
 use Rattle.command_desk.specs.declared.steps.Ask.TheVariants as asks
@@ -30,6 +30,7 @@ use Rattle.mailx_top.proofs.LineLemmas.{asks-acts, asks-threads}
 
 left-acts : (a : After SessionState Status) → AllActs (may_load false) (left_by a)
 left-acts (On s) = tt
+left-acts (Over s) = tt
 left-acts (Refused line) = (refl, λ u. tt)
 left-acts (Ended e) = tt
 
@@ -40,6 +41,7 @@ last-acts s =
 
 left-threads : (i : Input) (a : After SessionState Status) (j : Input) → j ≡ i → Threads (Keeps i) j (left_by a)
 left-threads i (On s) j same = same
+left-threads i (Over s) j same = same
 left-threads i (Refused line) j same = (tt, λ u. same)
 left-threads i (Ended e) j same = same
 

@@ -5,6 +5,7 @@ pub mod LineLemmas
 pub mod LeavingLemmas
 pub mod OpeningLemmas
 pub mod OrderLemmas
+pub mod RunLemmas
 pub mod RoundLemmas
 pub mod WaitingLemmas
 pub mod RecoveringLemmas

@@ -4,7 +4,7 @@ use Rattle.std.specs.declared.result.Result.TheVariants.{Ok, Err}
 use Rattle.session_play.specs.Input.{Input}
 use Rattle.session_play.specs.Acts.{AllActs, AllEnds, Threads, may_load}
 use Rattle.session_play.specs.Play.{Next, Go, Last}
-use Rattle.session_play.specs.Steps.{After, On, Refused, Ended, onward, in_order, concluded}
+use Rattle.session_play.specs.Steps.{After, On, Over, Refused, Ended, onward, in_order, concluded}
 use Rattle.session_play.proofs.ShapeLemmas.{bind-acts, bind-ends, bind-threads}
 use Rattle.mailx_top.proofs.OrderLemmas.{Keeps, order-acts, order-ends, order-threads}
 use Rattle.mailx_session.specs.declared.state.SessionState.{SessionState}
@@ -20,6 +20,8 @@ use Rattle.mailx_session.specs.declared.status.Status.TheVariants.{Done, BadReco
 use Rattle.mailx_session.specs.Statuses.{IsLineEnd}
 use Rattle.mailx_session.specs.Saving.{names_fault, is_changed, after_commit, saved}
 use Rattle.mailx_session.specs.Sourcing.{source_fault, after_load, sourced}
+use Rattle.mailx_session.specs.Switching.{open_fault, loaded_folder, switched, announced, switched_to, switches}
+use Rattle.command_desk.specs.declared.desk.Desk.{Desk}
 use Rattle.session_play.specs.declared.act.Found.{Found}
 use Rattle.session_play.specs.declared.act.Found.TheVariants as found
 use Rattle.std.specs.Str.{bytes_eq}
@@ -42,6 +44,7 @@ After-line = After SessionState Status
 -- where an ask ends the run, it ends as a line ends it
 abbrev IsDone : After-line → Type 0
 IsDone (On s) = Unit {0}
+IsDone (Over s) = Unit {0}
 IsDone (Refused line) = Unit {0}
 IsDone (Ended s) = IsLineEnd s
 
@@ -93,23 +96,69 @@ sourced-threads : (s : SessionState) (name : List ℕ) (fault : Option (List ℕ
 sourced-threads s name (Some line) i = refl
 sourced-threads s name None i = (tt, λ f. refl)
 
+-- another file that is opened, or refused
+announced-acts : (reply : List ℕ) (desk : Desk) (a : After-line) → AllActs (may_load false) (announced reply desk a)
+announced-acts reply desk (On s) = (refl, λ u. tt)
+announced-acts reply desk (Over s) = tt
+announced-acts reply desk (Refused line) = tt
+announced-acts reply desk (Ended e) = tt
+
+switched-acts : (s : SessionState) (name : List ℕ) (changes : List Change) (reply : List ℕ) (f : OrFault (List ℕ)) → AllActs (may_load false) (switched_to s name changes reply f)
+switched-acts s name changes reply (Err line) = tt
+switched-acts s name changes reply (Ok bytes) = (refl, λ rows. (refl, λ a. announced-acts reply (switched s.desk name bytes rows) (after_commit s changes a)))
+
+switches-acts : (s : SessionState) (name : List ℕ) (changes : List Change) (reply : List ℕ) (fault : Option (List ℕ)) → AllActs (may_load false) (switches s name changes reply fault)
+switches-acts s name changes reply (Some line) = tt
+switches-acts s name changes reply None = (refl, λ f. switched-acts s name changes reply (loaded_folder s.desk changes name f))
+
+announced-ends : (reply : List ℕ) (desk : Desk) (a : After-line) → IsDone a → AllEnds IsDone (announced reply desk a)
+announced-ends reply desk (On s) d = λ u. tt
+announced-ends reply desk (Over s) d = d
+announced-ends reply desk (Refused line) d = d
+announced-ends reply desk (Ended e) d = d
+
+switched-ends : (s : SessionState) (name : List ℕ) (changes : List Change) (reply : List ℕ) (f : OrFault (List ℕ)) → AllEnds IsDone (switched_to s name changes reply f)
+switched-ends s name changes reply (Err line) = tt
+switched-ends s name changes reply (Ok bytes) = λ rows a. announced-ends reply (switched s.desk name bytes rows) (after_commit s changes a) (commit-ends s changes a)
+
+switches-ends : (s : SessionState) (name : List ℕ) (changes : List Change) (reply : List ℕ) (fault : Option (List ℕ)) → AllEnds IsDone (switches s name changes reply fault)
+switches-ends s name changes reply (Some line) = tt
+switches-ends s name changes reply None = λ f. switched-ends s name changes reply (loaded_folder s.desk changes name f)
+
+announced-threads : (reply : List ℕ) (desk : Desk) (a : After-line) (i : Input) → Threads (Keeps i) i (announced reply desk a)
+announced-threads reply desk (On s) i = (tt, λ u. refl)
+announced-threads reply desk (Over s) i = refl
+announced-threads reply desk (Refused line) i = refl
+announced-threads reply desk (Ended e) i = refl
+
+switched-threads : (s : SessionState) (name : List ℕ) (changes : List Change) (reply : List ℕ) (f : OrFault (List ℕ)) (i : Input) → Threads (Keeps i) i (switched_to s name changes reply f)
+switched-threads s name changes reply (Err line) i = refl
+switched-threads s name changes reply (Ok bytes) i = (tt, λ rows. (tt, λ a. announced-threads reply (switched s.desk name bytes rows) (after_commit s changes a) i))
+
+switches-threads : (s : SessionState) (name : List ℕ) (changes : List Change) (reply : List ℕ) (fault : Option (List ℕ)) (i : Input) → Threads (Keeps i) i (switches s name changes reply fault)
+switches-threads s name changes reply (Some line) i = refl
+switches-threads s name changes reply None i = (tt, λ f. switched-threads s name changes reply (loaded_folder s.desk changes name f) i)
+
 -- one ask
 ask-acts : (s : SessionState) (ask : asked_of.Ask) → AllActs (may_load false) (asked s ask)
 ask-acts s (asks.Say bytes) = (refl, λ u. tt)
 ask-acts s (asks.Commit changes) = saved-acts s changes (names_fault s.actor changes)
 ask-acts s (asks.Source name) = sourced-acts s name (source_fault s.frames name)
+ask-acts s (asks.Open name changes reply) = switches-acts s name changes reply (open_fault s.actor name changes)
 ask-acts s asks.Exit = tt
 
 ask-ends : (s : SessionState) (ask : asked_of.Ask) → AllEnds IsDone (asked s ask)
 ask-ends s (asks.Say bytes) = λ u. tt
 ask-ends s (asks.Commit changes) = saved-ends s changes (names_fault s.actor changes)
 ask-ends s (asks.Source name) = sourced-ends s name (source_fault s.frames name)
+ask-ends s (asks.Open name changes reply) = switches-ends s name changes reply (open_fault s.actor name changes)
 ask-ends s asks.Exit = tt
 
 ask-threads : (s : SessionState) (ask : asked_of.Ask) (i : Input) → Threads (Keeps i) i (asked s ask)
 ask-threads s (asks.Say bytes) i = (tt, λ u. refl)
 ask-threads s (asks.Commit changes) i = saved-threads s changes (names_fault s.actor changes) i
 ask-threads s (asks.Source name) i = sourced-threads s name (source_fault s.frames name) i
+ask-threads s (asks.Open name changes reply) i = switches-threads s name changes reply (open_fault s.actor name changes) i
 ask-threads s asks.Exit i = refl
 
 -- asks in order
@@ -127,16 +176,19 @@ changed effects s = settled s effects
 
 finished-acts : (s : SessionState) (effects : Effects) (a : After-line) → AllActs (may_load false) (concluded s (changed effects) a)
 finished-acts s effects (On t) = tt
+finished-acts s effects (Over t) = tt
 finished-acts s effects (Refused line) = (refl, λ u. tt)
 finished-acts s effects (Ended e) = tt
 
 finished-ends : (s : SessionState) (effects : Effects) (a : After-line) → IsDone a → AllEnds EndsByLine (concluded s (changed effects) a)
 finished-ends s effects (On t) d = tt
+finished-ends s effects (Over t) d = tt
 finished-ends s effects (Refused line) d = λ u. tt
 finished-ends s effects (Ended e) d = d
 
 finished-threads : (s : SessionState) (effects : Effects) (i : Input) (a : After-line) (j : Input) → j ≡ i → Threads (λ n j. j ≡ i) j (concluded s (changed effects) a)
 finished-threads s effects i (On t) j same = same
+finished-threads s effects i (Over t) j same = same
 finished-threads s effects i (Refused line) j same = (tt, λ u. same)
 finished-threads s effects i (Ended e) j same = same
 

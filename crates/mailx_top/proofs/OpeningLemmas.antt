@@ -1,7 +1,7 @@
 -- Why a run opened no folder, and why it was refused.
 use Rattle.std.proofs.lemmas.List.{append-nil}
 use Rattle.std.proofs.Common.{◌≡◌, ◌⊎◌, ◌||◌, ℕ, Bool, true, false, List, [], ◌∷◌, ◌++◌, length, refl, sym, ◌∙◌, ap, subst, inl, inr}
-use Rattle.std.specs.Prelude.{if◌then◌else◌, nat_lt, codes}
+use Rattle.std.specs.Prelude.{if◌then◌else◌, ◌&&◌, not, nat_lt, codes}
 use Rattle.std.specs.declared.option.Option.{Option}
 use Rattle.std.specs.declared.option.Option.TheVariants.{Some, None}
 use Rattle.std.specs.declared.result.Result.{Result}
@@ -31,8 +31,10 @@ use Rattle.mailx_session.specs.Pending.{taken}
 use Rattle.mailx_session.specs.States.{resumed}
 use Rattle.mailx_session.specs.Rounds.{typed_play, waiting_play}
 use Rattle.mailx_top.specs.declared.environment.Environment.{Environment}
+use Rattle.mailx_top.specs.declared.words.Manner.{Manner}
+use Rattle.mailx_top.specs.declared.words.Manner.TheVariants.{Silent, Rows, Quiet, Greeting}
 use Rattle.mailx_top.specs.Words.{Start}
-use Rattle.mailx_top.specs.Meaning.{RunState, first_of, Recovering, Opening, Reading, Leaving, round, opening, folder_name, with_name_or_fault, loaded, with_list, greeted, turn, next_turn, line_round, with_input, prompted, says_and_ends, is_opening, usage}
+use Rattle.mailx_top.specs.Meaning.{RunState, first_of, Recovering, Opening, Reading, Leaving, round, opening, folder_name, with_name_or_fault, loaded, unheld, is_no_mail, with_list, greeted, heard, ends_with, turn, next_turn, line_round, with_input, prompted, says_and_ends, is_opening, usage}
 use Rattle.session_play.specs.Acts.{AllActs, AllEnds, loads_nothing}
 use Rattle.session_play.specs.Causes.{some_load_saw, counted, events_at}
 use Rattle.session_play.proofs.SawLemmas.{Unseen, unseen-then, goes-unseen}
@@ -43,7 +45,7 @@ use Rattle.mailx_top.specs.Leavings.{first_answer, is_refused_at, refused_at_end
 use Rattle.mailx_top.proofs.LeavingLemmas.{any-ends, end_at, opened_end, last-ends}
 use Rattle.mailx_top.proofs.LineLemmas.{EndsByLine, typed-ends, waiting-ends}
 use Rattle.mailx_top.proofs.RoundLemmas.{loaded-acts}
-use Rattle.mailx_top.specs.Openings.{saw_held, is_no_list, saw_no_folder, OpensNone, EndsOrIsCut, IsOpeningExplained}
+use Rattle.mailx_top.specs.Openings.{saw_held, is_no_list, is_no_folder, is_named, saw_no_mail, saw_no_folder, OpensNoMail, OpensNone, EndsOrIsCut, IsOpeningExplained}
 use Rattle.mailx_top.specs.Usage.{IsNoName, IsBadName}
 
 abbrev pub IsReadingState : RunState → Type 0
@@ -55,6 +57,7 @@ IsReadingState (Leaving s i) = Unit {0}
 line-end : (e : Status) → IsLineEnd e → opened_end e ≡ status.Done
 line-end status.Done is = refl
 line-end status.BadRecord is = refl
+line-end status.NoMail never = absurd never
 line-end status.Usage never = absurd never
 line-end status.InputFault never = absurd never
 line-end status.OutputFault never = absurd never
@@ -68,6 +71,7 @@ line-end status.NoFolder never = absurd never
 other-end : (r e : Status) → opened_end r ≡ e → (e ≡ status.Done → ⊥) → r ≡ e
 other-end status.BadRecord e is other = absurd (other (sym is))
 other-end status.Done e is other = is
+other-end status.NoMail e is other = is
 other-end status.Usage e is other = is
 other-end status.InputFault e is other = is
 other-end status.OutputFault e is other = is
@@ -173,33 +177,40 @@ continues-with b e p es out ends (inl (y, goes, reads)) =
 continues-with b e p es out ends (inr (none, inl (r, is, goes))) = inr (none, subst (EndsLike e) (sym is) (goes-ends (EndsWith e) p es (Last r) ends goes))
 continues-with b e p es out ends (inr (none, inr (cause, is, goes))) = inr (none, subst (EndsLike e) (sym is) tt)
 
--- the end that the load of the folder leads to, if the run isn't cut off
-abbrev end_of_list : Option (List (List ℕ)) → Status
-end_of_list l = if is_no_list l then status.NoFolder else status.Done
+-- the end that the load of a file that isn't held leads to, if the run isn't cut off: there is no mail, or no folder, or it is opened
+abbrev end_by : Bool → Bool → Status
+end_by true none = status.NoMail
+end_by false true = status.NoFolder
+end_by false false = status.Done
 
-abbrev end_of : Found → Status
-end_of (found.Bytes bytes true) = status.Refused
-end_of (found.Bytes None false) = status.NoFolder
-end_of (found.Bytes (Some bytes) false) = end_of_list (list_of bytes)
-end_of (found.TooLarge n) = status.NoFolder
+abbrev end_of : Bool → Found → Status
+end_of named (found.Bytes bytes true) = status.Refused
+end_of named (found.Bytes bytes false) = end_by (is_no_mail named bytes) (is_no_folder bytes)
+end_of named (found.TooLarge n) = status.NoFolder
 
-greeted-ends : (quiet : Bool) (s : SessionState) → AllEnds (EndsWith status.Done) (greeted quiet s)
-greeted-ends true s = (tt, refl)
-greeted-ends false s = λ u. (tt, refl)
+greeted-ends : (manner : Manner) (s : SessionState) → AllEnds (EndsWith status.Done) (greeted manner s)
+greeted-ends Silent s = refl
+greeted-ends Rows s = λ u. refl
+greeted-ends Quiet s = (tt, refl)
+greeted-ends Greeting s = λ u. (tt, refl)
 
-list-ends : (s : SessionState) (start : Start) (name bytes : List ℕ) (l : Option (List (List ℕ))) → AllEnds (EndsWith (end_of_list l)) (with_list s start name bytes l)
+list-ends : (s : SessionState) (start : Start) (name bytes : List ℕ) (l : Option (List (List ℕ))) → AllEnds (EndsWith (end_by false (is_no_list l))) (with_list s start name bytes l)
 list-ends s start name bytes None = λ u. refl
 list-ends s start name bytes (Some texts) = go (nat_lt message_limit (length texts))
   where
-    go : (b : Bool) → AllEnds (EndsWith (if b then status.NoFolder else status.Done))
-        (if b then says_and_ends (with_feed (name ++ codes ": too many messages")) status.NoFolder else Ask (Know texts) (λ rows. greeted start.quiet (with_opened s name bytes rows)))
+    go : (b : Bool) → AllEnds (EndsWith (end_by false b))
+        (if b then ends_with start (with_feed (name ++ codes ": too many messages")) status.NoFolder else Ask (Know texts) (λ rows. greeted start.manner (with_opened s name bytes rows)))
     go true = λ u. refl
-    go false = λ rows. greeted-ends start.quiet (with_opened s name bytes rows)
+    go false = λ rows. greeted-ends start.manner (with_opened s name bytes rows)
 
-loaded-ends : (s : SessionState) (start : Start) (name : List ℕ) (f : Found) → AllEnds (EndsWith (end_of f)) (loaded s start name f)
+unheld-ends : (s : SessionState) (start : Start) (name : List ℕ) (bytes : Option (List ℕ)) (b : Bool) → AllEnds (EndsWith (end_by b (is_no_folder bytes))) (unheld s start name bytes b)
+unheld-ends s start name bytes true = λ u. refl
+unheld-ends s start name None false = λ u. refl
+unheld-ends s start name (Some bytes) false = list-ends s start name bytes (list_of bytes)
+
+loaded-ends : (s : SessionState) (start : Start) (name : List ℕ) (f : Found) → AllEnds (EndsWith (end_of start.named f)) (loaded s start name f)
 loaded-ends s start name (found.Bytes bytes true) = λ u. refl
-loaded-ends s start name (found.Bytes None false) = λ u. refl
-loaded-ends s start name (found.Bytes (Some bytes) false) = list-ends s start name bytes (list_of bytes)
+loaded-ends s start name (found.Bytes bytes false) = unheld-ends s start name bytes (is_no_mail start.named bytes)
 loaded-ends s start name (found.TooLarge n) = λ u. refl
 
 -- how an end and what was seen belong together
@@ -208,6 +219,8 @@ record Matches (env : Environment) (start : Option Start) (es : List Event) (e :
   held : some_load_saw saw_held es ≡ true → e ≡ status.Refused
   none : e ≡ status.NoFolder → OpensNone env start es
   opens_none : OpensNone env start es → e ≡ status.NoFolder
+  no_mail : e ≡ status.NoMail → OpensNoMail start es
+  opens_no_mail : OpensNoMail start es → e ≡ status.NoMail
 
 or-true : (a : Bool) → (a || true) ≡ true
 or-true true = refl
@@ -223,6 +236,8 @@ explained-cut env start es b out cause is = subst (λ o. IsOpeningExplained env 
   refused_always = λ h. tt;
   no_folder_only = λ e. absurd (cc e);
   no_folder_always = λ h. tt;
+  no_mail_only = λ e. absurd (cc e);
+  no_mail_always = λ h. tt;
 })
 
 -- a run that ended with its first round
@@ -232,6 +247,8 @@ explained-shut env start es (Ok r) e m same = record {
   refused_always = λ h. other-end r status.Refused (same ∙ m.held (sym (or-false (some_load_saw saw_held es)) ∙ h)) (λ e. absurd (cc e));
   no_folder_only = λ is. m.none (sym same ∙ ap opened_end (came-same r status.NoFolder is));
   no_folder_always = λ h. other-end r status.NoFolder (same ∙ m.opens_none h) (λ e. absurd (cc e));
+  no_mail_only = λ is. m.no_mail (sym same ∙ ap opened_end (came-same r status.NoMail is));
+  no_mail_always = λ h. other-end r status.NoMail (same ∙ m.opens_no_mail h) (λ e. absurd (cc e));
 }
 explained-shut env start es (Err cause) e m same = explained-cut env start es false (Err cause) cause refl
 
@@ -242,12 +259,16 @@ explained-open true env start es (Ok r) m same = record {
   refused_always = λ h. other-end r status.Refused same (λ e. absurd (cc e));
   no_folder_only = λ is. let e : status.Refused ≡ status.NoFolder = sym same ∙ ap opened_end (came-same r status.NoFolder is) in absurd (cc e);
   no_folder_always = λ h. absurd (cc (m.opens_none h));
+  no_mail_only = λ is. let e : status.Refused ≡ status.NoMail = sym same ∙ ap opened_end (came-same r status.NoMail is) in absurd (cc e);
+  no_mail_always = λ h. absurd (cc (m.opens_no_mail h));
 }
 explained-open false env start es (Ok r) m same = record {
   refused_only = λ is. let e : status.Done ≡ status.Refused = sym same ∙ ap opened_end (came-same r status.Refused is) in absurd (cc e);
   refused_always = λ h. absurd (cc (m.held (sym (or-false (some_load_saw saw_held es)) ∙ h)));
   no_folder_only = λ is. let e : status.Done ≡ status.NoFolder = sym same ∙ ap opened_end (came-same r status.NoFolder is) in absurd (cc e);
   no_folder_always = λ h. absurd (cc (m.opens_none h));
+  no_mail_only = λ is. let e : status.Done ≡ status.NoMail = sym same ∙ ap opened_end (came-same r status.NoMail is) in absurd (cc e);
+  no_mail_always = λ h. absurd (cc (m.opens_no_mail h));
 }
 explained-open b env start es (Err cause) m same = explained-cut env start es b (Err cause) cause refl
 
@@ -258,69 +279,95 @@ explained-as env start es b out e m (inr (none, same)) = subst (IsOpeningExplain
 no-end : {A : Type 0} (q : Bool) → q ≡ false → q ≡ true → A
 no-end q f t = absurd (cc (f, t))
 
-matches-none : (env : Environment) (es : List Event) → Unseen saw_held es → Unseen saw_no_folder es → Matches env None es status.Usage
-matches-none env es x y = record {
+-- the events of a play that loads nothing
+record LoadsNone (named : Bool) (es : List Event) : Type 0 where
+  held : Unseen saw_held es
+  folder : Unseen (saw_no_folder named) es
+  mail : Unseen (saw_no_mail named) es
+
+matches-none : (env : Environment) (es : List Event) → LoadsNone true es → Matches env None es status.Usage
+matches-none env es u = record {
   refused = λ is. absurd (cc is);
-  held = λ h. no-end _ x h;
+  held = λ h. no-end _ u.held h;
   none = λ is. absurd (cc is);
   opens_none = none-opens;
+  no_mail = λ is. absurd (cc is);
+  opens_no_mail = λ h. no-end _ u.mail h;
 }
   where
     none-opens : OpensNone env None es → status.Usage ≡ status.NoFolder
     none-opens (inl never) = absurd never
-    none-opens (inr h) = no-end _ y h
+    none-opens (inr h) = no-end _ u.folder h
 
-matches-bad : (env : Environment) (start : Start) (es : List Event) → IsBadName env (Some start) → Unseen saw_held es → Matches env (Some start) es status.NoFolder
-matches-bad env start es bad x = record {
+matches-bad : (env : Environment) (start : Start) (es : List Event) → IsBadName env (Some start) → LoadsNone start.named es → Matches env (Some start) es status.NoFolder
+matches-bad env start es bad u = record {
   refused = λ is. absurd (cc is);
-  held = λ h. no-end _ x h;
+  held = λ h. no-end _ u.held h;
   none = λ is. inl bad;
   opens_none = λ h. refl;
+  no_mail = λ is. absurd (cc is);
+  opens_no_mail = λ h. no-end _ u.mail h;
 }
 
-matches-found : (env : Environment) (start : Start) (name : List ℕ) (rest : List Event) (f : Found) → (IsBadName env (Some start) → ⊥) → Unseen saw_held rest → Unseen saw_no_folder rest
-    → Matches env (Some start) (event.Load name (seen_of f) ∷ rest) (end_of f)
-matches-found env start name rest (found.Bytes bytes true) good x y = record {
+matches-found : (env : Environment) (start : Start) (name : List ℕ) (rest : List Event) (f : Found) → (IsBadName env (Some start) → ⊥) → LoadsNone start.named rest
+    → Matches env (Some start) (event.Load name (seen_of f) ∷ rest) (end_of start.named f)
+matches-found env start name rest (found.Bytes bytes true) good u = record {
   refused = λ is. refl;
   held = λ h. refl;
   none = λ is. absurd (cc is);
   opens_none = opens;
+  no_mail = λ is. absurd (cc is);
+  opens_no_mail = λ h. no-end _ u.mail h;
 }
   where
     opens : OpensNone env (Some start) (event.Load name (seen.Bytes bytes true) ∷ rest) → status.Refused ≡ status.NoFolder
     opens (inl bad) = absurd (good bad)
-    opens (inr h) = no-end _ y h
-matches-found env start name rest (found.Bytes None false) good x y = record {
+    opens (inr h) = no-end _ u.folder h
+matches-found env start name rest (found.TooLarge n) good u = record {
   refused = λ is. absurd (cc is);
-  held = λ h. no-end _ x h;
+  held = λ h. no-end _ u.held h;
   none = λ is. inr refl;
   opens_none = λ h. refl;
+  no_mail = λ is. absurd (cc is);
+  opens_no_mail = λ h. no-end _ u.mail h;
 }
-matches-found env start name rest (found.TooLarge n) good x y = record {
-  refused = λ is. absurd (cc is);
-  held = λ h. no-end _ x h;
-  none = λ is. inr refl;
-  opens_none = λ h. refl;
-}
-matches-found env start name rest (found.Bytes (Some bytes) false) good x y = record {
-  refused = refuses (is_no_list (list_of bytes));
-  held = λ h. no-end _ x h;
-  none = nones (is_no_list (list_of bytes));
-  opens_none = opens (is_no_list (list_of bytes));
-}
+matches-found env start name rest (found.Bytes bytes false) good u =
+    let m = is_no_mail start.named bytes in
+    let n = is_no_folder bytes in
+    record {
+      refused = refuses m n;
+      held = λ h. no-end _ u.held h;
+      none = nones m n;
+      opens_none = opens m n;
+      no_mail = mails m n;
+      opens_no_mail = opens-mail m n;
+    }
   where
-    refuses : (b : Bool) → (if b then status.NoFolder else status.Done) ≡ status.Refused → some_load_saw saw_held rest ≡ true
-    refuses true is = absurd (cc is)
-    refuses false is = absurd (cc is)
+    refuses : (m n : Bool) → end_by m n ≡ status.Refused → some_load_saw saw_held rest ≡ true
+    refuses true n is = absurd (cc is)
+    refuses false true is = absurd (cc is)
+    refuses false false is = absurd (cc is)
 
-    nones : (b : Bool) → (if b then status.NoFolder else status.Done) ≡ status.NoFolder → IsBadName env (Some start) ⊎ ((b || some_load_saw saw_no_folder rest) ≡ true)
-    nones true is = inr refl
-    nones false is = absurd (cc is)
+    nones : (m n : Bool) → end_by m n ≡ status.NoFolder → IsBadName env (Some start) ⊎ (((not m && n) || some_load_saw (saw_no_folder start.named) rest) ≡ true)
+    nones true n is = absurd (cc is)
+    nones false true is = inr refl
+    nones false false is = absurd (cc is)
 
-    opens : (b : Bool) → IsBadName env (Some start) ⊎ ((b || some_load_saw saw_no_folder rest) ≡ true) → (if b then status.NoFolder else status.Done) ≡ status.NoFolder
-    opens true h = refl
-    opens false (inl bad) = absurd (good bad)
-    opens false (inr h) = no-end _ y h
+    opens : (m n : Bool) → IsBadName env (Some start) ⊎ (((not m && n) || some_load_saw (saw_no_folder start.named) rest) ≡ true) → end_by m n ≡ status.NoFolder
+    opens true n (inl bad) = absurd (good bad)
+    opens true n (inr h) = no-end _ u.folder h
+    opens false true h = refl
+    opens false false (inl bad) = absurd (good bad)
+    opens false false (inr h) = no-end _ u.folder h
+
+    mails : (m n : Bool) → end_by m n ≡ status.NoMail → (m || some_load_saw (saw_no_mail start.named) rest) ≡ true
+    mails true n is = refl
+    mails false true is = absurd (cc is)
+    mails false false is = absurd (cc is)
+
+    opens-mail : (m n : Bool) → (m || some_load_saw (saw_no_mail start.named) rest) ≡ true → end_by m n ≡ status.NoMail
+    opens-mail true n h = refl
+    opens-mail false n h = no-end _ u.mail h
 
 -- the load, and what follows it
 abbrev AfterLoad : Bool → List ℕ → (Found → Play (Next RunState Status)) → List Event → Result Status Stop → Type 0
@@ -344,37 +391,44 @@ continues-unseen test b p es out all (inl (y, goes, reads)) = goes-unseen test p
 continues-unseen test b p es out all (inr (none, inl (r, is, goes))) = goes-unseen test p es (Ok (Last r)) all goes
 continues-unseen test b p es out all (inr (none, inr (cause, is, goes))) = goes-unseen test p es (Err cause) all goes
 
+continues-blind : (named b : Bool) (p : Play (Next RunState Status)) (es : List Event) (out : Result Status Stop) → AllActs loads_nothing p → Continues b p es out → LoadsNone named es
+continues-blind named b p es out all goes = record {
+  held = continues-unseen saw_held b p es out all goes;
+  folder = continues-unseen (saw_no_folder named) b p es out all goes;
+  mail = continues-unseen (saw_no_mail named) b p es out all goes;
+}
+
 explained-found : (env : Environment) (s : SessionState) (start : Start) (name : List ℕ) (es : List Event) (b : Bool) (out : Result Status Stop) → (IsBadName env (Some start) → ⊥) → AfterLoad b name (loaded s start name) es out
     → IsOpeningExplained env (Some start) out es b
 explained-found env s start name es b out good (inr (cause, is)) = explained-cut env (Some start) es b out cause is
 explained-found env s start name es b out good (inl (f, rest, is, goes)) =
     let p = loaded s start name f in
-    let all = loaded-acts s start name f in
-    let x = continues-unseen saw_held b p rest out all goes in
-    let y = continues-unseen saw_no_folder b p rest out all goes in
+    let u = continues-blind start.named b p rest out (loaded-acts s start name f) goes in
     let E : List Event → Type 0 = λ es. IsOpeningExplained env (Some start) out es b in
-    subst E (sym is) (explained-as env (Some start) _ b out (end_of f) (matches-found env start name rest f good x y) (continues-with b (end_of f) p rest out (loaded-ends s start name f) goes))
+    let e = end_of start.named f in
+    subst E (sym is) (explained-as env (Some start) _ b out e (matches-found env start name rest f good u) (continues-with b e p rest out (loaded-ends s start name f) goes))
 
 explained-said : (env : Environment) (start : Option Start) (text : List ℕ) (e : Status) (es : List Event) (b : Bool) (out : Result Status Stop) → opened_end e ≡ e → Continues b (says_and_ends text e) es out
-    → (Unseen saw_held es → Unseen saw_no_folder es → Matches env start es e) → IsOpeningExplained env start out es b
+    → (LoadsNone (is_named start) es → Matches env start es e) → IsOpeningExplained env start out es b
 explained-said env start text e es b out plain goes to =
-    let x = continues-unseen saw_held b (says_and_ends text e) es out (refl, λ u. tt) goes in
-    let y = continues-unseen saw_no_folder b (says_and_ends text e) es out (refl, λ u. tt) goes in
-    explained-as env start es b out e (to x y) (continues-with b e (says_and_ends text e) es out (λ u. plain) goes)
+    let u = continues-blind (is_named start) b (says_and_ends text e) es out (refl, λ u. tt) goes in
+    explained-as env start es b out e (to u) (continues-with b e (says_and_ends text e) es out (λ u. plain) goes)
 
 explained-opening : (env : Environment) (start : Option Start) (es : List Event) (at_end : Bool) (out : Result Status Stop) → Continues at_end (opening env start) es out → IsOpeningExplained env start out es at_end
 explained-opening env None es at_end out goes = explained-said env None usage status.Usage es at_end out refl goes (matches-none env es)
-explained-opening env (Some start) es at_end out goes = word (folder_name (first_of env) start) refl goes
+explained-opening env (Some start) es at_end out goes = word (folder_name (first_of env start.user) start) refl goes
   where
-    said : (line : List ℕ) → IsBadName env (Some start) → Continues at_end (says_and_ends line status.NoFolder) es out → IsOpeningExplained env (Some start) out es at_end
-    said line bad goes = explained-said env (Some start) line status.NoFolder es at_end out refl goes (λ x y. matches-bad env start es bad x)
+    said : (line : List ℕ) → IsBadName env (Some start) → Continues at_end (ends_with start line status.NoFolder) es out → IsOpeningExplained env (Some start) out es at_end
+    said line bad goes = explained-said env (Some start) (heard start line) status.NoFolder es at_end out refl goes (λ u. matches-bad env start es bad u)
 
-    named : (name : List ℕ) → folder_name (first_of env) start ≡ Ok name → (b : Bool) → is_short_name name ≡ b
-        → Continues at_end (if b then Ask (Read name) (loaded (first_of env) start name) else says_and_ends (with_feed (name ++ codes ": bad name")) status.NoFolder) es out → IsOpeningExplained env (Some start) out es at_end
-    named name word true short goes = explained-found env (first_of env) start name es at_end out (λ bad. no-end _ (subst IsNoName word bad) short) (after-load at_end name (loaded (first_of env) start name) es out goes)
+    named : (name : List ℕ) → folder_name (first_of env start.user) start ≡ Ok name → (b : Bool) → is_short_name name ≡ b
+        → Continues at_end (if b then Ask (Read name) (loaded (first_of env start.user) start name) else ends_with start (with_feed (name ++ codes ": bad name")) status.NoFolder) es out → IsOpeningExplained env (Some start) out es at_end
+    named name word true short goes =
+        let s = first_of env start.user in
+        explained-found env s start name es at_end out (λ bad. no-end _ (subst IsNoName word bad) short) (after-load at_end name (loaded s start name) es out goes)
     named name word false bad goes = said (with_feed (name ++ codes ": bad name")) (subst IsNoName (sym word) bad) goes
 
-    word : (name : OrFault (List ℕ)) → folder_name (first_of env) start ≡ name → Continues at_end (with_name_or_fault (first_of env) start name) es out → IsOpeningExplained env (Some start) out es at_end
+    word : (name : OrFault (List ℕ)) → folder_name (first_of env start.user) start ≡ name → Continues at_end (with_name_or_fault (first_of env start.user) start name) es out → IsOpeningExplained env (Some start) out es at_end
     word (Ok name) is goes = named name is (is_short_name name) refl goes
     word (Err line) is goes = said line (subst IsNoName (sym is) tt) goes
 
@@ -386,14 +440,14 @@ next-of e (Ask act go) ends = λ a. next-of e (go a) (ends a)
 named-next : (s : SessionState) (start : Start) (name : OrFault (List ℕ)) → AllEnds ReadsNext (with_name_or_fault s start name)
 named-next s start (Ok name) = go (is_short_name name)
   where
-    go : (b : Bool) → AllEnds ReadsNext (if b then Ask (Read name) (loaded s start name) else says_and_ends (with_feed (name ++ codes ": bad name")) status.NoFolder)
-    go true = λ f. next-of (end_of f) (loaded s start name f) (loaded-ends s start name f)
+    go : (b : Bool) → AllEnds ReadsNext (if b then Ask (Read name) (loaded s start name) else ends_with start (with_feed (name ++ codes ": bad name")) status.NoFolder)
+    go true = λ f. next-of (end_of start.named f) (loaded s start name f) (loaded-ends s start name f)
     go false = λ u. tt
 named-next s start (Err line) = λ u. tt
 
 opening-next : (env : Environment) (start : Option Start) → AllEnds ReadsNext (opening env start)
 opening-next env None = λ u. tt
-opening-next env (Some start) = named-next (first_of env) start (folder_name (first_of env) start)
+opening-next env (Some start) = named-next (first_of env start.user) start (folder_name (first_of env start.user) start)
 
 pub opening-reads : (env : Environment) (start : Option Start) (y : RunState) (es : List Event) → Goes (opening env start) es (Ok (Go y)) → IsReadingState y
 opening-reads env start y es goes = goes-ends ReadsNext (opening env start) es (Go y) (opening-next env start) goes

@@ -3,11 +3,12 @@ use Rattle.std.proofs.Common.{◌≡◌, ℕ, Bool, List, [], ◌∷◌, refl, s
 use Rattle.session_play.specs.Input.{Input}
 use Rattle.session_play.specs.Acts.{AllActs, AllEnds, Threads}
 use Rattle.session_play.specs.Play.{Act, Play}
-use Rattle.session_play.specs.Steps.{After, On, Refused, Ended, onward, in_order}
+use Rattle.session_play.specs.Steps.{After, On, Over, Refused, Ended, onward, in_order}
 use Rattle.session_play.proofs.ShapeLemmas.{bind-acts, bind-ends, bind-threads}
 
 onward-acts : {S R : Type 0} (test : Act → Bool) (k : S → Play (After S R)) → ((s : S) → AllActs test (k s)) → (a : After S R) → AllActs test (onward k a)
 onward-acts test k all (On s) = all s
+onward-acts test k all (Over s) = tt
 onward-acts test k all (Refused line) = tt
 onward-acts test k all (Ended r) = tt
 
@@ -19,6 +20,7 @@ order-acts {S = S} test asked each s (a ∷ rest) =
 
 onward-ends : {S R : Type 0} (P : After S R → Type 0) (k : S → Play (After S R)) → ((s : S) → AllEnds P (k s)) → (a : After S R) → P a → AllEnds P (onward k a)
 onward-ends P k all (On s) p = all s
+onward-ends P k all (Over s) p = p
 onward-ends P k all (Refused line) p = p
 onward-ends P k all (Ended r) p = p
 
@@ -34,6 +36,7 @@ Keeps i t j = j ≡ i
 
 onward-threads : {S R : Type 0} (i : Input) (k : S → Play (After S R)) → ((s : S) → Threads (Keeps i) i (k s)) → (a : After S R) (j : Input) → j ≡ i → Threads (Keeps i) j (onward k a)
 onward-threads i k all (On s) j same = subst (λ (m : Input). Threads (Keeps i) m (k s)) (sym same) (all s)
+onward-threads i k all (Over s) j same = same
 onward-threads i k all (Refused line) j same = same
 onward-threads i k all (Ended r) j same = same
 

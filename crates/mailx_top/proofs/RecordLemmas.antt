@@ -28,7 +28,7 @@ use Rattle.session_play.specs.declared.stop.Stop.{Stop}
 use Rattle.session_play.specs.Input.{Input}
 use Rattle.session_play.specs.Committing.{answer_as}
 use Rattle.session_play.specs.Play.{Act, Answer, Line, Say, Read, Try, Changes, Recover, Know, Play, Ret, Ask, Did, Goes, Next, Go, Last, Loop, again, last, cut, bind}
-use Rattle.session_play.specs.Steps.{After, On, Refused, Ended, onward, in_order, concluded}
+use Rattle.session_play.specs.Steps.{After, On, Over, Refused, Ended, onward, in_order, concluded}
 use Rattle.session_play.proofs.ShapeLemmas.{came-same, goes-ends}
 use Rattle.play_safety.specs.Safe.{IsBy, OfCommit, EachCommit, NextKeeps}
 use Rattle.mailx_vars.specs.Names.{is_short_name}
@@ -50,14 +50,17 @@ use Rattle.mailx_session.specs.Waits.{Pending}
 use Rattle.mailx_session.specs.Pending.{taken}
 use Rattle.mailx_session.specs.States.{settled, resumed, with_count, rested, command_limit}
 use Rattle.mailx_session.specs.Saving.{names_fault, is_changed, after_commit, saved}
+use Rattle.mailx_session.specs.Switching.{open_fault, loaded_folder, switched, announced, switched_to, switches}
 use Rattle.mailx_session.specs.Sourcing.{source_fault, after_load, sourced}
 use Rattle.mailx_session.specs.Sessions.{asked, carried_out}
 use Rattle.folder_commands.specs.Leaving.{quit}
 use Rattle.mailx_session.specs.Leaving.{left_by, leaving}
 use Rattle.mailx_session.specs.Rounds.{line_play, typed_play, dropped_play, counted_play, is_idle, waiting_play}
 use Rattle.mailx_top.specs.declared.environment.Environment.{Environment}
+use Rattle.mailx_top.specs.declared.words.Manner.{Manner}
+use Rattle.mailx_top.specs.declared.words.Manner.TheVariants.{Silent, Rows, Quiet, Greeting}
 use Rattle.mailx_top.specs.Words.{Start}
-use Rattle.mailx_top.specs.Meaning.{RunState, Recovering, recovered, Opening, Reading, Leaving, round, last_round, opening, folder_name, with_name_or_fault, loaded, with_list, greeted, turn, line_round, with_input, prompted, first_of, actor_in}
+use Rattle.mailx_top.specs.Meaning.{RunState, Recovering, recovered, Opening, Reading, Leaving, round, last_round, opening, folder_name, with_name_or_fault, loaded, unheld, is_no_mail, with_list, greeted, turn, line_round, with_input, prompted, first_of, actor_in}
 use Rattle.mailx_top.specs.Starts.{is_bad_record}
 use Rattle.mailx_top.specs.Unreadable.{is_unreadable, met_unreadable, some_unreadable, some_unreadable_in, IsRecordExplained}
 use Rattle.mailx_top.proofs.CrashLemmas.{StateOf, round-commits, round-of}
@@ -178,6 +181,7 @@ is_for_record e = false
 
 abbrev after_ends : After SessionState Status → Bool
 after_ends (On s) = false
+after_ends (Over s) = false
 after_ends (Refused line) = false
 after_ends (Ended e) = is_for_record e
 
@@ -211,14 +215,32 @@ sourced-tells : (s : SessionState) (name : List ℕ) (fault : Option (List ℕ))
 sourced-tells s name (Some line) = refl
 sourced-tells s name None = λ f. load-tells s name f
 
+announced-tells : (reply : List ℕ) (desk : Desk) (a : After SessionState Status) → Tells after_ends (after_ends a) (announced reply desk a)
+announced-tells reply desk (On s) = λ u. refl
+announced-tells reply desk (Over s) = refl
+announced-tells reply desk (Refused line) = refl
+announced-tells reply desk (Ended e) = refl
+
+switched-tells : (s : SessionState) (name : List ℕ) (changes : List Change) (reply : List ℕ) (f : OrFault (List ℕ)) → Tells after_ends false (switched_to s name changes reply f)
+switched-tells s name changes reply (Err line) = refl
+switched-tells s name changes reply (Ok bytes) = λ rows.
+    let desk = switched s.desk name bytes rows in
+    bind-tells after_ends after_ends false (saved s changes None) (announced reply desk) (saved-tells s changes None) (announced-tells reply desk)
+
+switches-tells : (s : SessionState) (name : List ℕ) (changes : List Change) (reply : List ℕ) (fault : Option (List ℕ)) → Tells after_ends false (switches s name changes reply fault)
+switches-tells s name changes reply (Some line) = refl
+switches-tells s name changes reply None = λ f. switched-tells s name changes reply (loaded_folder s.desk changes name f)
+
 ask-tells : (s : SessionState) (ask : asked_of.Ask) → Tells after_ends false (asked s ask)
 ask-tells s (asks.Say bytes) = λ u. refl
 ask-tells s (asks.Commit changes) = saved-tells s changes (names_fault s.actor changes)
 ask-tells s (asks.Source name) = sourced-tells s name (source_fault s.frames name)
+ask-tells s (asks.Open name changes reply) = switches-tells s name changes reply (open_fault s.actor name changes)
 ask-tells s asks.Exit = refl
 
 onward-tells : (l : List asked_of.Ask) → ((t : SessionState) → Tells after_ends false (in_order asked t l)) → (a : After SessionState Status) → Tells after_ends (after_ends a) (onward (λ (t : SessionState). in_order asked t l) a)
 onward-tells l each (On t) = each t
+onward-tells l each (Over t) = refl
 onward-tells l each (Refused line) = refl
 onward-tells l each (Ended e) = refl
 
@@ -228,6 +250,7 @@ order-tells s (a ∷ rest) = bind-tells after_ends after_ends false (asked s a) 
 
 finished-tells : (s : SessionState) (effects : Effects) (a : After SessionState Status) → Tells next_ends (after_ends a) (concluded s (λ (t : SessionState). settled t effects) a)
 finished-tells s effects (On t) = refl
+finished-tells s effects (Over t) = refl
 finished-tells s effects (Refused line) = λ u. refl
 finished-tells s effects (Ended e) = refl
 
@@ -269,6 +292,7 @@ line-tells s i (Some p) =
 -- the end of the input
 left-tells : (a : After SessionState Status) → Tells is_for_record (after_ends a) (left_by a)
 left-tells (On s) = refl
+left-tells (Over s) = refl
 left-tells (Refused line) = λ u. refl
 left-tells (Ended e) = refl
 
@@ -281,18 +305,24 @@ either-tells : (b : Bool) (p q : Play (Next RunState Status)) → Tells next_end
 either-tells true p q x y = x
 either-tells false p q x y = y
 
-greeted-tells : (quiet : Bool) (s : SessionState) → Tells next_ends false (greeted quiet s)
-greeted-tells true s = refl
-greeted-tells false s = λ u. refl
+greeted-tells : (manner : Manner) (s : SessionState) → Tells next_ends false (greeted manner s)
+greeted-tells Silent s = refl
+greeted-tells Rows s = λ u. refl
+greeted-tells Quiet s = refl
+greeted-tells Greeting s = λ u. refl
 
 list-tells : (s : SessionState) (start : Start) (name bytes : List ℕ) (l : Option (List (List ℕ))) → Tells next_ends false (with_list s start name bytes l)
 list-tells s start name bytes None = λ u. refl
-list-tells s start name bytes (Some texts) = either-tells (nat_lt message_limit (length texts)) _ _ (λ u. refl) (λ rows. greeted-tells start.quiet (with_opened s name bytes rows))
+list-tells s start name bytes (Some texts) = either-tells (nat_lt message_limit (length texts)) _ _ (λ u. refl) (λ rows. greeted-tells start.manner (with_opened s name bytes rows))
+
+unheld-tells : (s : SessionState) (start : Start) (name : List ℕ) (bytes : Option (List ℕ)) (b : Bool) → Tells next_ends false (unheld s start name bytes b)
+unheld-tells s start name bytes true = λ u. refl
+unheld-tells s start name None false = λ u. refl
+unheld-tells s start name (Some bytes) false = list-tells s start name bytes (list_of bytes)
 
 loaded-tells : (s : SessionState) (start : Start) (name : List ℕ) (f : Found) → Tells next_ends false (loaded s start name f)
 loaded-tells s start name (found.Bytes bytes true) = λ u. refl
-loaded-tells s start name (found.Bytes None false) = λ u. refl
-loaded-tells s start name (found.Bytes (Some bytes) false) = list-tells s start name bytes (list_of bytes)
+loaded-tells s start name (found.Bytes bytes false) = unheld-tells s start name bytes (is_no_mail start.named bytes)
 loaded-tells s start name (found.TooLarge n) = λ u. refl
 
 named-tells : (s : SessionState) (start : Start) (name : OrFault (List ℕ)) → Tells next_ends false (with_name_or_fault s start name)
@@ -309,7 +339,7 @@ round-tells : (env : Environment) (x : RunState) → Tells next_ends false (roun
 round-tells env (Recovering None) = refl
 round-tells env (Recovering (Some start)) = λ a. recovered-tells start a
 round-tells env (Opening None) = λ u. refl
-round-tells env (Opening (Some start)) = named-tells (first_of env) start (folder_name (first_of env) start)
+round-tells env (Opening (Some start)) = named-tells (first_of env start.user) start (folder_name (first_of env start.user) start)
 round-tells env (Reading s i) = line-tells s i (taken s.frames)
 round-tells env (Leaving s i) = last-tells s
 
@@ -330,6 +360,7 @@ loop-told env fits of (cut goes) = tt
 for-record : (e : Status) → is_for_record e ≡ true → e ≡ status.BadRecord
 for-record status.BadRecord is = refl
 for-record status.Done is = absurd (cc is)
+for-record status.NoMail is = absurd (cc is)
 for-record status.Usage is = absurd (cc is)
 for-record status.InputFault is = absurd (cc is)
 for-record status.OutputFault is = absurd (cc is)

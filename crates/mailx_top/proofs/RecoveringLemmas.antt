@@ -31,7 +31,7 @@ use Rattle.mailx_session.specs.declared.status.Status.{Status}
 use Rattle.mailx_session.specs.declared.status.Status.TheVariants as status
 use Rattle.mailx_top.specs.declared.environment.Environment.{Environment}
 use Rattle.mailx_top.specs.Words.{Start}
-use Rattle.mailx_top.specs.Meaning.{RunState, Recovering, Opening, Reading, Leaving, round, recovered, actor_in, says_and_ends, usage, is_recovering, is_opening}
+use Rattle.mailx_top.specs.Meaning.{RunState, Recovering, Opening, Reading, Leaving, round, recovered, actor_in, heard, ends_with, says_and_ends, usage, is_recovering, is_opening}
 use Rattle.mailx_top.specs.Openings.{IsOpeningExplained}
 use Rattle.mailx_top.specs.Leavings.{refused_at_end}
 use Rattle.mailx_top.specs.Starts.{is_recovered, is_right_busy, is_bad_record, IsStartExplained}
@@ -94,6 +94,7 @@ with-recovery env start out recovery es b done opening =
       refused_only = λ is. or-right (is_right_busy recovery) (is_recovered recovery) done;
       bad_record_only = λ is. or-right (is_bad_record recovery) (is_recovered recovery) done;
       no_folder_only = λ is. done;
+      no_mail_only = λ is. done;
       done_only = λ is. done;
     }
 
@@ -120,6 +121,7 @@ explained-cut env start cause recovery es b opening = record {
   refused_only = λ e. absurd (cc e);
   bad_record_only = λ e. absurd (cc e);
   no_folder_only = λ e. absurd (cc e);
+  no_mail_only = λ e. absurd (cc e);
   done_only = λ e. absurd (cc e);
 }
 
@@ -131,6 +133,7 @@ ended-busy env start recovery name is = record {
   refused_only = λ e. ap (λ (r : Ending). is_right_busy r || is_recovered r) is;
   bad_record_only = λ e. absurd (cc e);
   no_folder_only = λ e. absurd (cc e);
+  no_mail_only = λ e. absurd (cc e);
   done_only = λ e. absurd (cc e);
 }
 
@@ -142,6 +145,7 @@ ended-bad env start recovery free not bad = record {
   refused_only = λ e. absurd (cc e);
   bad_record_only = λ e. ap (λ (b : Bool). b || is_recovered recovery) bad;
   no_folder_only = λ e. absurd (cc e);
+  no_mail_only = λ e. absurd (cc e);
   done_only = λ e. absurd (cc e);
 }
 
@@ -154,6 +158,7 @@ ended-usage env recovery es is = record {
   refused_only = λ e. absurd (cc e);
   bad_record_only = λ e. absurd (cc e);
   no_folder_only = λ e. absurd (cc e);
+  no_mail_only = λ e. absurd (cc e);
   done_only = λ e. absurd (cc e);
 }
 
@@ -240,7 +245,7 @@ module _ (env : Environment) (actor : List ℕ) (token : ℕ) (start : Start) wh
   ended-by (recovery.Done f) r front rest did (none, inl other) = absurd (cc other)
   ended-by (recovery.Done f) r front rest did (none, inr other) = absurd (cc other)
   ended-by (recovery.Busy name) r front rest did goes =
-      let said = said-so (with_feed (name ++ codes ": busy")) status.Refused r rest goes in
+      let said = said-so (heard start (with_feed (name ++ codes ": busy"))) status.Refused r rest goes in
       let told = told-behind actor front rest name (is-told actor token front (recovery_as (recovery.Busy name)) did) said.1 in
       subst (λ (r : Status). Explained env (Some start) (Ok r) (told_end actor (front ++ rest)) [] false) (sym said.0) (ended-busy env (Some start) (told_end actor (front ++ rest)) name told)
   ended-by recovery.NotARecord r front rest did (none, end) =
@@ -260,7 +265,7 @@ module _ (env : Environment) (actor : List ℕ) (token : ℕ) (start : Start) wh
   reaches (recovery.Done f) y front rest did (none, inl same) =
       reaches-with y (found f) front rest (go-same y (Opening (Some start)) (came-same (Go y) (Go (Opening (Some start))) same)) (is-told actor token front (recovery_as (recovery.Done f)) did) none
   reaches (recovery.Done f) y front rest did (none, inr other) = absurd (cc other)
-  reaches (recovery.Busy name) y front rest did goes = absurd (goes-ends Ends (says_and_ends (with_feed (name ++ codes ": busy")) status.Refused) rest (Go y) (λ u. tt) goes)
+  reaches (recovery.Busy name) y front rest did goes = absurd (goes-ends Ends (ends_with start (with_feed (name ++ codes ": busy")) status.Refused) rest (Go y) (λ u. tt) goes)
   reaches recovery.NotARecord y front rest did (none, inl other) = absurd (cc other)
   reaches recovery.NotARecord y front rest did (none, inr other) = absurd (cc other)
   reaches (recovery.TooLarge name n) y front rest did (none, inl other) = absurd (cc other)
@@ -291,6 +296,8 @@ cut-plain env start cause = record {
   refused_always = λ h. tt;
   no_folder_only = λ e. absurd (cc e);
   no_folder_always = λ h. tt;
+  no_mail_only = λ e. absurd (cc e);
+  no_mail_always = λ h. tt;
 }
 
 -- a run from its start tells how its recovery ended, and why it opened no folder

@@ -25,8 +25,10 @@ use Rattle.mailx_session.specs.Pending.{taken}
 use Rattle.mailx_session.specs.States.{resumed}
 use Rattle.mailx_session.specs.Rounds.{typed_play, waiting_play}
 use Rattle.mailx_top.specs.declared.environment.Environment.{Environment}
+use Rattle.mailx_top.specs.declared.words.Manner.{Manner}
+use Rattle.mailx_top.specs.declared.words.Manner.TheVariants.{Silent, Rows, Quiet, Greeting}
 use Rattle.mailx_top.specs.Words.{Start}
-use Rattle.mailx_top.specs.Meaning.{RunState, first_of, Recovering, recovering, recovered, Opening, Reading, Leaving, round, opening, folder_name, with_name_or_fault, loaded, with_list, greeted, turn, next_turn, line_round, with_input, prompted, input_of, is_opening}
+use Rattle.mailx_top.specs.Meaning.{RunState, first_of, Recovering, recovering, recovered, Opening, Reading, Leaving, round, opening, folder_name, with_name_or_fault, loaded, unheld, is_no_mail, with_list, greeted, turn, next_turn, line_round, with_input, prompted, input_of, is_opening}
 use Rattle.session_play.proofs.ShapeLemmas.{bind-acts, bind-threads, weaker-acts, may-all}
 use Rattle.mailx_session.specs.Leaving.{leaving}
 use Rattle.mailx_top.proofs.OrderLemmas.{Keeps}
@@ -40,19 +42,25 @@ both : (b : Bool) (p q : Play (Next RunState Status)) (i : Input) → On i p →
 both true p q i x y = x
 both false p q i x y = y
 
-threads-greeted : (quiet : Bool) (s : SessionState) → On no_input (greeted quiet s)
-threads-greeted true s = refl
-threads-greeted false s = (tt, λ u. refl)
+threads-greeted : (manner : Manner) (s : SessionState) → On no_input (greeted manner s)
+threads-greeted Silent s = tt
+threads-greeted Rows s = (tt, λ u. tt)
+threads-greeted Quiet s = refl
+threads-greeted Greeting s = (tt, λ u. refl)
 
 threads-list : (s : SessionState) (start : Start) (name bytes : List ℕ) (l : Option (List (List ℕ))) → On no_input (with_list s start name bytes l)
 threads-list s start name bytes None = (tt, λ u. tt)
 threads-list s start name bytes (Some texts) =
-    both (nat_lt message_limit (length texts)) _ _ no_input (tt, λ u. tt) (tt, λ rows. threads-greeted start.quiet (with_opened s name bytes rows))
+    both (nat_lt message_limit (length texts)) _ _ no_input (tt, λ u. tt) (tt, λ rows. threads-greeted start.manner (with_opened s name bytes rows))
+
+threads-unheld : (s : SessionState) (start : Start) (name : List ℕ) (bytes : Option (List ℕ)) (b : Bool) → On no_input (unheld s start name bytes b)
+threads-unheld s start name bytes true = (tt, λ u. tt)
+threads-unheld s start name None false = (tt, λ u. tt)
+threads-unheld s start name (Some bytes) false = threads-list s start name bytes (list_of bytes)
 
 threads-loaded : (s : SessionState) (start : Start) (name : List ℕ) (f : Found) → On no_input (loaded s start name f)
 threads-loaded s start name (found.Bytes bytes true) = (tt, λ u. tt)
-threads-loaded s start name (found.Bytes None false) = (tt, λ u. tt)
-threads-loaded s start name (found.Bytes (Some bytes) false) = threads-list s start name bytes (list_of bytes)
+threads-loaded s start name (found.Bytes bytes false) = threads-unheld s start name bytes (is_no_mail start.named bytes)
 threads-loaded s start name (found.TooLarge n) = (tt, λ u. tt)
 
 threads-named : (s : SessionState) (start : Start) (name : OrFault (List ℕ)) → On no_input (with_name_or_fault s start name)
@@ -61,7 +69,7 @@ threads-named s start (Err line) = (tt, λ u. tt)
 
 threads-opening : (env : Environment) (start : Option Start) → On no_input (opening env start)
 threads-opening env None = (tt, λ u. tt)
-threads-opening env (Some start) = threads-named (first_of env) start (folder_name (first_of env) start)
+threads-opening env (Some start) = threads-named (first_of env start.user) start (folder_name (first_of env start.user) start)
 
 threads-recovered : (start : Start) (a : RecoveryAnswer) → On no_input (recovered start a)
 threads-recovered start (recovery.Done found) = refl
@@ -111,19 +119,25 @@ either test false p q x y = y
 loads-less : {R : Type 0} (b : Bool) (p : Play R) → AllActs loads_nothing p → AllActs (may_load b) p
 loads-less b p all = weaker-acts loads_nothing (may_load b) (may-all b) p all
 
-greeted-acts : (quiet : Bool) (s : SessionState) → AllActs loads_nothing (greeted quiet s)
-greeted-acts true s = tt
-greeted-acts false s = (refl, λ u. tt)
+greeted-acts : (manner : Manner) (s : SessionState) → AllActs loads_nothing (greeted manner s)
+greeted-acts Silent s = tt
+greeted-acts Rows s = (refl, λ u. tt)
+greeted-acts Quiet s = tt
+greeted-acts Greeting s = (refl, λ u. tt)
 
 list-acts : (s : SessionState) (start : Start) (name bytes : List ℕ) (l : Option (List (List ℕ))) → AllActs loads_nothing (with_list s start name bytes l)
 list-acts s start name bytes None = (refl, λ u. tt)
 list-acts s start name bytes (Some texts) =
-    either loads_nothing (nat_lt message_limit (length texts)) _ _ (refl, λ u. tt) (refl, λ rows. greeted-acts start.quiet (with_opened s name bytes rows))
+    either loads_nothing (nat_lt message_limit (length texts)) _ _ (refl, λ u. tt) (refl, λ rows. greeted-acts start.manner (with_opened s name bytes rows))
+
+unheld-acts : (s : SessionState) (start : Start) (name : List ℕ) (bytes : Option (List ℕ)) (b : Bool) → AllActs loads_nothing (unheld s start name bytes b)
+unheld-acts s start name bytes true = (refl, λ u. tt)
+unheld-acts s start name None false = (refl, λ u. tt)
+unheld-acts s start name (Some bytes) false = list-acts s start name bytes (list_of bytes)
 
 pub loaded-acts : (s : SessionState) (start : Start) (name : List ℕ) (f : Found) → AllActs loads_nothing (loaded s start name f)
 loaded-acts s start name (found.Bytes bytes true) = (refl, λ u. tt)
-loaded-acts s start name (found.Bytes None false) = (refl, λ u. tt)
-loaded-acts s start name (found.Bytes (Some bytes) false) = list-acts s start name bytes (list_of bytes)
+loaded-acts s start name (found.Bytes bytes false) = unheld-acts s start name bytes (is_no_mail start.named bytes)
 loaded-acts s start name (found.TooLarge n) = (refl, λ u. tt)
 
 named-acts : (s : SessionState) (start : Start) (name : OrFault (List ℕ)) → AllActs (may_load true) (with_name_or_fault s start name)
@@ -133,7 +147,7 @@ named-acts s start (Err line) = (refl, λ u. tt)
 
 opening-acts : (env : Environment) (start : Option Start) → AllActs (may_load true) (opening env start)
 opening-acts env None = (refl, λ u. tt)
-opening-acts env (Some start) = named-acts (first_of env) start (folder_name (first_of env) start)
+opening-acts env (Some start) = named-acts (first_of env start.user) start (folder_name (first_of env start.user) start)
 
 recovered-acts : (start : Start) (a : RecoveryAnswer) → AllActs (may_load false) (recovered start a)
 recovered-acts start (recovery.Done found) = tt

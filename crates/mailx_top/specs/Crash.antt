@@ -1,5 +1,6 @@
 -- What a run leaves on the disk, whatever others lawfully do meanwhile and wherever it stops.
-use Rattle.std.specs.Prelude.{◌≡◌, ℕ, List, ◌++◌}
+use Rattle.std.specs.Prelude.{◌≡◌, List, ◌++◌}
+use Rattle.std.specs.declared.option.Option.{Option}
 use Rattle.std.specs.declared.result.Result.{Result}
 use Rattle.host_port.specs.declared.event.Event.{Event}
 use Rattle.host_port.specs.Disk.{Disk}
@@ -9,20 +10,20 @@ use Rattle.play_safety.specs.Passes.{Commits, PassesAll}
 use Rattle.play_safety.specs.Safe.{IsCrashSafe, AllAnswersAreDecided}
 use Rattle.mailx_session.specs.declared.status.Status.{Status}
 use Rattle.mailx_top.specs.declared.environment.Environment.{Environment}
-use Rattle.mailx_top.specs.Words.{are_read, start_of}
+use Rattle.mailx_top.specs.Words.{Start, may_say, start_of}
 use Rattle.mailx_top.specs.Meaning.{Recovering, round, actor_in}
 use Rattle.mailx_top.specs.Runs.{Ending}
 
 -- The events of a run, steps of others among them, carry out its meaning, and then what its ending adds. The commits that are accepted are read
 -- off the same stretches, and with them the run is crash safe. Each commit that was answered as done is decided in its own stretch, before anything
 -- is said of it.
-pub record IsSafe (words : List (List ℕ)) (env : Environment) (s : Status) (d : Disk) (es : List Event) : Type 0 where
+pub record IsSafe (start : Option Start) (env : Environment) (s : Status) (d : Disk) (es : List Event) : Type 0 where
   pub out : Result Status Stop
   pub front : List Event
   pub rest : List Event
   pub commits : Commits
   pub is : es ≡ front ++ rest
-  pub plays : PassesAll (round env) (Recovering (start_of words env.pairs)) d front commits out
-  pub ending : Ending (actor_in env) (are_read words) s out (own rest)
+  pub plays : PassesAll (round env) (Recovering (start_of start env.pairs)) d front commits out
+  pub ending : Ending (actor_in env) (may_say start) s out (own rest)
   pub safe : IsCrashSafe (actor_in env) env.token d es commits out
   pub answered : AllAnswersAreDecided plays

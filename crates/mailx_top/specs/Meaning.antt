@@ -1,5 +1,5 @@
 -- The meaning of a run: what it does at the opening, and for each line.
-use Rattle.std.specs.Prelude.{nat_lt, ℕ, Bool, true, false, List, [], ◌++◌, if◌then◌else◌, length, unwrap_or, codes}
+use Rattle.std.specs.Prelude.{nat_lt, ◌==◌, ℕ, Bool, true, false, List, [], ◌∷◌, ◌++◌, if◌then◌else◌, length, unwrap_or, codes}
 use Rattle.std.specs.declared.option.Option.{Option}
 use Rattle.std.specs.declared.option.Option.TheVariants.{Some, None}
 use Rattle.std.specs.declared.result.Result.{Result}
@@ -30,7 +30,11 @@ use Rattle.mailx_session.specs.States.{resumed, rested}
 use Rattle.mailx_session.specs.Rounds.{typed_play, waiting_play}
 use Rattle.mailx_session.specs.Leaving.{leaving}
 use Rattle.mailx_top.specs.declared.environment.Environment.{Environment}
-use Rattle.mailx_top.specs.Words.{Start}
+use Rattle.message_show.specs.Summary.{page_text}
+use Rattle.mailx_vars.specs.Environment.{Pairs}
+use Rattle.mailx_top.specs.declared.words.Manner.{Manner}
+use Rattle.mailx_top.specs.declared.words.Manner.TheVariants.{Silent, Rows, Quiet, Greeting}
+use Rattle.mailx_top.specs.Words.{Start, is_silent}
 
 -- where a run is between two rounds: before what a stopped run has left is recovered, and then a folder opened, if one is named; before the
 -- folder is opened; before a line; or at the end of the input, where the folder is left
@@ -71,40 +75,70 @@ last_round s = bind (leaving s) (λ e. Ret (Last e))
 abbrev pub says_and_ends : List ℕ → Status → Play (Next RunState Status)
 says_and_ends text e = Ask (Say text) (λ _. Ret (Last e))
 
--- the first line is read, after a greeting unless it is to be quiet
-abbrev pub greeted : Bool → SessionState → Play (Next RunState Status)
-greeted true s = Ret (Go (Reading s no_input))
-greeted false s = Ask (Say (greeting s.desk)) (λ _. Ret (Go (Reading s no_input)))
+-- the summary lines of all messages
+abbrev pub all_rows : Desk → List ℕ
+all_rows desk = page_text desk.shown 0 (length desk.shown.order) desk.places.width
+
+-- once the folder is open: with `-e` the run is done; with `-H` it is, once the summary lines of all messages are said; else the first line is read,
+-- after a greeting unless it is to be quiet
+abbrev pub greeted : Manner → SessionState → Play (Next RunState Status)
+greeted Silent s = Ret (Last status.Done)
+greeted Rows s = Ask (Say (all_rows s.desk)) (λ _. Ret (Last status.Done))
+greeted Quiet s = Ret (Go (Reading s no_input))
+greeted Greeting s = Ask (Say (greeting s.desk)) (λ _. Ret (Go (Reading s no_input)))
+
+-- what is said of a line: nothing, where the run is to be silent
+abbrev pub heard : Start → List ℕ → List ℕ
+heard start line = if is_silent start.manner then [] else line
+
+-- the run ends so, once this line is said, where it may be
+abbrev pub ends_with : Start → List ℕ → Status → Play (Next RunState Status)
+ends_with start line e = says_and_ends (heard start line) e
 
 -- a folder of this name with these texts is opened
 abbrev pub begun : SessionState → Start → List ℕ → List ℕ → List (List ℕ) → Play (Next RunState Status)
-begun s start name bytes texts = Ask (Know texts) (λ rows. greeted start.quiet (with_opened s name bytes rows))
+begun s start name bytes texts = Ask (Know texts) (λ rows. greeted start.manner (with_opened s name bytes rows))
 
 -- a folder of these bytes is opened, where its texts are defined and not too many
 abbrev pub with_list : SessionState → Start → List ℕ → List ℕ → Option (List (List ℕ)) → Play (Next RunState Status)
-with_list s start name bytes None = says_and_ends (with_feed (name ++ codes ": not a mailbox")) status.NoFolder
+with_list s start name bytes None = ends_with start (with_feed (name ++ codes ": not a mailbox")) status.NoFolder
 with_list s start name bytes (Some texts) =
     if nat_lt message_limit (length texts)
-    then says_and_ends (with_feed (name ++ codes ": too many messages")) status.NoFolder
+    then ends_with start (with_feed (name ++ codes ": too many messages")) status.NoFolder
     else begun s start name bytes texts
+
+-- there is no mail: without `-f` the file is absent, or empty
+abbrev pub is_no_mail : Bool → Option (List ℕ) → Bool
+is_no_mail true bytes = false
+is_no_mail false None = true
+is_no_mail false (Some bytes) = length bytes == 0
+
+-- the user whose mail is read
+abbrev pub reader : SessionState → Start → List ℕ
+reader s start = unwrap_or start.user s.desk.places.user
+
+-- what follows the load of a file that isn't held, with no mail or with some
+abbrev pub unheld : SessionState → Start → List ℕ → Option (List ℕ) → Bool → Play (Next RunState Status)
+unheld s start name bytes true = ends_with start (with_feed (codes "No mail for " ++ reader s start)) status.NoMail
+unheld s start name None false = ends_with start (with_feed (name ++ codes ": no such file")) status.NoFolder
+unheld s start name (Some bytes) false = with_list s start name bytes (list_of bytes)
 
 -- what follows the load of the folder of this name
 abbrev pub loaded : SessionState → Start → List ℕ → Found → Play (Next RunState Status)
-loaded s start name (found.Bytes bytes true) = says_and_ends (with_feed (name ++ codes ": busy")) status.Refused
-loaded s start name (found.Bytes None false) = says_and_ends (with_feed (name ++ codes ": no such file")) status.NoFolder
-loaded s start name (found.Bytes (Some bytes) false) = with_list s start name bytes (list_of bytes)
-loaded s start name (found.TooLarge n) = says_and_ends (with_feed (name ++ codes ": too large")) status.NoFolder
+loaded s start name (found.Bytes bytes true) = ends_with start (with_feed (name ++ codes ": busy")) status.Refused
+loaded s start name (found.Bytes bytes false) = unheld s start name bytes (is_no_mail start.named bytes)
+loaded s start name (found.TooLarge n) = ends_with start (with_feed (name ++ codes ": too large")) status.NoFolder
 
 -- the folder of this name is loaded, where it can be a file's
 abbrev pub with_name : SessionState → Start → List ℕ → Play (Next RunState Status)
 with_name s start name =
     if is_short_name name then Ask (Read name) (loaded s start name)
-    else says_and_ends (with_feed (name ++ codes ": bad name")) status.NoFolder
+    else ends_with start (with_feed (name ++ codes ": bad name")) status.NoFolder
 
 -- the same, where the word stands for a name
 abbrev pub with_name_or_fault : SessionState → Start → OrFault (List ℕ) → Play (Next RunState Status)
 with_name_or_fault s start (Ok name) = with_name s start name
-with_name_or_fault s start (Err line) = says_and_ends line status.NoFolder
+with_name_or_fault s start (Err line) = ends_with start line status.NoFolder
 
 -- the name of the folder that is to be opened, or the line that says why its word stands for none
 abbrev pub folder_name : SessionState → Start → OrFault (List ℕ)
@@ -118,23 +152,28 @@ starting s start = with_name_or_fault s start (folder_name s start)
 abbrev pub usage : List ℕ
 usage = with_feed (codes "usage: mailx [-eHiNnF] [-f [file]] [-u user] [-s subject] [-b names] [-c names] [address...]")
 
+-- the environment's variables; with a user of `-u` the system mailbox is that user's
+abbrev pub pairs_for : Option (List ℕ) → Pairs → Pairs
+pairs_for None pairs = pairs
+pairs_for (Some user) pairs = (codes "MAIL", codes "/var/mail/" ++ user) ∷ pairs
+
 -- the state of a session that begins in an environment
-abbrev pub first_of : Environment → SessionState
-first_of env = first_state env.pairs env.terminal env.token
+abbrev pub first_of : Environment → Option (List ℕ) → SessionState
+first_of env user = first_state (pairs_for user env.pairs) env.terminal env.token
 
 -- the actor of a run's commits
 abbrev pub actor_in : Environment → List ℕ
-actor_in env = (first_of env).actor
+actor_in env = (first_of env None).actor
 
 -- a run starts in its first state, or its words are refused
 abbrev pub opening : Environment → Option Start → Play (Next RunState Status)
 opening env None = says_and_ends usage status.Usage
-opening env (Some start) = starting (first_of env) start
+opening env (Some start) = starting (first_of env start.user) start
 
 -- what follows the recovery at the start: the opening, once it is done
 abbrev pub recovered : Start → RecoveryAnswer → Play (Next RunState Status)
 recovered start (recovery.Done found) = Ret (Go (Opening (Some start)))
-recovered start (recovery.Busy name) = says_and_ends (with_feed (name ++ codes ": busy")) status.Refused
+recovered start (recovery.Busy name) = ends_with start (with_feed (name ++ codes ": busy")) status.Refused
 recovered start recovery.NotARecord = Ret (Last status.BadRecord)
 recovered start (recovery.TooLarge name length) = Ret (Last status.BadRecord)
 

@@ -1,5 +1,5 @@
 -- Why a run opened no folder, read off the own events of its opening.
-use Rattle.std.specs.Prelude.{◌≡◌, ◌⊎◌, ◌||◌, nat_lt, ℕ, Bool, true, false, List, [], ◌∷◌, length}
+use Rattle.std.specs.Prelude.{◌≡◌, ◌⊎◌, ◌||◌, ◌&&◌, not, nat_lt, ℕ, Bool, true, false, List, [], ◌∷◌, length}
 use Rattle.std.specs.declared.option.Option.{Option}
 use Rattle.std.specs.declared.option.Option.TheVariants.{Some, None}
 use Rattle.std.specs.declared.result.Result.{Result}
@@ -15,6 +15,7 @@ use Rattle.mailx_session.specs.declared.status.Status.{Status}
 use Rattle.mailx_session.specs.declared.status.Status.TheVariants as status
 use Rattle.mailx_top.specs.declared.environment.Environment.{Environment}
 use Rattle.mailx_top.specs.Words.{Start}
+use Rattle.mailx_top.specs.Meaning.{is_no_mail}
 use Rattle.mailx_top.specs.Usage.{IsBadName}
 
 -- a load saw that the folder is held
@@ -27,17 +28,34 @@ abbrev pub is_no_list : Option (List (List ℕ)) → Bool
 is_no_list None = true
 is_no_list (Some texts) = nat_lt message_limit (length texts)
 
--- a load saw that there is no folder to open, and it isn't held
-abbrev pub saw_no_folder : Seen → Bool
-saw_no_folder (seen.Bytes bytes true) = false
-saw_no_folder (seen.Bytes None false) = true
-saw_no_folder (seen.Bytes (Some bytes) false) = is_no_list (list_of bytes)
-saw_no_folder (seen.TooLarge n) = true
-saw_no_folder s = false
+-- a file can be opened as no folder: it is absent, or its bytes are no list of texts
+abbrev pub is_no_folder : Option (List ℕ) → Bool
+is_no_folder None = true
+is_no_folder (Some bytes) = is_no_list (list_of bytes)
+
+-- a load saw that there is no mail, and the file isn't held
+abbrev pub saw_no_mail : Bool → Seen → Bool
+saw_no_mail named (seen.Bytes bytes false) = is_no_mail named bytes
+saw_no_mail named s = false
+
+-- a load saw that there is no folder to open, though not for want of mail, and it isn't held
+abbrev pub saw_no_folder : Bool → Seen → Bool
+saw_no_folder named (seen.Bytes bytes false) = not (is_no_mail named bytes) && is_no_folder bytes
+saw_no_folder named (seen.TooLarge n) = true
+saw_no_folder named s = false
+
+-- `-f` asks for a folder
+abbrev pub is_named : Option Start → Bool
+is_named None = true
+is_named (Some start) = start.named
+
+-- there is no mail to read
+abbrev pub OpensNoMail : Option Start → List Event → Type 0
+OpensNoMail start es = some_load_saw (saw_no_mail (is_named start)) es ≡ true
 
 -- there is no folder to open
 abbrev pub OpensNone : Environment → Option Start → List Event → Type 0
-OpensNone env start es = IsBadName env start ⊎ (some_load_saw saw_no_folder es ≡ true)
+OpensNone env start es = IsBadName env start ⊎ (some_load_saw (saw_no_folder (is_named start)) es ≡ true)
 
 -- the run came to this end, or was cut off
 abbrev pub EndsOrIsCut : Status → Result Status Stop → Type 0
@@ -45,9 +63,12 @@ EndsOrIsCut e (Ok r) = r ≡ e
 EndsOrIsCut e (Err cause) = Unit {0}
 
 -- A run is refused exactly where the load of its opening saw the folder held, or the quit at the end of its input was refused, and has no folder
--- exactly where there is none to open, unless it is cut off. `es` are the own events of the opening, and `at_end` says whether that quit was refused.
+-- exactly where there is none to open, and no mail exactly where the system mailbox is to be opened, and its load saw it absent or empty, and not
+-- held, unless it is cut off. `es` are the own events of the opening, and `at_end` says whether that quit was refused.
 pub record IsOpeningExplained (env : Environment) (start : Option Start) (out : Result Status Stop) (es : List Event) (at_end : Bool) : Type 0 where
   pub refused_only : out ≡ Ok status.Refused → (some_load_saw saw_held es || at_end) ≡ true
   pub refused_always : (some_load_saw saw_held es || at_end) ≡ true → EndsOrIsCut status.Refused out
   pub no_folder_only : out ≡ Ok status.NoFolder → OpensNone env start es
   pub no_folder_always : OpensNone env start es → EndsOrIsCut status.NoFolder out
+  pub no_mail_only : out ≡ Ok status.NoMail → OpensNoMail start es
+  pub no_mail_always : OpensNoMail start es → EndsOrIsCut status.NoMail out

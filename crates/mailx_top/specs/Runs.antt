@@ -7,6 +7,7 @@ use Rattle.std.specs.declared.result.Result.TheVariants.{Ok, Err}
 use Rattle.host_port.specs.declared.event.Event.{Event}
 use Rattle.host_port.specs.declared.event.Event.TheVariants as event
 use Rattle.session_play.specs.declared.stop.Stop.{Stop}
+use Rattle.session_play.specs.declared.stop.Stop.TheVariants as stop
 use Rattle.session_play.specs.Play.{Whole}
 use Rattle.session_play.specs.Causes.{IsExplained, events_at, commits_in}
 use Rattle.mailx_session.specs.declared.status.Status.{Status}
@@ -17,35 +18,45 @@ use Rattle.mailx_top.specs.Leavings.{refused_at_end}
 use Rattle.mailx_top.specs.Openings.{IsOpeningExplained}
 use Rattle.mailx_top.specs.Starts.{IsStartExplained}
 use Rattle.mailx_top.specs.Unreadable.{some_unreadable_in, IsRecordExplained}
-use Rattle.mailx_top.specs.Words.{are_read, start_of}
+use Rattle.mailx_top.specs.Words.{Start, may_say, start_of}
 use Rattle.mailx_top.specs.Statuses.{status_at_stop, line_at_stop, line_at_end}
 
 -- bytes are said by one Out, as far as they went
 abbrev pub AsFar : List ℕ → List Event → Type 0
 AsFar bytes es = (es ≡ event.Out bytes false ∷ []) ⊎ ((n : ℕ) × (es ≡ event.Out (take n bytes) true ∷ []))
 
--- bytes are said, as far as they went, where the words were read; else nothing is
+-- bytes are said, as far as they went, where they may be; else nothing is
 abbrev pub SaysLast : Bool → List ℕ → List Event → Type 0
 SaysLast true bytes es = AsFar bytes es
 SaysLast false bytes es = es ≡ []
 
 -- the same of a line that may be missing
 abbrev pub SaysAtEnd : Bool → Option (List ℕ) → List Event → Type 0
-SaysAtEnd read None es = es ≡ []
-SaysAtEnd read (Some line) es = SaysLast read line es
+SaysAtEnd may None es = es ≡ []
+SaysAtEnd may (Some line) es = SaysLast may line es
 
--- at a cut its line is said, where the words were read; an end adds nothing, but the line of the actor's record where that can't be read
+-- at a cut its line is said, where one may be; where memory is wanting before anything is done the words may not have been read
+abbrev pub SaysAtCut : Bool → Stop → List Event → Type 0
+SaysAtCut may stop.Memory es = SaysLast may (line_at_stop stop.Memory) es ⊎ (es ≡ [])
+SaysAtCut may cause es = SaysLast may (line_at_stop cause) es
+
+-- at a cut its line is said; an end adds nothing, but the line of the actor's record where that can't be read
 abbrev pub Ending : List ℕ → Bool → Status → Result Status Stop → List Event → Type 0
-Ending actor read s (Ok e) es = (s ≡ e) × SaysAtEnd read (line_at_end actor e) es
-Ending actor read s (Err cause) es = (s ≡ status_at_stop cause) × SaysLast read (line_at_stop cause) es
+Ending actor may s (Ok e) es = (s ≡ e) × SaysAtEnd may (line_at_end actor e) es
+Ending actor may s (Err cause) es = (s ≡ status_at_stop cause) × SaysAtCut may cause es
 
--- The own events of a run with these words in this environment, which ends with this status: those of its meaning, with
--- each cut explained. A load counts as one of the folder where its round opens the folder, and a fault of the disk in a commit or in the recovery
--- counts too. A run ends for its record exactly where its recovery or a commit of it met one that can't be read. How the recovery ended its own
--- events tell.
-pub record IsRun (words : List (List ℕ)) (env : Environment) (s : Status) (es : List Event) : Type 0 where
-  pub whole : Whole (round env) (Recovering (start_of words env.pairs)) (Ending (actor_in env) (are_read words) s) es
+-- where the line of a cut may be said, it is left out only where nothing was done
+abbrev pub SaysUnlessIdle : Bool → Result Status Stop → List Event → List Event → Type 0
+SaysUnlessIdle may (Ok e) front behind = Unit {0}
+SaysUnlessIdle may (Err cause) front behind = may ≡ true → behind ≡ [] → front ≡ []
+
+-- The own events of a run whose words ask for this in this environment, which ends with this status: those of its meaning, with each cut explained.
+-- A load counts as one of the folder where its round opens the folder, and a fault of the disk in a commit or in the recovery counts too. A run ends
+-- for its record exactly where its recovery or a commit of it met one that can't be read. How the recovery ended its own events tell.
+pub record IsRun (start : Option Start) (env : Environment) (s : Status) (es : List Event) : Type 0 where
+  pub whole : Whole (round env) (Recovering (start_of start env.pairs)) (Ending (actor_in env) (may_say start) s) es
+  pub said : SaysUnlessIdle (may_say start) whole.out whole.front whole.behind
   pub explained : IsExplained whole.out whole.front (events_at is_opening whole.plays) (commits_in whole.plays)
   pub record_met : IsRecordExplained whole.out (some_unreadable_in whole.plays)
-  pub start : IsStartExplained whole.out (told_end (actor_in env) (events_at is_recovering whole.plays))
-      (IsOpeningExplained env (start_of words env.pairs) whole.out (events_at is_opening whole.plays) (refused_at_end whole.plays))
+  pub opening : IsStartExplained whole.out (told_end (actor_in env) (events_at is_recovering whole.plays))
+      (IsOpeningExplained env (start_of start env.pairs) whole.out (events_at is_opening whole.plays) (refused_at_end whole.plays))

@@ -33,4 +33,5 @@ pub record IsStartExplained (out : Result Status Stop) (recovery : Ending) (Open
   pub refused_only : out ≡ Ok status.Refused → (is_right_busy recovery || is_recovered recovery) ≡ true
   pub bad_record_only : out ≡ Ok status.BadRecord → (is_bad_record recovery || is_recovered recovery) ≡ true
   pub no_folder_only : out ≡ Ok status.NoFolder → is_recovered recovery ≡ true
+  pub no_mail_only : out ≡ Ok status.NoMail → is_recovered recovery ≡ true
   pub done_only : out ≡ Ok status.Done → is_recovered recovery ≡ true

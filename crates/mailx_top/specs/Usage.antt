@@ -40,7 +40,7 @@ IsNoName (Err line) = Unit {0}
 -- the folder that is to be opened has such a word
 abbrev pub IsBadName : Environment → Option Start → Type 0
 IsBadName env None = ⊥
-IsBadName env (Some start) = IsNoName (folder_name (first_of env) start)
+IsBadName env (Some start) = IsNoName (folder_name (first_of env start.user) start)
 
 -- the recovery at the start is cut off by a fault of the disk, or for want of memory; so is the line that it may say, where the output fails
 abbrev pub IsStartCut : Stop → Type 0

@@ -1,14 +1,13 @@
 -- What the code keeps of the words.
-use Rattle.std.specs.Prelude.{◌≡◌, Option}
-use Rattle.std.specs.declared.option.Option.TheVariants.{Some, None}
-use Rattle.mailx_top.specs.declared.words.Wanted.{Wanted}
+use Rattle.std.specs.Option.{option_map, option_copied}
+use Rattle.std.specs.declared.option.Option.{Option}
+use Rattle.mailx_top.specs.declared.words.Asked.{Asked}
 use Rattle.mailx_top.specs.Words.{Start}
 
 -- how to start
-abbrev pub start_from : Wanted → Start
-start_from w = record { word = w.word.now; quiet = w.quiet }
+abbrev pub start_from : Asked → Start
+start_from a = record { word = a.word.now; named = a.named; user = option_copied a.user; manner = a.manner }
 
--- the words ask for this
-abbrev pub IsWanted : Option Wanted → Option Start → Type 0
-IsWanted (Some w) start = start ≡ Some (start_from w)
-IsWanted None start = start ≡ None
+-- the same, where the words ask for anything
+abbrev pub may_start : Option Asked → Option Start
+may_start a = option_map start_from a

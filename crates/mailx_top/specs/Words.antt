@@ -1,34 +1,63 @@
--- The words of the command line.
-use Rattle.std.specs.Prelude.{◌==◌, ◌&&◌, not, ℕ, Bool, true, false, List, [], ◌∷◌, if◌then◌else◌, is_some, codes}
+-- What the words of the command line ask a run to do.
+use Rattle.std.specs.Prelude.{not, ℕ, Bool, true, false, List, [], ◌∷◌, if◌then◌else◌, codes}
+use Rattle.std.specs.Option.{option_and_then}
 use Rattle.std.specs.declared.option.Option.{Option}
 use Rattle.std.specs.declared.option.Option.TheVariants.{Some, None}
-use Rattle.std.specs.Str.{bytes_eq, is_utf8}
+use Rattle.command_words.specs.declared.mode.Mode.{Mode}
+use Rattle.command_words.specs.declared.mode.Mode.TheVariants as mode
+use Rattle.command_words.specs.declared.options.Options.{Options}
+use Rattle.command_words.specs.declared.reading.Wanted.{Wanted}
+use Rattle.command_words.specs.Readings.{reading}
 use Rattle.mailx_vars.specs.Environment.{Pairs, knows_user}
+use Rattle.mailx_top.specs.declared.words.Manner.{Manner}
+use Rattle.mailx_top.specs.declared.words.Manner.TheVariants.{Silent, Rows, Quiet, Greeting}
 
--- a word has a byte, and doesn't begin with `-`
-abbrev pub is_operand : List ℕ → Bool
-is_operand [] = false
-is_operand (b ∷ bs) = not (b == 45)
-
--- what the words ask for: the word of a file to open as folder, and whether nothing is said of it at the start
+-- how to start: the word of the folder to open, whether `-f` asks for it, the user of `-u`, and what is said once the folder is open
 pub record Start : Type 0 where
   pub word : List ℕ
-  pub quiet : Bool
+  pub named : Bool
+  pub user : Option (List ℕ)
+  pub manner : Manner
 
--- the file's word is an operand, and UTF-8
-abbrev pub starts : List ℕ → Bool → Option Start
-starts word quiet = if is_operand word && is_utf8 word then Some (record { word = word; quiet = quiet }) else None
+-- the first of these words, or another where there is none
+abbrev pub first_or : List ℕ → List (List ℕ) → List ℕ
+first_or other [] = other
+first_or other (word ∷ words) = word
 
--- the words are `-f` and a file, or `-N`, `-f` and a file, where nothing is to be said
-abbrev pub reading : List (List ℕ) → Option Start
-reading (a ∷ word ∷ []) = if bytes_eq a (codes "-f") then starts word false else None
-reading (a ∷ b ∷ word ∷ []) = if bytes_eq a (codes "-N") && bytes_eq b (codes "-f") then starts word true else None
-reading words = None
+-- the word of the folder: with `-f` the operand, or that of mbox; else that of the system mailbox
+abbrev pub folder_word : Options → List ℕ
+folder_word o = if o.folder then first_or (codes "&") o.operands else codes "%"
 
--- the words can be read
-abbrev pub are_read : List (List ℕ) → Bool
-are_read words = is_some (reading words)
+-- nothing is said with `-e`; with `-H` the summary lines of all messages are, and else a greeting, unless `-N` is given
+abbrev pub manner_of : Options → Manner
+manner_of o = if o.exists then Silent else if o.headers then Rows else if o.quiet then Quiet else Greeting
+
+abbrev pub start_with : Options → Start
+start_with o = record { word = folder_word o; named = o.folder; user = o.user; manner = manner_of o }
+
+-- how to start in a mode; what sends or tries isn't built, nor is `-F`
+abbrev pub start_in : Mode → Options → Option Start
+start_in mode.Exists o = Some (start_with o)
+start_in mode.Receive o = if o.named then None else Some (start_with o)
+start_in m o = None
+
+abbrev pub start_by : Wanted → Option Start
+start_by wanted = start_in wanted.mode wanted.options
+
+-- what the words ask for; none where they are refused
+abbrev pub asked : List (List ℕ) → Option Start
+asked words = option_and_then start_by (reading words)
+
+-- the run says nothing
+abbrev pub is_silent : Manner → Bool
+is_silent Silent = true
+is_silent manner = false
+
+-- a last line may be said: the words aren't refused, nor do they ask for silence
+abbrev pub may_say : Option Start → Bool
+may_say None = false
+may_say (Some start) = not (is_silent start.manner)
 
 -- how to start; none where the words are refused, or home folder and user aren't known
-abbrev pub start_of : List (List ℕ) → Pairs → Option Start
-start_of words pairs = if knows_user pairs then reading words else None
+abbrev pub start_of : Option Start → Pairs → Option Start
+start_of start pairs = if knows_user pairs then start else None

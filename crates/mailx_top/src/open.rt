@@ -1,26 +1,27 @@
 // The opening of the folder.
-ghost use Rattle.std.specs.Prelude.{◌≡◌, ◌++◌, true, false, Some, None, IfOk, IfSome};
+ghost use Rattle.std.specs.Prelude.{◌≡◌, ◌++◌, true, false, Some, None, IfOk, IfErr, IfSome, codes};
 ghost use Rattle.host_port.specs.Ran.{Ran};
 ghost use Rattle.mail_text.specs.Lines.{with_feed};
 ghost use Rattle.mbox_scan.specs.Mailbox.{texts_of, list_of};
 ghost use Rattle.session_play.specs.Input.{no_input};
-ghost use Rattle.session_play.specs.Play.{Play, Ask, Read, Goes, Loop, Caused};
+ghost use Rattle.session_play.specs.Play.{Play, Ask, Ret, Say, Read, Goes, Loop, Caused};
 ghost use Rattle.mailx_vars.specs.Names.{is_short_name};
 ghost use Rattle.mailx_session.specs.declared.state.SessionState.{SessionState};
 ghost use Rattle.mailx_session.specs.Openings.{Opens};
 ghost use Rattle.mailx_top.specs.declared.environment.Environment.{Environment};
-ghost use Rattle.mailx_top.specs.Meaning.{starting, with_name, folder_name, loaded, with_list, begun, greeted, says_and_ends, round, Opening, next_state};
+ghost use Rattle.mailx_top.specs.Meaning.{starting, with_name, folder_name, loaded, unheld, is_no_mail, reader, with_list, begun, greeted, all_rows, heard, ends_with, round, Opening, next_state};
 ghost use Rattle.mailx_session.specs.Statuses.{IsEnd};
 ghost use Rattle.mailx_top.specs.Usage.{EndsOr, EndsOrOpens, IsNoName};
 ghost use Rattle.mailx_top.specs.Wants.{start_from};
 
-use crate::words::Wanted;
+use crate::words::{Asked, Manner};
 use command_desk::{Refusal, expanded};
 use host_port::Host;
 use mail_text::{Memory, Text};
 use mailx_session::{Session, Status};
 use mailx_vars::is_short_name;
 use mbox_scan::{Folder, ScanError};
+use message_show::page;
 use session_play::{Found, Stop, load, say};
 use std::alloc::Global;
 
@@ -40,15 +41,34 @@ pub(crate) fn end_with_usage<H: Host>(host: &mut H) -> Result<Status, Stop>
     }
 }
 
-// Says a line and ends.
-fn end_with<H: Host>(host: &mut H, line: &[u8], end: Status) -> Result<Option<Status>, Stop>
+// Says a line, unless the run is to be silent.
+fn tell<H: Host>(host: &mut H, start: Asked<'_>, line: &[u8]) -> Result<(), Stop>
+    ensures ran { Ran H.world host.old host.new
+        (λ es. Goes (Ask (Say (heard (start_from start.entry) line.now)) Ret) es result) }
+    ensures cause { Caused (H.world.counts host.old) (H.world.counts host.new) result }
+    ensures only_output { IfErr result (λ cause. cause ≡ Stop.Output) }
+{
+    if start.manner.is_silent() {
+        Ok(())
+    } else {
+        say(host, line)
+    }
+}
+
+// Says a line, where one may be said, and ends.
+fn end_with<H: Host>(
+    host: &mut H,
+    start: Asked<'_>,
+    line: &[u8],
+    end: Status,
+) -> Result<Option<Status>, Stop>
     ensures ran { (s : SessionState) → Ran H.world host.old host.new
-        (λ es. Goes (says_and_ends line.now end) es (next_state s no_input result)) }
+        (λ es. Goes (ends_with (start_from start.entry) line.now end) es (next_state s no_input result)) }
     ensures cause { Caused (H.world.counts host.old) (H.world.counts host.new) result }
     ensures same_end { IfOk result (λ e. e ≡ Some end) }
     ensures ends { EndsOrOpens end result }
 {
-    match say(host, line) {
+    match tell(host, start, line) {
         Ok(()) => Ok(Some(end)),
         Err(cause) => Err(cause),
     }
@@ -63,22 +83,24 @@ fn fault_line(alloc: Global, name: &[u8], fault: &[u8]) -> Result<Text, Memory>
     Ok(line)
 }
 
-/// Says what is wrong with a file and ends.
+/// Says what is wrong with a file, where a line may be said, and ends.
 pub(crate) fn end_at_file<H: Host>(
     alloc: Global,
     host: &mut H,
+    start: Asked<'_>,
     name: &[u8],
     fault: &[u8],
     end: Status,
 ) -> Result<Option<Status>, Stop>
     ensures ran { (s : SessionState) → Ran H.world host.old host.new
-        (λ es. Goes (says_and_ends (with_feed (name.now ++ fault.now)) end) es (next_state s no_input result)) }
+        (λ es. Goes (ends_with (start_from start.entry) (with_feed (name.now ++ fault.now)) end)
+        es (next_state s no_input result)) }
     ensures cause { Caused (H.world.counts host.old) (H.world.counts host.new) result }
     ensures same_end { IfOk result (λ e. e ≡ Some end) }
     ensures ends { EndsOrOpens end result }
 {
     match fault_line(alloc, name, fault) {
-        Ok(line) => end_with(host, line.bytes(), end),
+        Ok(line) => end_with(host, start, line.bytes(), end),
         Err(Memory) => Err(Stop::Memory),
     }
 }
@@ -86,7 +108,7 @@ pub(crate) fn end_at_file<H: Host>(
 // Says the greeting of a session.
 fn greet_aloud<H: Host>(host: &mut H, session: &Session) -> Result<Option<Status>, Stop>
     ensures ran { Ran H.world host.old host.new
-        (λ es. Goes (greeted false session.now) es (next_state session.now no_input result)) }
+        (λ es. Goes (greeted Manner.Greeting session.now) es (next_state session.now no_input result)) }
     ensures cause { Caused (H.world.counts host.old) (H.world.counts host.new) result }
     ensures plain { IfOk result (λ end. IfSome end (λ e. IsEnd e)) }
 {
@@ -100,17 +122,53 @@ fn greet_aloud<H: Host>(host: &mut H, session: &Session) -> Result<Option<Status
     }
 }
 
-// Says the greeting of a session, unless it is to be quiet.
-fn greet<H: Host>(host: &mut H, quiet: bool, session: &Session) -> Result<Option<Status>, Stop>
+// The summary lines of all messages.
+fn all_rows(alloc: Global, session: &Session) -> Result<Text, Memory>
+    ensures { IfOk result (λ rows. rows ≡ all_rows session.now.desk) }
+{
+    let desk = session.desk();
+    let count = desk.shown.order.items().len();
+    page(alloc, &desk.shown, 0, count, desk.places.width)
+}
+
+// Says the summary lines of all messages and ends.
+fn show_rows<H: Host>(
+    alloc: Global,
+    host: &mut H,
+    session: &Session,
+) -> Result<Option<Status>, Stop>
     ensures ran { Ran H.world host.old host.new
-        (λ es. Goes (greeted quiet session.now) es (next_state session.now no_input result)) }
+        (λ es. Goes (greeted Manner.Rows session.now) es (next_state session.now no_input result)) }
     ensures cause { Caused (H.world.counts host.old) (H.world.counts host.new) result }
     ensures plain { IfOk result (λ end. IfSome end (λ e. IsEnd e)) }
 {
-    if quiet {
-        Ok(None)
-    } else {
-        greet_aloud(host, session)
+    let rows = match all_rows(alloc, session) {
+        Ok(rows) => rows,
+        Err(Memory) => return Err(Stop::Memory),
+    };
+    match say(host, rows.bytes()) {
+        Ok(()) => Ok(Some(Status::Done)),
+        Err(cause) => Err(cause),
+    }
+}
+
+// Says of an open folder what is to be said.
+fn greet<H: Host>(
+    alloc: Global,
+    host: &mut H,
+    manner: Manner,
+    session: &Session,
+) -> Result<Option<Status>, Stop>
+    ensures ran { Ran H.world host.old host.new
+        (λ es. Goes (greeted manner session.now) es (next_state session.now no_input result)) }
+    ensures cause { Caused (H.world.counts host.old) (H.world.counts host.new) result }
+    ensures plain { IfOk result (λ end. IfSome end (λ e. IsEnd e)) }
+{
+    match manner {
+        Manner::Silent => Ok(Some(Status::Done)),
+        Manner::Rows => show_rows(alloc, host, session),
+        Manner::Quiet => Ok(None),
+        Manner::Greeting => greet_aloud(host, session),
     }
 }
 
@@ -131,7 +189,7 @@ fn put_folder(
 fn begin<H: Host>(
     alloc: Global,
     host: &mut H,
-    start: Wanted<'_>,
+    start: Asked<'_>,
     name: &[u8],
     folder: Folder,
     session: &mut Session,
@@ -143,7 +201,7 @@ fn begin<H: Host>(
     ensures plain { IfOk result (λ end. IfSome end (λ e. IsEnd e)) }
 {
     match put_folder(alloc, session, name, folder) {
-        Ok(()) => greet(host, start.quiet, session),
+        Ok(()) => greet(alloc, host, start.manner, session),
         Err(Memory) => Err(Stop::Memory),
     }
 }
@@ -151,7 +209,7 @@ fn begin<H: Host>(
 fn open_bytes<H: Host>(
     alloc: Global,
     host: &mut H,
-    start: Wanted<'_>,
+    start: Asked<'_>,
     name: &[u8],
     bytes: Text,
     session: &mut Session,
@@ -165,19 +223,122 @@ fn open_bytes<H: Host>(
     match Folder::open(alloc, bytes) {
         Ok(folder) => begin(alloc, host, start, name, folder, session),
         Err(ScanError::NotAMailbox) => {
-            end_at_file(alloc, host, name, b": not a mailbox", Status::NoFolder)
+            end_at_file(
+                alloc,
+                host,
+                start,
+                name,
+                b": not a mailbox",
+                Status::NoFolder,
+            )
         }
         Err(ScanError::TooMany { .. }) => {
-            end_at_file(alloc, host, name, b": too many messages", Status::NoFolder)
+            end_at_file(
+                alloc,
+                host,
+                start,
+                name,
+                b": too many messages",
+                Status::NoFolder,
+            )
         }
         Err(ScanError::Memory) => Err(Stop::Memory),
+    }
+}
+
+// The user whose mail is read.
+fn reader<'a>(session: &'a Session, start: Asked<'a>) -> &'a [u8]
+    ensures { result.now ≡ reader session.entry.now (start_from start.entry) }
+{
+    match start.user {
+        Some(user) => user,
+        None => session.desk().places.user.bytes(),
+    }
+}
+
+// Says that the user has no mail, and ends.
+fn end_without_mail<H: Host>(
+    alloc: Global,
+    host: &mut H,
+    start: Asked<'_>,
+    session: &Session,
+) -> Result<Option<Status>, Stop>
+    ensures ran { Ran H.world host.old host.new
+        (λ es. Goes (ends_with (start_from start.entry)
+        (with_feed (codes "No mail for " ++ reader session.now (start_from start.entry))) Status.NoMail)
+        es (next_state session.now no_input result)) }
+    ensures cause { Caused (H.world.counts host.old) (H.world.counts host.new) result }
+    ensures plain { IfOk result (λ end. IfSome end (λ e. IsEnd e)) }
+{
+    let reader = reader(session, start);
+    end_at_file(alloc, host, start, b"No mail for ", reader, Status::NoMail)
+}
+
+// Whether there is no mail: without `-f` the file is absent, or empty.
+fn is_no_mail(named: bool, bytes: &Option<Text>) -> bool
+    ensures { result ≡ is_no_mail named bytes.now }
+{
+    match bytes {
+        _ if named => false,
+        Some(bytes) => bytes.bytes().is_empty(),
+        None => true,
+    }
+}
+
+// What follows the load of a file that isn't held, with mail where it is to have some.
+fn open_file<H: Host>(
+    alloc: Global,
+    host: &mut H,
+    start: Asked<'_>,
+    name: &[u8],
+    bytes: Option<Text>,
+    session: &mut Session,
+) -> Result<Option<Status>, Stop>
+    ensures ran { Ran H.world host.old host.new
+        (λ es. Goes (unheld session.old (start_from start.entry) name.now bytes false) es
+        (next_state session.new no_input result)) }
+    ensures cause { Caused (H.world.counts host.old) (H.world.counts host.new) result }
+    ensures plain { IfOk result (λ end. IfSome end (λ e. IsEnd e)) }
+{
+    match bytes {
+        Some(bytes) => open_bytes(alloc, host, start, name, bytes, session),
+        None => end_at_file(
+            alloc,
+            host,
+            start,
+            name,
+            b": no such file",
+            Status::NoFolder,
+        ),
+    }
+}
+
+// What follows the load of a file that isn't held.
+fn open_unheld<H: Host>(
+    alloc: Global,
+    host: &mut H,
+    start: Asked<'_>,
+    name: &[u8],
+    bytes: Option<Text>,
+    session: &mut Session,
+) -> Result<Option<Status>, Stop>
+    ensures ran { Ran H.world host.old host.new
+        (λ es. Goes (loaded session.old (start_from start.entry) name.now (Found.Bytes bytes false)) es
+        (next_state session.new no_input result)) }
+    ensures cause { Caused (H.world.counts host.old) (H.world.counts host.new) result }
+    ensures plain { IfOk result (λ end. IfSome end (λ e. IsEnd e)) }
+{
+    if is_no_mail(start.named, &bytes) {
+        end_without_mail(alloc, host, start, session)
+    } else {
+        open_file(alloc, host, start, name, bytes, session)
     }
 }
 
 fn open_found<H: Host>(
     alloc: Global,
     host: &mut H,
-    start: Wanted<'_>,
+    start: Asked<'_>,
     name: &[u8],
     found: Found,
     session: &mut Session,
@@ -190,18 +351,13 @@ fn open_found<H: Host>(
 {
     match found {
         Found::Bytes { held: true, .. } => {
-            end_at_file(alloc, host, name, b": busy", Status::Refused)
+            end_at_file(alloc, host, start, name, b": busy", Status::Refused)
         }
-        Found::Bytes {
-            bytes: None,
-            held: false,
-        } => end_at_file(alloc, host, name, b": no such file", Status::NoFolder),
-        Found::Bytes {
-            bytes: Some(bytes),
-            held: false,
-        } => open_bytes(alloc, host, start, name, bytes, session),
+        Found::Bytes { bytes, held: false } => {
+            open_unheld(alloc, host, start, name, bytes, session)
+        }
         Found::TooLarge { .. } => {
-            end_at_file(alloc, host, name, b": too large", Status::NoFolder)
+            end_at_file(alloc, host, start, name, b": too large", Status::NoFolder)
         }
     }
 }
@@ -209,7 +365,7 @@ fn open_found<H: Host>(
 fn load_and_open<H: Host>(
     alloc: Global,
     host: &mut H,
-    start: Wanted<'_>,
+    start: Asked<'_>,
     name: &[u8],
     session: &mut Session,
 ) -> Result<Option<Status>, Stop>
@@ -230,7 +386,7 @@ fn load_and_open<H: Host>(
 fn open_name<H: Host>(
     alloc: Global,
     host: &mut H,
-    start: Wanted<'_>,
+    start: Asked<'_>,
     name: &[u8],
     session: &mut Session,
 ) -> Result<Option<Status>, Stop>
@@ -244,7 +400,7 @@ fn open_name<H: Host>(
     if is_short_name(name) {
         load_and_open(alloc, host, start, name, session)
     } else {
-        end_at_file(alloc, host, name, b": bad name", Status::NoFolder)
+        end_at_file(alloc, host, start, name, b": bad name", Status::NoFolder)
     }
 }
 
@@ -252,7 +408,7 @@ fn open_name<H: Host>(
 pub(crate) fn open<H: Host>(
     alloc: Global,
     host: &mut H,
-    start: Wanted<'_>,
+    start: Asked<'_>,
     session: &mut Session,
 ) -> Result<Option<Status>, Stop>
     ensures ran { Ran H.world host.old host.new
@@ -264,7 +420,7 @@ pub(crate) fn open<H: Host>(
 {
     match expanded(alloc, session.desk(), start.word) {
         Ok(name) => open_name(alloc, host, start, name.bytes(), session),
-        Err(Refusal::Fault { line }) => end_with(host, line.bytes(), Status::NoFolder),
+        Err(Refusal::Fault { line }) => end_with(host, start, line.bytes(), Status::NoFolder),
         Err(Refusal::Memory) => Err(Stop::Memory),
     }
 }

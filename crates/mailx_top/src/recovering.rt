@@ -1,11 +1,12 @@
 // What a stopped commit has left is recovered before a folder is opened.
 ghost use Rattle.host_port.specs.Ran.{Ran};
 ghost use Rattle.session_play.specs.Play.{Play, Ask, Recover, Goes, Caused};
-ghost use Rattle.mailx_top.specs.Words.{Start};
 ghost use Rattle.mailx_top.specs.Meaning.{recovered, after_recovery};
 ghost use Rattle.mailx_top.specs.Usage.{StopsAtStart};
+ghost use Rattle.mailx_top.specs.Wants.{start_from};
 
 use crate::open::end_at_file;
+use crate::words::Asked;
 use host_port::Host;
 use mailx_session::{Session, Status};
 use session_play::{RecoveryAnswer, Stop, recovery};
@@ -15,17 +16,18 @@ use std::alloc::Global;
 fn answered<H: Host>(
     alloc: Global,
     host: &mut H,
+    start: Asked<'_>,
     answer: RecoveryAnswer,
 ) -> Result<Option<Status>, Stop>
-    ensures ran { (start : Start) → Ran H.world host.old host.new
-        (λ es. Goes (recovered start answer) es (after_recovery start result)) }
+    ensures ran { Ran H.world host.old host.new
+        (λ es. Goes (recovered (start_from start.entry) answer) es (after_recovery (start_from start.entry) result)) }
     ensures cause { Caused (H.world.counts host.old) (H.world.counts host.new) result }
     ensures stops { StopsAtStart result }
 {
     match answer {
         RecoveryAnswer::Done(_) => Ok(None),
         RecoveryAnswer::Busy { name } => {
-            end_at_file(alloc, host, name.bytes(), b": busy", Status::Refused)
+            end_at_file(alloc, host, start, name.bytes(), b": busy", Status::Refused)
         }
         RecoveryAnswer::NotARecord | RecoveryAnswer::TooLarge { .. } => Ok(Some(Status::BadRecord)),
     }
@@ -36,16 +38,17 @@ fn answered<H: Host>(
 pub(crate) fn recover_first<H: Host>(
     alloc: Global,
     host: &mut H,
+    start: Asked<'_>,
     session: &Session,
 ) -> Result<Option<Status>, Stop>
-    ensures ran { (start : Start) → Ran H.world host.old host.new
-        (λ es. Goes (Ask (Recover session.now.actor session.now.token) (recovered start)) es
-        (after_recovery start result)) }
+    ensures ran { Ran H.world host.old host.new
+        (λ es. Goes (Ask (Recover session.now.actor session.now.token) (recovered (start_from start.entry))) es
+        (after_recovery (start_from start.entry) result)) }
     ensures cause { Caused (H.world.counts host.old) (H.world.counts host.new) result }
     ensures stops { StopsAtStart result }
 {
     match recovery(alloc, host, session.state().actor.bytes()) {
-        Ok(answer) => answered(alloc, host, answer),
+        Ok(answer) => answered(alloc, host, start, answer),
         Err(cause) => Err(cause),
     }
 }

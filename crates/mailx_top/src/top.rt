@@ -1,5 +1,5 @@
 // The whole run.
-ghost use Rattle.std.specs.Prelude.{◌≡◌, ◌++◌, true, false, List, Some, None, IfOk};
+ghost use Rattle.std.specs.Prelude.{◌≡◌, ◌++◌, ◌∷◌, true, List, Some, None, IfOk, codes};
 ghost use Rattle.host_port.specs.Calls.{Rose};
 ghost use Rattle.host_port.specs.Disk.{disk};
 ghost use Rattle.host_port.specs.Ran.{Ran};
@@ -12,20 +12,20 @@ ghost use Rattle.mailx_top.specs.Ends.{ended_as};
 ghost use Rattle.mailx_top.specs.Statuses.{line_at_stop, line_at_end, not_a_record};
 ghost use Rattle.mailx_session.specs.Statuses.{IsEnd};
 ghost use Rattle.mailx_top.specs.Usage.{EndsAsNamed, EndsOr, EndsUnopened, IsBadName, IsOrCut, IsUnopened};
-ghost use Rattle.mailx_top.specs.Wants.{start_from};
+ghost use Rattle.mailx_top.specs.Wants.{may_start, start_from};
 ghost use Rattle.folder_commit.specs.Safe.{MayCommit};
 ghost use Rattle.mailx_top.specs.Crash.{IsSafe};
-ghost use Rattle.mailx_top.specs.Words.{are_read, start_of};
+ghost use Rattle.mailx_top.specs.Words.{asked, may_say, start_of};
 
 use crate::Environment;
 use crate::open::{end_with_usage, open};
 use crate::recovering::recover_first;
 use crate::session::lines;
 use crate::status::{stop_line, stop_status};
-use crate::words::{Wanted, are_read, start_of};
+use crate::words::{Asked, asked_by, may_say, start_of, wanted};
 use commit_machine::record_name;
 use host_port::Host;
-use mail_text::{Memory, Text};
+use mail_text::{Items, Memory, Text};
 use mailx_session::{Session, Status, actor_of};
 use mailx_vars::Places;
 use session_play::Stop;
@@ -36,10 +36,10 @@ fn open_session<H: Host>(
     alloc: Global,
     host: &mut H,
     env: &Environment,
-    start: Wanted<'_>,
+    start: Asked<'_>,
     session: &mut Session,
 ) -> Result<Status, Stop>
-    requires { session.old ≡ first_of env.now }
+    requires { session.old ≡ first_of env.now (start_from start).user }
     ensures ran { Ran H.world host.old host.new
         (λ es. Loop (round env.now) (Opening (Some (start_from start.entry))) es result) }
     ensures cause { Caused (H.world.counts host.old) (H.world.counts host.new) result }
@@ -58,20 +58,56 @@ fn play_session<H: Host>(
     alloc: Global,
     host: &mut H,
     env: &Environment,
-    start: Wanted<'_>,
+    start: Asked<'_>,
     session: &mut Session,
 ) -> Result<Status, Stop>
-    requires { session.old ≡ first_of env.now }
+    requires { session.old ≡ first_of env.now (start_from start).user }
     ensures ran { Ran H.world host.old host.new
         (λ es. Loop (round env.now) (Recovering (Some (start_from start.entry))) es result) }
     ensures cause { Caused (H.world.counts host.old) (H.world.counts host.new) result }
     ensures plain { IfOk result (λ e. IsEnd e) }
     ensures bad_name { IsBadName env.now (Some (start_from start.entry)) → EndsUnopened result }
 {
-    match recover_first(alloc, host, session) {
+    match recover_first(alloc, host, start, session) {
         Ok(None) => open_session(alloc, host, env, start, session),
         Ok(Some(end)) => Ok(end),
         Err(cause) => Err(cause),
+    }
+}
+
+// The environment's variables, with a mailbox of another user as system mailbox.
+fn pairs_of_user(
+    alloc: Global,
+    pairs: &[(Text, Text)],
+    user: &[u8],
+) -> Result<Items<(Text, Text)>, Memory>
+    ensures { IfOk result (λ all. all ≡ (codes "MAIL", codes "/var/mail/" ++ user.now) ∷ pairs.now) }
+{
+    let mut all = Items::new(alloc);
+    let mut file = Text::copy(alloc, b"/var/mail/")?;
+    file.push(user)?;
+    all.push((Text::copy(alloc, b"MAIL")?, file))?;
+    for (name, value) in pairs {
+        let pair = (
+            Text::copy(alloc, name.bytes())?,
+            Text::copy(alloc, value.bytes())?,
+        );
+        all.push(pair)?;
+    }
+    Ok(all)
+}
+
+// The session that a run begins with.
+fn first_session(alloc: Global, env: &Environment, start: Asked<'_>) -> Result<Session, Memory>
+    requires { knows_user env.now.pairs ≡ true }
+    ensures { IfOk result (λ session. session ≡ first_of env.now (start_from start.entry).user) }
+{
+    match start.user {
+        Some(user) => {
+            let pairs = pairs_of_user(alloc, env.pairs.items(), user)?;
+            Session::new(alloc, pairs.items(), env.terminal, env.token)
+        }
+        None => Session::new(alloc, env.pairs.items(), env.terminal, env.token),
     }
 }
 
@@ -79,7 +115,7 @@ fn start_session<H: Host>(
     alloc: Global,
     host: &mut H,
     env: &Environment,
-    start: Wanted<'_>,
+    start: Asked<'_>,
 ) -> Result<Status, Stop>
     requires { knows_user env.now.pairs ≡ true }
     ensures ran { Ran H.world host.old host.new
@@ -88,7 +124,7 @@ fn start_session<H: Host>(
     ensures plain { IfOk result (λ e. IsEnd e) }
     ensures bad_name { IsBadName env.now (Some (start_from start.entry)) → EndsUnopened result }
 {
-    match Session::new(alloc, env.pairs.items(), env.terminal, env.token) {
+    match first_session(alloc, env, start) {
         Ok(mut session) => play_session(alloc, host, env, start, &mut session),
         Err(Memory) => Err(Stop::Memory),
     }
@@ -97,15 +133,15 @@ fn start_session<H: Host>(
 fn play<H: Host>(
     alloc: Global,
     host: &mut H,
-    words: &[Text],
+    asked: Option<Asked<'_>>,
     env: &Environment,
 ) -> Result<Status, Stop>
     ensures ran { Ran H.world host.old host.new
-        (λ es. Loop (round env.now) (Recovering (start_of words.now env.now.pairs)) es result) }
+        (λ es. Loop (round env.now) (Recovering (start_of (may_start asked.entry) env.now.pairs)) es result) }
     ensures cause { Caused (H.world.counts host.old) (H.world.counts host.new) result }
-    ensures named { EndsAsNamed env.now (start_of words.now env.now.pairs) result }
+    ensures named { EndsAsNamed env.now (start_of (may_start asked.entry) env.now.pairs) result }
 {
-    match start_of(words, env) {
+    match start_of(asked, env) {
         Some(start) => start_session(alloc, host, env, start),
         None => end_with_usage(host),
     }
@@ -157,16 +193,17 @@ fn end_of(alloc: Global, env: &Environment, status: Status) -> Result<End, Memor
 fn play_to_end<H: Host>(
     alloc: Global,
     host: &mut H,
-    words: &[Text],
+    asked: Option<Asked<'_>>,
     env: &Environment,
 ) -> Result<End, Stop>
     ensures ran { Ran H.world host.old host.new
-        (λ es. Loop (round env.now) (Recovering (start_of words.now env.now.pairs)) es (ended_as result)) }
+        (λ es. Loop (round env.now) (Recovering (start_of (may_start asked.entry) env.now.pairs)) es
+        (ended_as result)) }
     ensures cause { Caused (H.world.counts host.old) (H.world.counts host.new) result }
-    ensures named { EndsAsNamed env.now (start_of words.now env.now.pairs) (ended_as result) }
+    ensures named { EndsAsNamed env.now (start_of (may_start asked.entry) env.now.pairs) (ended_as result) }
     ensures line { IfOk result (λ end. end.line ≡ line_at_end (actor_in env.now) end.status) }
 {
-    match play(alloc, host, words, env) {
+    match play(alloc, host, asked, env) {
         Ok(status) => match end_of(alloc, env, status) {
             Ok(end) => Ok(end),
             Err(Memory) => Err(Stop::Memory),
@@ -175,40 +212,40 @@ fn play_to_end<H: Host>(
     }
 }
 
-// Says a last line, where the words were read.
-fn say_last<H: Host>(host: &mut H, words: &[Text], line: &[u8])
-    ensures { Ran H.world host.old host.new (SaysLast (are_read words.now) line.now) }
+// Says a last line, where one may be said.
+fn say_last<H: Host>(host: &mut H, asked: Option<Asked<'_>>, line: &[u8])
+    ensures { Ran H.world host.old host.new (SaysLast (may_say (may_start asked.entry)) line.now) }
 {
-    if are_read(words) {
+    if may_say(asked) {
         let _ = host.say(line);
     }
 }
 
-// Says the line of an end, where there is one and the words were read.
-fn say_end<H: Host>(host: &mut H, words: &[Text], end: &End)
-    ensures { Ran H.world host.old host.new (SaysAtEnd (are_read words.now) end.now.line) }
+// Says the line of an end, where there is one and it may be said.
+fn say_end<H: Host>(host: &mut H, asked: Option<Asked<'_>>, end: &End)
+    ensures { Ran H.world host.old host.new (SaysAtEnd (may_say (may_start asked.entry)) end.now.line) }
 {
     match &end.line {
-        Some(line) => say_last(host, words, line.bytes()),
+        Some(line) => say_last(host, asked, line.bytes()),
         None => {}
     }
 }
 
-// Says why the run is cut off, where its words were read.
-fn say_cut<H: Host>(host: &mut H, words: &[Text], cause: Stop)
-    ensures { Ran H.world host.old host.new (SaysLast (are_read words.now) (line_at_stop cause)) }
+// Says why the run is cut off, where that may be said.
+fn say_cut<H: Host>(host: &mut H, asked: Option<Asked<'_>>, cause: Stop)
+    ensures { Ran H.world host.old host.new (SaysLast (may_say (may_start asked.entry)) (line_at_stop cause)) }
 {
-    if are_read(words) {
+    if may_say(asked) {
         let _ = host.say(stop_line(cause));
     }
 }
 
 /// All that the program does: it reads the words of the command line without the program's own name, recovers what a
-/// stopped run has left, opens the folder that they name, carries out the lines of its input, and answers how it ended.
-/// The status' cause is the clause of its name.
+/// stopped run has left, opens the folder that they ask for, carries out the lines of its input, and answers how it
+/// ended. The status' cause is the clause of its name.
 pub fn run<H: Host>(alloc: Global, words: &[Text], env: &Environment, host: &mut H) -> Status
     // The own events are those of the command meaning, and output and status are its.
-    ensures run { Ran H.world host.old host.new (IsRun words.now env.now result) }
+    ensures run { Ran H.world host.old host.new (IsRun (asked words.now) env.now result) }
     // A fault is answered only where the host's count of it rose.
     ensures input_fault { result ≡ Status.InputFault
         → Rose (H.world.counts host.old).ins (H.world.counts host.new).ins }
@@ -217,26 +254,31 @@ pub fn run<H: Host>(alloc: Global, words: &[Text], env: &Environment, host: &mut
     ensures disk_fault { result ≡ Status.DiskFault
         → Rose (H.world.counts host.old).disks (H.world.counts host.new).disks }
     // The usage is answered exactly where the words or the environment are refused.
-    ensures usage_only { result ≡ Status.Usage → start_of words.now env.now.pairs ≡ None }
-    ensures usage_always { start_of words.now env.now.pairs ≡ None → IsOrCut Status.Usage result }
+    ensures usage_only { result ≡ Status.Usage → start_of (asked words.now) env.now.pairs ≡ None }
+    ensures usage_always { start_of (asked words.now) env.now.pairs ≡ None → IsOrCut Status.Usage result }
     // A folder whose word stands for no file, or for a name that no file can have, is none, whatever the host tells.
-    ensures bad_name { IsBadName env.now (start_of words.now env.now.pairs) → IsUnopened result }
+    ensures bad_name { IsBadName env.now (start_of (asked words.now) env.now.pairs) → IsUnopened result }
     // From a disk that is sound and carries nothing of the token, with lawful steps of others: at every moment, and
     // wherever the run stops, what recovery would make of the files is what the accepted commits and others give.
     ensures safe { (before es : List Event) → H.world.told host.old ≡ Some before
         → H.world.told host.new ≡ Some (before ++ es)
         → MayCommit (actor_in env.now) env.now.token (disk (H.world.start host.old) before) es
-        → IsSafe words.now env.now result (disk (H.world.start host.old) before) es }
+        → IsSafe (asked words.now) env.now result (disk (H.world.start host.old) before) es }
 {
     // the clause `safe` speaks of a token of 64 bits
     let _token = env.token;
-    match play_to_end(alloc, host, words, env) {
+    let wanted = match wanted(alloc, words) {
+        Ok(wanted) => wanted,
+        Err(Memory) => return Status::Memory,
+    };
+    let asked = asked_by(&wanted);
+    match play_to_end(alloc, host, asked, env) {
         Ok(end) => {
-            say_end(host, words, &end);
+            say_end(host, asked, &end);
             end.status
         }
         Err(cause) => {
-            say_cut(host, words, cause);
+            say_cut(host, asked, cause);
             stop_status(cause)
         }
     }

@@ -1,77 +1,160 @@
 // The words of the command line.
-ghost use Rattle.std.specs.Prelude.{◌≡◌, IfSome, true};
-ghost use Rattle.std.specs.Str.{is_utf8};
+ghost use Rattle.std.specs.Prelude.{◌≡◌, IfOk, IfSome, true};
+ghost use Rattle.std.specs.Option.{option_and_then, option_copied};
+ghost use Rattle.command_words.specs.Readings.{reading};
 ghost use Rattle.mailx_vars.specs.Environment.{knows_user};
-ghost use Rattle.mailx_top.specs.Wants.{IsWanted};
-ghost use Rattle.mailx_top.specs.Words.{is_operand, starts, reading, are_read, start_of};
+ghost use Rattle.mailx_top.specs.Wants.{may_start, start_from};
+ghost use Rattle.mailx_top.specs.Words.{first_or, folder_word, is_silent, manner_of, may_say, start_by, start_of, start_with};
 
 use crate::Environment;
-use mail_text::Text;
+use command_words::{Mode, Options, Wanted, WordsError, read_words};
+use mail_text::{Memory, Text};
 use mailx_vars::knows_user;
+use std::alloc::Global;
+
+/// What is said once the folder is open.
+#[derive(Clone, Copy, Debug, PartialEq, Eq)]
+pub(crate) enum Manner {
+    /// Nothing; the run is done.
+    Silent,
+    /// The summary lines of all messages; the run is done.
+    Rows,
+    /// Nothing.
+    Quiet,
+    /// A greeting.
+    Greeting,
+}
 
 /// What the words ask for.
 #[derive(Clone, Copy)]
-pub(crate) struct Wanted<'a> {
-    /// The word of the file to open as folder.
+pub(crate) struct Asked<'a> {
+    /// The word of the folder to open.
     pub word: &'a [u8],
-    /// Whether nothing is said of it at the start.
-    pub quiet: bool,
+    /// Whether `-f` asks for it; else it is the system mailbox.
+    pub named: bool,
+    /// The user whose mailbox that is, where it isn't the user's own.
+    pub user: Option<&'a [u8]>,
+    /// What is said once the folder is open.
+    pub manner: Manner,
 }
 
-fn is_operand(word: &[u8]) -> bool
-    ensures { result ≡ is_operand word.now }
-{
-    match word {
-        [] => false,
-        [b, ..] => *b != b'-',
+impl Manner {
+    /// Whether nothing is said in the run.
+    pub(crate) fn is_silent(self) -> bool
+        ensures { result ≡ is_silent self }
+    {
+        match self {
+            Manner::Silent => true,
+            Manner::Rows | Manner::Quiet | Manner::Greeting => false,
+        }
     }
 }
 
-fn is_utf8(word: &[u8]) -> bool
-    ensures { result ≡ is_utf8 word.now }
-{
-    match str::from_utf8(word) {
-        Ok(_) => true,
-        Err(_) => false,
-    }
-}
-
-fn starts(word: &[u8], quiet: bool) -> Option<Wanted<'_>>
-    ensures { IsWanted result (starts word.now quiet) }
-{
-    if is_operand(word) && is_utf8(word) {
-        Some(Wanted { word, quiet })
-    } else {
-        None
-    }
-}
-
-fn reading(words: &[Text]) -> Option<Wanted<'_>>
-    ensures { IsWanted result (reading words.now) }
+// The first of these words, or another where there is none.
+fn first_or<'a>(other: &'a [u8], words: &'a [Text]) -> &'a [u8]
+    ensures { result.now ≡ first_or other.now words.now }
 {
     match words {
-        [a, word] if a.bytes() == b"-f".as_slice() => starts(word.bytes(), false),
-        [a, b, word] if a.bytes() == b"-N".as_slice() && b.bytes() == b"-f".as_slice() => {
-            starts(word.bytes(), true)
-        }
+        [word, ..] => word.bytes(),
+        [] => other,
+    }
+}
+
+// The word of the folder.
+fn folder_word(options: &Options) -> &[u8]
+    ensures { result.now ≡ folder_word options.now }
+{
+    if options.folder {
+        first_or(b"&", options.operands.items())
+    } else {
+        b"%"
+    }
+}
+
+fn manner_of(options: &Options) -> Manner
+    ensures { result ≡ manner_of options.now }
+{
+    if options.exists {
+        Manner::Silent
+    } else if options.headers {
+        Manner::Rows
+    } else if options.quiet {
+        Manner::Quiet
+    } else {
+        Manner::Greeting
+    }
+}
+
+// The user of `-u`.
+fn user_of(options: &Options) -> Option<&[u8]>
+    ensures { option_copied result ≡ options.now.user }
+{
+    match &options.user {
+        Some(user) => Some(user.bytes()),
+        None => None,
+    }
+}
+
+fn start_with(options: &Options) -> Asked<'_>
+    ensures { start_from result ≡ start_with options.now }
+{
+    Asked {
+        word: folder_word(options),
+        named: options.folder,
+        user: user_of(options),
+        manner: manner_of(options),
+    }
+}
+
+// How to start in a mode. What sends or tries isn't built, nor is `-F`.
+fn start_by(wanted: &Wanted) -> Option<Asked<'_>>
+    ensures { may_start result ≡ start_by wanted.now }
+{
+    match wanted.mode {
+        Mode::Exists => Some(start_with(&wanted.options)),
+        Mode::Receive if !wanted.options.named => Some(start_with(&wanted.options)),
         _ => None,
     }
 }
 
-/// Whether the words can be read.
-pub(crate) fn are_read(words: &[Text]) -> bool
-    ensures { result ≡ are_read words.now }
+/// What the words ask for. None where they are refused.
+pub(crate) fn asked_by(wanted: &Option<Wanted>) -> Option<Asked<'_>>
+    ensures { may_start result ≡ option_and_then start_by wanted.now }
 {
-    reading(words).is_some()
+    match wanted {
+        Some(wanted) => start_by(wanted),
+        None => None,
+    }
+}
+
+/// Reads the words. None where they are refused.
+pub(crate) fn wanted(alloc: Global, words: &[Text]) -> Result<Option<Wanted>, Memory>
+    ensures { IfOk result (λ wanted. wanted ≡ reading words.now) }
+{
+    match read_words(alloc, words) {
+        Ok(wanted) => Ok(Some(wanted)),
+        Err(WordsError::Usage) => Ok(None),
+        Err(WordsError::Memory) => Err(Memory),
+    }
+}
+
+/// Whether a last line may be said.
+pub(crate) fn may_say(asked: Option<Asked<'_>>) -> bool
+    ensures { result ≡ may_say (may_start asked.entry) }
+{
+    match asked {
+        Some(asked) => !asked.manner.is_silent(),
+        None => false,
+    }
 }
 
 /// How to start, or None where the words are refused or home folder and user aren't known.
-pub(crate) fn start_of<'a>(words: &'a [Text], env: &Environment) -> Option<Wanted<'a>>
-    ensures wanted { IsWanted result (start_of words.now env.now.pairs) }
-    ensures known { IfSome result (λ w. knows_user env.now.pairs ≡ true) }
+pub(crate) fn start_of<'a>(asked: Option<Asked<'a>>, env: &Environment) -> Option<Asked<'a>>
+    ensures wanted { may_start result ≡ start_of (may_start asked.entry) env.now.pairs }
+    ensures known { IfSome result (λ a. knows_user env.now.pairs ≡ true) }
 {
     if knows_user(env.pairs.items()) {
-        reading(words)
+        asked
     } else {
         None
     }

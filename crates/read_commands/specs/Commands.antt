@@ -23,9 +23,11 @@ use Rattle.mark_commands.specs.Leaving.{hold, mbox, touch}
 use Rattle.setting_commands.specs.Setting.{set, unset}
 use Rattle.setting_commands.specs.Conditions.{condition}
 use Rattle.setting_commands.specs.Sourcing.{source}
+use Rattle.naming_commands.specs.Naming.{alias, unalias, alternates, ignore, retain}
 use Rattle.folder_commands.specs.declared.wanted.Filing.{Filing}
 use Rattle.folder_commands.specs.Saving.{copy, copy_by_author, save, save_by_author, write}
 use Rattle.folder_commands.specs.Leaving.{quit}
+use Rattle.folder_commands.specs.Opening.{file}
 use Rattle.show_commands.specs.Telling.{from, size, number, echo, help}
 
 -- the whole name of the command that a word spells
@@ -75,6 +77,11 @@ meaning_of command.Set line desk = set desk line.words
 meaning_of command.Unset line desk = unset desk line.words
 meaning_of command.Source line desk = source desk line.words
 meaning_of command.Condition line desk = condition desk (name_of line.word) line.words
+meaning_of command.Alias line desk = alias desk line.words
+meaning_of command.Unalias line desk = unalias desk line.words
+meaning_of command.Alternates line desk = alternates desk line.words
+meaning_of command.Ignore line desk = ignore desk line.words
+meaning_of command.Retain line desk = retain desk line.words
 meaning_of command.Help line desk = alone line (help desk)
 meaning_of command.Comment line desk = quietly unchanged
 meaning_of command.Copy line desk = filed (copy desk line.words)
@@ -82,6 +89,7 @@ meaning_of command.CopyByAuthor line desk = filed (copy_by_author desk line.word
 meaning_of command.Save line desk = filed (save desk line.words)
 meaning_of command.SaveByAuthor line desk = filed (save_by_author desk line.words)
 meaning_of command.Write line desk = filed (write desk line.words)
+meaning_of command.File line desk = file (name_of line.word) desk line.words
 meaning_of command.Quit line desk = alone line (Ok (quit desk))
 meaning_of command.Exit line desk = alone line exit
 meaning_of other line desk = Err (not_built (name_of line.word))
@@ -108,6 +116,11 @@ is_built command.Set = true
 is_built command.Unset = true
 is_built command.Source = true
 is_built command.Condition = true
+is_built command.Alias = true
+is_built command.Unalias = true
+is_built command.Alternates = true
+is_built command.Ignore = true
+is_built command.Retain = true
 is_built command.Help = true
 is_built command.Comment = true
 is_built command.Copy = true
@@ -115,6 +128,7 @@ is_built command.CopyByAuthor = true
 is_built command.Save = true
 is_built command.SaveByAuthor = true
 is_built command.Write = true
+is_built command.File = true
 is_built command.Quit = true
 is_built command.Exit = true
 is_built other = false

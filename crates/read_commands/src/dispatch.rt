@@ -13,11 +13,12 @@ ghost use Rattle.read_commands.specs.Commands.{name_of, alone, exit, filed, step
 ghost use Rattle.show_commands.specs.Telling.{number, help};
 
 use command_desk::{Ask, Desk, Refusal, Steps, fault, quietly, unchanged};
-use folder_commands::{Filing, copy, copy_by_author, quit, save, save_by_author, write};
+use folder_commands::{Filing, copy, copy_by_author, file, quit, save, save_by_author, write};
 use line_words::{Command, CommandLine, LineError, read_line, whole_name};
 use mail_text::{Items, Memory};
 use mark_commands::{delete, delete_and_print, hold, mbox, touch, undelete};
 use message_show::How;
+use naming_commands::{alias, alternates, ignore, retain, unalias};
 use setting_commands::{condition, set, source, unset};
 use show_commands::{echo, from, headers, help, number, print, print_following, scroll, size, top};
 use std::alloc::Global;
@@ -174,6 +175,11 @@ fn carry_out(alloc: Global, line: &CommandLine, desk: &Desk) -> Result<Steps, Re
         Command::Unset => unset(alloc, desk, words),
         Command::Source => source(alloc, desk, words),
         Command::Condition => condition(alloc, desk, name_of(line.word.bytes()), words),
+        Command::Alias => alias(alloc, desk, words),
+        Command::Unalias => unalias(alloc, desk, words),
+        Command::Alternates => alternates(alloc, desk, words),
+        Command::Ignore => ignore(alloc, desk, words),
+        Command::Retain => retain(alloc, desk, words),
         Command::Comment => Ok(quietly(alloc, unchanged(alloc))),
         Command::Number => lone_number(alloc, line, desk),
         Command::Help => lone_help(alloc, line, desk),
@@ -182,6 +188,7 @@ fn carry_out(alloc: Global, line: &CommandLine, desk: &Desk) -> Result<Steps, Re
         Command::Save => filed(alloc, desk, save(alloc, desk, words)),
         Command::SaveByAuthor => filed(alloc, desk, save_by_author(alloc, desk, words)),
         Command::Write => filed(alloc, desk, write(alloc, desk, words)),
+        Command::File => file(alloc, name_of(line.word.bytes()), desk, words),
         Command::Quit => lone_quit(alloc, line, desk),
         Command::Exit => lone_exit(alloc, line, desk),
         Command::Scroll => lone_scroll(alloc, line, desk),
@@ -214,6 +221,11 @@ pub(crate) fn is_built(command: Command) -> bool
         | Command::Unset
         | Command::Source
         | Command::Condition
+        | Command::Alias
+        | Command::Unalias
+        | Command::Alternates
+        | Command::Ignore
+        | Command::Retain
         | Command::Help
         | Command::Comment
         | Command::Copy
@@ -221,6 +233,7 @@ pub(crate) fn is_built(command: Command) -> bool
         | Command::Save
         | Command::SaveByAuthor
         | Command::Write
+        | Command::File
         | Command::Quit
         | Command::Exit => true,
         _ => false,

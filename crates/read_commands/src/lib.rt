@@ -4,7 +4,7 @@
 mod dispatch;
 mod origin;
 
-pub use command_desk::{Ask, Desk, Effects, Marking, Open, Refusal, Steps};
+pub use command_desk::{Ask, Desk, Effects, Marking, Naming, Open, Refusal, Steps};
 pub use dispatch::perform;
 pub use folder_commands::quit;
 pub use origin::{Origin, passes_over, perform_line, read_command};

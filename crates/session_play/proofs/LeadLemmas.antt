@@ -6,7 +6,7 @@ use Rattle.std.specs.declared.result.Result.TheVariants.{Ok, Err}
 use Rattle.host_port.specs.declared.event.Event.{Event}
 use Rattle.session_play.specs.declared.stop.Stop.{Stop}
 use Rattle.session_play.specs.Play.{Play, Ret, Goes}
-use Rattle.session_play.specs.Steps.{After, On, Refused, Ended, onward, in_order}
+use Rattle.session_play.specs.Steps.{After, On, Over, Refused, Ended, onward, in_order}
 use Rattle.session_play.proofs.PlayLemmas.{goes-then, goes-cut, goes-as}
 
 -- after these events the play q is left of p
@@ -36,6 +36,14 @@ asked-on {S = S} {R = R} asked first s t l i d a within is es fs left did gs out
     subst (λ (q : Play (After S R)). Leads (in_order asked first l) q es) (ask-at asked s l i d a within is) left in
     subst (λ (l2 : List Event). Goes (in_order asked first l) l2 out) (sym (append_assoc es fs gs))
     (here (fs ++ gs) out (goes-then (asked s a) (onward (λ (u : S). in_order asked u (drop (i + 1) l))) (On t) out fs gs did g))
+
+-- the command is over with an answer
+pub asked-over : {S R A : Type 0} (asked : S → A → Play (After S R)) (first s t : S) (l : List A) (i : ℕ) (d a : A) → i < length l → get_or l i d ≡ a
+    → (es fs : List Event) → LeftAt asked first l i s es → Goes (asked s a) fs (Ok (Over t)) → Goes (in_order asked first l) (es ++ fs) (Ok (Over t))
+asked-over {S = S} {R = R} asked first s t l i d a within is es fs left did =
+    let here : Leads (in_order asked first l) (in_order asked s (a ∷ drop (i + 1) l)) es =
+    subst (λ (q : Play (After S R)). Leads (in_order asked first l) q es) (ask-at asked s l i d a within is) left in
+    here fs (Ok (Over t)) (goes-as (asked s a) (onward (λ (u : S). in_order asked u (drop (i + 1) l))) (Over t) (Over t) fs refl did)
 
 -- an answer refuses what follows
 pub asked-refused : {S R A : Type 0} (asked : S → A → Play (After S R)) (first s : S) (line : List ℕ) (l : List A) (i : ℕ) (d a : A) → i < length l → get_or l i d ≡ a

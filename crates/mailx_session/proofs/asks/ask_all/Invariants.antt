@@ -14,5 +14,6 @@ invariant-loop-ask g l = record {
   fall : NeverFall (g.H.Host.world.counts l.fn.host) (g.H.Host.world.counts l.host);
   ran : Ran g.H.Host.world l.fn.host l.host (LeftAt asked l.fn.state l.asks l.ask-index l.state);
   brought : OnlyBrings l.fn.state l.state;
+  desk : l.state.desk ≡ l.fn.state.desk;
   quiet : list_any brings l.asks ≡ false → l.state ≡ l.fn.state;
 }

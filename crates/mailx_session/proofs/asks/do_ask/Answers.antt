@@ -1,6 +1,7 @@
 use Rattle.std.proofs.Common.{refl, inl}
 use Rattle.host_port.proofs.RanLemmas.{Ran-none}
-use Rattle.mailx_session.proofs.AskLemmas.{asked-say, asked-commit, asked-source, asked-exit}
+use Rattle.mailx_session.proofs.AskLemmas.{asked-say, asked-commit, asked-source, asked-open, asked-exit}
+use Rattle.mailx_session.proofs.SourcingLemmas.{kept-valid, keeps-desk}
 use Rattle.mailx_session.proofs.asks.do_ask.Goals as goal
 
 pub returns-in-Say-clause-ran : goal.returns-in-Say-clause-ran
@@ -11,6 +12,15 @@ returns-in-Commit-clause-ran g c = rw (asked-commit c.args.state.now c.args.ask.
 
 pub returns-in-Source-clause-ran : goal.returns-in-Source-clause-ran
 returns-in-Source-clause-ran g c = rw (asked-source c.args.state.now c.args.ask.now _ c.in-Source.is) (rw c.bytes.ensures at c.source.ensures.ran)
+
+pub returns-in-Source-clause-valid : goal.returns-in-Source-clause-valid
+returns-in-Source-clause-valid g c = kept-valid c.args.state.now c.source.new.state c.requires c.source.ensures.brings c.source.ensures.desk
+
+pub returns-in-Source-clause-desk : goal.returns-in-Source-clause-desk
+returns-in-Source-clause-desk g c = keeps-desk c.args.state.now c.source.new.state c.source.result c.source.ensures.desk
+
+pub returns-in-Open-clause-ran : goal.returns-in-Open-clause-ran
+returns-in-Open-clause-ran g c = rw (asked-open c.args.state.now c.args.ask.now _ _ _ c.in-Open.is) (rw (c.bytes-in-Open.ensures, c.items-in-Open.ensures) at c.switch.ensures.ran)
 
 pub returns-in-Exit-clause-ran : goal.returns-in-Exit-clause-ran
 returns-in-Exit-clause-ran g c = rw (asked-exit c.args.state.now c.args.ask.now c.in-Exit.is) (Ran-none (refl, inl refl))

@@ -1,21 +1,54 @@
-use Rattle.std.proofs.Common.{◌≡◌, refl, subst}
+use Rattle.std.proofs.Common.{◌≡◌, List, [], refl, sym, subst}
+use Rattle.std.proofs.lemmas.List.{append-nil}
+use Rattle.std.specs.declared.result.Result.TheVariants.{Ok, Err}
+use Rattle.host_port.specs.declared.event.Event.{Event}
 use Rattle.host_port.proofs.RanLemmas.{Ran-then, Ran-map}
-use Rattle.session_play.specs.Play.{Goes, Go, Last}
-use Rattle.session_play.specs.Steps.{On, Refused, Ended, in_order, refused, concluded}
-use Rattle.session_play.proofs.PlayLemmas.{goes-then, goes-as, goes-cut}
+use Rattle.session_play.specs.declared.stop.Stop.TheVariants as stop
+use Rattle.session_play.specs.Play.{Play, Goes, Go, Last, bind}
+use Rattle.session_play.specs.Steps.{On, Over, Refused, Ended, in_order, refused, concluded}
+use Rattle.session_play.proofs.PlayLemmas.{goes-then, goes-as, goes-cut, at-memory}
 use Rattle.mailx_session.specs.declared.state.SessionState.{SessionState}
+use Rattle.command_desk.specs.declared.desk.Desk.{Desk}
+use Rattle.command_desk.specs.Desks.{IsDesk}
+use Rattle.command_desk.specs.Effects.{effect}
 use Rattle.mailx_session.specs.States.{settled}
 use Rattle.mailx_session.specs.Sessions.{asked, in_play, next_of}
 use Rattle.mailx_session.proofs.lines.carry_out.Goals as goal
+
+-- memory may be wanted after a play
+goes-short : {A B : Type 0} (p : Play A) (k : A → Play B) (a : A) (es : List Event) → Goes p es (Ok a) → Goes (bind p k) es (Err stop.Memory)
+goes-short p k a es x =
+    let G : List Event → Type 0 = λ fs. Goes (bind p k) fs (Err stop.Memory) in
+    subst G (append-nil es) (goes-then p k a (Err stop.Memory) es [] x (at-memory (k a)))
+
+pub settle-requires-clause-after : goal.settle-requires-clause-after
+settle-requires-clause-after g c =
+    let same : c.do_asks.new.state.desk ≡ c.args.state.now.desk = rw c.in-Ok-On.field-0-is at c.in-Ok-On.ensures.desk in
+    subst (λ (d : Desk). IsDesk (effect d c.args.steps.effects)) (sym same) c.requires.desk
+
+pub returns-in-Ok-clause-ran : goal.returns-in-Ok-clause-ran
+returns-in-Ok-clause-ran g c =
+    let s = c.args.state.now in
+    let t = c.do_asks.new.state in
+    let effects = c.args.steps.effects in
+    rw c.in-Ok.ensures.ok
+    (Ran-map (λ es went. goes-as (in_order asked s c.args.steps.asks) (concluded s (λ (t : SessionState). settled t effects)) (On t) (Go (settled t effects)) es refl went)
+    (rw (c.items.ensures, c.in-Ok-On.field-0-is) at c.in-Ok-On.ensures.ran))
 
 pub returns-in-Ok-On-clause-ran : goal.returns-in-Ok-On-clause-ran
 returns-in-Ok-On-clause-ran g c =
     let s = c.args.state.now in
     let t = c.do_asks.new.state in
-    let effects = c.args.steps.effects in
-    rw c.settle.ensures
-    (Ran-map (λ es went. goes-as (in_order asked s c.args.steps.asks) (concluded s (λ (t : SessionState). settled t effects)) (On t) (Go (settled t effects)) es refl went)
+    rw c.in-Err-settle.ensures.err
+    (Ran-map (λ es went. goes-short (in_order asked s c.args.steps.asks) (concluded s (λ (t : SessionState). settled t c.args.steps.effects)) (On t) es went)
     (rw (c.items.ensures, c.in-Ok-On.field-0-is) at c.in-Ok-On.ensures.ran))
+
+pub returns-in-Ok-Over-clause-ran : goal.returns-in-Ok-Over-clause-ran
+returns-in-Ok-Over-clause-ran g c =
+    let s = c.args.state.now in
+    let t = c.do_asks.new.state in
+    Ran-map (λ es went. goes-as (in_order asked s c.args.steps.asks) (concluded s (λ (t : SessionState). settled t c.args.steps.effects)) (Over t) (Go t) es refl went)
+    (rw (c.items.ensures, c.in-Ok-Over.field-0-is) at c.in-Ok-Over.ensures.ran)
 
 pub returns-in-Ok-Refused-clause-ran : goal.returns-in-Ok-Refused-clause-ran
 returns-in-Ok-Refused-clause-ran g c =

@@ -1,16 +1,11 @@
 use Rattle.mailx_top.specs.Wants.{start_from}
-use Rattle.mailx_top.proofs.FolderLemmas.{with-held, with-none, with-large}
+use Rattle.mailx_top.proofs.FolderLemmas.{with-held, with-large}
 use Rattle.mailx_top.proofs.open.open_found.Goals as goal
 
 pub returns-in-Bytes-default-true-clause-ran : goal.returns-in-Bytes-default-true-clause-ran
 returns-in-Bytes-default-true-clause-ran g c =
     let w = c.in-Bytes-default-true in
     rw (with-held c.args.session.now (start_from c.args.start) c.args.name.now _ _ _ w.is w.held-test) (c.end_at_file.ensures.ran c.args.session.now)
-
-pub returns-in-Bytes-None-false-clause-ran : goal.returns-in-Bytes-None-false-clause-ran
-returns-in-Bytes-None-false-clause-ran g c =
-    let w = c.in-Bytes-None-false in
-    rw (with-none c.args.session.now (start_from c.args.start) c.args.name.now _ _ _ w.is w.bytes-is w.held-test) (c.end_at_file-in-Bytes-None-false.ensures.ran c.args.session.now)
 
 pub returns-in-TooLarge-clause-ran : goal.returns-in-TooLarge-clause-ran
 returns-in-TooLarge-clause-ran g c =

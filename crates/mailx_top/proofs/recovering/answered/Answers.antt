@@ -1,5 +1,6 @@
 use Rattle.std.proofs.Common.{[], false, refl, sym, subst, inl}
 use Rattle.std.specs.declared.option.Option.{Option}
+use Rattle.std.specs.declared.option.Option.TheVariants.{None}
 use Rattle.std.specs.declared.result.Result.{Result}
 use Rattle.std.specs.Prelude.{◌++◌, codes}
 use Rattle.mail_text.specs.Lines.{with_feed}
@@ -10,19 +11,21 @@ use Rattle.session_play.specs.Play.{Goes, Next}
 use Rattle.mailx_session.specs.declared.state.SessionState.{SessionState}
 use Rattle.mailx_session.specs.declared.status.Status.{Status}
 use Rattle.mailx_session.specs.declared.status.Status.TheVariants as status
-use Rattle.mailx_top.specs.Meaning.{RunState, says_and_ends, first_of}
+use Rattle.mailx_top.specs.Meaning.{RunState, ends_with, first_of}
+use Rattle.mailx_top.specs.Wants.{start_from}
 use Rattle.mailx_top.proofs.EndLemmas.{said-next, said-stops}
 use Rattle.mailx_top.proofs.recovering.answered.Goals as goal
 
 pub returns-in-Done-clause-ran : goal.returns-in-Done-clause-ran
-returns-in-Done-clause-ran g c = λ start. rw c.in-Done.is (Ran-none (refl, inl refl))
+returns-in-Done-clause-ran g c = rw c.in-Done.is (Ran-none (refl, inl refl))
 
 pub returns-in-Busy-clause-ran : goal.returns-in-Busy-clause-ran
-returns-in-Busy-clause-ran g c = λ start.
-    let s : SessionState = first_of (record { pairs = []; terminal = false; token = 0 }) in
+returns-in-Busy-clause-ran g c =
+    let start = start_from c.args.start in
+    let s : SessionState = first_of (record { pairs = []; terminal = false; token = 0 }) None in
     let line = with_feed (c.in-Busy.name ++ codes ": busy") in
     rw c.in-Busy.is
-    (Ran-map (λ es goes. subst (λ (out : Result (Next RunState Status) Stop). Goes (says_and_ends line status.Refused) es out) (said-next s no_input start c.end_at_file.result c.end_at_file.ensures.ends) goes)
+    (Ran-map (λ es goes. subst (λ (out : Result (Next RunState Status) Stop). Goes (ends_with start line status.Refused) es out) (said-next s no_input start c.end_at_file.result c.end_at_file.ensures.ends) goes)
     (rw c.bytes.ensures at c.end_at_file.ensures.ran s))
 
 pub returns-in-Busy-clause-stops : goal.returns-in-Busy-clause-stops

@@ -2,6 +2,7 @@ use Rattle.host_port.proofs.RanLemmas.{Ran-then, Ran-map}
 use Rattle.session_play.specs.Play.{Ask, Ret, Recover}
 use Rattle.session_play.proofs.PlayLemmas.{goes-then, goes-cut}
 use Rattle.mailx_top.specs.Meaning.{recovered, after_recovery}
+use Rattle.mailx_top.specs.Wants.{start_from}
 use Rattle.mailx_top.proofs.EndLemmas.{load-stops, caused-since}
 use Rattle.mailx_top.proofs.recovering.recover_first.Goals as goal
 
@@ -12,10 +13,11 @@ pub recovery-requires-clause-no_zero : goal.recovery-requires-clause-no_zero
 recovery-requires-clause-no_zero g c = rw (c.bytes.ensures, c.state.ensures.state) c.state.ensures.valid.state.actor.no_zero
 
 pub returns-in-Ok-clause-ran : goal.returns-in-Ok-clause-ran
-returns-in-Ok-clause-ran g c = λ start.
+returns-in-Ok-clause-ran g c =
     let s = c.args.session.now in
+    let start = start_from c.args.start in
     Ran-then (goes-then (Ask (Recover s.actor s.token) Ret) (recovered start) _ (after_recovery start c.answered.result))
-    (rw (c.bytes.ensures, c.state.ensures.state) at c.in-Ok.ensures.ran s.token) (c.answered.ensures.ran start)
+    (rw (c.bytes.ensures, c.state.ensures.state) at c.in-Ok.ensures.ran s.token) c.answered.ensures.ran
 
 pub returns-in-Ok-clause-cause : goal.returns-in-Ok-clause-cause
 returns-in-Ok-clause-cause g c =
@@ -23,8 +25,9 @@ returns-in-Ok-clause-cause g c =
     (c.in-Ok.ensures.ran c.args.session.now.token).never_fall c.answered.ensures.cause
 
 pub returns-in-Err-clause-ran : goal.returns-in-Err-clause-ran
-returns-in-Err-clause-ran g c = λ start.
+returns-in-Err-clause-ran g c =
     let s = c.args.session.now in
+    let start = start_from c.args.start in
     Ran-map (goes-cut (Ask (Recover s.actor s.token) Ret) (recovered start) _) (rw (c.bytes.ensures, c.state.ensures.state) at c.in-Err.ensures.ran s.token)
 
 pub returns-in-Err-clause-stops : goal.returns-in-Err-clause-stops

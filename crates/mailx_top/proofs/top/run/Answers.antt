@@ -1,68 +1,82 @@
-use Rattle.std.proofs.Common.{◌<◌, ◌^◌, arith, refl, Ok, Err}
-use Rattle.host_port.proofs.RanLemmas.{Ran-then, Ran-since}
-use Rattle.session_play.proofs.CauseLemmas.{loop-explained}
-use Rattle.mailx_top.specs.Meaning.{round, input_of, is_opening}
-use Rattle.mailx_top.proofs.EndLemmas.{end-no-fault, only-usage, usage-ended, usage-cut, bad-ended, bad-cut}
-use Rattle.mailx_top.proofs.RecoveringLemmas.{recovering-explained}
-use Rattle.mailx_top.proofs.RoundLemmas.{threads-round, loads-round}
+use Rattle.std.proofs.Common.{◌<◌, ◌^◌, ◌≡◌, ◌∙◌, arith, ap, [], refl, sym, subst, inr, Option, None, Ok, Err}
+use Rattle.std.specs.Option.{option_and_then}
+use Rattle.host_port.specs.Ran.{Ran}
+use Rattle.host_port.proofs.RanLemmas.{Ran-then, Ran-since, Ran-none}
+use Rattle.session_play.specs.declared.stop.Stop.TheVariants as stop
+use Rattle.mailx_session.specs.declared.status.Status.TheVariants as status
+use Rattle.session_play.specs.Play.{cut}
+use Rattle.session_play.proofs.PlayLemmas.{at-memory}
+use Rattle.mailx_top.specs.Meaning.{recovering}
+use Rattle.mailx_top.specs.Runs.{IsRun}
+use Rattle.mailx_top.specs.Usage.{IsBadName}
+use Rattle.mailx_top.specs.Wants.{may_start}
+use Rattle.mailx_top.specs.Words.{Start, asked, start_by, start_of}
+use Rattle.mailx_top.proofs.EndLemmas.{cut-said, cut-unless-idle, only-usage, bad-ended, bad-cut}
 use Rattle.mailx_top.proofs.CrashLemmas.{safely}
-use Rattle.mailx_top.proofs.RecordLemmas.{record-explained}
+use Rattle.mailx_top.proofs.RunLemmas.{run-of}
 use Rattle.mailx_top.proofs.top.run.Goals as goal
 
-pub returns-in-Ok-clause-run : goal.returns-in-Ok-clause-run
-returns-in-Ok-clause-run g c =
-    let env = c.args.env.now in
-    let fits : env.token < 2 ^ 64 = omega arith in
-    Ran-then (λ front rest loop said. record {
-      whole = record { out = Ok c.in-Ok.«end».status; front = front; behind = rest; is = refl; plays = loop; ending = (refl, rw c.in-Ok.ensures.line at said) };
-      explained = loop-explained (round env) input_of is_opening _ front _ (threads-round env) (loads-round env) refl loop;
-      record_met = record-explained env fits _ front _ loop;
-      start = recovering-explained env _ front _ loop;
-    }) c.in-Ok.ensures.ran c.say_end.ensures
-
-pub returns-in-Ok-clause-input_fault : goal.returns-in-Ok-clause-input_fault
-returns-in-Ok-clause-input_fault g c = λ is. end-no-fault c.args.env.now _ _ _ c.in-Ok.ensures.named tt is
-
-pub returns-in-Ok-clause-output_fault : goal.returns-in-Ok-clause-output_fault
-returns-in-Ok-clause-output_fault g c = λ is. end-no-fault c.args.env.now _ _ _ c.in-Ok.ensures.named tt is
-
-pub returns-in-Ok-clause-disk_fault : goal.returns-in-Ok-clause-disk_fault
-returns-in-Ok-clause-disk_fault g c = λ is. end-no-fault c.args.env.now _ _ _ c.in-Ok.ensures.named tt is
-
-pub returns-in-Ok-clause-usage_only : goal.returns-in-Ok-clause-usage_only
-returns-in-Ok-clause-usage_only g c = λ is. only-usage c.args.env.now _ _ c.in-Ok.ensures.named is
-
-pub returns-in-Ok-clause-usage_always : goal.returns-in-Ok-clause-usage_always
-returns-in-Ok-clause-usage_always g c = λ none. usage-ended c.args.env.now _ _ c.in-Ok.ensures.named none
-
-pub returns-in-Ok-clause-bad_name : goal.returns-in-Ok-clause-bad_name
-returns-in-Ok-clause-bad_name g c = λ bad. bad-ended c.args.env.now _ _ c.in-Ok.ensures.named bad
-
-pub returns-in-Err-clause-usage_always : goal.returns-in-Err-clause-usage_always
-returns-in-Err-clause-usage_always g c = λ none. rw c.stop_status.ensures (usage-cut c.args.env.now _ _ c.in-Err.ensures.named none)
-
-pub returns-in-Err-clause-bad_name : goal.returns-in-Err-clause-bad_name
-returns-in-Err-clause-bad_name g c = λ bad. rw c.stop_status.ensures (bad-cut c.args.env.now _ _ c.in-Err.ensures.named bad)
-
+-- memory was wanting for the words
 pub returns-in-Err-clause-run : goal.returns-in-Err-clause-run
 returns-in-Err-clause-run g c =
     let env = c.args.env.now in
+    let start = asked c.args.words.now in
     let fits : env.token < 2 ^ 64 = omega arith in
-    Ran-then (λ front rest loop said. record {
-      whole = record { out = Err c.in-Err.cause; front = front; behind = rest; is = refl; plays = loop; ending = (c.stop_status.ensures, said) };
-      explained = loop-explained (round env) input_of is_opening _ front _ (threads-round env) (loads-round env) refl loop;
-      record_met = record-explained env fits _ front _ loop;
-      start = recovering-explained env _ front _ loop;
-    }) c.in-Err.ensures.ran c.say_cut.ensures
-
-pub returns-in-Ok-clause-safe : goal.returns-in-Ok-clause-safe
-returns-in-Ok-clause-safe g c = λ before es at to may.
-    let r = Ran-since before es (returns-in-Ok-clause-run g c) at to in
-    let fits : c.args.env.now.token < 2 ^ 64 = omega arith in
-    safely c.args.words.now c.args.env.now c.in-Ok.«end».status _ es fits r.0 may r.1
+    Ran-none (run-of start env fits status.Memory (Err stop.Memory) [] [] (cut (at-memory (recovering env (start_of start env.pairs)))) (refl, inr refl) (λ may none. refl))
 
 pub returns-in-Err-clause-safe : goal.returns-in-Err-clause-safe
 returns-in-Err-clause-safe g c = λ before es at to may.
     let r = Ran-since before es (returns-in-Err-clause-run g c) at to in
     let fits : c.args.env.now.token < 2 ^ 64 = omega arith in
-    safely c.args.words.now c.args.env.now c.stop_status.result _ es fits r.0 may r.1
+    safely (asked c.args.words.now) c.args.env.now status.Memory _ es fits r.0 may r.1
+
+pub returns-in-Ok-play_to_end-clause-run : goal.returns-in-Ok-play_to_end-clause-run
+returns-in-Ok-play_to_end-clause-run g c =
+    let env = c.args.env.now in
+    let fits : env.token < 2 ^ 64 = omega arith in
+    let same : may_start c.asked_by-asked.result ≡ asked c.args.words.now = c.asked_by-asked.ensures ∙ ap (option_and_then start_by) c.in-Ok.ensures in
+    let s = c.in-Ok-play_to_end.«end».status in
+    subst (λ (a : Option Start). Ran g.H.Host.world c.args.host.now c.say_end.new.host (IsRun a env s)) same
+    (Ran-then (λ front rest loop said. run-of (may_start c.asked_by-asked.result) env fits s (Ok s) front rest loop (refl, rw c.in-Ok-play_to_end.ensures.line at said) tt)
+    c.in-Ok-play_to_end.ensures.ran c.say_end.ensures)
+
+pub returns-in-Ok-play_to_end-clause-usage_only : goal.returns-in-Ok-play_to_end-clause-usage_only
+returns-in-Ok-play_to_end-clause-usage_only g c = λ is.
+    let env = c.args.env.now in
+    let same : may_start c.asked_by-asked.result ≡ asked c.args.words.now = c.asked_by-asked.ensures ∙ ap (option_and_then start_by) c.in-Ok.ensures in
+    subst (λ (a : Option Start). start_of a env.pairs ≡ None) same (only-usage env _ _ c.in-Ok-play_to_end.ensures.named is)
+
+pub returns-in-Ok-play_to_end-clause-bad_name : goal.returns-in-Ok-play_to_end-clause-bad_name
+returns-in-Ok-play_to_end-clause-bad_name g c = λ bad.
+    let env = c.args.env.now in
+    let same : may_start c.asked_by-asked.result ≡ asked c.args.words.now = c.asked_by-asked.ensures ∙ ap (option_and_then start_by) c.in-Ok.ensures in
+    bad-ended env _ _ c.in-Ok-play_to_end.ensures.named (subst (λ (a : Option Start). IsBadName env (start_of a env.pairs)) (sym same) bad)
+
+pub returns-in-Ok-play_to_end-clause-safe : goal.returns-in-Ok-play_to_end-clause-safe
+returns-in-Ok-play_to_end-clause-safe g c = λ before es at to may.
+    let r = Ran-since before es (returns-in-Ok-play_to_end-clause-run g c) at to in
+    let fits : c.args.env.now.token < 2 ^ 64 = omega arith in
+    safely (asked c.args.words.now) c.args.env.now c.in-Ok-play_to_end.«end».status _ es fits r.0 may r.1
+
+pub returns-clause-run : goal.returns-clause-run
+returns-clause-run g c =
+    let env = c.args.env.now in
+    let fits : env.token < 2 ^ 64 = omega arith in
+    let same : may_start c.asked_by-asked.result ≡ asked c.args.words.now = c.asked_by-asked.ensures ∙ ap (option_and_then start_by) c.in-Ok.ensures in
+    let cause = c.in-Err-play_to_end.cause in
+    let s = c.stop_status.result in
+    subst (λ (a : Option Start). Ran g.H.Host.world c.args.host.now c.say_cut.new.host (IsRun a env s)) same
+    (Ran-then (λ front rest loop said. run-of (may_start c.asked_by-asked.result) env fits s (Err cause) front rest loop (c.stop_status.ensures, cut-said _ cause rest said) (cut-unless-idle _ _ cause front rest said))
+    c.in-Err-play_to_end.ensures.ran c.say_cut.ensures)
+
+pub returns-clause-bad_name : goal.returns-clause-bad_name
+returns-clause-bad_name g c = λ bad.
+    let env = c.args.env.now in
+    let same : may_start c.asked_by-asked.result ≡ asked c.args.words.now = c.asked_by-asked.ensures ∙ ap (option_and_then start_by) c.in-Ok.ensures in
+    rw c.stop_status.ensures (bad-cut env _ _ c.in-Err-play_to_end.ensures.named (subst (λ (a : Option Start). IsBadName env (start_of a env.pairs)) (sym same) bad))
+
+pub returns-clause-safe : goal.returns-clause-safe
+returns-clause-safe g c = λ before es at to may.
+    let r = Ran-since before es (returns-clause-run g c) at to in
+    let fits : c.args.env.now.token < 2 ^ 64 = omega arith in
+    safely (asked c.args.words.now) c.args.env.now c.stop_status.result _ es fits r.0 may r.1

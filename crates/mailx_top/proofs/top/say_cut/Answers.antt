@@ -3,7 +3,7 @@ use Rattle.host_port.proofs.RanLemmas.{Ran-map, called}
 use Rattle.mailx_top.proofs.EndLemmas.{said-far, says-read}
 use Rattle.mailx_top.proofs.top.say_cut.Goals as goal
 
-pub returns-then-are_read : goal.returns-then-are_read
-returns-then-are_read g c =
-    Ran-map (λ es far. says-read _ _ es (sym c.are_read.ensures ∙ c.if-are_read.true) far)
+pub returns-then-may_say : goal.returns-then-may_say
+returns-then-may_say g c =
+    Ran-map (λ es far. says-read _ _ es (sym c.may_say.ensures ∙ c.if-may_say.true) far)
     (called (said-far c.say.result _ _ c.stop_line.ensures) c.say.ensures.start c.say.ensures.counts c.say.ensures.call)

@@ -1,0 +1,137 @@
+// Cases of aliases.
+use crate::case::{field, number, parts, words};
+use alias_groups::{Aliases, ExpandError, Own, each_once};
+use case_blocks::{Answer, cut};
+use mail_text::{Items, Memory, Text};
+
+pub fn put(case: &[Text], out: &mut Answer) {
+    match words(case, 1) {
+        "done" => put_done(words(case, 2), out),
+        "expand" => put_expanded(case, out),
+        "chain" => put_chain(number(case, 2), false, out),
+        "cycle" => put_chain(number(case, 2), true, out),
+        "once" => put_once(words(case, 2), out),
+        _ => out.put_bad(),
+    }
+}
+
+// The aliases, as `NAME: MEMBER .. |` each, once each step was done, with what each answered in front.
+fn put_done(steps: &str, out: &mut Answer) {
+    let mut aliases = Aliases::new(out.alloc());
+    for step in steps.split(';') {
+        put_step(&mut aliases, step, out);
+        out.put(b";");
+    }
+    for k in 0..aliases.count() {
+        out.put(aliases.name(k).unwrap_or(b"?"));
+        out.put(b": ");
+        put_names(aliases.members_at(k).unwrap_or(&[]), out);
+        out.put(b"|");
+    }
+}
+
+// Does a step: its word, and then the words that it takes.
+fn put_step(aliases: &mut Aliases, step: &str, out: &mut Answer) {
+    let (word, rest) = cut(step);
+    let taken = parts(rest, ' ', out);
+    match (word, taken.items()) {
+        ("define", [name, to @ ..]) => put_defined(aliases, name, to, out),
+        ("give", [name, to @ ..]) => out.note(aliases.give(name.bytes(), to)),
+        ("remove", [name]) => out.put_flag(aliases.remove(name.bytes())),
+        ("remove-all", names) => out.note(aliases.remove_all(names)),
+        ("members", [name]) => match aliases.members(name.bytes()) {
+            Some(members) => put_names(members, out),
+            None => out.put(b"none"),
+        },
+        ("refuses", to) => out.put_found(aliases.refuses(to)),
+        _ => out.put_bad(),
+    }
+}
+
+fn put_defined(aliases: &mut Aliases, name: &Text, to: &[Text], out: &mut Answer) {
+    match aliases.define(name.bytes(), to) {
+        Ok(()) => out.put(b"ok"),
+        Err(error) => out.put_shown(&error),
+    }
+}
+
+// Names, each with a space behind it.
+fn put_names(names: &[Text], out: &mut Answer) {
+    for name in names {
+        out.put(name.bytes());
+        out.put(b" ");
+    }
+}
+
+// What names stand for, of a user with other names.
+fn put_expanded(case: &[Text], out: &mut Answer) {
+    let own = Own {
+        user: out.copied(field(case, 2)),
+        alternates: parts(words(case, 3), ' ', out),
+    };
+    let mut aliases = Aliases::new(out.alloc());
+    for line in words(case, 5).split(';') {
+        if let [name, to @ ..] = parts(line, ' ', out).items() {
+            put_defined(&mut aliases, name, to, out);
+            out.put(b";");
+        }
+    }
+    let names = parts(words(case, 6), ' ', out);
+    put_expansion(
+        aliases.expand(names.items(), &own, words(case, 4) == "metoo"),
+        out,
+    );
+}
+
+fn put_expansion(expansion: Result<Vec<Text>, ExpandError>, out: &mut Answer) {
+    match expansion {
+        Ok(names) => {
+            out.put_shown(&names.len());
+            out.put(b" ");
+            if names.len() < 10 {
+                put_names(&names, out);
+            }
+        }
+        Err(error) => out.put_shown(&error),
+    }
+}
+
+// So many aliases, each with the next as its member and the last with the first where they close, and what the first
+// stands for.
+fn put_chain(count: u32, closes: bool, out: &mut Answer) {
+    let mut aliases = Aliases::new(out.alloc());
+    for n in 0..count {
+        let next = n.saturating_add(1);
+        let last = closes && next == count;
+        let name = numbered(n, out);
+        let to = numbered(if last { 0 } else { next }, out);
+        if let Err(error) = aliases.define(name.bytes(), &[to]) {
+            out.put_shown(&error);
+        }
+    }
+    let own = Own {
+        user: Text::new(out.alloc()),
+        alternates: Items::new(out.alloc()),
+    };
+    let first = numbered(0, out);
+    put_expansion(aliases.expand(&[first], &own, false), out);
+}
+
+// A name with this number.
+fn numbered(n: u32, out: &mut Answer) -> Text {
+    match format!(in out.alloc(); "n{n}") {
+        Ok(name) => out.copied(name.as_bytes()),
+        Err(_) => {
+            out.lack();
+            Text::new(out.alloc())
+        }
+    }
+}
+
+fn put_once(names: &str, out: &mut Answer) {
+    let names = parts(names, ' ', out);
+    match each_once(out.alloc(), names.items()) {
+        Ok(once) => put_names(once.items(), out),
+        Err(Memory) => out.lack(),
+    }
+}

@@ -1,0 +1,65 @@
+-- Commands that name: aliases, the user's own names, and fields.
+use Rattle.std.specs.Prelude.{ℕ, List, [], ◌∷◌, ◌++◌, codes, is_some, if◌then◌else◌}
+use Rattle.std.specs.List.{flat_map}
+use Rattle.std.specs.Option.{option_map_or}
+use Rattle.std.specs.declared.option.Option.TheVariants.{Some}
+use Rattle.std.specs.declared.result.Result.TheVariants.{Err}
+use Rattle.mail_text.specs.Lines.{with_feed}
+use Rattle.alias_groups.specs.Groups.{Group, define_refusal, members_of}
+use Rattle.alias_groups.specs.Names.{with_names}
+use Rattle.command_desk.specs.declared.desk.Desk.{Desk}
+use Rattle.command_desk.specs.declared.effects.Effects.{Effects}
+use Rattle.command_desk.specs.declared.naming.Naming.{Naming}
+use Rattle.command_desk.specs.declared.naming.Naming.TheVariants as naming
+use Rattle.command_desk.specs.declared.steps.Steps.{Steps}
+use Rattle.command_desk.specs.Answers.{OrFault, says, quietly}
+use Rattle.command_desk.specs.Effects.{unchanged}
+use Rattle.command_desk.specs.Faults.{bad_arguments, too_many_aliases}
+
+-- words, each behind a space
+abbrev pub spaced : List (List ℕ) → List ℕ
+spaced words = flat_map (λ word. 32 ∷ word) words
+
+-- an alias as it is listed: `alias`, its name and its members
+abbrev pub alias_line : Group → List ℕ
+alias_line group = with_feed ((codes "alias " ++ group.0) ++ spaced group.1)
+
+-- the alias of this name as it is listed; nothing where the name isn't defined
+abbrev pub listed : List Group → List ℕ → List ℕ
+listed groups name = option_map_or (λ members. alias_line (name, members)) (members_of groups name) []
+
+-- a change of names
+abbrev pub renames : Naming → Effects
+renames change = record unchanged { naming = Some change }
+
+-- an alias gets these members, unless all aliases together would have too many
+abbrev pub given : Desk → List ℕ → List (List ℕ) → OrFault Steps
+given desk name members =
+    if is_some (define_refusal desk.aliases members) then Err too_many_aliases
+    else quietly (renames (naming.Alias name members))
+
+-- `alias`: without words all aliases are listed, with one word that one is; with more the first gets the others as members
+abbrev pub alias : Desk → List (List ℕ) → OrFault Steps
+alias desk [] = says (flat_map alias_line desk.aliases) unchanged
+alias desk (name ∷ []) = says (listed desk.aliases name) unchanged
+alias desk (name ∷ member ∷ members) = given desk name (member ∷ members)
+
+-- `unalias`: one that isn't defined is passed over
+abbrev pub unalias : Desk → List (List ℕ) → OrFault Steps
+unalias desk [] = Err (bad_arguments (codes "unalias"))
+unalias desk (w ∷ ws) = quietly (renames (naming.Unalias (w ∷ ws)))
+
+-- `alternates`: the user's other names, each once; without words they are listed
+abbrev pub alternates : Desk → List (List ℕ) → OrFault Steps
+alternates desk [] = says (flat_map with_feed desk.own.alternates) unchanged
+alternates desk (w ∷ ws) = quietly (renames (naming.Alternates (with_names [] (w ∷ ws))))
+
+-- `ignore`: fields that are left out; without words they are listed
+abbrev pub ignore : Desk → List (List ℕ) → OrFault Steps
+ignore desk [] = says (flat_map with_feed desk.sets.ignored) unchanged
+ignore desk (w ∷ ws) = quietly (renames (naming.Ignore (w ∷ ws)))
+
+-- `retain`: fields that are kept, and no others; without words they are listed
+abbrev pub retain : Desk → List (List ℕ) → OrFault Steps
+retain desk [] = says (flat_map with_feed desk.sets.retained) unchanged
+retain desk (w ∷ ws) = quietly (renames (naming.Retain (w ∷ ws)))
