@@ -1,15 +1,15 @@
 -- Lines that wait, so far.
-use Rattle.std.proofs.Common.{◌≡◌, ℕ, List, [], ◌++◌, refl, sym, ◌∙◌, ap, subst, append_assoc}
+use Rattle.std.proofs.Common.{◌≡◌, ℕ, Bool, true, List, [], ◌++◌, inl, refl, sym, ◌∙◌, ap, subst, append_assoc}
 use Rattle.std.proofs.lemmas.List.{append-nil}
 use Rattle.std.specs.declared.option.Option.{Option}
 use Rattle.std.specs.declared.option.Option.TheVariants.{Some, None}
 use Rattle.std.specs.declared.result.Result.{Result}
 use Rattle.std.specs.declared.result.Result.TheVariants.{Ok, Err}
-use Rattle.std.specs.Prelude.{OnErr}
+use Rattle.std.specs.Prelude.{OnErr, if◌then◌else◌}
 use Rattle.host_port.specs.declared.event.Event.{Event}
 use Rattle.session_play.specs.declared.stop.Stop.{Stop}
 use Rattle.session_play.specs.declared.stop.Stop.TheVariants as stop
-use Rattle.session_play.specs.Play.{Goes, Next, Go, Last}
+use Rattle.session_play.specs.Play.{Ret, Goes, Next, Go, Last}
 use Rattle.command_desk.specs.declared.desk.Desk.{Desk}
 use Rattle.command_desk.specs.Desks.{IsDesk}
 use Rattle.mailx_session.specs.declared.flow.Flow.{Flow}
@@ -21,7 +21,7 @@ use Rattle.mailx_session.specs.declared.status.Status.{Status}
 use Rattle.mailx_session.specs.Waits.{Pending}
 use Rattle.mailx_session.specs.Pending.{taken, open_before, closed}
 use Rattle.mailx_session.specs.States.{IsActor, IsState, IsSession, with_frames, with_count, cut_to, resumed, rested}
-use Rattle.mailx_session.specs.Rounds.{waiting_play, WaitingGo, none, more, ended, cut, short}
+use Rattle.mailx_session.specs.Rounds.{counted_play, is_idle, waiting_play, WaitingGo, none, more, ended, cut, short}
 
 -- these events lead from s to t: lines that go on waiting at t go on from s with them in front
 pub record WaitsSoFar (s t : SessionState) (es : List Event) : Type 0 where
@@ -63,6 +63,11 @@ waits-over s t v over same left es so =
 
 pub waits-short : (s t : SessionState) (es : List Event) → WaitsSoFar s t es → WaitingGo s es (Err stop.Memory)
 waits-short s t es so = subst (λ (l : List Event). WaitingGo s l (Err stop.Memory)) (append-nil es) (so.whole [] (Err stop.Memory) short)
+
+-- a line that is no command does nothing
+pub idle-goes : (s : SessionState) (line : WaitingLine) (idle : Bool) → idle ≡ is_idle s line → idle ≡ true → Goes (waiting_play s line) [] (Ok (Go s))
+idle-goes s line idle is yes =
+    subst (λ (b : Bool). Goes (if b then Ret (Go s) else counted_play s line) [] (Ok (Go s))) (sym (sym is ∙ yes)) (refl, inl refl)
 
 -- a session between two lines is at rest
 pub rested-same : (s : SessionState) → IsSession s → rested s ≡ s

@@ -64,6 +64,13 @@ impl Frame {
         }
     }
 
+    // How many conditions were open before.
+    fn open_before(&self) -> usize
+        ensures { result ≡ self.now.nested }
+    {
+        self.nested
+    }
+
     // Whether a command brought the lines out of a file.
     fn is_source(&self) -> bool
         ensures { result ≡ is_source self.now.kind }
@@ -181,7 +188,7 @@ impl Frames {
             match self.pop() {
                 Some(mut frame) => match frame.next_line(alloc) {
                     Ok(Some(text)) => return self.put_back(frame, text, nested),
-                    Ok(None) => nested = Some(frame.nested),
+                    Ok(None) => nested = Some(frame.open_before()),
                     Err(Memory) => return Err(Memory),
                 },
                 None => return Ok(Taken { line: None, nested }),

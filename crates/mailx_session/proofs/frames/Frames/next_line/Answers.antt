@@ -1,5 +1,6 @@
 use Rattle.std.proofs.Common.{List, [], ◌∷◌, ◌++◌, length, drop, refl, sym, ◌∙◌, ap, append_assoc}
 use Rattle.std.proofs.lemmas.List.{append-nil}
+use Rattle.std.specs.declared.option.Option.TheVariants.{Some}
 use Rattle.mailx_session.specs.Waits.{Pending}
 use Rattle.mailx_session.specs.Pending.{taken, open_before, closed}
 use Rattle.mailx_session.proofs.PendingLemmas.{taken-closed, put-back, open-then, not-none}
@@ -29,6 +30,6 @@ frames-preserved c =
       shut = (
         c.in-Some.frame ∷ shut.0,
         shut.1 ∙ (ap (λ (fs : List Pending). fs ++ shut.0) c.in-Some.ensures.some ∙ append_assoc c.pop.new.self (c.in-Some.frame ∷ []) shut.0),
-        ap (λ (f : Pending). open_before (f ∷ shut.0)) none.1,
+        ap Some c.open_before.ensures ∙ ap (λ (f : Pending). open_before (f ∷ shut.0)) none.1,
       );
     }
