@@ -12,6 +12,7 @@ use Rattle.session_play.specs.declared.stop.Stop.TheVariants as stop
 use Rattle.session_play.specs.Play.{Ret, Goes, Next, Go, Last}
 use Rattle.command_desk.specs.declared.desk.Desk.{Desk}
 use Rattle.command_desk.specs.Desks.{IsDesk}
+use Rattle.read_commands.specs.declared.origin.Origin.TheVariants.{Input}
 use Rattle.mailx_session.specs.declared.flow.Flow.{Flow}
 use Rattle.mailx_session.specs.declared.flow.Flow.TheVariants as flow
 use Rattle.mailx_session.specs.Sessions.{StaysAtEnd}
@@ -21,7 +22,7 @@ use Rattle.mailx_session.specs.declared.status.Status.{Status}
 use Rattle.mailx_session.specs.Waits.{Pending}
 use Rattle.mailx_session.specs.Pending.{taken, open_before, closed}
 use Rattle.mailx_session.specs.States.{IsActor, IsState, IsSession, with_frames, with_count, cut_to, resumed, rested}
-use Rattle.mailx_session.specs.Rounds.{counted_play, is_idle, waiting_play, WaitingGo, none, more, ended, cut, short}
+use Rattle.mailx_session.specs.Rounds.{line_play, typed_play, counted_play, is_idle, waiting_play, WaitingGo, none, more, ended, cut, short}
 
 -- these events lead from s to t: lines that go on waiting at t go on from s with them in front
 pub record WaitsSoFar (s t : SessionState) (es : List Event) : Type 0 where
@@ -50,8 +51,8 @@ waits-cut s t v cause line is same es fs so goes =
 
 -- where no line is left, the state is at rest but for the count
 pub rested-resumed : (t v : SessionState) → v ≡ resumed t v.frames → v.frames ≡ [] → rested v ≡ rested t
-rested-resumed t v same none =
-    let left : v ≡ resumed t [] = same ∙ ap (resumed t) none in
+rested-resumed t v same over =
+    let left : v ≡ resumed t [] = same ∙ ap (resumed t) over in
     let rests : rested (resumed t []) ≡ rested t = refl in
     ap rested left ∙ rests
 
@@ -66,8 +67,8 @@ waits-short s t es so = subst (λ (l : List Event). WaitingGo s l (Err stop.Memo
 
 -- a line that is no command does nothing
 pub idle-goes : (s : SessionState) (line : WaitingLine) (idle : Bool) → idle ≡ is_idle s line → idle ≡ true → Goes (waiting_play s line) [] (Ok (Go s))
-idle-goes s line idle is yes =
-    subst (λ (b : Bool). Goes (if b then Ret (Go s) else counted_play s line) [] (Ok (Go s))) (sym (sym is ∙ yes)) (refl, inl refl)
+idle-goes s line idle is holds =
+    subst (λ (b : Bool). Goes (if b then Ret (Go s) else counted_play s line) [] (Ok (Go s))) (sym (sym is ∙ holds)) (refl, inl refl)
 
 -- a session between two lines is at rest
 pub rested-same : (s : SessionState) → IsSession s → rested s ≡ s
@@ -78,6 +79,10 @@ rested-same s is =
 -- and a line of the input is the first command
 pub typed-same : (s : SessionState) → IsSession s → with_count (rested s) 1 ≡ with_count s 1
 typed-same s is = ap (λ (t : SessionState). with_count t 1) (rested-same s is)
+
+pub typed-goes : (s : SessionState) → IsSession s → (line : List ℕ) (es : List Event) (out : Result (Next SessionState Status) Stop)
+    → Goes (line_play Input (with_count s 1) line) es out → Goes (typed_play s line) es out
+typed-goes s is line es out goes = subst (λ (t : SessionState). Goes (line_play Input t line) es out) (sym (typed-same s is)) goes
 
 desk-cut : (o : Option ℕ) (desk : Desk) → IsDesk desk → IsDesk (cut_to o desk)
 desk-cut o desk d = record { shown = d.shown; rows = d.rows; marks = d.marks; width = d.width }

@@ -1,11 +1,12 @@
 use Rattle.std.proofs.Common.{ap, ◌∙◌}
+use Rattle.host_port.proofs.RanLemmas.{Ran-map}
 use Rattle.command_desk.proofs.DeskLemmas.{if-ok}
 use Rattle.mailx_session.specs.States.{rested}
-use Rattle.mailx_session.proofs.RoundLemmas.{typed-same, rested-same, stays-rested, on-err}
+use Rattle.mailx_session.proofs.RoundLemmas.{typed-goes, rested-same, stays-rested, on-err}
 use Rattle.mailx_session.proofs.lines.typed_line.Goals as goal
 
 pub returns-clause-ran : goal.returns-clause-ran
-returns-clause-ran g c = rw (typed-same c.args.state.now c.requires) c.carry_line.ensures.ran
+returns-clause-ran g c = Ran-map (λ es goes. typed-goes c.args.state.now c.requires c.args.line.now es _ goes) c.carry_line.ensures.ran
 
 pub returns-clause-none_wait : goal.returns-clause-none_wait
 returns-clause-none_wait g c = λ none. c.carry_line.ensures.quiet none ∙ c.requires.frames
