@@ -10,12 +10,13 @@ pub fn put(case: &[Text], out: &mut Answer) {
         "expand" => put_expanded(case, out),
         "chain" => put_chain(number(case, 2), false, out),
         "cycle" => put_chain(number(case, 2), true, out),
+        "group" => put_group(number(case, 2), out),
         "once" => put_once(words(case, 2), out),
         _ => out.put_bad(),
     }
 }
 
-// The aliases, as `NAME: MEMBER .. |` each, once each step was done, with what each answered in front.
+// What each step answers, with `;` behind it, and then the aliases that they leave, each as `NAME: MEMBER ..|`.
 fn put_done(steps: &str, out: &mut Answer) {
     let mut aliases = Aliases::new(out.alloc());
     for step in steps.split(';') {
@@ -24,7 +25,7 @@ fn put_done(steps: &str, out: &mut Answer) {
     }
     for k in 0..aliases.count() {
         out.put(aliases.name(k).unwrap_or(b"?"));
-        out.put(b": ");
+        out.put(b":");
         put_names(aliases.members_at(k).unwrap_or(&[]), out);
         out.put(b"|");
     }
@@ -55,11 +56,11 @@ fn put_defined(aliases: &mut Aliases, name: &Text, to: &[Text], out: &mut Answer
     }
 }
 
-// Names, each with a space behind it.
+// Names, each behind a space.
 fn put_names(names: &[Text], out: &mut Answer) {
     for name in names {
-        out.put(name.bytes());
         out.put(b" ");
+        out.put(name.bytes());
     }
 }
 
@@ -87,7 +88,6 @@ fn put_expansion(expansion: Result<Vec<Text>, ExpandError>, out: &mut Answer) {
     match expansion {
         Ok(names) => {
             out.put_shown(&names.len());
-            out.put(b" ");
             if names.len() < 10 {
                 put_names(&names, out);
             }
@@ -109,6 +109,25 @@ fn put_chain(count: u32, closes: bool, out: &mut Answer) {
             out.put_shown(&error);
         }
     }
+    put_first(&aliases, out);
+}
+
+// An alias of so many names, and what it stands for.
+fn put_group(count: u32, out: &mut Answer) {
+    let mut names = Items::new(out.alloc());
+    for n in 0..count {
+        let name = numbered(n.saturating_add(1), out);
+        out.note(names.push(name));
+    }
+    let mut aliases = Aliases::new(out.alloc());
+    let name = numbered(0, out);
+    put_defined(&mut aliases, &name, names.items(), out);
+    out.put(b";");
+    put_first(&aliases, out);
+}
+
+// What the name of number 0 stands for.
+fn put_first(aliases: &Aliases, out: &mut Answer) {
     let own = Own {
         user: Text::new(out.alloc()),
         alternates: Items::new(out.alloc()),
