@@ -1,5 +1,5 @@
 -- A line of the input, and the lines that it brings, are rounds of a run.
-use Rattle.std.proofs.Common.{◌≡◌, ℕ, List, [], ◌∷◌, ◌++◌, refl, sym, ◌∙◌, ap, subst, inl, append_assoc}
+use Rattle.std.proofs.Common.{◌≡◌, ℕ, Bool, true, false, Unit, List, [], ◌∷◌, ◌++◌, refl, sym, ◌∙◌, ap, subst, inl, append_assoc}
 use Rattle.std.proofs.lemmas.List.{append-nil}
 use Rattle.std.specs.declared.option.Option.{Option}
 use Rattle.std.specs.declared.option.Option.TheVariants.{Some, None}
@@ -8,15 +8,16 @@ use Rattle.std.specs.declared.result.Result.TheVariants.{Ok, Err}
 use Rattle.host_port.specs.declared.event.Event.{Event}
 use Rattle.session_play.specs.declared.stop.Stop.{Stop}
 use Rattle.session_play.specs.Input.{Input}
-use Rattle.session_play.specs.Play.{Play, Ret, Ask, Line, Goes, Next, Go, Last, Loop, again, last, cut}
+use Rattle.session_play.specs.Play.{Play, Ret, Ask, bind, Line, Goes, Next, Go, Last, Loop, again, last, cut}
 use Rattle.session_play.proofs.PlayLemmas.{at-memory, goes-then, goes-cut, goes-as}
 use Rattle.session_play.proofs.LoopLemmas.{SoFar}
+use Rattle.command_desk.specs.declared.desk.Desk.{Desk}
 use Rattle.mailx_session.specs.declared.frames.WaitingLine.{WaitingLine}
 use Rattle.mailx_session.specs.declared.state.SessionState.{SessionState}
 use Rattle.mailx_session.specs.declared.status.Status.{Status}
 use Rattle.mailx_session.specs.Waits.{Pending}
-use Rattle.mailx_session.specs.Pending.{taken}
-use Rattle.mailx_session.specs.States.{resumed, rested}
+use Rattle.mailx_session.specs.Pending.{taken, open_before}
+use Rattle.mailx_session.specs.States.{cut_to, resumed, rested}
 use Rattle.mailx_session.specs.Rounds.{typed_play, waiting_play, WaitingGo, none, more, ended, LineGoes, typed}
 use Rattle.mailx_session.specs.Rounds as rounds
 use Rattle.mailx_top.specs.declared.environment.Environment.{Environment}
@@ -43,9 +44,15 @@ leads-more env x y front rest es (Ok (Go z)) is goes leads = λ later end loop.
 leads-more env x y front rest es (Ok (Last e)) is goes loop = again front rest is goes loop
 leads-more env x y front rest es (Err cause) is goes loop = again front rest is goes loop
 
+-- the prompt has nothing to do with conditions
+prompted-alike : (terminal : Bool) (nested : Option ℕ) (desk : Desk) → prompted terminal desk ≡ prompted terminal (cut_to nested desk)
+prompted-alike true nested desk = refl
+prompted-alike false nested desk = refl
+
 -- where no line waits, the state is as good as one at rest
 rested-round : (env : Environment) (s : SessionState) (i : Input) → taken s.frames ≡ None → round env (Reading s i) ≡ round env (Reading (rested s) i)
 rested-round env s i none_left = ap (line_round s i) none_left
+    ∙ ap (λ (p : Play (Unit {0})). bind p (λ u. Ask (Line i) (λ a. turn s a.1 a.0))) (prompted-alike s.terminal (open_before s.frames) s.desk)
 
 -- the lines that wait are rounds
 pub waiting-leads : (env : Environment) (i : Input) {s : SessionState} {es : List Event} {out : Result (Next SessionState Status) Stop} → WaitingGo s es out → LeadsTo env (Reading s i) es (onward i out)
