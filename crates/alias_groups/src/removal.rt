@@ -34,7 +34,8 @@ pub(crate) fn take_out_these(groups: &mut IndexMap<Vec<u8>, Vec<Text>>, names: &
 {
     groups.retain(
         |name: &Vec<u8>, members: &mut Vec<Text>| -> bool
-            ensures { (result ≡ not (is_among (names_of names.entry.now.keys) name.now.items)) × (members.new ≡ members.old) }
+            ensures { (result ≡ not (is_among (names_of names.entry.now.keys) name.now.items))
+                × (members.new ≡ members.old) }
         { !names.contains(name.as_slice()) },
     );
 }

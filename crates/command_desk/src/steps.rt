@@ -20,8 +20,8 @@ pub enum Ask {
     Source {
         name: Text,
     },
-    /// The file of this name is opened in place of the folder, once these changes were committed, which leave that. Then
-    /// the reply and the new folder's opening line are said. The names may be some that no file can have.
+    /// The file of this name is opened in place of the folder, once these changes were committed, which leave that.
+    /// Then the reply and the new folder's opening line are said. The names may be some that no file can have.
     Open {
         name: Text,
         changes: Items<Change>,

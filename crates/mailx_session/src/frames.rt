@@ -29,7 +29,8 @@ impl Model for Frame {
 
     ghost Value = { Pending };
 
-    ghost view = { λ f. record { origin = f.origin; kind = f.kind; nested = f.nested; lines = lines_of (drop f.used f.text) } };
+    ghost view = { λ f.
+        record { origin = f.origin; kind = f.kind; nested = f.nested; lines = lines_of (drop f.used f.text) } };
 }
 
 /// A line, and where it comes from.

@@ -277,7 +277,8 @@ fn switch_found<H: Host>(
     requires state { IsState state.old }
     requires names { names_fault state.old.actor changes.now ≡ None }
     ensures ran { Ran H.world host.old host.new (λ es.
-        Goes (switched_to state.old name.now changes.now reply.now (loaded_folder state.old.desk changes.now name.now found))
+        Goes (switched_to state.old name.now changes.now reply.now
+        (loaded_folder state.old.desk changes.now name.now found))
         es (in_play (after_asks state.new) result)) }
     ensures brings { OnlyBrings state.old state.new }
     ensures valid { IsState state.new }

@@ -81,7 +81,8 @@ fn given(alloc: Global, desk: &Desk, name: &[u8], members: &[Text]) -> Result<St
 }
 
 /// `alias`, `group`: without words all aliases are listed, in order of first definition; with one word that alias is,
-/// where it is defined; with more the first gets the others as further members. Members past 100,000 in all are refused.
+/// where it is defined; with more the first gets the others as further members. Members past 100,000 in all are
+/// refused.
 pub fn alias(alloc: Global, desk: &Desk, words: &[Text]) -> Result<Steps, Refusal>
     requires { IsDesk desk.now }
     ensures means { Means result (alias desk.now words.now) }

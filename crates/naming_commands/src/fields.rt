@@ -23,8 +23,8 @@ pub fn ignore(alloc: Global, desk: &Desk, words: &[Text]) -> Result<Steps, Refus
     Ok(quietly(alloc, renames(alloc, Naming::Ignore { names })))
 }
 
-/// `retain`: fields of these names are kept, and of those named so before, and no others; without words these are listed,
-/// one a line.
+/// `retain`: fields of these names are kept, and of those named so before, and no others; without words these are
+/// listed, one a line.
 pub fn retain(alloc: Global, desk: &Desk, words: &[Text]) -> Result<Steps, Refusal>
     requires { IsDesk desk.now }
     ensures means { Means result (retain desk.now words.now) }
