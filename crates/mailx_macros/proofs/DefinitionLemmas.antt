@@ -8,8 +8,8 @@ use Rattle.std.specs.Map.{keys_of}
 use Rattle.std.specs.Str.{bytes_eq}
 use Rattle.std.proofs.lemmas.Bool.{cond-false, leb-false}
 use Rattle.std.proofs.lemmas.List.Sums.{sum_by-cons, sum_by_push}
-use Rattle.mailx_macros.specs.Macros.{AreDefinitions, Macro, begin_refusal, body_of, is_apart, is_defined, line_count, lines_in, without}
-use Rattle.mailx_macros.specs.declared.error.MacroError.TheVariants.{Taken, TooMany}
+use Rattle.mailx_macros.specs.Macros.{AreDefinitions, Definitions, Macro, begin_refusal, begins_definition, body_of, is_apart, is_defined, line_count, line_refusal, lines_in, without}
+use Rattle.mailx_macros.specs.declared.error.MacroError.TheVariants.{Nested, Taken, TooMany}
 use Rattle.mailx_macros.proofs.NameLemmas.{same-symm}
 
 keys-push : (macros : List Macro) (m : Macro) → keys_of (macros ++ m ∷ []) ≡ keys_of macros ++ m.0 ∷ []
@@ -112,6 +112,15 @@ are_begun done None name ok are = go (is_defined done name) refl (nat_le 1000 (l
 count-begun : (done : List Macro) (unfinished : Option Macro) (name : List ℕ) → begin_refusal (record { done = done; unfinished = unfinished }) name ≡ None → line_count done unfinished ≡ line_count done (Some (name, []))
 count-begun done (Some m) name ok = absurd (cc ok)
 count-begun done None name ok = omega arith
+
+-- where a line isn't refused there is room for it
+pub line_has_room : (d : Definitions) (line : List ℕ) → line_refusal d line ≡ None → line_count d.done d.unfinished < 100000
+line_has_room d line ok = go (begins_definition line) (nat_le 100000 (line_count d.done d.unfinished)) (leb-false 100000 (line_count d.done d.unfinished)) ok
+  where
+    go : (b f : Bool) → (f ≡ false → line_count d.done d.unfinished < 100000) → (if b then Some Nested else if f then Some TooMany else None) ≡ None → line_count d.done d.unfinished < 100000
+    go true f room h = absurd (cc h)
+    go false true room h = absurd (cc h)
+    go false false room h = room refl
 
 -- a line that isn't refused
 pub are_with_line : (done : List Macro) (m : Macro) (line : List ℕ) → line_count done (Some m) < 100000 → AreDefinitions done (Some m) → AreDefinitions done (Some (m.0, m.1 ++ line ∷ []))

@@ -1,6 +1,6 @@
 ghost use Rattle.std.specs.Prelude.{◌≡◌, ◌≤◌, ◌<◌, ◌+◌, ◌⊎◌, ◌↔◌, [], None, length, unwrap_or, vec_len, vec_capacity, slice_get, option_map, is_some, IsSome, IfOk, IfErr, IsErrAnd, OnOk, OnErr, MatchOption, Ok, Err};
 ghost use Rattle.std.specs.List.{find, position};
-ghost use Rattle.std.specs.Map.{keys_of};
+ghost use Rattle.std.specs.Map.{keys_of, values_of};
 ghost use Rattle.std.specs.Option.{option_copied};
 ghost use Rattle.std.specs.Str.{bytes_eq};
 ghost use Rattle.mailx_macros.specs.Macros.{AreDefinitions, begin_refusal, begins_definition, begun, body_of, ended, is_defined, line_refusal, lines_in, opens_definition, with_line, with_line_in, without, named};
@@ -177,9 +177,25 @@ impl Macros {
         Ok(())
     }
 
+    /// Why the definition that is under way takes no line: `Nested` where the line reads as the command `define` with
+    /// two words, the second of them `{`; else `TooMany` where all bodies together have 100,000 lines.
+    pub fn refuses_line(&self, line: &[u8]) -> Result<Option<MacroError>, Memory>
+        ensures { IfOk result (λ refusal. refusal ≡ line_refusal self.now line.now) }
+    {
+        let alloc = *self.list.allocator();
+        if begins_definition(alloc, line)? {
+            return Ok(Some(MacroError::Nested));
+        }
+        if self.lines >= LINE_LIMIT {
+            return Ok(Some(MacroError::TooMany));
+        }
+        Ok(None)
+    }
+
     /// Puts a line at the end of the definition that is under way. `Nested` comes exactly where the line reads as the
     /// command `define` with two words, the second of them `{`; else `TooMany` exactly where all bodies together,
-    /// this one's among them, have 100,000 lines. After an error all is as before.
+    /// this one's among them, have 100,000 lines. After an error, which `refuses_line` foretells but for want of
+    /// memory, all is as before.
     pub fn line(&mut self, line: &[u8]) -> Result<(), MacroError>
         requires { IsSome self.old.unfinished }
         ensures refused { MatchOption (line_refusal self.old line.now) (IfErr result (λ e. e ≡ MacroError.Memory))
@@ -187,13 +203,21 @@ impl Macros {
         ensures ok { OnOk result (self.new ≡ with_line self.old line.now) }
         ensures err { OnErr result (self.new ≡ self.old) }
     {
+        match self.refuses_line(line)? {
+            Some(e) => Err(e),
+            None => Ok(self.put(line)?),
+        }
+    }
+
+    // Puts a line that isn't refused at the end of the definition that is under way.
+    #[tactic(auto, using(crate::proofs::DefinitionLemmas::line_has_room))]
+    fn put(&mut self, line: &[u8]) -> Result<(), Memory>
+        requires under_way { IsSome self.old.unfinished }
+        requires taken { line_refusal self.old line.now ≡ None }
+        ensures ok { OnOk result (self.new ≡ with_line self.old line.now) }
+        ensures err { OnErr result (self.new ≡ self.old) }
+    {
         let alloc = *self.list.allocator();
-        if begins_definition(alloc, line)? {
-            return Err(MacroError::Nested);
-        }
-        if self.lines >= LINE_LIMIT {
-            return Err(MacroError::TooMany);
-        }
         let line = Text::copy(alloc, line)?;
         put_line(&mut self.unfinished, line)?;
         self.lines += 1;
@@ -256,6 +280,16 @@ impl Macros {
     {
         match self.list.get(k) {
             Some((name, _)) => Some(name.bytes()),
+            None => None,
+        }
+    }
+    /// The lines of the macro at place `k`, from 0, in order of definition; none past the last. It takes no memory.
+    pub fn body_at(&self, k: usize) -> Option<&[Text]>
+        ensures lines { option_map (λ lines. lines.now) result ≡ slice_get (values_of self.now.done) k }
+        ensures found { IsSome result ↔ (k < length self.now.done) }
+    {
+        match self.list.get(k) {
+            Some((_, lines)) => Some(lines.items()),
             None => None,
         }
     }
