@@ -1,3 +1,4 @@
+pub mod MacroLemmas
 pub mod MeansLemmas
 pub mod FlagLemmas
 pub mod DeskLemmas

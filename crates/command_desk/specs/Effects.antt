@@ -10,6 +10,7 @@ use Rattle.message_state.specs.States.{after}
 use Rattle.command_desk.specs.declared.desk.Desk.{Desk}
 use Rattle.command_desk.specs.declared.effects.Marking.{Marking}
 use Rattle.command_desk.specs.declared.effects.Effects.{Effects}
+use Rattle.command_desk.specs.declared.naming.Naming.{Naming}
 use Rattle.command_desk.specs.Naming.{renamed}
 use Rattle.command_desk.specs.Selecting.{last_message}
 
@@ -54,6 +55,10 @@ effect desk effects = record (carried (renamed desk effects.naming) effects.mark
 -- no change
 abbrev pub unchanged : Effects
 unchanged = record { marks = []; current = None; fresh = None; page = None; settings = []; naming = None; conditions = None }
+
+-- a change of names, and no other change
+abbrev pub renames : Naming → Effects
+renames change = record unchanged { naming = Some change }
 
 -- message n becomes current; it is unwritten, where another was current before
 abbrev pub moved : Desk → ℕ → Effects

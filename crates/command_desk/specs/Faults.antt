@@ -123,3 +123,23 @@ not_a_mailbox name = with_feed (name ++ codes ": not a mailbox")
 -- the file has more messages than a folder may have
 abbrev pub too_many_messages : List ℕ → List ℕ
 too_many_messages name = with_feed (name ++ codes ": too many messages")
+
+-- a line of a definition, or a command within one, begins a definition
+abbrev pub define_inside_define : List ℕ
+define_inside_define = with_feed (codes "define inside define")
+
+-- no macro has this name
+abbrev pub no_such_macro : List ℕ → List ℕ
+no_such_macro name = with_feed (name ++ codes ": no such macro")
+
+-- a macro has this name
+abbrev pub already_defined : List ℕ → List ℕ
+already_defined name = with_feed (name ++ codes ": already defined")
+
+-- more macros, or more lines in all of them, than there may be
+abbrev pub too_many_macros : List ℕ
+too_many_macros = with_feed (codes "too many macros")
+
+-- as many calls are open as may be
+abbrev pub calls_too_deep : List ℕ
+calls_too_deep = with_feed (codes "calls nest too deep")

@@ -1,5 +1,6 @@
 use alias_groups::{Aliases, Own};
 use mail_text::Text;
+use mailx_macros::Macros;
 use mailx_vars::{Places, Vars};
 use message_show::FieldSets;
 use message_state::Shown;
@@ -25,6 +26,8 @@ pub struct Desk {
     pub own: Own,
     /// The names of fields that are left out when a message is printed, or shown alone.
     pub sets: FieldSets,
+    /// The macros, and the definition that is under way.
+    pub macros: Macros,
     /// The conditions that are open.
     pub conditions: Conditions,
     /// Whether the input is a terminal, which the condition `t` asks for.

@@ -4,7 +4,7 @@ ghost use Rattle.mailx_vars.specs.Changes.{changed};
 ghost use Rattle.message_state.specs.declared.row.Row.{Row};
 ghost use Rattle.message_state.specs.declared.mark.Mark.{Mark};
 ghost use Rattle.command_desk.specs.Desks.{IsDesk, IsMessageOf};
-ghost use Rattle.command_desk.specs.Effects.{acted, effect, carried, unchanged, moved, written, marking, markings, marked, marked_and_written};
+ghost use Rattle.command_desk.specs.Effects.{acted, effect, carried, unchanged, renames, moved, written, marking, markings, marked, marked_and_written};
 
 use crate::selecting::last_message;
 use crate::{Desk, Naming};
@@ -132,6 +132,16 @@ pub fn unchanged(alloc: Global) -> Effects
         settings: Items::new(alloc),
         naming: None,
         conditions: None,
+    }
+}
+
+/// A change of names, and no other change.
+pub fn renames(alloc: Global, naming: Naming) -> Effects
+    ensures { result ≡ renames naming }
+{
+    Effects {
+        naming: Some(naming),
+        ..unchanged(alloc)
     }
 }
 

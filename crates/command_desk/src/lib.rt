@@ -6,6 +6,7 @@ mod desk;
 mod effects;
 mod faults;
 mod file_names;
+mod lists;
 mod messages;
 mod naming;
 mod selecting;
@@ -13,10 +14,12 @@ mod steps;
 
 pub use desk::Desk;
 pub use effects::{
-    Effects, Marking, act_on, marked, marked_and_written, markings, moved, unchanged, written,
+    Effects, Marking, act_on, marked, marked_and_written, markings, moved, renames, unchanged,
+    written,
 };
 pub use faults::fault;
 pub use file_names::expanded;
+pub use lists::{as_lines, copies, put_lines};
 pub use messages::{message, printed, put_heading, put_printed};
 pub use naming::Naming;
 pub use quit_rules::Open;

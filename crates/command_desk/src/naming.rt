@@ -1,12 +1,14 @@
-// Changes of the names that the user has given.
+// Changes of what the user has named: aliases, own names, fields and macros.
 ghost use Rattle.std.specs.Prelude.{◌≡◌, None, IsOk, OnOk, OnErr};
-ghost use Rattle.command_desk.specs.Naming.{renamed};
+ghost use Rattle.mailx_macros.specs.Macros.{ended};
+ghost use Rattle.command_desk.specs.Naming.{begun_unless_refused, renamed, with_line_unless_refused, without_these};
 
 use crate::Desk;
 use mail_text::{Items, Memory, Text};
+use mailx_macros::{MacroError, Macros};
 
-/// A change of the names that the user has given: of aliases, of the user's own names, and of the fields that are left
-/// out or kept.
+/// A change of what the user has named: of aliases, of the user's own names, of the fields that are left out or kept,
+/// and of macros.
 #[derive(Drop)]
 pub enum Naming {
     /// An alias has more members; where they are refused all stays.
@@ -19,6 +21,60 @@ pub enum Naming {
     Ignore { names: Items<Text> },
     /// Fields of these names are retained, beside those that were.
     Retain { names: Items<Text> },
+    /// A definition of a macro is begun; where it is refused all stays.
+    Begin { name: Text },
+    /// The definition that is under way takes a line; where it is refused, or none is under way, all stays.
+    Line { line: Text },
+    /// The definition that is under way has ended, where one is.
+    End,
+    /// The macros of these names are removed; a name that isn't defined is passed over.
+    Undef { names: Items<Text> },
+}
+
+// Begins a definition, where that isn't refused.
+fn begin(macros: &mut Macros, name: &[u8]) -> Result<(), Memory>
+    ensures ok { OnOk result (macros.new ≡ begun_unless_refused macros.old name.now) }
+    ensures err { OnErr result (macros.new ≡ macros.old) }
+{
+    match macros.begin(name) {
+        Ok(()) => Ok(()),
+        Err(MacroError::Memory) => Err(Memory),
+        Err(_) => Ok(()),
+    }
+}
+
+// Puts a line at the end of the definition that is under way, where that isn't refused.
+fn put_line(macros: &mut Macros, line: &[u8]) -> Result<(), Memory>
+    ensures ok { OnOk result (macros.new ≡ with_line_unless_refused macros.old line.now) }
+    ensures err { OnErr result (macros.new ≡ macros.old) }
+{
+    if !macros.open() {
+        return Ok(());
+    }
+    match macros.line(line) {
+        Ok(()) => Ok(()),
+        Err(MacroError::Memory) => Err(Memory),
+        Err(_) => Ok(()),
+    }
+}
+
+// Ends the definition that is under way, where one is.
+#[tactic(auto, using(crate::proofs::MacroLemmas::ended_none))]
+fn end(macros: &mut Macros)
+    ensures { macros.new ≡ ended macros.old }
+{
+    if macros.open() {
+        macros.end();
+    }
+}
+
+// Removes the macros of these names.
+fn undef_all(macros: &mut Macros, names: &[Text])
+    ensures { macros.new ≡ without_these macros.old names.now }
+{
+    for name in names {
+        macros.undef(name.bytes());
+    }
 }
 
 impl Desk {
@@ -36,6 +92,16 @@ impl Desk {
             }
             Naming::Ignore { names } => self.sets.ignore(names.items()),
             Naming::Retain { names } => self.sets.retain(names.items()),
+            Naming::Begin { name } => begin(&mut self.macros, name.bytes()),
+            Naming::Line { line } => put_line(&mut self.macros, line.bytes()),
+            Naming::End => {
+                end(&mut self.macros);
+                Ok(())
+            }
+            Naming::Undef { names } => {
+                undef_all(&mut self.macros, names.items());
+                Ok(())
+            }
         }
     }
 

@@ -20,6 +20,10 @@ pub enum Ask {
     Source {
         name: Text,
     },
+    /// The lines of this text are carried out then: those of a macro that is called.
+    Lines {
+        text: Text,
+    },
     /// The file of this name is opened in place of the folder, once these changes were committed, which leave that.
     /// Then the reply and the new folder's opening line are said. The names may be some that no file can have.
     Open {
