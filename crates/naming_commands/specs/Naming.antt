@@ -2,18 +2,15 @@
 use Rattle.std.specs.Prelude.{ℕ, List, [], ◌∷◌, ◌++◌, codes, is_some, if◌then◌else◌}
 use Rattle.std.specs.List.{flat_map}
 use Rattle.std.specs.Option.{option_map_or}
-use Rattle.std.specs.declared.option.Option.TheVariants.{Some}
 use Rattle.std.specs.declared.result.Result.TheVariants.{Err}
 use Rattle.mail_text.specs.Lines.{with_feed}
 use Rattle.alias_groups.specs.Groups.{Group, define_refusal, members_of}
 use Rattle.alias_groups.specs.Names.{with_names}
 use Rattle.command_desk.specs.declared.desk.Desk.{Desk}
-use Rattle.command_desk.specs.declared.effects.Effects.{Effects}
-use Rattle.command_desk.specs.declared.naming.Naming.{Naming}
 use Rattle.command_desk.specs.declared.naming.Naming.TheVariants as naming
 use Rattle.command_desk.specs.declared.steps.Steps.{Steps}
 use Rattle.command_desk.specs.Answers.{OrFault, says, quietly}
-use Rattle.command_desk.specs.Effects.{unchanged}
+use Rattle.command_desk.specs.Effects.{renames, unchanged}
 use Rattle.command_desk.specs.Faults.{bad_arguments, too_many_aliases}
 
 -- words, each behind a space
@@ -27,10 +24,6 @@ alias_line group = with_feed ((codes "alias " ++ group.0) ++ spaced group.1)
 -- the alias of this name as it is listed; nothing where the name isn't defined
 abbrev pub listed : List Group → List ℕ → List ℕ
 listed groups name = option_map_or (λ members. alias_line (name, members)) (members_of groups name) []
-
--- a change of names
-abbrev pub renames : Naming → Effects
-renames change = record unchanged { naming = Some change }
 
 -- an alias gets these members, unless all aliases together would have too many
 abbrev pub given : Desk → List ℕ → List (List ℕ) → OrFault Steps

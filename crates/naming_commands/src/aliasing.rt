@@ -5,9 +5,10 @@ ghost use Rattle.command_desk.specs.Answers.{Means};
 ghost use Rattle.command_desk.specs.Desks.{IsDesk, IsWithin};
 ghost use Rattle.naming_commands.specs.Naming.{alias, alias_line, alternates, given, listed, spaced, unalias};
 
-use crate::lists::{copies, names_listed, renames};
 use alias_groups::{Aliases, each_once};
-use command_desk::{Desk, Naming, Refusal, Steps, fault, quietly, says, unchanged};
+use command_desk::{
+    Desk, Naming, Refusal, Steps, as_lines, copies, fault, quietly, renames, says, unchanged,
+};
 use mail_text::{Memory, Text};
 use std::alloc::Global;
 
@@ -120,7 +121,7 @@ pub fn alternates(alloc: Global, desk: &Desk, words: &[Text]) -> Result<Steps, R
     ensures within { IsWithin desk.now result }
 {
     if words.is_empty() {
-        let out = names_listed(alloc, desk.own.alternates.items())?;
+        let out = as_lines(alloc, desk.own.alternates.items())?;
         return says(alloc, out, unchanged(alloc));
     }
     let names = each_once(alloc, words)?;

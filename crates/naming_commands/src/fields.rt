@@ -4,8 +4,9 @@ ghost use Rattle.command_desk.specs.Answers.{Means};
 ghost use Rattle.command_desk.specs.Desks.{IsDesk, IsWithin};
 ghost use Rattle.naming_commands.specs.Naming.{ignore, retain};
 
-use crate::lists::{copies, names_listed, renames};
-use command_desk::{Desk, Naming, Refusal, Steps, quietly, says, unchanged};
+use command_desk::{
+    Desk, Naming, Refusal, Steps, as_lines, copies, quietly, renames, says, unchanged,
+};
 use mail_text::Text;
 use std::alloc::Global;
 
@@ -16,7 +17,7 @@ pub fn ignore(alloc: Global, desk: &Desk, words: &[Text]) -> Result<Steps, Refus
     ensures within { IsWithin desk.now result }
 {
     if words.is_empty() {
-        let out = names_listed(alloc, desk.sets.ignored())?;
+        let out = as_lines(alloc, desk.sets.ignored())?;
         return says(alloc, out, unchanged(alloc));
     }
     let names = copies(alloc, words)?;
@@ -31,7 +32,7 @@ pub fn retain(alloc: Global, desk: &Desk, words: &[Text]) -> Result<Steps, Refus
     ensures within { IsWithin desk.now result }
 {
     if words.is_empty() {
-        let out = names_listed(alloc, desk.sets.retained())?;
+        let out = as_lines(alloc, desk.sets.retained())?;
         return says(alloc, out, unchanged(alloc));
     }
     let names = copies(alloc, words)?;

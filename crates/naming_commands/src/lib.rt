@@ -3,7 +3,6 @@
 
 mod aliasing;
 mod fields;
-mod lists;
 
 pub use aliasing::{alias, alternates, unalias};
 pub use fields::{ignore, retain};
