@@ -24,6 +24,8 @@ use Rattle.setting_commands.specs.Setting.{set, unset}
 use Rattle.setting_commands.specs.Conditions.{condition}
 use Rattle.setting_commands.specs.Sourcing.{source}
 use Rattle.naming_commands.specs.Naming.{alias, unalias, alternates, ignore, retain}
+use Rattle.macro_commands.specs.Defining.{define, undef}
+use Rattle.macro_commands.specs.Calling.{call, defines}
 use Rattle.folder_commands.specs.declared.wanted.Filing.{Filing}
 use Rattle.folder_commands.specs.Saving.{copy, copy_by_author, save, save_by_author, write}
 use Rattle.folder_commands.specs.Leaving.{quit}
@@ -82,6 +84,10 @@ meaning_of command.Unalias line desk = unalias desk line.words
 meaning_of command.Alternates line desk = alternates desk line.words
 meaning_of command.Ignore line desk = ignore desk line.words
 meaning_of command.Retain line desk = retain desk line.words
+meaning_of command.Define line desk = define desk line.words
+meaning_of command.Call line desk = call desk line.words
+meaning_of command.Undef line desk = undef desk line.words
+meaning_of command.Defines line desk = alone line (defines desk)
 meaning_of command.Help line desk = alone line (help desk)
 meaning_of command.Comment line desk = quietly unchanged
 meaning_of command.Copy line desk = filed (copy desk line.words)
@@ -121,6 +127,10 @@ is_built command.Unalias = true
 is_built command.Alternates = true
 is_built command.Ignore = true
 is_built command.Retain = true
+is_built command.Define = true
+is_built command.Call = true
+is_built command.Undef = true
+is_built command.Defines = true
 is_built command.Help = true
 is_built command.Comment = true
 is_built command.Copy = true

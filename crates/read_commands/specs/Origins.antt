@@ -1,5 +1,5 @@
 -- Where a line comes from, and the commands that may stand there.
-use Rattle.std.specs.Prelude.{ℕ, Bool, true, false, not, ◌&&◌, List, Option, if◌then◌else◌}
+use Rattle.std.specs.Prelude.{ℕ, Bool, true, false, not, ◌&&◌, List, Option, is_some, if◌then◌else◌}
 use Rattle.std.specs.declared.option.Option.TheVariants.{Some, None}
 use Rattle.std.specs.declared.result.Result.{Result}
 use Rattle.std.specs.declared.result.Result.TheVariants.{Ok, Err}
@@ -14,6 +14,7 @@ use Rattle.command_desk.specs.declared.steps.Steps.{Steps}
 use Rattle.command_desk.specs.Answers.{OrFault, next, unless, quietly}
 use Rattle.command_desk.specs.Effects.{unchanged}
 use Rattle.command_desk.specs.Faults.{not_built, not_in_startup, not_composing}
+use Rattle.macro_commands.specs.Defining.{definition_line}
 use Rattle.read_commands.specs.declared.origin.Origin.{Origin}
 use Rattle.read_commands.specs.declared.origin.Origin.TheVariants as origin
 use Rattle.read_commands.specs.Commands.{name_of, is_built, meaning, read_or_fault}
@@ -89,8 +90,19 @@ turns_lines (Err e) = false
 abbrev pub passes_over : Desk → List ℕ → Bool
 passes_over desk line = not (is_live desk.conditions) && not (turns_lines (reading line))
 
--- what a line from somewhere comes to, unless it is passed over: it is read first, then its command is carried out
-abbrev pub commanded : Origin → Desk → List ℕ → OrFault Steps
-commanded from desk line =
+-- a definition is under way
+abbrev pub is_defining : Desk → Bool
+is_defining desk = is_some desk.macros.unfinished
+
+-- what a line from somewhere comes to outside of definitions, unless it is passed over: it is read first, then its
+-- command is carried out
+abbrev pub commanded_outside : Origin → Desk → List ℕ → OrFault Steps
+commanded_outside from desk line =
     if passes_over desk line then quietly unchanged
     else next (read_from from line) (λ command. meaning command desk)
+
+-- what a line from somewhere comes to: where a definition is under way it is one of it, whatever it is
+abbrev pub commanded : Origin → Desk → List ℕ → OrFault Steps
+commanded from desk line =
+    if is_defining desk then definition_line desk line
+    else commanded_outside from desk line

@@ -10,11 +10,13 @@ ghost use Rattle.folder_commands.specs.Saving.{IsFilingWithin};
 ghost use Rattle.folder_commands.specs.Leaving.{quit};
 ghost use Rattle.folder_commands.specs.declared.wanted.Filing.{Filing};
 ghost use Rattle.read_commands.specs.Commands.{name_of, alone, exit, filed, steps_of, is_built, meaning, meaning_of, read_or_fault};
+ghost use Rattle.macro_commands.specs.Calling.{defines};
 ghost use Rattle.show_commands.specs.Telling.{number, help};
 
 use command_desk::{Ask, Desk, Refusal, Steps, fault, quietly, unchanged};
 use folder_commands::{Filing, copy, copy_by_author, file, quit, save, save_by_author, write};
 use line_words::{Command, CommandLine, LineError, read_line, whole_name};
+use macro_commands::{call, define, defines, undef};
 use mail_text::{Items, Memory};
 use mark_commands::{delete, delete_and_print, hold, mbox, touch, undelete};
 use message_show::How;
@@ -74,6 +76,15 @@ fn lone_help(alloc: Global, line: &CommandLine, desk: &Desk) -> Result<Steps, Re
 {
     no_words(alloc, line)?;
     help(alloc, desk)
+}
+
+fn lone_defines(alloc: Global, line: &CommandLine, desk: &Desk) -> Result<Steps, Refusal>
+    requires { IsDesk desk.now }
+    ensures means { Means result (alone line.now (defines desk.now)) }
+    ensures within { IsWithin desk.now result }
+{
+    no_words(alloc, line)?;
+    defines(alloc, desk)
 }
 
 fn lone_exit(alloc: Global, line: &CommandLine, desk: &Desk) -> Result<Steps, Refusal>
@@ -180,6 +191,10 @@ fn carry_out(alloc: Global, line: &CommandLine, desk: &Desk) -> Result<Steps, Re
         Command::Alternates => alternates(alloc, desk, words),
         Command::Ignore => ignore(alloc, desk, words),
         Command::Retain => retain(alloc, desk, words),
+        Command::Define => define(alloc, desk, words),
+        Command::Call => call(alloc, desk, words),
+        Command::Undef => undef(alloc, desk, words),
+        Command::Defines => lone_defines(alloc, line, desk),
         Command::Comment => Ok(quietly(alloc, unchanged(alloc))),
         Command::Number => lone_number(alloc, line, desk),
         Command::Help => lone_help(alloc, line, desk),
@@ -226,6 +241,10 @@ pub(crate) fn is_built(command: Command) -> bool
         | Command::Alternates
         | Command::Ignore
         | Command::Retain
+        | Command::Define
+        | Command::Call
+        | Command::Undef
+        | Command::Defines
         | Command::Help
         | Command::Comment
         | Command::Copy

@@ -4,12 +4,14 @@ ghost use Rattle.line_words.specs.Line.{reading};
 ghost use Rattle.command_desk.specs.Answers.{Means, IsRefusedBy, next};
 ghost use Rattle.command_desk.specs.Desks.{IsDesk};
 ghost use Rattle.command_desk.specs.Effects.{effect};
+ghost use Rattle.macro_commands.specs.Defining.{definition_line};
 ghost use Rattle.read_commands.specs.Commands.{meaning};
-ghost use Rattle.read_commands.specs.Origins.{is_of_startup, leaves_draft, line_if_unbuilt, line_of_origin, read_from, turns_lines, passes_over, commanded};
+ghost use Rattle.read_commands.specs.Origins.{is_of_startup, leaves_draft, line_if_unbuilt, line_of_origin, read_from, is_defining, turns_lines, passes_over, commanded, commanded_outside};
 
 use crate::dispatch::{command_line, is_built, name_of, perform};
 use command_desk::{Desk, Refusal, Steps, fault, quietly, unchanged};
 use line_words::{Command, CommandLine, LineError, read_line};
+use macro_commands::definition_line;
 use mail_text::Memory;
 use std::alloc::Global;
 
@@ -144,8 +146,42 @@ fn perform_read(alloc: Global, origin: Origin, line: &[u8], desk: &Desk) -> Resu
     perform(alloc, &line, desk)
 }
 
-/// What a line from somewhere comes to: nothing, where it is passed over; else it is read first, and then its command
-/// is performed.
+// What a line comes to where a definition is under way.
+fn perform_defined(alloc: Global, line: &[u8], desk: &Desk) -> Result<Steps, Refusal>
+    requires { IsDesk desk.now }
+    ensures means { Means result (definition_line desk.now line.now) }
+    ensures desk { IfOk result (λ steps. IsDesk (effect desk.now steps.effects)) }
+{
+    definition_line(alloc, desk, line)
+}
+
+// What a line comes to where no definition is under way.
+fn perform_command(
+    alloc: Global,
+    origin: Origin,
+    line: &[u8],
+    desk: &Desk,
+) -> Result<Steps, Refusal>
+    requires { IsDesk desk.now }
+    ensures means { Means result (commanded_outside origin desk.now line.now) }
+    ensures desk { IfOk result (λ steps. IsDesk (effect desk.now steps.effects)) }
+{
+    if passes_over(alloc, desk, line)? {
+        Ok(quietly(alloc, unchanged(alloc)))
+    } else {
+        perform_read(alloc, origin, line, desk)
+    }
+}
+
+/// Whether a definition is under way, so that a line is one of it, whatever it is. It takes no memory.
+pub fn is_defining(desk: &Desk) -> bool
+    ensures { result ≡ is_defining desk.now }
+{
+    desk.macros.open()
+}
+
+/// What a line from somewhere comes to: where a definition is under way it is one of it; else nothing, where it is
+/// passed over; else it is read first, and then its command is performed.
 pub fn perform_line(
     alloc: Global,
     origin: Origin,
@@ -156,9 +192,9 @@ pub fn perform_line(
     ensures means { Means result (commanded origin desk.now line.now) }
     ensures desk { IfOk result (λ steps. IsDesk (effect desk.now steps.effects)) }
 {
-    if passes_over(alloc, desk, line)? {
-        Ok(quietly(alloc, unchanged(alloc)))
+    if is_defining(desk) {
+        perform_defined(alloc, line, desk)
     } else {
-        perform_read(alloc, origin, line, desk)
+        perform_command(alloc, origin, line, desk)
     }
 }
