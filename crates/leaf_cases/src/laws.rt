@@ -11,6 +11,7 @@ use mail_dates::{
 };
 use mail_headers::{entries_make_the_header, parts_make_the_text};
 use mail_text::lines_make_the_text;
+use mailx_macros::macros_are_kept;
 use mailx_vars::variables_are_kept;
 use mbox_scan::{list_of_join, texts_are_proper};
 use message_show::all_fields_make_the_text;
@@ -56,6 +57,7 @@ fn speak_of_sessions() {
     line_words::words_read_back();
     variables_are_kept();
     conditions_nest();
+    macros_are_kept();
     aliases_are_kept();
     each_name_once();
     no_walk_is_cut();

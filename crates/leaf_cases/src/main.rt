@@ -17,6 +17,7 @@ mod headers;
 mod kept;
 mod laws;
 mod lists;
+mod macros;
 mod mailboxes;
 mod quits;
 mod show;
@@ -50,6 +51,7 @@ fn put_answer(kept: &mut Kept, case: &[Text], out: &mut Answer) {
         "words" => asked::put(case, out),
         "condition" => conditions::put(case, out),
         "alias" => aliases::put(case, out),
+        "macro" => macros::put(case, out),
         "quit" => quits::put(&kept.vars, case, out),
         "laws" => laws::put(out),
         _ => out.put_bad(),

@@ -15,6 +15,7 @@ use Rattle.mailx_session.specs.declared.status.Status.TheVariants.{Done}
 use Rattle.folder_change.specs.declared.change.Change.{Change}
 use Rattle.mailx_session.specs.Saving.{names_fault, saved}
 use Rattle.mailx_session.specs.Sourcing.{source_fault, sourced}
+use Rattle.mailx_session.specs.Calling.{called}
 use Rattle.mailx_session.specs.Switching.{open_fault, switches}
 use Rattle.mailx_session.specs.Sessions.{asked, LineCaused}
 
@@ -26,6 +27,9 @@ asked-commit s ask changes is = ap (asked s) is
 
 pub asked-source : (s : SessionState) (ask : asked_of.Ask) (name : List ℕ) → ask ≡ asks.Source name → asked s ask ≡ sourced s name (source_fault s.frames name)
 asked-source s ask name is = ap (asked s) is
+
+pub asked-lines : (s : SessionState) (ask : asked_of.Ask) (text : List ℕ) → ask ≡ asks.Lines text → asked s ask ≡ Ret (called s text)
+asked-lines s ask text is = ap (asked s) is
 
 pub asked-open : (s : SessionState) (ask : asked_of.Ask) (name : List ℕ) (changes : List Change) (reply : List ℕ) → ask ≡ asks.Open name changes reply → asked s ask ≡ switches s name changes reply (open_fault s.actor name changes)
 asked-open s ask name changes reply is = ap (asked s) is

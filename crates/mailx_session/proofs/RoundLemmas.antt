@@ -5,11 +5,12 @@ use Rattle.std.specs.declared.option.Option.{Option}
 use Rattle.std.specs.declared.option.Option.TheVariants.{Some, None}
 use Rattle.std.specs.declared.result.Result.{Result}
 use Rattle.std.specs.declared.result.Result.TheVariants.{Ok, Err}
-use Rattle.std.specs.Prelude.{OnErr, if◌then◌else◌}
+use Rattle.std.specs.Prelude.{OnErr, false, is_some, if◌then◌else◌}
 use Rattle.host_port.specs.declared.event.Event.{Event}
 use Rattle.session_play.specs.declared.stop.Stop.{Stop}
 use Rattle.session_play.specs.declared.stop.Stop.TheVariants as stop
 use Rattle.session_play.specs.Play.{Ret, Goes, Next, Go, Last}
+use Rattle.mailx_macros.specs.Macros.{Definitions, Macro}
 use Rattle.command_desk.specs.declared.desk.Desk.{Desk}
 use Rattle.command_desk.specs.Desks.{IsDesk}
 use Rattle.read_commands.specs.declared.origin.Origin.TheVariants.{Input}
@@ -22,7 +23,7 @@ use Rattle.mailx_session.specs.declared.status.Status.{Status}
 use Rattle.mailx_session.specs.Waits.{Pending}
 use Rattle.mailx_session.specs.Pending.{taken, open_before, closed}
 use Rattle.mailx_session.specs.States.{IsActor, IsState, IsSession, with_frames, with_count, cut_to, resumed, rested}
-use Rattle.mailx_session.specs.Rounds.{line_play, typed_play, counted_play, is_idle, waiting_play, WaitingGo, none, more, ended, cut, short}
+use Rattle.mailx_session.specs.Rounds.{line_play, typed_play, counted_play, is_idle, outside_play, waiting_play, WaitingGo, none, more, ended, cut, short}
 
 -- these events lead from s to t: lines that go on waiting at t go on from s with them in front
 pub record WaitsSoFar (s t : SessionState) (es : List Event) : Type 0 where
@@ -66,7 +67,7 @@ pub waits-short : (s t : SessionState) (es : List Event) → WaitsSoFar s t es �
 waits-short s t es so = subst (λ (l : List Event). WaitingGo s l (Err stop.Memory)) (append-nil es) (so.whole [] (Err stop.Memory) short)
 
 -- a line that is no command does nothing
-pub idle-goes : (s : SessionState) (line : WaitingLine) (idle : Bool) → idle ≡ is_idle s line → idle ≡ true → Goes (waiting_play s line) [] (Ok (Go s))
+pub idle-goes : (s : SessionState) (line : WaitingLine) (idle : Bool) → idle ≡ is_idle s line → idle ≡ true → Goes (outside_play s line) [] (Ok (Go s))
 idle-goes s line idle is holds =
     subst (λ (b : Bool). Goes (if b then Ret (Go s) else counted_play s line) [] (Ok (Go s))) (sym (sym is ∙ holds)) (refl, inl refl)
 
@@ -83,6 +84,14 @@ typed-same s is = ap (λ (t : SessionState). with_count t 1) (rested-same s is)
 pub typed-goes : (s : SessionState) → IsSession s → (line : List ℕ) (es : List Event) (out : Result (Next SessionState Status) Stop)
     → Goes (line_play Input (with_count s 1) line) es out → Goes (typed_play s line) es out
 typed-goes s is line es out goes = subst (λ (t : SessionState). Goes (line_play Input t line) es out) (sym (typed-same s is)) goes
+
+-- where no definition is under way none is dropped
+pub none_dropped : (d : Definitions) → is_some d.unfinished ≡ false → d ≡ record d { unfinished = None }
+none_dropped d missing = go d.unfinished missing
+  where
+    go : (u : Option Macro) → is_some u ≡ false → record d { unfinished = u } ≡ record d { unfinished = None }
+    go None h = refl
+    go (Some m) h = absurd (cc h)
 
 desk-cut : (o : Option ℕ) (desk : Desk) → IsDesk desk → IsDesk (cut_to o desk)
 desk-cut o desk d = record { shown = d.shown; rows = d.rows; marks = d.marks; width = d.width }

@@ -1,11 +1,13 @@
 -- Lines that a command brings.
-use Rattle.std.proofs.Common.{◌≡◌, ◌+◌, ◌-◌, ◌*◌, ◌^◌, ◌<◌, ◌≤◌, ℕ, Bool, true, false, cond, List, [], ◌∷◌, ◌++◌, length, take, refl, sym, ◌∙◌, ap, subst, arith, ⊎_elim, append_assoc}
-use Rattle.std.specs.Prelude.{get_or, nat_lt, if◌then◌else◌}
+use Rattle.std.proofs.Common.{◌≡◌, ◌+◌, ◌-◌, ◌*◌, ◌^◌, ◌<◌, ◌≤◌, ℕ, Bool, true, false, cond, List, [], ◌∷◌, ◌++◌, length, take, refl, sym, ◌∙◌, ap, subst, inl, arith, ⊎_elim, append_assoc}
+use Rattle.std.specs.Prelude.{get_or, nat_lt, codes, IfOk, IfErr, if◌then◌else◌}
+use Rattle.std.specs.Str.{bytes_eq}
 use Rattle.std.specs.List.{list_any}
-use Rattle.std.proofs.lemmas.Bool.{cases_Bool}
+use Rattle.std.proofs.lemmas.Bool.{cases_Bool, cond-true}
 use Rattle.std.proofs.lemmas.List.{append-nil, take_at}
 use Rattle.std.proofs.lemmas.List.Folds.{list_any_at}
 use Rattle.std.proofs.lemmas.List.Sums.{sum_by-append}
+use Rattle.std.specs.declared.option.Option.{Option}
 use Rattle.std.specs.declared.option.Option.TheVariants.{Some, None}
 use Rattle.std.specs.declared.result.Result.{Result}
 use Rattle.std.specs.declared.result.Result.TheVariants.{Ok, Err}
@@ -14,18 +16,34 @@ use Rattle.mailx_vars.specs.Names.{is_short_name}
 use Rattle.command_desk.specs.Desks.{IsDesk}
 use Rattle.command_desk.specs.Faults.{bad_name, sources_too_deep}
 use Rattle.mail_text.proofs.LineLemmas.{length-lines_of}
+use Rattle.host_port.specs.Calls.{Counts}
+use Rattle.session_play.specs.Play.{Play, Ret, Goes}
+use Rattle.session_play.specs.Steps.{After}
+use Rattle.session_play.proofs.PlayLemmas.{at-memory}
+use Rattle.mailx_macros.specs.Macros.{line_refusal}
+use Rattle.mailx_macros.specs.declared.error.MacroError.{MacroError}
+use Rattle.command_desk.specs.declared.naming.Naming.TheVariants as naming
 use Rattle.command_desk.specs.declared.steps.Ask as asked_of
+use Rattle.command_desk.specs.Answers.{quietly}
+use Rattle.command_desk.specs.Effects.{renames}
+use Rattle.macro_commands.specs.Defining.{or_macro_fault}
+use Rattle.read_commands.specs.Origins.{commanded, is_defining}
 use Rattle.read_commands.specs.declared.origin.Origin.{Origin}
 use Rattle.mailx_session.specs.declared.asks.Asked.{Asked}
 use Rattle.mailx_session.specs.declared.asks.Asked.TheVariants as answered
 use Rattle.mailx_session.specs.declared.error.RunError.{RunError}
-use Rattle.mailx_session.specs.declared.kinds.FrameKind.TheVariants as kind
+use Rattle.mailx_session.specs.declared.error.RunError.TheVariants as error
+use Rattle.mailx_session.specs.declared.kinds.FrameKind.{FrameKind}
+use Rattle.mailx_session.specs.declared.kinds.FrameKind.TheVariants as kinds
+use Rattle.mailx_session.specs.declared.status.Status.{Status}
 use Rattle.mailx_session.specs.declared.state.SessionState.{SessionState}
 use Rattle.mailx_session.specs.Waits.{Pending}
 use Rattle.mailx_session.specs.Pending.{frame_of, lines_left}
 use Rattle.mailx_session.specs.States.{IsState, with_desk, with_frames, resumed, KeepsOthers}
-use Rattle.mailx_session.specs.Sourcing.{is_source, sources, source_limit, origin_at, source_fault, with_source, brings, room, weight, OnlyBrings}
-use Rattle.mailx_session.specs.Sessions.{after_asks, in_play, is_on, StaysUnlessOn, KeepsDesk}
+use Rattle.mailx_session.specs.Bringing.{is_source, is_call, sources, calls, source_limit, origin_at, with_lines, brings, brings_lines, room, weight, HasPlace, OnlyBrings}
+use Rattle.mailx_session.specs.Sourcing.{source_fault}
+use Rattle.mailx_session.specs.Calling.{called}
+use Rattle.mailx_session.specs.Sessions.{after_asks, in_play, is_on, stop_of, LineCaused, StaysUnlessOn, KeepsDesk}
 use Rattle.command_desk.specs.declared.desk.Desk.{Desk}
 
 le-refl : (n : ℕ) → n ≤ n
@@ -101,25 +119,44 @@ left-more : (fs : List Pending) (f : Pending) → lines_left (fs ++ f ∷ []) �
 left-more [] f = omega arith
 left-more (g ∷ fs) f = let rest = left-more fs f in omega arith
 
-sources-more : (fs : List Pending) (origin : Origin) (nested : ℕ) (text : List ℕ) → sources (fs ++ frame_of origin kind.Source nested text ∷ []) ≡ sources fs + 1
-sources-more fs origin nested text = sum_by-append (λ (f : Pending). cond (is_source f.kind) 1 0) fs (frame_of origin kind.Source nested text ∷ [])
+sources-more : (fs : List Pending) (f : Pending) → sources (fs ++ f ∷ []) ≡ sources fs + sources (f ∷ [])
+sources-more fs f = sum_by-append (λ (g : Pending). cond (is_source g.kind) 1 0) fs (f ∷ [])
 
-room-falls : (a b k n m : ℕ) → b ≡ a + k → k < 2 ^ 64 → m ≡ n + 1 → n < 16 → b + (16 - m) * 2 ^ 64 ≤ a + (16 - n) * 2 ^ 64
-room-falls a b k n m more small one few = omega arith
+calls-more : (fs : List Pending) (f : Pending) → calls (fs ++ f ∷ []) ≡ calls fs + calls (f ∷ [])
+calls-more fs f = sum_by-append (λ (g : Pending). cond (is_call g.kind) 1 0) fs (f ∷ [])
+
+room-falls : (a b k n m p q : ℕ) → b ≡ a + k → k < 2 ^ 64 → m ≡ n + 1 → n < 16 → p ≡ q → b + ((16 - m) + (32 - p)) * 2 ^ 64 ≤ a + ((16 - n) + (32 - q)) * 2 ^ 64
+room-falls a b k n m p q more small one few same = omega arith
+
+room-called : (a b k n m p q : ℕ) → b ≡ a + k → k < 2 ^ 64 → m ≡ n → p ≡ q + 1 → q < 32 → b + ((16 - m) + (32 - p)) * 2 ^ 64 ≤ a + ((16 - n) + (32 - q)) * 2 ^ 64
+room-called a b k n m p q more small same one few = omega arith
 
 below : (a b c : ℕ) → a ≤ b → b < c → a < c
 below a b c x y = omega arith
 
--- the lines of a file are brought
-pub brings-source : (s : SessionState) (text : List ℕ) → sources s.frames < source_limit → length text < 2 ^ 64 → OnlyBrings s (with_source s text)
-brings-source s text few small =
-    let f = frame_of (origin_at s.frames) kind.Source (length s.desk.conditions) text in
-    record {
-      rest = refl;
-      inside = (f ∷ [], refl);
-      room = room-falls (lines_left s.frames) (lines_left (s.frames ++ f ∷ [])) (length (lines_of text)) (sources s.frames) (sources (s.frames ++ f ∷ [])) (left-more s.frames f)
-          (below (length (lines_of text)) (length text) (2 ^ 64) (length-lines_of text) small) (sources-more s.frames (origin_at s.frames) (length s.desk.conditions) text) few;
-    }
+none-more : (n : ℕ) → n + 0 ≡ n
+none-more n = omega arith
+
+-- lines that are brought take from the room what they may
+room-lines : (by : FrameKind) (fs : List Pending) (origin : Origin) (nested : ℕ) (text : List ℕ) → HasPlace by fs → length text < 2 ^ 64
+    → room (fs ++ frame_of origin by nested text ∷ []) ≤ room fs
+room-lines kinds.Source fs origin nested text few small =
+    let f = frame_of origin kinds.Source nested text in
+    room-falls (lines_left fs) (lines_left (fs ++ f ∷ [])) (length (lines_of text)) (sources fs) (sources (fs ++ f ∷ [])) (calls (fs ++ f ∷ [])) (calls fs) (left-more fs f)
+    (below (length (lines_of text)) (length text) (2 ^ 64) (length-lines_of text) small) (sources-more fs f) few (calls-more fs f ∙ none-more (calls fs))
+room-lines kinds.Call fs origin nested text few small =
+    let f = frame_of origin kinds.Call nested text in
+    room-called (lines_left fs) (lines_left (fs ++ f ∷ [])) (length (lines_of text)) (sources fs) (sources (fs ++ f ∷ [])) (calls (fs ++ f ∷ [])) (calls fs) (left-more fs f)
+    (below (length (lines_of text)) (length text) (2 ^ 64) (length-lines_of text) small) (sources-more fs f ∙ none-more (sources fs)) (calls-more fs f) few
+room-lines kinds.Startup fs origin nested text few small = absurd few
+
+-- the lines of a file or a macro are brought
+pub brings-lines : (by : FrameKind) (s : SessionState) (text : List ℕ) → HasPlace by s.frames → length text < 2 ^ 64 → OnlyBrings s (with_lines by s text)
+brings-lines by s text few small = record {
+  rest = refl;
+  inside = (frame_of (origin_at s.frames) by (length s.desk.conditions) text ∷ [], refl);
+  room = room-lines by s.frames (origin_at s.frames) (length s.desk.conditions) text few small;
+}
 
 -- an ask of some that bring nothing brings nothing
 pub quiet-at : (asks : List asked_of.Ask) (i : ℕ) (d a : asked_of.Ask) → list_any brings asks ≡ false → i < length asks → get_or asks i d ≡ a → brings a ≡ false
@@ -148,12 +185,12 @@ stays-on s t (Ok (answered.Refused line)) on = absurd (cc on)
 stays-on s t (Ok (answered.Ended e)) on = absurd (cc on)
 stays-on s t (Err e) on = absurd (cc on)
 
-weight-falls : (c d l m x y : ℕ) → c < 100000 → d ≡ c + 1 → m + (16 - y) * 2 ^ 64 ≤ l + (16 - x) * 2 ^ 64 → (100000 - d) * 2 ^ 70 + m ≤ (100000 - c) * 2 ^ 70 + l
-weight-falls c d l m x y within more room = omega arith
+weight-falls : (c d l m x y z w : ℕ) → c < 100000 → d ≡ c + 1 → m + ((16 - y) + (32 - w)) * 2 ^ 64 ≤ l + ((16 - x) + (32 - z)) * 2 ^ 64 → (100000 - d) * 2 ^ 70 + m ≤ (100000 - c) * 2 ^ 70 + l
+weight-falls c d l m x y z w within more room = omega arith
 
 -- one command more outweighs the lines that it brings
 pub weight-counted : (s t : SessionState) → s.count < 100000 → t.count ≡ s.count + 1 → room t.frames ≤ room s.frames → weight t ≤ weight s
-weight-counted s t within more fits = weight-falls s.count t.count (lines_left s.frames) (lines_left t.frames) (sources s.frames) (sources t.frames) within more fits
+weight-counted s t within more fits = weight-falls s.count t.count (lines_left s.frames) (lines_left t.frames) (sources s.frames) (sources t.frames) (calls s.frames) (calls t.frames) within more fits
 
 -- and so does a line that is taken
 pub weight-taken : (s : SessionState) (fs : List Pending) → lines_left fs < lines_left s.frames → weight (with_frames s fs) < weight s
@@ -172,3 +209,33 @@ source-name frames name plain = go (is_short_name name) (nat_lt (sources frames)
     go : (short few : Bool) → (if short then (if few then None else Some sources_too_deep) else Some (bad_name name)) ≡ None → short ≡ true
     go true few h = refl
     go false few h = absurd (cc h)
+
+-- and so do no lines, with the count as it was
+pub weight_kept : (s t : SessionState) → KeepsOthers s t → t.frames ≡ s.frames → weight t ≤ weight s
+weight_kept s t others same = subst (λ (u : SessionState). weight u ≤ weight s) (sym (others ∙ ap (with_frames (with_desk s t.desk)) same)) (le-refl (weight s))
+
+-- a line of a definition brings nothing
+definition-brings : (b : Bool) (o : Option MacroError) (line : List ℕ)
+    → brings_lines (if b then quietly (renames naming.End) else or_macro_fault [] o (quietly (renames (naming.Line line)))) ≡ false
+definition-brings true o line = refl
+definition-brings false None line = refl
+definition-brings false (Some e) line = refl
+
+pub defining_brings_none : (origin : Origin) (desk : Desk) (line : List ℕ) → is_defining desk ≡ true → brings_lines (commanded origin desk line) ≡ false
+defining_brings_none origin desk line defining =
+    ap brings_lines (cond-true _ _ _ defining) ∙ definition-brings (bytes_eq line (codes "}")) (line_refusal desk.macros line) line
+
+-- where a macro's lines are brought or refused, without an event
+pub called-goes : (s t : SessionState) (text : List ℕ) (r : Result Asked RunError) → IfOk r (λ asked. after_asks t asked ≡ called s text) → IfErr r (λ e. e ≡ error.Memory)
+    → Goes (Ret (called s text)) [] (in_play (after_asks t) r)
+called-goes s t text (Ok asked) means memory = (refl, inl (ap (λ (a : After SessionState Status). Ok a) means))
+called-goes s t text (Err e) means memory = at-memory-as (Ret (called s text)) e memory
+  where
+    at-memory-as : (p : Play (After SessionState Status)) (e : RunError) → e ≡ error.Memory → Goes p [] (Err (stop_of e))
+    at-memory-as p e same = subst (λ (x : RunError). Goes p [] (Err (stop_of x))) (sym same) (at-memory p)
+
+pub called-caused : (a b : Counts) (r : Result Asked RunError) → IfErr r (λ e. e ≡ error.Memory) → LineCaused a b r
+called-caused a b (Ok asked) memory = tt
+called-caused a b (Err error.Memory) memory = tt
+called-caused a b (Err error.Output) memory = absurd (cc memory)
+called-caused a b (Err error.Disk) memory = absurd (cc memory)

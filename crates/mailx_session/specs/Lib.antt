@@ -3,7 +3,9 @@ pub mod Waits
 pub mod Pending
 pub mod States
 pub mod Saving
+pub mod Bringing
 pub mod Sourcing
+pub mod Calling
 pub mod Switching
 pub mod Sessions
 pub mod Leaving

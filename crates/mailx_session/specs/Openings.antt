@@ -32,6 +32,7 @@ desk_with places terminal = record {
   aliases = [];
   own = record { user = places.user; alternates = [] };
   sets = record { ignored = []; retained = [] };
+  macros = record { done = []; unfinished = None };
   conditions = [];
   terminal = terminal;
   page = 0;

@@ -12,7 +12,7 @@ use Rattle.session_play.specs.declared.stop.Stop.TheVariants as stop
 use Rattle.session_play.specs.Play.{Play, Ret, Ask, Say, Next, Go, Last, Goes}
 use Rattle.read_commands.specs.declared.origin.Origin.{Origin}
 use Rattle.read_commands.specs.declared.origin.Origin.TheVariants.{Input}
-use Rattle.read_commands.specs.Origins.{commanded, passes_over}
+use Rattle.read_commands.specs.Origins.{commanded, is_defining, passes_over}
 use Rattle.mailx_session.specs.declared.frames.WaitingLine.{WaitingLine}
 use Rattle.mailx_session.specs.declared.state.SessionState.{SessionState}
 use Rattle.mailx_session.specs.declared.status.Status.{Status}
@@ -32,7 +32,7 @@ typed_play s line = line_play Input (with_count (rested s) 1) line
 abbrev pub too_many_commands : List ℕ
 too_many_commands = with_feed (codes "too many commands")
 
--- this is said, and the lines that wait are dropped, with the conditions that they left open
+-- this is said, and the lines that wait are dropped, with the conditions and the definition that they left open
 abbrev pub dropped_play : SessionState → Play (Next SessionState Status)
 dropped_play s = Ask (Say too_many_commands) (λ _. Ret (Go (resumed s [])))
 
@@ -46,9 +46,15 @@ counted_play s line =
 abbrev pub is_idle : SessionState → WaitingLine → Bool
 is_idle s line = list_all is_blank line.text || passes_over s.desk line.text
 
--- a line from elsewhere
+-- a line from elsewhere that is no line of a definition
+abbrev pub outside_play : SessionState → WaitingLine → Play (Next SessionState Status)
+outside_play s line = if is_idle s line then Ret (Go s) else counted_play s line
+
+-- a line from elsewhere; one of a definition is no command
 abbrev pub waiting_play : SessionState → WaitingLine → Play (Next SessionState Status)
-waiting_play s line = if is_idle s line then Ret (Go s) else counted_play s line
+waiting_play s line =
+    if is_defining s.desk then line_play line.origin s line.text
+    else outside_play s line
 
 -- The lines that wait are carried out, each on the state that the one before it left, until none is left, the run ends or is
 -- cut off.

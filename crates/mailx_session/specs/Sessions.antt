@@ -26,6 +26,7 @@ use Rattle.mailx_session.specs.States.{settled}
 use Rattle.mailx_session.specs.Statuses.{IsLineEnd}
 use Rattle.mailx_session.specs.Saving.{names_fault, saved}
 use Rattle.mailx_session.specs.Sourcing.{source_fault, sourced}
+use Rattle.mailx_session.specs.Calling.{called}
 use Rattle.mailx_session.specs.Switching.{open_fault, switches}
 
 -- what is asked for, and what its answer leaves
@@ -33,6 +34,7 @@ abbrev pub asked : SessionState → asked_of.Ask → Play (After SessionState St
 asked s (asks.Say bytes) = Ask (Say bytes) (λ _. Ret (On s))
 asked s (asks.Commit changes) = saved s changes (names_fault s.actor changes)
 asked s (asks.Source name) = sourced s name (source_fault s.frames name)
+asked s (asks.Lines text) = Ret (called s text)
 asked s (asks.Open name changes reply) = switches s name changes reply (open_fault s.actor name changes)
 asked s asks.Exit = Ret (Ended Done)
 

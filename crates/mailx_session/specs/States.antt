@@ -4,6 +4,7 @@ use Rattle.std.specs.declared.option.Option.{Option}
 use Rattle.std.specs.declared.option.Option.TheVariants.{Some, None}
 use Rattle.host_port.specs.Names.{has_no_zero}
 use Rattle.commit_machine.specs.Names.{actor_limit}
+use Rattle.mailx_macros.specs.Macros.{Definitions}
 use Rattle.rc_conditionals.specs.declared.conditions.Condition.{Condition}
 use Rattle.command_desk.specs.declared.desk.Desk.{Desk}
 use Rattle.command_desk.specs.declared.effects.Effects.{Effects}
@@ -50,15 +51,27 @@ abbrev pub still_open : Option ℕ → List Condition → List Condition
 still_open None conditions = conditions
 still_open (Some n) conditions = take n conditions
 
--- the desk without the conditions that were opened since this many were open
-abbrev pub cut_to : Option ℕ → Desk → Desk
-cut_to nested desk = record desk { conditions = still_open nested desk.conditions }
+-- the macros, where so many conditions were open before the lines that are over: a definition that these left is dropped.
+-- None was under way before them, or the command that brought them would have been a line of it.
+abbrev pub still_defining : Option ℕ → Definitions → Definitions
+still_defining None macros = macros
+still_defining (Some n) macros = record macros { unfinished = None }
 
--- the state with these frames alone, the outermost of those that it has: the conditions that the others left open are cut
+-- the desk without the conditions that were opened since this many were open, and without the definition that was
+-- begun since
+abbrev pub cut_to : Option ℕ → Desk → Desk
+cut_to nested desk = record desk {
+  conditions = still_open nested desk.conditions;
+  macros = still_defining nested desk.macros;
+}
+
+-- the state with these frames alone, the outermost of those that it has: the conditions and the definition that the
+-- others left open are cut
 abbrev pub resumed : SessionState → List Pending → SessionState
 resumed s frames = record s { desk = cut_to (open_before (closed s.frames frames)) s.desk; frames = frames }
 
--- the state without lines that wait and without the conditions that they left open, and with no command counted
+-- the state without lines that wait and without the conditions and the definition that they left open, and with no
+-- command counted
 abbrev pub rested : SessionState → SessionState
 rested s = record s { desk = cut_to (open_before s.frames) s.desk; frames = []; count = 0 }
 

@@ -7,9 +7,10 @@ ghost use Rattle.session_play.specs.Play.{Play, Ask, Ret, Say, Goes};
 ghost use Rattle.session_play.specs.Steps.{in_order};
 ghost use Rattle.mailx_session.specs.declared.state.SessionState.{SessionState};
 ghost use Rattle.mailx_session.specs.States.{IsState};
-ghost use Rattle.mailx_session.specs.Sourcing.{brings, OnlyBrings};
+ghost use Rattle.mailx_session.specs.Bringing.{brings, OnlyBrings};
 ghost use Rattle.mailx_session.specs.Sessions.{asked, after_asks, in_play, is_on, LineCaused, EndsByAsk, StaysUnlessOn, KeepsDesk};
 
+use crate::calling::call;
 use crate::saving::save;
 use crate::sourcing::source;
 use crate::switching::switch;
@@ -67,6 +68,7 @@ fn do_ask<H: Host>(
         Wanted::Say(bytes) => say_line(host, bytes),
         Wanted::Commit { changes } => save(alloc, state, host, changes.items()),
         Wanted::Source { name } => source(alloc, state, host, name.bytes()),
+        Wanted::Lines { text } => call(alloc, state, text),
         Wanted::Open {
             name,
             changes,

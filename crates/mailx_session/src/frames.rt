@@ -1,7 +1,7 @@
 // Lines from elsewhere than the input that are still to run.
 ghost use Rattle.std.specs.Prelude.{◌≡◌, ◌≢◌, ◌≤◌, ◌++◌, ◌∷◌, [], Some, length, take, IfOk, IfSome, IfNone, OnOk, OnErr};
 ghost use Rattle.mailx_session.specs.Pending.{frame_of, line_from, open_before, closed, IsTaken, IsHanded};
-ghost use Rattle.mailx_session.specs.Sourcing.{is_source, sources, origin_at};
+ghost use Rattle.mailx_session.specs.Bringing.{is_source, is_call, sources, calls, origin_at};
 
 use crate::FrameKind;
 use mail_text::{Memory, Text, lines};
@@ -78,7 +78,17 @@ impl Frame {
     {
         match self.kind {
             FrameKind::Source => true,
-            FrameKind::Startup => false,
+            FrameKind::Startup | FrameKind::Call => false,
+        }
+    }
+
+    // Whether a command brought the lines of a macro.
+    fn is_call(&self) -> bool
+        ensures { result ≡ is_call self.now.kind }
+    {
+        match self.kind {
+            FrameKind::Call => true,
+            FrameKind::Startup | FrameKind::Source => false,
         }
     }
 
@@ -151,6 +161,13 @@ impl Frames {
         ensures { result ≡ sources self.now }
     {
         self.stack.iter().filter(|frame| frame.is_source()).count()
+    }
+
+    /// How many calls are open.
+    pub(crate) fn calls(&self) -> usize
+        ensures { result ≡ calls self.now }
+    {
+        self.stack.iter().filter(|frame| frame.is_call()).count()
     }
 
     /// How many frames there are.

@@ -5,4 +5,6 @@ pub enum FrameKind {
     Startup,
     /// The command `source`.
     Source,
+    /// The command `call`: they are a macro's.
+    Call,
 }

@@ -9,7 +9,7 @@ ghost use Rattle.mailx_session.specs.declared.status.Status.{Status};
 ghost use Rattle.mailx_session.specs.States.{IsState};
 ghost use Rattle.mailx_session.specs.Statuses.{IsEnd};
 ghost use Rattle.mailx_session.specs.Sessions.{asked, after_asks, in_play, LineCaused, EndsByAsk};
-ghost use Rattle.mailx_session.specs.Sourcing.{brings};
+ghost use Rattle.mailx_session.specs.Bringing.{brings};
 ghost use Rattle.mailx_session.specs.Leaving.{left_by, leaving};
 
 use crate::asks::{Asked, do_asks, say};

@@ -3,6 +3,8 @@
 #![tactic(auto)]
 
 mod asks;
+mod bringing;
+mod calling;
 mod error;
 mod flow;
 mod frames;

@@ -1,5 +1,5 @@
 // Lines as they are carried out: one of the input, and then those that wait.
-ghost use Rattle.std.specs.Prelude.{◌≡◌, ◌≤◌, ◌≢◌, List, ℕ, [], false, Ok, Err, IfErr, IfOk, OnErr, OnOk, take};
+ghost use Rattle.std.specs.Prelude.{◌≡◌, ◌≤◌, ◌≢◌, List, ℕ, [], true, false, Ok, Err, IfErr, IfOk, OnErr, OnOk, take};
 ghost use Rattle.std.specs.List.{list_all, list_any};
 ghost use Rattle.mail_text.specs.Ascii.{is_blank};
 ghost use Rattle.host_port.specs.Ran.{Ran};
@@ -7,12 +7,12 @@ ghost use Rattle.session_play.specs.Play.{Play, Goes};
 ghost use Rattle.session_play.specs.Steps.{refused};
 ghost use Rattle.command_desk.specs.Desks.{IsDesk};
 ghost use Rattle.command_desk.specs.Effects.{effect};
-ghost use Rattle.read_commands.specs.Origins.{commanded};
+ghost use Rattle.read_commands.specs.Origins.{commanded, is_defining};
 ghost use Rattle.read_commands.specs.declared.origin.Origin.{Origin};
 ghost use Rattle.mailx_session.specs.Pending.{IsTaken};
 ghost use Rattle.mailx_session.specs.States.{IsState, IsSession, resumed, rested, settled, with_frames, KeepsOthers};
-ghost use Rattle.mailx_session.specs.Sourcing.{brings, brings_lines, room, weight};
-ghost use Rattle.mailx_session.specs.Rounds.{line_play, typed_play, dropped_play, counted_play, is_idle, waiting_play, WaitingGo, LineGoes};
+ghost use Rattle.mailx_session.specs.Bringing.{brings, brings_lines, room, weight};
+ghost use Rattle.mailx_session.specs.Rounds.{line_play, typed_play, dropped_play, counted_play, is_idle, outside_play, waiting_play, WaitingGo, LineGoes};
 ghost use Rattle.mailx_session.specs.Sessions.{carried_out, next_of, in_play, LineCaused, EndsByLine, StaysAtEnd, DoesNothing};
 
 use crate::asks::{Asked, do_asks, say};
@@ -21,7 +21,7 @@ use crate::state::{cut_to, drop_lines};
 use crate::{Flow, RunError, SessionState, WaitingLine};
 use host_port::Host;
 use mail_text::{Memory, Text, is_blank};
-use read_commands::{Effects, Origin, Refusal, Steps, passes_over, perform_line};
+use read_commands::{Effects, Origin, Refusal, Steps, is_defining, passes_over, perform_line};
 use std::alloc::Global;
 
 /// The most commands that one input line gives.
@@ -149,7 +149,8 @@ fn typed_line<H: Host>(
     carry_line(alloc, state, host, Origin::Input, line)
 }
 
-// Says that there are too many commands, and drops the lines that wait, with the conditions that they left open.
+// Says that there are too many commands, and drops the lines that wait, with the conditions and the definition that
+// they left open.
 #[tactic(auto, using(crate::proofs::SourcingLemmas::weight_dropped))]
 fn drop_waiting<H: Host>(
     alloc: Global,
@@ -214,8 +215,8 @@ fn is_idle(alloc: Global, state: &SessionState, line: &WaitingLine) -> Result<bo
     }
 }
 
-// Carries out a line from elsewhere.
-fn waiting_line<H: Host>(
+// Carries out a line from elsewhere that is no line of a definition.
+fn outside_line<H: Host>(
     alloc: Global,
     state: &mut SessionState,
     host: &mut H,
@@ -223,7 +224,7 @@ fn waiting_line<H: Host>(
 ) -> Result<Flow, RunError>
     requires { IsState state.old }
     ensures ran { Ran H.world host.old host.new
-        (λ es. Goes (waiting_play state.old line.now) es (in_play (next_of state.new) result)) }
+        (λ es. Goes (outside_play state.old line.now) es (in_play (next_of state.new) result)) }
     ensures state { IsState state.new }
     ensures falls { weight state.new ≤ weight state.old }
     ensures done { IfOk result EndsByLine }
@@ -241,7 +242,50 @@ fn waiting_line<H: Host>(
     }
 }
 
-// Takes the next line that waits, and cuts the conditions that the frames left open which are closed then.
+// Carries out a line from elsewhere where a definition is under way, so that it is no command.
+fn defining_line<H: Host>(
+    alloc: Global,
+    state: &mut SessionState,
+    host: &mut H,
+    origin: Origin,
+    line: &[u8],
+) -> Result<Flow, RunError>
+    requires state { IsState state.old }
+    requires defining { is_defining state.old.desk ≡ true }
+    ensures ran { Ran H.world host.old host.new
+        (λ es. Goes (line_play origin state.old line.now) es (in_play (next_of state.new) result)) }
+    ensures state { IsState state.new }
+    ensures falls { weight state.new ≤ weight state.old }
+    ensures done { IfOk result EndsByLine }
+    ensures cause { LineCaused (H.world.counts host.old) (H.world.counts host.new) result }
+{
+    carry_line(alloc, state, host, origin, line)
+}
+
+// Carries out a line from elsewhere. One of a definition is no command.
+fn waiting_line<H: Host>(
+    alloc: Global,
+    state: &mut SessionState,
+    host: &mut H,
+    line: &WaitingLine,
+) -> Result<Flow, RunError>
+    requires { IsState state.old }
+    ensures ran { Ran H.world host.old host.new
+        (λ es. Goes (waiting_play state.old line.now) es (in_play (next_of state.new) result)) }
+    ensures state { IsState state.new }
+    ensures falls { weight state.new ≤ weight state.old }
+    ensures done { IfOk result EndsByLine }
+    ensures cause { LineCaused (H.world.counts host.old) (H.world.counts host.new) result }
+{
+    if is_defining(&state.desk) {
+        defining_line(alloc, state, host, line.origin, line.text.bytes())
+    } else {
+        outside_line(alloc, state, host, line)
+    }
+}
+
+// Takes the next line that waits, and cuts the conditions and the definition that the frames left open which are
+// closed then.
 #[tactic(auto, using(crate::proofs::RoundLemmas::kept_valid))]
 fn next_waiting(alloc: Global, state: &mut SessionState) -> Result<Option<WaitingLine>, Memory>
     requires { IsState state.old }

@@ -13,6 +13,7 @@ ghost use Rattle.command_desk.specs.Desks.{IsDesk};
 use crate::{Frames, SessionState};
 use alias_groups::{Aliases, Own};
 use mail_text::{Items, Memory, Text};
+use mailx_macros::Macros;
 use mailx_vars::{Places, Vars};
 use mbox_scan::Folder;
 use message_show::FieldSets;
@@ -70,6 +71,7 @@ fn first_desk(alloc: Global, places: Places, terminal: bool) -> Result<Desk, Mem
             alternates: Items::new(alloc),
         },
         sets: FieldSets::new(alloc),
+        macros: Macros::new(alloc),
         conditions: Conditions::new(),
         terminal,
         page: 0,

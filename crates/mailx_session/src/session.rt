@@ -11,7 +11,7 @@ ghost use Rattle.mailx_session.specs.Leaving.{leaving};
 ghost use Rattle.mailx_session.specs.Rounds.{LineGoes};
 ghost use Rattle.mailx_session.specs.Statuses.{IsEnd};
 ghost use Rattle.session_play.specs.Play.{Play, Goes};
-ghost use Rattle.mailx_session.specs.Sourcing.{brings_lines};
+ghost use Rattle.mailx_session.specs.Bringing.{brings_lines};
 ghost use Rattle.mailx_session.specs.Sessions.{next_of, in_play, LineCaused, EndsByLine, StaysAtEnd};
 ghost use Rattle.mailx_session.specs.Openings.{first_state, greeting, Opens};
 
@@ -47,7 +47,8 @@ impl Model for Session {
     ghost invariant = { λ s. IsSession s.state };
 }
 
-// Drops the lines that wait, with the conditions that they left open, and counts no command any more.
+// Drops the lines that wait, with the conditions and the definition that they left open, and counts no command any
+// more.
 #[tactic(auto, using(crate::proofs::RoundLemmas::rested_valid))]
 fn rest(alloc: Global, state: &mut SessionState)
     requires { IsState state.old }

@@ -1,14 +1,16 @@
 // A file whose lines a command brings.
-ghost use Rattle.std.specs.Prelude.{◌≡◌, ◌<◌, ◌^◌, None, length, IfOk, OnErr};
+ghost use Rattle.std.specs.Prelude.{◌≡◌, ◌<◌, None, IfOk};
 ghost use Rattle.host_port.specs.Calls.{NeverFall};
 ghost use Rattle.host_port.specs.Ran.{Ran};
 ghost use Rattle.session_play.specs.Play.{Play, Goes};
-ghost use Rattle.mailx_session.specs.Sourcing.{source_fault, source_limit, sources, sourced, with_source, after_load, OnlyBrings};
+ghost use Rattle.mailx_session.specs.Bringing.{source_limit, sources, OnlyBrings};
+ghost use Rattle.mailx_session.specs.Sourcing.{source_fault, sourced, after_load};
 ghost use Rattle.mailx_session.specs.Sessions.{after_asks, in_play, LineCaused, EndsByAsk};
 
 use crate::asks::Asked;
+use crate::bringing::bring;
 use crate::saving::{line_of, refused};
-use crate::{Frame, FrameKind, Frames, RunError, SessionState};
+use crate::{FrameKind, Frames, RunError, SessionState};
 use host_port::Host;
 use mail_text::{Memory, Text};
 use mailx_vars::is_short_name;
@@ -31,33 +33,6 @@ fn source_fault(alloc: Global, frames: &Frames, name: &[u8]) -> Result<Option<Te
     }
 }
 
-// How many bytes a text has: a number of 64 bits.
-fn size_of(text: &Text) -> usize
-    ensures size { result ≡ length text.now }
-    ensures small { length text.now < 2 ^ 64 }
-{
-    text.bytes().len()
-}
-
-// Puts the lines of a text in front of those that wait.
-fn bring(state: &mut SessionState, text: Text) -> Result<Asked, Memory>
-    requires { sources state.old.frames < source_limit }
-    ensures on { IfOk result (λ asked. asked ≡ Asked.On) }
-    ensures ok { IfOk result (λ asked. state.new ≡ with_source state.old text) }
-    ensures brings { OnlyBrings state.old state.new }
-    ensures desk { state.new.desk ≡ state.old.desk }
-    ensures err { OnErr result (state.new ≡ state.old) }
-{
-    // the clause `brings` speaks of how many lines a text can have
-    let _size = size_of(&text);
-    let nested = state.desk.conditions.depth();
-    let frame = Frame::new(state.frames.origin(), FrameKind::Source, nested, text);
-    match state.frames.push(frame) {
-        Ok(()) => Ok(Asked::On),
-        Err(Memory) => Err(Memory),
-    }
-}
-
 // What the load of a file of this name leaves.
 fn after_load(
     alloc: Global,
@@ -77,7 +52,7 @@ fn after_load(
                 bytes: Some(text),
                 ..
             },
-        ) => bring(state, text),
+        ) => bring(state, FrameKind::Source, text),
         Some(Found::Bytes { bytes: None, .. }) => refused(alloc, name, b": no such file"),
         Some(Found::TooLarge { .. }) => refused(alloc, name, b": too large"),
         None => refused(alloc, name, b": cannot be read"),

@@ -1,9 +1,10 @@
 // What a session knows between two lines.
-ghost use Rattle.std.specs.Prelude.{◌≡◌, []};
+ghost use Rattle.std.specs.Prelude.{◌≡◌, [], None};
 ghost use Rattle.mailx_session.specs.States.{IsState, cut_to, resumed};
 
 use crate::Frames;
 use mail_text::Text;
+use mailx_macros::Macros;
 use read_commands::Desk;
 use std::alloc::Global;
 
@@ -25,16 +26,27 @@ pub struct SessionState {
     pub count: u32,
 }
 
-/// Cuts the conditions that were opened since this many were open.
+// Drops the definition that is under way, where one is.
+#[tactic(auto, using(crate::proofs::RoundLemmas::none_dropped))]
+fn drop_definition(macros: &mut Macros)
+    ensures { macros.new ≡ record macros.old { unfinished = None } }
+{
+    if macros.open() {
+        macros.abandon();
+    }
+}
+
+/// Cuts the conditions that were opened since this many were open, and drops the definition that was begun since.
 pub(crate) fn cut_to(desk: &mut Desk, nested: Option<usize>)
     ensures { desk.new ≡ cut_to nested desk.old }
 {
     if let Some(count) = nested {
         desk.conditions.cut(count.min(desk.conditions.depth()));
+        drop_definition(&mut desk.macros);
     }
 }
 
-/// Drops the lines that wait, and the conditions that they left open.
+/// Drops the lines that wait, and the conditions and the definition that they left open.
 #[tactic(auto, using(crate::proofs::RoundLemmas::kept_valid))]
 pub(crate) fn drop_lines(alloc: Global, state: &mut SessionState)
     ensures dropped { state.new ≡ resumed state.old [] }

@@ -10,7 +10,7 @@ ghost use Rattle.show_commands.specs.Paging.{page_size};
 ghost use Rattle.mailx_session.specs.States.{IsState};
 ghost use Rattle.mailx_session.specs.Saving.{names_fault};
 ghost use Rattle.mailx_session.specs.Openings.{IsKnownSize, IsOpening, with_folder};
-ghost use Rattle.mailx_session.specs.Sourcing.{OnlyBrings};
+ghost use Rattle.mailx_session.specs.Bringing.{OnlyBrings};
 ghost use Rattle.mailx_session.specs.Switching.{open_fault, loaded_folder, laid_as, announcement, announced, switching, switched_to, switches, with_laid, laid_on};
 ghost use Rattle.mailx_session.specs.Sessions.{after_asks, in_play, LineCaused, EndsByAsk, KeepsDesk, IsRefusedSo};
 

@@ -41,9 +41,9 @@ use Rattle.command_desk.specs.declared.steps.Ask as asked_of
 use Rattle.command_desk.specs.declared.steps.Ask.TheVariants as asks
 use Rattle.command_desk.specs.declared.steps.Steps.{Steps}
 use Rattle.command_desk.specs.Answers.{OrFault}
-use Rattle.command_desk.specs.Faults.{too_large}
+use Rattle.command_desk.specs.Faults.{too_large, calls_too_deep}
 use Rattle.read_commands.specs.declared.origin.Origin.TheVariants as origin
-use Rattle.read_commands.specs.Origins.{commanded}
+use Rattle.read_commands.specs.Origins.{commanded, is_defining}
 use Rattle.mailx_session.specs.declared.frames.WaitingLine.{WaitingLine}
 use Rattle.mailx_session.specs.declared.state.SessionState.{SessionState}
 use Rattle.mailx_session.specs.declared.status.Status.{Status}
@@ -54,18 +54,20 @@ use Rattle.mailx_session.specs.Pending.{taken}
 use Rattle.mailx_session.specs.States.{settled, resumed, with_count, rested, command_limit}
 use Rattle.mailx_session.specs.Saving.{names_fault, is_changed, commit_of, after_commit, saved}
 use Rattle.mailx_session.proofs.NameLemmas.{named-files}
+use Rattle.mailx_session.specs.declared.kinds.FrameKind.TheVariants as kinds
+use Rattle.mailx_session.specs.Bringing.{call_limit, calls, with_lines}
 use Rattle.mailx_session.specs.Sourcing.{source_fault, after_load, sourced}
 use Rattle.mailx_session.specs.Switching.{open_fault, loaded_folder, switched, announced, switched_to, switches}
 use Rattle.mailx_session.proofs.SwitchingLemmas.{open-fault-none}
 use Rattle.mailx_session.specs.Sessions.{asked, carried_out}
 use Rattle.folder_commands.specs.Leaving.{quit}
 use Rattle.mailx_session.specs.Leaving.{left_by, leaving}
-use Rattle.mailx_session.specs.Rounds.{line_play, typed_play, dropped_play, counted_play, is_idle, waiting_play}
+use Rattle.mailx_session.specs.Rounds.{line_play, typed_play, dropped_play, counted_play, is_idle, outside_play, waiting_play}
 use Rattle.mailx_top.specs.declared.environment.Environment.{Environment}
 use Rattle.mailx_top.specs.declared.words.Manner.{Manner}
 use Rattle.mailx_top.specs.declared.words.Manner.TheVariants.{Silent, Rows, Quiet, Greeting}
 use Rattle.mailx_top.specs.Words.{Start, may_say, start_of}
-use Rattle.mailx_top.specs.Meaning.{RunState, Recovering, recovered, Opening, Reading, Leaving, round, last_round, opening, folder_name, with_name_or_fault, loaded, unheld, is_no_mail, with_list, greeted, turn, line_round, with_input, prompted, first_of, actor_in}
+use Rattle.mailx_top.specs.Meaning.{RunState, at_prompt, Recovering, recovered, Opening, Reading, Leaving, round, last_round, opening, folder_name, with_name_or_fault, loaded, unheld, is_no_mail, with_list, greeted, turn, line_round, with_input, prompted, first_of, actor_in}
 use Rattle.mailx_top.specs.Statuses.{line_at_end}
 use Rattle.mailx_top.specs.Runs.{Ending, IsRun}
 use Rattle.mailx_top.specs.Crash.{IsSafe}
@@ -172,10 +174,15 @@ module _ (actor : List ℕ) (token : ℕ) where
   switches-of s name changes reply (Some line) of = tt
   switches-of s name changes reply None of = λ f. switched-of s name changes reply (loaded_folder s.desk changes name f) of
 
+  called-of : (b : Bool) (t : SessionState) → IsOf actor token t → AfterOf actor token (if b then On t else Refused calls_too_deep)
+  called-of true t of = of
+  called-of false t of = tt
+
   ask-commits : (s : SessionState) (ask : asked_of.Ask) → IsOf actor token s → EachCommit (IsBy actor token) (asked s ask)
   ask-commits s (asks.Say bytes) of = (tt, λ u. tt)
   ask-commits s (asks.Commit changes) of = saved-commits s changes (names_fault s.actor changes) refl of
   ask-commits s (asks.Source name) of = sourced-commits s name (source_fault s.frames name)
+  ask-commits s (asks.Lines text) of = tt
   ask-commits s (asks.Open name changes reply) of = switches-commits s name changes reply (open_fault s.actor name changes) refl of
   ask-commits s asks.Exit of = tt
 
@@ -183,6 +190,7 @@ module _ (actor : List ℕ) (token : ℕ) where
   ask-of s (asks.Say bytes) of = λ u. of
   ask-of s (asks.Commit changes) of = saved-of s changes (names_fault s.actor changes) of
   ask-of s (asks.Source name) of = sourced-of s name (source_fault s.frames name) of
+  ask-of s (asks.Lines text) of = called-of (nat_lt (calls s.frames) call_limit) (with_lines kinds.Call s text) of
   ask-of s (asks.Open name changes reply) of = switches-of s name changes reply (open_fault s.actor name changes) of
   ask-of s asks.Exit of = tt
 
@@ -244,13 +252,21 @@ module _ (actor : List ℕ) (token : ℕ) where
   counted-of true s line of = carried-of (with_count s (s.count + 1)) (commanded line.origin s.desk line.text) of
   counted-of false s line of = λ u. of
 
-  waiting-commits : (b : Bool) (s : SessionState) (line : WaitingLine) → IsOf actor token s → EachCommit (IsBy actor token) (if b then Ret (Go s) else counted_play s line)
-  waiting-commits true s line of = tt
-  waiting-commits false s line of = counted-commits (nat_lt s.count command_limit) s line of
+  outside-commits : (b : Bool) (s : SessionState) (line : WaitingLine) → IsOf actor token s → EachCommit (IsBy actor token) (if b then Ret (Go s) else counted_play s line)
+  outside-commits true s line of = tt
+  outside-commits false s line of = counted-commits (nat_lt s.count command_limit) s line of
 
-  waiting-of : (b : Bool) (s : SessionState) (line : WaitingLine) → IsOf actor token s → AllEnds (NextOf actor token) (if b then Ret (Go s) else counted_play s line)
-  waiting-of true s line of = of
-  waiting-of false s line of = counted-of (nat_lt s.count command_limit) s line of
+  outside-of : (b : Bool) (s : SessionState) (line : WaitingLine) → IsOf actor token s → AllEnds (NextOf actor token) (if b then Ret (Go s) else counted_play s line)
+  outside-of true s line of = of
+  outside-of false s line of = counted-of (nat_lt s.count command_limit) s line of
+
+  waiting-commits : (b : Bool) (s : SessionState) (line : WaitingLine) → IsOf actor token s → EachCommit (IsBy actor token) (if b then line_play line.origin s line.text else outside_play s line)
+  waiting-commits true s line of = carried-commits s (commanded line.origin s.desk line.text) of
+  waiting-commits false s line of = outside-commits (is_idle s line) s line of
+
+  waiting-of : (b : Bool) (s : SessionState) (line : WaitingLine) → IsOf actor token s → AllEnds (NextOf actor token) (if b then line_play line.origin s line.text else outside_play s line)
+  waiting-of true s line of = carried-of s (commanded line.origin s.desk line.text) of
+  waiting-of false s line of = outside-of (is_idle s line) s line of
 
   with-commits : (i : Input) (n : Next SessionState Status) → NextOf actor token n → EachCommit (IsBy actor token) (with_input i n)
   with-commits i (Go s) of = tt
@@ -281,20 +297,20 @@ module _ (actor : List ℕ) (token : ℕ) where
 
   line-commits : (s : SessionState) (i : Input) (next : Option (WaitingLine × List Pending)) → IsOf actor token s → EachCommit (IsBy actor token) (line_round s i next)
   line-commits s i None of =
-      bind-commits (IsBy actor token) (λ (u : Unit {0}). Unit {0}) (prompted s.terminal s.desk) (λ u. Ask (Line i) (λ a. turn s a.1 a.0)) (prompted-commits s.terminal s.desk) (prompted-ends s.terminal s.desk)
+      bind-commits (IsBy actor token) (λ (u : Unit {0}). Unit {0}) (prompted (at_prompt s) s.desk) (λ u. Ask (Line i) (λ a. turn s a.1 a.0)) (prompted-commits (at_prompt s) s.desk) (prompted-ends (at_prompt s) s.desk)
       (λ u t. (tt, λ a. turn-commits s a.1 a.0 of))
   line-commits s i (Some p) of =
       let t = resumed s p.1 in
-      let b = is_idle t p.0 in
+      let b = is_defining t.desk in
       bind-commits (IsBy actor token) (NextOf actor token) (waiting_play t p.0) (with_input i) (waiting-commits b t p.0 of) (waiting-of b t p.0 of) (with-commits i)
 
   line-of : (s : SessionState) (i : Input) (next : Option (WaitingLine × List Pending)) → IsOf actor token s → AllEnds (NextKeeps (StateOf actor token)) (line_round s i next)
   line-of s i None of =
-      bind-ends (λ (u : Unit {0}). Unit {0}) (NextKeeps (StateOf actor token)) (prompted s.terminal s.desk) (λ u. Ask (Line i) (λ a. turn s a.1 a.0)) (prompted-ends s.terminal s.desk)
+      bind-ends (λ (u : Unit {0}). Unit {0}) (NextKeeps (StateOf actor token)) (prompted (at_prompt s) s.desk) (λ u. Ask (Line i) (λ a. turn s a.1 a.0)) (prompted-ends (at_prompt s) s.desk)
       (λ u t a. turn-of s a.1 a.0 of)
   line-of s i (Some p) of =
       let t = resumed s p.1 in
-      bind-ends (NextOf actor token) (NextKeeps (StateOf actor token)) (waiting_play t p.0) (with_input i) (waiting-of (is_idle t p.0) t p.0 of) (with-of i)
+      bind-ends (NextOf actor token) (NextKeeps (StateOf actor token)) (waiting_play t p.0) (with_input i) (waiting-of (is_defining t.desk) t p.0 of) (with-of i)
 
   -- the end of the input
   left-commits : (a : After SessionState Status) → AfterOf actor token a → EachCommit (IsBy actor token) (left_by a)

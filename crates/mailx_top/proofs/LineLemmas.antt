@@ -14,11 +14,13 @@ use Rattle.command_desk.specs.declared.steps.Ask.TheVariants as asks
 use Rattle.command_desk.specs.declared.steps.Steps.{Steps}
 use Rattle.command_desk.specs.Answers.{OrFault}
 use Rattle.read_commands.specs.declared.origin.Origin.TheVariants as origin
-use Rattle.read_commands.specs.Origins.{commanded}
+use Rattle.read_commands.specs.Origins.{commanded, is_defining}
 use Rattle.mailx_session.specs.declared.status.Status.{Status}
 use Rattle.mailx_session.specs.declared.status.Status.TheVariants.{Done, BadRecord}
 use Rattle.mailx_session.specs.Statuses.{IsLineEnd}
 use Rattle.mailx_session.specs.Saving.{names_fault, is_changed, after_commit, saved}
+use Rattle.mailx_session.specs.declared.kinds.FrameKind.TheVariants as kinds
+use Rattle.mailx_session.specs.Bringing.{call_limit, calls, with_lines}
 use Rattle.mailx_session.specs.Sourcing.{source_fault, after_load, sourced}
 use Rattle.mailx_session.specs.Switching.{open_fault, loaded_folder, switched, announced, switched_to, switches}
 use Rattle.command_desk.specs.declared.desk.Desk.{Desk}
@@ -30,13 +32,13 @@ use Rattle.std.specs.declared.option.Option.TheVariants.{Some, None}
 use Rattle.folder_change.specs.declared.change.Change.{Change}
 use Rattle.session_play.specs.declared.changing.Committed.{Committed}
 use Rattle.session_play.specs.declared.changing.Committed.TheVariants as committed
-use Rattle.command_desk.specs.Faults.{too_large}
+use Rattle.command_desk.specs.Faults.{too_large, calls_too_deep}
 use Rattle.std.specs.Prelude.{nat_lt, if◌then◌else◌, ◌+◌}
 use Rattle.session_play.specs.Play.{Ret}
 use Rattle.mailx_session.specs.declared.frames.WaitingLine.{WaitingLine}
 use Rattle.mailx_session.specs.States.{settled, with_count, rested, command_limit}
 use Rattle.mailx_session.specs.Sessions.{asked, carried_out}
-use Rattle.mailx_session.specs.Rounds.{line_play, typed_play, dropped_play, counted_play, is_idle, waiting_play}
+use Rattle.mailx_session.specs.Rounds.{line_play, typed_play, dropped_play, counted_play, is_idle, outside_play, waiting_play}
 
 abbrev pub After-line : Type 0
 After-line = After SessionState Status
@@ -139,11 +141,16 @@ switches-threads : (s : SessionState) (name : List ℕ) (changes : List Change) 
 switches-threads s name changes reply (Some line) i = refl
 switches-threads s name changes reply None i = (tt, λ f. switched-threads s name changes reply (loaded_folder s.desk changes name f) i)
 
+called-ends : (b : Bool) (t : SessionState) → IsDone (if b then On t else Refused calls_too_deep)
+called-ends true t = tt
+called-ends false t = tt
+
 -- one ask
 ask-acts : (s : SessionState) (ask : asked_of.Ask) → AllActs (may_load false) (asked s ask)
 ask-acts s (asks.Say bytes) = (refl, λ u. tt)
 ask-acts s (asks.Commit changes) = saved-acts s changes (names_fault s.actor changes)
 ask-acts s (asks.Source name) = sourced-acts s name (source_fault s.frames name)
+ask-acts s (asks.Lines text) = tt
 ask-acts s (asks.Open name changes reply) = switches-acts s name changes reply (open_fault s.actor name changes)
 ask-acts s asks.Exit = tt
 
@@ -151,6 +158,7 @@ ask-ends : (s : SessionState) (ask : asked_of.Ask) → AllEnds IsDone (asked s a
 ask-ends s (asks.Say bytes) = λ u. tt
 ask-ends s (asks.Commit changes) = saved-ends s changes (names_fault s.actor changes)
 ask-ends s (asks.Source name) = sourced-ends s name (source_fault s.frames name)
+ask-ends s (asks.Lines text) = called-ends (nat_lt (calls s.frames) call_limit) (with_lines kinds.Call s text)
 ask-ends s (asks.Open name changes reply) = switches-ends s name changes reply (open_fault s.actor name changes)
 ask-ends s asks.Exit = tt
 
@@ -158,6 +166,7 @@ ask-threads : (s : SessionState) (ask : asked_of.Ask) (i : Input) → Threads (K
 ask-threads s (asks.Say bytes) i = (tt, λ u. refl)
 ask-threads s (asks.Commit changes) i = saved-threads s changes (names_fault s.actor changes) i
 ask-threads s (asks.Source name) i = sourced-threads s name (source_fault s.frames name) i
+ask-threads s (asks.Lines text) i = refl
 ask-threads s (asks.Open name changes reply) i = switches-threads s name changes reply (open_fault s.actor name changes) i
 ask-threads s asks.Exit i = refl
 
@@ -244,11 +253,23 @@ empty-threads : (b : Bool) (s : SessionState) (line : WaitingLine) (i : Input) �
 empty-threads true s line i = refl
 empty-threads false s line i = counted-threads (nat_lt s.count command_limit) s line i
 
+defined-acts : (b : Bool) (s : SessionState) (line : WaitingLine) → AllActs (may_load false) (if b then line_play line.origin s line.text else outside_play s line)
+defined-acts true s line = carried-acts s (commanded line.origin s.desk line.text)
+defined-acts false s line = empty-acts (is_idle s line) s line
+
+defined-ends : (b : Bool) (s : SessionState) (line : WaitingLine) → AllEnds EndsByLine (if b then line_play line.origin s line.text else outside_play s line)
+defined-ends true s line = carried-ends s (commanded line.origin s.desk line.text)
+defined-ends false s line = empty-ends (is_idle s line) s line
+
+defined-threads : (b : Bool) (s : SessionState) (line : WaitingLine) (i : Input) → Threads (λ n j. j ≡ i) i (if b then line_play line.origin s line.text else outside_play s line)
+defined-threads true s line i = carried-threads s i (commanded line.origin s.desk line.text)
+defined-threads false s line i = empty-threads (is_idle s line) s line i
+
 pub waiting-acts : (s : SessionState) (line : WaitingLine) → AllActs (may_load false) (waiting_play s line)
-waiting-acts s line = empty-acts (is_idle s line) s line
+waiting-acts s line = defined-acts (is_defining s.desk) s line
 
 pub waiting-ends : (s : SessionState) (line : WaitingLine) → AllEnds EndsByLine (waiting_play s line)
-waiting-ends s line = empty-ends (is_idle s line) s line
+waiting-ends s line = defined-ends (is_defining s.desk) s line
 
 pub waiting-threads : (s : SessionState) (line : WaitingLine) (i : Input) → Threads (λ n j. j ≡ i) i (waiting_play s line)
-waiting-threads s line i = empty-threads (is_idle s line) s line i
+waiting-threads s line i = defined-threads (is_defining s.desk) s line i

@@ -34,7 +34,7 @@ use Rattle.mailx_top.specs.declared.environment.Environment.{Environment}
 use Rattle.mailx_top.specs.declared.words.Manner.{Manner}
 use Rattle.mailx_top.specs.declared.words.Manner.TheVariants.{Silent, Rows, Quiet, Greeting}
 use Rattle.mailx_top.specs.Words.{Start}
-use Rattle.mailx_top.specs.Meaning.{RunState, first_of, Recovering, Opening, Reading, Leaving, round, opening, folder_name, with_name_or_fault, loaded, unheld, is_no_mail, with_list, greeted, heard, ends_with, turn, next_turn, line_round, with_input, prompted, says_and_ends, is_opening, usage}
+use Rattle.mailx_top.specs.Meaning.{RunState, at_prompt, first_of, Recovering, Opening, Reading, Leaving, round, opening, folder_name, with_name_or_fault, loaded, unheld, is_no_mail, with_list, greeted, heard, ends_with, turn, next_turn, line_round, with_input, prompted, says_and_ends, is_opening, usage}
 use Rattle.session_play.specs.Acts.{AllActs, AllEnds, loads_nothing}
 use Rattle.session_play.specs.Causes.{some_load_saw, counted, events_at}
 use Rattle.session_play.proofs.SawLemmas.{Unseen, unseen-then, goes-unseen}
@@ -104,8 +104,8 @@ ends-prompted false desk = tt
 
 ends-next : (s : SessionState) (i : Input) → AllEnds ReadsOn (next_turn s i)
 ends-next s i =
-    bind-ends (λ (u : Unit {0}). Unit {0}) ReadsOn (prompted s.terminal s.desk) (λ u. Ask (Line i) (λ a. turn s a.1 a.0))
-    (ends-prompted s.terminal s.desk) (λ u t a. ends-turn s a.1 a.0)
+    bind-ends (λ (u : Unit {0}). Unit {0}) ReadsOn (prompted (at_prompt s) s.desk) (λ u. Ask (Line i) (λ a. turn s a.1 a.0))
+    (ends-prompted (at_prompt s) s.desk) (λ u t a. ends-turn s a.1 a.0)
 
 ends-line-round : (s : SessionState) (i : Input) (next : Option (WaitingLine × List Pending)) → AllEnds ReadsOn (line_round s i next)
 ends-line-round s i None = ends-next s i

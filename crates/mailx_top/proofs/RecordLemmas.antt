@@ -38,9 +38,9 @@ use Rattle.command_desk.specs.declared.steps.Ask as asked_of
 use Rattle.command_desk.specs.declared.steps.Ask.TheVariants as asks
 use Rattle.command_desk.specs.declared.steps.Steps.{Steps}
 use Rattle.command_desk.specs.Answers.{OrFault}
-use Rattle.command_desk.specs.Faults.{too_large}
+use Rattle.command_desk.specs.Faults.{too_large, calls_too_deep}
 use Rattle.read_commands.specs.declared.origin.Origin.TheVariants as origin
-use Rattle.read_commands.specs.Origins.{commanded}
+use Rattle.read_commands.specs.Origins.{commanded, is_defining}
 use Rattle.mailx_session.specs.declared.frames.WaitingLine.{WaitingLine}
 use Rattle.mailx_session.specs.declared.state.SessionState.{SessionState}
 use Rattle.mailx_session.specs.declared.status.Status.{Status}
@@ -51,16 +51,18 @@ use Rattle.mailx_session.specs.Pending.{taken}
 use Rattle.mailx_session.specs.States.{settled, resumed, with_count, rested, command_limit}
 use Rattle.mailx_session.specs.Saving.{names_fault, is_changed, after_commit, saved}
 use Rattle.mailx_session.specs.Switching.{open_fault, loaded_folder, switched, announced, switched_to, switches}
+use Rattle.mailx_session.specs.declared.kinds.FrameKind.TheVariants as kinds
+use Rattle.mailx_session.specs.Bringing.{call_limit, calls, with_lines}
 use Rattle.mailx_session.specs.Sourcing.{source_fault, after_load, sourced}
 use Rattle.mailx_session.specs.Sessions.{asked, carried_out}
 use Rattle.folder_commands.specs.Leaving.{quit}
 use Rattle.mailx_session.specs.Leaving.{left_by, leaving}
-use Rattle.mailx_session.specs.Rounds.{line_play, typed_play, dropped_play, counted_play, is_idle, waiting_play}
+use Rattle.mailx_session.specs.Rounds.{line_play, typed_play, dropped_play, counted_play, is_idle, outside_play, waiting_play}
 use Rattle.mailx_top.specs.declared.environment.Environment.{Environment}
 use Rattle.mailx_top.specs.declared.words.Manner.{Manner}
 use Rattle.mailx_top.specs.declared.words.Manner.TheVariants.{Silent, Rows, Quiet, Greeting}
 use Rattle.mailx_top.specs.Words.{Start}
-use Rattle.mailx_top.specs.Meaning.{RunState, Recovering, recovered, Opening, Reading, Leaving, round, last_round, opening, folder_name, with_name_or_fault, loaded, unheld, is_no_mail, with_list, greeted, turn, line_round, with_input, prompted, first_of, actor_in}
+use Rattle.mailx_top.specs.Meaning.{RunState, at_prompt, Recovering, recovered, Opening, Reading, Leaving, round, last_round, opening, folder_name, with_name_or_fault, loaded, unheld, is_no_mail, with_list, greeted, turn, line_round, with_input, prompted, first_of, actor_in}
 use Rattle.mailx_top.specs.Starts.{is_bad_record}
 use Rattle.mailx_top.specs.Unreadable.{is_unreadable, met_unreadable, some_unreadable, some_unreadable_in, IsRecordExplained}
 use Rattle.mailx_top.proofs.CrashLemmas.{StateOf, round-commits, round-of}
@@ -231,10 +233,15 @@ switches-tells : (s : SessionState) (name : List ℕ) (changes : List Change) (r
 switches-tells s name changes reply (Some line) = refl
 switches-tells s name changes reply None = λ f. switched-tells s name changes reply (loaded_folder s.desk changes name f)
 
+called-tells : (b : Bool) (t : SessionState) → after_ends (if b then On t else Refused calls_too_deep) ≡ false
+called-tells true t = refl
+called-tells false t = refl
+
 ask-tells : (s : SessionState) (ask : asked_of.Ask) → Tells after_ends false (asked s ask)
 ask-tells s (asks.Say bytes) = λ u. refl
 ask-tells s (asks.Commit changes) = saved-tells s changes (names_fault s.actor changes)
 ask-tells s (asks.Source name) = sourced-tells s name (source_fault s.frames name)
+ask-tells s (asks.Lines text) = called-tells (nat_lt (calls s.frames) call_limit) (with_lines kinds.Call s text)
 ask-tells s (asks.Open name changes reply) = switches-tells s name changes reply (open_fault s.actor name changes)
 ask-tells s asks.Exit = refl
 
@@ -263,9 +270,13 @@ counted-tells : (b : Bool) (s : SessionState) (line : WaitingLine) → Tells nex
 counted-tells true s line = carried-tells (with_count s (s.count + 1)) (commanded line.origin s.desk line.text)
 counted-tells false s line = λ u. refl
 
-waiting-tells : (b : Bool) (s : SessionState) (line : WaitingLine) → Tells next_ends false (if b then Ret (Go s) else counted_play s line)
-waiting-tells true s line = refl
-waiting-tells false s line = counted-tells (nat_lt s.count command_limit) s line
+outside-tells : (b : Bool) (s : SessionState) (line : WaitingLine) → Tells next_ends false (if b then Ret (Go s) else counted_play s line)
+outside-tells true s line = refl
+outside-tells false s line = counted-tells (nat_lt s.count command_limit) s line
+
+waiting-tells : (b : Bool) (s : SessionState) (line : WaitingLine) → Tells next_ends false (if b then line_play line.origin s line.text else outside_play s line)
+waiting-tells true s line = carried-tells s (commanded line.origin s.desk line.text)
+waiting-tells false s line = outside-tells (is_idle s line) s line
 
 with-tells : (i : Input) (n : Next SessionState Status) → Tells next_ends (next_ends n) (with_input i n)
 with-tells i (Go s) = refl
@@ -284,10 +295,10 @@ prompted-tells true desk = λ u. refl
 prompted-tells false desk = refl
 
 line-tells : (s : SessionState) (i : Input) (next : Option (WaitingLine × List Pending)) → Tells next_ends false (line_round s i next)
-line-tells s i None = bind-tells none_met next_ends false (prompted s.terminal s.desk) (λ u. Ask (Line i) (λ a. turn s a.1 a.0)) (prompted-tells s.terminal s.desk) (λ u a. turn-tells s a.1 a.0)
+line-tells s i None = bind-tells none_met next_ends false (prompted (at_prompt s) s.desk) (λ u. Ask (Line i) (λ a. turn s a.1 a.0)) (prompted-tells (at_prompt s) s.desk) (λ u a. turn-tells s a.1 a.0)
 line-tells s i (Some p) =
     let t = resumed s p.1 in
-    bind-tells next_ends next_ends false (waiting_play t p.0) (with_input i) (waiting-tells (is_idle t p.0) t p.0) (with-tells i)
+    bind-tells next_ends next_ends false (waiting_play t p.0) (with_input i) (waiting-tells (is_defining t.desk) t p.0) (with-tells i)
 
 -- the end of the input
 left-tells : (a : After SessionState Status) → Tells is_for_record (after_ends a) (left_by a)

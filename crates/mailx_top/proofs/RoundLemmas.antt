@@ -28,7 +28,7 @@ use Rattle.mailx_top.specs.declared.environment.Environment.{Environment}
 use Rattle.mailx_top.specs.declared.words.Manner.{Manner}
 use Rattle.mailx_top.specs.declared.words.Manner.TheVariants.{Silent, Rows, Quiet, Greeting}
 use Rattle.mailx_top.specs.Words.{Start}
-use Rattle.mailx_top.specs.Meaning.{RunState, first_of, Recovering, recovering, recovered, Opening, Reading, Leaving, round, opening, folder_name, with_name_or_fault, loaded, unheld, is_no_mail, with_list, greeted, turn, next_turn, line_round, with_input, prompted, input_of, is_opening}
+use Rattle.mailx_top.specs.Meaning.{RunState, at_prompt, first_of, Recovering, recovering, recovered, Opening, Reading, Leaving, round, opening, folder_name, with_name_or_fault, loaded, unheld, is_no_mail, with_list, greeted, turn, next_turn, line_round, with_input, prompted, input_of, is_opening}
 use Rattle.session_play.proofs.ShapeLemmas.{bind-acts, bind-threads, weaker-acts, may-all}
 use Rattle.mailx_session.specs.Leaving.{leaving}
 use Rattle.mailx_top.proofs.OrderLemmas.{Keeps}
@@ -96,7 +96,7 @@ threads-prompted false desk i = refl
 
 threads-turn-next : (s : SessionState) (i : Input) → On i (next_turn s i)
 threads-turn-next s i =
-    bind-threads (λ (u : Unit {0}) (j : Input). j ≡ i) (NextFrom input_of) (prompted s.terminal s.desk) (λ u. Ask (Line i) (λ a. turn s a.1 a.0)) i (threads-prompted s.terminal s.desk i)
+    bind-threads (λ (u : Unit {0}) (j : Input). j ≡ i) (NextFrom input_of) (prompted (at_prompt s) s.desk) (λ u. Ask (Line i) (λ a. turn s a.1 a.0)) i (threads-prompted (at_prompt s) s.desk i)
     (λ u j same. (sym same, λ a. threads-turn s a.1 a.0))
 
 threads-line-round : (s : SessionState) (i : Input) (next : Option (WaitingLine × List Pending)) → On i (line_round s i next)
@@ -173,7 +173,7 @@ prompted-acts false desk = tt
 
 next-acts : (s : SessionState) (i : Input) → AllActs (may_load false) (next_turn s i)
 next-acts s i =
-    bind-acts (may_load false) (prompted s.terminal s.desk) (λ u. Ask (Line i) (λ a. turn s a.1 a.0)) (prompted-acts s.terminal s.desk) (λ u. (refl, λ a. turn-acts s a.1 a.0))
+    bind-acts (may_load false) (prompted (at_prompt s) s.desk) (λ u. Ask (Line i) (λ a. turn s a.1 a.0)) (prompted-acts (at_prompt s) s.desk) (λ u. (refl, λ a. turn-acts s a.1 a.0))
 
 line-round-acts : (s : SessionState) (i : Input) (next : Option (WaitingLine × List Pending)) → AllActs (may_load false) (line_round s i next)
 line-round-acts s i None = next-acts s i

@@ -1,6 +1,7 @@
 -- A line of the input, and the lines that it brings, are rounds of a run.
-use Rattle.std.proofs.Common.{◌≡◌, ℕ, Bool, true, false, List, [], ◌∷◌, ◌++◌, refl, sym, ◌∙◌, ap, subst, inl, append_assoc}
+use Rattle.std.proofs.Common.{◌≡◌, ◌&&◌, ℕ, Bool, true, false, List, [], ◌∷◌, ◌++◌, refl, sym, ◌∙◌, ap, subst, inl, append_assoc}
 use Rattle.std.proofs.lemmas.List.{append-nil}
+use Rattle.std.specs.Prelude.{not}
 use Rattle.std.specs.declared.option.Option.{Option}
 use Rattle.std.specs.declared.option.Option.TheVariants.{Some, None}
 use Rattle.std.specs.declared.result.Result.{Result}
@@ -17,11 +18,13 @@ use Rattle.mailx_session.specs.declared.state.SessionState.{SessionState}
 use Rattle.mailx_session.specs.declared.status.Status.{Status}
 use Rattle.mailx_session.specs.Waits.{Pending}
 use Rattle.mailx_session.specs.Pending.{taken, open_before}
-use Rattle.mailx_session.specs.States.{cut_to, resumed, rested}
+use Rattle.read_commands.specs.Origins.{is_defining}
+use Rattle.mailx_session.specs.States.{IsSession, cut_to, resumed, rested}
+use Rattle.mailx_session.proofs.RoundLemmas.{rested-same}
 use Rattle.mailx_session.specs.Rounds.{typed_play, waiting_play, WaitingGo, none, more, ended, LineGoes, typed}
 use Rattle.mailx_session.specs.Rounds as rounds
 use Rattle.mailx_top.specs.declared.environment.Environment.{Environment}
-use Rattle.mailx_top.specs.Meaning.{RunState, Reading, Leaving, round, last_round, line_round, next_turn, turn, prompted, with_input, next_state, after_line, LeadsTo, LeadsAfterPrompt}
+use Rattle.mailx_top.specs.Meaning.{RunState, at_prompt, Reading, Leaving, round, last_round, line_round, next_turn, turn, prompted, with_input, next_state, after_line, LeadsTo, LeadsAfterPrompt}
 
 -- a result of a session's line, with the input that is left
 abbrev pub onward : Input → Result (Next SessionState Status) Stop → Result (Next RunState Status) Stop
@@ -44,6 +47,10 @@ leads-more env x y front rest es (Ok (Go z)) is goes leads = λ later end loop.
 leads-more env x y front rest es (Ok (Last e)) is goes loop = again front rest is goes loop
 leads-more env x y front rest es (Err cause) is goes loop = again front rest is goes loop
 
+-- between two lines of the input the prompt is said on a terminal, unless a definition is under way
+pub prompt_at_rest : (s : SessionState) → IsSession s → (s.terminal && not (is_defining s.desk)) ≡ at_prompt s
+prompt_at_rest s is = ap (λ (t : SessionState). t.terminal && not (is_defining t.desk)) (sym (rested-same s is))
+
 -- the prompt has nothing to do with conditions
 prompted-alike : (terminal : Bool) (nested : Option ℕ) (desk : Desk) → prompted terminal desk ≡ prompted terminal (cut_to nested desk)
 prompted-alike true nested desk = refl
@@ -52,7 +59,7 @@ prompted-alike false nested desk = refl
 -- where no line waits, the state is as good as one at rest
 rested-round : (env : Environment) (s : SessionState) (i : Input) → taken s.frames ≡ None → round env (Reading s i) ≡ round env (Reading (rested s) i)
 rested-round env s i none_left = ap (line_round s i) none_left
-    ∙ ap (λ (p : Play (Unit {0})). bind p (λ u. Ask (Line i) (λ a. turn s a.1 a.0))) (prompted-alike s.terminal (open_before s.frames) s.desk)
+    ∙ ap (λ (p : Play (Unit {0})). bind p (λ u. Ask (Line i) (λ a. turn s a.1 a.0))) (prompted-alike (at_prompt s) (open_before s.frames) s.desk)
 
 -- the lines that wait are rounds
 pub waiting-leads : (env : Environment) (i : Input) {s : SessionState} {es : List Event} {out : Result (Next SessionState Status) Stop} → WaitingGo s es out → LeadsTo env (Reading s i) es (onward i out)
@@ -72,12 +79,12 @@ waiting-leads env i {s = s} rounds.short = cut (at-memory (round env (Reading s 
 
 -- a line is asked for and taken, where none waits
 asked-round : (env : Environment) (s : SessionState) (i j : Input) (line : Option (List ℕ)) (said took es : List Event) (out : Result (Next RunState Status) Stop) → s.frames ≡ []
-    → Goes (prompted s.terminal s.desk) said (Ok tt) → Goes (Ask (Line i) Ret) took (Ok (line, j)) → Goes (turn s j line) es out
+    → Goes (prompted (at_prompt s) s.desk) said (Ok tt) → Goes (Ask (Line i) Ret) took (Ok (line, j)) → Goes (turn s j line) es out
     → Goes (round env (Reading s i)) (said ++ (took ++ es)) out
 asked-round env s i j line said took es out idle says takes goes =
     let same : round env (Reading s i) ≡ next_turn s i = ap (line_round s i) (ap taken idle) in
     subst (λ (p : Play (Next RunState Status)). Goes p (said ++ (took ++ es)) out) (sym same)
-    (goes-then (prompted s.terminal s.desk) (λ u. Ask (Line i) (λ a. turn s a.1 a.0)) tt out said (took ++ es) says
+    (goes-then (prompted (at_prompt s) s.desk) (λ u. Ask (Line i) (λ a. turn s a.1 a.0)) tt out said (took ++ es) says
     (goes-then (Ask (Line i) Ret) (λ a. turn s a.1 a.0) (line, j) out took es takes goes))
 
 joined : (said took front rest es : List Event) → es ≡ front ++ rest → said ++ (took ++ es) ≡ (said ++ (took ++ front)) ++ rest
@@ -87,7 +94,7 @@ joined said took front rest es is =
 
 -- what a line of the input leads to, once the prompt was said and the line was taken
 pub line-leads : (env : Environment) (s : SessionState) (i j : Input) (line : List ℕ) (said took es : List Event) (out : Result (Next SessionState Status) Stop) → s.frames ≡ []
-    → Goes (prompted s.terminal s.desk) said (Ok tt) → Goes (Ask (Line i) Ret) took (Ok (Some line, j)) → LineGoes s line es out → LeadsTo env (Reading s i) (said ++ (took ++ es)) (onward j out)
+    → Goes (prompted (at_prompt s) s.desk) said (Ok tt) → Goes (Ask (Line i) Ret) took (Ok (Some line, j)) → LineGoes s line es out → LeadsTo env (Reading s i) (said ++ (took ++ es)) (onward j out)
 line-leads env s i j line said took es out idle says takes (typed {t = t} front rest is goes waits) =
     leads-more env (Reading s i) (Reading t j) (said ++ (took ++ front)) rest (said ++ (took ++ es)) (onward j out) (joined said took front rest es is)
     (asked-round env s i j (Some line) said took front (Ok (Go (Reading t j))) idle says takes (goes-as (typed_play s line) (with_input j) (Go t) (Go (Reading t j)) front refl goes))
@@ -125,14 +132,14 @@ pub take-cut-leads : (env : Environment) (s : SessionState) (i : Input) (cause :
 take-cut-leads env s i cause idle took takes = λ said says.
     let same : round env (Reading s i) ≡ next_turn s i = ap (line_round s i) (ap taken idle) in
     cut (subst (λ (p : Play (Next RunState Status)). Goes p (said ++ took) (Err cause)) (sym same)
-    (goes-then (prompted s.terminal s.desk) (λ u. Ask (Line i) (λ a. turn s a.1 a.0)) tt (Err cause) said took says (goes-cut (Ask (Line i) Ret) (λ a. turn s a.1 a.0) cause took takes)))
+    (goes-then (prompted (at_prompt s) s.desk) (λ u. Ask (Line i) (λ a. turn s a.1 a.0)) tt (Err cause) said took says (goes-cut (Ask (Line i) Ret) (λ a. turn s a.1 a.0) cause took takes)))
 
 -- a prompt that isn't said
-pub prompt-cut-leads : (env : Environment) (s : SessionState) (i : Input) (cause : Stop) → s.frames ≡ [] → (said : List Event) → Goes (prompted s.terminal s.desk) said (Err cause)
+pub prompt-cut-leads : (env : Environment) (s : SessionState) (i : Input) (cause : Stop) → s.frames ≡ [] → (said : List Event) → Goes (prompted (at_prompt s) s.desk) said (Err cause)
     → LeadsTo env (Reading s i) said (Err cause)
 prompt-cut-leads env s i cause idle said says =
     let same : round env (Reading s i) ≡ next_turn s i = ap (line_round s i) (ap taken idle) in
-    cut (subst (λ (p : Play (Next RunState Status)). Goes p said (Err cause)) (sym same) (goes-cut (prompted s.terminal s.desk) (λ u. Ask (Line i) (λ a. turn s a.1 a.0)) cause said says))
+    cut (subst (λ (p : Play (Next RunState Status)). Goes p said (Err cause)) (sym same) (goes-cut (prompted (at_prompt s) s.desk) (λ u. Ask (Line i) (λ a. turn s a.1 a.0)) cause said says))
 
 -- rounds so far, and what leads on from there
 pub so-far-leads : (env : Environment) (x y z : RunState) (es fs : List Event) → SoFar (round env) x y es → LeadsTo env y fs (Ok (Go z)) → SoFar (round env) x z (es ++ fs)

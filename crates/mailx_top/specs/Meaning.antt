@@ -1,5 +1,5 @@
 -- The meaning of a run: what it does at the opening, and for each line.
-use Rattle.std.specs.Prelude.{nat_lt, ◌==◌, ℕ, Bool, true, false, List, [], ◌∷◌, ◌++◌, if◌then◌else◌, length, unwrap_or, codes}
+use Rattle.std.specs.Prelude.{nat_lt, ◌==◌, ◌&&◌, not, ℕ, Bool, true, false, List, [], ◌∷◌, ◌++◌, if◌then◌else◌, length, unwrap_or, codes}
 use Rattle.std.specs.declared.option.Option.{Option}
 use Rattle.std.specs.declared.option.Option.TheVariants.{Some, None}
 use Rattle.std.specs.declared.result.Result.{Result}
@@ -19,6 +19,7 @@ use Rattle.mailx_vars.specs.Settings.{value_of}
 use Rattle.command_desk.specs.declared.desk.Desk.{Desk}
 use Rattle.command_desk.specs.Answers.{OrFault}
 use Rattle.command_desk.specs.FileNames.{expanded}
+use Rattle.read_commands.specs.Origins.{is_defining}
 use Rattle.mailx_session.specs.declared.state.SessionState.{SessionState}
 use Rattle.mailx_session.specs.declared.status.Status.{Status}
 use Rattle.mailx_session.specs.declared.status.Status.TheVariants as status
@@ -54,14 +55,18 @@ abbrev pub turn : SessionState → Input → Option (List ℕ) → Play (Next Ru
 turn s j None = Ret (Go (Leaving (rested s) j))
 turn s j (Some line) = bind (typed_play s line) (with_input j)
 
--- what is said before a line is asked for: on a terminal the value of `prompt`
+-- the prompt is said before a line is asked for: on a terminal, unless the line is one of a definition that is under way
+abbrev pub at_prompt : SessionState → Bool
+at_prompt s = s.terminal && not (is_defining (rested s).desk)
+
+-- what is said before a line is asked for: the value of `prompt`, where the prompt is said
 abbrev pub prompted : Bool → Desk → Play (Unit {0})
 prompted true desk = Ask (Say (unwrap_or (value_of desk.vars (codes "prompt")) [])) Ret
 prompted false desk = Ret tt
 
 -- the next line of the input is asked for, and carried out
 abbrev pub next_turn : SessionState → Input → Play (Next RunState Status)
-next_turn s i = bind (prompted s.terminal s.desk) (λ u. Ask (Line i) (λ a. turn s a.1 a.0))
+next_turn s i = bind (prompted (at_prompt s) s.desk) (λ u. Ask (Line i) (λ a. turn s a.1 a.0))
 
 -- a line that waits is taken first; where none does, the input is asked for one
 abbrev pub line_round : SessionState → Input → Option (WaitingLine × List Pending) → Play (Next RunState Status)
@@ -230,7 +235,7 @@ LeadsTo env x es (Err cause) = Loop (round env) x es (Err cause)
 
 -- the same, for events that follow the prompt
 abbrev pub LeadsAfterPrompt : Environment → SessionState → Input → List Event → Result (Next RunState Status) Stop → Type 0
-LeadsAfterPrompt env s i es out = (said : List Event) → Goes (prompted s.terminal s.desk) said (Ok tt) → LeadsTo env (Reading s i) (said ++ es) out
+LeadsAfterPrompt env s i es out = (said : List Event) → Goes (prompted (at_prompt s) s.desk) said (Ok tt) → LeadsTo env (Reading s i) (said ++ es) out
 
 -- the session after a line, or the end
 abbrev pub after_line : SessionState → Result (Option Status) Stop → Result (Next SessionState Status) Stop

@@ -10,10 +10,11 @@ ghost use Rattle.mailx_session.specs.Sessions.{stop_of};
 ghost use Rattle.mailx_session.specs.States.{rested};
 ghost use Rattle.mailx_session.specs.Statuses.{IsEnd, IsLineEnd};
 ghost use Rattle.mailx_top.specs.declared.environment.Environment.{Environment};
-ghost use Rattle.mailx_top.specs.Meaning.{round, Reading, last_round, next_state, prompted, after_line, LeadsTo, LeadsAfterPrompt};
+ghost use Rattle.mailx_top.specs.Meaning.{round, Reading, last_round, next_state, at_prompt, prompted, after_line, LeadsTo, LeadsAfterPrompt};
 
 use host_port::Host;
 use mailx_session::{Flow, RunError, Session, Status};
+use read_commands::is_defining;
 use session_play::{Reader, Stop, say};
 use std::alloc::Global;
 
@@ -27,14 +28,22 @@ fn prompt(session: &Session) -> &[u8]
     }
 }
 
-// Says the prompt on a terminal.
+// Whether the prompt is said: on a terminal, unless a definition is under way.
+#[tactic(auto, using(crate::proofs::WaitingLemmas::prompt_at_rest))]
+fn is_prompted(session: &Session) -> bool
+    ensures { result ≡ at_prompt session.now }
+{
+    session.state().terminal && !is_defining(session.desk())
+}
+
+// Says the prompt, where it is said.
 fn say_prompt<H: Host>(host: &mut H, session: &Session) -> Result<(), Stop>
     ensures ran { Ran H.world host.old host.new
-        (λ es. Goes (prompted session.now.terminal session.now.desk) es result) }
+        (λ es. Goes (prompted (at_prompt session.now) session.now.desk) es result) }
     ensures idle { session.now.frames ≡ [] }
     ensures cause { Caused (H.world.counts host.old) (H.world.counts host.new) result }
 {
-    if session.state().terminal {
+    if is_prompted(session) {
         say(host, prompt(session))
     } else {
         Ok(())

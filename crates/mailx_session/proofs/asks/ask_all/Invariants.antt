@@ -3,7 +3,7 @@ use Rattle.std.specs.List.{list_any}
 use Rattle.host_port.specs.Calls.{NeverFall}
 use Rattle.host_port.specs.Ran.{Ran}
 use Rattle.session_play.proofs.LeadLemmas.{LeftAt}
-use Rattle.mailx_session.specs.Sourcing.{brings, OnlyBrings}
+use Rattle.mailx_session.specs.Bringing.{brings, OnlyBrings}
 use Rattle.mailx_session.specs.States.{IsState}
 use Rattle.mailx_session.specs.Sessions.{asked}
 use Rattle.mailx_session.proofs.asks.ask_all.Given as goal

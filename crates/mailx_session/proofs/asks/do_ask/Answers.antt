@@ -1,7 +1,7 @@
 use Rattle.std.proofs.Common.{refl, inl}
 use Rattle.host_port.proofs.RanLemmas.{Ran-none}
-use Rattle.mailx_session.proofs.AskLemmas.{asked-say, asked-commit, asked-source, asked-open, asked-exit}
-use Rattle.mailx_session.proofs.SourcingLemmas.{kept-valid, keeps-desk}
+use Rattle.mailx_session.proofs.AskLemmas.{asked-say, asked-commit, asked-source, asked-lines, asked-open, asked-exit}
+use Rattle.mailx_session.proofs.SourcingLemmas.{kept-valid, keeps-desk, called-goes, called-caused}
 use Rattle.mailx_session.proofs.asks.do_ask.Goals as goal
 
 pub returns-in-Say-clause-ran : goal.returns-in-Say-clause-ran
@@ -18,6 +18,20 @@ returns-in-Source-clause-valid g c = kept-valid c.args.state.now c.source.new.st
 
 pub returns-in-Source-clause-desk : goal.returns-in-Source-clause-desk
 returns-in-Source-clause-desk g c = keeps-desk c.args.state.now c.source.new.state c.source.result c.source.ensures.desk
+
+pub returns-in-Lines-clause-ran : goal.returns-in-Lines-clause-ran
+returns-in-Lines-clause-ran g c =
+    rw (asked-lines c.args.state.now c.args.ask.now _ c.in-Lines.is)
+    (Ran-none (called-goes c.args.state.now c.call.new.state _ c.call.result c.call.ensures.means c.call.ensures.memory))
+
+pub returns-in-Lines-clause-valid : goal.returns-in-Lines-clause-valid
+returns-in-Lines-clause-valid g c = kept-valid c.args.state.now c.call.new.state c.requires c.call.ensures.brings c.call.ensures.desk
+
+pub returns-in-Lines-clause-desk : goal.returns-in-Lines-clause-desk
+returns-in-Lines-clause-desk g c = keeps-desk c.args.state.now c.call.new.state c.call.result c.call.ensures.desk
+
+pub returns-in-Lines-clause-cause : goal.returns-in-Lines-clause-cause
+returns-in-Lines-clause-cause g c = called-caused (g.H.Host.world.counts c.args.host.now) (g.H.Host.world.counts c.args.host.now) c.call.result c.call.ensures.memory
 
 pub returns-in-Open-clause-ran : goal.returns-in-Open-clause-ran
 returns-in-Open-clause-ran g c = rw (asked-open c.args.state.now c.args.ask.now _ _ _ c.in-Open.is) (rw (c.bytes-in-Open.ensures, c.items-in-Open.ensures) at c.switch.ensures.ran)

@@ -7,7 +7,7 @@ use Rattle.mailx_session.proofs.PendingLemmas.{fewer-left, less-then, nothing-ta
 use Rattle.mailx_session.proofs.SourcingLemmas.{weight-taken}
 use Rattle.mailx_session.proofs.RoundLemmas.{waits-more, waits-ended, waits-cut, waits-over, waits-short, rested-resumed}
 use Rattle.mailx_session.specs.States.{rested}
-use Rattle.mailx_session.specs.Sourcing.{weight}
+use Rattle.mailx_session.specs.Bringing.{weight}
 use Rattle.mailx_session.proofs.lines.waiting_lines.Goals as goal
 
 pub returns-in-Ok-End-clause-ran : goal.returns-in-Ok-End-clause-ran

@@ -2,7 +2,7 @@ use Rattle.std.specs.Prelude.{◌≡◌, []}
 use Rattle.host_port.specs.Calls.{NeverFall}
 use Rattle.host_port.specs.Ran.{Ran}
 use Rattle.mailx_session.specs.States.{IsState}
-use Rattle.mailx_session.specs.Sourcing.{weight}
+use Rattle.mailx_session.specs.Bringing.{weight}
 use Rattle.mailx_session.proofs.RoundLemmas.{WaitsSoFar}
 use Rattle.mailx_session.proofs.lines.waiting_lines.Given as goal
 
