@@ -10,3 +10,4 @@ pub mod Openings
 pub mod Starts
 pub mod Unreadable
 pub mod Crash
+pub mod Appended

@@ -2,6 +2,7 @@
 #![tactic(auto)]
 
 mod environment;
+mod laws;
 mod open;
 mod recovering;
 mod session;
@@ -10,5 +11,6 @@ mod top;
 mod words;
 
 pub use environment::Environment;
+pub use laws::appended_follows;
 pub use mailx_session::Status;
 pub use top::run;
