@@ -4,3 +4,4 @@ pub mod SafeLemmas
 pub mod LawLemmas
 pub mod DecidedLemmas
 pub mod AppendedLemmas
+pub mod FitLemmas

@@ -1,4 +1,5 @@
 ghost use Rattle.play_safety.specs.Appended.{AppendedFollows};
+ghost use Rattle.play_safety.specs.Fitting.{DecidedFit};
 ghost use Rattle.play_safety.specs.Safe.{PlaysAreSafe, TracesAreRead, DoneIsDecided};
 
 /// The trace of a play whose commits and recoveries are all of one actor and one token, from a disk that is sound and
@@ -24,4 +25,10 @@ pub fn done_is_decided()
 /// was made for stays as it is.
 pub fn appended_follows()
     ensures { AppendedFollows }
+{}
+
+/// A commit of a play that rewrites a file of which it has no other change is decided only where the file begins with
+/// the messages that the commit was made for.
+pub fn decided_fit()
+    ensures { DecidedFit }
 {}
