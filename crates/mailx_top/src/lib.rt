@@ -5,6 +5,7 @@ mod environment;
 mod open;
 mod recovering;
 mod session;
+mod startup;
 mod status;
 mod top;
 mod words;
