@@ -6,6 +6,7 @@ mod laws;
 mod open;
 mod recovering;
 mod session;
+mod startup;
 mod status;
 mod top;
 mod words;
