@@ -1,5 +1,5 @@
 -- The fields of a draft as lines: each stands on one line, and is read there again.
-use Rattle.std.proofs.Common.{◌≡◌, ◌≢◌, ℕ, ◌<◌, ◌≤◌, Bool, true, false, ◌==◌, ◌&&◌, List, [], ◌∷◌, ◌++◌, length, map, Option, codes, refl, sym, ap, ◌∙◌, subst, arith, ⊎_elim, append_assoc, append-nil}
+use Rattle.std.proofs.Common.{◌≡◌, ◌≢◌, ℕ, ◌<◌, ◌≤◌, Bool, true, false, ◌==◌, ◌&&◌, List, [], ◌∷◌, ◌++◌, length, drop, map, Option, codes, refl, sym, ap, ◌∙◌, subst, arith, ⊎_elim, append_assoc, append-nil}
 use Rattle.std.specs.Prelude.{nat_eq, nat_le, All}
 use Rattle.std.specs.List.{starts_with, flat_map, take_while, join_with_byte, filter_map, list_all, AllByRecursion}
 use Rattle.std.proofs.lemmas.Bool.{cond-true, cond-false, cases_Bool, and_parts, leb-true, eqb-false, ne_eqb}
@@ -22,7 +22,7 @@ use Rattle.message_state.proofs.StampLemmas.{after_feeds}
 use Rattle.message_state.proofs.EntryLines.{IsLine, AreLines}
 use Rattle.message_state.proofs.TextLines.{HasTextParts, last-parts, apart-one}
 use Rattle.draft_text.specs.declared.draft.Draft.{Draft}
-use Rattle.draft_text.specs.Texts.{joined, spaced_field, filled, draft_fields, field_lines}
+use Rattle.draft_text.specs.Texts.{joined, spaced_field, filled, draft_values, all_filled, draft_fields, field_lines}
 use Rattle.draft_text.specs.DraftLaws.{HasFlatParts}
 
 -- ---- parts without a line feed
@@ -127,37 +127,42 @@ filled-alone name value named flat =
     (λ some. subst (All StandsAlone) (sym (cond-false _ _ _ some)) (All-cons StandsAlone (spaced_field name value) [] (field-alone name value named flat) (All-nil StandsAlone)))
     (cases_Bool (length value == 0))
 
-both : (a b : List Field) → All StandsAlone a → All StandsAlone b → All StandsAlone (a ++ b)
-both a b = All-append StandsAlone a b
+-- the name is one of a field, and the value holds no line feed
+record IsValue (v : List ℕ × List ℕ) : Type 0 where
+  named : IsName v.0
+  flat : HasNoFeed v.1
 
-seven-alone : (a b c d e f g : List Field) → All StandsAlone a → All StandsAlone b → All StandsAlone c → All StandsAlone d → All StandsAlone e → All StandsAlone f → All StandsAlone g
-    → All StandsAlone (a ++ b ++ c ++ d ++ e ++ f ++ g)
-seven-alone a b c d e f g in_a in_b in_c in_d in_e in_f in_g =
-    let to_b = both a b in_a in_b in
-    let to_c = both (a ++ b) c to_b in_c in
-    let to_d = both (a ++ b ++ c) d to_c in_d in
-    let to_e = both (a ++ b ++ c ++ d) e to_d in_e in
-    both (a ++ b ++ c ++ d ++ e ++ f) g (both (a ++ b ++ c ++ d ++ e) f to_e in_f) in_g
+all-alone : (vs : List (List ℕ × List ℕ)) → AllByRecursion IsValue vs → All StandsAlone (all_filled vs)
+all-alone [] all = All-nil StandsAlone
+all-alone (v ∷ vs) all = All-append StandsAlone (filled v.0 v.1) (all_filled vs) (filled-alone v.0 v.1 all.0.named all.0.flat) (all-alone vs all.1)
 
-fields-alone : (draft : Draft) (m : Moment) → IsPrintable m → HasFlatParts draft → All StandsAlone (draft_fields draft m)
-unfolding draft_fields
-fields-alone draft m range flat =
-    let to = joined (codes ", ") draft.to in
-    let copies = joined (codes ", ") draft.cc in
-    let references = joined (codes " ") draft.references in
-    seven-alone
-    (filled (codes "Date") (date_text m)) (filled (codes "From") draft.from) (filled (codes "To") to) (filled (codes "Cc") copies)
-    (filled (codes "Subject") draft.subject) (filled (codes "In-Reply-To") draft.reply) (filled (codes "References") references)
-    (filled-alone (codes "Date") (date_text m) date-name (plain-apart (date_text m) (date_is_plain m range).0))
-    (filled-alone (codes "From") draft.from from-name flat.from)
-    (filled-alone (codes "To") to to-name (names-apart draft.to flat.to))
-    (filled-alone (codes "Cc") copies cc-name (names-apart draft.cc flat.cc))
-    (filled-alone (codes "Subject") draft.subject subject-name flat.subject)
-    (filled-alone (codes "In-Reply-To") draft.reply reply-name flat.reply)
-    (filled-alone (codes "References") references references-name (ids-apart draft.references flat.references))
+values-are : (draft : Draft) (m : Moment) → IsPrintable m → HasFlatParts draft → AllByRecursion IsValue (draft_values draft m)
+values-are draft m range flat = (
+  record { named = date-name; flat = plain-apart (date_text m) (date_is_plain m range).0 },
+  (
+    record { named = from-name; flat = flat.from },
+    (
+      record { named = to-name; flat = names-apart draft.to flat.to },
+      (
+        record { named = cc-name; flat = names-apart draft.cc flat.cc },
+        (
+          record { named = subject-name; flat = flat.subject },
+          (
+            record { named = reply-name; flat = flat.reply },
+            (
+              record { named = references-name; flat = ids-apart draft.references flat.references },
+              tt,
+            ),
+          ),
+        ),
+      ),
+    ),
+  ),
+)
 
 pub draft-alone : (draft : Draft) (m : Moment) → IsPrintable m → HasFlatParts draft → AllByRecursion StandsAlone (draft_fields draft m)
-draft-alone draft m range flat = recursion_from_All StandsAlone (draft_fields draft m) (fields-alone draft m range flat)
+unfolding draft_fields
+draft-alone draft m range flat = recursion_from_All StandsAlone (draft_fields draft m) (all-alone (draft_values draft m) (values-are draft m range flat))
 
 -- the date is never empty, so a draft has a field
 pub draft-some : (draft : Draft) (m : Moment) → IsPrintable m → 0 < length (draft_fields draft m)
@@ -166,13 +171,7 @@ draft-some draft m range =
     let long : length (date_text m) ≡ 31 = (date_is_plain m range).1 in
     let some : (length (date_text m) == 0) ≡ false = ne_eqb _ _ (λ e. omega arith) in
     let date : filled (codes "Date") (date_text m) ≡ spaced_field (codes "Date") (date_text m) ∷ [] = cond-false _ _ _ some in
-    subst (λ (fs : List Field). 0 < length ((((((fs
-    ++ filled (codes "From") draft.from)
-    ++ filled (codes "To") (joined (codes ", ") draft.to))
-    ++ filled (codes "Cc") (joined (codes ", ") draft.cc))
-    ++ filled (codes "Subject") draft.subject)
-    ++ filled (codes "In-Reply-To") draft.reply)
-    ++ filled (codes "References") (joined (codes " ") draft.references))) (sym date) (omega arith)
+    subst (λ (fs : List Field). 0 < length (fs ++ all_filled (drop 1 (draft_values draft m)))) (sym date) (omega arith)
 
 -- ---- the lines of fields
 
@@ -203,8 +202,8 @@ field_lines-are fs = sym (flat_map-map with_feed field_bytes fs)
 -- fields that are put one after another
 pub pushed-fields : (text : List ℕ) (a b c d e f g : List Field)
     → ((((((text ++ field_lines a) ++ field_lines b) ++ field_lines c) ++ field_lines d) ++ field_lines e) ++ field_lines f) ++ field_lines g
-    ≡ text ++ field_lines (a ++ b ++ c ++ d ++ e ++ f ++ g)
-pushed-fields text a b c d e f g = simp (flat_map-append, append_assoc)
+    ≡ text ++ field_lines (a ++ (b ++ (c ++ (d ++ (e ++ (f ++ (g ++ [])))))))
+pushed-fields text a b c d e f g = simp (flat_map-append, append_assoc, append-nil)
 
 -- ---- texts of a line, lines of a header and a body
 

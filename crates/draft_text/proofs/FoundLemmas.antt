@@ -1,8 +1,8 @@
 -- Each field of a draft is found under its name.
-use Rattle.std.proofs.Common.{◌≡◌, ◌≢◌, ℕ, true, false, ◌==◌, List, ◌∷◌, ◌++◌, length, Option, Some, None, codes, refl, sym, ap, ◌∙◌, ⊎_elim}
+use Rattle.std.proofs.Common.{[], ◌≡◌, ◌≢◌, ℕ, true, false, ◌==◌, List, ◌∷◌, ◌++◌, length, Option, Some, None, codes, refl, sym, ap, ◌∙◌, ⊎_elim, take, drop}
 use Rattle.std.specs.Bool.{if◌then◌else◌}
 use Rattle.std.specs.Option.{option_map, option_or}
-use Rattle.std.specs.List.{find, filter_map}
+use Rattle.std.specs.List.{find, filter_map, AllByRecursion}
 use Rattle.std.proofs.lemmas.Bool.{cond-true, cond-false, cases_Bool, eqb-false}
 use Rattle.std.proofs.lemmas.List.Elements.{All-cons}
 use Rattle.std.proofs.lemmas.List.Folds.{find-append}
@@ -16,8 +16,8 @@ use Rattle.mail_dates.specs.Clock.{IsPrintable}
 use Rattle.mail_dates.specs.Printed.{date_text}
 use Rattle.mail_dates.proofs.PlainText.{date_is_plain}
 use Rattle.draft_text.specs.declared.draft.Draft.{Draft}
-use Rattle.draft_text.specs.Texts.{joined, filled, draft_fields}
-use Rattle.draft_text.specs.DraftLaws.{HasFlatParts, HasDraft, FindsDraft}
+use Rattle.draft_text.specs.Texts.{joined, filled, draft_values, all_filled, draft_fields}
+use Rattle.draft_text.specs.DraftLaws.{HasFlatParts, HasDraft, IsFound, FindsDraft}
 use Rattle.draft_text.proofs.FieldLemmas.{plain-apart, names-apart, ids-apart, entries-fields}
 
 -- ---- among the fields
@@ -65,146 +65,21 @@ own name value same flat =
     ∙ sym (cond-false _ _ _ some))
     (cases_Bool (length value == 0))
 
--- ---- among seven lists of fields
+-- ---- among the values
 
--- none is found in two lists
-neither : (name : List ℕ) (a b : List Field) → found name a ≡ None → found name b ≡ None → found name (a ++ b) ≡ None
-neither name a b first second = past name a b first ∙ second
+-- none is found where all names differ
+none-in : (name : List ℕ) (vs : List (List ℕ × List ℕ)) → AllByRecursion (λ v. same_ascii v.0 name ≡ false) vs → found name (all_filled vs) ≡ None
+none-in name [] differ = refl
+none-in name (v ∷ vs) differ = past name (filled v.0 v.1) (all_filled vs) (other name v.0 v.1 differ.0) ∙ none-in name vs differ.1
 
-abbrev Lacks : List ℕ → List Field → Type 0
-Lacks name fs = found name fs ≡ None
-
-in-first : (name : List ℕ) (a b c d e f g : List Field) → Lacks name b → Lacks name c → Lacks name d → Lacks name e → Lacks name f → Lacks name g
-    → found name (a ++ b ++ c ++ d ++ e ++ f ++ g) ≡ found name a
-in-first name a b c d e f g nb nc nd ne nf ng =
-    before name (a ++ b ++ c ++ d ++ e ++ f) g ng ∙ before name (a ++ b ++ c ++ d ++ e) f nf ∙ before name (a ++ b ++ c ++ d) e ne
-    ∙ before name (a ++ b ++ c) d nd ∙ before name (a ++ b) c nc ∙ before name a b nb
-
-in-second : (name : List ℕ) (a b c d e f g : List Field) → Lacks name a → Lacks name c → Lacks name d → Lacks name e → Lacks name f → Lacks name g
-    → found name (a ++ b ++ c ++ d ++ e ++ f ++ g) ≡ found name b
-in-second name a b c d e f g na nc nd ne nf ng =
-    before name (a ++ b ++ c ++ d ++ e ++ f) g ng ∙ before name (a ++ b ++ c ++ d ++ e) f nf ∙ before name (a ++ b ++ c ++ d) e ne
-    ∙ before name (a ++ b ++ c) d nd ∙ before name (a ++ b) c nc ∙ past name a b na
-
-in-third : (name : List ℕ) (a b c d e f g : List Field) → Lacks name a → Lacks name b → Lacks name d → Lacks name e → Lacks name f → Lacks name g
-    → found name (a ++ b ++ c ++ d ++ e ++ f ++ g) ≡ found name c
-in-third name a b c d e f g na nb nd ne nf ng =
-    before name (a ++ b ++ c ++ d ++ e ++ f) g ng ∙ before name (a ++ b ++ c ++ d ++ e) f nf ∙ before name (a ++ b ++ c ++ d) e ne
-    ∙ before name (a ++ b ++ c) d nd ∙ past name (a ++ b) c (neither name a b na nb)
-
-in-fourth : (name : List ℕ) (a b c d e f g : List Field) → Lacks name a → Lacks name b → Lacks name c → Lacks name e → Lacks name f → Lacks name g
-    → found name (a ++ b ++ c ++ d ++ e ++ f ++ g) ≡ found name d
-in-fourth name a b c d e f g na nb nc ne nf ng =
-    before name (a ++ b ++ c ++ d ++ e ++ f) g ng ∙ before name (a ++ b ++ c ++ d ++ e) f nf ∙ before name (a ++ b ++ c ++ d) e ne
-    ∙ past name (a ++ b ++ c) d (neither name (a ++ b) c (neither name a b na nb) nc)
-
-in-fifth : (name : List ℕ) (a b c d e f g : List Field) → Lacks name a → Lacks name b → Lacks name c → Lacks name d → Lacks name f → Lacks name g
-    → found name (a ++ b ++ c ++ d ++ e ++ f ++ g) ≡ found name e
-in-fifth name a b c d e f g na nb nc nd nf ng =
-    before name (a ++ b ++ c ++ d ++ e ++ f) g ng ∙ before name (a ++ b ++ c ++ d ++ e) f nf
-    ∙ past name (a ++ b ++ c ++ d) e (neither name (a ++ b ++ c) d (neither name (a ++ b) c (neither name a b na nb) nc) nd)
-
-in-sixth : (name : List ℕ) (a b c d e f g : List Field) → Lacks name a → Lacks name b → Lacks name c → Lacks name d → Lacks name e → Lacks name g
-    → found name (a ++ b ++ c ++ d ++ e ++ f ++ g) ≡ found name f
-in-sixth name a b c d e f g na nb nc nd ne ng =
-    before name (a ++ b ++ c ++ d ++ e ++ f) g ng
-    ∙ past name (a ++ b ++ c ++ d ++ e) f (neither name (a ++ b ++ c ++ d) e (neither name (a ++ b ++ c) d (neither name (a ++ b) c (neither name a b na nb) nc) nd) ne)
-
-in-seventh : (name : List ℕ) (a b c d e f g : List Field) → Lacks name a → Lacks name b → Lacks name c → Lacks name d → Lacks name e → Lacks name f
-    → found name (a ++ b ++ c ++ d ++ e ++ f ++ g) ≡ found name g
-in-seventh name a b c d e f g na nb nc nd ne nf =
-    past name (a ++ b ++ c ++ d ++ e ++ f) g
-    (neither name (a ++ b ++ c ++ d ++ e) f (neither name (a ++ b ++ c ++ d) e (neither name (a ++ b ++ c) d (neither name (a ++ b) c (neither name a b na nb) nc) nd) ne) nf)
+-- one is found between others of other names
+at : (name value : List ℕ) (front back : List (List ℕ × List ℕ)) → AllByRecursion (λ v. same_ascii v.0 name ≡ false) front → AllByRecursion (λ v. same_ascii v.0 name ≡ false) back
+    → found name (all_filled (front ++ (name, value) ∷ back)) ≡ found name (filled name value)
+at name value [] back before_it after_it = before name (filled name value) (all_filled back) (none-in name back after_it)
+at name value (v ∷ front) back before_it after_it =
+    past name (filled v.0 v.1) (all_filled (front ++ (name, value) ∷ back)) (other name v.0 v.1 before_it.0) ∙ at name value front back before_it.1 after_it
 
 -- ---- in a draft
-
-abbrev dates : List ℕ → List Field
-dates value = filled (codes "Date") value
-
-abbrev froms : List ℕ → List Field
-froms value = filled (codes "From") value
-
-abbrev tos : List ℕ → List Field
-tos value = filled (codes "To") value
-
-abbrev copies : List ℕ → List Field
-copies value = filled (codes "Cc") value
-
-abbrev subjects : List ℕ → List Field
-subjects value = filled (codes "Subject") value
-
-abbrev replies : List ℕ → List Field
-replies value = filled (codes "In-Reply-To") value
-
-abbrev follows : List ℕ → List Field
-follows value = filled (codes "References") value
-
--- the fields with these values
-abbrev seven : List ℕ → List ℕ → List ℕ → List ℕ → List ℕ → List ℕ → List ℕ → List Field
-seven d f t c s r g = dates d ++ froms f ++ tos t ++ copies c ++ subjects s ++ replies r ++ follows g
-
--- each is found under its name, where its value holds no line feed
-record FindsSeven (d f t c s r g : List ℕ) : Type 0 where
-  date : found (codes "Date") (seven d f t c s r g) ≡ found (codes "Date") (dates d)
-  from : found (codes "From") (seven d f t c s r g) ≡ found (codes "From") (froms f)
-  to : found (codes "To") (seven d f t c s r g) ≡ found (codes "To") (tos t)
-  copy : found (codes "Cc") (seven d f t c s r g) ≡ found (codes "Cc") (copies c)
-  subject : found (codes "Subject") (seven d f t c s r g) ≡ found (codes "Subject") (subjects s)
-  reply : found (codes "In-Reply-To") (seven d f t c s r g) ≡ found (codes "In-Reply-To") (replies r)
-  follow : found (codes "References") (seven d f t c s r g) ≡ found (codes "References") (follows g)
-
-finds-seven : (d f t c s r g : List ℕ) → FindsSeven d f t c s r g
-finds-seven d f t c s r g = record {
-  date = in-first (codes "Date") (dates d) (froms f) (tos t) (copies c) (subjects s) (replies r) (follows g)
-      (other (codes "Date") (codes "From") f refl)
-      (other (codes "Date") (codes "To") t refl)
-      (other (codes "Date") (codes "Cc") c refl)
-      (other (codes "Date") (codes "Subject") s refl)
-      (other (codes "Date") (codes "In-Reply-To") r refl)
-      (other (codes "Date") (codes "References") g refl);
-  from = in-second (codes "From") (dates d) (froms f) (tos t) (copies c) (subjects s) (replies r) (follows g)
-      (other (codes "From") (codes "Date") d refl)
-      (other (codes "From") (codes "To") t refl)
-      (other (codes "From") (codes "Cc") c refl)
-      (other (codes "From") (codes "Subject") s refl)
-      (other (codes "From") (codes "In-Reply-To") r refl)
-      (other (codes "From") (codes "References") g refl);
-  to = in-third (codes "To") (dates d) (froms f) (tos t) (copies c) (subjects s) (replies r) (follows g)
-      (other (codes "To") (codes "Date") d refl)
-      (other (codes "To") (codes "From") f refl)
-      (other (codes "To") (codes "Cc") c refl)
-      (other (codes "To") (codes "Subject") s refl)
-      (other (codes "To") (codes "In-Reply-To") r refl)
-      (other (codes "To") (codes "References") g refl);
-  copy = in-fourth (codes "Cc") (dates d) (froms f) (tos t) (copies c) (subjects s) (replies r) (follows g)
-      (other (codes "Cc") (codes "Date") d refl)
-      (other (codes "Cc") (codes "From") f refl)
-      (other (codes "Cc") (codes "To") t refl)
-      (other (codes "Cc") (codes "Subject") s refl)
-      (other (codes "Cc") (codes "In-Reply-To") r refl)
-      (other (codes "Cc") (codes "References") g refl);
-  subject = in-fifth (codes "Subject") (dates d) (froms f) (tos t) (copies c) (subjects s) (replies r) (follows g)
-      (other (codes "Subject") (codes "Date") d refl)
-      (other (codes "Subject") (codes "From") f refl)
-      (other (codes "Subject") (codes "To") t refl)
-      (other (codes "Subject") (codes "Cc") c refl)
-      (other (codes "Subject") (codes "In-Reply-To") r refl)
-      (other (codes "Subject") (codes "References") g refl);
-  reply = in-sixth (codes "In-Reply-To") (dates d) (froms f) (tos t) (copies c) (subjects s) (replies r) (follows g)
-      (other (codes "In-Reply-To") (codes "Date") d refl)
-      (other (codes "In-Reply-To") (codes "From") f refl)
-      (other (codes "In-Reply-To") (codes "To") t refl)
-      (other (codes "In-Reply-To") (codes "Cc") c refl)
-      (other (codes "In-Reply-To") (codes "Subject") s refl)
-      (other (codes "In-Reply-To") (codes "References") g refl);
-  follow = in-seventh (codes "References") (dates d) (froms f) (tos t) (copies c) (subjects s) (replies r) (follows g)
-      (other (codes "References") (codes "Date") d refl)
-      (other (codes "References") (codes "From") f refl)
-      (other (codes "References") (codes "To") t refl)
-      (other (codes "References") (codes "Cc") c refl)
-      (other (codes "References") (codes "Subject") s refl)
-      (other (codes "References") (codes "In-Reply-To") r refl);
-}
 
 fields-of : (text from body : List ℕ) (fs : List Field) → HasDraft text from fs body → fields_of text ≡ fs
 fields-of text from body fs has = ap (filter_map field_in) has.entries ∙ entries-fields fs
@@ -224,19 +99,24 @@ flat-values draft m range flat = record {
   follow = ids-apart draft.references flat.references;
 }
 
+finds : (name value text from body : List ℕ) (front back : List (List ℕ × List ℕ)) → HasDraft text from (all_filled (front ++ (name, value) ∷ back)) body
+    → AllByRecursion (λ v. same_ascii v.0 name ≡ false) front → AllByRecursion (λ v. same_ascii v.0 name ≡ false) back → same_ascii name name ≡ true → HasNoFeed value → IsFound text name value
+finds name value text from body front back has before_it after_it same flat =
+    ap (λ (x : List Field). option_map unfolded (found name x)) (fields-of text from body (all_filled (front ++ (name, value) ∷ back)) has)
+    ∙ ap (option_map unfolded) (at name value front back before_it after_it)
+    ∙ own name value same flat
+
 pub finds-draft : (draft : Draft) (m : Moment) (text from body : List ℕ) → IsPrintable m → HasFlatParts draft → HasDraft text from (draft_fields draft m) body → FindsDraft text draft m
 unfolding draft_fields
 finds-draft draft m text from body range flat has =
-    let fs = draft_fields draft m in
     let values = flat-values draft m range flat in
-    let all = finds-seven (date_text m) draft.from (joined (codes ", ") draft.to) (joined (codes ", ") draft.cc) draft.subject draft.reply (joined (codes " ") draft.references) in
-    let read = λ (name : List ℕ) (o : Option Field) (e : found name fs ≡ o). ap (λ (x : List Field). option_map unfolded (found name x)) (fields-of text from body fs has) ∙ ap (option_map unfolded) e in
+    let vs = draft_values draft m in
     record {
-      date = read (codes "Date") _ all.date ∙ own (codes "Date") (date_text m) refl values.date;
-      from = read (codes "From") _ all.from ∙ own (codes "From") draft.from refl flat.from;
-      to = read (codes "To") _ all.to ∙ own (codes "To") (joined (codes ", ") draft.to) refl values.to;
-      cc = read (codes "Cc") _ all.copy ∙ own (codes "Cc") (joined (codes ", ") draft.cc) refl values.copy;
-      subject = read (codes "Subject") _ all.subject ∙ own (codes "Subject") draft.subject refl flat.subject;
-      reply = read (codes "In-Reply-To") _ all.reply ∙ own (codes "In-Reply-To") draft.reply refl flat.reply;
-      references = read (codes "References") _ all.follow ∙ own (codes "References") (joined (codes " ") draft.references) refl values.follow;
+      date = finds (codes "Date") (date_text m) text from body [] (drop 1 vs) has tt (refl, (refl, (refl, (refl, (refl, (refl, tt)))))) refl values.date;
+      from = finds (codes "From") draft.from text from body (take 1 vs) (drop 2 vs) has (refl, tt) (refl, (refl, (refl, (refl, (refl, tt))))) refl flat.from;
+      to = finds (codes "To") (joined (codes ", ") draft.to) text from body (take 2 vs) (drop 3 vs) has (refl, (refl, tt)) (refl, (refl, (refl, (refl, tt)))) refl values.to;
+      cc = finds (codes "Cc") (joined (codes ", ") draft.cc) text from body (take 3 vs) (drop 4 vs) has (refl, (refl, (refl, tt))) (refl, (refl, (refl, tt))) refl values.copy;
+      subject = finds (codes "Subject") draft.subject text from body (take 4 vs) (drop 5 vs) has (refl, (refl, (refl, (refl, tt)))) (refl, (refl, tt)) refl flat.subject;
+      reply = finds (codes "In-Reply-To") draft.reply text from body (take 5 vs) (drop 6 vs) has (refl, (refl, (refl, (refl, (refl, tt))))) (refl, tt) refl flat.reply;
+      references = finds (codes "References") (joined (codes " ") draft.references) text from body (take 6 vs) [] has (refl, (refl, (refl, (refl, (refl, (refl, tt)))))) tt refl values.follow;
     }

@@ -35,7 +35,7 @@ pub record HasDraft (text from : List ℕ) (fields : List Field) (bytes : List �
   pub entries : entries_of text ≡ map field fields
   pub body : unwrap_or (body_of text) [] ≡ bytes
 
--- the text that is put into a mailbox has the draft's fields and its body
+-- the text that is put into a mailbox has the draft's fields and its quoted body
 abbrev pub StoredReadsBack : Type 0
 StoredReadsBack = (draft : Draft) (user : List ℕ) (m : Moment)
     → IsPrintable m → HasFlatParts draft → HasNoFeed user
@@ -47,7 +47,7 @@ OpeningIsRead = (user : List ℕ) (m : Moment) → IsPrintable m → IsWord user
     → (sender_of (drop 5 (opening_line user m)) ≡ user)
     × (arrival_of (drop 5 (opening_line user m)) ≡ Some (as_shown m))
 
--- so has the message that is sent, behind a line
+-- the message that is sent has the same fields and the draft's body, behind any line
 abbrev pub SentReadsBack : Type 0
 SentReadsBack = (draft : Draft) (line : List ℕ) (m : Moment)
     → IsPrintable m → HasFlatParts draft → HasNoFeed line

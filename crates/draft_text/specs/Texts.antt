@@ -21,16 +21,25 @@ spaced_field name value = record { name = name; value = 32 ∷ value }
 abbrev pub filled : List ℕ → List ℕ → List Field
 filled name value = if length value == 0 then [] else spaced_field name value ∷ []
 
--- the fields of a draft in the order in which they are written (RFC 5322, section 3.6)
+-- the values of a draft's fields in the order in which they are written, each behind its field's name (RFC 5322, section 3.6)
+abbrev pub draft_values : Draft → Moment → List (List ℕ × List ℕ)
+draft_values draft m =
+    (codes "Date", date_text m)
+    ∷ (codes "From", draft.from)
+    ∷ (codes "To", joined (codes ", ") draft.to)
+    ∷ (codes "Cc", joined (codes ", ") draft.cc)
+    ∷ (codes "Subject", draft.subject)
+    ∷ (codes "In-Reply-To", draft.reply)
+    ∷ (codes "References", joined (codes " ") draft.references)
+    ∷ []
+
+-- the fields of these names with these values, but for empty ones
+abbrev pub all_filled : List (List ℕ × List ℕ) → List Field
+all_filled values = flat_map (λ v. filled v.0 v.1) values
+
+-- the fields of a draft
 unfoldable pub draft_fields : Draft → Moment → List Field
-draft_fields draft m =
-    filled (codes "Date") (date_text m)
-    ++ filled (codes "From") draft.from
-    ++ filled (codes "To") (joined (codes ", ") draft.to)
-    ++ filled (codes "Cc") (joined (codes ", ") draft.cc)
-    ++ filled (codes "Subject") draft.subject
-    ++ filled (codes "In-Reply-To") draft.reply
-    ++ filled (codes "References") (joined (codes " ") draft.references)
+draft_fields draft m = all_filled (draft_values draft m)
 
 -- fields, each on a line
 abbrev pub field_lines : List Field → List ℕ
