@@ -8,9 +8,9 @@ pub fn appended_follows()
     ensures { RunsKeepAppended }
 {}
 
-/// In such a run, from a disk that is sound and carries nothing of its token, with lawful steps of others, a commit that
-/// rewrites a file of which it has no other change is decided only where the file begins with the messages that the
-/// commit was made for.
+/// In such a run, from a disk that is sound and carries nothing of its token, with lawful steps of others, a commit
+/// that rewrites a file of which it has no other change is decided only where the file begins with the messages that
+/// the commit was made for.
 pub fn decided_fit()
     ensures { RunsFit }
 {}
