@@ -431,7 +431,7 @@ round-of env (Reading s i) of = line-of (actor_in env) env.token s i (taken s.fr
 round-of env (Leaving s i) of = last-of (actor_in env) env.token s
 
 -- what an ending adds only looks
-ending-looks : (actor : List ℕ) (may : Bool) (s : Status) (out : Result Status Stop) (es : List Event) → Ending actor may s out es → OnlyLooks es
+pub ending-looks : (actor : List ℕ) (may : Bool) (s : Status) (out : Result Status Stop) (es : List Event) → Ending actor may s out es → OnlyLooks es
 ending-looks actor may s (Ok e) es end = end-looks may (line_at_end actor e) es end.1
 ending-looks actor may s (Err cause) es end = cut-looks may cause es end.1
 

@@ -11,3 +11,4 @@ pub mod Starts
 pub mod Unreadable
 pub mod Crash
 pub mod Appended
+pub mod Fitting

@@ -12,6 +12,6 @@ mod top;
 mod words;
 
 pub use environment::Environment;
-pub use laws::appended_follows;
+pub use laws::{appended_follows, decided_fit};
 pub use mailx_session::Status;
 pub use top::run;

@@ -1,5 +1,5 @@
 -- A commit is decided only where its changes can be made.
-use Rattle.std.proofs.Common.{◌≡◌, ℕ, ◌<◌, ◌^◌, ◌==◌, Bool, true, false, List, [], ◌∷◌, ◌++◌, Option, Some, None, Result, Ok, Err, MatchResult, length, if◌then◌else◌, refl, ap, sym, subst, inl, inr, ◌∙◌, arith, append_assoc, length-append}
+use Rattle.std.proofs.Common.{◌≡◌, ℕ, ◌<◌, ◌^◌, ◌==◌, Bool, true, false, List, [], ◌∷◌, ◌++◌, Option, Some, None, Result, Ok, Err, MatchResult, length, append-nil, if◌then◌else◌, refl, ap, sym, subst, inl, inr, ◌∙◌, arith, append_assoc, length-append}
 use Rattle.std.specs.Option.{option_map}
 use Rattle.std.proofs.lemmas.Bool.{false≢true}
 use Rattle.host_port.specs.declared.event.Event.{Event}
@@ -39,14 +39,15 @@ use Rattle.folder_commit.proofs.PlanLemmas.{is-job, all-of-job}
 use Rattle.folder_commit.proofs.TellLemmas.{alike}
 use Rattle.session_play.specs.declared.stop.Stop.{Stop}
 use Rattle.session_play.specs.declared.stop.Stop.TheVariants as stop
+use Rattle.session_play.specs.Acts.{AllEnds}
 use Rattle.session_play.specs.Committing.{Commit, answer_as}
-use Rattle.session_play.specs.Play.{Act, Answer, Changes, Play, Ret, Ask, Did, Partly, Line, Say, Read, Try, Recover, Know}
-use Rattle.play_safety.specs.Passes.{decided_in, accepted_by, pending_by, Commits, Passes}
-use Rattle.play_safety.specs.Safe.{IsBy, OfCommit, EachCommit, MayRun, queue_of, queue}
+use Rattle.session_play.specs.Play.{Act, Answer, Changes, Play, Ret, Ask, Did, Partly, Next, Go, Last, Line, Say, Read, Try, Recover, Know}
+use Rattle.play_safety.specs.Passes.{decided_in, accepted_by, pending_by, Commits, Passes, PassesAll, again, last, cut}
+use Rattle.play_safety.specs.Safe.{IsBy, OfCommit, EachCommit, NextKeeps, MayRun, queue_of, queue}
 use Rattle.play_safety.specs.Appended.{Decides, IsOnlyOne}
-use Rattle.play_safety.specs.Fitting.{DecidedFit}
+use Rattle.play_safety.specs.Fitting.{RewritesFit, DecidedFit}
 use Rattle.play_safety.proofs.TraceLemmas.{stands-in, looks-undecided, decisions-then, none-decides}
-use Rattle.play_safety.proofs.SafeLemmas.{IsCutSo, own_commit, act-answered, act-cut, same-commit, honest-front, lawful-back}
+use Rattle.play_safety.proofs.SafeLemmas.{IsCutSo, own_commit, act-answered, act-cut, same-commit, play-passed, passes-ends, honest-front, lawful-back}
 
 -- ---- changes that can be made
 or-first : (a b : Option ChangeRefusal) → or_else a b ≡ None → a ≡ None
@@ -225,10 +226,9 @@ module _ (actor : List ℕ) (token : ℕ) (fits : token < 2 ^ 64) where
       let (c, acc, none, can) = fit a k e same y in
       (c, record { earlier = []; later = more; order = order ∙ ap (λ (l : List Commit). l ++ more) acc; passed = none; decision = y }, can)
 
-  fit-later : (act : Act) (d : Disk) (front : List Event) (commits later : Commits) → commits.accepted ++ commits.pending ≡ accepted_by act d front ++ (later.accepted ++ later.pending)
-      → decisions any d 0 front ≡ length (accepted_by act d front) → (a k : List Event) (e : Event) → a ≡ front ++ k → is_decision any e (disk d a) ≡ true → Fit (disk d front) later k e → Fit d commits a e
-  fit-later act d front commits later order count a k e same y (c, w, can) =
-      let acc = accepted_by act d front in
+  fit-later : (acc : List Commit) (d : Disk) (front : List Event) (commits later : Commits) → commits.accepted ++ commits.pending ≡ acc ++ (later.accepted ++ later.pending)
+      → decisions any d 0 front ≡ length acc → (a k : List Event) (e : Event) → a ≡ front ++ k → is_decision any e (disk d a) ≡ true → Fit (disk d front) later k e → Fit d commits a e
+  fit-later acc d front commits later order count a k e same y (c, w, can) =
       let at : disk (disk d front) k ≡ disk d a = sym (disk-append d front k) ∙ ap (disk d) (sym same) in
       let whole = ap (λ (l : List Event). decisions any d 0 l) same in
       let parts = decisions-then any front k d in
@@ -261,7 +261,7 @@ module _ (actor : List ℕ) (token : ℕ) (fits : token < 2 ^ 64) where
       ap (λ (m : Commits). m.accepted ++ m.pending) commits_is ∙ append_assoc acc later.accepted later.pending in
       elim (stands-in front rest a e b (sym is ∙ at)) [
         | inl k ↦ fit-first act d front commits (later.accepted ++ later.pending) order (act-fits act answer d files owners front each.0 s here others did) a k.0 e k.1 y
-        | inr k ↦ fit-later act d front commits later order x.count a k.0 e k.1 y
+        | inr k ↦ fit-later acc d front commits later order x.count a k.0 e k.1 y
             (play-fits (go answer) (disk d front) rest later out (run_files actor token d q files front) (run_locks actor token d owners front) (each.1 answer) now
             (honest-back front rest d honest_so) (lawful-back actor token front rest d lawful_so) goes k.0 b e k.2
             (subst (λ (w : Disk). is_decision any e w ≡ true) (ap (disk d) k.1 ∙ disk-append d front k.0) y))
@@ -270,10 +270,77 @@ module _ (actor : List ℕ) (token : ℕ) (fits : token < 2 ^ 64) where
       let order : commits.accepted ++ commits.pending ≡ accepted_by act d es ++ pending_by act d es = ap (λ (m : Commits). m.accepted ++ m.pending) commits_is in
       fit-first act d es commits (pending_by act d es) order (cut-fits act cause d files owners es each.0 s honest lawful how) a b e at y
 
+  -- the commits of one round, among all
+  fit-among : (d : Disk) (first : List Commit) (commits : Commits) (more : List Commit) → commits.accepted ++ commits.pending ≡ first ++ more
+      → (a : List Event) (e : Event) → Fit d (record { accepted = first; pending = [] }) a e → Fit d commits a e
+  fit-among d first commits more order a e (c, w, can) = (
+    c,
+    record {
+      earlier = w.earlier;
+      later = w.later ++ more;
+      order = order ∙ ap (λ (l : List Commit). l ++ more) (sym (append-nil first) ∙ w.order) ∙ append_assoc w.earlier (c ∷ w.later) more;
+      passed = w.passed;
+      decision = w.decision;
+    },
+    can,
+  )
+
+  -- what a decision that fits says of the file
+  fit-begins : (d : Disk) (commits : Commits) (front : List Event) (e : Event) (c : Commit) (n : List ℕ) (list : List (List ℕ)) (keep : Bool) → Fit d commits front e → Decides actor token d commits front e c
+      → IsOnlyOne (Rewrite n list keep) c.changes → (appended : List (List ℕ)) × (list_of_file (settled_files actor (disk d front) n) ≡ Some (c.base ++ appended))
+  fit-begins d commits front e c n list keep (x, w, can) decides one =
+      let place : x ≡ c = same-place w.earlier decides.earlier x c w.later decides.later (sym w.order ∙ decides.order) (sym w.passed ∙ decides.passed) in
+      only-begins (settled_files actor (disk d front)) n list c.base keep c.changes one
+      (subst (λ (x : Commit). first_refusal x.changes x.base (settled_files actor (disk d front)) ≡ None) place can)
+
+  begins-so : (d : Disk) (es : List Event) → MayRun actor token d es → Stands actor token d (settled_files actor d) (settled_locks actor d)
+  begins-so d es may = record { settles = λ n. refl; locked = λ n. refl; sound = may.sound; fresh = may.fresh }
+
+  module _ {X R : Type 0} (round : X → Play (Next X R)) (Keeps : X → Type 0) (each : (x : X) → Keeps x → EachCommit (IsBy actor token) (round x)) (ends : (x : X) → Keeps x → AllEnds (NextKeeps Keeps) (round x)) where
+    loop-fits : {x : X} {d : Disk} {es : List Event} {commits : Commits} {out : Result R Stop} (files : Files) (owners : Locks) → Keeps x → Stands actor token d files owners
+        → Honest d es → OthersAreLawful actor token d es → PassesAll round x d es commits out → (a b : List Event) (e : Event) → es ≡ a ++ e ∷ b → is_decision any e (disk d a) ≡ true → Fit d commits a e
+    loop-fits {x = x} {d = d} {commits = commits} files owners keeps s honest lawful (again {y = y} front rest first later is commits_is goes all) a b e at decides =
+        let honest_so = subst (Honest d) is honest in
+        let lawful_so = subst (OthersAreLawful actor token d) is lawful in
+        let here = honest-front front rest d honest_so in
+        let others = lawful_front any front rest d lawful_so in
+        let these : Commits = record { accepted = first; pending = [] } in
+        let one = play-passed actor token fits (round x) d front these (Ok (Go y)) (queue later) files owners (each x keeps) s here others goes in
+        let kept : Keeps y = passes-ends actor token fits (NextKeeps Keeps) (round x) d front these (Go y) (ends x keeps) goes in
+        let q = queue these ++ queue later in
+        let now = after-piece actor token d q (queue later) files owners front (one.leaves tt) in
+        let order : commits.accepted ++ commits.pending ≡ first ++ (later.accepted ++ later.pending) =
+        ap (λ (m : Commits). m.accepted ++ m.pending) commits_is ∙ append_assoc first later.accepted later.pending in
+        elim (stands-in front rest a e b (sym is ∙ at)) [
+          | inl k ↦ fit-among d first commits (later.accepted ++ later.pending) order a e
+              (play-fits (round x) d front these (Ok (Go y)) files owners (each x keeps) s here others goes a k.0 e k.1 decides)
+          | inr k ↦ fit-later first d front commits later order one.count a k.0 e k.1 decides
+              (loop-fits (run_files actor token d q files front) (run_locks actor token d owners front) kept now
+              (honest-back front rest d honest_so) (lawful-back actor token front rest d lawful_so) all k.0 b e k.2
+              (subst (λ (w : Disk). is_decision any e w ≡ true) (ap (disk d) k.1 ∙ disk-append d front k.0) decides))
+        ]
+    loop-fits {x = x} {d = d} {es = es} {commits = commits} files owners keeps s honest lawful (last {r = r} goes) a b e at decides =
+        play-fits (round x) d es commits (Ok (Last r)) files owners (each x keeps) s honest lawful goes a b e at decides
+    loop-fits {x = x} {d = d} {es = es} {commits = commits} files owners keeps s honest lawful (cut {cause = cause} goes) a b e at decides =
+        play-fits (round x) d es commits (Err cause) files owners (each x keeps) s honest lawful goes a b e at decides
+
+    -- rounds, with events behind them that only look
+    pub run-fits : (x : X) (d : Disk) (front rest : List Event) (commits : Commits) (out : Result R Stop) → Keeps x → MayRun actor token d (front ++ rest) → PassesAll round x d front commits out → OnlyLooks (own rest)
+        → RewritesFit actor token d (front ++ rest) commits
+    run-fits x d front rest commits out keeps may all looks a b e c n list keep at decides one =
+        let y = decides.decision in
+        let here = honest-front front rest d may.honest in
+        let others = lawful_front any front rest d may.lawful in
+        let fit : Fit d commits a e = elim (stands-in front rest a e b at) [
+          | inl k ↦ loop-fits (settled_files actor d) (settled_locks actor d) keeps (begins-so d (front ++ rest) may) here others all a k.0 e k.1 y
+          | inr k ↦ absurd (none-here rest k.0 b e (disk d front) (looks-undecided any rest (disk d front) 0 looks) k.2
+              (subst (λ (w : Disk). is_decision any e w ≡ true) (ap (disk d) k.1 ∙ disk-append d front k.0) y))
+        ] in
+        fit-begins d commits a e c n list keep fit decides one
+
 pub decided_fit : DecidedFit
 decided_fit p actor token d es commits out each may passes front rest e c n list keep at decides one =
-    let s : Stands actor token d (settled_files actor d) (settled_locks actor d) = record { settles = λ n. refl; locked = λ n. refl; sound = may.sound; fresh = may.fresh } in
-    let (x, w, can) = play-fits actor token may.fits p d es commits out (settled_files actor d) (settled_locks actor d) each s may.honest may.lawful passes front rest e at decides.decision in
-    let place : x ≡ c = same-place w.earlier decides.earlier x c w.later decides.later (sym w.order ∙ decides.order) (sym w.passed ∙ decides.passed) in
-    only-begins (settled_files actor (disk d front)) n list c.base keep c.changes one
-    (subst (λ (x : Commit). first_refusal x.changes x.base (settled_files actor (disk d front)) ≡ None) place can)
+    let fits = may.fits in
+    let s = begins-so actor token fits d es may in
+    let fit = play-fits actor token fits p d es commits out (settled_files actor d) (settled_locks actor d) each s may.honest may.lawful passes front rest e at decides.decision in
+    fit-begins actor token fits d commits front e c n list keep fit decides one
