@@ -1,6 +1,10 @@
 // The laws of the leaf crates: their conditions can be met.
 use alias_groups::{aliases_are_kept, each_name_once, no_walk_is_cut};
 use case_blocks::Answer;
+use draft_text::{
+    a_draft_can_be_put_into_a_mailbox, a_sent_draft_reads_back, a_stored_draft_reads_back,
+    an_opening_line_reads_back, each_field_is_found, plain_bodies_are_stored_as_they_are,
+};
 use mail_addresses::{
     comments_are_balanced, each_value_is_read, one_reading, pieces_are_cut_again,
     pieces_are_the_tokens, quoted_strings_end_at_a_quote, tokens_are_the_value,
@@ -27,6 +31,7 @@ pub fn put(out: &mut Answer) {
     speak_of_texts();
     speak_of_sessions();
     speak_of_moments();
+    speak_of_drafts();
     out.put(b"hold");
 }
 
@@ -64,6 +69,15 @@ fn speak_of_sessions() {
     a_quit_loses_nothing();
     what_is_unchanged_stays();
     all_fields_make_the_text();
+}
+
+fn speak_of_drafts() {
+    a_draft_can_be_put_into_a_mailbox();
+    a_stored_draft_reads_back();
+    an_opening_line_reads_back();
+    a_sent_draft_reads_back();
+    each_field_is_found();
+    plain_bodies_are_stored_as_they_are();
 }
 
 fn speak_of_moments() {

@@ -13,6 +13,7 @@ mod case;
 mod commands;
 mod conditions;
 mod dates;
+mod drafts;
 mod headers;
 mod kept;
 mod laws;
@@ -53,6 +54,7 @@ fn put_answer(kept: &mut Kept, case: &[Text], out: &mut Answer) {
         "alias" => aliases::put(case, out),
         "macro" => macros::put(case, out),
         "quit" => quits::put(&kept.vars, case, out),
+        "draft" => drafts::put(case, out),
         "laws" => laws::put(out),
         _ => out.put_bad(),
     }

@@ -11,4 +11,5 @@ pub mod Sessions
 pub mod Leaving
 pub mod Follows
 pub mod Rounds
+pub mod Startup
 pub mod Openings

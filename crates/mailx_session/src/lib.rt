@@ -16,6 +16,7 @@ mod opening;
 mod saving;
 mod session;
 mod sourcing;
+mod startup;
 mod state;
 mod status;
 mod switching;

@@ -27,8 +27,12 @@ use std::alloc::Global;
 /// The most commands that one input line gives.
 const COMMAND_LIMIT: u32 = 100_000;
 
-// Says the line that refuses a command.
-fn refuse<H: Host>(state: &SessionState, host: &mut H, line: &Text) -> Result<Flow, RunError>
+/// Says the line that refuses a command, or tells what is wrong with a start-up file.
+pub(crate) fn refuse<H: Host>(
+    state: &SessionState,
+    host: &mut H,
+    line: &Text,
+) -> Result<Flow, RunError>
     ensures ran { Ran H.world host.old host.new
         (λ es. Goes (refused state.now line.now) es (in_play (next_of state.now) result)) }
     ensures go { IfOk result (λ flow. flow ≡ Flow.Go) }
@@ -303,8 +307,8 @@ fn next_waiting(alloc: Global, state: &mut SessionState) -> Result<Option<Waitin
     }
 }
 
-// Carries out the lines that wait.
-fn waiting_lines<H: Host>(
+/// Carries out the lines that wait.
+pub(crate) fn waiting_lines<H: Host>(
     alloc: Global,
     state: &mut SessionState,
     host: &mut H,

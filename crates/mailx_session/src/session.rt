@@ -9,6 +9,7 @@ ghost use Rattle.read_commands.specs.Origins.{commanded};
 ghost use Rattle.mailx_session.specs.States.{IsState, IsSession, rested};
 ghost use Rattle.mailx_session.specs.Leaving.{leaving};
 ghost use Rattle.mailx_session.specs.Rounds.{LineGoes};
+ghost use Rattle.mailx_session.specs.Startup.{StartupGoes};
 ghost use Rattle.mailx_session.specs.Statuses.{IsEnd};
 ghost use Rattle.session_play.specs.Play.{Play, Goes};
 ghost use Rattle.mailx_session.specs.Bringing.{brings_lines};
@@ -19,6 +20,7 @@ use crate::greeting::greeting;
 use crate::leaving::leave;
 use crate::lines::input_line;
 use crate::opening::{first_state, opening_of, put_folder};
+use crate::startup::startup_file;
 use crate::state::drop_lines;
 use crate::{Flow, RunError, SessionState, Status};
 use host_port::Host;
@@ -116,6 +118,21 @@ impl Session {
         ensures valid { IsSession self.now }
     {
         &self.state
+    }
+
+    /// Reads one start-up file and carries out its lines, of which each must be one that a start-up file may hold. An
+    /// absent file is passed over; what is wrong with another is said, and the session goes on.
+    pub fn startup<H: Host>(&mut self, name: &[u8], host: &mut H) -> Result<Flow, RunError>
+        ensures ran { Ran H.world host.old host.new
+            (λ es. StartupGoes self.old name.now es (in_play (next_of self.new) result)) }
+        ensures before { IsSession self.old }
+        ensures after { IsSession self.new }
+        ensures done { IfOk result EndsByLine }
+        ensures cause { LineCaused (H.world.counts host.old) (H.world.counts host.new) result }
+    {
+        let result = startup_file(self.alloc, &mut self.state, host, name);
+        rest(self.alloc, &mut self.state);
+        result
     }
 
     /// Takes one input line, without its line feed, and carries out the lines that it brings too. Where it brings none,

@@ -27,8 +27,8 @@ use Rattle.session_play.specs.declared.stop.Stop.{Stop}
 use Rattle.session_play.specs.Input.{Input}
 use Rattle.session_play.specs.Acts.{AllEnds, is_neutral, may_load}
 use Rattle.session_play.specs.Committing.{Commit}
-use Rattle.session_play.specs.Play.{Play, Ret, Ask, Line, Next, Go, Last, bind}
-use Rattle.session_play.specs.Steps.{After, On, Over, Refused, Ended, onward, in_order, concluded}
+use Rattle.session_play.specs.Play.{Play, Ret, Ask, Line, Try, Next, Go, Last, bind}
+use Rattle.session_play.specs.Steps.{After, On, Over, Refused, Ended, onward, in_order, refused, concluded}
 use Rattle.session_play.proofs.ShapeLemmas.{bind-ends, weaker-acts, may-neutral}
 use Rattle.play_safety.specs.Safe.{IsBy, EachCommit, NextKeeps, MayRun, IsCrashSafe}
 use Rattle.play_safety.proofs.TraceLemmas.{parted}
@@ -41,7 +41,7 @@ use Rattle.command_desk.specs.declared.steps.Ask as asked_of
 use Rattle.command_desk.specs.declared.steps.Ask.TheVariants as asks
 use Rattle.command_desk.specs.declared.steps.Steps.{Steps}
 use Rattle.command_desk.specs.Answers.{OrFault}
-use Rattle.command_desk.specs.Faults.{too_large, calls_too_deep}
+use Rattle.command_desk.specs.Faults.{too_large, calls_too_deep, bad_name}
 use Rattle.read_commands.specs.declared.origin.Origin.TheVariants as origin
 use Rattle.read_commands.specs.Origins.{commanded, is_defining}
 use Rattle.mailx_session.specs.declared.frames.WaitingLine.{WaitingLine}
@@ -60,6 +60,7 @@ use Rattle.mailx_session.specs.Sourcing.{source_fault, after_load, sourced}
 use Rattle.mailx_session.specs.Switching.{open_fault, loaded_folder, switched, announced, switched_to, switches}
 use Rattle.mailx_session.proofs.SwitchingLemmas.{open-fault-none}
 use Rattle.mailx_session.specs.Sessions.{asked, carried_out}
+use Rattle.mailx_session.specs.Startup.{after_startup, startup_play}
 use Rattle.folder_commands.specs.Leaving.{quit}
 use Rattle.mailx_session.specs.Leaving.{left_by, leaving}
 use Rattle.mailx_session.specs.Rounds.{line_play, typed_play, dropped_play, counted_play, is_idle, outside_play, waiting_play}
@@ -67,7 +68,7 @@ use Rattle.mailx_top.specs.declared.environment.Environment.{Environment}
 use Rattle.mailx_top.specs.declared.words.Manner.{Manner}
 use Rattle.mailx_top.specs.declared.words.Manner.TheVariants.{Silent, Rows, Quiet, Greeting}
 use Rattle.mailx_top.specs.Words.{Start, may_say, start_of}
-use Rattle.mailx_top.specs.Meaning.{RunState, at_prompt, Recovering, recovered, Opening, Reading, Leaving, round, last_round, opening, folder_name, with_name_or_fault, loaded, unheld, is_no_mail, with_list, greeted, turn, line_round, with_input, prompted, first_of, actor_in}
+use Rattle.mailx_top.specs.Meaning.{RunState, at_prompt, Recovering, recovered, Opening, Reading, Leaving, round, last_round, opening, folder_name, with_name_or_fault, loaded, unheld, is_no_mail, with_list, greeted, turn, line_round, with_input, prompted, first_of, actor_in, Preparing, with_files, next_file, file_round}
 use Rattle.mailx_top.specs.Statuses.{line_at_end}
 use Rattle.mailx_top.specs.Runs.{Ending, IsRun}
 use Rattle.mailx_top.specs.Crash.{IsSafe}
@@ -92,7 +93,8 @@ NextOf actor token (Last e) = Unit {0}
 
 abbrev pub StateOf : List ℕ → ℕ → RunState → Type 0
 StateOf actor token (Recovering start) = Unit {0}
-StateOf actor token (Opening start) = Unit {0}
+StateOf actor token (Preparing start s names) = IsOf actor token s
+StateOf actor token (Opening start s) = IsOf actor token s
 StateOf actor token (Reading s i) = IsOf actor token s
 StateOf actor token (Leaving s i) = IsOf actor token s
 
@@ -357,40 +359,95 @@ module _ (actor : List ℕ) (token : ℕ) where
   named-of s start (Ok name) of = either-of (is_short_name name) _ _ (λ f. loaded-of s start name f of) (λ u. tt)
   named-of s start (Err line) of = λ u. tt
 
-  recovered-commits : (start : Start) (a : RecoveryAnswer) → EachCommit (IsBy actor token) (recovered start a)
-  recovered-commits start (recovery.Done found) = tt
-  recovered-commits start (recovery.Busy name) = (tt, λ u. tt)
-  recovered-commits start recovery.NotARecord = tt
-  recovered-commits start (recovery.TooLarge name length) = tt
+  recovered-commits : (env : Environment) (start : Start) (a : RecoveryAnswer) → EachCommit (IsBy actor token) (recovered env start a)
+  recovered-commits env start (recovery.Done found) = tt
+  recovered-commits env start (recovery.Busy name) = (tt, λ u. tt)
+  recovered-commits env start recovery.NotARecord = tt
+  recovered-commits env start (recovery.TooLarge name length) = tt
 
-  recovered-of : (start : Start) (a : RecoveryAnswer) → AllEnds (NextKeeps (StateOf actor token)) (recovered start a)
-  recovered-of start (recovery.Done found) = tt
-  recovered-of start (recovery.Busy name) = λ u. tt
-  recovered-of start recovery.NotARecord = tt
-  recovered-of start (recovery.TooLarge name length) = tt
+  recovered-of : (env : Environment) (start : Start) (a : RecoveryAnswer) → IsOf actor token (first_of env start.user) → AllEnds (NextKeeps (StateOf actor token)) (recovered env start a)
+  recovered-of env start (recovery.Done found) of = of
+  recovered-of env start (recovery.Busy name) of = λ u. tt
+  recovered-of env start recovery.NotARecord of = tt
+  recovered-of env start (recovery.TooLarge name length) of = tt
+
+  -- the start-up files
+  startup-commits : (s : SessionState) (name : List ℕ) (f : Option Found) → EachCommit (IsBy actor token) (after_startup s name f)
+  startup-commits s name None = (tt, λ u. tt)
+  startup-commits s name (Some (found.TooLarge n)) = (tt, λ u. tt)
+  startup-commits s name (Some (found.Bytes None held)) = tt
+  startup-commits s name (Some (found.Bytes (Some text) held)) = tt
+
+  startup-of : (s : SessionState) (name : List ℕ) (f : Option Found) → IsOf actor token s → AllEnds (NextOf actor token) (after_startup s name f)
+  startup-of s name None of = λ u. of
+  startup-of s name (Some (found.TooLarge n)) of = λ u. of
+  startup-of s name (Some (found.Bytes None held)) of = of
+  startup-of s name (Some (found.Bytes (Some text) held)) of = of
+
+  load-commits : (b : Bool) (s : SessionState) (name : List ℕ) → EachCommit (IsBy actor token) (if b then Ask (Try name) (after_startup s name) else refused s (bad_name name))
+  load-commits true s name = (tt, λ f. startup-commits s name f)
+  load-commits false s name = (tt, λ u. tt)
+
+  load-startup-of : (b : Bool) (s : SessionState) (name : List ℕ) → IsOf actor token s → AllEnds (NextOf actor token) (if b then Ask (Try name) (after_startup s name) else refused s (bad_name name))
+  load-startup-of true s name of = λ f. startup-of s name f of
+  load-startup-of false s name of = λ u. of
+
+  files-commits : (start : Start) (names : List (List ℕ)) (n : Next SessionState Status) → NextOf actor token n → EachCommit (IsBy actor token) (with_files start names n)
+  files-commits start names (Go s) of = tt
+  files-commits start names (Last e) of = tt
+
+  files-of : (start : Start) (names : List (List ℕ)) (n : Next SessionState Status) → NextOf actor token n → AllEnds (NextKeeps (StateOf actor token)) (with_files start names n)
+  files-of start names (Go s) of = of
+  files-of start names (Last e) of = tt
+
+  next-commits : (start : Start) (s : SessionState) (names : List (List ℕ)) → IsOf actor token s → EachCommit (IsBy actor token) (next_file start s names)
+  next-commits start s [] of = tt
+  next-commits start s (name ∷ names) of =
+      bind-commits (IsBy actor token) (NextOf actor token) (startup_play s name) (with_files start names) (load-commits (is_short_name name) s name) (load-startup-of (is_short_name name) s name of)
+      (files-commits start names)
+
+  next-of : (start : Start) (s : SessionState) (names : List (List ℕ)) → IsOf actor token s → AllEnds (NextKeeps (StateOf actor token)) (next_file start s names)
+  next-of start s [] of = of
+  next-of start s (name ∷ names) of =
+      bind-ends (NextOf actor token) (NextKeeps (StateOf actor token)) (startup_play s name) (with_files start names) (load-startup-of (is_short_name name) s name of) (files-of start names)
+
+  file-commits : (start : Start) (s : SessionState) (names : List (List ℕ)) (next : Option (WaitingLine × List Pending)) → IsOf actor token s → EachCommit (IsBy actor token) (file_round start s names next)
+  file-commits start s names None of = next-commits start (rested s) names of
+  file-commits start s names (Some p) of =
+      let t = resumed s p.1 in
+      let b = is_idle t p.0 in
+      bind-commits (IsBy actor token) (NextOf actor token) (waiting_play t p.0) (with_files start names) (waiting-commits b t p.0 of) (waiting-of b t p.0 of) (files-commits start names)
+
+  file-of : (start : Start) (s : SessionState) (names : List (List ℕ)) (next : Option (WaitingLine × List Pending)) → IsOf actor token s → AllEnds (NextKeeps (StateOf actor token)) (file_round start s names next)
+  file-of start s names None of = next-of start (rested s) names of
+  file-of start s names (Some p) of =
+      let t = resumed s p.1 in
+      bind-ends (NextOf actor token) (NextKeeps (StateOf actor token)) (waiting_play t p.0) (with_files start names) (waiting-of (is_idle t p.0) t p.0 of) (files-of start names)
 
 -- each commit of a round is one of the run
 pub round-commits : (env : Environment) (x : RunState) → StateOf (actor_in env) env.token x → EachCommit (IsBy (actor_in env) env.token) (round env x)
 round-commits env (Recovering None) of = tt
 round-commits env (Recovering (Some start)) of =
     let none : AreFiles (actor_in env) [] = All-nil (λ (c : Change). is_file_name (actor_in env) (name_of c) ≡ true) in
-    (record { actor_is = refl; token_is = refl; files = none }, recovered-commits (actor_in env) env.token start)
-round-commits env (Opening start) of =
-    neutral-commits (IsBy (actor_in env) env.token) (opening env start) (weaker-acts (may_load true) is_neutral may-neutral (opening env start) (loads-round env (Opening start)))
+    (record { actor_is = refl; token_is = refl; files = none }, recovered-commits (actor_in env) env.token env start)
+round-commits env (Preparing start s names) of = file-commits (actor_in env) env.token start s names (taken s.frames) of
+round-commits env (Opening start s) of =
+    neutral-commits (IsBy (actor_in env) env.token) (opening start s) (weaker-acts (may_load true) is_neutral may-neutral (opening start s) (loads-round env (Opening start s)))
 round-commits env (Reading s i) of = line-commits (actor_in env) env.token s i (taken s.frames) of
 round-commits env (Leaving s i) of = last-commits (actor_in env) env.token s of
 
 -- and each round leaves a state of its actor and token
 pub round-of : (env : Environment) (x : RunState) → StateOf (actor_in env) env.token x → AllEnds (NextKeeps (StateOf (actor_in env) env.token)) (round env x)
-round-of env (Recovering None) of = tt
-round-of env (Recovering (Some start)) of = recovered-of (actor_in env) env.token start
-round-of env (Opening None) of = λ u. tt
-round-of env (Opening (Some start)) of = named-of (actor_in env) env.token (first_of env start.user) start (folder_name (first_of env start.user) start) (actor-same env start.user, refl)
+round-of env (Recovering None) of = (refl, refl)
+round-of env (Recovering (Some start)) of = λ a. recovered-of (actor_in env) env.token env start a (actor-same env start.user, refl)
+round-of env (Preparing start s names) of = file-of (actor_in env) env.token start s names (taken s.frames) of
+round-of env (Opening None s) of = λ u. tt
+round-of env (Opening (Some start) s) of = named-of (actor_in env) env.token s start (folder_name s start) of
 round-of env (Reading s i) of = line-of (actor_in env) env.token s i (taken s.frames) of
 round-of env (Leaving s i) of = last-of (actor_in env) env.token s
 
 -- what an ending adds only looks
-ending-looks : (actor : List ℕ) (may : Bool) (s : Status) (out : Result Status Stop) (es : List Event) → Ending actor may s out es → OnlyLooks es
+pub ending-looks : (actor : List ℕ) (may : Bool) (s : Status) (out : Result Status Stop) (es : List Event) → Ending actor may s out es → OnlyLooks es
 ending-looks actor may s (Ok e) es end = end-looks may (line_at_end actor e) es end.1
 ending-looks actor may s (Err cause) es end = cut-looks may cause es end.1
 

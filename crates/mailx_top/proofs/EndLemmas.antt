@@ -299,7 +299,7 @@ load-stops stop.Output never = absurd never
 load-stops stop.TooMuch never = absurd never
 
 -- what a line leads to behind a busy right
-pub said-next : (s : SessionState) (i : Input) (start : Start) (result : Result (Option Status) Stop) → EndsOrOpens status.Refused result → next_state s i result ≡ after_recovery start result
-said-next s i start (Ok None) never = absurd never
-said-next s i start (Ok (Some e)) is = refl
-said-next s i start (Err cause) c = refl
+pub said-next : (s : SessionState) (i : Input) (env : Environment) (start : Start) (result : Result (Option Status) Stop) → EndsOrOpens status.Refused result → next_state s i result ≡ after_recovery env start result
+said-next s i env start (Ok None) never = absurd never
+said-next s i env start (Ok (Some e)) is = refl
+said-next s i env start (Err cause) c = refl

@@ -34,7 +34,7 @@ use Rattle.mailx_top.specs.declared.environment.Environment.{Environment}
 use Rattle.mailx_top.specs.declared.words.Manner.{Manner}
 use Rattle.mailx_top.specs.declared.words.Manner.TheVariants.{Silent, Rows, Quiet, Greeting}
 use Rattle.mailx_top.specs.Words.{Start}
-use Rattle.mailx_top.specs.Meaning.{RunState, at_prompt, first_of, Recovering, Opening, Reading, Leaving, round, opening, folder_name, with_name_or_fault, loaded, unheld, is_no_mail, with_list, greeted, heard, ends_with, turn, next_turn, line_round, with_input, prompted, says_and_ends, is_opening, usage}
+use Rattle.mailx_top.specs.Meaning.{RunState, at_prompt, first_of, Recovering, Opening, Reading, Leaving, round, opening, folder_name, with_name_or_fault, loaded, unheld, is_no_mail, with_list, greeted, heard, ends_with, turn, next_turn, line_round, with_input, prompted, says_and_ends, is_opening, usage, Preparing}
 use Rattle.session_play.specs.Acts.{AllActs, AllEnds, loads_nothing}
 use Rattle.session_play.specs.Causes.{some_load_saw, counted, events_at}
 use Rattle.session_play.proofs.SawLemmas.{Unseen, unseen-then, goes-unseen}
@@ -45,12 +45,14 @@ use Rattle.mailx_top.specs.Leavings.{first_answer, is_refused_at, refused_at_end
 use Rattle.mailx_top.proofs.LeavingLemmas.{any-ends, end_at, opened_end, last-ends}
 use Rattle.mailx_top.proofs.LineLemmas.{EndsByLine, typed-ends, waiting-ends}
 use Rattle.mailx_top.proofs.RoundLemmas.{loaded-acts}
-use Rattle.mailx_top.specs.Openings.{saw_held, is_no_list, is_no_folder, is_named, saw_no_mail, saw_no_folder, OpensNoMail, OpensNone, EndsOrIsCut, IsOpeningExplained}
-use Rattle.mailx_top.specs.Usage.{IsNoName, IsBadName}
+use Rattle.mailx_top.proofs.StartupLemmas.{IsBefore, LeavesBefore, file-ends}
+use Rattle.mailx_top.specs.Openings.{OpensBadly, OpenedBadly, saw_held, is_no_list, is_no_folder, is_named, saw_no_mail, saw_no_folder, OpensNoMail, OpensNone, EndsOrIsCut, IsOpeningExplained}
+use Rattle.mailx_top.specs.Usage.{IsNoName}
 
 abbrev pub IsReadingState : RunState → Type 0
 IsReadingState (Recovering start) = ⊥
-IsReadingState (Opening start) = ⊥
+IsReadingState (Preparing start s names) = ⊥
+IsReadingState (Opening start s) = ⊥
 IsReadingState (Reading s i) = Unit {0}
 IsReadingState (Leaving s i) = Unit {0}
 
@@ -124,7 +126,8 @@ only-next (Ask act go) ends = λ a. only-next (go a) (ends a)
 
 pub next-round : (env : Environment) (x : RunState) → IsReadingState x → AllEnds ReadsNext (round env x)
 next-round env (Recovering start) never = absurd never
-next-round env (Opening start) never = absurd never
+next-round env (Preparing start s names) never = absurd never
+next-round env (Opening start s) never = absurd never
 next-round env (Reading s i) reading = only-next (round env (Reading s i)) (ends-line-round s i (taken s.frames))
 next-round env (Leaving s i) reading = bind-ends (λ (e : Status). Unit {0}) ReadsNext (leaving s) (λ e. Ret (Last e)) (any-ends (leaving s)) (λ e t. tt)
 
@@ -132,13 +135,15 @@ next-round env (Leaving s i) reading = bind-ends (λ (e : Status). Unit {0}) Rea
 round-ends : (env : Environment) (x : RunState) (es : List Event) (r : Status) → IsReadingState x → (goes : Goes (round env x) es (Ok (Last r)))
     → opened_end r ≡ end_at (is_refused_at x (first_answer (round env x) es (Ok (Last r)) goes))
 round-ends env (Recovering start) es r never goes = absurd never
-round-ends env (Opening start) es r never goes = absurd never
+round-ends env (Preparing start s names) es r never goes = absurd never
+round-ends env (Opening start s) es r never goes = absurd never
 round-ends env (Reading s i) es r reading goes = goes-ends ReadsOn (round env (Reading s i)) es (Last r) (ends-line-round s i (taken s.frames)) goes
 round-ends env (Leaving s i) es r reading goes = last-ends s es r goes
 
 reads-nothing : (x : RunState) → IsReadingState x → is_opening x ≡ false
 reads-nothing (Recovering start) never = absurd never
-reads-nothing (Opening start) never = absurd never
+reads-nothing (Preparing start s names) never = absurd never
+reads-nothing (Opening start s) never = absurd never
 reads-nothing (Reading s i) reading = refl
 reads-nothing (Leaving s i) reading = refl
 
@@ -214,11 +219,11 @@ loaded-ends s start name (found.Bytes bytes false) = unheld-ends s start name by
 loaded-ends s start name (found.TooLarge n) = λ u. refl
 
 -- how an end and what was seen belong together
-record Matches (env : Environment) (start : Option Start) (es : List Event) (e : Status) : Type 0 where
+record Matches (Bad : Type 0) (start : Option Start) (es : List Event) (e : Status) : Type 0 where
   refused : e ≡ status.Refused → some_load_saw saw_held es ≡ true
   held : some_load_saw saw_held es ≡ true → e ≡ status.Refused
-  none : e ≡ status.NoFolder → OpensNone env start es
-  opens_none : OpensNone env start es → e ≡ status.NoFolder
+  none : e ≡ status.NoFolder → OpensNone Bad start es
+  opens_none : OpensNone Bad start es → e ≡ status.NoFolder
   no_mail : e ≡ status.NoMail → OpensNoMail start es
   opens_no_mail : OpensNoMail start es → e ≡ status.NoMail
 
@@ -230,8 +235,8 @@ or-false : (a : Bool) → (a || false) ≡ a
 or-false true = refl
 or-false false = refl
 
-explained-cut : (env : Environment) (start : Option Start) (es : List Event) (b : Bool) (out : Result Status Stop) (cause : Stop) → out ≡ Err cause → IsOpeningExplained env start out es b
-explained-cut env start es b out cause is = subst (λ o. IsOpeningExplained env start o es b) (sym is) (record {
+explained-cut : (Bad : Type 0) (start : Option Start) (es : List Event) (b : Bool) (out : Result Status Stop) (cause : Stop) → out ≡ Err cause → IsOpeningExplained Bad start out es b
+explained-cut Bad start es b out cause is = subst (λ o. IsOpeningExplained Bad start o es b) (sym is) (record {
   refused_only = λ e. absurd (cc e);
   refused_always = λ h. tt;
   no_folder_only = λ e. absurd (cc e);
@@ -241,8 +246,8 @@ explained-cut env start es b out cause is = subst (λ o. IsOpeningExplained env 
 })
 
 -- a run that ended with its first round
-explained-shut : (env : Environment) (start : Option Start) (es : List Event) (out : Result Status Stop) (e : Status) → Matches env start es e → EndsLike e out → IsOpeningExplained env start out es false
-explained-shut env start es (Ok r) e m same = record {
+explained-shut : (Bad : Type 0) (start : Option Start) (es : List Event) (out : Result Status Stop) (e : Status) → Matches Bad start es e → EndsLike e out → IsOpeningExplained Bad start out es false
+explained-shut Bad start es (Ok r) e m same = record {
   refused_only = λ is. or-false (some_load_saw saw_held es) ∙ m.refused (sym same ∙ ap opened_end (came-same r status.Refused is));
   refused_always = λ h. other-end r status.Refused (same ∙ m.held (sym (or-false (some_load_saw saw_held es)) ∙ h)) (λ e. absurd (cc e));
   no_folder_only = λ is. m.none (sym same ∙ ap opened_end (came-same r status.NoFolder is));
@@ -250,11 +255,11 @@ explained-shut env start es (Ok r) e m same = record {
   no_mail_only = λ is. m.no_mail (sym same ∙ ap opened_end (came-same r status.NoMail is));
   no_mail_always = λ h. other-end r status.NoMail (same ∙ m.opens_no_mail h) (λ e. absurd (cc e));
 }
-explained-shut env start es (Err cause) e m same = explained-cut env start es false (Err cause) cause refl
+explained-shut Bad start es (Err cause) e m same = explained-cut Bad start es false (Err cause) cause refl
 
 -- a run that opened its folder and ended by its last quit
-explained-open : (b : Bool) (env : Environment) (start : Option Start) (es : List Event) (out : Result Status Stop) → Matches env start es status.Done → EndsLike (end_at b) out → IsOpeningExplained env start out es b
-explained-open true env start es (Ok r) m same = record {
+explained-open : (b : Bool) (Bad : Type 0) (start : Option Start) (es : List Event) (out : Result Status Stop) → Matches Bad start es status.Done → EndsLike (end_at b) out → IsOpeningExplained Bad start out es b
+explained-open true Bad start es (Ok r) m same = record {
   refused_only = λ is. or-true (some_load_saw saw_held es);
   refused_always = λ h. other-end r status.Refused same (λ e. absurd (cc e));
   no_folder_only = λ is. let e : status.Refused ≡ status.NoFolder = sym same ∙ ap opened_end (came-same r status.NoFolder is) in absurd (cc e);
@@ -262,7 +267,7 @@ explained-open true env start es (Ok r) m same = record {
   no_mail_only = λ is. let e : status.Refused ≡ status.NoMail = sym same ∙ ap opened_end (came-same r status.NoMail is) in absurd (cc e);
   no_mail_always = λ h. absurd (cc (m.opens_no_mail h));
 }
-explained-open false env start es (Ok r) m same = record {
+explained-open false Bad start es (Ok r) m same = record {
   refused_only = λ is. let e : status.Done ≡ status.Refused = sym same ∙ ap opened_end (came-same r status.Refused is) in absurd (cc e);
   refused_always = λ h. absurd (cc (m.held (sym (or-false (some_load_saw saw_held es)) ∙ h)));
   no_folder_only = λ is. let e : status.Done ≡ status.NoFolder = sym same ∙ ap opened_end (came-same r status.NoFolder is) in absurd (cc e);
@@ -270,11 +275,11 @@ explained-open false env start es (Ok r) m same = record {
   no_mail_only = λ is. let e : status.Done ≡ status.NoMail = sym same ∙ ap opened_end (came-same r status.NoMail is) in absurd (cc e);
   no_mail_always = λ h. absurd (cc (m.opens_no_mail h));
 }
-explained-open b env start es (Err cause) m same = explained-cut env start es b (Err cause) cause refl
+explained-open b Bad start es (Err cause) m same = explained-cut Bad start es b (Err cause) cause refl
 
-explained-as : (env : Environment) (start : Option Start) (es : List Event) (b : Bool) (out : Result Status Stop) (e : Status) → Matches env start es e → EndsAfter b e out → IsOpeningExplained env start out es b
-explained-as env start es b out e m (inl (done, same)) = explained-open b env start es out (subst (Matches env start es) done m) same
-explained-as env start es b out e m (inr (none, same)) = subst (IsOpeningExplained env start out es) (sym none) (explained-shut env start es out e m same)
+explained-as : (Bad : Type 0) (start : Option Start) (es : List Event) (b : Bool) (out : Result Status Stop) (e : Status) → Matches Bad start es e → EndsAfter b e out → IsOpeningExplained Bad start out es b
+explained-as Bad start es b out e m (inl (done, same)) = explained-open b Bad start es out (subst (Matches Bad start es) done m) same
+explained-as Bad start es b out e m (inr (none, same)) = subst (IsOpeningExplained Bad start out es) (sym none) (explained-shut Bad start es out e m same)
 
 no-end : {A : Type 0} (q : Bool) → q ≡ false → q ≡ true → A
 no-end q f t = absurd (cc (f, t))
@@ -285,8 +290,8 @@ record LoadsNone (named : Bool) (es : List Event) : Type 0 where
   folder : Unseen (saw_no_folder named) es
   mail : Unseen (saw_no_mail named) es
 
-matches-none : (env : Environment) (es : List Event) → LoadsNone true es → Matches env None es status.Usage
-matches-none env es u = record {
+matches-none : (es : List Event) → LoadsNone true es → Matches ⊥ None es status.Usage
+matches-none es u = record {
   refused = λ is. absurd (cc is);
   held = λ h. no-end _ u.held h;
   none = λ is. absurd (cc is);
@@ -295,12 +300,12 @@ matches-none env es u = record {
   opens_no_mail = λ h. no-end _ u.mail h;
 }
   where
-    none-opens : OpensNone env None es → status.Usage ≡ status.NoFolder
+    none-opens : OpensNone ⊥ None es → status.Usage ≡ status.NoFolder
     none-opens (inl never) = absurd never
     none-opens (inr h) = no-end _ u.folder h
 
-matches-bad : (env : Environment) (start : Start) (es : List Event) → IsBadName env (Some start) → LoadsNone start.named es → Matches env (Some start) es status.NoFolder
-matches-bad env start es bad u = record {
+matches-bad : (Bad : Type 0) (start : Start) (es : List Event) → Bad → LoadsNone start.named es → Matches Bad (Some start) es status.NoFolder
+matches-bad Bad start es bad u = record {
   refused = λ is. absurd (cc is);
   held = λ h. no-end _ u.held h;
   none = λ is. inl bad;
@@ -309,9 +314,9 @@ matches-bad env start es bad u = record {
   opens_no_mail = λ h. no-end _ u.mail h;
 }
 
-matches-found : (env : Environment) (start : Start) (name : List ℕ) (rest : List Event) (f : Found) → (IsBadName env (Some start) → ⊥) → LoadsNone start.named rest
-    → Matches env (Some start) (event.Load name (seen_of f) ∷ rest) (end_of start.named f)
-matches-found env start name rest (found.Bytes bytes true) good u = record {
+matches-found : (Bad : Type 0) (start : Start) (name : List ℕ) (rest : List Event) (f : Found) → (Bad → ⊥) → LoadsNone start.named rest
+    → Matches Bad (Some start) (event.Load name (seen_of f) ∷ rest) (end_of start.named f)
+matches-found Bad start name rest (found.Bytes bytes true) good u = record {
   refused = λ is. refl;
   held = λ h. refl;
   none = λ is. absurd (cc is);
@@ -320,10 +325,10 @@ matches-found env start name rest (found.Bytes bytes true) good u = record {
   opens_no_mail = λ h. no-end _ u.mail h;
 }
   where
-    opens : OpensNone env (Some start) (event.Load name (seen.Bytes bytes true) ∷ rest) → status.Refused ≡ status.NoFolder
+    opens : OpensNone Bad (Some start) (event.Load name (seen.Bytes bytes true) ∷ rest) → status.Refused ≡ status.NoFolder
     opens (inl bad) = absurd (good bad)
     opens (inr h) = no-end _ u.folder h
-matches-found env start name rest (found.TooLarge n) good u = record {
+matches-found Bad start name rest (found.TooLarge n) good u = record {
   refused = λ is. absurd (cc is);
   held = λ h. no-end _ u.held h;
   none = λ is. inr refl;
@@ -331,7 +336,7 @@ matches-found env start name rest (found.TooLarge n) good u = record {
   no_mail = λ is. absurd (cc is);
   opens_no_mail = λ h. no-end _ u.mail h;
 }
-matches-found env start name rest (found.Bytes bytes false) good u =
+matches-found Bad start name rest (found.Bytes bytes false) good u =
     let m = is_no_mail start.named bytes in
     let n = is_no_folder bytes in
     record {
@@ -348,12 +353,12 @@ matches-found env start name rest (found.Bytes bytes false) good u =
     refuses false true is = absurd (cc is)
     refuses false false is = absurd (cc is)
 
-    nones : (m n : Bool) → end_by m n ≡ status.NoFolder → IsBadName env (Some start) ⊎ (((not m && n) || some_load_saw (saw_no_folder start.named) rest) ≡ true)
+    nones : (m n : Bool) → end_by m n ≡ status.NoFolder → Bad ⊎ (((not m && n) || some_load_saw (saw_no_folder start.named) rest) ≡ true)
     nones true n is = absurd (cc is)
     nones false true is = inr refl
     nones false false is = absurd (cc is)
 
-    opens : (m n : Bool) → IsBadName env (Some start) ⊎ (((not m && n) || some_load_saw (saw_no_folder start.named) rest) ≡ true) → end_by m n ≡ status.NoFolder
+    opens : (m n : Bool) → Bad ⊎ (((not m && n) || some_load_saw (saw_no_folder start.named) rest) ≡ true) → end_by m n ≡ status.NoFolder
     opens true n (inl bad) = absurd (good bad)
     opens true n (inr h) = no-end _ u.folder h
     opens false true h = refl
@@ -398,37 +403,40 @@ continues-blind named b p es out all goes = record {
   mail = continues-unseen (saw_no_mail named) b p es out all goes;
 }
 
-explained-found : (env : Environment) (s : SessionState) (start : Start) (name : List ℕ) (es : List Event) (b : Bool) (out : Result Status Stop) → (IsBadName env (Some start) → ⊥) → AfterLoad b name (loaded s start name) es out
-    → IsOpeningExplained env (Some start) out es b
-explained-found env s start name es b out good (inr (cause, is)) = explained-cut env (Some start) es b out cause is
-explained-found env s start name es b out good (inl (f, rest, is, goes)) =
+explained-found : (Bad : Type 0) (s : SessionState) (start : Start) (name : List ℕ) (es : List Event) (b : Bool) (out : Result Status Stop) → (Bad → ⊥) → AfterLoad b name (loaded s start name) es out
+    → IsOpeningExplained Bad (Some start) out es b
+explained-found Bad s start name es b out good (inr (cause, is)) = explained-cut Bad (Some start) es b out cause is
+explained-found Bad s start name es b out good (inl (f, rest, is, goes)) =
     let p = loaded s start name f in
     let u = continues-blind start.named b p rest out (loaded-acts s start name f) goes in
-    let E : List Event → Type 0 = λ es. IsOpeningExplained env (Some start) out es b in
+    let E : List Event → Type 0 = λ es. IsOpeningExplained Bad (Some start) out es b in
     let e = end_of start.named f in
-    subst E (sym is) (explained-as env (Some start) _ b out e (matches-found env start name rest f good u) (continues-with b e p rest out (loaded-ends s start name f) goes))
+    subst E (sym is) (explained-as Bad (Some start) _ b out e (matches-found Bad start name rest f good u) (continues-with b e p rest out (loaded-ends s start name f) goes))
 
-explained-said : (env : Environment) (start : Option Start) (text : List ℕ) (e : Status) (es : List Event) (b : Bool) (out : Result Status Stop) → opened_end e ≡ e → Continues b (says_and_ends text e) es out
-    → (LoadsNone (is_named start) es → Matches env start es e) → IsOpeningExplained env start out es b
-explained-said env start text e es b out plain goes to =
+explained-said : (Bad : Type 0) (start : Option Start) (text : List ℕ) (e : Status) (es : List Event) (b : Bool) (out : Result Status Stop) → opened_end e ≡ e → Continues b (says_and_ends text e) es out
+    → (LoadsNone (is_named start) es → Matches Bad start es e) → IsOpeningExplained Bad start out es b
+explained-said Bad start text e es b out plain goes to =
     let u = continues-blind (is_named start) b (says_and_ends text e) es out (refl, λ u. tt) goes in
-    explained-as env start es b out e (to u) (continues-with b e (says_and_ends text e) es out (λ u. plain) goes)
+    explained-as Bad start es b out e (to u) (continues-with b e (says_and_ends text e) es out (λ u. plain) goes)
 
-explained-opening : (env : Environment) (start : Option Start) (es : List Event) (at_end : Bool) (out : Result Status Stop) → Continues at_end (opening env start) es out → IsOpeningExplained env start out es at_end
-explained-opening env None es at_end out goes = explained-said env None usage status.Usage es at_end out refl goes (matches-none env es)
-explained-opening env (Some start) es at_end out goes = word (folder_name (first_of env start.user) start) refl goes
+explained-opening : (start : Option Start) (s : SessionState) (es : List Event) (at_end : Bool) (out : Result Status Stop) → Continues at_end (opening start s) es out
+    → IsOpeningExplained (OpensBadly (Opening start s)) start out es at_end
+explained-opening None s es at_end out goes = explained-said ⊥ None usage status.Usage es at_end out refl goes (matches-none es)
+explained-opening (Some start) s es at_end out goes = word (folder_name s start) refl goes
   where
-    said : (line : List ℕ) → IsBadName env (Some start) → Continues at_end (ends_with start line status.NoFolder) es out → IsOpeningExplained env (Some start) out es at_end
-    said line bad goes = explained-said env (Some start) (heard start line) status.NoFolder es at_end out refl goes (λ u. matches-bad env start es bad u)
+    Bad : Type 0
+    Bad = IsNoName (folder_name s start)
 
-    named : (name : List ℕ) → folder_name (first_of env start.user) start ≡ Ok name → (b : Bool) → is_short_name name ≡ b
-        → Continues at_end (if b then Ask (Read name) (loaded (first_of env start.user) start name) else ends_with start (with_feed (name ++ codes ": bad name")) status.NoFolder) es out → IsOpeningExplained env (Some start) out es at_end
+    said : (line : List ℕ) → Bad → Continues at_end (ends_with start line status.NoFolder) es out → IsOpeningExplained Bad (Some start) out es at_end
+    said line bad goes = explained-said Bad (Some start) (heard start line) status.NoFolder es at_end out refl goes (λ u. matches-bad Bad start es bad u)
+
+    named : (name : List ℕ) → folder_name s start ≡ Ok name → (b : Bool) → is_short_name name ≡ b
+        → Continues at_end (if b then Ask (Read name) (loaded s start name) else ends_with start (with_feed (name ++ codes ": bad name")) status.NoFolder) es out → IsOpeningExplained Bad (Some start) out es at_end
     named name word true short goes =
-        let s = first_of env start.user in
-        explained-found env s start name es at_end out (λ bad. no-end _ (subst IsNoName word bad) short) (after-load at_end name (loaded s start name) es out goes)
+        explained-found Bad s start name es at_end out (λ bad. no-end _ (subst IsNoName word bad) short) (after-load at_end name (loaded s start name) es out goes)
     named name word false bad goes = said (with_feed (name ++ codes ": bad name")) (subst IsNoName (sym word) bad) goes
 
-    word : (name : OrFault (List ℕ)) → folder_name (first_of env start.user) start ≡ name → Continues at_end (with_name_or_fault (first_of env start.user) start name) es out → IsOpeningExplained env (Some start) out es at_end
+    word : (name : OrFault (List ℕ)) → folder_name s start ≡ name → Continues at_end (with_name_or_fault s start name) es out → IsOpeningExplained Bad (Some start) out es at_end
     word (Ok name) is goes = named name is (is_short_name name) refl goes
     word (Err line) is goes = said line (subst IsNoName (sym is) tt) goes
 
@@ -445,21 +453,114 @@ named-next s start (Ok name) = go (is_short_name name)
     go false = λ u. tt
 named-next s start (Err line) = λ u. tt
 
-opening-next : (env : Environment) (start : Option Start) → AllEnds ReadsNext (opening env start)
-opening-next env None = λ u. tt
-opening-next env (Some start) = named-next (first_of env start.user) start (folder_name (first_of env start.user) start)
+opening-next : (start : Option Start) (s : SessionState) → AllEnds ReadsNext (opening start s)
+opening-next None s = λ u. tt
+opening-next (Some start) s = named-next s start (folder_name s start)
 
-pub opening-reads : (env : Environment) (start : Option Start) (y : RunState) (es : List Event) → Goes (opening env start) es (Ok (Go y)) → IsReadingState y
-opening-reads env start y es goes = goes-ends ReadsNext (opening env start) es (Go y) (opening-next env start) goes
+pub opening-reads : (start : Option Start) (s : SessionState) (y : RunState) (es : List Event) → Goes (opening start s) es (Ok (Go y)) → IsReadingState y
+opening-reads start s y es goes = goes-ends ReadsNext (opening start s) es (Go y) (opening-next start s) goes
+
+-- what is said of a bad word may be said in other words
+pub explained-by : (A B : Type 0) → (A → B) → (B → A) → (start : Option Start) (out : Result Status Stop) (es : List Event) (b : Bool) → IsOpeningExplained A start out es b → IsOpeningExplained B start out es b
+explained-by A B to back start out es b x = record {
+  refused_only = x.refused_only;
+  refused_always = x.refused_always;
+  no_folder_only = λ is. there (x.no_folder_only is);
+  no_folder_always = λ h. x.no_folder_always (home h);
+  no_mail_only = x.no_mail_only;
+  no_mail_always = x.no_mail_always;
+}
+  where
+    there : OpensNone A start es → OpensNone B start es
+    there (inl a) = inl (to a)
+    there (inr h) = inr h
+
+    home : OpensNone B start es → OpensNone A start es
+    home (inl b) = inl (back b)
+    home (inr h) = inr h
+
+not-opening : (x : RunState) → IsReadingState x → OpensBadly x → ⊥
+not-opening (Recovering start) never bad = absurd never
+not-opening (Preparing start s names) never bad = absurd never
+not-opening (Opening start s) never bad = absurd never
+not-opening (Reading s i) reading never = never
+not-opening (Leaving s i) reading never = never
+
+-- a loop of lines opens no folder badly
+none-badly : (env : Environment) {x : RunState} {es : List Event} {out : Result Status Stop} → IsReadingState x → (loop : Loop (round env) x es out) → OpenedBadly loop → ⊥
+none-badly env {x = x} reading (again front rest is goes more) (inl bad) = not-opening x reading bad
+none-badly env {x = x} reading (again {y = y} front rest is goes more) (inr bad) = none-badly env (goes-ends ReadsNext (round env x) front (Go y) (next-round env x reading) goes) more bad
+none-badly env {x = x} reading (last goes) bad = not-opening x reading bad
+none-badly env {x = x} reading (cut goes) bad = not-opening x reading bad
+
+either-left : {A B : Type 0} → (B → ⊥) → A ⊎ B → A
+either-left never (inl a) = a
+either-left never (inr b) = absurd (never b)
 
 -- a run from its opening tells why it opened no folder, and why it was refused
-pub opening-explained : (env : Environment) (start : Option Start) (es : List Event) (out : Result Status Stop) (loop : Loop (round env) (Opening start) es out)
-    → IsOpeningExplained env start out (events_at is_opening loop) (refused_at_end loop)
-opening-explained env start es out (again {y = y} front rest is goes more) =
-    let on = opening-reads env start y front goes in
+pub opening-explained : (env : Environment) (start : Option Start) (s : SessionState) (es : List Event) (out : Result Status Stop) (loop : Loop (round env) (Opening start s) es out)
+    → IsOpeningExplained (OpenedBadly loop) start out (events_at is_opening loop) (refused_at_end loop)
+opening-explained env start s es out (again {y = y} front rest is goes more) =
+    let on = opening-reads start s y front goes in
     let later = loop-reads env on more in
     let b = refused_at_end more in
-    let E : List Event → Type 0 = λ es. IsOpeningExplained env start out es b in
-    subst E (sym (ap (λ (l : List Event). front ++ l) later.0 ∙ append-nil front)) (explained-opening env start front b out (inl (y, goes, λ reading. later.1)))
-opening-explained env start es out (last {r = r} goes) = explained-opening env start es false out (inr (refl, inl (r, refl, goes)))
-opening-explained env start es out (cut {cause = cause} goes) = explained-opening env start es false out (inr (refl, inr (cause, refl, goes)))
+    let Bad : Type 0 = OpensBadly (Opening start s) in
+    let E : List Event → Type 0 = λ es. IsOpeningExplained (Bad ⊎ OpenedBadly more) start out es b in
+    subst E (sym (ap (λ (l : List Event). front ++ l) later.0 ∙ append-nil front))
+    (explained-by Bad (Bad ⊎ OpenedBadly more) inl (either-left (none-badly env on more)) start out front b (explained-opening start s front b out (inl (y, goes, λ reading. later.1))))
+opening-explained env start s es out (last {r = r} goes) = explained-opening start s es false out (inr (refl, inl (r, refl, goes)))
+opening-explained env start s es out (cut {cause = cause} goes) = explained-opening start s es false out (inr (refl, inr (cause, refl, goes)))
+
+pub or-later : {A B : Type 0} → (A → ⊥) → A ⊎ B → B
+or-later never (inl a) = absurd (never a)
+or-later never (inr b) = b
+
+-- where a start-up file's round ends the run it is done, or for a record that can't be read
+files-last : (start : Start) (r : Status) → IsLineEnd r → IsOpeningExplained ⊥ (Some start) (Ok r) [] false
+files-last start r by_line = record {
+  refused_only = λ is. absurd (subst IsLineEnd (came-same r status.Refused is) by_line);
+  refused_always = λ h. absurd (cc h);
+  no_folder_only = λ is. absurd (subst IsLineEnd (came-same r status.NoFolder is) by_line);
+  no_folder_always = λ h. absurd (none h);
+  no_mail_only = λ is. absurd (subst IsLineEnd (came-same r status.NoMail is) by_line);
+  no_mail_always = λ h. absurd (cc h);
+}
+  where
+    none : OpensNone ⊥ (Some start) [] → ⊥
+    none (inl never) = never
+    none (inr h) = cc h
+
+-- a round before the opening, and what follows it
+files-then : (env : Environment) (start : Start) (x y : RunState) (es front rest : List Event) (out : Result Status Stop) → IsBefore start x → (is : es ≡ front ++ rest) → (goes : Goes (round env x) front (Ok (Go y)))
+    → (more : Loop (round env) y rest out) → (IsBefore start y → IsOpeningExplained (OpenedBadly more) (Some start) out (events_at is_opening more) (refused_at_end more))
+    → IsOpeningExplained (OpensBadly x ⊎ OpenedBadly more) (Some start) out (counted (is_opening x) front ++ events_at is_opening more) (refused_at_end more)
+files-then env start (Recovering o) y es front rest out never is goes more later = absurd never
+files-then env start (Preparing b s names) y es front rest out before is goes more later =
+    let on : IsBefore b y = goes-ends (LeavesBefore b) (round env (Preparing b s names)) front (Go y) (file-ends b s names (taken s.frames)) goes in
+    let at : IsBefore start y = subst (λ (b : Start). IsBefore b y) before on in
+    explained-by (OpenedBadly more) (⊥ ⊎ OpenedBadly more) inr (or-later (λ never. never)) (Some start) out (events_at is_opening more) (refused_at_end more) (later at)
+files-then env start (Opening o s) y es front rest out before is goes more later =
+    let whole = opening-explained env o s es out (again front rest is goes more) in
+    let Bad : Type 0 = OpensBadly (Opening o s) ⊎ OpenedBadly more in
+    subst (λ (p : Option Start). IsOpeningExplained Bad p out (front ++ events_at is_opening more) (refused_at_end more)) before whole
+files-then env start (Reading s i) y es front rest out never is goes more later = absurd never
+files-then env start (Leaving s i) y es front rest out never is goes more later = absurd never
+
+-- a round before the opening that ends the run
+files-over : (env : Environment) (start : Start) (x : RunState) (es : List Event) (r : Status) → IsBefore start x → (goes : Goes (round env x) es (Ok (Last r)))
+    → IsOpeningExplained (OpensBadly x) (Some start) (Ok r) (counted (is_opening x) es) (is_refused_at x (first_answer (round env x) es (Ok (Last r)) goes))
+files-over env start (Recovering o) es r never goes = absurd never
+files-over env start (Preparing b s names) es r before goes =
+    files-last start r (goes-ends (LeavesBefore b) (round env (Preparing b s names)) es (Last r) (file-ends b s names (taken s.frames)) goes)
+files-over env start (Opening o s) es r before goes =
+    subst (λ (p : Option Start). IsOpeningExplained (OpensBadly (Opening o s)) p (Ok r) es false) before (explained-opening o s es false (Ok r) (inr (refl, inl (r, refl, goes))))
+files-over env start (Reading s i) es r never goes = absurd never
+files-over env start (Leaving s i) es r never goes = absurd never
+
+-- a run tells so from its start-up files on too
+pub files-explained : (env : Environment) (start : Start) {x : RunState} {es : List Event} {out : Result Status Stop} → IsBefore start x → (loop : Loop (round env) x es out)
+    → IsOpeningExplained (OpenedBadly loop) (Some start) out (events_at is_opening loop) (refused_at_end loop)
+files-explained env start {x = x} {es = es} {out = out} before (again {y = y} front rest is goes more) =
+    files-then env start x y es front rest out before is goes more (λ on. files-explained env start on more)
+files-explained env start {x = x} {es = es} before (last {r = r} goes) = files-over env start x es r before goes
+files-explained env start {x = x} {es = es} before (cut {cause = cause} goes) = explained-cut _ (Some start) _ false (Err cause) cause refl

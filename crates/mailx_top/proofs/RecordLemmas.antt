@@ -28,7 +28,7 @@ use Rattle.session_play.specs.declared.stop.Stop.{Stop}
 use Rattle.session_play.specs.Input.{Input}
 use Rattle.session_play.specs.Committing.{answer_as}
 use Rattle.session_play.specs.Play.{Act, Answer, Line, Say, Read, Try, Changes, Recover, Know, Play, Ret, Ask, Did, Goes, Next, Go, Last, Loop, again, last, cut, bind}
-use Rattle.session_play.specs.Steps.{After, On, Over, Refused, Ended, onward, in_order, concluded}
+use Rattle.session_play.specs.Steps.{After, On, Over, Refused, Ended, onward, in_order, refused, concluded}
 use Rattle.session_play.proofs.ShapeLemmas.{came-same, goes-ends}
 use Rattle.play_safety.specs.Safe.{IsBy, OfCommit, EachCommit, NextKeeps}
 use Rattle.mailx_vars.specs.Names.{is_short_name}
@@ -38,7 +38,7 @@ use Rattle.command_desk.specs.declared.steps.Ask as asked_of
 use Rattle.command_desk.specs.declared.steps.Ask.TheVariants as asks
 use Rattle.command_desk.specs.declared.steps.Steps.{Steps}
 use Rattle.command_desk.specs.Answers.{OrFault}
-use Rattle.command_desk.specs.Faults.{too_large, calls_too_deep}
+use Rattle.command_desk.specs.Faults.{too_large, calls_too_deep, bad_name}
 use Rattle.read_commands.specs.declared.origin.Origin.TheVariants as origin
 use Rattle.read_commands.specs.Origins.{commanded, is_defining}
 use Rattle.mailx_session.specs.declared.frames.WaitingLine.{WaitingLine}
@@ -55,6 +55,7 @@ use Rattle.mailx_session.specs.declared.kinds.FrameKind.TheVariants as kinds
 use Rattle.mailx_session.specs.Bringing.{call_limit, calls, with_lines}
 use Rattle.mailx_session.specs.Sourcing.{source_fault, after_load, sourced}
 use Rattle.mailx_session.specs.Sessions.{asked, carried_out}
+use Rattle.mailx_session.specs.Startup.{after_startup, startup_play}
 use Rattle.folder_commands.specs.Leaving.{quit}
 use Rattle.mailx_session.specs.Leaving.{left_by, leaving}
 use Rattle.mailx_session.specs.Rounds.{line_play, typed_play, dropped_play, counted_play, is_idle, outside_play, waiting_play}
@@ -62,7 +63,7 @@ use Rattle.mailx_top.specs.declared.environment.Environment.{Environment}
 use Rattle.mailx_top.specs.declared.words.Manner.{Manner}
 use Rattle.mailx_top.specs.declared.words.Manner.TheVariants.{Silent, Rows, Quiet, Greeting}
 use Rattle.mailx_top.specs.Words.{Start}
-use Rattle.mailx_top.specs.Meaning.{RunState, at_prompt, Recovering, recovered, Opening, Reading, Leaving, round, last_round, opening, folder_name, with_name_or_fault, loaded, unheld, is_no_mail, with_list, greeted, turn, line_round, with_input, prompted, first_of, actor_in}
+use Rattle.mailx_top.specs.Meaning.{RunState, at_prompt, Recovering, recovered, Opening, Reading, Leaving, round, last_round, opening, folder_name, with_name_or_fault, loaded, unheld, is_no_mail, with_list, greeted, turn, line_round, with_input, prompted, first_of, actor_in, Preparing, with_files, next_file, file_round}
 use Rattle.mailx_top.specs.Starts.{is_bad_record}
 use Rattle.mailx_top.specs.Unreadable.{is_unreadable, met_unreadable, some_unreadable, some_unreadable_in, IsRecordExplained}
 use Rattle.mailx_top.proofs.CrashLemmas.{StateOf, round-commits, round-of}
@@ -340,17 +341,43 @@ named-tells : (s : SessionState) (start : Start) (name : OrFault (List ℕ)) →
 named-tells s start (Ok name) = either-tells (is_short_name name) _ _ (λ f. loaded-tells s start name f) (λ u. refl)
 named-tells s start (Err line) = λ u. refl
 
-recovered-tells : (start : Start) (a : RecoveryAnswer) → Tells next_ends (found_unreadable a || false) (recovered start a)
-recovered-tells start (recovery.Done f) = refl
-recovered-tells start (recovery.Busy name) = λ u. refl
-recovered-tells start recovery.NotARecord = refl
-recovered-tells start (recovery.TooLarge name n) = refl
+recovered-tells : (env : Environment) (start : Start) (a : RecoveryAnswer) → Tells next_ends (found_unreadable a || false) (recovered env start a)
+recovered-tells env start (recovery.Done f) = refl
+recovered-tells env start (recovery.Busy name) = λ u. refl
+recovered-tells env start recovery.NotARecord = refl
+recovered-tells env start (recovery.TooLarge name n) = refl
+
+-- the start-up files
+startup-tells : (s : SessionState) (name : List ℕ) (f : Option Found) → Tells next_ends false (after_startup s name f)
+startup-tells s name None = λ u. refl
+startup-tells s name (Some (found.TooLarge n)) = λ u. refl
+startup-tells s name (Some (found.Bytes None held)) = refl
+startup-tells s name (Some (found.Bytes (Some text) held)) = refl
+
+load-startup-tells : (b : Bool) (s : SessionState) (name : List ℕ) → Tells next_ends false (if b then Ask (Try name) (after_startup s name) else refused s (bad_name name))
+load-startup-tells true s name = λ f. startup-tells s name f
+load-startup-tells false s name = λ u. refl
+
+with-files-tells : (start : Start) (names : List (List ℕ)) (n : Next SessionState Status) → Tells next_ends (next_ends n) (with_files start names n)
+with-files-tells start names (Go s) = refl
+with-files-tells start names (Last e) = refl
+
+next-file-tells : (start : Start) (s : SessionState) (names : List (List ℕ)) → Tells next_ends false (next_file start s names)
+next-file-tells start s [] = refl
+next-file-tells start s (name ∷ names) = bind-tells next_ends next_ends false (startup_play s name) (with_files start names) (load-startup-tells (is_short_name name) s name) (with-files-tells start names)
+
+file-tells : (start : Start) (s : SessionState) (names : List (List ℕ)) (next : Option (WaitingLine × List Pending)) → Tells next_ends false (file_round start s names next)
+file-tells start s names None = next-file-tells start (rested s) names
+file-tells start s names (Some p) =
+    let t = resumed s p.1 in
+    bind-tells next_ends next_ends false (waiting_play t p.0) (with_files start names) (waiting-tells (is_idle t p.0) t p.0) (with-files-tells start names)
 
 round-tells : (env : Environment) (x : RunState) → Tells next_ends false (round env x)
 round-tells env (Recovering None) = refl
-round-tells env (Recovering (Some start)) = λ a. recovered-tells start a
-round-tells env (Opening None) = λ u. refl
-round-tells env (Opening (Some start)) = named-tells (first_of env start.user) start (folder_name (first_of env start.user) start)
+round-tells env (Recovering (Some start)) = λ a. recovered-tells env start a
+round-tells env (Preparing start s names) = file-tells start s names (taken s.frames)
+round-tells env (Opening None s) = λ u. refl
+round-tells env (Opening (Some start) s) = named-tells s start (folder_name s start)
 round-tells env (Reading s i) = line-tells s i (taken s.frames)
 round-tells env (Leaving s i) = last-tells s
 

@@ -27,15 +27,18 @@ use Rattle.session_play.specs.Recovering.{recovery_as, IsRecoveryOf}
 use Rattle.session_play.specs.Causes.{counted, events_at}
 use Rattle.session_play.specs.Play.{Play, Ret, Ask, Recover, Says, Goes, Next, Go, Last, Loop, again, last, cut}
 use Rattle.session_play.proofs.ShapeLemmas.{came-same, goes-ends}
+use Rattle.mailx_session.specs.declared.state.SessionState.{SessionState}
+use Rattle.mailx_session.specs.Pending.{taken}
 use Rattle.mailx_session.specs.declared.status.Status.{Status}
 use Rattle.mailx_session.specs.declared.status.Status.TheVariants as status
 use Rattle.mailx_top.specs.declared.environment.Environment.{Environment}
 use Rattle.mailx_top.specs.Words.{Start}
-use Rattle.mailx_top.specs.Meaning.{RunState, Recovering, Opening, Reading, Leaving, round, recovered, actor_in, heard, ends_with, says_and_ends, usage, is_recovering, is_opening}
-use Rattle.mailx_top.specs.Openings.{IsOpeningExplained}
+use Rattle.mailx_top.specs.Meaning.{RunState, Recovering, Preparing, Opening, Reading, Leaving, round, file_round, prepared, recovered, first_of, actor_in, heard, ends_with, says_and_ends, usage, is_recovering, is_opening}
+use Rattle.mailx_top.specs.Openings.{OpenedBadly, IsOpeningExplained}
 use Rattle.mailx_top.specs.Leavings.{refused_at_end}
 use Rattle.mailx_top.specs.Starts.{is_recovered, is_right_busy, is_bad_record, IsStartExplained}
-use Rattle.mailx_top.proofs.OpeningLemmas.{IsReadingState, ReadsNext, next-round, opening-reads, opening-explained}
+use Rattle.mailx_top.proofs.OpeningLemmas.{IsReadingState, ReadsNext, next-round, opening-reads, explained-by, or-later, files-explained}
+use Rattle.mailx_top.proofs.StartupLemmas.{IsBefore, LeavesBefore, file-ends}
 
 abbrev ends : RunState → Next RunState Status
 ends y = Go y
@@ -52,7 +55,8 @@ reading-next env x y es reading goes = goes-ends ReadsNext (round env x) es (Go 
 -- a run from its opening or from a line recovers nothing
 plain-state : (x : RunState) → IsReadingState x → is_recovering x ≡ false
 plain-state (Recovering start) never = absurd never
-plain-state (Opening start) never = absurd never
+plain-state (Preparing start s names) never = absurd never
+plain-state (Opening start s) never = absurd never
 plain-state (Reading s i) reading = refl
 plain-state (Leaving s i) reading = refl
 
@@ -66,14 +70,37 @@ lines-plain env {x = x} reading (again {y = y} front rest is goes more) =
 lines-plain env {x = x} {es = es} reading (last goes) = plain-counted x es reading
 lines-plain env {x = x} {es = es} reading (cut goes) = plain-counted x es reading
 
-opening-plain : (env : Environment) (start : Option Start) {es : List Event} {out : Result Status Stop} (loop : Loop (round env) (Opening start) es out) → events_at is_recovering loop ≡ []
-opening-plain env start (again {y = y} front rest is goes more) = lines-plain env (opening-reads env start y front goes) more
-opening-plain env start (last goes) = refl
-opening-plain env start (cut goes) = refl
+opening-plain : (env : Environment) (start : Option Start) (s : SessionState) {es : List Event} {out : Result Status Stop} (loop : Loop (round env) (Opening start s) es out) → events_at is_recovering loop ≡ []
+opening-plain env start s (again {y = y} front rest is goes more) = lines-plain env (opening-reads start s y front goes) more
+opening-plain env start s (last goes) = refl
+opening-plain env start s (cut goes) = refl
+
+-- the start-up files and what follows them
+before-then : (env : Environment) (start : Start) (x y : RunState) (es front rest : List Event) (out : Result Status Stop) → IsBefore start x → es ≡ front ++ rest → Goes (round env x) front (Ok (Go y))
+    → (more : Loop (round env) y rest out) → (IsBefore start y → events_at is_recovering more ≡ []) → counted (is_recovering x) front ++ events_at is_recovering more ≡ []
+before-then env start (Recovering o) y es front rest out never is goes more later = absurd never
+before-then env start (Preparing b s names) y es front rest out before is goes more later =
+    let on : IsBefore b y = goes-ends (LeavesBefore b) (round env (Preparing b s names)) front (Go y) (file-ends b s names (taken s.frames)) goes in
+    later (subst (λ (b : Start). IsBefore b y) before on)
+before-then env start (Opening o s) y es front rest out before is goes more later = opening-plain env o s (again front rest is goes more)
+before-then env start (Reading s i) y es front rest out never is goes more later = absurd never
+before-then env start (Leaving s i) y es front rest out never is goes more later = absurd never
+
+before-plain-state : (start : Start) (x : RunState) → IsBefore start x → is_recovering x ≡ false
+before-plain-state start (Recovering o) never = absurd never
+before-plain-state start (Preparing b s names) before = refl
+before-plain-state start (Opening o s) before = refl
+before-plain-state start (Reading s i) never = absurd never
+before-plain-state start (Leaving s i) never = absurd never
+
+before-plain : (env : Environment) (start : Start) {x : RunState} {es : List Event} {out : Result Status Stop} → IsBefore start x → (loop : Loop (round env) x es out) → events_at is_recovering loop ≡ []
+before-plain env start {x = x} {es = es} {out = out} before (again {y = y} front rest is goes more) = before-then env start x y es front rest out before is goes more (λ on. before-plain env start on more)
+before-plain env start {x = x} {es = es} before (last goes) = ap (λ (b : Bool). counted b es) (before-plain-state start x before)
+before-plain env start {x = x} {es = es} before (cut goes) = ap (λ (b : Bool). counted b es) (before-plain-state start x before)
 
 -- what is explained behind the recovery
-abbrev Explained : Environment → Option Start → Result Status Stop → Ending → List Event → Bool → Type 0
-Explained env start out recovery es at_end = IsStartExplained out recovery (IsOpeningExplained env start out es at_end)
+abbrev Explained : Type 0 → Option Start → Result Status Stop → Ending → List Event → Bool → Type 0
+Explained Bad start out recovery es at_end = IsStartExplained out recovery (IsOpeningExplained Bad start out es at_end)
 
 recovered-free : (e : Ending) → is_recovered e ≡ true → (is_right_busy e ≡ false) × (is_bad_record e ≡ false)
 recovered-free (Recovered f) h = (refl, refl)
@@ -84,8 +111,8 @@ or-right : (b c : Bool) → c ≡ true → (b || c) ≡ true
 or-right true c h = refl
 or-right false c h = h
 
-with-recovery : (env : Environment) (start : Option Start) (out : Result Status Stop) (recovery : Ending) (es : List Event) (b : Bool) → is_recovered recovery ≡ true → IsOpeningExplained env start out es b → Explained env start out recovery es b
-with-recovery env start out recovery es b done opening =
+with-recovery : (Bad : Type 0) (start : Option Start) (out : Result Status Stop) (recovery : Ending) (es : List Event) (b : Bool) → is_recovered recovery ≡ true → IsOpeningExplained Bad start out es b → Explained Bad start out recovery es b
+with-recovery Bad start out recovery es b done opening =
     let free = recovered-free recovery done in
     record {
       opens = λ h. opening;
@@ -99,22 +126,18 @@ with-recovery env start out recovery es b done opening =
     }
 
 -- after a recovery that is done
-opened-after : (env : Environment) (start : Option Start) (front : List Event) {rest : List Event} {out : Result Status Stop} (more : Loop (round env) (Opening start) rest out) → is_recovered (told_end (actor_in env) front) ≡ true
-    → Explained env start out (told_end (actor_in env) (front ++ events_at is_recovering more)) (events_at is_opening more) (refused_at_end more)
-opened-after env start front {rest = rest} {out = out} more done =
-    let E : List Event → Type 0 = λ l. Explained env start out (told_end (actor_in env) l) (events_at is_opening more) (refused_at_end more) in
-    subst E (sym (ap (λ (l : List Event). front ++ l) (opening-plain env start more) ∙ append-nil front))
-    (with-recovery env start out (told_end (actor_in env) front) (events_at is_opening more) (refused_at_end more) done (opening-explained env start rest out more))
+opened-after : (env : Environment) (start : Start) (x : RunState) (front : List Event) {rest : List Event} {out : Result Status Stop} → IsBefore start x → (more : Loop (round env) x rest out)
+    → is_recovered (told_end (actor_in env) front) ≡ true
+    → Explained (⊥ ⊎ OpenedBadly more) (Some start) out (told_end (actor_in env) (front ++ events_at is_recovering more)) (events_at is_opening more) (refused_at_end more)
+opened-after env start x front {rest = rest} {out = out} before more done =
+    let Bad : Type 0 = ⊥ ⊎ OpenedBadly more in
+    let E : List Event → Type 0 = λ l. Explained Bad (Some start) out (told_end (actor_in env) l) (events_at is_opening more) (refused_at_end more) in
+    subst E (sym (ap (λ (l : List Event). front ++ l) (before-plain env start before more) ∙ append-nil front))
+    (with-recovery Bad (Some start) out (told_end (actor_in env) front) (events_at is_opening more) (refused_at_end more) done
+    (explained-by (OpenedBadly more) Bad inr (or-later (λ never. never)) (Some start) out (events_at is_opening more) (refused_at_end more) (files-explained env start before more)))
 
--- the same where the next state is known to be that
-opened-at : (env : Environment) (start : Option Start) (y : RunState) (front rest : List Event) (out : Result Status Stop) → y ≡ Opening start → is_recovered (told_end (actor_in env) front) ≡ true
-    → (more : Loop (round env) y rest out) → Explained env start out (told_end (actor_in env) (front ++ events_at is_recovering more)) (events_at is_opening more) (refused_at_end more)
-opened-at env start y front rest out is done =
-    let E : RunState → Type 0 = λ y. (more : Loop (round env) y rest out) → Explained env start out (told_end (actor_in env) (front ++ events_at is_recovering more)) (events_at is_opening more) (refused_at_end more) in
-    subst E (sym is) (λ more. opened-after env start front more done)
-
-explained-cut : (env : Environment) (start : Option Start) (cause : Stop) (recovery : Ending) (es : List Event) (b : Bool) → IsOpeningExplained env start (Err cause) es b → Explained env start (Err cause) recovery es b
-explained-cut env start cause recovery es b opening = record {
+explained-cut : (Bad : Type 0) (start : Option Start) (cause : Stop) (recovery : Ending) (es : List Event) (b : Bool) → IsOpeningExplained Bad start (Err cause) es b → Explained Bad start (Err cause) recovery es b
+explained-cut Bad start cause recovery es b opening = record {
   opens = λ h. opening;
   busy = λ h. tt;
   bad = λ h. tt;
@@ -125,8 +148,8 @@ explained-cut env start cause recovery es b opening = record {
   done_only = λ e. absurd (cc e);
 }
 
-ended-busy : (env : Environment) (start : Option Start) (recovery : Ending) (name : List ℕ) → recovery ≡ Refused (Busy name) → Explained env start (Ok status.Refused) recovery [] false
-ended-busy env start recovery name is = record {
+ended-busy : (start : Option Start) (recovery : Ending) (name : List ℕ) → recovery ≡ Refused (Busy name) → Explained ⊥ start (Ok status.Refused) recovery [] false
+ended-busy start recovery name is = record {
   opens = λ h. absurd (let not = ap is_recovered is in cc (h, not));
   busy = λ h. refl;
   bad = λ h. absurd (let good = ap is_bad_record is in cc (h, good));
@@ -137,8 +160,8 @@ ended-busy env start recovery name is = record {
   done_only = λ e. absurd (cc e);
 }
 
-ended-bad : (env : Environment) (start : Option Start) (recovery : Ending) → is_right_busy recovery ≡ false → is_recovered recovery ≡ false → is_bad_record recovery ≡ true → Explained env start (Ok status.BadRecord) recovery [] false
-ended-bad env start recovery free not bad = record {
+ended-bad : (start : Option Start) (recovery : Ending) → is_right_busy recovery ≡ false → is_recovered recovery ≡ false → is_bad_record recovery ≡ true → Explained ⊥ start (Ok status.BadRecord) recovery [] false
+ended-bad start recovery free not bad = record {
   opens = λ h. absurd (cc (h, not));
   busy = λ h. absurd (cc (h, free));
   bad = λ h. refl;
@@ -150,8 +173,8 @@ ended-bad env start recovery free not bad = record {
 }
 
 -- refused words: nothing is recovered, and the run ends with the usage
-ended-usage : (env : Environment) (recovery : Ending) (es : List Event) → recovery ≡ NoMemory → Explained env None (Ok status.Usage) recovery es false
-ended-usage env recovery es is = record {
+ended-usage : {Bad : Type 0} (recovery : Ending) (es : List Event) → recovery ≡ NoMemory → Explained Bad None (Ok status.Usage) recovery es false
+ended-usage recovery es is = record {
   opens = λ h. absurd (let not = ap is_recovered is in cc (h, not));
   busy = λ h. absurd (let not = ap is_right_busy is in cc (h, not));
   bad = λ h. absurd (let not = ap is_bad_record is in cc (h, not));
@@ -226,12 +249,12 @@ last-same r e (inl same) = cc same
 last-same r e (inr other) = absurd (cc other)
 
 -- without a line
-ended-plainly : (env : Environment) (actor : List ℕ) (start : Option Start) (e : Ending) (r : Status) (front rest : List Event) → is_right_busy e ≡ false → is_recovered e ≡ false → is_bad_record e ≡ true → told_end actor front ≡ e → rest ≡ [] → r ≡ status.BadRecord
-    → Explained env start (Ok r) (told_end actor (front ++ rest)) [] false
-ended-plainly env actor start e r front rest free not bad told none is =
+ended-plainly : (actor : List ℕ) (start : Option Start) (e : Ending) (r : Status) (front rest : List Event) → is_right_busy e ≡ false → is_recovered e ≡ false → is_bad_record e ≡ true → told_end actor front ≡ e → rest ≡ [] → r ≡ status.BadRecord
+    → Explained ⊥ start (Ok r) (told_end actor (front ++ rest)) [] false
+ended-plainly actor start e r front rest free not bad told none is =
     let whole : told_end actor (front ++ rest) ≡ e = ap (λ (l : List Event). told_end actor (front ++ l)) none ∙ (ap (told_end actor) (append-nil front) ∙ told) in
-    subst (λ (r : Status). Explained env start (Ok r) (told_end actor (front ++ rest)) [] false) (sym is)
-    (ended-bad env start (told_end actor (front ++ rest)) (ap is_right_busy whole ∙ free) (ap is_recovered whole ∙ not) (ap is_bad_record whole ∙ bad))
+    subst (λ (r : Status). Explained ⊥ start (Ok r) (told_end actor (front ++ rest)) [] false) (sym is)
+    (ended-bad start (told_end actor (front ++ rest)) (ap is_right_busy whole ∙ free) (ap is_recovered whole ∙ not) (ap is_bad_record whole ∙ bad))
 
 -- the states that a round leads to
 abbrev Ends : Next RunState Status → Type 0
@@ -240,30 +263,30 @@ Ends (Last r) = Unit {0}
 
 module _ (env : Environment) (actor : List ℕ) (token : ℕ) (start : Start) where
   -- a recovery whose answer ends the run
-  ended-by : (a : RecoveryAnswer) (r : Status) (front rest : List Event) → IsRecoveryOf actor token front (recovery_as a) → Goes (recovered start a) rest (Ok (Last r))
-      → Explained env (Some start) (Ok r) (told_end actor (front ++ rest)) [] false
+  ended-by : (a : RecoveryAnswer) (r : Status) (front rest : List Event) → IsRecoveryOf actor token front (recovery_as a) → Goes (recovered env start a) rest (Ok (Last r))
+      → Explained ⊥ (Some start) (Ok r) (told_end actor (front ++ rest)) [] false
   ended-by (recovery.Done f) r front rest did (none, inl other) = absurd (cc other)
   ended-by (recovery.Done f) r front rest did (none, inr other) = absurd (cc other)
   ended-by (recovery.Busy name) r front rest did goes =
       let said = said-so (heard start (with_feed (name ++ codes ": busy"))) status.Refused r rest goes in
       let told = told-behind actor front rest name (is-told actor token front (recovery_as (recovery.Busy name)) did) said.1 in
-      subst (λ (r : Status). Explained env (Some start) (Ok r) (told_end actor (front ++ rest)) [] false) (sym said.0) (ended-busy env (Some start) (told_end actor (front ++ rest)) name told)
+      subst (λ (r : Status). Explained ⊥ (Some start) (Ok r) (told_end actor (front ++ rest)) [] false) (sym said.0) (ended-busy (Some start) (told_end actor (front ++ rest)) name told)
   ended-by recovery.NotARecord r front rest did (none, end) =
-      ended-plainly env actor (Some start) (Refused NotARecord) r front rest refl refl refl (is-told actor token front (recovery_as recovery.NotARecord) did) none (last-same r status.BadRecord end)
+      ended-plainly actor (Some start) (Refused NotARecord) r front rest refl refl refl (is-told actor token front (recovery_as recovery.NotARecord) did) none (last-same r status.BadRecord end)
   ended-by (recovery.TooLarge name n) r front rest did (none, end) =
-      ended-plainly env actor (Some start) (Refused (TooLarge name n)) r front rest refl refl refl (is-told actor token front (recovery_as (recovery.TooLarge name n)) did) none (last-same r status.BadRecord end)
+      ended-plainly actor (Some start) (Refused (TooLarge name n)) r front rest refl refl refl (is-told actor token front (recovery_as (recovery.TooLarge name n)) did) none (last-same r status.BadRecord end)
 
   -- one that leaves the folder to be opened
   abbrev Reaches : RunState → List Event → List Event → Type 0
-  Reaches y front rest = (y ≡ Opening (Some start)) × (is_recovered (told_end actor (front ++ rest)) ≡ true)
+  Reaches y front rest = (y ≡ prepared env start) × (is_recovered (told_end actor (front ++ rest)) ≡ true)
 
-  reaches-with : (y : RunState) (f : Found) (front rest : List Event) → y ≡ Opening (Some start) → told_end actor front ≡ Recovered f → rest ≡ [] → Reaches y front rest
+  reaches-with : (y : RunState) (f : Found) (front rest : List Event) → y ≡ prepared env start → told_end actor front ≡ Recovered f → rest ≡ [] → Reaches y front rest
   reaches-with y f front rest is told none =
       (is, ap is_recovered (ap (λ (l : List Event). told_end actor (front ++ l)) none ∙ (ap (told_end actor) (append-nil front) ∙ told)))
 
-  reaches : (a : RecoveryAnswer) (y : RunState) (front rest : List Event) → IsRecoveryOf actor token front (recovery_as a) → Goes (recovered start a) rest (Ok (Go y)) → Reaches y front rest
+  reaches : (a : RecoveryAnswer) (y : RunState) (front rest : List Event) → IsRecoveryOf actor token front (recovery_as a) → Goes (recovered env start a) rest (Ok (Go y)) → Reaches y front rest
   reaches (recovery.Done f) y front rest did (none, inl same) =
-      reaches-with y (found f) front rest (go-same y (Opening (Some start)) (came-same (Go y) (Go (Opening (Some start))) same)) (is-told actor token front (recovery_as (recovery.Done f)) did) none
+      reaches-with y (found f) front rest (go-same y (prepared env start) (came-same (Go y) (Go (prepared env start)) same)) (is-told actor token front (recovery_as (recovery.Done f)) did) none
   reaches (recovery.Done f) y front rest did (none, inr other) = absurd (cc other)
   reaches (recovery.Busy name) y front rest did goes = absurd (goes-ends Ends (ends_with start (with_feed (name ++ codes ": busy")) status.Refused) rest (Go y) (λ u. tt) goes)
   reaches recovery.NotARecord y front rest did (none, inl other) = absurd (cc other)
@@ -271,27 +294,9 @@ module _ (env : Environment) (actor : List ℕ) (token : ℕ) (start : Start) wh
   reaches (recovery.TooLarge name n) y front rest did (none, inl other) = absurd (cc other)
   reaches (recovery.TooLarge name n) y front rest did (none, inr other) = absurd (cc other)
 
--- the usage is said, or that is cut off
-usage-told : (env : Environment) (front : List Event) {rest : List Event} {out : Result Status Stop} (more : Loop (round env) (Opening None) rest out) → front ≡ []
-    → Explained env None out (told_end (actor_in env) (front ++ events_at is_recovering more)) (events_at is_opening more) (refused_at_end more)
-usage-told env front more none = usage-by more (ap (λ (l : List Event). told_end (actor_in env) (l ++ events_at is_recovering more)) none ∙ ap (told_end (actor_in env)) (opening-plain env None more))
-  where
-    usage-by : {rest : List Event} {out : Result Status Stop} (more : Loop (round env) (Opening None) rest out) {recovery : Ending} → recovery ≡ NoMemory → Explained env None out recovery (events_at is_opening more) (refused_at_end more)
-    usage-by (again {y = y} xs ys is goes later) told = absurd (goes-ends Ends (says_and_ends usage status.Usage) xs (Go y) (λ u. tt) goes)
-    usage-by {rest = rest} (last {r = r} goes) {recovery = recovery} told =
-        let said = said-so usage status.Usage r rest goes in
-        subst (λ (r : Status). Explained env None (Ok r) recovery rest false) (sym said.0) (ended-usage env recovery rest told)
-    usage-by {rest = rest} (cut {cause = cause} goes) {recovery = recovery} told = explained-cut env None cause recovery rest false (opening-explained env None rest (Err cause) (cut goes))
-
-usage-at : (env : Environment) (y : RunState) (front rest : List Event) (out : Result Status Stop) → y ≡ Opening None → front ≡ [] → (more : Loop (round env) y rest out)
-    → Explained env None out (told_end (actor_in env) (front ++ events_at is_recovering more)) (events_at is_opening more) (refused_at_end more)
-usage-at env y front rest out is none =
-    let E : RunState → Type 0 = λ y. (more : Loop (round env) y rest out) → Explained env None out (told_end (actor_in env) (front ++ events_at is_recovering more)) (events_at is_opening more) (refused_at_end more) in
-    subst E (sym is) (λ more. usage-told env front more none)
-
--- a run that is cut off in its recovery
-cut-plain : (env : Environment) (start : Option Start) (cause : Stop) → IsOpeningExplained env start (Err cause) [] false
-cut-plain env start cause = record {
+-- a run that is cut off
+plainly-cut : (Bad : Type 0) (start : Option Start) (cause : Stop) (es : List Event) (b : Bool) → IsOpeningExplained Bad start (Err cause) es b
+plainly-cut Bad start cause es b = record {
   refused_only = λ e. absurd (cc e);
   refused_always = λ h. tt;
   no_folder_only = λ e. absurd (cc e);
@@ -300,19 +305,39 @@ cut-plain env start cause = record {
   no_mail_always = λ h. tt;
 }
 
+-- the usage is said, or that is cut off
+usage-told : (env : Environment) (s : SessionState) (front : List Event) {rest : List Event} {out : Result Status Stop} (more : Loop (round env) (Opening None s) rest out) → front ≡ []
+    → Explained (⊥ ⊎ OpenedBadly more) None out (told_end (actor_in env) (front ++ events_at is_recovering more)) (events_at is_opening more) (refused_at_end more)
+usage-told env s front more none = usage-by more (ap (λ (l : List Event). told_end (actor_in env) (l ++ events_at is_recovering more)) none ∙ ap (told_end (actor_in env)) (opening-plain env None s more))
+  where
+    usage-by : {rest : List Event} {out : Result Status Stop} (more : Loop (round env) (Opening None s) rest out) {recovery : Ending} → recovery ≡ NoMemory
+        → Explained (⊥ ⊎ OpenedBadly more) None out recovery (events_at is_opening more) (refused_at_end more)
+    usage-by (again {y = y} xs ys is goes later) told = absurd (goes-ends Ends (says_and_ends usage status.Usage) xs (Go y) (λ u. tt) goes)
+    usage-by {rest = rest} (last {r = r} goes) {recovery = recovery} told =
+        let said = said-so usage status.Usage r rest goes in
+        subst (λ (r : Status). Explained (⊥ ⊎ ⊥) None (Ok r) recovery rest false) (sym said.0) (ended-usage recovery rest told)
+    usage-by {rest = rest} (cut {cause = cause} goes) {recovery = recovery} told = explained-cut (⊥ ⊎ ⊥) None cause recovery rest false (plainly-cut (⊥ ⊎ ⊥) None cause rest false)
+
+usage-at : (env : Environment) (y : RunState) (s : SessionState) (front rest : List Event) (out : Result Status Stop) → y ≡ Opening None s → front ≡ [] → (more : Loop (round env) y rest out)
+    → Explained (⊥ ⊎ OpenedBadly more) None out (told_end (actor_in env) (front ++ events_at is_recovering more)) (events_at is_opening more) (refused_at_end more)
+usage-at env y s front rest out is none =
+    let E : RunState → Type 0 = λ y. (more : Loop (round env) y rest out) → Explained (⊥ ⊎ OpenedBadly more) None out (told_end (actor_in env) (front ++ events_at is_recovering more)) (events_at is_opening more) (refused_at_end more) in
+    subst E (sym is) (λ more. usage-told env s front more none)
+
 -- a run from its start tells how its recovery ended, and why it opened no folder
 pub recovering-explained : (env : Environment) (start : Option Start) (es : List Event) (out : Result Status Stop) (loop : Loop (round env) (Recovering start) es out)
-    → Explained env start out (told_end (actor_in env) (events_at is_recovering loop)) (events_at is_opening loop) (refused_at_end loop)
+    → Explained (OpenedBadly loop) start out (told_end (actor_in env) (events_at is_recovering loop)) (events_at is_opening loop) (refused_at_end loop)
 recovering-explained env None es out (again {y = y} front rest is (none, inl same) more) =
-    usage-at env y front rest out (go-same y (Opening None) (came-same (Go y) (Go (Opening None)) same)) none more
+    usage-at env y (first_of env None) front rest out (go-same y (Opening None (first_of env None)) (came-same (Go y) (Go (Opening None (first_of env None))) same)) none more
 recovering-explained env None es out (again front rest is (none, inr other) more) = absurd (cc other)
 recovering-explained env None es out (last (none, inl other)) = absurd (cc other)
 recovering-explained env None es out (last (none, inr other)) = absurd (cc other)
 recovering-explained env (Some start) es out (again {y = y} front rest is (inl (a, xs, ys, parts, did, goes)) more) =
     let r = reaches env (actor_in env) env.token start a y xs ys did goes in
-    opened-at env (Some start) y front rest out r.0 (subst (λ (l : List Event). is_recovered (told_end (actor_in env) l) ≡ true) (sym parts) r.1) more
+    let before : IsBefore start y = subst (IsBefore start) (sym r.0) refl in
+    opened-after env start y front before more (subst (λ (l : List Event). is_recovered (told_end (actor_in env) l) ≡ true) (sym parts) r.1)
 recovering-explained env (Some start) es out (again front rest is (inr (cause, other, part)) more) = absurd (cc other)
 recovering-explained env (Some start) es out (last {r = r} (inl (a, xs, ys, parts, did, goes))) =
-    subst (λ (l : List Event). Explained env (Some start) (Ok r) (told_end (actor_in env) l) [] false) (sym parts) (ended-by env (actor_in env) env.token start a r xs ys did goes)
+    subst (λ (l : List Event). Explained ⊥ (Some start) (Ok r) (told_end (actor_in env) l) [] false) (sym parts) (ended-by env (actor_in env) env.token start a r xs ys did goes)
 recovering-explained env (Some start) es out (last (inr (cause, other, part))) = absurd (cc other)
-recovering-explained env start es out (cut {cause = cause} goes) = explained-cut env start cause (told_end (actor_in env) es) [] false (cut-plain env start cause)
+recovering-explained env start es out (cut {cause = cause} goes) = explained-cut ⊥ start cause (told_end (actor_in env) es) [] false (plainly-cut ⊥ start cause [] false)

@@ -28,12 +28,13 @@ use Rattle.mailx_top.specs.declared.environment.Environment.{Environment}
 use Rattle.mailx_top.specs.declared.words.Manner.{Manner}
 use Rattle.mailx_top.specs.declared.words.Manner.TheVariants.{Silent, Rows, Quiet, Greeting}
 use Rattle.mailx_top.specs.Words.{Start}
-use Rattle.mailx_top.specs.Meaning.{RunState, at_prompt, first_of, Recovering, recovering, recovered, Opening, Reading, Leaving, round, opening, folder_name, with_name_or_fault, loaded, unheld, is_no_mail, with_list, greeted, turn, next_turn, line_round, with_input, prompted, input_of, is_opening}
+use Rattle.mailx_top.specs.Meaning.{RunState, at_prompt, first_of, Recovering, recovering, recovered, Opening, Reading, Leaving, round, opening, folder_name, with_name_or_fault, loaded, unheld, is_no_mail, with_list, greeted, turn, next_turn, line_round, with_input, prompted, input_of, is_opening, Preparing}
 use Rattle.session_play.proofs.ShapeLemmas.{bind-acts, bind-threads, weaker-acts, may-all}
 use Rattle.mailx_session.specs.Leaving.{leaving}
 use Rattle.mailx_top.proofs.OrderLemmas.{Keeps}
 use Rattle.mailx_top.proofs.LeavingLemmas.{last-acts, leaving-threads}
 use Rattle.mailx_top.proofs.LineLemmas.{typed-acts, typed-threads, waiting-acts, waiting-threads}
+use Rattle.mailx_top.proofs.StartupLemmas.{file-acts, file-threads}
 
 abbrev On : Input → Play (Next RunState Status) → Type 0
 On i p = Threads (NextFrom input_of) i p
@@ -67,19 +68,19 @@ threads-named : (s : SessionState) (start : Start) (name : OrFault (List ℕ)) �
 threads-named s start (Ok name) = both (is_short_name name) _ _ no_input (tt, threads-loaded s start name) (tt, λ u. tt)
 threads-named s start (Err line) = (tt, λ u. tt)
 
-threads-opening : (env : Environment) (start : Option Start) → On no_input (opening env start)
-threads-opening env None = (tt, λ u. tt)
-threads-opening env (Some start) = threads-named (first_of env start.user) start (folder_name (first_of env start.user) start)
+threads-opening : (start : Option Start) (s : SessionState) → On no_input (opening start s)
+threads-opening None s = (tt, λ u. tt)
+threads-opening (Some start) s = threads-named s start (folder_name s start)
 
-threads-recovered : (start : Start) (a : RecoveryAnswer) → On no_input (recovered start a)
-threads-recovered start (recovery.Done found) = refl
-threads-recovered start (recovery.Busy name) = (tt, λ u. tt)
-threads-recovered start recovery.NotARecord = tt
-threads-recovered start (recovery.TooLarge name length) = tt
+threads-recovered : (env : Environment) (start : Start) (a : RecoveryAnswer) → On no_input (recovered env start a)
+threads-recovered env start (recovery.Done found) = refl
+threads-recovered env start (recovery.Busy name) = (tt, λ u. tt)
+threads-recovered env start recovery.NotARecord = tt
+threads-recovered env start (recovery.TooLarge name length) = tt
 
 threads-recovering : (env : Environment) (start : Option Start) → On no_input (recovering env start)
 threads-recovering env None = refl
-threads-recovering env (Some start) = (tt, threads-recovered start)
+threads-recovering env (Some start) = (tt, threads-recovered env start)
 
 threads-with : (i : Input) (n : Next SessionState Status) (j : Input) → j ≡ i → On j (with_input i n)
 threads-with i (Go s) j same = same
@@ -107,7 +108,8 @@ threads-line-round s i (Some p) =
 
 pub threads-round : (env : Environment) (x : RunState) → On (input_of x) (round env x)
 threads-round env (Recovering start) = threads-recovering env start
-threads-round env (Opening start) = threads-opening env start
+threads-round env (Preparing start s names) = file-threads start s names (taken s.frames)
+threads-round env (Opening start s) = threads-opening start s
 threads-round env (Reading s i) = threads-line-round s i (taken s.frames)
 threads-round env (Leaving s i) = bind-threads (Keeps i) (NextFrom input_of) (leaving s) (λ e. Ret (Last e)) i (leaving-threads s i) (λ e j same. tt)
 
@@ -145,19 +147,19 @@ named-acts s start (Ok name) =
     either (may_load true) (is_short_name name) _ _ (refl, λ f. loads-less true (loaded s start name f) (loaded-acts s start name f)) (refl, λ u. tt)
 named-acts s start (Err line) = (refl, λ u. tt)
 
-opening-acts : (env : Environment) (start : Option Start) → AllActs (may_load true) (opening env start)
-opening-acts env None = (refl, λ u. tt)
-opening-acts env (Some start) = named-acts (first_of env start.user) start (folder_name (first_of env start.user) start)
+opening-acts : (start : Option Start) (s : SessionState) → AllActs (may_load true) (opening start s)
+opening-acts None s = (refl, λ u. tt)
+opening-acts (Some start) s = named-acts s start (folder_name s start)
 
-recovered-acts : (start : Start) (a : RecoveryAnswer) → AllActs (may_load false) (recovered start a)
-recovered-acts start (recovery.Done found) = tt
-recovered-acts start (recovery.Busy name) = (refl, λ u. tt)
-recovered-acts start recovery.NotARecord = tt
-recovered-acts start (recovery.TooLarge name length) = tt
+recovered-acts : (env : Environment) (start : Start) (a : RecoveryAnswer) → AllActs (may_load false) (recovered env start a)
+recovered-acts env start (recovery.Done found) = tt
+recovered-acts env start (recovery.Busy name) = (refl, λ u. tt)
+recovered-acts env start recovery.NotARecord = tt
+recovered-acts env start (recovery.TooLarge name length) = tt
 
 recovering-acts : (env : Environment) (start : Option Start) → AllActs (may_load false) (recovering env start)
 recovering-acts env None = tt
-recovering-acts env (Some start) = (refl, recovered-acts start)
+recovering-acts env (Some start) = (refl, recovered-acts env start)
 
 with-acts : (i : Input) (n : Next SessionState Status) → AllActs (may_load false) (with_input i n)
 with-acts i (Go s) = tt
@@ -186,6 +188,7 @@ reading-acts env s i = line-round-acts s i (taken s.frames)
 -- where a folder is opened each load that fails cuts the run off, and elsewhere none does
 pub loads-round : (env : Environment) (x : RunState) → AllActs (may_load (is_opening x)) (round env x)
 loads-round env (Recovering start) = recovering-acts env start
-loads-round env (Opening start) = opening-acts env start
+loads-round env (Preparing start s names) = file-acts start s names (taken s.frames)
+loads-round env (Opening start s) = opening-acts start s
 loads-round env (Reading s i) = reading-acts env s i
 loads-round env (Leaving s i) = last-acts s

@@ -1,5 +1,6 @@
--- A line of the input, and the lines that it brings, are rounds of a run.
+-- A line of the input, a start-up file, and the lines that they bring, are rounds of a run.
 use Rattle.std.proofs.Common.{◌≡◌, ◌&&◌, ℕ, Bool, true, false, List, [], ◌∷◌, ◌++◌, refl, sym, ◌∙◌, ap, subst, inl, append_assoc}
+use Rattle.std.proofs.lemmas.Bool.{cond-true, cond-false}
 use Rattle.std.proofs.lemmas.List.{append-nil}
 use Rattle.std.specs.Prelude.{not}
 use Rattle.std.specs.declared.option.Option.{Option}
@@ -20,11 +21,14 @@ use Rattle.mailx_session.specs.Waits.{Pending}
 use Rattle.mailx_session.specs.Pending.{taken, open_before}
 use Rattle.read_commands.specs.Origins.{is_defining}
 use Rattle.mailx_session.specs.States.{IsSession, cut_to, resumed, rested}
+use Rattle.mailx_session.specs.Startup.{startup_play, StartupGoes, begun}
+use Rattle.mailx_session.specs.Startup as files
 use Rattle.mailx_session.proofs.RoundLemmas.{rested-same}
 use Rattle.mailx_session.specs.Rounds.{typed_play, waiting_play, WaitingGo, none, more, ended, LineGoes, typed}
 use Rattle.mailx_session.specs.Rounds as rounds
 use Rattle.mailx_top.specs.declared.environment.Environment.{Environment}
-use Rattle.mailx_top.specs.Meaning.{RunState, at_prompt, Reading, Leaving, round, last_round, line_round, next_turn, turn, prompted, with_input, next_state, after_line, LeadsTo, LeadsAfterPrompt}
+use Rattle.mailx_top.specs.Meaning.{RunState, at_prompt, Reading, Leaving, round, last_round, line_round, next_turn, turn, prompted, with_input, next_state, after_line, LeadsTo, LeadsAfterPrompt, Preparing, Opening, first_of, startup_files, files_with, with_files, next_file, file_round, prepared, after_file, after_files}
+use Rattle.mailx_top.specs.Words.{Start, is_silent}
 
 -- a result of a session's line, with the input that is left
 abbrev pub onward : Input → Result (Next SessionState Status) Stop → Result (Next RunState Status) Stop
@@ -147,3 +151,82 @@ so-far-leads env x y z es fs so leads = record {
   whole = λ rest out loop.
       subst (λ (l : List Event). Loop (round env) x l out) (sym (append_assoc es fs rest)) (so.whole (fs ++ rest) out (leads rest out loop));
 }
+
+-- a result of a start-up file's line, where these files are left
+abbrev onward-files : Start → List (List ℕ) → Result (Next SessionState Status) Stop → Result (Next RunState Status) Stop
+onward-files start names (Ok (Go s)) = Ok (Go (Preparing start s names))
+onward-files start names (Ok (Last e)) = Ok (Last e)
+onward-files start names (Err cause) = Err cause
+
+rested-file : (env : Environment) (start : Start) (s : SessionState) (names : List (List ℕ)) → taken s.frames ≡ None → round env (Preparing start s names) ≡ round env (Preparing start (rested s) names)
+rested-file env start s names none_left = ap (file_round start s names) none_left
+
+-- the lines of a start-up file are rounds
+waiting-files : (env : Environment) (start : Start) (names : List (List ℕ)) {s : SessionState} {es : List Event} {out : Result (Next SessionState Status) Stop} → WaitingGo s es out
+    → LeadsTo env (Preparing start s names) es (onward-files start names out)
+waiting-files env start names {s = s} (none none_left) = λ rest out loop.
+    same-round env (Preparing start s names) (Preparing start (rested s) names) (rested-file env start s names none_left) loop
+waiting-files env start names {s = s} {es = es} (more {t = t} {out = out} line frames front rest is_next is goes later) =
+    leads-more env (Preparing start s names) (Preparing start t names) front rest es (onward-files start names out) is
+    (subst (λ (p : Play (Next RunState Status)). Goes p front (Ok (Go (Preparing start t names)))) (sym (ap (file_round start s names) is_next))
+    (goes-as (waiting_play (resumed s frames) line) (with_files start names) (Go t) (Go (Preparing start t names)) front refl goes))
+    (waiting-files env start names later)
+waiting-files env start names {s = s} {es = es} (ended {e = e} line frames is_next goes) =
+    last (subst (λ (p : Play (Next RunState Status)). Goes p es (Ok (Last e))) (sym (ap (file_round start s names) is_next))
+    (goes-as (waiting_play (resumed s frames) line) (with_files start names) (Last e) (Last e) es refl goes))
+waiting-files env start names {s = s} {es = es} (rounds.cut {cause = cause} line frames is_next goes) =
+    cut (subst (λ (p : Play (Next RunState Status)). Goes p es (Err cause)) (sym (ap (file_round start s names) is_next))
+    (goes-cut (waiting_play (resumed s frames) line) (with_files start names) cause es goes))
+waiting-files env start names {s = s} rounds.short = cut (at-memory (round env (Preparing start s names)))
+
+-- in a state at rest the next file is loaded
+next-round : (env : Environment) (start : Start) (s : SessionState) (names : List (List ℕ)) → IsSession s → round env (Preparing start s names) ≡ next_file start s names
+next-round env start s names is = ap (file_round start s names) (ap taken is.frames) ∙ ap (λ (t : SessionState). next_file start t names) (rested-same s is)
+
+-- so is a start-up file
+file-goes : (env : Environment) (start : Start) (s : SessionState) (name : List ℕ) (names : List (List ℕ)) → IsSession s → {es : List Event} {out : Result (Next SessionState Status) Stop} → StartupGoes s name es out
+    → LeadsTo env (Preparing start s (name ∷ names)) es (onward-files start names out)
+file-goes env start s name names is {es = es} {out = out} (begun {t = t} front rest parts goes waits) =
+    leads-more env (Preparing start s (name ∷ names)) (Preparing start t names) front rest es (onward-files start names out) parts
+    (subst (λ (p : Play (Next RunState Status)). Goes p front (Ok (Go (Preparing start t names)))) (sym (next-round env start s (name ∷ names) is))
+    (goes-as (startup_play s name) (with_files start names) (Go t) (Go (Preparing start t names)) front refl goes))
+    (waiting-files env start names waits)
+file-goes env start s name names is {es = es} (files.unread {cause = cause} goes) =
+    cut (subst (λ (p : Play (Next RunState Status)). Goes p es (Err cause)) (sym (next-round env start s (name ∷ names) is))
+    (goes-cut (startup_play s name) (with_files start names) cause es goes))
+
+pub file-leads : (env : Environment) (start : Start) (s t : SessionState) (name : List ℕ) (names : List (List ℕ)) (r : Result (Option Status) Stop) → IsSession s → (es : List Event) → StartupGoes s name es (after_line t r)
+    → LeadsTo env (Preparing start s (name ∷ names)) es (after_file start names t r)
+file-leads env start s t name names (Ok None) is es goes = file-goes env start s name names is goes
+file-leads env start s t name names (Ok (Some e)) is es goes = file-goes env start s name names is goes
+file-leads env start s t name names (Err cause) is es goes = file-goes env start s name names is goes
+
+-- behind the last file the folder is opened
+pub last-leads : (env : Environment) (x : RunState) (start : Start) (t : SessionState) (r : Result (Option Status) Stop) → IsSession t → (es : List Event) → LeadsTo env x es (after_file start [] t r) → LeadsTo env x es (after_files start t r)
+last-leads env x start t (Ok None) is es leads = λ rest out loop.
+    leads rest out (again [] rest refl (subst (λ (p : Play (Next RunState Status)). Goes p [] (Ok (Go (Opening (Some start) t)))) (sym (next-round env start t [] is)) (refl, inl refl)) loop)
+last-leads env x start t (Ok (Some e)) is es leads = leads
+last-leads env x start t (Err cause) is es leads = leads
+
+-- what leads on, from where other events led
+pub leads-then : (env : Environment) (x y : RunState) (out : Result (Next RunState Status) Stop) (es fs : List Event) → LeadsTo env x es (Ok (Go y)) → LeadsTo env y fs out → LeadsTo env x (es ++ fs) out
+leads-then env x y (Ok (Go z)) es fs first second = λ rest end loop.
+    subst (λ (l : List Event). Loop (round env) x l end) (sym (append_assoc es fs rest)) (first (fs ++ rest) end (second rest end loop))
+leads-then env x y (Ok (Last e)) es fs first second = first fs (Ok e) second
+leads-then env x y (Err cause) es fs first second = first fs (Err cause) second
+
+-- where the run is to be silent no start-up file is read
+pub silent-loop : (env : Environment) (start : Start) → is_silent start.manner ≡ true → (es : List Event) (out : Result Status Stop) → Loop (round env) (Opening (Some start) (first_of env start.user)) es out
+    → Loop (round env) (prepared env start) es out
+silent-loop env start silent es out loop =
+    let s = first_of env start.user in
+    let none_left : startup_files start s.desk.places ≡ [] = cond-true _ _ _ silent in
+    subst (λ (names : List (List ℕ)). Loop (round env) (Preparing start s names) es out) (sym none_left) (again [] es refl (refl, inl refl) loop)
+
+-- elsewhere they are
+pub aloud-loop : (env : Environment) (start : Start) → is_silent start.manner ≡ false → (es : List Event) (out : Result Status Stop)
+    → Loop (round env) (Preparing start (first_of env start.user) (files_with start.no_system_file (first_of env start.user).desk.places.rc)) es out → Loop (round env) (prepared env start) es out
+aloud-loop env start aloud es out loop =
+    let s = first_of env start.user in
+    let named : startup_files start s.desk.places ≡ files_with start.no_system_file s.desk.places.rc = cond-false _ _ _ aloud in
+    subst (λ (names : List (List ℕ)). Loop (round env) (Preparing start s names) es out) (sym named) loop

@@ -10,3 +10,5 @@ pub mod Openings
 pub mod Starts
 pub mod Unreadable
 pub mod Crash
+pub mod Appended
+pub mod Fitting

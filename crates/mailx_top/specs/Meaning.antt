@@ -14,6 +14,7 @@ use Rattle.session_play.specs.declared.recovering.RecoveryAnswer.{RecoveryAnswer
 use Rattle.session_play.specs.declared.recovering.RecoveryAnswer.TheVariants as recovery
 use Rattle.session_play.specs.Play.{Play, Ret, Ask, Line, Say, Read, Recover, Know, Next, Go, Last, Goes, Loop, bind}
 use Rattle.host_port.specs.declared.event.Event.{Event}
+use Rattle.mailx_vars.specs.declared.environment.Places.{Places}
 use Rattle.mailx_vars.specs.Names.{is_short_name}
 use Rattle.mailx_vars.specs.Settings.{value_of}
 use Rattle.command_desk.specs.declared.desk.Desk.{Desk}
@@ -29,6 +30,7 @@ use Rattle.mailx_session.specs.Waits.{Pending}
 use Rattle.mailx_session.specs.Pending.{taken}
 use Rattle.mailx_session.specs.States.{resumed, rested}
 use Rattle.mailx_session.specs.Rounds.{typed_play, waiting_play}
+use Rattle.mailx_session.specs.Startup.{startup_play}
 use Rattle.mailx_session.specs.Leaving.{leaving}
 use Rattle.mailx_top.specs.declared.environment.Environment.{Environment}
 use Rattle.message_show.specs.Summary.{page_text}
@@ -37,11 +39,13 @@ use Rattle.mailx_top.specs.declared.words.Manner.{Manner}
 use Rattle.mailx_top.specs.declared.words.Manner.TheVariants.{Silent, Rows, Quiet, Greeting}
 use Rattle.mailx_top.specs.Words.{Start, is_silent}
 
--- where a run is between two rounds: before what a stopped run has left is recovered, and then a folder opened, if one is named; before the
--- folder is opened; before a line; or at the end of the input, where the folder is left
+-- where a run is between two rounds: before what a stopped run has left is recovered, and then a folder opened, if one is
+-- named; before a line of a start-up file, or the next of the files that are left; before the folder is opened; before a
+-- line; or at the end of the input, where the folder is left
 pub data RunState : Type 0 where
   Recovering : Option Start → RunState
-  Opening : Option Start → RunState
+  Preparing : Start → SessionState → List (List ℕ) → RunState
+  Opening : Option Start → SessionState → RunState
   Reading : SessionState → Input → RunState
   Leaving : SessionState → Input → RunState
 
@@ -170,56 +174,104 @@ first_of env user = first_state (pairs_for user env.pairs) env.terminal env.toke
 abbrev pub actor_in : Environment → List ℕ
 actor_in env = (first_of env None).actor
 
--- a run starts in its first state, or its words are refused
-abbrev pub opening : Environment → Option Start → Play (Next RunState Status)
-opening env None = says_and_ends usage status.Usage
-opening env (Some start) = starting (first_of env start.user) start
+-- a run opens its folder in a state, or its words are refused
+abbrev pub opening : Option Start → SessionState → Play (Next RunState Status)
+opening None s = says_and_ends usage status.Usage
+opening (Some start) s = starting s start
 
--- what follows the recovery at the start: the opening, once it is done
-abbrev pub recovered : Start → RecoveryAnswer → Play (Next RunState Status)
-recovered start (recovery.Done found) = Ret (Go (Opening (Some start)))
-recovered start (recovery.Busy name) = ends_with start (with_feed (name ++ codes ": busy")) status.Refused
-recovered start recovery.NotARecord = Ret (Last status.BadRecord)
-recovered start (recovery.TooLarge name length) = Ret (Last status.BadRecord)
+-- the start-up file of the system
+abbrev pub system_file : List ℕ
+system_file = codes "/etc/mail.rc"
+
+-- that file, unless it is passed over, and then the user's
+abbrev pub files_with : Bool → List ℕ → List (List ℕ)
+files_with true own = own ∷ []
+files_with false own = system_file ∷ own ∷ []
+
+-- the names of the start-up files that are read, in order; with `-e` none is
+abbrev pub startup_files : Start → Places → List (List ℕ)
+startup_files start places = if is_silent start.manner then [] else files_with start.no_system_file places.rc
+
+-- the state after a line of a start-up file, or after its load, where these are left; or the end
+abbrev pub with_files : Start → List (List ℕ) → Next SessionState Status → Play (Next RunState Status)
+with_files start names (Go s) = Ret (Go (Preparing start s names))
+with_files start names (Last e) = Ret (Last e)
+
+-- the next start-up file is loaded; once none is left the folder is opened
+abbrev pub next_file : Start → SessionState → List (List ℕ) → Play (Next RunState Status)
+next_file start s [] = Ret (Go (Opening (Some start) s))
+next_file start s (name ∷ names) = bind (startup_play s name) (with_files start names)
+
+-- a line that waits is taken first; where none does, the next start-up file is loaded, in a state at rest
+abbrev pub file_round : Start → SessionState → List (List ℕ) → Option (WaitingLine × List Pending) → Play (Next RunState Status)
+file_round start s names None = next_file start (rested s) names
+file_round start s names (Some (line, frames)) = bind (waiting_play (resumed s frames) line) (with_files start names)
+
+-- before the start-up files, in the first state of a run
+abbrev pub prepared : Environment → Start → RunState
+prepared env start = let s = first_of env start.user in Preparing start s (startup_files start s.desk.places)
+
+-- what follows the recovery at the start: the start-up files, once it is done
+abbrev pub recovered : Environment → Start → RecoveryAnswer → Play (Next RunState Status)
+recovered env start (recovery.Done found) = Ret (Go (prepared env start))
+recovered env start (recovery.Busy name) = ends_with start (with_feed (name ++ codes ": busy")) status.Refused
+recovered env start recovery.NotARecord = Ret (Last status.BadRecord)
+recovered env start (recovery.TooLarge name length) = Ret (Last status.BadRecord)
 
 -- what a stopped commit of the actor has left is recovered before all else, unless the words are refused
 abbrev pub recovering : Environment → Option Start → Play (Next RunState Status)
-recovering env None = Ret (Go (Opening None))
-recovering env (Some start) = Ask (Recover (actor_in env) env.token) (recovered start)
+recovering env None = Ret (Go (Opening None (first_of env None)))
+recovering env (Some start) = Ask (Recover (actor_in env) env.token) (recovered env start)
 
 -- what a run in this environment does from a state on, to its next state or its end
 abbrev pub round : Environment → RunState → Play (Next RunState Status)
 round env (Recovering start) = recovering env start
-round env (Opening start) = opening env start
+round env (Preparing start s names) = file_round start s names (taken s.frames)
+round env (Opening start s) = opening start s
 round env (Reading s i) = line_round s i (taken s.frames)
 round env (Leaving s i) = last_round s
 
 -- a recovery is to be made
 abbrev pub is_recovering : RunState → Bool
 is_recovering (Recovering start) = true
-is_recovering (Opening start) = false
+is_recovering (Preparing start s names) = false
+is_recovering (Opening start s) = false
 is_recovering (Reading s i) = false
 is_recovering (Leaving s i) = false
 
 -- a folder is to be opened
 abbrev pub is_opening : RunState → Bool
 is_opening (Recovering start) = false
-is_opening (Opening start) = true
+is_opening (Preparing start s names) = false
+is_opening (Opening start s) = true
 is_opening (Reading s i) = false
 is_opening (Leaving s i) = false
 
 -- the input that a state begins with
 abbrev pub input_of : RunState → Input
 input_of (Recovering start) = no_input
-input_of (Opening start) = no_input
+input_of (Preparing start s names) = no_input
+input_of (Opening start s) = no_input
 input_of (Reading s i) = i
 input_of (Leaving s i) = i
 
--- the opening after the recovery, or the end
-abbrev pub after_recovery : Start → Result (Option Status) Stop → Result (Next RunState Status) Stop
-after_recovery start (Ok None) = Ok (Go (Opening (Some start)))
-after_recovery start (Ok (Some e)) = Ok (Last e)
-after_recovery start (Err cause) = Err cause
+-- the start-up files after the recovery, or the end
+abbrev pub after_recovery : Environment → Start → Result (Option Status) Stop → Result (Next RunState Status) Stop
+after_recovery env start (Ok None) = Ok (Go (prepared env start))
+after_recovery env start (Ok (Some e)) = Ok (Last e)
+after_recovery env start (Err cause) = Err cause
+
+-- the state after a start-up file, where these are left, or the end
+abbrev pub after_file : Start → List (List ℕ) → SessionState → Result (Option Status) Stop → Result (Next RunState Status) Stop
+after_file start names s (Ok None) = Ok (Go (Preparing start s names))
+after_file start names s (Ok (Some e)) = Ok (Last e)
+after_file start names s (Err cause) = Err cause
+
+-- the opening after the last of them, or the end
+abbrev pub after_files : Start → SessionState → Result (Option Status) Stop → Result (Next RunState Status) Stop
+after_files start s (Ok None) = Ok (Go (Opening (Some start) s))
+after_files start s (Ok (Some e)) = Ok (Last e)
+after_files start s (Err cause) = Err cause
 
 -- the state after a line, or the end
 abbrev pub next_state : SessionState → Input → Result (Option Status) Stop → Result (Next RunState Status) Stop

@@ -10,13 +10,13 @@ use Rattle.host_port.specs.declared.event.Seen.{Seen}
 use Rattle.host_port.specs.declared.event.Seen.TheVariants as seen
 use Rattle.mbox_scan.specs.Mailbox.{list_of, message_limit}
 use Rattle.session_play.specs.declared.stop.Stop.{Stop}
+use Rattle.session_play.specs.Play.{Play, Next, Loop, again, last, cut}
 use Rattle.session_play.specs.Causes.{some_load_saw}
 use Rattle.mailx_session.specs.declared.status.Status.{Status}
 use Rattle.mailx_session.specs.declared.status.Status.TheVariants as status
-use Rattle.mailx_top.specs.declared.environment.Environment.{Environment}
 use Rattle.mailx_top.specs.Words.{Start}
-use Rattle.mailx_top.specs.Meaning.{is_no_mail}
-use Rattle.mailx_top.specs.Usage.{IsBadName}
+use Rattle.mailx_top.specs.Meaning.{RunState, Opening, folder_name, is_no_mail}
+use Rattle.mailx_top.specs.Usage.{IsNoName}
 
 -- a load saw that the folder is held
 abbrev pub saw_held : Seen → Bool
@@ -53,22 +53,37 @@ is_named (Some start) = start.named
 abbrev pub OpensNoMail : Option Start → List Event → Type 0
 OpensNoMail start es = some_load_saw (saw_no_mail (is_named start)) es ≡ true
 
--- there is no folder to open
-abbrev pub OpensNone : Environment → Option Start → List Event → Type 0
-OpensNone env start es = IsBadName env start ⊎ (some_load_saw (saw_no_folder (is_named start)) es ≡ true)
+-- a folder is to be opened whose word stands for no name in this state, or for one that can't be a file's
+abbrev pub OpensBadly : RunState → Type 0
+OpensBadly (Opening (Some start) s) = IsNoName (folder_name s start)
+OpensBadly x = ⊥
+
+-- it is so in some round of a loop
+abbrev pub OpenedBadly : {round : RunState → Play (Next RunState Status)} {x : RunState} {es : List Event}
+    {out : Result Status Stop} → Loop round x es out → Type 0
+OpenedBadly (again {x = x} front rest is goes more) = OpensBadly x ⊎ OpenedBadly more
+OpenedBadly (last {x = x} goes) = OpensBadly x
+OpenedBadly (cut {x = x} goes) = OpensBadly x
+
+-- there is no folder to open: its word is bad, or what its load saw is none
+abbrev pub OpensNone : Type 0 → Option Start → List Event → Type 0
+OpensNone Bad start es = Bad ⊎ (some_load_saw (saw_no_folder (is_named start)) es ≡ true)
 
 -- the run came to this end, or was cut off
 abbrev pub EndsOrIsCut : Status → Result Status Stop → Type 0
 EndsOrIsCut e (Ok r) = r ≡ e
 EndsOrIsCut e (Err cause) = Unit {0}
 
--- A run is refused exactly where the load of its opening saw the folder held, or the quit at the end of its input was refused, and has no folder
--- exactly where there is none to open, and no mail exactly where the system mailbox is to be opened, and its load saw it absent or empty, and not
--- held, unless it is cut off. `es` are the own events of the opening, and `at_end` says whether that quit was refused.
-pub record IsOpeningExplained (env : Environment) (start : Option Start) (out : Result Status Stop) (es : List Event) (at_end : Bool) : Type 0 where
+-- A run is refused exactly where the load of its opening saw the folder held, or the quit at the end of its input was
+-- refused, and has no folder exactly where there is none to open, and no mail exactly where the system mailbox is to be
+-- opened, and its load saw it absent or empty, and not held, unless it is cut off. `Bad` says that the folder's word was
+-- bad in the state in which it was to be opened, `es` are the own events of the opening, and `at_end` says whether that
+-- quit was refused.
+pub record IsOpeningExplained (Bad : Type 0) (start : Option Start) (out : Result Status Stop) (es : List Event)
+    (at_end : Bool) : Type 0 where
   pub refused_only : out ≡ Ok status.Refused → (some_load_saw saw_held es || at_end) ≡ true
   pub refused_always : (some_load_saw saw_held es || at_end) ≡ true → EndsOrIsCut status.Refused out
-  pub no_folder_only : out ≡ Ok status.NoFolder → OpensNone env start es
-  pub no_folder_always : OpensNone env start es → EndsOrIsCut status.NoFolder out
+  pub no_folder_only : out ≡ Ok status.NoFolder → OpensNone Bad start es
+  pub no_folder_always : OpensNone Bad start es → EndsOrIsCut status.NoFolder out
   pub no_mail_only : out ≡ Ok status.NoMail → OpensNoMail start es
   pub no_mail_always : OpensNoMail start es → EndsOrIsCut status.NoMail out

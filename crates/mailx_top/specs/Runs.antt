@@ -15,7 +15,7 @@ use Rattle.mailx_top.specs.declared.environment.Environment.{Environment}
 use Rattle.folder_recovery.specs.Told.{told_end}
 use Rattle.mailx_top.specs.Meaning.{Recovering, round, actor_in, is_recovering, is_opening}
 use Rattle.mailx_top.specs.Leavings.{refused_at_end}
-use Rattle.mailx_top.specs.Openings.{IsOpeningExplained}
+use Rattle.mailx_top.specs.Openings.{OpenedBadly, IsOpeningExplained}
 use Rattle.mailx_top.specs.Starts.{IsStartExplained}
 use Rattle.mailx_top.specs.Unreadable.{some_unreadable_in, IsRecordExplained}
 use Rattle.mailx_top.specs.Words.{Start, may_say, start_of}
@@ -50,13 +50,16 @@ abbrev pub SaysUnlessIdle : Bool → Result Status Stop → List Event → List 
 SaysUnlessIdle may (Ok e) front behind = Unit {0}
 SaysUnlessIdle may (Err cause) front behind = may ≡ true → behind ≡ [] → front ≡ []
 
--- The own events of a run whose words ask for this in this environment, which ends with this status: those of its meaning, with each cut explained.
--- A load counts as one of the folder where its round opens the folder, and a fault of the disk in a commit or in the recovery counts too. A run ends
--- for its record exactly where its recovery or a commit of it met one that can't be read. How the recovery ended its own events tell.
+-- The own events of a run whose words ask for this in this environment, which ends with this status: those of its
+-- meaning, with each cut explained. A load counts as one of the folder where its round opens the folder (those of
+-- start-up files and of lines don't), and a fault of the disk in a commit or in the recovery counts too. A run ends for
+-- its record exactly where its recovery or a commit of it met one that can't be read. How the recovery ended its own
+-- events tell.
 pub record IsRun (start : Option Start) (env : Environment) (s : Status) (es : List Event) : Type 0 where
   pub whole : Whole (round env) (Recovering (start_of start env.pairs)) (Ending (actor_in env) (may_say start) s) es
   pub said : SaysUnlessIdle (may_say start) whole.out whole.front whole.behind
   pub explained : IsExplained whole.out whole.front (events_at is_opening whole.plays) (commits_in whole.plays)
   pub record_met : IsRecordExplained whole.out (some_unreadable_in whole.plays)
   pub opening : IsStartExplained whole.out (told_end (actor_in env) (events_at is_recovering whole.plays))
-      (IsOpeningExplained env (start_of start env.pairs) whole.out (events_at is_opening whole.plays) (refused_at_end whole.plays))
+      (IsOpeningExplained (OpenedBadly whole.plays) (start_of start env.pairs) whole.out
+      (events_at is_opening whole.plays) (refused_at_end whole.plays))

@@ -1,5 +1,5 @@
 -- How a run ends where its words, its environment or its folder's name are refused, whatever the host tells.
-use Rattle.std.specs.Prelude.{◌≡◌, ℕ, List, false, IfOk}
+use Rattle.std.specs.Prelude.{◌≡◌, ℕ, List, true, false, IfOk}
 use Rattle.std.specs.declared.option.Option.{Option}
 use Rattle.std.specs.declared.option.Option.TheVariants.{Some, None}
 use Rattle.std.specs.declared.result.Result.{Result}
@@ -12,7 +12,7 @@ use Rattle.mailx_session.specs.declared.status.Status.TheVariants as status
 use Rattle.mailx_session.specs.Statuses.{IsEnd}
 use Rattle.command_desk.specs.Answers.{OrFault}
 use Rattle.mailx_top.specs.declared.environment.Environment.{Environment}
-use Rattle.mailx_top.specs.Words.{Start}
+use Rattle.mailx_top.specs.Words.{Start, is_silent}
 use Rattle.mailx_top.specs.Meaning.{first_of, folder_name}
 
 -- a line that is said is cut off where the output fails; memory may be wanted for it
@@ -37,10 +37,10 @@ abbrev pub IsNoName : OrFault (List ℕ) → Type 0
 IsNoName (Ok name) = is_short_name name ≡ false
 IsNoName (Err line) = Unit {0}
 
--- the folder that is to be opened has such a word
+-- the folder that is to be opened has such a word, and no start-up file can set variables that it stands on
 abbrev pub IsBadName : Environment → Option Start → Type 0
 IsBadName env None = ⊥
-IsBadName env (Some start) = IsNoName (folder_name (first_of env start.user) start)
+IsBadName env (Some start) = (is_silent start.manner ≡ true) × IsNoName (folder_name (first_of env start.user) start)
 
 -- the recovery at the start is cut off by a fault of the disk, or for want of memory; so is the line that it may say, where the output fails
 abbrev pub IsStartCut : Stop → Type 0

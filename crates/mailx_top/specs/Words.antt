@@ -12,11 +12,13 @@ use Rattle.mailx_vars.specs.Environment.{Pairs, knows_user}
 use Rattle.mailx_top.specs.declared.words.Manner.{Manner}
 use Rattle.mailx_top.specs.declared.words.Manner.TheVariants.{Silent, Rows, Quiet, Greeting}
 
--- how to start: the word of the folder to open, whether `-f` asks for it, the user of `-u`, and what is said once the folder is open
+-- how to start: the word of the folder to open, whether `-f` asks for it, the user of `-u`, whether `-n` passes over the
+-- start-up file of the system, and what is said once the folder is open
 pub record Start : Type 0 where
   pub word : List ℕ
   pub named : Bool
   pub user : Option (List ℕ)
+  pub no_system_file : Bool
   pub manner : Manner
 
 -- the first of these words, or another where there is none
@@ -33,7 +35,7 @@ abbrev pub manner_of : Options → Manner
 manner_of o = if o.exists then Silent else if o.headers then Rows else if o.quiet then Quiet else Greeting
 
 abbrev pub start_with : Options → Start
-start_with o = record { word = folder_word o; named = o.folder; user = o.user; manner = manner_of o }
+start_with o = record { word = folder_word o; named = o.folder; user = o.user; no_system_file = o.no_system_file; manner = manner_of o }
 
 -- how to start in a mode; what sends or tries isn't built, nor is `-F`
 abbrev pub start_in : Mode → Options → Option Start

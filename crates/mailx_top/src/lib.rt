@@ -2,13 +2,16 @@
 #![tactic(auto)]
 
 mod environment;
+mod laws;
 mod open;
 mod recovering;
 mod session;
+mod startup;
 mod status;
 mod top;
 mod words;
 
 pub use environment::Environment;
+pub use laws::{appended_follows, decided_fit};
 pub use mailx_session::Status;
 pub use top::run;

@@ -30,8 +30,8 @@ const USAGE: &[u8] =
 
 /// Says the usage and ends.
 pub(crate) fn end_with_usage<H: Host>(host: &mut H) -> Result<Status, Stop>
-    ensures ran { (env : Environment) → Ran H.world host.old host.new
-        (λ es. Loop (round env) (Opening None) es result) }
+    ensures ran { (env : Environment) → (s : SessionState) → Ran H.world host.old host.new
+        (λ es. Loop (round env) (Opening None s) es result) }
     ensures cause { Caused (H.world.counts host.old) (H.world.counts host.new) result }
     ensures named { EndsOr Status.Usage result }
 {

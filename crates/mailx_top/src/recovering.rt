@@ -1,6 +1,7 @@
-// What a stopped commit has left is recovered before a folder is opened.
+// What a stopped commit has left is recovered before all else.
 ghost use Rattle.host_port.specs.Ran.{Ran};
 ghost use Rattle.session_play.specs.Play.{Play, Ask, Recover, Goes, Caused};
+ghost use Rattle.mailx_top.specs.declared.environment.Environment.{Environment};
 ghost use Rattle.mailx_top.specs.Meaning.{recovered, after_recovery};
 ghost use Rattle.mailx_top.specs.Usage.{StopsAtStart};
 ghost use Rattle.mailx_top.specs.Wants.{start_from};
@@ -19,8 +20,9 @@ fn answered<H: Host>(
     start: Asked<'_>,
     answer: RecoveryAnswer,
 ) -> Result<Option<Status>, Stop>
-    ensures ran { Ran H.world host.old host.new
-        (λ es. Goes (recovered (start_from start.entry) answer) es (after_recovery (start_from start.entry) result)) }
+    ensures ran { (env : Environment) → Ran H.world host.old host.new
+        (λ es. Goes (recovered env (start_from start.entry) answer) es
+        (after_recovery env (start_from start.entry) result)) }
     ensures cause { Caused (H.world.counts host.old) (H.world.counts host.new) result }
     ensures stops { StopsAtStart result }
 {
@@ -33,17 +35,17 @@ fn answered<H: Host>(
     }
 }
 
-/// Recovers what a stopped commit of the session's actor has left. None where the folder is to be opened then, else how
-/// the run ends.
+/// Recovers what a stopped commit of the session's actor has left. None where the start-up files are to be read then,
+/// and the folder is to be opened, else how the run ends.
 pub(crate) fn recover_first<H: Host>(
     alloc: Global,
     host: &mut H,
     start: Asked<'_>,
     session: &Session,
 ) -> Result<Option<Status>, Stop>
-    ensures ran { Ran H.world host.old host.new
-        (λ es. Goes (Ask (Recover session.now.actor session.now.token) (recovered (start_from start.entry))) es
-        (after_recovery (start_from start.entry) result)) }
+    ensures ran { (env : Environment) → Ran H.world host.old host.new
+        (λ es. Goes (Ask (Recover session.now.actor session.now.token) (recovered env (start_from start.entry))) es
+        (after_recovery env (start_from start.entry) result)) }
     ensures cause { Caused (H.world.counts host.old) (H.world.counts host.new) result }
     ensures stops { StopsAtStart result }
 {

@@ -50,8 +50,8 @@ fn say_prompt<H: Host>(host: &mut H, session: &Session) -> Result<(), Stop>
     }
 }
 
-// The cut that an error is.
-fn stop_of(error: &RunError) -> Stop
+/// The cut that an error is.
+pub(crate) fn stop_of(error: &RunError) -> Stop
     ensures { result ≡ stop_of error.now }
 {
     match error {

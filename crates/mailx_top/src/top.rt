@@ -6,12 +6,12 @@ ghost use Rattle.host_port.specs.Ran.{Ran};
 ghost use Rattle.host_port.specs.declared.event.Event.{Event};
 ghost use Rattle.session_play.specs.Play.{Play, Loop, Caused};
 ghost use Rattle.mailx_vars.specs.Environment.{knows_user};
-ghost use Rattle.mailx_top.specs.Meaning.{round, first_of, actor_in, Recovering, Opening};
+ghost use Rattle.mailx_top.specs.Meaning.{round, first_of, folder_name, actor_in, files_with, prepared, Recovering, Preparing, Opening};
 ghost use Rattle.mailx_top.specs.Runs.{IsRun, SaysLast, SaysAtEnd};
 ghost use Rattle.mailx_top.specs.Ends.{ended_as};
 ghost use Rattle.mailx_top.specs.Statuses.{line_at_stop, line_at_end, not_a_record};
 ghost use Rattle.mailx_session.specs.Statuses.{IsEnd};
-ghost use Rattle.mailx_top.specs.Usage.{EndsAsNamed, EndsOr, EndsUnopened, IsBadName, IsOrCut, IsUnopened};
+ghost use Rattle.mailx_top.specs.Usage.{EndsAsNamed, EndsOr, EndsUnopened, IsBadName, IsNoName, IsOrCut, IsUnopened};
 ghost use Rattle.mailx_top.specs.Wants.{may_start, start_from};
 ghost use Rattle.folder_commit.specs.Safe.{MayCommit};
 ghost use Rattle.mailx_top.specs.Crash.{IsSafe};
@@ -21,6 +21,7 @@ use crate::Environment;
 use crate::open::{end_with_usage, open};
 use crate::recovering::recover_first;
 use crate::session::lines;
+use crate::startup::read_files;
 use crate::status::{stop_line, stop_status};
 use crate::words::{Asked, asked_by, may_say, start_of, wanted};
 use commit_machine::record_name;
@@ -35,21 +36,61 @@ use std::alloc::Global;
 fn open_session<H: Host>(
     alloc: Global,
     host: &mut H,
+    start: Asked<'_>,
+    session: &mut Session,
+) -> Result<Status, Stop>
+    ensures ran { (env : Environment) → Ran H.world host.old host.new
+        (λ es. Loop (round env) (Opening (Some (start_from start.entry)) session.old) es result) }
+    ensures cause { Caused (H.world.counts host.old) (H.world.counts host.new) result }
+    ensures plain { IfOk result (λ e. IsEnd e) }
+    ensures bad_name { IsNoName (folder_name session.old (start_from start.entry)) → EndsOr Status.NoFolder result }
+{
+    match open(alloc, host, start, session) {
+        Ok(None) => lines(alloc, host, session),
+        Ok(Some(end)) => Ok(end),
+        Err(cause) => Err(cause),
+    }
+}
+
+// A session from its start-up files to its end.
+fn read_session<H: Host>(
+    alloc: Global,
+    host: &mut H,
+    start: Asked<'_>,
+    session: &mut Session,
+) -> Result<Status, Stop>
+    ensures ran { (env : Environment) → Ran H.world host.old host.new
+        (λ es. Loop (round env) (Preparing (start_from start.entry) session.old
+        (files_with start.entry.no_system_file session.old.desk.places.rc)) es result) }
+    ensures cause { Caused (H.world.counts host.old) (H.world.counts host.new) result }
+    ensures plain { IfOk result (λ e. IsEnd e) }
+{
+    match read_files(alloc, host, start.no_system_file, session) {
+        Ok(None) => open_session(alloc, host, start, session),
+        Ok(Some(end)) => Ok(end),
+        Err(cause) => Err(cause),
+    }
+}
+
+// The same; where it is to be silent no start-up file is read.
+fn prepare_session<H: Host>(
+    alloc: Global,
+    host: &mut H,
     env: &Environment,
     start: Asked<'_>,
     session: &mut Session,
 ) -> Result<Status, Stop>
     requires { session.old ≡ first_of env.now (start_from start).user }
     ensures ran { Ran H.world host.old host.new
-        (λ es. Loop (round env.now) (Opening (Some (start_from start.entry))) es result) }
+        (λ es. Loop (round env.now) (prepared env.now (start_from start.entry)) es result) }
     ensures cause { Caused (H.world.counts host.old) (H.world.counts host.new) result }
     ensures plain { IfOk result (λ e. IsEnd e) }
     ensures bad_name { IsBadName env.now (Some (start_from start.entry)) → EndsOr Status.NoFolder result }
 {
-    match open(alloc, host, start, session) {
-        Ok(None) => lines(alloc, host, session),
-        Ok(Some(end)) => Ok(end),
-        Err(cause) => Err(cause),
+    if start.manner.is_silent() {
+        open_session(alloc, host, start, session)
+    } else {
+        read_session(alloc, host, start, session)
     }
 }
 
@@ -69,7 +110,7 @@ fn play_session<H: Host>(
     ensures bad_name { IsBadName env.now (Some (start_from start.entry)) → EndsUnopened result }
 {
     match recover_first(alloc, host, start, session) {
-        Ok(None) => open_session(alloc, host, env, start, session),
+        Ok(None) => prepare_session(alloc, host, env, start, session),
         Ok(Some(end)) => Ok(end),
         Err(cause) => Err(cause),
     }
@@ -256,7 +297,8 @@ pub fn run<H: Host>(alloc: Global, words: &[Text], env: &Environment, host: &mut
     // The usage is answered exactly where the words or the environment are refused.
     ensures usage_only { result ≡ Status.Usage → start_of (asked words.now) env.now.pairs ≡ None }
     ensures usage_always { start_of (asked words.now) env.now.pairs ≡ None → IsOrCut Status.Usage result }
-    // A folder whose word stands for no file, or for a name that no file can have, is none, whatever the host tells.
+    // A folder whose word stands for no file, or for a name that no file can have, is none, whatever the host tells,
+    // where no start-up file is read.
     ensures bad_name { IsBadName env.now (start_of (asked words.now) env.now.pairs) → IsUnopened result }
     // From a disk that is sound and carries nothing of the token, with lawful steps of others: at every moment, and
     // wherever the run stops, what recovery would make of the files is what the accepted commits and others give.

@@ -34,6 +34,8 @@ pub(crate) struct Asked<'a> {
     pub named: bool,
     /// The user whose mailbox that is, where it isn't the user's own.
     pub user: Option<&'a [u8]>,
+    /// Whether the start-up file of the system is passed over.
+    pub no_system_file: bool,
     /// What is said once the folder is open.
     pub manner: Manner,
 }
@@ -102,6 +104,7 @@ fn start_with(options: &Options) -> Asked<'_>
         word: folder_word(options),
         named: options.folder,
         user: user_of(options),
+        no_system_file: options.no_system_file,
         manner: manner_of(options),
     }
 }

@@ -3,3 +3,5 @@ pub mod CoverLemmas
 pub mod SafeLemmas
 pub mod LawLemmas
 pub mod DecidedLemmas
+pub mod AppendedLemmas
+pub mod FitLemmas

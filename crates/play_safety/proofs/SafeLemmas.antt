@@ -293,7 +293,7 @@ module _ (actor : List ℕ) (token : ℕ) where
         cut-so (c ∷ cs) base d files owners es fits are s honest lawful more h.end j h.goes (fine (all_of (job_for actor token (c ∷ cs) base)) h.end h.is_as)
         (few (c ∷ cs) base d files owners es fits are s honest lawful h.end j h.goes)
 
-    same-commit : (c : Commit) → IsBy actor token c → c ≡ own_commit c.changes c.base
+    pub same-commit : (c : Commit) → IsBy actor token c → c ≡ own_commit c.changes c.base
     same-commit c by =
         ap (λ (a : List ℕ). record { actor = a; token = c.token; changes = c.changes; base = c.base }) by.actor_is
         ∙ ap (λ (t : ℕ). record { actor = actor; token = t; changes = c.changes; base = c.base }) by.token_is
@@ -356,7 +356,7 @@ module _ (actor : List ℕ) (token : ℕ) where
     recovery-stopped cause d files owners es more s honest lawful (inl none) = looks-cut (calm_at cause) d files owners es more s lawful (none-looks es none.1)
     recovery-stopped cause d files owners es more s honest lawful (inr part) = recovery-cut-by cause d files owners es more s honest lawful part
 
-    act-cut : (act : Act) (cause : Stop) (d : Disk) (files : Files) (owners : Locks) (es : List Event) (more : List (List Edit)) → OfCommit (IsBy actor token) act → Stands actor token d files owners → Honest d es → OthersAreLawful actor token d es
+    pub act-cut : (act : Act) (cause : Stop) (d : Disk) (files : Files) (owners : Locks) (es : List Event) (more : List (List Edit)) → OfCommit (IsBy actor token) act → Stands actor token d files owners → Honest d es → OthersAreLawful actor token d es
         → IsCutSo act cause (own es) → CutOff (calm_at cause) act d files owners es more
     act-cut (Line i) cause d files owners es more by s honest lawful how = looks-cut (calm_at cause) d files owners es more s lawful (cut-looks (Line i) cause (own es) refl how)
     act-cut (Say bytes) cause d files owners es more by s honest lawful how = looks-cut (calm_at cause) d files owners es more s lawful (cut-looks (Say bytes) cause (own es) refl how)

@@ -1,2 +1,4 @@
 pub mod Passes
 pub mod Safe
+pub mod Appended
+pub mod Fitting

@@ -1,3 +1,5 @@
+ghost use Rattle.play_safety.specs.Appended.{AppendedFollows};
+ghost use Rattle.play_safety.specs.Fitting.{DecidedFit};
 ghost use Rattle.play_safety.specs.Safe.{PlaysAreSafe, TracesAreRead, DoneIsDecided};
 
 /// The trace of a play whose commits and recoveries are all of one actor and one token, from a disk that is sound and
@@ -15,4 +17,18 @@ pub fn traces_are_read()
 /// Each commit of a play that is answered as done is decided in its own stretch of events, which holds no output.
 pub fn done_is_decided()
     ensures { DoneIsDecided }
+{}
+
+/// In a crash safe run each accepted commit has its decision. Where it rewrites a file of which it has no other change,
+/// what others appended meanwhile follows the rewritten messages, from the decision on, at each moment and at each disk
+/// that a stop leaves, until the file is changed again; and a file that doesn't begin with the messages that the commit
+/// was made for stays as it is.
+pub fn appended_follows()
+    ensures { AppendedFollows }
+{}
+
+/// A commit of a play that rewrites a file of which it has no other change is decided only where the file begins with
+/// the messages that the commit was made for.
+pub fn decided_fit()
+    ensures { DecidedFit }
 {}

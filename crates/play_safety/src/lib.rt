@@ -3,4 +3,4 @@
 
 mod laws;
 
-pub use laws::{done_is_decided, plays_are_safe, traces_are_read};
+pub use laws::{appended_follows, decided_fit, done_is_decided, plays_are_safe, traces_are_read};

@@ -32,9 +32,9 @@ use Rattle.folder_commands.specs.Leaving.{quit}
 use Rattle.folder_commands.specs.Opening.{file}
 use Rattle.show_commands.specs.Telling.{from, size, number, echo, help}
 
--- the whole name of the command that a word spells
+-- the whole name of the command that a word spells; a line without a word is one of `print`
 abbrev pub name_of : List ℕ → List ℕ
-name_of word = unwrap_or (whole_name word) []
+name_of word = unwrap_or (whole_name word) (codes "print")
 
 -- what a command without words comes to, which is spelled so
 abbrev pub without_words : List (List ℕ) → List ℕ → OrFault Steps → OrFault Steps

@@ -25,13 +25,13 @@ use setting_commands::{condition, set, source, unset};
 use show_commands::{echo, from, headers, help, number, print, print_following, scroll, size, top};
 use std::alloc::Global;
 
-// The whole name of the command that a word spells.
+// The whole name of the command that a word spells. A line without a word is one of `print`.
 pub(crate) fn name_of(word: &[u8]) -> &'static [u8]
     ensures { result.now ≡ name_of word.now }
 {
     match whole_name(word) {
         Some(name) => name,
-        None => b"",
+        None => b"print",
     }
 }
 

@@ -13,11 +13,11 @@ pub recovery-requires-clause-no_zero : goal.recovery-requires-clause-no_zero
 recovery-requires-clause-no_zero g c = rw (c.bytes.ensures, c.state.ensures.state) c.state.ensures.valid.state.actor.no_zero
 
 pub returns-in-Ok-clause-ran : goal.returns-in-Ok-clause-ran
-returns-in-Ok-clause-ran g c =
+returns-in-Ok-clause-ran g c = λ env.
     let s = c.args.session.now in
     let start = start_from c.args.start in
-    Ran-then (goes-then (Ask (Recover s.actor s.token) Ret) (recovered start) _ (after_recovery start c.answered.result))
-    (rw (c.bytes.ensures, c.state.ensures.state) at c.in-Ok.ensures.ran s.token) c.answered.ensures.ran
+    Ran-then (goes-then (Ask (Recover s.actor s.token) Ret) (recovered env start) _ (after_recovery env start c.answered.result))
+    (rw (c.bytes.ensures, c.state.ensures.state) at c.in-Ok.ensures.ran s.token) (c.answered.ensures.ran env)
 
 pub returns-in-Ok-clause-cause : goal.returns-in-Ok-clause-cause
 returns-in-Ok-clause-cause g c =
@@ -25,10 +25,10 @@ returns-in-Ok-clause-cause g c =
     (c.in-Ok.ensures.ran c.args.session.now.token).never_fall c.answered.ensures.cause
 
 pub returns-in-Err-clause-ran : goal.returns-in-Err-clause-ran
-returns-in-Err-clause-ran g c =
+returns-in-Err-clause-ran g c = λ env.
     let s = c.args.session.now in
     let start = start_from c.args.start in
-    Ran-map (goes-cut (Ask (Recover s.actor s.token) Ret) (recovered start) _) (rw (c.bytes.ensures, c.state.ensures.state) at c.in-Err.ensures.ran s.token)
+    Ran-map (goes-cut (Ask (Recover s.actor s.token) Ret) (recovered env start) _) (rw (c.bytes.ensures, c.state.ensures.state) at c.in-Err.ensures.ran s.token)
 
 pub returns-in-Err-clause-stops : goal.returns-in-Err-clause-stops
 returns-in-Err-clause-stops g c = load-stops _ c.in-Err.ensures.only_disk

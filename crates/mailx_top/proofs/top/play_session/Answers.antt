@@ -1,22 +1,24 @@
 use Rattle.std.proofs.Common.{refl}
 use Rattle.host_port.proofs.RanLemmas.{Ran-then, Ran-map}
-use Rattle.session_play.specs.Play.{again, last, cut}
+use Rattle.session_play.specs.Play.{last, cut}
 use Rattle.mailx_top.specs.Wants.{start_from}
 use Rattle.mailx_top.proofs.EndLemmas.{actor-same, caused-since, opens-none, start-unopened, start-end}
+use Rattle.mailx_top.proofs.FileLemmas.{recovered-loop}
 use Rattle.mailx_top.proofs.top.play_session.Goals as goal
 
 pub returns-in-Ok-None-clause-ran : goal.returns-in-Ok-None-clause-ran
 returns-in-Ok-None-clause-ran g c =
-    Ran-then (λ front rest x y. again front rest refl x y) (rw (c.requires, c.in-Ok-None.field-0-is, actor-same c.args.env.now (start_from c.args.start).user) at c.in-Ok-None.ensures.ran) c.open_session.ensures.ran
+    Ran-then (recovered-loop c.args.env.now (start_from c.args.start) c.args.session.now _ c.requires)
+    (rw c.in-Ok-None.field-0-is at (c.in-Ok-None.ensures.ran c.args.env.now)) c.prepare_session.ensures.ran
 
 pub returns-in-Ok-Some-clause-ran : goal.returns-in-Ok-Some-clause-ran
-returns-in-Ok-Some-clause-ran g c = Ran-map (λ es x. last x) (rw (c.requires, c.in-Ok-Some.field-0-is, actor-same c.args.env.now (start_from c.args.start).user) at c.in-Ok-Some.ensures.ran)
+returns-in-Ok-Some-clause-ran g c = Ran-map (λ es x. last x) (rw (c.requires, c.in-Ok-Some.field-0-is, actor-same c.args.env.now (start_from c.args.start).user) at (c.in-Ok-Some.ensures.ran c.args.env.now))
 
 pub returns-in-Err-clause-ran : goal.returns-in-Err-clause-ran
-returns-in-Err-clause-ran g c = Ran-map (λ es x. cut x) (rw (c.requires, actor-same c.args.env.now (start_from c.args.start).user) at c.in-Err.ensures.ran)
+returns-in-Err-clause-ran g c = Ran-map (λ es x. cut x) (rw (c.requires, actor-same c.args.env.now (start_from c.args.start).user) at (c.in-Err.ensures.ran c.args.env.now))
 
 pub returns-in-Ok-None-clause-bad_name : goal.returns-in-Ok-None-clause-bad_name
-returns-in-Ok-None-clause-bad_name g c = λ bad. opens-none _ (c.open_session.ensures.bad_name bad)
+returns-in-Ok-None-clause-bad_name g c = λ bad. opens-none _ (c.prepare_session.ensures.bad_name bad)
 
 pub returns-in-Ok-Some-clause-bad_name : goal.returns-in-Ok-Some-clause-bad_name
 returns-in-Ok-Some-clause-bad_name g c = λ bad. start-unopened _ (rw c.in-Ok-Some.field-0-is at c.in-Ok-Some.ensures.stops)
@@ -26,5 +28,5 @@ returns-in-Ok-Some-clause-plain g c = start-end _ (rw c.in-Ok-Some.field-0-is at
 
 pub returns-in-Ok-None-clause-cause : goal.returns-in-Ok-None-clause-cause
 returns-in-Ok-None-clause-cause g c =
-    caused-since (g.H.Host.world.counts c.args.host.now) (g.H.Host.world.counts c.recover_first.new.host) (g.H.Host.world.counts c.open_session.new.host) c.open_session.result
-    c.in-Ok-None.ensures.ran.never_fall c.open_session.ensures.cause
+    caused-since (g.H.Host.world.counts c.args.host.now) (g.H.Host.world.counts c.recover_first.new.host) (g.H.Host.world.counts c.prepare_session.new.host) c.prepare_session.result
+    (c.in-Ok-None.ensures.ran c.args.env.now).never_fall c.prepare_session.ensures.cause

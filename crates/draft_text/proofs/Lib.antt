@@ -1,0 +1,5 @@
+pub mod BodyLemmas
+pub mod BreakLemmas
+pub mod FieldLemmas
+pub mod FoundLemmas
+pub mod StoredLemmas

@@ -1,0 +1,36 @@
+ghost use Rattle.draft_text.specs.DraftLaws.{StoredIsProper, StoredReadsBack, OpeningIsRead, SentReadsBack, FieldsAreFound, PlainIsStored};
+
+/// A law: where no part of a draft but its body holds a line feed, and the user's name holds none, its text can be put
+/// into a mailbox and read back as one message.
+pub fn a_draft_can_be_put_into_a_mailbox()
+    ensures { StoredIsProper }
+{}
+
+/// A law: what is then read of that text is the From line of the user and the moment, the fields of the draft in order
+/// and no other line, and the body, quoted and without the line feeds at its end.
+pub fn a_stored_draft_reads_back()
+    ensures { StoredReadsBack }
+{}
+
+/// A law: that From line, read behind its first word, tells the user, where that is a word, and what the moment's clock
+/// shows.
+pub fn an_opening_line_reads_back()
+    ensures { OpeningIsRead }
+{}
+
+/// A law: what is read of the message that is sent, behind any first line, is the fields of the draft in order and no
+/// other line, and the body with a line feed at its end.
+pub fn a_sent_draft_reads_back()
+    ensures { SentReadsBack }
+{}
+
+/// A law: a text with the fields of a draft has each of them under its name, with its value but for blanks at the ends,
+/// and none where the draft has nothing to put there.
+pub fn each_field_is_found()
+    ensures { FieldsAreFound }
+{}
+
+/// A law: where no line of a body begins with `From `, it is stored as it is, but for line feeds at its end.
+pub fn plain_bodies_are_stored_as_they_are()
+    ensures { PlainIsStored }
+{}

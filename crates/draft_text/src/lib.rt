@@ -1,0 +1,16 @@
+//! A draft, a message that is being written, and its texts: the message that the sender gets, and the text that is put
+//! into a mailbox.
+#![tactic(auto)]
+
+mod body;
+mod draft;
+mod fields;
+mod laws;
+mod texts;
+
+pub use draft::Draft;
+pub use laws::{
+    a_draft_can_be_put_into_a_mailbox, a_sent_draft_reads_back, a_stored_draft_reads_back,
+    an_opening_line_reads_back, each_field_is_found, plain_bodies_are_stored_as_they_are,
+};
+pub use texts::{mbox_text, message_text};

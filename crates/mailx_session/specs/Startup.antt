@@ -1,0 +1,43 @@
+-- The start-up files.
+use Rattle.std.specs.Prelude.{◌≡◌, ℕ, List, [], ◌∷◌, ◌++◌, length, if◌then◌else◌}
+use Rattle.std.specs.declared.option.Option.{Option}
+use Rattle.std.specs.declared.option.Option.TheVariants.{Some, None}
+use Rattle.std.specs.declared.result.Result.{Result}
+use Rattle.std.specs.declared.result.Result.TheVariants.{Ok, Err}
+use Rattle.host_port.specs.declared.event.Event.{Event}
+use Rattle.mailx_vars.specs.Names.{is_short_name}
+use Rattle.session_play.specs.declared.act.Found.{Found}
+use Rattle.session_play.specs.declared.act.Found.TheVariants as found
+use Rattle.session_play.specs.declared.stop.Stop.{Stop}
+use Rattle.session_play.specs.Play.{Play, Ret, Ask, Try, Next, Go, Goes}
+use Rattle.session_play.specs.Steps.{refused}
+use Rattle.command_desk.specs.Faults.{bad_name, too_large, cannot_be_read}
+use Rattle.read_commands.specs.declared.origin.Origin.TheVariants.{Startup}
+use Rattle.mailx_session.specs.declared.kinds.FrameKind.TheVariants as kind
+use Rattle.mailx_session.specs.declared.state.SessionState.{SessionState}
+use Rattle.mailx_session.specs.declared.status.Status.{Status}
+use Rattle.mailx_session.specs.Pending.{frame_of}
+use Rattle.mailx_session.specs.States.{with_frames}
+use Rattle.mailx_session.specs.Rounds.{WaitingGo}
+
+-- the lines of a start-up file wait, and no others do
+abbrev pub with_startup : SessionState → List ℕ → SessionState
+with_startup s text = with_frames s (frame_of Startup kind.Startup (length s.desk.conditions) text ∷ [])
+
+-- what follows the load of a start-up file of this name: its lines wait, an absent one is passed over, and else what is
+-- wrong is said; a lock on it is no matter
+abbrev pub after_startup : SessionState → List ℕ → Option Found → Play (Next SessionState Status)
+after_startup s name None = refused s (cannot_be_read name)
+after_startup s name (Some (found.TooLarge n)) = refused s (too_large name)
+after_startup s name (Some (found.Bytes None held)) = Ret (Go s)
+after_startup s name (Some (found.Bytes (Some text) held)) = Ret (Go (with_startup s text))
+
+-- a start-up file of this name is loaded, where the name can be a file's
+abbrev pub startup_play : SessionState → List ℕ → Play (Next SessionState Status)
+startup_play s name = if is_short_name name then Ask (Try name) (after_startup s name) else refused s (bad_name name)
+
+-- A start-up file is loaded, and then its lines are carried out.
+pub data StartupGoes (s : SessionState) (name : List ℕ) : List Event → Result (Next SessionState Status) Stop → Type 0 where
+  begun : {t : SessionState} {es : List Event} {out : Result (Next SessionState Status) Stop} (front rest : List Event) → es ≡ front ++ rest
+      → Goes (startup_play s name) front (Ok (Go t)) → WaitingGo t rest out → StartupGoes s name es out
+  unread : {es : List Event} {cause : Stop} → Goes (startup_play s name) es (Err cause) → StartupGoes s name es (Err cause)

@@ -1,0 +1,146 @@
+// The start-up files.
+ghost use Rattle.std.specs.Prelude.{◌≡◌, ◌++◌, true, IfOk, OnOk, OnErr};
+ghost use Rattle.mail_text.specs.Lines.{with_feed};
+ghost use Rattle.host_port.specs.Ran.{Ran};
+ghost use Rattle.session_play.specs.Play.{Play, Ask, Try, Goes};
+ghost use Rattle.session_play.specs.Steps.{refused};
+ghost use Rattle.mailx_vars.specs.Names.{is_short_name};
+ghost use Rattle.mailx_session.specs.States.{IsState, IsSession, rested};
+ghost use Rattle.mailx_session.specs.Startup.{with_startup, after_startup, startup_play, StartupGoes};
+ghost use Rattle.mailx_session.specs.Sessions.{in_play, next_of, LineCaused, EndsByLine};
+
+use crate::lines::{refuse, waiting_lines};
+use crate::saving::line_of;
+use crate::{Flow, Frame, FrameKind, RunError, SessionState};
+use host_port::Host;
+use mail_text::{Memory, Text};
+use mailx_vars::is_short_name;
+use read_commands::Origin;
+use session_play::{Found, try_load};
+use std::alloc::Global;
+
+// Says what is wrong with a file.
+fn say_fault<H: Host>(
+    alloc: Global,
+    state: &SessionState,
+    host: &mut H,
+    name: &[u8],
+    fault: &[u8],
+) -> Result<Flow, RunError>
+    ensures ran { Ran H.world host.old host.new
+        (λ es. Goes (refused state.now (with_feed (name.now ++ fault.now))) es
+        (in_play (next_of state.now) result)) }
+    ensures go { IfOk result (λ flow. flow ≡ Flow.Go) }
+    ensures cause { LineCaused (H.world.counts host.old) (H.world.counts host.new) result }
+{
+    match line_of(alloc, name, fault) {
+        Ok(line) => refuse(state, host, &line),
+        Err(Memory) => Err(RunError::Memory),
+    }
+}
+
+// Lets the lines of a start-up file wait.
+fn bring(state: &mut SessionState, text: Text) -> Result<(), Memory>
+    requires { IsSession state.old }
+    ensures ok { OnOk result (state.new ≡ with_startup state.old text) }
+    ensures err { OnErr result (state.new ≡ state.old) }
+    ensures state { IsState state.new }
+{
+    let nested = state.desk.conditions.depth();
+    let frame = Frame::new(Origin::Startup, FrameKind::Startup, nested, text);
+    state.frames.push(frame)
+}
+
+// What follows the load of a start-up file.
+fn after_load<H: Host>(
+    alloc: Global,
+    state: &mut SessionState,
+    host: &mut H,
+    name: &[u8],
+    found: Option<Found>,
+) -> Result<Flow, RunError>
+    requires { IsSession state.old }
+    ensures ran { Ran H.world host.old host.new
+        (λ es. Goes (after_startup state.old name.now found) es (in_play (next_of state.new) result)) }
+    ensures go { IfOk result (λ flow. flow ≡ Flow.Go) }
+    ensures state { IsState state.new }
+    ensures cause { LineCaused (H.world.counts host.old) (H.world.counts host.new) result }
+{
+    match found {
+        Some(
+            Found::Bytes {
+                bytes: Some(text),
+                ..
+            },
+        ) => match bring(state, text) {
+            Ok(()) => Ok(Flow::Go),
+            Err(Memory) => Err(RunError::Memory),
+        },
+        Some(Found::Bytes { bytes: None, .. }) => Ok(Flow::Go),
+        Some(Found::TooLarge { .. }) => say_fault(alloc, state, host, name, b": too large"),
+        None => say_fault(alloc, state, host, name, b": cannot be read"),
+    }
+}
+
+// Loads a start-up file whose name can be one.
+fn load_named<H: Host>(
+    alloc: Global,
+    state: &mut SessionState,
+    host: &mut H,
+    name: &[u8],
+) -> Result<Flow, RunError>
+    requires session { IsSession state.old }
+    requires name { is_short_name name.now ≡ true }
+    ensures ran { Ran H.world host.old host.new
+        (λ es. Goes (Ask (Try name.now) (after_startup state.old name.now)) es
+        (in_play (next_of state.new) result)) }
+    ensures go { IfOk result (λ flow. flow ≡ Flow.Go) }
+    ensures state { IsState state.new }
+    ensures cause { LineCaused (H.world.counts host.old) (H.world.counts host.new) result }
+{
+    match try_load(alloc, host, name) {
+        Ok(found) => after_load(alloc, state, host, name, found),
+        Err(_) => Err(RunError::Memory),
+    }
+}
+
+// Loads a start-up file, or says what is wrong with its name.
+fn load_file<H: Host>(
+    alloc: Global,
+    state: &mut SessionState,
+    host: &mut H,
+    name: &[u8],
+) -> Result<Flow, RunError>
+    requires { IsSession state.old }
+    ensures ran { Ran H.world host.old host.new
+        (λ es. Goes (startup_play state.old name.now) es (in_play (next_of state.new) result)) }
+    ensures go { IfOk result (λ flow. flow ≡ Flow.Go) }
+    ensures state { IsState state.new }
+    ensures cause { LineCaused (H.world.counts host.old) (H.world.counts host.new) result }
+{
+    if is_short_name(name) {
+        load_named(alloc, state, host, name)
+    } else {
+        say_fault(alloc, state, host, name, b": bad name")
+    }
+}
+
+/// Loads a start-up file and carries out its lines.
+pub(crate) fn startup_file<H: Host>(
+    alloc: Global,
+    state: &mut SessionState,
+    host: &mut H,
+    name: &[u8],
+) -> Result<Flow, RunError>
+    requires { IsSession state.old }
+    ensures ran { Ran H.world host.old host.new
+        (λ es. StartupGoes state.old name.now es (in_play (next_of (rested state.new)) result)) }
+    ensures state { IsState state.new }
+    ensures done { IfOk result EndsByLine }
+    ensures cause { LineCaused (H.world.counts host.old) (H.world.counts host.new) result }
+{
+    match load_file(alloc, state, host, name) {
+        Ok(_) => waiting_lines(alloc, state, host),
+        Err(error) => Err(error),
+    }
+}

@@ -1,0 +1,16 @@
+ghost use Rattle.mailx_top.specs.Appended.{RunsKeepAppended};
+ghost use Rattle.mailx_top.specs.Fitting.{RunsFit};
+
+/// In a run that is safe each accepted commit has its decision. Where it rewrites a file of which it has no other
+/// change, what others appended meanwhile follows the rewritten messages, from the decision on, at each moment and at
+/// each disk that a stop leaves, until the file is changed again.
+pub fn appended_follows()
+    ensures { RunsKeepAppended }
+{}
+
+/// In such a run, from a disk that is sound and carries nothing of its token, with lawful steps of others, a commit
+/// that rewrites a file of which it has no other change is decided only where the file begins with the messages that
+/// the commit was made for.
+pub fn decided_fit()
+    ensures { RunsFit }
+{}
