@@ -21,7 +21,7 @@ spaced_field name value = record { name = name; value = 32 ∷ value }
 abbrev pub filled : List ℕ → List ℕ → List Field
 filled name value = if length value == 0 then [] else spaced_field name value ∷ []
 
--- the values of a draft's fields in the order in which they are written, each behind its field's name (RFC 5322, section 3.6)
+-- the values of a draft's fields in the order in which they are written, each behind its field's name (RFC 5322, 3.6)
 abbrev pub draft_values : Draft → Moment → List (List ℕ × List ℕ)
 draft_values draft m =
     (codes "Date", date_text m)
