@@ -415,14 +415,14 @@ module _ (actor : List ℕ) (token : ℕ) where
   file-commits start s names None of = next-commits start (rested s) names of
   file-commits start s names (Some p) of =
       let t = resumed s p.1 in
-      let b = is_idle t p.0 in
+      let b = is_defining t.desk in
       bind-commits (IsBy actor token) (NextOf actor token) (waiting_play t p.0) (with_files start names) (waiting-commits b t p.0 of) (waiting-of b t p.0 of) (files-commits start names)
 
   file-of : (start : Start) (s : SessionState) (names : List (List ℕ)) (next : Option (WaitingLine × List Pending)) → IsOf actor token s → AllEnds (NextKeeps (StateOf actor token)) (file_round start s names next)
   file-of start s names None of = next-of start (rested s) names of
   file-of start s names (Some p) of =
       let t = resumed s p.1 in
-      bind-ends (NextOf actor token) (NextKeeps (StateOf actor token)) (waiting_play t p.0) (with_files start names) (waiting-of (is_idle t p.0) t p.0 of) (files-of start names)
+      bind-ends (NextOf actor token) (NextKeeps (StateOf actor token)) (waiting_play t p.0) (with_files start names) (waiting-of (is_defining t.desk) t p.0 of) (files-of start names)
 
 -- each commit of a round is one of the run
 pub round-commits : (env : Environment) (x : RunState) → StateOf (actor_in env) env.token x → EachCommit (IsBy (actor_in env) env.token) (round env x)

@@ -370,7 +370,7 @@ file-tells : (start : Start) (s : SessionState) (names : List (List ℕ)) (next 
 file-tells start s names None = next-file-tells start (rested s) names
 file-tells start s names (Some p) =
     let t = resumed s p.1 in
-    bind-tells next_ends next_ends false (waiting_play t p.0) (with_files start names) (waiting-tells (is_idle t p.0) t p.0) (with-files-tells start names)
+    bind-tells next_ends next_ends false (waiting_play t p.0) (with_files start names) (waiting-tells (is_defining t.desk) t p.0) (with-files-tells start names)
 
 round-tells : (env : Environment) (x : RunState) → Tells next_ends false (round env x)
 round-tells env (Recovering None) = refl

@@ -31,7 +31,8 @@ fn prompt(session: &Session) -> &[u8]
 // Whether the prompt is said: on a terminal, unless a definition is under way.
 #[tactic(auto, using(crate::proofs::WaitingLemmas::prompt_at_rest))]
 fn is_prompted(session: &Session) -> bool
-    ensures { result ≡ at_prompt session.now }
+    ensures prompted { result ≡ at_prompt session.now }
+    ensures idle { session.now.frames ≡ [] }
 {
     session.state().terminal && !is_defining(session.desk())
 }
