@@ -4,7 +4,7 @@ ghost use Rattle.std.specs.Prelude.{◌≤◌};
 use crate::Answer;
 use crate::block::{Case, cut, number, value};
 use host_memory::Plan;
-use host_port::{ForeignStep, Part};
+use host_port::{ChildAnswer, ForeignStep, Part};
 use mail_text::Items;
 
 fn step(text: &str, out: &mut Answer) -> ForeignStep {
@@ -57,6 +57,25 @@ fn put_block(
     }
 }
 
+// Puts what the lines of a block plan of children at the end.
+fn put_children(block: &str, children: &mut Items<ChildAnswer>, out: &mut Answer) {
+    for line in block.lines() {
+        if let Some(rest) = line.strip_prefix("child ") {
+            let (status, text) = cut(rest);
+            let answer = ChildAnswer {
+                status: status.parse().unwrap_or(0),
+                output: out.decoded(text),
+                cut: false,
+            };
+            out.note(children.push(answer));
+        }
+    }
+}
+
+fn seconds(case: Case<'_>) -> i64 {
+    value(case, "now ").unwrap_or("0").parse().unwrap_or(0)
+}
+
 fn pieces(case: Case<'_>) -> usize
     ensures { 1 ≤ result }
 {
@@ -66,17 +85,23 @@ fn pieces(case: Case<'_>) -> usize
     }
 }
 
-/// What happens in a case: the steps of others, the calls that fail, and in what pieces the input comes.
+/// What happens in a case: the time, in what pieces the input comes, the steps of others, the calls that fail, and the
+/// answers of children.
 pub fn plan(case: Case<'_>, out: &mut Answer) -> Plan
     ensures { 1 ≤ result.chunk }
 {
     let mut foreign = Items::new(out.alloc());
     let mut fails = Items::new(out.alloc());
+    let mut children = Items::new(out.alloc());
     put_block(case.own, &mut foreign, &mut fails, out);
     put_block(case.always, &mut foreign, &mut fails, out);
+    put_children(case.own, &mut children, out);
+    put_children(case.always, &mut children, out);
     Plan {
+        now: seconds(case),
         chunk: pieces(case),
         foreign,
         fails,
+        children,
     }
 }

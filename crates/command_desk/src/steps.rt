@@ -2,6 +2,7 @@ ghost use Rattle.std.specs.Prelude.{◌≡◌, IfOk, Ok};
 ghost use Rattle.command_desk.specs.Answers.{Means, says, quietly};
 
 use crate::Effects;
+use draft_text::Draft;
 use folder_change::Change;
 use mail_text::{Items, Memory, Text};
 use std::alloc::{AllocError, Global};
@@ -30,6 +31,11 @@ pub enum Ask {
         name: Text,
         changes: Items<Change>,
         reply: Text,
+    },
+    /// A message is begun: the lines of the input that follow are those of this draft, until it is over. A line feed in
+    /// a part of it but the body stands for a space.
+    Draft {
+        draft: Draft,
     },
     /// The run ends without changes.
     Exit,

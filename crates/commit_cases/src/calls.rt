@@ -5,7 +5,8 @@ use crate::commits;
 use crate::names::is_name;
 use case_blocks::{Answer, cut, number};
 use host_memory::MemHost;
-use host_port::{Host, LoadAnswer, LoadError};
+use host_port::{ChildAnswer, ChildError, Host, LoadAnswer, LoadError};
+use mail_text::{Items, Text};
 
 fn done<E: Drop>(answer: Result<(), E>) -> &'static [u8] {
     match answer {
@@ -96,6 +97,49 @@ fn put_fill(host: &mut MemHost, out: &mut Answer) {
     }
 }
 
+// The longest output that is put as it is.
+const SHOWN: usize = 64;
+
+fn put_ran(answer: &ChildAnswer, out: &mut Answer) {
+    out.put_shown(&answer.status);
+    let output = answer.output.bytes();
+    if SHOWN < output.len() {
+        out.put_plain(b" ");
+        out.put_shown(&output.len());
+        out.put_plain(b" bytes");
+    } else if !output.is_empty() {
+        out.put_plain(b" ");
+        out.put(output);
+    }
+    if answer.cut {
+        out.put_plain(b", cut");
+    }
+}
+
+fn arguments(words: &str, out: &mut Answer) -> Items<Text> {
+    let mut args = Items::new(out.alloc());
+    for word in words.split(' ') {
+        if !word.is_empty() {
+            let arg = out.decoded(word);
+            out.note(args.push(arg));
+        }
+    }
+    args
+}
+
+fn put_child(host: &mut MemHost, rest: &str, out: &mut Answer) {
+    let (program, rest) = cut(rest);
+    let (input, words) = cut(rest);
+    let program = out.decoded(program);
+    let input = out.decoded(input);
+    let args = arguments(words, out);
+    match host.child(out.alloc(), program.bytes(), args.items(), input.bytes()) {
+        Ok(answer) => put_ran(&answer, out),
+        Err(ChildError::Failed) => out.put_plain(b"failed"),
+        Err(ChildError::Memory) => out.put_plain(b"out of memory"),
+    }
+}
+
 /// Carries out a call, and puts its answer at the end.
 pub fn put_call(host: &mut MemHost, line: &str, out: &mut Answer) {
     let (kind, rest) = cut(line);
@@ -105,6 +149,8 @@ pub fn put_call(host: &mut MemHost, line: &str, out: &mut Answer) {
             let bytes = out.decoded(rest);
             out.put_plain(done(host.say(bytes.bytes())));
         }
+        "child" => put_child(host, rest, out),
+        "now" => out.put_shown(&host.now()),
         "recover" => out.put_plain(commits::recovered(out.alloc(), host)),
         "commit" => commits::put_commit(host, rest, out),
         "add" => commits::put_added(host, rest, out),

@@ -11,6 +11,8 @@
 //! | `do unlock NAME TOKEN`, `do release NAME` | `done` or `fault` |
 //! | `do publish FROM TO`, `do lock NAME TOKEN`, `do seize NAME` | `yes`, `no` or `fault` |
 //! | `do load NAME` | what was seen |
+//! | `do child PROGRAM INPUT ARGUMENT..` | the child's status and output, or the length of a long one; `, cut` |
+//! | `do now` | the time |
 //! | `do recover`, `do add NAME TEXT` | how the recovery, or the commit that adds the text to the file, ended |
 //! | `do empty NAME TEXT` | how the commit ended that leaves a file without a message, read before as the text |
 //! | `do commit CHANGE ; CHANGE.. / BASE` | how the commit of these changes ended, an error in its words |

@@ -23,6 +23,8 @@ fn letter(event: &Event) -> u8 {
         Event::Unlock { .. } => b'u',
         Event::Seize { .. } => b'z',
         Event::Release { .. } => b'r',
+        Event::Child { failed, .. } => if *failed { b'C' } else { b'c' },
+        Event::Now { .. } => b'n',
         Event::Foreign { .. } => b'f',
     }
 }

@@ -14,9 +14,11 @@ pub fn no_plan(alloc: Global) -> Plan
     ensures { 1 ≤ result.chunk }
 {
     Plan {
+        now: 0,
         chunk: 1,
         foreign: Items::new(alloc),
         fails: Items::new(alloc),
+        children: Items::new(alloc),
     }
 }
 

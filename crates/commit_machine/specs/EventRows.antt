@@ -35,6 +35,8 @@ call_row done false = row (Went done) false true true
 abbrev pub event_row : Event → EventRow
 event_row (event.In bytes failed) = row (Went true) false false false
 event_row (event.Out bytes failed) = row (Went true) false false false
+event_row (event.Child program args input answer failed) = row (Went true) false false false
+event_row (event.Now seconds) = row (Went true) false false false
 event_row (event.Load name seen) = load_row seen
 event_row (event.Stage name bytes failed) = call_row true failed
 event_row (event.Publish from to done failed) = call_row done failed
@@ -49,6 +51,8 @@ event_row (event.Foreign step) = row (Went true) false false false
 abbrev pub is_disk : Event → Bool
 is_disk (event.In bytes failed) = false
 is_disk (event.Out bytes failed) = false
+is_disk (event.Child program args input answer failed) = false
+is_disk (event.Now seconds) = false
 is_disk (event.Load name seen) = true
 is_disk (event.Stage name bytes failed) = true
 is_disk (event.Publish from to done failed) = true

@@ -12,7 +12,7 @@ use Rattle.mail_dates.specs.FromLines.{sender_of, arrival_of}
 use Rattle.mail_dates.specs.Laws.{IsWord, as_shown}
 use Rattle.mbox_scan.specs.Mailbox.{from_mark, trimmed, IsProper}
 use Rattle.draft_text.specs.declared.draft.Draft.{Draft}
-use Rattle.draft_text.specs.Texts.{joined, draft_fields, message_text, quoted, opening_line, mbox_text}
+use Rattle.draft_text.specs.Texts.{joined, draft_fields, message_text, quoted, opening_line, mbox_text, flattened}
 
 -- no part of the draft but its body holds a line feed
 pub record HasFlatParts (draft : Draft) : Type 0 where
@@ -80,3 +80,7 @@ IsPlainBody body = All (λ line. starts_with nat_eq line from_mark ≡ false) (l
 -- such a body is stored as it is
 abbrev pub PlainIsStored : Type 0
 PlainIsStored = (body : List ℕ) → IsPlainBody body → trimmed (quoted body) ≡ trimmed body
+
+-- a draft whose parts are flat stays as it is
+abbrev pub FlatIsKept : Type 0
+FlatIsKept = (draft : Draft) → HasFlatParts draft → flattened draft ≡ draft

@@ -1,5 +1,5 @@
 -- The texts of a draft: the message that is sent (RFC 5322, section 2.1), and the text that is put into a mailbox.
-use Rattle.std.specs.Prelude.{ℕ, ◌==◌, nat_eq, List, [], ◌∷◌, ◌++◌, length, codes, if◌then◌else◌}
+use Rattle.std.specs.Prelude.{ℕ, ◌==◌, nat_eq, List, [], ◌∷◌, ◌++◌, map, length, codes, if◌then◌else◌}
 use Rattle.std.specs.List.{starts_with, flat_map}
 use Rattle.mail_text.specs.Lines.{lines_of, with_feed, fed}
 use Rattle.mail_headers.specs.Field.{Field, field_bytes}
@@ -68,3 +68,22 @@ opening_line user m = from_mark ++ (user ++ codes " " ++ from_date_text m)
 unfoldable pub mbox_text : Draft → List ℕ → Moment → List ℕ
 mbox_text draft user m =
     trimmed (with_feed (opening_line user m) ++ field_lines (draft_fields draft m) ++ 10 ∷ quoted draft.body)
+
+-- a byte of a part but the body: a line feed is put as a space
+abbrev pub flat_byte : ℕ → ℕ
+flat_byte b = if b == 10 then 32 else b
+
+abbrev pub flat : List ℕ → List ℕ
+flat bytes = map flat_byte bytes
+
+-- the draft with each line feed put as a space, but for those of its body
+abbrev pub flattened : Draft → Draft
+flattened draft = record draft {
+  to = map flat draft.to;
+  cc = map flat draft.cc;
+  bcc = map flat draft.bcc;
+  subject = flat draft.subject;
+  from = flat draft.from;
+  reply = flat draft.reply;
+  references = map flat draft.references;
+}

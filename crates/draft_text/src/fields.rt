@@ -20,8 +20,8 @@ fn push_behind(text: &mut Text, separator: &[u8], later: &[Text]) -> Result<(), 
     Ok(())
 }
 
-// Texts with the separator between them.
-fn joined(alloc: Global, separator: &[u8], texts: &[Text]) -> Result<Text, Memory>
+/// Texts with the separator between them. Only want of memory can fail.
+pub fn joined(alloc: Global, separator: &[u8], texts: &[Text]) -> Result<Text, Memory>
     ensures { IfOk result (λ t. t ≡ joined separator.now texts.now) }
 {
     match texts.split_first() {

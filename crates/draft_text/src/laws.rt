@@ -1,4 +1,4 @@
-ghost use Rattle.draft_text.specs.DraftLaws.{StoredIsProper, StoredReadsBack, OpeningIsRead, SentReadsBack, FieldsAreFound, PlainIsStored};
+ghost use Rattle.draft_text.specs.DraftLaws.{StoredIsProper, StoredReadsBack, OpeningIsRead, SentReadsBack, FieldsAreFound, PlainIsStored, FlatIsKept};
 
 /// A law: where no part of a draft but its body holds a line feed, and the user's name holds none, its text can be put
 /// into a mailbox and read back as one message.
@@ -33,4 +33,9 @@ pub fn each_field_is_found()
 /// A law: where no line of a body begins with `From `, it is stored as it is, but for line feeds at its end.
 pub fn plain_bodies_are_stored_as_they_are()
     ensures { PlainIsStored }
+{}
+
+/// A law: a draft of which no part but the body holds a line feed is the same once line feeds stand for spaces there.
+pub fn a_draft_of_flat_parts_stays()
+    ensures { FlatIsKept }
 {}

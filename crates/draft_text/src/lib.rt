@@ -6,11 +6,15 @@ mod body;
 mod draft;
 mod fields;
 mod laws;
+mod parts;
 mod texts;
 
 pub use draft::Draft;
+pub use fields::joined;
 pub use laws::{
-    a_draft_can_be_put_into_a_mailbox, a_sent_draft_reads_back, a_stored_draft_reads_back,
-    an_opening_line_reads_back, each_field_is_found, plain_bodies_are_stored_as_they_are,
+    a_draft_can_be_put_into_a_mailbox, a_draft_of_flat_parts_stays, a_sent_draft_reads_back,
+    a_stored_draft_reads_back, an_opening_line_reads_back, each_field_is_found,
+    plain_bodies_are_stored_as_they_are,
 };
+pub use parts::{flat, flattened};
 pub use texts::{mbox_text, message_text};

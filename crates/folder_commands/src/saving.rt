@@ -18,7 +18,7 @@ use message_state::Act;
 use std::alloc::Global;
 
 /// What is said once so many messages were put into the file of this name.
-pub(crate) fn reply(alloc: Global, name: &[u8], done: &[u8], count: usize) -> Result<Text, Memory>
+pub fn reply(alloc: Global, name: &[u8], done: &[u8], count: usize) -> Result<Text, Memory>
     ensures { IfOk result (λ line. line ≡ reply name.now done.now count) }
 {
     let mut buffer = Buffer::new();

@@ -1,3 +1,4 @@
 pub mod NamedLemmas
 pub mod TapeLemmas
 pub mod PlanLemmas
+mod ChildLemmas

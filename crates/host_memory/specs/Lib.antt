@@ -3,4 +3,5 @@ pub mod Plans
 pub mod Pairs
 pub mod Tapes
 pub mod Standings
+pub mod Children
 pub mod MemHosts

@@ -17,6 +17,9 @@ use Rattle.std.specs.declared.result.Result.TheVariants.{Err}
 use Rattle.host_port.specs.declared.event.LoadAnswer.{LoadAnswer}
 use Rattle.host_port.specs.declared.host.LoadError.{LoadError}
 use Rattle.host_port.specs.declared.host.LoadError.TheVariants as error
+use Rattle.host_port.specs.declared.event.ChildAnswer.{ChildAnswer}
+use Rattle.host_port.specs.declared.host.ChildError.{ChildError}
+use Rattle.host_port.specs.declared.host.ChildError.TheVariants as child_error
 
 -- the disk that it began with
 abbrev pub host_start : MemHost → Disk
@@ -31,7 +34,7 @@ abbrev pub host_told : MemHost → Option (List Event)
 host_told m = told_of m.lost m.tape.trace.items
 
 abbrev pub host_counts : MemHost → Counts
-host_counts m = record { ins = m.ins; outs = m.outs; disks = m.disks; children = 0 }
+host_counts m = record { ins = m.ins; outs = m.outs; disks = m.disks; children = m.children }
 
 abbrev pub host_world : World MemHost
 host_world = record { start = host_start; told = host_told; counts = host_counts }
@@ -49,6 +52,16 @@ is_failed_load r = false
 abbrev pub wants_memory : Result LoadAnswer LoadError → Bool
 wants_memory (Err error.Memory) = true
 wants_memory r = false
+
+-- whether a child answered that it could not be run
+abbrev pub is_failed_child : Result ChildAnswer ChildError → Bool
+is_failed_child (Err child_error.Failed) = true
+is_failed_child r = false
+
+-- whether a child answered want of memory
+abbrev pub child_wants_memory : Result ChildAnswer ChildError → Bool
+child_wants_memory (Err child_error.Memory) = true
+child_wants_memory r = false
 
 -- whether the host tells its trace no more
 abbrev pub is_lost : MemHost → Bool
@@ -75,6 +88,15 @@ next_part m = part_at m.plan.fails (next_call m.calls)
 abbrev pub input_left : MemHost → List ℕ
 input_left m = drop m.at m.input
 
+-- the planned answers of children that are left
+abbrev pub answers_left : MemHost → List ChildAnswer
+answers_left m = drop m.used m.plan.children
+
+-- a call that takes nothing: what is left of the input and of the answers of children stays
+pub record TakesNothing (old new : MemHost) : Type 0 where
+  pub input : input_left new ≡ input_left old
+  pub answers : answers_left new ≡ answers_left old
+
 -- the next bytes of the input, for which a buffer of so many bytes and one chunk have room
 abbrev pub next_input : MemHost → ℕ → List ℕ
 next_input m room = take (min room m.plan.chunk) (input_left m)
@@ -84,6 +106,7 @@ pub record IsUncalled (input : List ℕ) (plan : Plan) (m : MemHost) : Type 0 wh
   pub plan_is : m.plan ≡ plan
   pub calls : m.calls ≡ 0
   pub input_is : input_left m ≡ input
+  pub answers_are : answers_left m ≡ plan.children
   pub counts : host_counts m ≡ record { ins = 0; outs = 0; disks = 0; children = 0 }
 
 -- what goes out of an output: all of it, or where it fails what the plan says, all or nothing
@@ -112,3 +135,6 @@ after_output failed c = record c { outs = counted failed c.outs }
 
 abbrev pub after_disk : Bool → Counts → Counts
 after_disk failed c = record c { disks = counted failed c.disks }
+
+abbrev pub after_child : Bool → Counts → Counts
+after_child failed c = record c { children = counted failed c.children }

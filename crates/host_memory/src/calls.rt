@@ -29,8 +29,8 @@ pub fn failing(plan: &[(u64, Part)], call: u64) -> Option<&Part>
     None
 }
 
-// The steps of others before the call of this number, and its own event.
-fn tell(
+/// The steps of others before the call of this number, and its own event.
+pub fn tell(
     alloc: Global,
     plan: &[(u64, ForeignStep)],
     call: u64,
@@ -158,4 +158,18 @@ pub fn tell_release(
 {
     let name = Text::copy(alloc, name)?;
     tell(alloc, plan, call, tape, Event::Release { name })
+}
+
+/// Tells that the time was looked at.
+pub fn tell_now(
+    alloc: Global,
+    plan: &[(u64, ForeignStep)],
+    call: u64,
+    tape: &mut Tape,
+    seconds: i64,
+) -> Result<(), Memory>
+    ensures ok { OnOk result (TapeAdds tape.old tape.new (steps_before plan.now call) (event.Now seconds)) }
+    ensures start { tape.new.start ≡ tape.old.start }
+{
+    tell(alloc, plan, call, tape, Event::Now { seconds })
 }

@@ -24,10 +24,10 @@ pub fn tell_disk(
     event: Event,
 ) -> Result<Result<bool, DiskFault>, Memory>
     ensures ok { IfOk result
-        (λ r. TapeAddsCall tape.old tape.new (steps_before plan.now.foreign call) (Ended event r)) }
+        (λ r. TapeAddsCall tape.old tape.new (steps_before plan.entry.now.foreign call) (Ended event r)) }
     ensures planned { IfOk result
-        (λ r. TapeAddsPlanned tape.old tape.new (steps_before plan.now.foreign call) event
-        (part_at plan.now.fails call) (is_err r)) }
+        (λ r. TapeAddsPlanned tape.old tape.new (steps_before plan.entry.now.foreign call) event
+        (part_at plan.entry.now.fails call) (is_err r)) }
     ensures start { tape.new.start ≡ tape.old.start }
 {
     add_others(alloc, plan.foreign.items(), call, tape)?;
@@ -52,10 +52,11 @@ pub fn tell_stage(
     bytes: &[u8],
 ) -> Result<Result<(), DiskFault>, Memory>
     ensures ok { IfOk result
-        (λ r. TapeAddsCall tape.old tape.new (steps_before plan.now.foreign call) (Staged name.now bytes.now r)) }
+        (λ r. TapeAddsCall tape.old tape.new (steps_before plan.entry.now.foreign call)
+        (Staged name.now bytes.now r)) }
     ensures planned { IfOk result
-        (λ r. TapeAddsPlanned tape.old tape.new (steps_before plan.now.foreign call)
-        (event.Stage name.now (Some bytes.now) false) (part_at plan.now.fails call) (is_err r)) }
+        (λ r. TapeAddsPlanned tape.old tape.new (steps_before plan.entry.now.foreign call)
+        (event.Stage name.now (Some bytes.now) false) (part_at plan.entry.now.fails call) (is_err r)) }
     ensures start { tape.new.start ≡ tape.old.start }
 {
     let name = Text::copy(alloc, name)?;
@@ -82,10 +83,11 @@ pub fn tell_publish(
     to: &[u8],
 ) -> Result<Result<bool, DiskFault>, Memory>
     ensures ok { IfOk result
-        (λ r. TapeAddsCall tape.old tape.new (steps_before plan.now.foreign call) (Published from.now to.now r)) }
+        (λ r. TapeAddsCall tape.old tape.new (steps_before plan.entry.now.foreign call)
+        (Published from.now to.now r)) }
     ensures planned { IfOk result
-        (λ r. TapeAddsPlanned tape.old tape.new (steps_before plan.now.foreign call)
-        (event.Publish from.now to.now true false) (part_at plan.now.fails call) (is_err r)) }
+        (λ r. TapeAddsPlanned tape.old tape.new (steps_before plan.entry.now.foreign call)
+        (event.Publish from.now to.now true false) (part_at plan.entry.now.fails call) (is_err r)) }
     ensures start { tape.new.start ≡ tape.old.start }
 {
     let from = Text::copy(alloc, from)?;
@@ -108,10 +110,10 @@ pub fn tell_erase(
     name: &[u8],
 ) -> Result<Result<(), DiskFault>, Memory>
     ensures ok { IfOk result
-        (λ r. TapeAddsCall tape.old tape.new (steps_before plan.now.foreign call) (Erased name.now r)) }
+        (λ r. TapeAddsCall tape.old tape.new (steps_before plan.entry.now.foreign call) (Erased name.now r)) }
     ensures planned { IfOk result
-        (λ r. TapeAddsPlanned tape.old tape.new (steps_before plan.now.foreign call)
-        (event.Erase name.now true false) (part_at plan.now.fails call) (is_err r)) }
+        (λ r. TapeAddsPlanned tape.old tape.new (steps_before plan.entry.now.foreign call)
+        (event.Erase name.now true false) (part_at plan.entry.now.fails call) (is_err r)) }
     ensures start { tape.new.start ≡ tape.old.start }
 {
     let name = Text::copy(alloc, name)?;
@@ -137,10 +139,10 @@ pub fn tell_lock(
     token: u64,
 ) -> Result<Result<bool, DiskFault>, Memory>
     ensures ok { IfOk result
-        (λ r. TapeAddsCall tape.old tape.new (steps_before plan.now.foreign call) (Locked name.now token r)) }
+        (λ r. TapeAddsCall tape.old tape.new (steps_before plan.entry.now.foreign call) (Locked name.now token r)) }
     ensures planned { IfOk result
-        (λ r. TapeAddsPlanned tape.old tape.new (steps_before plan.now.foreign call)
-        (event.Lock name.now token true false) (part_at plan.now.fails call) (is_err r)) }
+        (λ r. TapeAddsPlanned tape.old tape.new (steps_before plan.entry.now.foreign call)
+        (event.Lock name.now token true false) (part_at plan.entry.now.fails call) (is_err r)) }
     ensures start { tape.new.start ≡ tape.old.start }
 {
     let name = Text::copy(alloc, name)?;
@@ -163,10 +165,10 @@ pub fn tell_unlock(
     token: u64,
 ) -> Result<Result<(), DiskFault>, Memory>
     ensures ok { IfOk result
-        (λ r. TapeAddsCall tape.old tape.new (steps_before plan.now.foreign call) (Unlocked name.now token r)) }
+        (λ r. TapeAddsCall tape.old tape.new (steps_before plan.entry.now.foreign call) (Unlocked name.now token r)) }
     ensures planned { IfOk result
-        (λ r. TapeAddsPlanned tape.old tape.new (steps_before plan.now.foreign call)
-        (event.Unlock name.now token true false) (part_at plan.now.fails call) (is_err r)) }
+        (λ r. TapeAddsPlanned tape.old tape.new (steps_before plan.entry.now.foreign call)
+        (event.Unlock name.now token true false) (part_at plan.entry.now.fails call) (is_err r)) }
     ensures start { tape.new.start ≡ tape.old.start }
 {
     let name = Text::copy(alloc, name)?;
@@ -192,10 +194,10 @@ pub fn tell_seize(
     name: &[u8],
 ) -> Result<Result<bool, DiskFault>, Memory>
     ensures ok { IfOk result
-        (λ r. TapeAddsCall tape.old tape.new (steps_before plan.now.foreign call) (Seized name.now r)) }
+        (λ r. TapeAddsCall tape.old tape.new (steps_before plan.entry.now.foreign call) (Seized name.now r)) }
     ensures planned { IfOk result
-        (λ r. TapeAddsPlanned tape.old tape.new (steps_before plan.now.foreign call)
-        (event.Seize name.now true false) (part_at plan.now.fails call) (is_err r)) }
+        (λ r. TapeAddsPlanned tape.old tape.new (steps_before plan.entry.now.foreign call)
+        (event.Seize name.now true false) (part_at plan.entry.now.fails call) (is_err r)) }
     ensures start { tape.new.start ≡ tape.old.start }
 {
     let name = Text::copy(alloc, name)?;

@@ -186,6 +186,8 @@ pub fn answer(event: &Event) -> bool
         Event::Erase { .. } => true,
         Event::Unlock { .. } => true,
         Event::Release { .. } => true,
+        Event::Child { .. } => true,
+        Event::Now { .. } => true,
         Event::Foreign { .. } => true,
     }
 }

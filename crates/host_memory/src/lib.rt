@@ -3,6 +3,7 @@
 #![tactic(auto)]
 
 mod calls;
+mod children;
 mod disk_calls;
 mod ending;
 mod images;

@@ -3,20 +3,26 @@ ghost use Rattle.std.specs.Prelude.{◌≡◌, ◌<◌, ◌≤◌, ◌+◌, ◌+
 ghost use Rattle.host_port.specs.Disk.{disk};
 ghost use Rattle.host_port.specs.Ends.{stopped};
 ghost use Rattle.host_port.specs.Names.{IsFileName};
-ghost use Rattle.host_port.specs.Calls.{Calls, NeverFall, Rose, Filled, Said, Loaded, LoadCause, Staged, Published, Erased, Locked, Unlocked, Seized, Released};
+ghost use Rattle.host_port.specs.Calls.{Calls, NeverFall, Rose, Filled, Said, Loaded, LoadCause, Staged, Published, Erased, Locked, Unlocked, Seized, Released, ChildRan, ChildCause, TimeTold};
+ghost use Rattle.host_memory.specs.Children.{next_given};
 ghost use Rattle.host_memory.specs.Tapes.{ShowsSame};
 ghost use Rattle.host_memory.specs.Views.{disk_of, NamesOnce};
 ghost use Rattle.host_port.specs.declared.event.Event.{Event};
 ghost use Rattle.host_port.specs.declared.event.Event.TheVariants as event;
 
-use crate::calls::{failing, tell_failed_load, tell_in, tell_load, tell_out, tell_release};
+use crate::calls::{
+    failing, tell_failed_load, tell_in, tell_load, tell_now, tell_out, tell_release,
+};
+use crate::children::{Run, tell_child, used_after};
 use crate::disk_calls::{tell_erase, tell_lock, tell_publish, tell_seize, tell_stage, tell_unlock};
 use crate::images::{image, show};
 use crate::named::Named;
 use crate::standing::Standing;
 use crate::tape::{Tape, copy_files, copy_locks};
 use crate::{DiskView, Plan};
-use host_port::{DiskFault, Event, Host, InFault, LoadAnswer, LoadError, OutFault, Part};
+use host_port::{
+    ChildAnswer, ChildError, DiskFault, Event, Host, InFault, LoadAnswer, LoadError, OutFault, Part,
+};
 use mail_text::{Memory, Text};
 use std::alloc::Global;
 
@@ -31,11 +37,13 @@ pub struct MemHost {
     input: Text,
     at: usize,
     plan: Plan,
+    used: usize,
     calls: u64,
     lost: bool,
     ins: u64,
     outs: u64,
     disks: u64,
+    children: u64,
 }
 
 impl MemHost {
@@ -66,11 +74,13 @@ impl MemHost {
             input,
             at: 0,
             plan,
+            used: 0,
             calls: 0,
             lost: false,
             ins: 0,
             outs: 0,
             disks: 0,
+            children: 0,
         })
     }
 
@@ -113,7 +123,7 @@ impl MemHost {
 }
 
 impl Host for MemHost {
-    ghost use Rattle.host_memory.specs.MemHosts.{host_world, host_told, host_start, host_counts, is_failed_load, wants_memory, is_lost, next_part, input_left, next_input, after_input, after_output, after_disk, IsAsPlanned, IsDoneAsPlanned, SaysAsPlanned};
+    ghost use Rattle.host_memory.specs.MemHosts.{host_world, host_told, host_start, host_counts, is_failed_load, wants_memory, is_lost, next_part, input_left, next_input, after_input, after_output, after_disk, after_child, is_failed_child, child_wants_memory, answers_left, TakesNothing, IsAsPlanned, IsDoneAsPlanned, SaysAsPlanned};
 
     ghost world = { host_world };
 
@@ -128,6 +138,7 @@ impl Host for MemHost {
         ensures given { IfOk result (λ n. take n buf.new ≡ next_input self.old (length buf.old)) }
         ensures left { IfOk result (λ n. input_left self.new ≡ drop n (input_left self.old)) }
         ensures kept { OnErr result (input_left self.new ≡ input_left self.old) }
+        ensures answers { answers_left self.new ≡ answers_left self.old }
         ensures counted { host_counts self.new ≡ after_input (is_err result) (host_counts self.old) }
         ensures lost { is_lost self.new ≡ true → is_err result ≡ true }
     {
@@ -167,7 +178,7 @@ impl Host for MemHost {
         ensures cause { OnErr result (Rose (host_counts self.old).outs (host_counts self.new).outs) }
         ensures planned { IsAsPlanned self.old self.new (is_err result) }
         ensures sent { SaysAsPlanned self.old self.new bytes.now (is_err result) }
-        ensures kept { input_left self.new ≡ input_left self.old }
+        ensures kept { TakesNothing self.old self.new }
         ensures counted { host_counts self.new ≡ after_output (is_err result) (host_counts self.old) }
         ensures lost { is_lost self.new ≡ true → is_err result ≡ true }
     {
@@ -206,7 +217,7 @@ impl Host for MemHost {
         ensures counts { NeverFall (host_counts self.old) (host_counts self.new) }
         ensures cause { LoadCause (host_counts self.old).disks (host_counts self.new).disks result }
         ensures planned { IsAsPlanned self.old self.new (is_failed_load result) }
-        ensures kept { input_left self.new ≡ input_left self.old }
+        ensures kept { TakesNothing self.old self.new }
         ensures counted { host_counts self.new ≡ after_disk (is_failed_load result) (host_counts self.old) }
         ensures lost { wants_memory result ≡ is_lost self.new }
     {
@@ -255,7 +266,7 @@ impl Host for MemHost {
         ensures cause { OnErr result (Rose (host_counts self.old).disks (host_counts self.new).disks) }
         ensures planned { IsDoneAsPlanned self.old self.new (event.Stage name.now (Some bytes.now) false)
             (next_part self.old) (is_err result) }
-        ensures kept { input_left self.new ≡ input_left self.old }
+        ensures kept { TakesNothing self.old self.new }
         ensures counted { host_counts self.new ≡ after_disk (is_err result) (host_counts self.old) }
         ensures lost { is_lost self.new ≡ true → is_err result ≡ true }
     {
@@ -287,7 +298,7 @@ impl Host for MemHost {
         ensures cause { OnErr result (Rose (host_counts self.old).disks (host_counts self.new).disks) }
         ensures planned { IsDoneAsPlanned self.old self.new (event.Publish from.now to.now true false)
             (next_part self.old) (is_err result) }
-        ensures kept { input_left self.new ≡ input_left self.old }
+        ensures kept { TakesNothing self.old self.new }
         ensures counted { host_counts self.new ≡ after_disk (is_err result) (host_counts self.old) }
         ensures lost { is_lost self.new ≡ true → is_err result ≡ true }
     {
@@ -311,7 +322,7 @@ impl Host for MemHost {
         ensures cause { OnErr result (Rose (host_counts self.old).disks (host_counts self.new).disks) }
         ensures planned { IsDoneAsPlanned self.old self.new (event.Erase name.now true false)
             (next_part self.old) (is_err result) }
-        ensures kept { input_left self.new ≡ input_left self.old }
+        ensures kept { TakesNothing self.old self.new }
         ensures counted { host_counts self.new ≡ after_disk (is_err result) (host_counts self.old) }
         ensures lost { is_lost self.new ≡ true → is_err result ≡ true }
     {
@@ -335,7 +346,7 @@ impl Host for MemHost {
         ensures cause { OnErr result (Rose (host_counts self.old).disks (host_counts self.new).disks) }
         ensures planned { IsDoneAsPlanned self.old self.new (event.Lock name.now token true false)
             (next_part self.old) (is_err result) }
-        ensures kept { input_left self.new ≡ input_left self.old }
+        ensures kept { TakesNothing self.old self.new }
         ensures counted { host_counts self.new ≡ after_disk (is_err result) (host_counts self.old) }
         ensures lost { is_lost self.new ≡ true → is_err result ≡ true }
     {
@@ -366,7 +377,7 @@ impl Host for MemHost {
         ensures cause { OnErr result (Rose (host_counts self.old).disks (host_counts self.new).disks) }
         ensures planned { IsDoneAsPlanned self.old self.new (event.Unlock name.now token true false)
             (next_part self.old) (is_err result) }
-        ensures kept { input_left self.new ≡ input_left self.old }
+        ensures kept { TakesNothing self.old self.new }
         ensures counted { host_counts self.new ≡ after_disk (is_err result) (host_counts self.old) }
         ensures lost { is_lost self.new ≡ true → is_err result ≡ true }
     {
@@ -397,7 +408,7 @@ impl Host for MemHost {
         ensures cause { OnErr result (Rose (host_counts self.old).disks (host_counts self.new).disks) }
         ensures planned { IsDoneAsPlanned self.old self.new (event.Seize name.now true false)
             (next_part self.old) (is_err result) }
-        ensures kept { input_left self.new ≡ input_left self.old }
+        ensures kept { TakesNothing self.old self.new }
         ensures counted { host_counts self.new ≡ after_disk (is_err result) (host_counts self.old) }
         ensures lost { is_lost self.new ≡ true → is_err result ≡ true }
     {
@@ -419,7 +430,7 @@ impl Host for MemHost {
         ensures call { Calls host_world self.old self.new (Released name.now) }
         ensures counts { NeverFall (host_counts self.old) (host_counts self.new) }
         ensures planned { IsDoneAsPlanned self.old self.new (event.Release name.now) None false }
-        ensures kept { input_left self.new ≡ input_left self.old }
+        ensures kept { TakesNothing self.old self.new }
         ensures counted { host_counts self.new ≡ host_counts self.old }
     {
         self.calls = self.calls.saturating_add(1);
@@ -436,5 +447,82 @@ impl Host for MemHost {
             Ok(()) => {}
             Err(_) => self.lost = true,
         }
+    }
+
+    fn child(
+        &mut self,
+        alloc: Global,
+        program: &[u8],
+        args: &[Text],
+        input: &[u8],
+    ) -> Result<ChildAnswer, ChildError>
+        ensures start { host_start self.new ≡ host_start self.old }
+        ensures call { Calls host_world self.old self.new (ChildRan program.now args.now input.now result) }
+        ensures counts { NeverFall (host_counts self.old) (host_counts self.new) }
+        ensures cause { ChildCause (host_counts self.old).children (host_counts self.new).children result }
+        ensures planned { IsAsPlanned self.old self.new (is_failed_child result) }
+        ensures given { IfOk result (λ a. a ≡ next_given (answers_left self.old)) }
+        ensures left { IfOk result (λ a. answers_left self.new ≡ drop 1 (answers_left self.old)) }
+        ensures kept { OnErr result (answers_left self.new ≡ answers_left self.old) }
+        ensures input { input_left self.new ≡ input_left self.old }
+        ensures counted { host_counts self.new ≡ after_child (is_failed_child result) (host_counts self.old) }
+        ensures lost { child_wants_memory result ≡ is_lost self.new }
+    {
+        self.calls = self.calls.saturating_add(1);
+        if self.lost {
+            return Err(ChildError::Memory);
+        }
+        let run = Run {
+            program,
+            args,
+            input,
+        };
+        match tell_child(
+            alloc,
+            &self.plan,
+            self.used,
+            self.calls,
+            &mut self.tape,
+            run,
+        ) {
+            Ok(Some(answer)) => {
+                self.used = used_after(self.plan.children.items(), self.used);
+                Ok(answer)
+            }
+            Ok(None) => {
+                self.children = self.children.saturating_add(1);
+                Err(ChildError::Failed)
+            }
+            Err(_) => {
+                self.lost = true;
+                Err(ChildError::Memory)
+            }
+        }
+    }
+
+    fn now(&mut self) -> i64
+        ensures start { host_start self.new ≡ host_start self.old }
+        ensures call { Calls host_world self.old self.new (TimeTold result) }
+        ensures counts { NeverFall (host_counts self.old) (host_counts self.new) }
+        ensures planned { IsDoneAsPlanned self.old self.new (event.Now result) None false }
+        ensures time { result ≡ self.old.plan.now }
+        ensures kept { TakesNothing self.old self.new }
+        ensures counted { host_counts self.new ≡ host_counts self.old }
+    {
+        self.calls = self.calls.saturating_add(1);
+        let seconds = self.plan.now;
+        if !self.lost {
+            match tell_now(
+                self.alloc,
+                self.plan.foreign.items(),
+                self.calls,
+                &mut self.tape,
+                seconds,
+            ) {
+                Ok(()) => {}
+                Err(_) => self.lost = true,
+            }
+        }
+        seconds
     }
 }

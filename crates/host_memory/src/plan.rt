@@ -1,4 +1,4 @@
-use host_port::{ForeignStep, Part};
+use host_port::{ChildAnswer, ForeignStep, Part};
 use mail_text::{Items, Text};
 
 /// A disk as a list of files and a list of the owners of locks. Of several pairs of one name the first counts.
@@ -11,10 +11,15 @@ pub struct DiskView {
 /// What happens in a host in memory. Its calls are numbered from 1.
 #[derive(Drop)]
 pub struct Plan {
+    /// The time that each look at it tells: seconds since 1970-01-01 00:00:00 UTC.
+    pub now: i64,
     /// The most bytes that one fill gives, at least 1.
     pub chunk: usize,
     /// The steps of others, each before the call of its number.
     pub foreign: Items<(u64, ForeignStep)>,
     /// The calls that fail, with what they leave.
     pub fails: Items<(u64, Part)>,
+    /// What children answer, in order: each child that runs takes the next. Once all are used up a child answers
+    /// status 0 and no output.
+    pub children: Items<ChildAnswer>,
 }

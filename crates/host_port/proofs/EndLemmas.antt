@@ -4,7 +4,7 @@ use Rattle.std.specs.declared.result.Result.{Result}
 use Rattle.std.specs.declared.result.Result.TheVariants.{Ok, Err}
 use Rattle.std.specs.Prelude.{is_some, is_none}
 use Rattle.host_port.specs.declared.event.Event.{Event}
-use Rattle.host_port.specs.declared.event.Event.TheVariants.{In, Out, Load, Stage, Publish, Erase, Lock, Unlock, Seize, Release, Foreign}
+use Rattle.host_port.specs.declared.event.Event.TheVariants.{In, Out, Child, Now, Load, Stage, Publish, Erase, Lock, Unlock, Seize, Release, Foreign}
 use Rattle.host_port.specs.declared.event.Part.{Part}
 use Rattle.host_port.specs.declared.host.DiskFault.{DiskFault}
 use Rattle.host_port.specs.Calls.{Staged, Published, Erased, Locked, Unlocked, Seized, Released}
@@ -50,6 +50,8 @@ released-agrees name d e is = agrees-along d e _ is tt
 pub carried-agrees : (d : Disk) (e : Event) → may_change e ≡ true → Agrees d (carried_out d e)
 carried-agrees d (In bytes failed) may = absurd (cc)
 carried-agrees d (Out bytes failed) may = absurd (cc)
+carried-agrees d (Child program args input answer failed) may = absurd (cc)
+carried-agrees d (Now seconds) may = absurd (cc)
 carried-agrees d (Load name seen) may = absurd (cc)
 carried-agrees d (Stage name bytes failed) may = tt
 carried-agrees d (Publish from to done failed) may = refl
@@ -63,6 +65,8 @@ carried-agrees d (Foreign step) may = absurd (cc)
 pub cut-agrees : (d : Disk) (e : Event) (part : Part) → may_change e ≡ true → Agrees d (cut_short d e part)
 cut-agrees d (In bytes failed) part may = absurd (cc)
 cut-agrees d (Out bytes failed) part may = absurd (cc)
+cut-agrees d (Child program args input answer failed) part may = absurd (cc)
+cut-agrees d (Now seconds) part may = absurd (cc)
 cut-agrees d (Load name seen) part may = absurd (cc)
 cut-agrees d (Stage name bytes failed) part may = tt
 cut-agrees d (Publish from to done failed) part may = right-of (is_after part) (is_some (d.files from))

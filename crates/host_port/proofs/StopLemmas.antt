@@ -40,6 +40,8 @@ given-up m name q =
 pub stop-before : (d : Disk) (e : Event) → SameDisk (stopped d e Before) (ended d)
 stop-before d (event.In bytes failed) = same (ended d)
 stop-before d (event.Out bytes failed) = same (ended d)
+stop-before d (event.Child program args input answer failed) = same (ended d)
+stop-before d (event.Now seconds) = same (ended d)
 stop-before d (event.Load name seen) = same (ended d)
 stop-before d (event.Stage name bytes failed) = record { files = put-again d.files name; locks = λ q. refl; rights = λ q. refl }
 stop-before d (event.Publish from to done failed) = same (ended d)
@@ -54,6 +56,8 @@ stop-before d (event.Foreign step) = same (ended d)
 pub stop-after : (d : Disk) (e : Event) → SameDisk (stopped d e After) (ended (after d (carried_out d e)))
 stop-after d (event.In bytes failed) = same (ended d)
 stop-after d (event.Out bytes failed) = same (ended d)
+stop-after d (event.Child program args input answer failed) = same (ended d)
+stop-after d (event.Now seconds) = same (ended d)
 stop-after d (event.Load name seen) = same (ended d)
 stop-after d (event.Stage name bytes failed) = same _
 stop-after d (event.Publish from to done failed) = go (is_some (d.files from))

@@ -1,11 +1,11 @@
 -- What one call of a host adds to its trace.
-use Rattle.std.specs.Prelude.{◌≡◌, ◌+◌, ◌-◌, ◌^◌, ◌<◌, ◌≤◌, min, ℕ, Bool, true, false, List, [], ◌∷◌, ◌++◌, map, take, is_some, is_none, length}
+use Rattle.std.specs.Prelude.{◌≡◌, ◌+◌, ◌-◌, ◌^◌, ◌<◌, ◌≤◌, min, ℕ, ℤ, Bool, true, false, List, [], ◌∷◌, ◌++◌, map, take, is_some, is_none, length}
 use Rattle.std.specs.declared.option.Option.{Option}
 use Rattle.std.specs.declared.option.Option.TheVariants.{Some, None}
 use Rattle.std.specs.declared.result.Result.{Result}
 use Rattle.std.specs.declared.result.Result.TheVariants.{Ok, Err}
 use Rattle.host_port.specs.declared.event.Event.{Event}
-use Rattle.host_port.specs.declared.event.Event.TheVariants.{In, Out, Load, Stage, Publish, Erase, Lock, Unlock, Seize, Release, Foreign}
+use Rattle.host_port.specs.declared.event.Event.TheVariants.{In, Out, Load, Stage, Publish, Erase, Lock, Unlock, Seize, Release, Child, Now, Foreign}
 use Rattle.host_port.specs.declared.event.Seen.TheVariants as seen
 use Rattle.host_port.specs.declared.event.ForeignStep.{ForeignStep}
 use Rattle.host_port.specs.declared.event.LoadAnswer.{LoadAnswer}
@@ -14,6 +14,9 @@ use Rattle.host_port.specs.declared.host.OutFault.{OutFault}
 use Rattle.host_port.specs.declared.host.DiskFault.{DiskFault}
 use Rattle.host_port.specs.declared.host.LoadError.{LoadError}
 use Rattle.host_port.specs.declared.host.LoadError.TheVariants as error
+use Rattle.host_port.specs.declared.event.ChildAnswer.{ChildAnswer}
+use Rattle.host_port.specs.declared.host.ChildError.{ChildError}
+use Rattle.host_port.specs.declared.host.ChildError.TheVariants as child_error
 use Rattle.host_port.specs.Disk.{Disk, disk}
 use Rattle.host_port.specs.Ends.{is_owner, is_open, IsCutShort}
 
@@ -123,3 +126,23 @@ Seized name (Err fault) d e = IsCutShort d (Seize name true false) e
 -- the event of a release
 abbrev pub Released : List ℕ → Disk → Event → Type 0
 Released name d e = e ≡ Release name
+
+-- the most bytes of a child's output that are kept
+abbrev pub output_limit : ℕ
+output_limit = 16777216
+
+-- the event of a child that ran, that could not be run, or for which memory was wanting
+abbrev pub ChildRan : List ℕ → List (List ℕ) → List ℕ → Result ChildAnswer ChildError → Disk → Event → Type 0
+ChildRan program args input (Ok a) d e = e ≡ Child program args input (Some a) false
+ChildRan program args input (Err child_error.Failed) d e = e ≡ Child program args input None true
+ChildRan program args input (Err child_error.Memory) d e = e ≡ Child program args input None false
+
+-- a child answers Failed only where the count of children rose, and an output within the limit
+abbrev pub ChildCause : ℕ → ℕ → Result ChildAnswer ChildError → Type 0
+ChildCause before now (Ok a) = length a.output ≤ output_limit
+ChildCause before now (Err child_error.Failed) = Rose before now
+ChildCause before now (Err child_error.Memory) = Unit {0}
+
+-- the event of a look at the time
+abbrev pub TimeTold : ℤ → Disk → Event → Type 0
+TimeTold seconds d e = e ≡ Now seconds

@@ -1,7 +1,7 @@
-use mail_text::Text;
+use mail_text::{Items, Text};
 
 /// What happened at the edge of the program: one call of the host with what it gave, or one step of another.
-#[derive(Drop, Debug)]
+#[derive(Drop)]
 pub enum Event {
     /// Input was taken; no bytes are its end, or a fault.
     In {
@@ -61,6 +61,18 @@ pub enum Event {
     Release {
         name: Text,
     },
+    /// A child ran to its end, or could not be run; without an answer and a fault memory was wanting.
+    Child {
+        program: Text,
+        args: Items<Text>,
+        input: Text,
+        answer: Option<ChildAnswer>,
+        failed: bool,
+    },
+    /// The time was looked at: seconds since 1970-01-01 00:00:00 UTC.
+    Now {
+        seconds: i64,
+    },
     /// Another program did a step.
     Foreign {
         step: ForeignStep,
@@ -113,6 +125,17 @@ pub struct LoadAnswer {
     pub bytes: Option<Text>,
     /// Whether a lock on the name stood, whoever owns it.
     pub held: bool,
+}
+
+/// What a child answers.
+#[derive(Drop, Debug)]
+pub struct ChildAnswer {
+    /// The number with which it ended, or -1 where it gave none.
+    pub status: i32,
+    /// What it wrote to its standard output, its first 16,777,216 bytes at most.
+    pub output: Text,
+    /// Whether it wrote more.
+    pub cut: bool,
 }
 
 /// What a failing call leaves, and what a run leaves that stops inside a call.

@@ -1,8 +1,9 @@
 ghost use Rattle.std.specs.Prelude.{◌≡◌, ◌≤◌, ◌<◌, length, IfOk, OnErr};
 ghost use Rattle.host_port.specs.Names.{IsFileName};
-ghost use Rattle.host_port.specs.Calls.{Calls, World, NeverFall, Rose, Filled, Said, Loaded, LoadCause, Staged, Published, Erased, Locked, Unlocked, Seized, Released};
+ghost use Rattle.host_port.specs.Calls.{Calls, World, NeverFall, Rose, Filled, Said, Loaded, LoadCause, Staged, Published, Erased, Locked, Unlocked, Seized, Released, ChildRan, ChildCause, TimeTold};
 
-use crate::LoadAnswer;
+use crate::{ChildAnswer, LoadAnswer};
+use mail_text::Text;
 use std::alloc::Global;
 use thiserror::Error;
 
@@ -28,6 +29,15 @@ pub enum LoadError {
     Failed,
     #[error("too large: {length} bytes")]
     TooLarge { length: u64 },
+    #[error("out of memory")]
+    Memory,
+}
+
+/// Why a child gave no answer.
+#[derive(Clone, Copy, Debug, PartialEq, Eq, Error)]
+pub enum ChildError {
+    #[error("could not be run")]
+    Failed,
     #[error("out of memory")]
     Memory,
 }
@@ -121,5 +131,24 @@ pub trait Host {
         requires { IsFileName name.now }
         ensures start { world.start self.new ≡ world.start self.old }
         ensures call { Calls world self.old self.new (Released name.now) }
+        ensures counts { NeverFall (world.counts self.old) (world.counts self.new) };
+
+    /// Runs a program with these arguments and this input, waits for its end, and answers its status and its output.
+    fn child(
+        &mut self,
+        alloc: Global,
+        program: &[u8],
+        args: &[Text],
+        input: &[u8],
+    ) -> Result<ChildAnswer, ChildError>
+        ensures start { world.start self.new ≡ world.start self.old }
+        ensures call { Calls world self.old self.new (ChildRan program.now args.now input.now result) }
+        ensures counts { NeverFall (world.counts self.old) (world.counts self.new) }
+        ensures cause { ChildCause (world.counts self.old).children (world.counts self.new).children result };
+
+    /// The time: seconds since 1970-01-01 00:00:00 UTC. It never fails.
+    fn now(&mut self) -> i64
+        ensures start { world.start self.new ≡ world.start self.old }
+        ensures call { Calls world self.old self.new (TimeTold result) }
         ensures counts { NeverFall (world.counts self.old) (world.counts self.new) };
 }

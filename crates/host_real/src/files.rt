@@ -90,9 +90,9 @@ pub fn read_file<R: Files>(rt: &R, alloc: Global, path: &str) -> Result<Option<T
     Ok(Some(Text::of(bytes)))
 }
 
-// Makes a private file, open for writing. What stood there is taken away first and not written over: it may be
-// another's, be open to others, or have another name too, as a lock that a stopped run has linked already.
-fn create_private<R: Files>(rt: &R, path: &str) -> Result<R::File, Error> {
+/// Makes a private file, open for writing. What stood there is taken away first and not written over: it may be
+/// another's, be open to others, or have another name too, as a lock that a stopped run has linked already.
+pub fn create_private<R: Files>(rt: &R, path: &str) -> Result<R::File, Error> {
     let _ = rt.remove_file(path);
     OpenOptions::new()
         .write(true)

@@ -1,6 +1,10 @@
-//! The outside of the real machine: its standard input and output, its files, and locks and rights made of files.
+//! The outside of the real machine: its standard input and output, its files, locks and rights made of files, the
+//! programs that it runs, and its clock.
 #![tactic(auto)]
 
+#[cfg(test)]
+mod child_tests;
+mod children;
 mod files;
 mod locks;
 mod real;

@@ -3,40 +3,50 @@ ghost use Rattle.std.specs.Prelude.{None, ◌<◌, ◌≤◌, length, IfSome, On
 ghost use Rattle.host_port.specs.Calls.{Rose};
 ghost use Rattle.host_port.specs.Disk.{empty_disk};
 
+use crate::children::run;
 use crate::files::{FileError, LOAD_LIMIT, path_of, remove_file, rename_file, write_file};
 use crate::locks::{lock, look, seize, unlock};
-use host_port::{DiskFault, Host, InFault, LoadAnswer, LoadError, OutFault};
-use mail_text::Text;
+use host_port::{
+    ChildAnswer, ChildError, DiskFault, Host, InFault, LoadAnswer, LoadError, OutFault,
+};
+use mail_text::{Memory, Text};
 use std::alloc::Global;
 use std::fs::{File, Files};
 use std::io::{Input, Read};
+use std::process::Processes;
+use std::time::Clock;
 
-/// The host of the real machine: its standard input and output, its files, and the rights that it has. It counts its
-/// faults.
+/// The host of the real machine: its standard input and output, its files, the rights that it has, the programs that it
+/// runs, and its clock. It counts its faults.
 #[derive(Drop)]
 pub struct RealHost<R: Input> {
     rt: R,
     alloc: Global,
+    scratch: Text,
     input: R::Reader,
     rights: Vec<(Text, File)>,
     ins: u64,
     outs: u64,
     pub(crate) disks: u64,
+    pub(crate) children: u64,
 }
 
-impl<R: Files<File = File> + Input + Print + Drop> RealHost<R> {
-    /// The host over a runtime.
-    pub fn new(rt: R, alloc: Global) -> RealHost<R> {
+impl<R: Files<File = File> + Input + Print + Processes + Clock + Drop> RealHost<R> {
+    /// The host over a runtime. The input of a child stands in the file `scratch` while it runs, which is the host's
+    /// own: what stood there is gone after the first.
+    pub fn new(rt: R, alloc: Global, scratch: &[u8]) -> Result<RealHost<R>, Memory> {
         let input = rt.reader();
-        RealHost {
+        Ok(RealHost {
             rt,
             alloc,
+            scratch: Text::copy(alloc, scratch)?,
             input,
             rights: Vec::new(alloc),
             ins: 0,
             outs: 0,
             disks: 0,
-        }
+            children: 0,
+        })
     }
 }
 
@@ -98,11 +108,11 @@ fn counted<T: Drop>(answer: Result<T, FileError>, count: &mut u64) -> Result<T, 
     }
 }
 
-impl<R: Files<File = File> + Input + Print + Drop> Host for RealHost<R> {
+impl<R: Files<File = File> + Input + Print + Processes + Clock + Drop> Host for RealHost<R> {
     ghost world = { record {
       start = λ _. empty_disk;
       told = λ _. None;
-      counts = λ m. record { ins = m.ins; outs = m.outs; disks = m.disks; children = 0 };
+      counts = λ m. record { ins = m.ins; outs = m.outs; disks = m.disks; children = m.children };
     } };
 
     fn fill(&mut self, buf: &mut [u8]) -> Result<usize, InFault> {
@@ -170,6 +180,30 @@ impl<R: Files<File = File> + Input + Print + Drop> Host for RealHost<R> {
     fn release(&mut self, name: &[u8]) {
         if let Some(k) = place_of(&self.rights, name) {
             self.rights.swap_remove(k);
+        }
+    }
+
+    fn child(
+        &mut self,
+        alloc: Global,
+        program: &[u8],
+        args: &[Text],
+        input: &[u8],
+    ) -> Result<ChildAnswer, ChildError> {
+        match run(&self.rt, alloc, self.scratch.bytes(), program, args, input) {
+            Ok(answer) => Ok(answer),
+            Err(FileError::Memory) => Err(ChildError::Memory),
+            Err(_) => {
+                self.children = self.children.saturating_add(1);
+                Err(ChildError::Failed)
+            }
+        }
+    }
+
+    fn now(&mut self) -> i64 {
+        match self.rt.since_1970() {
+            Ok(time) => i64::try_from(time.as_secs()).unwrap_or(i64::MAX),
+            Err(_) => 0,
         }
     }
 }

@@ -9,6 +9,9 @@ use std::fs::Files;
 use std::rt::HostRuntime;
 use std::test::Fail;
 
+/// No child runs here.
+const SCRATCH: &[u8] = b"scratch";
+
 /// A name.
 #[derive(Clone, Copy)]
 enum Name {
@@ -161,11 +164,11 @@ const LATER: [Call; 11] = [
 #[test]
 fn the_machine_keeps_files_locks_and_rights(rt: HostRuntime) -> Result<(), Fail> {
     let alloc = rt.alloc();
-    let mut host = RealHost::new(rt, alloc);
+    let mut host = RealHost::new(rt, alloc, SCRATCH)?;
     let own = answers(alloc, &mut host, &OWN)?;
     assert_eq!(rt; own.bytes(), b".ynmythyy".as_slice());
     {
-        let mut another = RealHost::new(rt, alloc);
+        let mut another = RealHost::new(rt, alloc, SCRATCH)?;
         let of_another = answers(alloc, &mut another, &OF_ANOTHER)?;
         assert_eq!(rt; of_another.bytes(), b"n.hn".as_slice());
     }
@@ -179,11 +182,11 @@ fn the_machine_keeps_files_locks_and_rights(rt: HostRuntime) -> Result<(), Fail>
 fn a_right_ends_with_its_holder(rt: HostRuntime) -> Result<(), Fail> {
     let alloc = rt.alloc();
     {
-        let mut another = RealHost::new(rt, alloc);
+        let mut another = RealHost::new(rt, alloc, SCRATCH)?;
         let got = answers(alloc, &mut another, &[Call::Seize(Name::Claim)])?;
         assert_eq!(rt; got.bytes(), b"y".as_slice());
     }
-    let mut host = RealHost::new(rt, alloc);
+    let mut host = RealHost::new(rt, alloc, SCRATCH)?;
     let calls = [
         Call::Stage(Name::Claim),
         Call::Seize(Name::Claim),
@@ -225,7 +228,7 @@ const ODD: [Call; 22] = [
 #[test]
 fn odd_files_and_locks(rt: HostRuntime) -> Result<(), Fail> {
     let alloc = rt.alloc();
-    let mut host = RealHost::new(rt, alloc);
+    let mut host = RealHost::new(rt, alloc, SCRATCH)?;
     let got = answers(alloc, &mut host, &ODD)?;
     assert_eq!(rt; got.bytes(), b"..m.e!..h..h..yta..aa.".as_slice());
     Ok(())
@@ -262,8 +265,8 @@ fn gives_up_one(
 #[test]
 fn one_of_two_rights_is_given_up(rt: HostRuntime) -> Result<(), Fail> {
     let alloc = rt.alloc();
-    let mut host = RealHost::new(rt, alloc);
-    let mut another = RealHost::new(rt, alloc);
+    let mut host = RealHost::new(rt, alloc, SCRATCH)?;
+    let mut another = RealHost::new(rt, alloc, SCRATCH)?;
     assert!(rt; gives_up_one(alloc, &mut host, &mut another)?);
     Ok(())
 }
@@ -280,7 +283,7 @@ const ACROSS: [Call; 5] = [
 fn a_file_moves_to_another_folder(rt: HostRuntime) -> Result<(), Fail> {
     let alloc = rt.alloc();
     let made = rt.create_dir("deep").is_ok();
-    let mut host = RealHost::new(rt, alloc);
+    let mut host = RealHost::new(rt, alloc, SCRATCH)?;
     let moved = gives(alloc, &mut host, &ACROSS, b".yam.")?;
     assert!(rt; made && moved && rt.remove_dir("deep").is_ok());
     Ok(())

@@ -1,11 +1,11 @@
 // Cases of drafts, each at the same moment.
 use crate::case::{field, parts, words};
 use case_blocks::Answer;
-use draft_text::{Draft, mbox_text, message_text};
+use draft_text::{Draft, flat, flattened, mbox_text, message_text};
 use mail_dates::Moment;
-use mail_text::Text;
+use mail_text::{Memory, Text};
 
-/// The message of a draft, or its text in a mailbox.
+/// The message of a draft, its text in a mailbox, or the draft without line feeds in its parts; a text without them.
 pub fn put(case: &[Text], out: &mut Answer) {
     let draft = draft_of(case, out);
     let m = Moment {
@@ -15,6 +15,8 @@ pub fn put(case: &[Text], out: &mut Answer) {
     match words(case, 1) {
         "message" => out.put_made(message_text(out.alloc(), &draft, m)),
         "mailbox" => out.put_made(mbox_text(out.alloc(), &draft, field(case, 10), m)),
+        "flattened" => put_flattened(&draft, out),
+        "flat" => out.put_made(flat(out.alloc(), field(case, 2))),
         _ => out.put_bad(),
     }
 }
@@ -31,4 +33,36 @@ fn draft_of(case: &[Text], out: &mut Answer) -> Draft {
         references: parts(words(case, 8), ';', out),
         body: out.copied(field(case, 9)),
     }
+}
+
+// The draft with a space for each line feed of its parts but the body.
+fn put_flattened(draft: &Draft, out: &mut Answer) {
+    match flattened(out.alloc(), draft) {
+        Ok(draft) => put_parts(&draft, out),
+        Err(Memory) => out.lack(),
+    }
+}
+
+// The parts of a draft with `;` between them, each text between angle brackets.
+fn put_parts(draft: &Draft, out: &mut Answer) {
+    put_list(draft.to.items(), out);
+    put_list(draft.cc.items(), out);
+    put_list(draft.bcc.items(), out);
+    put_text(&draft.subject, out);
+    put_text(&draft.from, out);
+    put_text(&draft.reply, out);
+    put_list(draft.references.items(), out);
+    out.put_in_angles(draft.body.bytes());
+}
+
+fn put_text(text: &Text, out: &mut Answer) {
+    out.put_in_angles(text.bytes());
+    out.put(b";");
+}
+
+fn put_list(texts: &[Text], out: &mut Answer) {
+    for text in texts {
+        out.put_in_angles(text.bytes());
+    }
+    out.put(b";");
 }

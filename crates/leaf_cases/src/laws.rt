@@ -1,9 +1,13 @@
 // The laws of the leaf crates: their conditions can be met.
 use alias_groups::{aliases_are_kept, each_name_once, no_walk_is_cut};
 use case_blocks::Answer;
+use compose_tilde::{
+    each_letter_stands_for_one_escape, lines_make_the_body, no_part_but_the_body_holds_a_line_feed,
+};
 use draft_text::{
-    a_draft_can_be_put_into_a_mailbox, a_sent_draft_reads_back, a_stored_draft_reads_back,
-    an_opening_line_reads_back, each_field_is_found, plain_bodies_are_stored_as_they_are,
+    a_draft_can_be_put_into_a_mailbox, a_draft_of_flat_parts_stays, a_sent_draft_reads_back,
+    a_stored_draft_reads_back, an_opening_line_reads_back, each_field_is_found,
+    plain_bodies_are_stored_as_they_are,
 };
 use mail_addresses::{
     comments_are_balanced, each_value_is_read, one_reading, pieces_are_cut_again,
@@ -78,6 +82,10 @@ fn speak_of_drafts() {
     a_sent_draft_reads_back();
     each_field_is_found();
     plain_bodies_are_stored_as_they_are();
+    a_draft_of_flat_parts_stays();
+    each_letter_stands_for_one_escape();
+    lines_make_the_body();
+    no_part_but_the_body_holds_a_line_feed();
 }
 
 fn speak_of_moments() {

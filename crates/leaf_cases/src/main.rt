@@ -11,6 +11,7 @@ mod aliases;
 mod asked;
 mod case;
 mod commands;
+mod composing;
 mod conditions;
 mod dates;
 mod drafts;
@@ -55,6 +56,7 @@ fn put_answer(kept: &mut Kept, case: &[Text], out: &mut Answer) {
         "macro" => macros::put(case, out),
         "quit" => quits::put(&kept.vars, case, out),
         "draft" => drafts::put(case, out),
+        "compose" => composing::put(&kept.vars, kept.messages.items(), case, out),
         "laws" => laws::put(out),
         _ => out.put_bad(),
     }

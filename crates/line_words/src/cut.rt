@@ -66,8 +66,10 @@ fn step_of(place: Place, byte: u8) -> Step
     Step { place, act }
 }
 
-// The words of a line, or none where a quote isn't closed.
-pub(crate) fn words_of(alloc: Global, bytes: &[u8]) -> Result<Option<Items<Text>>, Memory>
+/// The words of a line: what blanks, spaces and tabs, separate, without its quotes. In a word `"` to `"` and `'` to `'`
+/// stand for the bytes inside; outside quotes a backslash takes the next byte, and at the line's end it stands for
+/// itself. `None` exactly where a quote isn't closed.
+pub fn words_of(alloc: Global, bytes: &[u8]) -> Result<Option<Items<Text>>, Memory>
     ensures { IfOk result (λ words. words ≡ words_of bytes.now) }
 {
     let mut words = Items::new(alloc);

@@ -18,12 +18,14 @@ fn start(rt: HostRuntime) -> Result<u8, Memory> {
         let _ = rt.write_all(b"mailx: input fault\n");
         return Ok(3);
     }
+    let token = u64::from_le_bytes(token);
+    let scratch = outside::scratch_name(alloc, &pairs, token)?;
     let env = Environment {
         pairs: Items::of(pairs),
-        terminal: false,
-        token: u64::from_le_bytes(token),
+        terminal: outside::is_terminal(&rt, alloc)?,
+        token,
     };
-    let mut host = RealHost::new(rt, alloc);
+    let mut host = RealHost::new(rt, alloc, scratch.bytes())?;
     Ok(run(alloc, &words, &env, &mut host).number())
 }
 

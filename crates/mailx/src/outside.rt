@@ -1,7 +1,11 @@
-// What the program is handed: the words of its command line, and the variables of its environment.
+// What the program is handed: the words of its command line, the variables of its environment, and its input, which may
+// be a terminal; and the name of the file that the input of its children stands in.
 use mail_text::{Memory, Text};
 use std::alloc::Global;
 use std::env::FillError;
+use std::io;
+use std::io::ErrorKind;
+use std::process::{Command, ExitStatus, Processes};
 use std::rt::Env;
 
 /// The variables that a run looks at.
@@ -57,4 +61,40 @@ pub fn variables<E: Env>(env: &E, alloc: Global) -> Result<Vec<(Text, Text)>, Me
         }
     }
     Ok(pairs)
+}
+
+// How a shell ends that tests whether its input, which is the program's own, is a terminal.
+fn test_input<P: Processes>(processes: &P, alloc: Global) -> io::Result<ExitStatus> {
+    let mut command = Command::new(alloc, "/bin/sh")?;
+    command.arg("-c")?;
+    command.arg("test -t 0")?;
+    command.status(processes)
+}
+
+/// Whether the input is a terminal. It is none where the shell that tests it can't be run.
+pub fn is_terminal<P: Processes>(processes: &P, alloc: Global) -> Result<bool, Memory> {
+    match test_input(processes, alloc) {
+        Ok(status) => Ok(status.success()),
+        Err(error) if error.kind() == ErrorKind::OutOfMemory => Err(Memory),
+        Err(_) => Ok(false),
+    }
+}
+
+// The home folder.
+fn home(pairs: &[(Text, Text)]) -> &[u8] {
+    for (name, value) in pairs {
+        if name.bytes() == b"HOME".as_slice() {
+            return value.bytes();
+        }
+    }
+    b""
+}
+
+/// The name of the file that the input of children stands in: `.mailx.in.` and the token's 16 hexadecimal digits, in the
+/// home folder.
+pub fn scratch_name(alloc: Global, pairs: &[(Text, Text)], token: u64) -> Result<Text, Memory> {
+    let mut name = Text::copy(alloc, home(pairs))?;
+    let last = format!(in alloc; "/.mailx.in.{token:016x}")?;
+    name.push(last.as_bytes())?;
+    Ok(name)
 }

@@ -15,6 +15,8 @@ use Rattle.mailx_session.specs.declared.status.Status.TheVariants.{Done}
 use Rattle.folder_change.specs.declared.change.Change.{Change}
 use Rattle.mailx_session.specs.Saving.{names_fault, saved}
 use Rattle.mailx_session.specs.Sourcing.{source_fault, sourced}
+use Rattle.draft_text.specs.declared.draft.Draft.{Draft}
+use Rattle.mailx_session.specs.Beginning.{begun}
 use Rattle.mailx_session.specs.Calling.{called}
 use Rattle.mailx_session.specs.Switching.{open_fault, switches}
 use Rattle.mailx_session.specs.Sessions.{asked, LineCaused}
@@ -33,6 +35,9 @@ asked-lines s ask text is = ap (asked s) is
 
 pub asked-open : (s : SessionState) (ask : asked_of.Ask) (name : List ℕ) (changes : List Change) (reply : List ℕ) → ask ≡ asks.Open name changes reply → asked s ask ≡ switches s name changes reply (open_fault s.actor name changes)
 asked-open s ask name changes reply is = ap (asked s) is
+
+pub asked-draft : (s : SessionState) (ask : asked_of.Ask) (draft : Draft) → ask ≡ asks.Draft draft → asked s ask ≡ begun s draft
+asked-draft s ask draft is = ap (asked s) is
 
 pub asked-exit : (s : SessionState) (ask : asked_of.Ask) → ask ≡ asks.Exit → asked s ask ≡ Ret (Ended Done)
 asked-exit s ask is = ap (asked s) is

@@ -8,3 +8,5 @@ pub mod SavingLemmas
 pub mod SourcingLemmas
 pub mod SwitchingLemmas
 mod LeavingLemmas
+mod DraftLemmas
+mod FinishLemmas

@@ -1,11 +1,12 @@
 -- Lines that wait, so far.
-use Rattle.std.proofs.Common.{◌≡◌, ℕ, Bool, true, List, [], ◌++◌, inl, refl, sym, ◌∙◌, ap, subst, append_assoc}
+use Rattle.std.proofs.Common.{◌≡◌, ◌<◌, ◌≤◌, arith, ℕ, Bool, true, List, [], ◌++◌, inl, refl, sym, ◌∙◌, ap, subst, append_assoc}
 use Rattle.std.proofs.lemmas.List.{append-nil}
 use Rattle.std.specs.declared.option.Option.{Option}
 use Rattle.std.specs.declared.option.Option.TheVariants.{Some, None}
 use Rattle.std.specs.declared.result.Result.{Result}
 use Rattle.std.specs.declared.result.Result.TheVariants.{Ok, Err}
 use Rattle.std.specs.Prelude.{OnErr, false, is_some, if◌then◌else◌}
+use Rattle.std.proofs.lemmas.Bool.{cond-true, cond-false}
 use Rattle.host_port.specs.declared.event.Event.{Event}
 use Rattle.session_play.specs.declared.stop.Stop.{Stop}
 use Rattle.session_play.specs.declared.stop.Stop.TheVariants as stop
@@ -22,8 +23,14 @@ use Rattle.mailx_session.specs.declared.state.SessionState.{SessionState}
 use Rattle.mailx_session.specs.declared.status.Status.{Status}
 use Rattle.mailx_session.specs.Waits.{Pending}
 use Rattle.mailx_session.specs.Pending.{taken, open_before, closed}
-use Rattle.mailx_session.specs.States.{IsActor, IsState, IsSession, with_frames, with_count, cut_to, resumed, rested}
-use Rattle.mailx_session.specs.Rounds.{line_play, typed_play, counted_play, is_idle, outside_play, waiting_play, WaitingGo, none, more, ended, cut, short}
+use Rattle.mailx_session.specs.States.{IsActor, IsState, IsSession, is_drafting, next_waiting, with_frames, with_count, cut_to, resumed, at_rest, rested}
+use Rattle.mailx_session.specs.Rounds.{line_play, command_play, typed_play, counted_play, is_idle, outside_play, waiting_play, WaitingGo, none, more, ended, cut, short}
+
+pub no-both : {b : Bool} → b ≡ true → b ≡ false → ⊥
+no-both holds not_so = absurd (cc (holds, not_so))
+
+no-next : {A : Type 0} {a : A} → None ≡ Some a → ⊥
+no-next e = absurd (cc e)
 
 -- these events lead from s to t: lines that go on waiting at t go on from s with them in front
 pub record WaitsSoFar (s t : SessionState) (es : List Event) : Type 0 where
@@ -32,7 +39,7 @@ pub record WaitsSoFar (s t : SessionState) (es : List Event) : Type 0 where
 pub waits-none : (s : SessionState) → WaitsSoFar s s []
 waits-none s = record { whole = λ rest out w. w }
 
-pub waits-more : (s t v u : SessionState) (line : WaitingLine) → taken t.frames ≡ Some (line, v.frames) → v ≡ resumed t v.frames → (es fs : List Event) → WaitsSoFar s t es
+pub waits-more : (s t v u : SessionState) (line : WaitingLine) → next_waiting t ≡ Some (line, v.frames) → v ≡ resumed t v.frames → (es fs : List Event) → WaitsSoFar s t es
     → Goes (waiting_play v line) fs (Ok (Go u)) → WaitsSoFar s u (es ++ fs)
 waits-more s t v u line is same es fs so goes = record {
   whole = λ rest out w.
@@ -40,28 +47,48 @@ waits-more s t v u line is same es fs so goes = record {
       (so.whole (fs ++ rest) out (more line v.frames fs rest is refl (subst (λ (x : SessionState). Goes (waiting_play x line) fs (Ok (Go u))) same goes) w));
 }
 
-pub waits-ended : (s t v : SessionState) (e : Status) (line : WaitingLine) → taken t.frames ≡ Some (line, v.frames) → v ≡ resumed t v.frames → (es fs : List Event) → WaitsSoFar s t es
+pub waits-ended : (s t v : SessionState) (e : Status) (line : WaitingLine) → next_waiting t ≡ Some (line, v.frames) → v ≡ resumed t v.frames → (es fs : List Event) → WaitsSoFar s t es
     → Goes (waiting_play v line) fs (Ok (Last e)) → WaitingGo s (es ++ fs) (Ok (Last e))
 waits-ended s t v e line is same es fs so goes =
     so.whole fs (Ok (Last e)) (ended line v.frames is (subst (λ (x : SessionState). Goes (waiting_play x line) fs (Ok (Last e))) same goes))
 
-pub waits-cut : (s t v : SessionState) (cause : Stop) (line : WaitingLine) → taken t.frames ≡ Some (line, v.frames) → v ≡ resumed t v.frames → (es fs : List Event) → WaitsSoFar s t es
+pub waits-cut : (s t v : SessionState) (cause : Stop) (line : WaitingLine) → next_waiting t ≡ Some (line, v.frames) → v ≡ resumed t v.frames → (es fs : List Event) → WaitsSoFar s t es
     → Goes (waiting_play v line) fs (Err cause) → WaitingGo s (es ++ fs) (Err cause)
 waits-cut s t v cause line is same es fs so goes =
     so.whole fs (Err cause) (cut line v.frames is (subst (λ (x : SessionState). Goes (waiting_play x line) fs (Err cause)) same goes))
 
--- where no line is left, the state is at rest but for the count
-pub rested-resumed : (t v : SessionState) → v ≡ resumed t v.frames → v.frames ≡ [] → rested v ≡ rested t
-rested-resumed t v same over =
-    let left : v ≡ resumed t [] = same ∙ ap (resumed t) over in
-    let rests : rested (resumed t []) ≡ rested t = refl in
-    ap rested left ∙ rests
+-- where no draft is open, a state at rest has no lines that wait
+pub rested-out : (s : SessionState) → is_drafting s ≡ false → rested s ≡ at_rest s
+rested-out s out = cond-false _ _ _ out
 
-pub waits-over : (s t v : SessionState) → taken t.frames ≡ None → v ≡ resumed t v.frames → v.frames ≡ [] → (es : List Event) → WaitsSoFar s t es
+-- and where one is, it is as it is
+pub rested-in : (s : SessionState) → is_drafting s ≡ true → rested s ≡ s
+rested-in s inside = cond-true _ _ _ inside
+
+-- where no line is left, the state is at rest but for the count
+pub rested-resumed : (t v : SessionState) → is_drafting t ≡ false → v ≡ resumed t v.frames → v.frames ≡ [] → rested v ≡ rested t
+rested-resumed t v out same over =
+    let left : v ≡ resumed t [] = same ∙ ap (resumed t) over in
+    let rests : at_rest (resumed t []) ≡ at_rest t = refl in
+    ap rested left ∙ (rested-out (resumed t []) out ∙ (rests ∙ sym (rested-out t out)))
+
+-- the line that is carried out next, where no draft is open
+pub next-out : (s : SessionState) (o : Option (WaitingLine × List Pending)) → is_drafting s ≡ false → taken s.frames ≡ o → next_waiting s ≡ o
+next-out s o out is = cond-false _ _ _ out ∙ is
+
+-- a line that is carried out next waits
+pub next-taken : (s : SessionState) (line : WaitingLine) (fs : List Pending) → next_waiting s ≡ Some (line, fs) → (is_drafting s ≡ false) × (taken s.frames ≡ Some (line, fs))
+next-taken s line fs is = go (is_drafting s) refl
+  where
+    go : (b : Bool) → is_drafting s ≡ b → (is_drafting s ≡ false) × (taken s.frames ≡ Some (line, fs))
+    go true e = absurd (no-next (sym (cond-true _ _ _ e) ∙ is))
+    go false e = (e, sym (cond-false _ _ _ e) ∙ is)
+
+pub waits-over : (s t v : SessionState) → next_waiting t ≡ None → rested v ≡ rested t → (es : List Event) → WaitsSoFar s t es
     → WaitingGo s es (Ok (Go (rested v)))
-waits-over s t v over same left es so =
+waits-over s t v over same es so =
     subst (λ (l : List Event). WaitingGo s l (Ok (Go (rested v)))) (append-nil es)
-    (so.whole [] (Ok (Go (rested v))) (subst (λ (x : SessionState). WaitingGo t [] (Ok (Go x))) (sym (rested-resumed t v same left)) (none over)))
+    (so.whole [] (Ok (Go (rested v))) (subst (λ (x : SessionState). WaitingGo t [] (Ok (Go x))) (sym same) (none over)))
 
 pub waits-short : (s t : SessionState) (es : List Event) → WaitsSoFar s t es → WaitingGo s es (Err stop.Memory)
 waits-short s t es so = subst (λ (l : List Event). WaitingGo s l (Err stop.Memory)) (append-nil es) (so.whole [] (Err stop.Memory) short)
@@ -72,17 +99,24 @@ idle-goes s line idle is holds =
     subst (λ (b : Bool). Goes (if b then Ret (Go s) else counted_play s line) [] (Ok (Go s))) (sym (sym is ∙ holds)) (refl, inl refl)
 
 -- a session between two lines is at rest
+at-rest-same : (s : SessionState) → s.frames ≡ [] → s.count ≡ 0 → at_rest s ≡ s
+at-rest-same s over zero =
+    let cuts : at_rest s ≡ with_count (with_frames s []) 0 = ap (λ (fs : List Pending). record s { desk = cut_to (open_before fs) s.desk; frames = []; count = 0 }) over in
+    cuts ∙ ap (λ (fs : List Pending). with_count (with_frames s fs) 0) (sym over) ∙ ap (λ (n : ℕ). with_count s n) (sym zero)
+
 pub rested-same : (s : SessionState) → IsSession s → rested s ≡ s
-rested-same s is =
-    let cuts : rested s ≡ with_count (with_frames s []) 0 = ap (λ (fs : List Pending). record s { desk = cut_to (open_before fs) s.desk; frames = []; count = 0 }) is.frames in
-    cuts ∙ ap (λ (fs : List Pending). with_count (with_frames s fs) 0) (sym is.frames) ∙ ap (λ (n : ℕ). with_count s n) (sym is.count)
+rested-same s is = go (is_drafting s) refl
+  where
+    go : (b : Bool) → is_drafting s ≡ b → rested s ≡ s
+    go true e = rested-in s e
+    go false e = rested-out s e ∙ at-rest-same s (is.frames e) (is.count e)
 
 -- and a line of the input is the first command
 pub typed-same : (s : SessionState) → IsSession s → with_count (rested s) 1 ≡ with_count s 1
 typed-same s is = ap (λ (t : SessionState). with_count t 1) (rested-same s is)
 
 pub typed-goes : (s : SessionState) → IsSession s → (line : List ℕ) (es : List Event) (out : Result (Next SessionState Status) Stop)
-    → Goes (line_play Input (with_count s 1) line) es out → Goes (typed_play s line) es out
+    → Goes (line_play Input (with_count s 1) line) es out → Goes (command_play s line) es out
 typed-goes s is line es out goes = subst (λ (t : SessionState). Goes (line_play Input t line) es out) (sym (typed-same s is)) goes
 
 -- where no definition is under way none is dropped
@@ -99,7 +133,17 @@ desk-cut o desk d = record { shown = d.shown; rows = d.rows; marks = d.marks; wi
 -- conditions are no matter of validity
 pub rested_valid : (s t : SessionState) → t ≡ rested s → IsState s → IsSession t
 rested_valid s t same is =
-    subst IsSession (sym same) (record { state = record { desk = desk-cut (open_before s.frames) s.desk is.desk; actor = is.actor }; frames = refl; count = refl })
+    subst IsSession (sym same) (go (is_drafting s) refl)
+  where
+    resting : is_drafting s ≡ false → IsSession (at_rest s)
+    resting out = record { state = record { desk = desk-cut (open_before s.frames) s.desk is.desk; actor = is.actor }; frames = λ o. refl; count = λ o. refl }
+
+    open_still : is_drafting s ≡ true → IsSession s
+    open_still inside = record { state = is; frames = λ o. absurd (no-both inside o); count = λ o. absurd (no-both inside o) }
+
+    go : (b : Bool) → is_drafting s ≡ b → IsSession (rested s)
+    go true e = subst IsSession (sym (rested-in s e)) (open_still e)
+    go false e = subst IsSession (sym (rested-out s e)) (resting e)
 
 -- the desk but for its conditions, and the actor, are as in a valid state
 pub kept_valid : (s t : SessionState) (o : Option ℕ) → t.desk ≡ cut_to o s.desk → t.actor ≡ s.actor → IsState s → IsState t
@@ -110,6 +154,16 @@ on-err (Ok t) f h = tt
 on-err (Err e) f h = f h
 
 -- what stays where a line of the input ends the run
-pub stays-rested : (s u : SessionState) → IsSession s → (went : Flow) → StaysAtEnd (with_count s 1) u went → StaysAtEnd s (rested u) went
-stays-rested s u is flow.Go h = tt
-stays-rested s u is (flow.End e) h = ap rested h ∙ rested-same s is
+-- how many commands are counted is no matter to a state at rest
+pub counted-rested : (s : SessionState) (n : ℕ) → is_drafting s ≡ false → rested (with_count s n) ≡ rested s
+counted-rested s n out = let same : at_rest (with_count s n) ≡ at_rest s = refl in rested-out (with_count s n) out ∙ (same ∙ sym (rested-out s out))
+
+pub stays-rested : (s u : SessionState) → IsSession s → is_drafting s ≡ false → (went : Flow) → StaysAtEnd (with_count s 1) u went → StaysAtEnd s (rested u) went
+stays-rested s u is out flow.Go h = tt
+stays-rested s u is out (flow.End e) h = ap rested h ∙ (counted-rested s 1 out ∙ rested-same s is)
+
+pub at-most : (a b c : ℕ) → a < b → b ≤ c → a ≤ c
+at-most a b c x y = omega arith
+
+pub below-most : (a b c : ℕ) → a < b → b ≤ c → a < c
+below-most a b c x y = omega arith

@@ -39,14 +39,14 @@ use Rattle.mailx_session.specs.declared.status.Status.{Status}
 use Rattle.mailx_session.specs.declared.state.SessionState.{SessionState}
 use Rattle.mailx_session.specs.Waits.{Pending}
 use Rattle.mailx_session.specs.Pending.{frame_of, lines_left}
-use Rattle.mailx_session.specs.States.{IsState, with_desk, with_frames, resumed, KeepsOthers}
+use Rattle.mailx_session.specs.States.{IsState, with_desk, with_draft, with_frames, resumed, OnlyFrames, KeepsOthers}
 use Rattle.mailx_session.specs.Bringing.{is_source, is_call, sources, calls, source_limit, origin_at, with_lines, brings, brings_lines, room, weight, HasPlace, OnlyBrings}
 use Rattle.mailx_session.specs.Sourcing.{source_fault}
 use Rattle.mailx_session.specs.Calling.{called}
 use Rattle.mailx_session.specs.Sessions.{after_asks, in_play, is_on, stop_of, LineCaused, StaysUnlessOn, KeepsDesk}
 use Rattle.command_desk.specs.declared.desk.Desk.{Desk}
 
-le-refl : (n : ℕ) → n ≤ n
+pub le-refl : (n : ℕ) → n ≤ n
 le-refl n = omega arith
 
 le-then : (a b c : ℕ) → a ≤ b → b ≤ c → a ≤ c
@@ -59,16 +59,16 @@ brings_none s t same = subst (λ (u : SessionState). OnlyBrings s u) (sym same) 
 -- what is brought after other lines
 pub brings-then : (a b c : SessionState) → OnlyBrings a b → OnlyBrings b c → OnlyBrings a c
 brings-then a b c x y = record {
-  rest = y.rest ∙ ap (λ (s : SessionState). with_frames (with_desk s c.desk) c.frames) x.rest;
+  rest = y.rest ∙ ap (λ (s : SessionState). with_draft (with_frames (with_desk s c.desk) c.frames) c.draft) x.rest;
   inside = (x.inside.0 ++ y.inside.0, y.inside.1 ∙ (ap (λ (fs : List Pending). fs ++ y.inside.0) x.inside.1 ∙ append_assoc a.frames x.inside.0 y.inside.0));
   room = le-then (room c.frames) (room b.frames) (room a.frames) y.room x.room;
 }
 
 -- without what was brought the state is as before, where the desk is
-pub cut-back : (s t : SessionState) (depth : ℕ) → OnlyBrings s t → t.desk ≡ s.desk → depth ≡ length s.frames → with_frames t (take depth t.frames) ≡ s
+pub cut-back : (s t : SessionState) (depth : ℕ) → OnlyBrings s t → OnlyFrames s t → depth ≡ length s.frames → with_frames t (take depth t.frames) ≡ s
 cut-back s t depth b same is =
     let front : take depth t.frames ≡ s.frames = ap (take depth) b.inside.1 ∙ take_at s.frames b.inside.0 depth (sym is) in
-    ap (with_frames t) front ∙ (ap (λ (u : SessionState). with_frames u s.frames) b.rest ∙ ap (λ (d : Desk). with_desk s d) same)
+    ap (with_frames t) front ∙ ap (λ (u : SessionState). with_frames u s.frames) same
 
 -- another desk is put
 pub brings-desk : (s : SessionState) (desk : Desk) → OnlyBrings s (with_desk s desk)
@@ -78,16 +78,28 @@ brings-desk s desk = record { rest = refl; inside = ([], sym (append-nil s.frame
 pub valid-desk : (s : SessionState) (desk : Desk) → IsState s → IsDesk desk → IsState (with_desk s desk)
 valid-desk s desk is valid = record { desk = valid; actor = is.actor }
 
+-- only lines are brought where the state stays
+only-same : (s t : SessionState) → t ≡ s → OnlyFrames s t
+only-same s t same = subst (λ (u : SessionState). OnlyFrames s u) (sym same) refl
+
+-- and by one ask after another
+pub only-then : (a b c : SessionState) → OnlyFrames a b → OnlyFrames b c → OnlyFrames a c
+only-then a b c x y = y ∙ ap (λ (s : SessionState). with_frames s c.frames) x
+
+-- then the desk stays
+pub only-desk : (s t : SessionState) → OnlyFrames s t → t.desk ≡ s.desk
+only-desk s t only = ap (λ (u : SessionState). u.desk) only
+
 -- the desk stays where the state does
 pub same-desk : (s t : SessionState) (r : Result Asked RunError) → t ≡ s → KeepsDesk s t r
-same-desk s t (Ok answered.On) same = ap (λ (u : SessionState). u.desk) same
+same-desk s t (Ok answered.On) same = only-same s t same
 same-desk s t (Ok answered.Over) same = tt
-same-desk s t (Ok (answered.Refused line)) same = ap (λ (u : SessionState). u.desk) same
-same-desk s t (Ok (answered.Ended e)) same = ap (λ (u : SessionState). u.desk) same
-same-desk s t (Err e) same = ap (λ (u : SessionState). u.desk) same
+same-desk s t (Ok (answered.Refused line)) same = only-same s t same
+same-desk s t (Ok (answered.Ended e)) same = only-same s t same
+same-desk s t (Err e) same = only-same s t same
 
 -- or its own desk
-pub keeps-desk : (s t : SessionState) (r : Result Asked RunError) → t.desk ≡ s.desk → KeepsDesk s t r
+pub keeps-desk : (s t : SessionState) (r : Result Asked RunError) → OnlyFrames s t → KeepsDesk s t r
 keeps-desk s t (Ok answered.On) same = same
 keeps-desk s t (Ok answered.Over) same = tt
 keeps-desk s t (Ok (answered.Refused line)) same = same
@@ -95,11 +107,11 @@ keeps-desk s t (Ok (answered.Ended e)) same = same
 keeps-desk s t (Err e) same = same
 
 -- where the desk stays the state stays valid
-pub kept-valid : (s t : SessionState) → IsState s → OnlyBrings s t → t.desk ≡ s.desk → IsState t
-kept-valid s t is b same = subst IsState (sym b.rest) (record { desk = subst IsDesk (sym same) is.desk; actor = is.actor })
+pub kept-valid : (s t : SessionState) → IsState s → OnlyBrings s t → OnlyFrames s t → IsState t
+kept-valid s t is b same = subst IsState (sym same) (record { desk = is.desk; actor = is.actor })
 
 -- the desk stays too where not all was done
-pub off-desk : (s t : SessionState) (r : Result Asked RunError) → KeepsDesk s t r → is_on r ≡ false → t.desk ≡ s.desk
+pub off-desk : (s t : SessionState) (r : Result Asked RunError) → KeepsDesk s t r → is_on r ≡ false → OnlyFrames s t
 off-desk s t (Ok answered.On) keeps off = absurd (cc off)
 off-desk s t (Ok answered.Over) keeps off = absurd (cc off)
 off-desk s t (Ok (answered.Refused line)) keeps off = keeps
@@ -107,12 +119,12 @@ off-desk s t (Ok (answered.Ended e)) keeps off = keeps
 off-desk s t (Err e) keeps off = keeps
 
 -- the desk stays in one ask after another, the first of which left it
-pub desk-then : (s t u : SessionState) (r : Result Asked RunError) → t.desk ≡ s.desk → KeepsDesk t u r → KeepsDesk s u r
-desk-then s t u (Ok answered.On) same keeps = keeps ∙ same
+pub desk-then : (s t u : SessionState) (r : Result Asked RunError) → OnlyFrames s t → KeepsDesk t u r → KeepsDesk s u r
+desk-then s t u (Ok answered.On) same keeps = only-then s t u same keeps
 desk-then s t u (Ok answered.Over) same keeps = tt
-desk-then s t u (Ok (answered.Refused line)) same keeps = keeps ∙ same
-desk-then s t u (Ok (answered.Ended e)) same keeps = keeps ∙ same
-desk-then s t u (Err e) same keeps = keeps ∙ same
+desk-then s t u (Ok (answered.Refused line)) same keeps = only-then s t u same keeps
+desk-then s t u (Ok (answered.Ended e)) same keeps = only-then s t u same keeps
+desk-then s t u (Err e) same keeps = only-then s t u same keeps
 
 -- one frame more
 left-more : (fs : List Pending) (f : Pending) → lines_left (fs ++ f ∷ []) ≡ lines_left fs + length f.lines
@@ -212,7 +224,7 @@ source-name frames name plain = go (is_short_name name) (nat_lt (sources frames)
 
 -- and so do no lines, with the count as it was
 pub weight_kept : (s t : SessionState) → KeepsOthers s t → t.frames ≡ s.frames → weight t ≤ weight s
-weight_kept s t others same = subst (λ (u : SessionState). weight u ≤ weight s) (sym (others ∙ ap (with_frames (with_desk s t.desk)) same)) (le-refl (weight s))
+weight_kept s t others same = subst (λ (u : SessionState). weight u ≤ weight s) (sym (others ∙ ap (λ (fs : List Pending). with_draft (with_frames (with_desk s t.desk) fs) t.draft) same)) (le-refl (weight s))
 
 -- a line of a definition brings nothing
 definition-brings : (b : Bool) (o : Option MacroError) (line : List ℕ)

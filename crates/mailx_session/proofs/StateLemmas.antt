@@ -29,4 +29,4 @@ actor-is home short =
     }
 
 pub first-valid : (places : Places) (terminal : Bool) (token : ℕ) → 2 ≤ places.width → is_short_name places.home ≡ true → IsSession (state_with places terminal token)
-first-valid places terminal token wide home = record { state = record { desk = empty-desk places terminal wide; actor = actor-is places.home home }; frames = refl; count = refl }
+first-valid places terminal token wide home = record { state = record { desk = empty-desk places terminal wide; actor = actor-is places.home home }; frames = λ o. refl; count = λ o. refl }

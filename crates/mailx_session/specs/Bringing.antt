@@ -61,14 +61,15 @@ origin_at frames = origin_of (slice_get frames (length frames - 1))
 abbrev pub with_lines : FrameKind → SessionState → List ℕ → SessionState
 with_lines kind s text = with_frames s (s.frames ++ frame_of (origin_at s.frames) kind (length s.desk.conditions) text ∷ [])
 
--- the ask brings something into the session: lines from elsewhere, or another folder
+-- the ask brings something into the session: lines from elsewhere, another folder, or a draft
 abbrev pub brings : asked_of.Ask → Bool
 brings (asks.Source name) = true
 brings (asks.Lines text) = true
 brings (asks.Open name changes reply) = true
+brings (asks.Draft draft) = true
 brings ask = false
 
--- a command's steps bring lines or a folder
+-- a command's steps bring lines, a folder or a draft
 abbrev pub brings_lines : OrFault Steps → Bool
 brings_lines (Ok steps) = list_any brings steps.asks
 brings_lines (Err line) = false
@@ -78,7 +79,7 @@ brings_lines (Err line) = false
 abbrev pub room : List Pending → ℕ
 room frames = lines_left frames + ((source_limit - sources frames) + (call_limit - calls frames)) * 2 ^ 64
 
--- asks change the desk and the lines that wait alone: they may put frames inside of those that are there
+-- asks change the desk, the lines that wait and the draft alone: they may put frames inside of those that are there
 pub record OnlyBrings (old new : SessionState) : Type 0 where
   pub rest : KeepsOthers old new
   pub inside : (more : List Pending) × (new.frames ≡ old.frames ++ more)

@@ -1,5 +1,7 @@
--- What a commit leaves of a command.
+-- What a commit leaves of a command, and what is taken of lines that wait.
 use Rattle.std.specs.Prelude.{◌≡◌, List}
+use Rattle.std.specs.declared.option.Option.{Option}
+use Rattle.std.specs.declared.option.Option.TheVariants.{Some, None}
 use Rattle.std.specs.declared.result.Result.{Result}
 use Rattle.std.specs.declared.result.Result.TheVariants.{Ok, Err}
 use Rattle.folder_change.specs.declared.change.Change.{Change}
@@ -9,6 +11,8 @@ use Rattle.mailx_session.specs.declared.asks.Asked.{Asked}
 use Rattle.mailx_session.specs.declared.error.RunError.{RunError}
 use Rattle.mailx_session.specs.declared.error.RunError.TheVariants as error
 use Rattle.mailx_session.specs.declared.state.SessionState.{SessionState}
+use Rattle.mailx_session.specs.declared.frames.WaitingLine.{WaitingLine}
+use Rattle.mailx_session.specs.States.{next_waiting, resumed, rested}
 use Rattle.mailx_session.specs.Saving.{after_commit}
 use Rattle.mailx_session.specs.Sessions.{after_asks, stop_of}
 
@@ -19,3 +23,8 @@ Follows s changes (Ok answer) (Err error.Memory) = Unit {0}
 Follows s changes (Ok answer) (Err e) = ⊥
 Follows s changes (Err cause) (Ok asked) = ⊥
 Follows s changes (Err cause) (Err e) = stop_of e ≡ cause
+
+-- the line that is carried out next was taken, or there is none
+abbrev pub IsNext : Option WaitingLine → SessionState → SessionState → Type 0
+IsNext (Some line) old new = (next_waiting old ≡ Some (line, new.frames)) × (new ≡ resumed old new.frames)
+IsNext None old new = (next_waiting old ≡ None) × (rested new ≡ rested old)

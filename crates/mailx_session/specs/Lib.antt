@@ -7,7 +7,10 @@ pub mod Bringing
 pub mod Sourcing
 pub mod Calling
 pub mod Switching
+pub mod Beginning
 pub mod Sessions
+pub mod Drafting
+pub mod Taking
 pub mod Leaving
 pub mod Follows
 pub mod Rounds

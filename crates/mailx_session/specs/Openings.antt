@@ -49,6 +49,7 @@ state_with places terminal token = record {
   terminal = terminal;
   frames = [];
   count = 0;
+  draft = None;
 }
 
 abbrev pub first_state : Pairs → Bool → ℕ → SessionState

@@ -1,5 +1,5 @@
 -- The lines of a session: one of the input, and those that wait.
-use Rattle.std.specs.Prelude.{◌≡◌, ◌+◌, nat_lt, ℕ, Bool, ◌||◌, List, [], ◌++◌, codes, if◌then◌else◌}
+use Rattle.std.specs.Prelude.{◌≡◌, ◌+◌, nat_lt, ℕ, Bool, true, false, ◌||◌, List, [], ◌++◌, codes, if◌then◌else◌}
 use Rattle.std.specs.List.{list_all}
 use Rattle.std.specs.declared.option.Option.TheVariants.{Some, None}
 use Rattle.std.specs.declared.result.Result.{Result}
@@ -17,17 +17,21 @@ use Rattle.mailx_session.specs.declared.frames.WaitingLine.{WaitingLine}
 use Rattle.mailx_session.specs.declared.state.SessionState.{SessionState}
 use Rattle.mailx_session.specs.declared.status.Status.{Status}
 use Rattle.mailx_session.specs.Waits.{Pending}
-use Rattle.mailx_session.specs.Pending.{taken}
-use Rattle.mailx_session.specs.States.{command_limit, with_count, resumed, rested}
+use Rattle.mailx_session.specs.States.{command_limit, is_drafting, next_waiting, with_count, resumed, rested}
 use Rattle.mailx_session.specs.Sessions.{carried_out}
+use Rattle.mailx_session.specs.Drafting.{draft_play, ended_draft}
 
 -- what a line from somewhere does
 abbrev pub line_play : Origin → SessionState → List ℕ → Play (Next SessionState Status)
 line_play from s line = carried_out s (commanded from s.desk line)
 
--- a line of the input begins the count of commands anew, and is the first of them
+-- a line of the input that is a command: it begins the count of commands anew, and is the first of them
+abbrev pub command_play : SessionState → List ℕ → Play (Next SessionState Status)
+command_play s line = line_play Input (with_count (rested s) 1) line
+
+-- a line of the input: one of the draft, where one is open, and else a command
 abbrev pub typed_play : SessionState → List ℕ → Play (Next SessionState Status)
-typed_play s line = line_play Input (with_count (rested s) 1) line
+typed_play s line = if is_drafting s then draft_play s line else command_play s line
 
 abbrev pub too_many_commands : List ℕ
 too_many_commands = with_feed (codes "too many commands")
@@ -56,16 +60,16 @@ waiting_play s line =
     if is_defining s.desk then line_play line.origin s line.text
     else outside_play s line
 
--- The lines that wait are carried out, each on the state that the one before it left, until none is left, the run ends or is
--- cut off.
+-- The lines that wait are carried out, each on the state that the one before it left, until none is left, a draft is open, the
+-- run ends or is cut off.
 pub data WaitingGo : SessionState → List Event → Result (Next SessionState Status) Stop → Type 0 where
-  none : {s : SessionState} → taken s.frames ≡ None → WaitingGo s [] (Ok (Go (rested s)))
+  none : {s : SessionState} → next_waiting s ≡ None → WaitingGo s [] (Ok (Go (rested s)))
   more : {s t : SessionState} {es : List Event} {out : Result (Next SessionState Status) Stop} (line : WaitingLine) (frames : List Pending) (front rest : List Event)
-      → taken s.frames ≡ Some (line, frames) → es ≡ front ++ rest → Goes (waiting_play (resumed s frames) line) front (Ok (Go t))
+      → next_waiting s ≡ Some (line, frames) → es ≡ front ++ rest → Goes (waiting_play (resumed s frames) line) front (Ok (Go t))
       → WaitingGo t rest out → WaitingGo s es out
-  ended : {s : SessionState} {es : List Event} {e : Status} (line : WaitingLine) (frames : List Pending) → taken s.frames ≡ Some (line, frames)
+  ended : {s : SessionState} {es : List Event} {e : Status} (line : WaitingLine) (frames : List Pending) → next_waiting s ≡ Some (line, frames)
       → Goes (waiting_play (resumed s frames) line) es (Ok (Last e)) → WaitingGo s es (Ok (Last e))
-  cut : {s : SessionState} {es : List Event} {cause : Stop} (line : WaitingLine) (frames : List Pending) → taken s.frames ≡ Some (line, frames)
+  cut : {s : SessionState} {es : List Event} {cause : Stop} (line : WaitingLine) (frames : List Pending) → next_waiting s ≡ Some (line, frames)
       → Goes (waiting_play (resumed s frames) line) es (Err cause) → WaitingGo s es (Err cause)
   short : {s : SessionState} → WaitingGo s [] (Err stop.Memory)
 
@@ -75,3 +79,17 @@ pub data LineGoes (s : SessionState) (line : List ℕ) : List Event → Result (
       → Goes (typed_play s line) front (Ok (Go t)) → WaitingGo t rest out → LineGoes s line es out
   last : {es : List Event} {e : Status} → Goes (typed_play s line) es (Ok (Last e)) → LineGoes s line es (Ok (Last e))
   cut_short : {es : List Event} {cause : Stop} → Goes (typed_play s line) es (Err cause) → LineGoes s line es (Err cause)
+
+-- The draft that is open ends, and the lines that wait are carried out.
+pub data DraftEnds (s : SessionState) : List Event → Result (Next SessionState Status) Stop → Type 0 where
+  told : {t : SessionState} {es : List Event} {out : Result (Next SessionState Status) Stop} (front rest : List Event) → es ≡ front ++ rest
+      → Goes (ended_draft s) front (Ok (Go t)) → WaitingGo t rest out → DraftEnds s es out
+  untold : {es : List Event} {cause : Stop} → Goes (ended_draft s) es (Err cause) → DraftEnds s es (Err cause)
+
+-- The end of the input: while a draft is open it ends, and the lines that wait are carried out.
+pub data FinishGo : SessionState → List Event → Result (Next SessionState Status) Stop → Type 0 where
+  finished : {s : SessionState} → is_drafting s ≡ false → FinishGo s [] (Ok (Go s))
+  onward : {s t : SessionState} {es : List Event} {out : Result (Next SessionState Status) Stop} (front rest : List Event) → is_drafting s ≡ true
+      → es ≡ front ++ rest → DraftEnds s front (Ok (Go t)) → FinishGo t rest out → FinishGo s es out
+  left : {s : SessionState} {es : List Event} {e : Status} → is_drafting s ≡ true → DraftEnds s es (Ok (Last e)) → FinishGo s es (Ok (Last e))
+  lost : {s : SessionState} {es : List Event} {cause : Stop} → is_drafting s ≡ true → DraftEnds s es (Err cause) → FinishGo s es (Err cause)

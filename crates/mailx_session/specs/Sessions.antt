@@ -22,7 +22,8 @@ use Rattle.mailx_session.specs.declared.flow.Flow.TheVariants as flow
 use Rattle.mailx_session.specs.declared.state.SessionState.{SessionState}
 use Rattle.mailx_session.specs.declared.status.Status.{Status}
 use Rattle.mailx_session.specs.declared.status.Status.TheVariants.{Done}
-use Rattle.mailx_session.specs.States.{settled}
+use Rattle.mailx_session.specs.States.{settled, OnlyFrames}
+use Rattle.mailx_session.specs.Beginning.{begun}
 use Rattle.mailx_session.specs.Statuses.{IsLineEnd}
 use Rattle.mailx_session.specs.Saving.{names_fault, saved}
 use Rattle.mailx_session.specs.Sourcing.{source_fault, sourced}
@@ -36,6 +37,7 @@ asked s (asks.Commit changes) = saved s changes (names_fault s.actor changes)
 asked s (asks.Source name) = sourced s name (source_fault s.frames name)
 asked s (asks.Lines text) = Ret (called s text)
 asked s (asks.Open name changes reply) = switches s name changes reply (open_fault s.actor name changes)
+asked s (asks.Draft draft) = begun s draft
 asked s asks.Exit = Ret (Ended Done)
 
 -- a command's steps are carried out, or the line that refuses it is said
@@ -100,10 +102,10 @@ StaysUnlessOn old new (Ok answered.On) = Unit {0}
 StaysUnlessOn old new (Ok answered.Over) = Unit {0}
 StaysUnlessOn old new r = new ≡ old
 
--- the desk stays, unless the command is over with an ask
+-- desk and draft stay, unless the command is over with an ask
 abbrev pub KeepsDesk : SessionState → SessionState → Result Asked RunError → Type 0
 KeepsDesk old new (Ok answered.Over) = Unit {0}
-KeepsDesk old new r = new.desk ≡ old.desk
+KeepsDesk old new r = OnlyFrames old new
 
 -- a refusal leaves its line, or is a cut for want of memory
 abbrev pub IsRefusedSo : Refusal → Result Asked RunError → Type 0

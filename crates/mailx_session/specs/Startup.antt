@@ -20,9 +20,9 @@ use Rattle.mailx_session.specs.Pending.{frame_of}
 use Rattle.mailx_session.specs.States.{with_frames}
 use Rattle.mailx_session.specs.Rounds.{WaitingGo}
 
--- the lines of a start-up file wait, and no others do
+-- the lines of a start-up file wait, in front of others, of which there are none where no draft is open
 abbrev pub with_startup : SessionState → List ℕ → SessionState
-with_startup s text = with_frames s (frame_of Startup kind.Startup (length s.desk.conditions) text ∷ [])
+with_startup s text = with_frames s (s.frames ++ frame_of Startup kind.Startup (length s.desk.conditions) text ∷ [])
 
 -- what follows the load of a start-up file of this name: its lines wait, an absent one is passed over, and else what is
 -- wrong is said; a lock on it is no matter

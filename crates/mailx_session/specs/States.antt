@@ -1,5 +1,5 @@
 -- What a session knows between two lines.
-use Rattle.std.specs.Prelude.{◌≡◌, ◌≤◌, ℕ, Bool, true, List, [], length, take}
+use Rattle.std.specs.Prelude.{◌≡◌, ◌≤◌, ℕ, Bool, true, false, List, [], length, take, is_some, if◌then◌else◌}
 use Rattle.std.specs.declared.option.Option.{Option}
 use Rattle.std.specs.declared.option.Option.TheVariants.{Some, None}
 use Rattle.host_port.specs.Names.{has_no_zero}
@@ -11,8 +11,10 @@ use Rattle.command_desk.specs.declared.effects.Effects.{Effects}
 use Rattle.command_desk.specs.Desks.{IsDesk}
 use Rattle.command_desk.specs.Effects.{effect}
 use Rattle.mailx_session.specs.declared.state.SessionState.{SessionState}
+use Rattle.compose_tilde.specs.declared.machine.Machine.{Machine}
+use Rattle.mailx_session.specs.declared.frames.WaitingLine.{WaitingLine}
 use Rattle.mailx_session.specs.Waits.{Pending}
-use Rattle.mailx_session.specs.Pending.{open_before, closed}
+use Rattle.mailx_session.specs.Pending.{taken, open_before, closed}
 
 -- the files of an actor of this name can have their names
 pub record IsActor (name : List ℕ) : Type 0 where
@@ -24,11 +26,15 @@ pub record IsState (s : SessionState) : Type 0 where
   pub desk : IsDesk s.desk
   pub actor : IsActor s.actor
 
--- Between two lines of the input the state is valid, no line waits, and no command is counted.
+-- a draft is open, so that the lines of the input are those of it
+abbrev pub is_drafting : SessionState → Bool
+is_drafting s = is_some s.draft
+
+-- Between two lines of the input the state is valid; no line waits, and no command is counted, unless a draft is open.
 pub record IsSession (s : SessionState) : Type 0 where
   pub state : IsState s
-  pub frames : s.frames ≡ []
-  pub count : s.count ≡ 0
+  pub frames : is_drafting s ≡ false → s.frames ≡ []
+  pub count : is_drafting s ≡ false → s.count ≡ 0
 
 -- the most commands that one line of the input gives
 abbrev pub command_limit : ℕ
@@ -45,6 +51,14 @@ with_frames s frames = record s { frames = frames }
 -- the state with another count of commands
 abbrev pub with_count : SessionState → ℕ → SessionState
 with_count s count = record s { count = count }
+
+-- the state with another draft, or with none
+abbrev pub with_draft : SessionState → Option Machine → SessionState
+with_draft s draft = record s { draft = draft }
+
+-- the line that is carried out next: one of those that wait, unless a draft is open, whose lines come from the input
+abbrev pub next_waiting : SessionState → Option (WaitingLine × List Pending)
+next_waiting s = if is_drafting s then None else taken s.frames
 
 -- the conditions that stay open, where this many were before
 abbrev pub still_open : Option ℕ → List Condition → List Condition
@@ -72,13 +86,21 @@ resumed s frames = record s { desk = cut_to (open_before (closed s.frames frames
 
 -- the state without lines that wait and without the conditions and the definition that they left open, and with no
 -- command counted
+abbrev pub at_rest : SessionState → SessionState
+at_rest s = record s { desk = cut_to (open_before s.frames) s.desk; frames = []; count = 0 }
+
+-- the state at rest, unless a draft is open, behind which the lines that wait go on
 abbrev pub rested : SessionState → SessionState
-rested s = record s { desk = cut_to (open_before s.frames) s.desk; frames = []; count = 0 }
+rested s = if is_drafting s then s else at_rest s
 
 -- the state after a command: what its effects don't name stays
 abbrev pub settled : SessionState → Effects → SessionState
 settled s effects = with_desk s (effect s.desk effects)
 
--- only the desk and the lines that wait changed
+-- only the lines that wait changed
+abbrev pub OnlyFrames : SessionState → SessionState → Type 0
+OnlyFrames old new = new ≡ with_frames old new.frames
+
+-- only the desk, the lines that wait and the draft changed
 abbrev pub KeepsOthers : SessionState → SessionState → Type 0
-KeepsOthers old new = new ≡ with_frames (with_desk old new.desk) new.frames
+KeepsOthers old new = new ≡ with_draft (with_frames (with_desk old new.desk) new.frames) new.draft

@@ -10,6 +10,7 @@ ghost use Rattle.mailx_session.specs.States.{IsState};
 ghost use Rattle.mailx_session.specs.Bringing.{brings, OnlyBrings};
 ghost use Rattle.mailx_session.specs.Sessions.{asked, after_asks, in_play, is_on, LineCaused, EndsByAsk, StaysUnlessOn, KeepsDesk};
 
+use crate::beginning::begin;
 use crate::calling::call;
 use crate::saving::save;
 use crate::sourcing::source;
@@ -45,7 +46,7 @@ pub(crate) fn say<H: Host>(host: &mut H, bytes: &[u8]) -> Result<(), RunError>
     }
 }
 
-// Does one thing that is asked for. The state stays, but for the lines and the folder that this brings.
+// Does one thing that is asked for. The state stays, but for the lines, the folder and the draft that this brings.
 #[tactic(auto, using(crate::proofs::SourcingLemmas::brings_none))]
 fn do_ask<H: Host>(
     alloc: Global,
@@ -74,6 +75,7 @@ fn do_ask<H: Host>(
             changes,
             reply,
         } => switch(alloc, state, host, name.bytes(), changes.items(), reply),
+        Wanted::Draft { draft } => begin(alloc, state, host, draft),
         Wanted::Exit => Ok(Asked::Ended(Status::Done)),
     }
 }

@@ -1,6 +1,7 @@
 // Lines that a command brings.
 ghost use Rattle.std.specs.Prelude.{◌≡◌, ◌<◌, ◌^◌, length, IfOk, OnErr};
 ghost use Rattle.mailx_session.specs.Bringing.{HasPlace, with_lines, OnlyBrings};
+ghost use Rattle.mailx_session.specs.States.{OnlyFrames};
 
 use crate::asks::Asked;
 use crate::{Frame, FrameKind, SessionState};
@@ -20,7 +21,7 @@ pub(crate) fn bring(state: &mut SessionState, kind: FrameKind, text: Text) -> Re
     ensures on { IfOk result (λ asked. asked ≡ Asked.On) }
     ensures ok { IfOk result (λ asked. state.new ≡ with_lines kind state.old text) }
     ensures brings { OnlyBrings state.old state.new }
-    ensures desk { state.new.desk ≡ state.old.desk }
+    ensures desk { OnlyFrames state.old state.new }
     ensures err { OnErr result (state.new ≡ state.old) }
 {
     // the clause `brings` speaks of how many lines a text can have

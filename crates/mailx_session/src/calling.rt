@@ -2,6 +2,7 @@
 ghost use Rattle.std.specs.Prelude.{◌≡◌, IfErr, IfOk};
 ghost use Rattle.mailx_session.specs.Bringing.{OnlyBrings};
 ghost use Rattle.mailx_session.specs.Calling.{called};
+ghost use Rattle.mailx_session.specs.States.{OnlyFrames};
 ghost use Rattle.mailx_session.specs.Sessions.{after_asks, EndsByAsk};
 
 use crate::asks::Asked;
@@ -18,7 +19,7 @@ const CALL_LIMIT: usize = 32;
 fn call_lines(alloc: Global, state: &mut SessionState, text: &Text) -> Result<Asked, Memory>
     ensures means { IfOk result (λ asked. after_asks state.new asked ≡ called state.old text.now) }
     ensures brings { OnlyBrings state.old state.new }
-    ensures desk { state.new.desk ≡ state.old.desk }
+    ensures desk { OnlyFrames state.old state.new }
     ensures end { IfOk result EndsByAsk }
 {
     if state.frames.calls() < CALL_LIMIT {
@@ -34,7 +35,7 @@ pub(crate) fn call(alloc: Global, state: &mut SessionState, text: &Text) -> Resu
     ensures means { IfOk result (λ asked. after_asks state.new asked ≡ called state.old text.now) }
     ensures memory { IfErr result (λ e. e ≡ RunError.Memory) }
     ensures brings { OnlyBrings state.old state.new }
-    ensures desk { state.new.desk ≡ state.old.desk }
+    ensures desk { OnlyFrames state.old state.new }
     ensures end { IfOk result EndsByAsk }
 {
     match call_lines(alloc, state, text) {

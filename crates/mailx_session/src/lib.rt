@@ -3,9 +3,12 @@
 #![tactic(auto)]
 
 mod asks;
+mod beginning;
 mod bringing;
 mod calling;
+mod drafting;
 mod error;
+mod finishing;
 mod flow;
 mod frames;
 mod greeting;

@@ -1,5 +1,5 @@
 // Lines as they are carried out: one of the input, and then those that wait.
-ghost use Rattle.std.specs.Prelude.{◌≡◌, ◌≤◌, ◌≢◌, List, ℕ, [], true, false, Ok, Err, IfErr, IfOk, OnErr, OnOk, take};
+ghost use Rattle.std.specs.Prelude.{◌≡◌, ◌≤◌, ◌<◌, ◌≢◌, List, ℕ, [], true, false, Ok, Err, IfErr, IfOk, OnErr, OnOk, take};
 ghost use Rattle.std.specs.List.{list_all, list_any};
 ghost use Rattle.mail_text.specs.Ascii.{is_blank};
 ghost use Rattle.host_port.specs.Ran.{Ran};
@@ -10,12 +10,14 @@ ghost use Rattle.command_desk.specs.Effects.{effect};
 ghost use Rattle.read_commands.specs.Origins.{commanded, is_defining};
 ghost use Rattle.read_commands.specs.declared.origin.Origin.{Origin};
 ghost use Rattle.mailx_session.specs.Pending.{IsTaken};
-ghost use Rattle.mailx_session.specs.States.{IsState, IsSession, resumed, rested, settled, with_frames, KeepsOthers};
+ghost use Rattle.mailx_session.specs.Follows.{IsNext};
+ghost use Rattle.mailx_session.specs.States.{IsState, IsSession, is_drafting, resumed, rested, settled, with_frames, KeepsOthers};
 ghost use Rattle.mailx_session.specs.Bringing.{brings, brings_lines, room, weight};
-ghost use Rattle.mailx_session.specs.Rounds.{line_play, typed_play, dropped_play, counted_play, is_idle, outside_play, waiting_play, WaitingGo, LineGoes};
+ghost use Rattle.mailx_session.specs.Rounds.{line_play, command_play, typed_play, dropped_play, counted_play, is_idle, outside_play, waiting_play, WaitingGo, LineGoes};
 ghost use Rattle.mailx_session.specs.Sessions.{carried_out, next_of, in_play, LineCaused, EndsByLine, StaysAtEnd, DoesNothing};
 
 use crate::asks::{Asked, do_asks, say};
+use crate::drafting::draft_line;
 use crate::frames::Taken;
 use crate::state::{cut_to, drop_lines};
 use crate::{Flow, RunError, SessionState, WaitingLine};
@@ -62,8 +64,8 @@ fn settle(state: &mut SessionState, depth: usize, effects: Effects) -> Result<()
     }
 }
 
-// Carries out a command's steps.
-fn carry_out<H: Host>(
+/// Carries out a command's steps.
+pub(crate) fn carry_out<H: Host>(
     alloc: Global,
     state: &mut SessionState,
     host: &mut H,
@@ -96,9 +98,9 @@ fn carry_out<H: Host>(
     }
 }
 
-// Carries out a line from somewhere, without its line feed. The desk changes only where the run goes on, and not where
-// the line is refused, and so do the lines that wait; nothing else changes.
-fn carry_line<H: Host>(
+/// Carries out a line from somewhere, without its line feed. The desk changes only where the run goes on, and not where
+/// the line is refused, and so do the lines that wait and the draft; nothing else changes.
+pub(crate) fn carry_line<H: Host>(
     alloc: Global,
     state: &mut SessionState,
     host: &mut H,
@@ -128,16 +130,17 @@ fn carry_line<H: Host>(
     }
 }
 
-// Carries out a line of the input, which is the first command that is counted.
-fn typed_line<H: Host>(
+// Carries out a line of the input that is a command, the first that is counted.
+fn command_line<H: Host>(
     alloc: Global,
     state: &mut SessionState,
     host: &mut H,
     line: &[u8],
 ) -> Result<Flow, RunError>
-    requires { IsSession state.old }
+    requires session { IsSession state.old }
+    requires outside { is_drafting state.old ≡ false }
     ensures ran { Ran H.world host.old host.new
-        (λ es. Goes (typed_play state.old line.now) es (in_play (next_of state.new) result)) }
+        (λ es. Goes (command_play state.old line.now) es (in_play (next_of state.new) result)) }
     ensures state { IsState state.new }
     ensures none_wait { brings_lines (commanded Origin.Input state.old.desk line.now) ≡ false → state.new.frames ≡ [] }
     ensures refused { (fault : List ℕ) → commanded Origin.Input state.old.desk line.now ≡ Err fault
@@ -151,6 +154,35 @@ fn typed_line<H: Host>(
 {
     state.count = 1;
     carry_line(alloc, state, host, Origin::Input, line)
+}
+
+// Carries out a line of the input: one of the draft, where one is open, and else a command.
+fn typed_line<H: Host>(
+    alloc: Global,
+    state: &mut SessionState,
+    host: &mut H,
+    line: &[u8],
+) -> Result<Flow, RunError>
+    requires { IsSession state.old }
+    ensures ran { Ran H.world host.old host.new
+        (λ es. Goes (typed_play state.old line.now) es (in_play (next_of state.new) result)) }
+    ensures state { IsState state.new }
+    ensures none_wait { is_drafting state.old ≡ false
+        → brings_lines (commanded Origin.Input state.old.desk line.now) ≡ false → state.new.frames ≡ [] }
+    ensures refused { is_drafting state.old ≡ false → (fault : List ℕ)
+        → commanded Origin.Input state.old.desk line.now ≡ Err fault → rested state.new ≡ state.old }
+    ensures goes_on { is_drafting state.old ≡ false → (fault : List ℕ)
+        → commanded Origin.Input state.old.desk line.now ≡ Err fault → IfOk result (λ flow. flow ≡ Flow.Go) }
+    ensures done { IfOk result EndsByLine }
+    ensures end { is_drafting state.old ≡ false → IfOk result (StaysAtEnd state.old (rested state.new)) }
+    ensures err { is_drafting state.old ≡ false → OnErr result (rested state.new ≡ state.old) }
+    ensures cause { LineCaused (H.world.counts host.old) (H.world.counts host.new) result }
+{
+    if state.draft.is_some() {
+        draft_line(alloc, state, host, line)
+    } else {
+        command_line(alloc, state, host, line)
+    }
 }
 
 // Says that there are too many commands, and drops the lines that wait, with the conditions and the definition that
@@ -291,7 +323,7 @@ fn waiting_line<H: Host>(
 // Takes the next line that waits, and cuts the conditions and the definition that the frames left open which are
 // closed then.
 #[tactic(auto, using(crate::proofs::RoundLemmas::kept_valid))]
-fn next_waiting(alloc: Global, state: &mut SessionState) -> Result<Option<WaitingLine>, Memory>
+fn next_of_frames(alloc: Global, state: &mut SessionState) -> Result<Option<WaitingLine>, Memory>
     requires { IsState state.old }
     ensures taken { IfOk result (λ line. IsTaken line state.old.frames state.new.frames) }
     ensures resumed { OnOk result (state.new ≡ resumed state.old state.new.frames) }
@@ -307,7 +339,21 @@ fn next_waiting(alloc: Global, state: &mut SessionState) -> Result<Option<Waitin
     }
 }
 
-/// Carries out the lines that wait.
+// Takes the line that is carried out next: none where a draft is open.
+fn next_waiting(alloc: Global, state: &mut SessionState) -> Result<Option<WaitingLine>, Memory>
+    requires { IsState state.old }
+    ensures next { IfOk result (λ line. IsNext line state.old state.new) }
+    ensures state { IsState state.new }
+    ensures err { OnErr result (state.old.frames ≢ []) }
+{
+    if state.draft.is_some() {
+        Ok(None)
+    } else {
+        next_of_frames(alloc, state)
+    }
+}
+
+/// Carries out the lines that wait, until a draft is open.
 pub(crate) fn waiting_lines<H: Host>(
     alloc: Global,
     state: &mut SessionState,
@@ -318,6 +364,8 @@ pub(crate) fn waiting_lines<H: Host>(
         (λ es. WaitingGo state.old es (in_play (next_of (rested state.new)) result)) }
     ensures state { IsState state.new }
     ensures nothing { state.old.frames ≡ [] → DoesNothing (rested state.old) (rested state.new) result }
+    ensures falls { is_drafting state.old ≡ false
+        → OnOk result (is_drafting state.new ≡ true → weight state.new < weight state.old) }
     ensures done { IfOk result EndsByLine }
     ensures cause { LineCaused (H.world.counts host.old) (H.world.counts host.new) result }
 {
@@ -334,7 +382,7 @@ pub(crate) fn waiting_lines<H: Host>(
     }
 }
 
-/// Carries out a line of the input, and then the lines that it brings, until none waits.
+/// Carries out a line of the input, and then the lines that it brings, until none waits or a draft is open.
 pub(crate) fn input_line<H: Host>(
     alloc: Global,
     state: &mut SessionState,
@@ -345,14 +393,14 @@ pub(crate) fn input_line<H: Host>(
     ensures ran { Ran H.world host.old host.new
         (λ es. LineGoes state.old line.now es (in_play (next_of (rested state.new)) result)) }
     ensures state { IsState state.new }
-    ensures refused { (fault : List ℕ) → commanded Origin.Input state.old.desk line.now ≡ Err fault
-        → rested state.new ≡ state.old }
-    ensures goes_on { (fault : List ℕ) → commanded Origin.Input state.old.desk line.now ≡ Err fault
-        → IfOk result (λ flow. flow ≡ Flow.Go) }
+    ensures refused { is_drafting state.old ≡ false → (fault : List ℕ)
+        → commanded Origin.Input state.old.desk line.now ≡ Err fault → rested state.new ≡ state.old }
+    ensures goes_on { is_drafting state.old ≡ false → (fault : List ℕ)
+        → commanded Origin.Input state.old.desk line.now ≡ Err fault → IfOk result (λ flow. flow ≡ Flow.Go) }
     ensures done { IfOk result EndsByLine }
-    ensures end { brings_lines (commanded Origin.Input state.old.desk line.now) ≡ false
+    ensures end { is_drafting state.old ≡ false → brings_lines (commanded Origin.Input state.old.desk line.now) ≡ false
         → IfOk result (StaysAtEnd state.old (rested state.new)) }
-    ensures err { brings_lines (commanded Origin.Input state.old.desk line.now) ≡ false
+    ensures err { is_drafting state.old ≡ false → brings_lines (commanded Origin.Input state.old.desk line.now) ≡ false
         → OnErr result (rested state.new ≡ state.old) }
     ensures cause { LineCaused (H.world.counts host.old) (H.world.counts host.new) result }
 {

@@ -106,6 +106,7 @@ pub(crate) fn first_state(
         terminal,
         frames: Frames::new(alloc),
         count: 0,
+        draft: None,
     })
 }
 

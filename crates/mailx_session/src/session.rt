@@ -6,9 +6,9 @@ ghost use Rattle.mailx_vars.specs.Environment.{knows_user};
 ghost use Rattle.command_desk.specs.Desks.{IsDesk};
 ghost use Rattle.read_commands.specs.declared.origin.Origin.{Origin};
 ghost use Rattle.read_commands.specs.Origins.{commanded};
-ghost use Rattle.mailx_session.specs.States.{IsState, IsSession, rested};
+ghost use Rattle.mailx_session.specs.States.{IsState, IsSession, is_drafting, rested};
 ghost use Rattle.mailx_session.specs.Leaving.{leaving};
-ghost use Rattle.mailx_session.specs.Rounds.{LineGoes};
+ghost use Rattle.mailx_session.specs.Rounds.{FinishGo, LineGoes};
 ghost use Rattle.mailx_session.specs.Startup.{StartupGoes};
 ghost use Rattle.mailx_session.specs.Statuses.{IsEnd};
 ghost use Rattle.session_play.specs.Play.{Play, Goes};
@@ -16,12 +16,13 @@ ghost use Rattle.mailx_session.specs.Bringing.{brings_lines};
 ghost use Rattle.mailx_session.specs.Sessions.{next_of, in_play, LineCaused, EndsByLine, StaysAtEnd};
 ghost use Rattle.mailx_session.specs.Openings.{first_state, greeting, Opens};
 
+use crate::finishing::finish;
 use crate::greeting::greeting;
 use crate::leaving::leave;
 use crate::lines::input_line;
 use crate::opening::{first_state, opening_of, put_folder};
 use crate::startup::startup_file;
-use crate::state::drop_lines;
+use crate::state::rest;
 use crate::{Flow, RunError, SessionState, Status};
 use host_port::Host;
 use mail_text::{Memory, Text};
@@ -47,18 +48,6 @@ impl Model for Session {
     ghost view = { λ s. s.state };
 
     ghost invariant = { λ s. IsSession s.state };
-}
-
-// Drops the lines that wait, with the conditions and the definition that they left open, and counts no command any
-// more.
-#[tactic(auto, using(crate::proofs::RoundLemmas::rested_valid))]
-fn rest(alloc: Global, state: &mut SessionState)
-    requires { IsState state.old }
-    ensures rested { state.new ≡ rested state.old }
-    ensures valid { IsSession state.new }
-{
-    drop_lines(alloc, state);
-    state.count = 0;
 }
 
 impl Session {
@@ -135,19 +124,29 @@ impl Session {
         result
     }
 
-    /// Takes one input line, without its line feed, and carries out the lines that it brings too. Where it brings none,
-    /// the state changes only where the run goes on; it doesn't where the line is refused.
+    /// Whether a draft is open, so that the next line of the input is one of it.
+    pub fn drafting(&self) -> bool
+        ensures { result ≡ is_drafting self.now }
+    {
+        self.state.draft.is_some()
+    }
+
+    /// Takes one input line, without its line feed, be it a command, a line of a definition or a line of a draft, and
+    /// carries out the lines that it brings too. Where it is no line of a draft and brings none, the state changes only
+    /// where the run goes on; it doesn't where the line is refused.
     pub fn step<H: Host>(&mut self, line: &[u8], host: &mut H) -> Result<Flow, RunError>
         ensures ran { Ran H.world host.old host.new
             (λ es. LineGoes self.old line.now es (in_play (next_of self.new) result)) }
-        ensures refused { (fault : List ℕ) → commanded Origin.Input self.old.desk line.now ≡ Err fault
-            → self.new ≡ self.old }
-        ensures goes_on { (fault : List ℕ) → commanded Origin.Input self.old.desk line.now ≡ Err fault
-            → IfOk result (λ flow. flow ≡ Flow.Go) }
+        ensures refused { is_drafting self.old ≡ false → (fault : List ℕ)
+            → commanded Origin.Input self.old.desk line.now ≡ Err fault → self.new ≡ self.old }
+        ensures goes_on { is_drafting self.old ≡ false → (fault : List ℕ)
+            → commanded Origin.Input self.old.desk line.now ≡ Err fault → IfOk result (λ flow. flow ≡ Flow.Go) }
         ensures done { IfOk result EndsByLine }
-        ensures end { brings_lines (commanded Origin.Input self.old.desk line.now) ≡ false
+        ensures end { is_drafting self.old ≡ false
+            → brings_lines (commanded Origin.Input self.old.desk line.now) ≡ false
             → IfOk result (StaysAtEnd self.old self.new) }
-        ensures err { brings_lines (commanded Origin.Input self.old.desk line.now) ≡ false
+        ensures err { is_drafting self.old ≡ false
+            → brings_lines (commanded Origin.Input self.old.desk line.now) ≡ false
             → OnErr result (self.new ≡ self.old) }
         ensures cause { LineCaused (H.world.counts host.old) (H.world.counts host.new) result }
     {
@@ -156,8 +155,20 @@ impl Session {
         result
     }
 
-    /// The end of the input: the folder is left, as by `quit`, and the run ends. Where the quit is refused its line is
-    /// said. The state stays.
+    /// The end of the input, where a draft may be open: it ends, and the lines that wait are carried out, until no draft
+    /// is open and none waits.
+    pub fn finish<H: Host>(&mut self, host: &mut H) -> Result<Flow, RunError>
+        ensures ran { Ran H.world host.old host.new
+            (λ es. FinishGo self.old es (in_play (next_of self.new) result)) }
+        ensures over { result ≡ Ok Flow.Go → is_drafting self.new ≡ false }
+        ensures done { IfOk result EndsByLine }
+        ensures cause { LineCaused (H.world.counts host.old) (H.world.counts host.new) result }
+    {
+        finish(self.alloc, &mut self.state, host)
+    }
+
+    /// The end of the input, where no draft is open: the folder is left, as by `quit`, and the run ends. Where the quit is
+    /// refused its line is said. The state stays.
     pub fn end<H: Host>(&mut self, host: &mut H) -> Result<Status, RunError>
         ensures ran { Ran H.world host.old host.new
             (λ es. Goes (leaving self.old) es (in_play (λ (e : Status). e) result)) }

@@ -5,6 +5,7 @@ ghost use Rattle.host_port.specs.Ran.{Ran};
 ghost use Rattle.session_play.specs.Play.{Play, Goes};
 ghost use Rattle.mailx_session.specs.Bringing.{source_limit, sources, OnlyBrings};
 ghost use Rattle.mailx_session.specs.Sourcing.{source_fault, sourced, after_load};
+ghost use Rattle.mailx_session.specs.States.{OnlyFrames};
 ghost use Rattle.mailx_session.specs.Sessions.{after_asks, in_play, LineCaused, EndsByAsk};
 
 use crate::asks::Asked;
@@ -43,7 +44,7 @@ fn after_load(
     requires { sources state.old.frames < source_limit }
     ensures means { IfOk result (λ asked. after_asks state.new asked ≡ after_load state.old name.now found) }
     ensures brings { OnlyBrings state.old state.new }
-    ensures desk { state.new.desk ≡ state.old.desk }
+    ensures desk { OnlyFrames state.old state.new }
     ensures end { IfOk result EndsByAsk }
 {
     match found {
@@ -71,7 +72,7 @@ fn load_lines<H: Host>(
         (λ es. Goes (sourced state.old name.now None) es (in_play (after_asks state.new) result)) }
     ensures fall { NeverFall (H.world.counts host.old) (H.world.counts host.new) }
     ensures brings { OnlyBrings state.old state.new }
-    ensures desk { state.new.desk ≡ state.old.desk }
+    ensures desk { OnlyFrames state.old state.new }
     ensures end { IfOk result EndsByAsk }
     ensures cause { LineCaused (H.world.counts host.old) (H.world.counts host.new) result }
 {
@@ -96,7 +97,7 @@ pub(crate) fn source<H: Host>(
         (in_play (after_asks state.new) result)) }
     ensures fall { NeverFall (H.world.counts host.old) (H.world.counts host.new) }
     ensures brings { OnlyBrings state.old state.new }
-    ensures desk { state.new.desk ≡ state.old.desk }
+    ensures desk { OnlyFrames state.old state.new }
     ensures end { IfOk result EndsByAsk }
     ensures cause { LineCaused (H.world.counts host.old) (H.world.counts host.new) result }
 {

@@ -19,8 +19,8 @@ use read_commands::Origin;
 use session_play::{Found, try_load};
 use std::alloc::Global;
 
-// Says what is wrong with a file.
-fn say_fault<H: Host>(
+/// Says a word and what is wrong with it.
+pub(crate) fn say_fault<H: Host>(
     alloc: Global,
     state: &SessionState,
     host: &mut H,

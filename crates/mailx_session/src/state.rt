@@ -1,8 +1,9 @@
 // What a session knows between two lines.
 ghost use Rattle.std.specs.Prelude.{◌≡◌, [], None};
-ghost use Rattle.mailx_session.specs.States.{IsState, cut_to, resumed};
+ghost use Rattle.mailx_session.specs.States.{IsState, IsSession, at_rest, cut_to, rested, resumed};
 
 use crate::Frames;
+use compose_tilde::Compose;
 use mail_text::Text;
 use mailx_macros::Macros;
 use read_commands::Desk;
@@ -24,6 +25,8 @@ pub struct SessionState {
     pub frames: Frames,
     /// How many commands the last line of the input has given so far, itself among them.
     pub count: u32,
+    /// The draft that is open, so that the lines of the input are those of it.
+    pub draft: Option<Compose>,
 }
 
 // Drops the definition that is under way, where one is.
@@ -54,4 +57,28 @@ pub(crate) fn drop_lines(alloc: Global, state: &mut SessionState)
 {
     cut_to(&mut state.desk, state.frames.open_before());
     state.frames = Frames::new(alloc);
+}
+
+// Drops the lines that wait, with the conditions and the definition that they left open, and counts no command any
+// more.
+fn clear(alloc: Global, state: &mut SessionState)
+    requires { IsState state.old }
+    ensures rested { state.new ≡ at_rest state.old }
+    ensures valid { IsState state.new }
+{
+    drop_lines(alloc, state);
+    state.count = 0;
+}
+
+/// Drops the lines that wait, with what they left open, and counts no command any more, unless a draft is open, behind
+/// which they go on.
+#[tactic(auto, using(crate::proofs::RoundLemmas::rested_valid))]
+pub(crate) fn rest(alloc: Global, state: &mut SessionState)
+    requires { IsState state.old }
+    ensures rested { state.new ≡ rested state.old }
+    ensures valid { IsSession state.new }
+{
+    if state.draft.is_none() {
+        clear(alloc, state);
+    }
 }

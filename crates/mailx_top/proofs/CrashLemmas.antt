@@ -42,7 +42,6 @@ use Rattle.command_desk.specs.declared.steps.Ask.TheVariants as asks
 use Rattle.command_desk.specs.declared.steps.Steps.{Steps}
 use Rattle.command_desk.specs.Answers.{OrFault}
 use Rattle.command_desk.specs.Faults.{too_large, calls_too_deep, bad_name}
-use Rattle.read_commands.specs.declared.origin.Origin.TheVariants as origin
 use Rattle.read_commands.specs.Origins.{commanded, is_defining}
 use Rattle.mailx_session.specs.declared.frames.WaitingLine.{WaitingLine}
 use Rattle.mailx_session.specs.declared.state.SessionState.{SessionState}
@@ -50,8 +49,13 @@ use Rattle.mailx_session.specs.declared.status.Status.{Status}
 use Rattle.mailx_session.specs.declared.status.Status.TheVariants.{BadRecord}
 use Rattle.mailx_session.specs.Openings.{with_opened}
 use Rattle.mailx_session.specs.Waits.{Pending}
-use Rattle.mailx_session.specs.Pending.{taken}
-use Rattle.mailx_session.specs.States.{settled, resumed, with_count, rested, command_limit}
+use Rattle.draft_text.specs.declared.draft.Draft.{Draft}
+use Rattle.draft_text.specs.Texts.{flattened}
+use Rattle.compose_tilde.specs.Answering.{new_machine}
+use Rattle.compose_tilde.specs.Lines.{asks_subject}
+use Rattle.mailx_session.specs.States.{is_drafting, next_waiting, settled, resumed, with_count, rested, command_limit}
+use Rattle.mailx_session.specs.Beginning.{view_in}
+use Rattle.mailx_session.specs.Drafting.{ended_draft}
 use Rattle.mailx_session.specs.Saving.{names_fault, is_changed, commit_of, after_commit, saved}
 use Rattle.mailx_session.proofs.NameLemmas.{named-files}
 use Rattle.mailx_session.specs.declared.kinds.FrameKind.TheVariants as kinds
@@ -68,13 +72,15 @@ use Rattle.mailx_top.specs.declared.environment.Environment.{Environment}
 use Rattle.mailx_top.specs.declared.words.Manner.{Manner}
 use Rattle.mailx_top.specs.declared.words.Manner.TheVariants.{Silent, Rows, Quiet, Greeting}
 use Rattle.mailx_top.specs.Words.{Start, may_say, start_of}
-use Rattle.mailx_top.specs.Meaning.{RunState, at_prompt, Recovering, recovered, Opening, Reading, Leaving, round, last_round, opening, folder_name, with_name_or_fault, loaded, unheld, is_no_mail, with_list, greeted, turn, line_round, with_input, prompted, first_of, actor_in, Preparing, with_files, next_file, file_round}
+use Rattle.mailx_top.specs.Meaning.{RunState, at_prompt, Recovering, recovered, Opening, Reading, Finishing, Leaving, round, last_round, opening, folder_name, with_name_or_fault, loaded, unheld, is_no_mail, with_list, greeted, turn, line_round, finishing_round, with_input, with_finishing, prompted, first_of, actor_in, Preparing, with_files, next_file, file_round}
 use Rattle.mailx_top.specs.Statuses.{line_at_end}
 use Rattle.mailx_top.specs.Runs.{Ending, IsRun}
 use Rattle.mailx_top.specs.Crash.{IsSafe}
 use Rattle.mailx_top.proofs.EndLemmas.{cut-looks, end-looks, actor-same}
 use Rattle.mailx_top.proofs.LeavingLemmas.{any-ends}
 use Rattle.mailx_top.proofs.RoundLemmas.{loads-round}
+use Rattle.mailx_top.proofs.LineLemmas.{begins}
+use Rattle.mailx_top.proofs.DraftLemmas.{IsPassed, typed-passes, ended-passes, rested-passes}
 
 -- a state of this actor and this token
 abbrev pub IsOf : List ℕ → ℕ → SessionState → Type 0
@@ -96,6 +102,7 @@ StateOf actor token (Recovering start) = Unit {0}
 StateOf actor token (Preparing start s names) = IsOf actor token s
 StateOf actor token (Opening start s) = IsOf actor token s
 StateOf actor token (Reading s i) = IsOf actor token s
+StateOf actor token (Finishing s i) = IsOf actor token s
 StateOf actor token (Leaving s i) = IsOf actor token s
 
 -- one play after another commits as both do
@@ -180,12 +187,21 @@ module _ (actor : List ℕ) (token : ℕ) where
   called-of true t of = of
   called-of false t of = tt
 
+  begun-commits : (b : Bool) (s : SessionState) (draft : Draft) → EachCommit (IsBy actor token) (begins b s draft)
+  begun-commits true s draft = (tt, λ u. tt)
+  begun-commits false s draft = tt
+
+  begun-of : (b : Bool) (s : SessionState) (draft : Draft) → IsOf actor token s → AllEnds (AfterOf actor token) (begins b s draft)
+  begun-of true s draft of = λ u. of
+  begun-of false s draft of = of
+
   ask-commits : (s : SessionState) (ask : asked_of.Ask) → IsOf actor token s → EachCommit (IsBy actor token) (asked s ask)
   ask-commits s (asks.Say bytes) of = (tt, λ u. tt)
   ask-commits s (asks.Commit changes) of = saved-commits s changes (names_fault s.actor changes) refl of
   ask-commits s (asks.Source name) of = sourced-commits s name (source_fault s.frames name)
   ask-commits s (asks.Lines text) of = tt
   ask-commits s (asks.Open name changes reply) of = switches-commits s name changes reply (open_fault s.actor name changes) refl of
+  ask-commits s (asks.Draft draft) of = begun-commits (asks_subject (new_machine (flattened draft)) (view_in s)) s draft
   ask-commits s asks.Exit of = tt
 
   ask-of : (s : SessionState) (ask : asked_of.Ask) → IsOf actor token s → AllEnds (AfterOf actor token) (asked s ask)
@@ -194,6 +210,7 @@ module _ (actor : List ℕ) (token : ℕ) where
   ask-of s (asks.Source name) of = sourced-of s name (source_fault s.frames name) of
   ask-of s (asks.Lines text) of = called-of (nat_lt (calls s.frames) call_limit) (with_lines kinds.Call s text) of
   ask-of s (asks.Open name changes reply) of = switches-of s name changes reply (open_fault s.actor name changes) of
+  ask-of s (asks.Draft draft) of = begun-of (asks_subject (new_machine (flattened draft)) (view_in s)) s draft of
   ask-of s asks.Exit of = tt
 
   onward-commits : (l : List asked_of.Ask) → ((t : SessionState) → IsOf actor token t → EachCommit (IsBy actor token) (in_order asked t l)) → (a : After SessionState Status) → AfterOf actor token a
@@ -270,6 +287,46 @@ module _ (actor : List ℕ) (token : ℕ) where
   waiting-of true s line of = carried-of s (commanded line.origin s.desk line.text) of
   waiting-of false s line of = outside-of (is_idle s line) s line of
 
+  -- a line of the input, and the end of a draft
+  draft-commits : IsPassed (EachCommit (IsBy actor token)) (IsOf actor token)
+  draft-commits = record {
+    goes = λ s of. tt;
+    says = λ bytes s of. (tt, λ u. tt);
+    loads = λ name go all. (tt, all);
+    runs = λ program args input go all. (tt, all);
+    carries = carried-commits;
+    drafts = λ s draft of. of;
+    counts = λ s n of. of;
+    rests = λ s of. of;
+  }
+
+  draft-of : IsPassed (AllEnds (NextOf actor token)) (IsOf actor token)
+  draft-of = record {
+    goes = λ s of. of;
+    says = λ bytes s of u. of;
+    loads = λ name go all. all;
+    runs = λ program args input go all. all;
+    carries = carried-of;
+    drafts = λ s draft of. of;
+    counts = λ s n of. of;
+    rests = λ s of. of;
+  }
+
+  rested-of : (s : SessionState) → IsOf actor token s → IsOf actor token (rested s)
+  rested-of s of = rested-passes (AllEnds (NextOf actor token)) (IsOf actor token) draft-of s of
+
+  typed-commits : (s : SessionState) (line : List ℕ) → IsOf actor token s → EachCommit (IsBy actor token) (typed_play s line)
+  typed-commits s line of = typed-passes (EachCommit (IsBy actor token)) (IsOf actor token) draft-commits s line of
+
+  typed-of : (s : SessionState) (line : List ℕ) → IsOf actor token s → AllEnds (NextOf actor token) (typed_play s line)
+  typed-of s line of = typed-passes (AllEnds (NextOf actor token)) (IsOf actor token) draft-of s line of
+
+  ended-commits : (s : SessionState) → IsOf actor token s → EachCommit (IsBy actor token) (ended_draft s)
+  ended-commits s of = ended-passes (EachCommit (IsBy actor token)) (IsOf actor token) draft-commits s of
+
+  ended-of : (s : SessionState) → IsOf actor token s → AllEnds (NextOf actor token) (ended_draft s)
+  ended-of s of = ended-passes (AllEnds (NextOf actor token)) (IsOf actor token) draft-of s of
+
   with-commits : (i : Input) (n : Next SessionState Status) → NextOf actor token n → EachCommit (IsBy actor token) (with_input i n)
   with-commits i (Go s) of = tt
   with-commits i (Last e) of = tt
@@ -281,13 +338,16 @@ module _ (actor : List ℕ) (token : ℕ) where
   turn-commits : (s : SessionState) (j : Input) (line : Option (List ℕ)) → IsOf actor token s → EachCommit (IsBy actor token) (turn s j line)
   turn-commits s j None of = tt
   turn-commits s j (Some line) of =
-      bind-commits (IsBy actor token) (NextOf actor token) (typed_play s line) (with_input j) (carried-commits (with_count (rested s) 1) (commanded origin.Input (rested s).desk line) of)
-      (carried-of (with_count (rested s) 1) (commanded origin.Input (rested s).desk line) of) (with-commits j)
+      bind-commits (IsBy actor token) (NextOf actor token) (typed_play s line) (with_input j) (typed-commits s line of) (typed-of s line of) (with-commits j)
+
+  behind-of : (b : Bool) (s : SessionState) (j : Input) → IsOf actor token s → StateOf actor token (if b then Finishing s j else Leaving (rested s) j)
+  behind-of true s j of = of
+  behind-of false s j of = rested-of s of
 
   turn-of : (s : SessionState) (j : Input) (line : Option (List ℕ)) → IsOf actor token s → AllEnds (NextKeeps (StateOf actor token)) (turn s j line)
-  turn-of s j None of = of
+  turn-of s j None of = behind-of (is_drafting s) s j of
   turn-of s j (Some line) of =
-      bind-ends (NextOf actor token) (NextKeeps (StateOf actor token)) (typed_play s line) (with_input j) (carried-of (with_count (rested s) 1) (commanded origin.Input (rested s).desk line) of) (with-of j)
+      bind-ends (NextOf actor token) (NextKeeps (StateOf actor token)) (typed_play s line) (with_input j) (typed-of s line of) (with-of j)
 
   prompted-commits : (terminal : Bool) (desk : Desk) → EachCommit (IsBy actor token) (prompted terminal desk)
   prompted-commits true desk = (tt, λ u. tt)
@@ -315,6 +375,35 @@ module _ (actor : List ℕ) (token : ℕ) where
       bind-ends (NextOf actor token) (NextKeeps (StateOf actor token)) (waiting_play t p.0) (with_input i) (waiting-of (is_defining t.desk) t p.0 of) (with-of i)
 
   -- the end of the input
+  finishing-commits : (i : Input) (n : Next SessionState Status) → NextOf actor token n → EachCommit (IsBy actor token) (with_finishing i n)
+  finishing-commits i (Go s) of = tt
+  finishing-commits i (Last e) of = tt
+
+  finishing-of : (i : Input) (n : Next SessionState Status) → NextOf actor token n → AllEnds (NextKeeps (StateOf actor token)) (with_finishing i n)
+  finishing-of i (Go s) of = of
+  finishing-of i (Last e) of = tt
+
+  ended-round-commits : (b : Bool) (s : SessionState) (i : Input) → IsOf actor token s → EachCommit (IsBy actor token) (if b then bind (ended_draft s) (with_finishing i) else Ret (Go (Leaving (rested s) i)))
+  ended-round-commits true s i of = bind-commits (IsBy actor token) (NextOf actor token) (ended_draft s) (with_finishing i) (ended-commits s of) (ended-of s of) (finishing-commits i)
+  ended-round-commits false s i of = tt
+
+  ended-round-of : (b : Bool) (s : SessionState) (i : Input) → IsOf actor token s → AllEnds (NextKeeps (StateOf actor token)) (if b then bind (ended_draft s) (with_finishing i) else Ret (Go (Leaving (rested s) i)))
+  ended-round-of true s i of = bind-ends (NextOf actor token) (NextKeeps (StateOf actor token)) (ended_draft s) (with_finishing i) (ended-of s of) (finishing-of i)
+  ended-round-of false s i of = rested-of s of
+
+  finishing-round-commits : (s : SessionState) (i : Input) (next : Option (WaitingLine × List Pending)) → IsOf actor token s → EachCommit (IsBy actor token) (finishing_round s i next)
+  finishing-round-commits s i None of = ended-round-commits (is_drafting s) s i of
+  finishing-round-commits s i (Some p) of =
+      let t = resumed s p.1 in
+      let b = is_defining t.desk in
+      bind-commits (IsBy actor token) (NextOf actor token) (waiting_play t p.0) (with_finishing i) (waiting-commits b t p.0 of) (waiting-of b t p.0 of) (finishing-commits i)
+
+  finishing-round-of : (s : SessionState) (i : Input) (next : Option (WaitingLine × List Pending)) → IsOf actor token s → AllEnds (NextKeeps (StateOf actor token)) (finishing_round s i next)
+  finishing-round-of s i None of = ended-round-of (is_drafting s) s i of
+  finishing-round-of s i (Some p) of =
+      let t = resumed s p.1 in
+      bind-ends (NextOf actor token) (NextKeeps (StateOf actor token)) (waiting_play t p.0) (with_finishing i) (waiting-of (is_defining t.desk) t p.0 of) (finishing-of i)
+
   left-commits : (a : After SessionState Status) → AfterOf actor token a → EachCommit (IsBy actor token) (left_by a)
   left-commits (On s) of = tt
   left-commits (Over s) of = tt
@@ -412,14 +501,14 @@ module _ (actor : List ℕ) (token : ℕ) where
       bind-ends (NextOf actor token) (NextKeeps (StateOf actor token)) (startup_play s name) (with_files start names) (load-startup-of (is_short_name name) s name of) (files-of start names)
 
   file-commits : (start : Start) (s : SessionState) (names : List (List ℕ)) (next : Option (WaitingLine × List Pending)) → IsOf actor token s → EachCommit (IsBy actor token) (file_round start s names next)
-  file-commits start s names None of = next-commits start (rested s) names of
+  file-commits start s names None of = next-commits start (rested s) names (rested-of s of)
   file-commits start s names (Some p) of =
       let t = resumed s p.1 in
       let b = is_defining t.desk in
       bind-commits (IsBy actor token) (NextOf actor token) (waiting_play t p.0) (with_files start names) (waiting-commits b t p.0 of) (waiting-of b t p.0 of) (files-commits start names)
 
   file-of : (start : Start) (s : SessionState) (names : List (List ℕ)) (next : Option (WaitingLine × List Pending)) → IsOf actor token s → AllEnds (NextKeeps (StateOf actor token)) (file_round start s names next)
-  file-of start s names None of = next-of start (rested s) names of
+  file-of start s names None of = next-of start (rested s) names (rested-of s of)
   file-of start s names (Some p) of =
       let t = resumed s p.1 in
       bind-ends (NextOf actor token) (NextKeeps (StateOf actor token)) (waiting_play t p.0) (with_files start names) (waiting-of (is_defining t.desk) t p.0 of) (files-of start names)
@@ -430,20 +519,22 @@ round-commits env (Recovering None) of = tt
 round-commits env (Recovering (Some start)) of =
     let none : AreFiles (actor_in env) [] = All-nil (λ (c : Change). is_file_name (actor_in env) (name_of c) ≡ true) in
     (record { actor_is = refl; token_is = refl; files = none }, recovered-commits (actor_in env) env.token env start)
-round-commits env (Preparing start s names) of = file-commits (actor_in env) env.token start s names (taken s.frames) of
+round-commits env (Preparing start s names) of = file-commits (actor_in env) env.token start s names (next_waiting s) of
 round-commits env (Opening start s) of =
     neutral-commits (IsBy (actor_in env) env.token) (opening start s) (weaker-acts (may_load true) is_neutral may-neutral (opening start s) (loads-round env (Opening start s)))
-round-commits env (Reading s i) of = line-commits (actor_in env) env.token s i (taken s.frames) of
+round-commits env (Reading s i) of = line-commits (actor_in env) env.token s i (next_waiting s) of
+round-commits env (Finishing s i) of = finishing-round-commits (actor_in env) env.token s i (next_waiting s) of
 round-commits env (Leaving s i) of = last-commits (actor_in env) env.token s of
 
 -- and each round leaves a state of its actor and token
 pub round-of : (env : Environment) (x : RunState) → StateOf (actor_in env) env.token x → AllEnds (NextKeeps (StateOf (actor_in env) env.token)) (round env x)
 round-of env (Recovering None) of = (refl, refl)
 round-of env (Recovering (Some start)) of = λ a. recovered-of (actor_in env) env.token env start a (actor-same env start.user, refl)
-round-of env (Preparing start s names) of = file-of (actor_in env) env.token start s names (taken s.frames) of
+round-of env (Preparing start s names) of = file-of (actor_in env) env.token start s names (next_waiting s) of
 round-of env (Opening None s) of = λ u. tt
 round-of env (Opening (Some start) s) of = named-of (actor_in env) env.token s start (folder_name s start) of
-round-of env (Reading s i) of = line-of (actor_in env) env.token s i (taken s.frames) of
+round-of env (Reading s i) of = line-of (actor_in env) env.token s i (next_waiting s) of
+round-of env (Finishing s i) of = finishing-round-of (actor_in env) env.token s i (next_waiting s) of
 round-of env (Leaving s i) of = last-of (actor_in env) env.token s
 
 -- what an ending adds only looks

@@ -1,4 +1,5 @@
 pub mod CrashLemmas
+pub mod DraftLemmas
 pub mod EndLemmas
 pub mod FileLemmas
 pub mod FolderLemmas

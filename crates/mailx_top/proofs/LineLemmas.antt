@@ -3,7 +3,7 @@ use Rattle.std.proofs.Common.{◌≡◌, ℕ, Bool, true, false, List, [], ◌�
 use Rattle.std.specs.declared.result.Result.TheVariants.{Ok, Err}
 use Rattle.session_play.specs.Input.{Input}
 use Rattle.session_play.specs.Acts.{AllActs, AllEnds, Threads, may_load}
-use Rattle.session_play.specs.Play.{Next, Go, Last}
+use Rattle.session_play.specs.Play.{Play, Next, Go, Last, bind}
 use Rattle.session_play.specs.Steps.{After, On, Over, Refused, Ended, onward, in_order, concluded}
 use Rattle.session_play.proofs.ShapeLemmas.{bind-acts, bind-ends, bind-threads}
 use Rattle.mailx_top.proofs.OrderLemmas.{Keeps, order-acts, order-ends, order-threads}
@@ -13,7 +13,6 @@ use Rattle.command_desk.specs.declared.steps.Ask as asked_of
 use Rattle.command_desk.specs.declared.steps.Ask.TheVariants as asks
 use Rattle.command_desk.specs.declared.steps.Steps.{Steps}
 use Rattle.command_desk.specs.Answers.{OrFault}
-use Rattle.read_commands.specs.declared.origin.Origin.TheVariants as origin
 use Rattle.read_commands.specs.Origins.{commanded, is_defining}
 use Rattle.mailx_session.specs.declared.status.Status.{Status}
 use Rattle.mailx_session.specs.declared.status.Status.TheVariants.{Done, BadRecord}
@@ -36,8 +35,15 @@ use Rattle.command_desk.specs.Faults.{too_large, calls_too_deep}
 use Rattle.std.specs.Prelude.{nat_lt, if◌then◌else◌, ◌+◌}
 use Rattle.session_play.specs.Play.{Ret}
 use Rattle.mailx_session.specs.declared.frames.WaitingLine.{WaitingLine}
-use Rattle.mailx_session.specs.States.{settled, with_count, rested, command_limit}
+use Rattle.draft_text.specs.declared.draft.Draft.{Draft}
+use Rattle.draft_text.specs.Texts.{flattened}
+use Rattle.compose_tilde.specs.Answering.{new_machine}
+use Rattle.compose_tilde.specs.Lines.{asks_subject}
+use Rattle.mailx_session.specs.States.{settled, with_count, command_limit}
 use Rattle.mailx_session.specs.Sessions.{asked, carried_out}
+use Rattle.mailx_session.specs.Beginning.{view_in, with_begun, subject_asked}
+use Rattle.mailx_session.specs.Drafting.{ended_draft}
+use Rattle.mailx_top.proofs.DraftLemmas.{Line-play, IsPassed, typed-passes, ended-passes}
 use Rattle.mailx_session.specs.Rounds.{line_play, typed_play, dropped_play, counted_play, is_idle, outside_play, waiting_play}
 
 abbrev pub After-line : Type 0
@@ -145,6 +151,22 @@ called-ends : (b : Bool) (t : SessionState) → IsDone (if b then On t else Refu
 called-ends true t = tt
 called-ends false t = tt
 
+-- a draft that begins, and the question for its subject
+abbrev pub begins : Bool → SessionState → Draft → Play After-line
+begins b s draft = bind (subject_asked b) (λ u. Ret (Over (with_begun s draft)))
+
+begun-acts : (b : Bool) (s : SessionState) (draft : Draft) → AllActs (may_load false) (begins b s draft)
+begun-acts true s draft = (refl, λ u. tt)
+begun-acts false s draft = tt
+
+begun-ends : (b : Bool) (s : SessionState) (draft : Draft) → AllEnds IsDone (begins b s draft)
+begun-ends true s draft = λ u. tt
+begun-ends false s draft = tt
+
+begun-threads : (b : Bool) (s : SessionState) (draft : Draft) (i : Input) → Threads (Keeps i) i (begins b s draft)
+begun-threads true s draft i = (tt, λ u. refl)
+begun-threads false s draft i = refl
+
 -- one ask
 ask-acts : (s : SessionState) (ask : asked_of.Ask) → AllActs (may_load false) (asked s ask)
 ask-acts s (asks.Say bytes) = (refl, λ u. tt)
@@ -152,6 +174,7 @@ ask-acts s (asks.Commit changes) = saved-acts s changes (names_fault s.actor cha
 ask-acts s (asks.Source name) = sourced-acts s name (source_fault s.frames name)
 ask-acts s (asks.Lines text) = tt
 ask-acts s (asks.Open name changes reply) = switches-acts s name changes reply (open_fault s.actor name changes)
+ask-acts s (asks.Draft draft) = begun-acts (asks_subject (new_machine (flattened draft)) (view_in s)) s draft
 ask-acts s asks.Exit = tt
 
 ask-ends : (s : SessionState) (ask : asked_of.Ask) → AllEnds IsDone (asked s ask)
@@ -160,6 +183,7 @@ ask-ends s (asks.Commit changes) = saved-ends s changes (names_fault s.actor cha
 ask-ends s (asks.Source name) = sourced-ends s name (source_fault s.frames name)
 ask-ends s (asks.Lines text) = called-ends (nat_lt (calls s.frames) call_limit) (with_lines kinds.Call s text)
 ask-ends s (asks.Open name changes reply) = switches-ends s name changes reply (open_fault s.actor name changes)
+ask-ends s (asks.Draft draft) = begun-ends (asks_subject (new_machine (flattened draft)) (view_in s)) s draft
 ask-ends s asks.Exit = tt
 
 ask-threads : (s : SessionState) (ask : asked_of.Ask) (i : Input) → Threads (Keeps i) i (asked s ask)
@@ -168,6 +192,7 @@ ask-threads s (asks.Commit changes) i = saved-threads s changes (names_fault s.a
 ask-threads s (asks.Source name) i = sourced-threads s name (source_fault s.frames name) i
 ask-threads s (asks.Lines text) i = refl
 ask-threads s (asks.Open name changes reply) i = switches-threads s name changes reply (open_fault s.actor name changes) i
+ask-threads s (asks.Draft draft) i = begun-threads (asks_subject (new_machine (flattened draft)) (view_in s)) s draft i
 ask-threads s asks.Exit i = refl
 
 -- asks in order
@@ -215,15 +240,66 @@ carried-threads s i (Ok steps) =
     (concluded s (changed steps.effects)) i (asks-threads s steps.asks i) (finished-threads s steps.effects i)
 carried-threads s i (Err line) = (tt, λ u. refl)
 
--- a line of the input
+-- a line of the input, and the end of a draft
+abbrev Any-state : SessionState → Type 0
+Any-state s = Unit {0}
+
+draft-acts : IsPassed (AllActs (may_load false)) Any-state
+draft-acts = record {
+  goes = λ s q. tt;
+  says = λ bytes s q. (refl, λ u. tt);
+  loads = λ name go all. (refl, all);
+  runs = λ program args input go all. (refl, all);
+  carries = λ s m q. carried-acts s m;
+  drafts = λ s draft q. tt;
+  counts = λ s n q. tt;
+  rests = λ s q. tt;
+}
+
+draft-ends : IsPassed (AllEnds EndsByLine) Any-state
+draft-ends = record {
+  goes = λ s q. tt;
+  says = λ bytes s q u. tt;
+  loads = λ name go all. all;
+  runs = λ program args input go all. all;
+  carries = λ s m q. carried-ends s m;
+  drafts = λ s draft q. tt;
+  counts = λ s n q. tt;
+  rests = λ s q. tt;
+}
+
+abbrev Keeps-input : Input → Line-play → Type 0
+Keeps-input i p = Threads (λ n j. j ≡ i) i p
+
+draft-threads : (i : Input) → IsPassed (Keeps-input i) Any-state
+draft-threads i = record {
+  goes = λ s q. refl;
+  says = λ bytes s q. (tt, λ u. refl);
+  loads = λ name go all. (tt, all);
+  runs = λ program args input go all. (tt, all);
+  carries = λ s m q. carried-threads s i m;
+  drafts = λ s draft q. tt;
+  counts = λ s n q. tt;
+  rests = λ s q. tt;
+}
+
 pub typed-acts : (s : SessionState) (line : List ℕ) → AllActs (may_load false) (typed_play s line)
-typed-acts s line = carried-acts (with_count (rested s) 1) (commanded origin.Input (rested s).desk line)
+typed-acts s line = typed-passes (AllActs (may_load false)) Any-state draft-acts s line tt
 
 pub typed-ends : (s : SessionState) (line : List ℕ) → AllEnds EndsByLine (typed_play s line)
-typed-ends s line = carried-ends (with_count (rested s) 1) (commanded origin.Input (rested s).desk line)
+typed-ends s line = typed-passes (AllEnds EndsByLine) Any-state draft-ends s line tt
 
 pub typed-threads : (s : SessionState) (line : List ℕ) (i : Input) → Threads (λ n j. j ≡ i) i (typed_play s line)
-typed-threads s line i = carried-threads (with_count (rested s) 1) i (commanded origin.Input (rested s).desk line)
+typed-threads s line i = typed-passes (Keeps-input i) Any-state (draft-threads i) s line tt
+
+pub ended-acts : (s : SessionState) → AllActs (may_load false) (ended_draft s)
+ended-acts s = ended-passes (AllActs (may_load false)) Any-state draft-acts s tt
+
+pub ended-ends : (s : SessionState) → AllEnds EndsByLine (ended_draft s)
+ended-ends s = ended-passes (AllEnds EndsByLine) Any-state draft-ends s tt
+
+pub ended-threads : (s : SessionState) (i : Input) → Threads (λ n j. j ≡ i) i (ended_draft s)
+ended-threads s i = ended-passes (Keeps-input i) Any-state (draft-threads i) s tt
 
 -- a line from elsewhere
 counted-acts : (b : Bool) (s : SessionState) (line : WaitingLine)

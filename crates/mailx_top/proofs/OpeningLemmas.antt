@@ -16,7 +16,7 @@ use Rattle.session_play.specs.declared.act.Found.TheVariants as found
 use Rattle.session_play.specs.declared.stop.Stop.{Stop}
 use Rattle.session_play.specs.declared.stop.Stop.TheVariants as stop
 use Rattle.session_play.specs.Input.{Input, took, Reads}
-use Rattle.session_play.specs.Play.{Line, Say, Read, Know, Play, Ret, Ask, Says, SaysInPart, seen_of, Partly, Goes, Next, Go, Last, Loop, again, last, cut}
+use Rattle.session_play.specs.Play.{Line, Say, Read, Know, Play, Ret, Ask, Says, SaysInPart, seen_of, Partly, Goes, Next, Go, Last, Loop, again, last, cut, bind}
 use Rattle.mail_text.specs.Lines.{with_feed}
 use Rattle.mailx_vars.specs.Names.{is_short_name}
 use Rattle.command_desk.specs.declared.desk.Desk.{Desk}
@@ -27,14 +27,14 @@ use Rattle.mailx_session.specs.declared.status.Status.TheVariants as status
 use Rattle.mailx_session.specs.Openings.{with_opened}
 use Rattle.mailx_session.specs.declared.frames.WaitingLine.{WaitingLine}
 use Rattle.mailx_session.specs.Waits.{Pending}
-use Rattle.mailx_session.specs.Pending.{taken}
-use Rattle.mailx_session.specs.States.{resumed}
+use Rattle.mailx_session.specs.States.{is_drafting, next_waiting, resumed, rested}
+use Rattle.mailx_session.specs.Drafting.{ended_draft}
 use Rattle.mailx_session.specs.Rounds.{typed_play, waiting_play}
 use Rattle.mailx_top.specs.declared.environment.Environment.{Environment}
 use Rattle.mailx_top.specs.declared.words.Manner.{Manner}
 use Rattle.mailx_top.specs.declared.words.Manner.TheVariants.{Silent, Rows, Quiet, Greeting}
 use Rattle.mailx_top.specs.Words.{Start}
-use Rattle.mailx_top.specs.Meaning.{RunState, at_prompt, first_of, Recovering, Opening, Reading, Leaving, round, opening, folder_name, with_name_or_fault, loaded, unheld, is_no_mail, with_list, greeted, heard, ends_with, turn, next_turn, line_round, with_input, prompted, says_and_ends, is_opening, usage, Preparing}
+use Rattle.mailx_top.specs.Meaning.{RunState, at_prompt, first_of, Recovering, Opening, Reading, Finishing, Leaving, round, opening, folder_name, with_name_or_fault, loaded, unheld, is_no_mail, with_list, greeted, heard, ends_with, turn, next_turn, line_round, finishing_round, with_input, with_finishing, prompted, says_and_ends, is_opening, usage, Preparing}
 use Rattle.session_play.specs.Acts.{AllActs, AllEnds, loads_nothing}
 use Rattle.session_play.specs.Causes.{some_load_saw, counted, events_at}
 use Rattle.session_play.proofs.SawLemmas.{Unseen, unseen-then, goes-unseen}
@@ -43,7 +43,7 @@ use Rattle.mailx_session.specs.Statuses.{IsLineEnd}
 use Rattle.mailx_session.specs.Leaving.{leaving}
 use Rattle.mailx_top.specs.Leavings.{first_answer, is_refused_at, refused_at_end}
 use Rattle.mailx_top.proofs.LeavingLemmas.{any-ends, end_at, opened_end, last-ends}
-use Rattle.mailx_top.proofs.LineLemmas.{EndsByLine, typed-ends, waiting-ends}
+use Rattle.mailx_top.proofs.LineLemmas.{EndsByLine, typed-ends, waiting-ends, ended-ends}
 use Rattle.mailx_top.proofs.RoundLemmas.{loaded-acts}
 use Rattle.mailx_top.proofs.StartupLemmas.{IsBefore, LeavesBefore, file-ends}
 use Rattle.mailx_top.specs.Openings.{OpensBadly, OpenedBadly, saw_held, is_no_list, is_no_folder, is_named, saw_no_mail, saw_no_folder, OpensNoMail, OpensNone, EndsOrIsCut, IsOpeningExplained}
@@ -54,6 +54,7 @@ IsReadingState (Recovering start) = ⊥
 IsReadingState (Preparing start s names) = ⊥
 IsReadingState (Opening start s) = ⊥
 IsReadingState (Reading s i) = Unit {0}
+IsReadingState (Finishing s i) = Unit {0}
 IsReadingState (Leaving s i) = Unit {0}
 
 line-end : (e : Status) → IsLineEnd e → opened_end e ≡ status.Done
@@ -96,8 +97,12 @@ ends-with : (j : Input) (n : Next SessionState Status) → EndsByLine n → AllE
 ends-with j (Go s) by_line = tt
 ends-with j (Last e) by_line = line-end e by_line
 
+ends-behind : (b : Bool) (s : SessionState) (j : Input) → IsReadingState (if b then Finishing s j else Leaving (rested s) j)
+ends-behind true s j = tt
+ends-behind false s j = tt
+
 ends-turn : (s : SessionState) (j : Input) (line : Option (List ℕ)) → AllEnds ReadsOn (turn s j line)
-ends-turn s j None = tt
+ends-turn s j None = ends-behind (is_drafting s) s j
 ends-turn s j (Some line) = bind-ends EndsByLine ReadsOn (typed_play s line) (with_input j) (typed-ends s line) (ends-with j)
 
 ends-prompted : (terminal : Bool) (desk : Desk) → AllEnds (λ (u : Unit {0}). Unit {0}) (prompted terminal desk)
@@ -114,6 +119,20 @@ ends-line-round s i None = ends-next s i
 ends-line-round s i (Some p) =
     let t = resumed s p.1 in bind-ends EndsByLine ReadsOn (waiting_play t p.0) (with_input i) (waiting-ends t p.0) (ends-with i)
 
+-- so does a round at the end of the input
+ends-finishing : (j : Input) (n : Next SessionState Status) → EndsByLine n → AllEnds ReadsOn (with_finishing j n)
+ends-finishing j (Go s) by_line = tt
+ends-finishing j (Last e) by_line = line-end e by_line
+
+ends-ended : (b : Bool) (s : SessionState) (i : Input) → AllEnds ReadsOn (if b then bind (ended_draft s) (with_finishing i) else Ret (Go (Leaving (rested s) i)))
+ends-ended true s i = bind-ends EndsByLine ReadsOn (ended_draft s) (with_finishing i) (ended-ends s) (ends-finishing i)
+ends-ended false s i = tt
+
+ends-finishing-round : (s : SessionState) (i : Input) (next : Option (WaitingLine × List Pending)) → AllEnds ReadsOn (finishing_round s i next)
+ends-finishing-round s i None = ends-ended (is_drafting s) s i
+ends-finishing-round s i (Some p) =
+    let t = resumed s p.1 in bind-ends EndsByLine ReadsOn (waiting_play t p.0) (with_finishing i) (waiting-ends t p.0) (ends-finishing i)
+
 -- a round is followed by none that opens a folder
 abbrev pub ReadsNext : Next RunState Status → Type 0
 ReadsNext (Go y) = IsReadingState y
@@ -128,7 +147,8 @@ pub next-round : (env : Environment) (x : RunState) → IsReadingState x → All
 next-round env (Recovering start) never = absurd never
 next-round env (Preparing start s names) never = absurd never
 next-round env (Opening start s) never = absurd never
-next-round env (Reading s i) reading = only-next (round env (Reading s i)) (ends-line-round s i (taken s.frames))
+next-round env (Reading s i) reading = only-next (round env (Reading s i)) (ends-line-round s i (next_waiting s))
+next-round env (Finishing s i) reading = only-next (round env (Finishing s i)) (ends-finishing-round s i (next_waiting s))
 next-round env (Leaving s i) reading = bind-ends (λ (e : Status). Unit {0}) ReadsNext (leaving s) (λ e. Ret (Last e)) (any-ends (leaving s)) (λ e t. tt)
 
 -- how the last round of a run ends it
@@ -137,7 +157,8 @@ round-ends : (env : Environment) (x : RunState) (es : List Event) (r : Status) �
 round-ends env (Recovering start) es r never goes = absurd never
 round-ends env (Preparing start s names) es r never goes = absurd never
 round-ends env (Opening start s) es r never goes = absurd never
-round-ends env (Reading s i) es r reading goes = goes-ends ReadsOn (round env (Reading s i)) es (Last r) (ends-line-round s i (taken s.frames)) goes
+round-ends env (Reading s i) es r reading goes = goes-ends ReadsOn (round env (Reading s i)) es (Last r) (ends-line-round s i (next_waiting s)) goes
+round-ends env (Finishing s i) es r reading goes = goes-ends ReadsOn (round env (Finishing s i)) es (Last r) (ends-finishing-round s i (next_waiting s)) goes
 round-ends env (Leaving s i) es r reading goes = last-ends s es r goes
 
 reads-nothing : (x : RunState) → IsReadingState x → is_opening x ≡ false
@@ -145,6 +166,7 @@ reads-nothing (Recovering start) never = absurd never
 reads-nothing (Preparing start s names) never = absurd never
 reads-nothing (Opening start s) never = absurd never
 reads-nothing (Reading s i) reading = refl
+reads-nothing (Finishing s i) reading = refl
 reads-nothing (Leaving s i) reading = refl
 
 none-counted : (x : RunState) (es : List Event) → IsReadingState x → counted (is_opening x) es ≡ []
@@ -484,6 +506,7 @@ not-opening (Recovering start) never bad = absurd never
 not-opening (Preparing start s names) never bad = absurd never
 not-opening (Opening start s) never bad = absurd never
 not-opening (Reading s i) reading never = never
+not-opening (Finishing s i) reading never = never
 not-opening (Leaving s i) reading never = never
 
 -- a loop of lines opens no folder badly
@@ -536,7 +559,7 @@ files-then : (env : Environment) (start : Start) (x y : RunState) (es front rest
     → IsOpeningExplained (OpensBadly x ⊎ OpenedBadly more) (Some start) out (counted (is_opening x) front ++ events_at is_opening more) (refused_at_end more)
 files-then env start (Recovering o) y es front rest out never is goes more later = absurd never
 files-then env start (Preparing b s names) y es front rest out before is goes more later =
-    let on : IsBefore b y = goes-ends (LeavesBefore b) (round env (Preparing b s names)) front (Go y) (file-ends b s names (taken s.frames)) goes in
+    let on : IsBefore b y = goes-ends (LeavesBefore b) (round env (Preparing b s names)) front (Go y) (file-ends b s names (next_waiting s)) goes in
     let at : IsBefore start y = subst (λ (b : Start). IsBefore b y) before on in
     explained-by (OpenedBadly more) (⊥ ⊎ OpenedBadly more) inr (or-later (λ never. never)) (Some start) out (events_at is_opening more) (refused_at_end more) (later at)
 files-then env start (Opening o s) y es front rest out before is goes more later =
@@ -544,6 +567,7 @@ files-then env start (Opening o s) y es front rest out before is goes more later
     let Bad : Type 0 = OpensBadly (Opening o s) ⊎ OpenedBadly more in
     subst (λ (p : Option Start). IsOpeningExplained Bad p out (front ++ events_at is_opening more) (refused_at_end more)) before whole
 files-then env start (Reading s i) y es front rest out never is goes more later = absurd never
+files-then env start (Finishing s i) y es front rest out never is goes more later = absurd never
 files-then env start (Leaving s i) y es front rest out never is goes more later = absurd never
 
 -- a round before the opening that ends the run
@@ -551,10 +575,11 @@ files-over : (env : Environment) (start : Start) (x : RunState) (es : List Event
     → IsOpeningExplained (OpensBadly x) (Some start) (Ok r) (counted (is_opening x) es) (is_refused_at x (first_answer (round env x) es (Ok (Last r)) goes))
 files-over env start (Recovering o) es r never goes = absurd never
 files-over env start (Preparing b s names) es r before goes =
-    files-last start r (goes-ends (LeavesBefore b) (round env (Preparing b s names)) es (Last r) (file-ends b s names (taken s.frames)) goes)
+    files-last start r (goes-ends (LeavesBefore b) (round env (Preparing b s names)) es (Last r) (file-ends b s names (next_waiting s)) goes)
 files-over env start (Opening o s) es r before goes =
     subst (λ (p : Option Start). IsOpeningExplained (OpensBadly (Opening o s)) p (Ok r) es false) before (explained-opening o s es false (Ok r) (inr (refl, inl (r, refl, goes))))
 files-over env start (Reading s i) es r never goes = absurd never
+files-over env start (Finishing s i) es r never goes = absurd never
 files-over env start (Leaving s i) es r never goes = absurd never
 
 -- a run tells so from its start-up files on too

@@ -27,7 +27,7 @@ use Rattle.session_play.specs.Recovering.{recovery_as, IsRecoveryOf}
 use Rattle.session_play.specs.declared.stop.Stop.{Stop}
 use Rattle.session_play.specs.Input.{Input}
 use Rattle.session_play.specs.Committing.{answer_as}
-use Rattle.session_play.specs.Play.{Act, Answer, Line, Say, Read, Try, Changes, Recover, Know, Play, Ret, Ask, Did, Goes, Next, Go, Last, Loop, again, last, cut, bind}
+use Rattle.session_play.specs.Play.{Act, Answer, Line, Say, Read, Try, Changes, Recover, Child, Now, Know, Play, Ret, Ask, Did, Goes, Next, Go, Last, Loop, again, last, cut, bind}
 use Rattle.session_play.specs.Steps.{After, On, Over, Refused, Ended, onward, in_order, refused, concluded}
 use Rattle.session_play.proofs.ShapeLemmas.{came-same, goes-ends}
 use Rattle.play_safety.specs.Safe.{IsBy, OfCommit, EachCommit, NextKeeps}
@@ -39,7 +39,6 @@ use Rattle.command_desk.specs.declared.steps.Ask.TheVariants as asks
 use Rattle.command_desk.specs.declared.steps.Steps.{Steps}
 use Rattle.command_desk.specs.Answers.{OrFault}
 use Rattle.command_desk.specs.Faults.{too_large, calls_too_deep, bad_name}
-use Rattle.read_commands.specs.declared.origin.Origin.TheVariants as origin
 use Rattle.read_commands.specs.Origins.{commanded, is_defining}
 use Rattle.mailx_session.specs.declared.frames.WaitingLine.{WaitingLine}
 use Rattle.mailx_session.specs.declared.state.SessionState.{SessionState}
@@ -47,8 +46,13 @@ use Rattle.mailx_session.specs.declared.status.Status.{Status}
 use Rattle.mailx_session.specs.declared.status.Status.TheVariants as status
 use Rattle.mailx_session.specs.Openings.{with_opened}
 use Rattle.mailx_session.specs.Waits.{Pending}
-use Rattle.mailx_session.specs.Pending.{taken}
-use Rattle.mailx_session.specs.States.{settled, resumed, with_count, rested, command_limit}
+use Rattle.draft_text.specs.declared.draft.Draft.{Draft}
+use Rattle.draft_text.specs.Texts.{flattened}
+use Rattle.compose_tilde.specs.Answering.{new_machine}
+use Rattle.compose_tilde.specs.Lines.{asks_subject}
+use Rattle.mailx_session.specs.States.{is_drafting, next_waiting, settled, resumed, with_count, rested, command_limit}
+use Rattle.mailx_session.specs.Beginning.{view_in}
+use Rattle.mailx_session.specs.Drafting.{ended_draft}
 use Rattle.mailx_session.specs.Saving.{names_fault, is_changed, after_commit, saved}
 use Rattle.mailx_session.specs.Switching.{open_fault, loaded_folder, switched, announced, switched_to, switches}
 use Rattle.mailx_session.specs.declared.kinds.FrameKind.TheVariants as kinds
@@ -63,10 +67,12 @@ use Rattle.mailx_top.specs.declared.environment.Environment.{Environment}
 use Rattle.mailx_top.specs.declared.words.Manner.{Manner}
 use Rattle.mailx_top.specs.declared.words.Manner.TheVariants.{Silent, Rows, Quiet, Greeting}
 use Rattle.mailx_top.specs.Words.{Start}
-use Rattle.mailx_top.specs.Meaning.{RunState, at_prompt, Recovering, recovered, Opening, Reading, Leaving, round, last_round, opening, folder_name, with_name_or_fault, loaded, unheld, is_no_mail, with_list, greeted, turn, line_round, with_input, prompted, first_of, actor_in, Preparing, with_files, next_file, file_round}
+use Rattle.mailx_top.specs.Meaning.{RunState, at_prompt, Recovering, recovered, Opening, Reading, Finishing, Leaving, round, last_round, opening, folder_name, with_name_or_fault, loaded, unheld, is_no_mail, with_list, greeted, turn, line_round, finishing_round, with_input, with_finishing, prompted, first_of, actor_in, Preparing, with_files, next_file, file_round}
 use Rattle.mailx_top.specs.Starts.{is_bad_record}
 use Rattle.mailx_top.specs.Unreadable.{is_unreadable, met_unreadable, some_unreadable, some_unreadable_in, IsRecordExplained}
 use Rattle.mailx_top.proofs.CrashLemmas.{StateOf, round-commits, round-of}
+use Rattle.mailx_top.proofs.LineLemmas.{begins}
+use Rattle.mailx_top.proofs.DraftLemmas.{IsPassed, typed-passes, ended-passes}
 
 -- the answer to a commit of these changes is that the record can't be read
 abbrev answers_unreadable : List Change → Committed → Bool
@@ -165,6 +171,8 @@ module _ (actor : List ℕ) (token : ℕ) (fits : token < 2 ^ 64) where
   act-told (Read name) a es by did = refl
   act-told (Try name) a es by did = refl
   act-told (Recover b t) a es by did = recovery-told b t es a did
+  act-told (Child program args input) a es by did = refl
+  act-told Now a es by did = refl
   act-told (Know texts) a es by did = refl
 
   -- a play that came to its end
@@ -238,12 +246,17 @@ called-tells : (b : Bool) (t : SessionState) → after_ends (if b then On t else
 called-tells true t = refl
 called-tells false t = refl
 
+begun-tells : (b : Bool) (s : SessionState) (draft : Draft) → Tells after_ends false (begins b s draft)
+begun-tells true s draft = λ u. refl
+begun-tells false s draft = refl
+
 ask-tells : (s : SessionState) (ask : asked_of.Ask) → Tells after_ends false (asked s ask)
 ask-tells s (asks.Say bytes) = λ u. refl
 ask-tells s (asks.Commit changes) = saved-tells s changes (names_fault s.actor changes)
 ask-tells s (asks.Source name) = sourced-tells s name (source_fault s.frames name)
 ask-tells s (asks.Lines text) = called-tells (nat_lt (calls s.frames) call_limit) (with_lines kinds.Call s text)
 ask-tells s (asks.Open name changes reply) = switches-tells s name changes reply (open_fault s.actor name changes)
+ask-tells s (asks.Draft draft) = begun-tells (asks_subject (new_machine (flattened draft)) (view_in s)) s draft
 ask-tells s asks.Exit = refl
 
 onward-tells : (l : List asked_of.Ask) → ((t : SessionState) → Tells after_ends false (in_order asked t l)) → (a : After SessionState Status) → Tells after_ends (after_ends a) (onward (λ (t : SessionState). in_order asked t l) a)
@@ -283,9 +296,25 @@ with-tells : (i : Input) (n : Next SessionState Status) → Tells next_ends (nex
 with-tells i (Go s) = refl
 with-tells i (Last e) = refl
 
+-- a line of the input, and the end of a draft
+abbrev Any-state : SessionState → Type 0
+Any-state s = Unit {0}
+
+draft-tells : IsPassed (Tells next_ends false) Any-state
+draft-tells = record {
+  goes = λ s q. refl;
+  says = λ bytes s q u. refl;
+  loads = λ name go all. all;
+  runs = λ program args input go all. all;
+  carries = λ s m q. carried-tells s m;
+  drafts = λ s draft q. tt;
+  counts = λ s n q. tt;
+  rests = λ s q. tt;
+}
+
 turn-tells : (s : SessionState) (j : Input) (line : Option (List ℕ)) → Tells next_ends false (turn s j line)
 turn-tells s j None = refl
-turn-tells s j (Some line) = bind-tells next_ends next_ends false (typed_play s line) (with_input j) (carried-tells (with_count (rested s) 1) (commanded origin.Input (rested s).desk line)) (with-tells j)
+turn-tells s j (Some line) = bind-tells next_ends next_ends false (typed_play s line) (with_input j) (typed-passes (Tells next_ends false) Any-state draft-tells s line tt) (with-tells j)
 
 -- what no commit stands in
 abbrev none_met : Unit {0} → Bool
@@ -302,6 +331,20 @@ line-tells s i (Some p) =
     bind-tells next_ends next_ends false (waiting_play t p.0) (with_input i) (waiting-tells (is_defining t.desk) t p.0) (with-tells i)
 
 -- the end of the input
+finishing-tells : (i : Input) (n : Next SessionState Status) → Tells next_ends (next_ends n) (with_finishing i n)
+finishing-tells i (Go s) = refl
+finishing-tells i (Last e) = refl
+
+ended-tells : (b : Bool) (s : SessionState) (i : Input) → Tells next_ends false (if b then bind (ended_draft s) (with_finishing i) else Ret (Go (Leaving (rested s) i)))
+ended-tells true s i = bind-tells next_ends next_ends false (ended_draft s) (with_finishing i) (ended-passes (Tells next_ends false) Any-state draft-tells s tt) (finishing-tells i)
+ended-tells false s i = refl
+
+finishing-round-tells : (s : SessionState) (i : Input) (next : Option (WaitingLine × List Pending)) → Tells next_ends false (finishing_round s i next)
+finishing-round-tells s i None = ended-tells (is_drafting s) s i
+finishing-round-tells s i (Some p) =
+    let t = resumed s p.1 in
+    bind-tells next_ends next_ends false (waiting_play t p.0) (with_finishing i) (waiting-tells (is_defining t.desk) t p.0) (finishing-tells i)
+
 left-tells : (a : After SessionState Status) → Tells is_for_record (after_ends a) (left_by a)
 left-tells (On s) = refl
 left-tells (Over s) = refl
@@ -375,10 +418,11 @@ file-tells start s names (Some p) =
 round-tells : (env : Environment) (x : RunState) → Tells next_ends false (round env x)
 round-tells env (Recovering None) = refl
 round-tells env (Recovering (Some start)) = λ a. recovered-tells env start a
-round-tells env (Preparing start s names) = file-tells start s names (taken s.frames)
+round-tells env (Preparing start s names) = file-tells start s names (next_waiting s)
 round-tells env (Opening None s) = λ u. refl
 round-tells env (Opening (Some start) s) = named-tells s start (folder_name s start)
-round-tells env (Reading s i) = line-tells s i (taken s.frames)
+round-tells env (Reading s i) = line-tells s i (next_waiting s)
+round-tells env (Finishing s i) = finishing-round-tells s i (next_waiting s)
 round-tells env (Leaving s i) = last-tells s
 
 -- how the end of a loop tells of its commits

@@ -28,12 +28,12 @@ use Rattle.session_play.specs.Causes.{counted, events_at}
 use Rattle.session_play.specs.Play.{Play, Ret, Ask, Recover, Says, Goes, Next, Go, Last, Loop, again, last, cut}
 use Rattle.session_play.proofs.ShapeLemmas.{came-same, goes-ends}
 use Rattle.mailx_session.specs.declared.state.SessionState.{SessionState}
-use Rattle.mailx_session.specs.Pending.{taken}
+use Rattle.mailx_session.specs.States.{next_waiting}
 use Rattle.mailx_session.specs.declared.status.Status.{Status}
 use Rattle.mailx_session.specs.declared.status.Status.TheVariants as status
 use Rattle.mailx_top.specs.declared.environment.Environment.{Environment}
 use Rattle.mailx_top.specs.Words.{Start}
-use Rattle.mailx_top.specs.Meaning.{RunState, Recovering, Preparing, Opening, Reading, Leaving, round, file_round, prepared, recovered, first_of, actor_in, heard, ends_with, says_and_ends, usage, is_recovering, is_opening}
+use Rattle.mailx_top.specs.Meaning.{RunState, Recovering, Preparing, Opening, Reading, Finishing, Leaving, round, file_round, prepared, recovered, first_of, actor_in, heard, ends_with, says_and_ends, usage, is_recovering, is_opening}
 use Rattle.mailx_top.specs.Openings.{OpenedBadly, IsOpeningExplained}
 use Rattle.mailx_top.specs.Leavings.{refused_at_end}
 use Rattle.mailx_top.specs.Starts.{is_recovered, is_right_busy, is_bad_record, IsStartExplained}
@@ -58,6 +58,7 @@ plain-state (Recovering start) never = absurd never
 plain-state (Preparing start s names) never = absurd never
 plain-state (Opening start s) never = absurd never
 plain-state (Reading s i) reading = refl
+plain-state (Finishing s i) reading = refl
 plain-state (Leaving s i) reading = refl
 
 plain-counted : (x : RunState) (es : List Event) → IsReadingState x → counted (is_recovering x) es ≡ []
@@ -80,10 +81,11 @@ before-then : (env : Environment) (start : Start) (x y : RunState) (es front res
     → (more : Loop (round env) y rest out) → (IsBefore start y → events_at is_recovering more ≡ []) → counted (is_recovering x) front ++ events_at is_recovering more ≡ []
 before-then env start (Recovering o) y es front rest out never is goes more later = absurd never
 before-then env start (Preparing b s names) y es front rest out before is goes more later =
-    let on : IsBefore b y = goes-ends (LeavesBefore b) (round env (Preparing b s names)) front (Go y) (file-ends b s names (taken s.frames)) goes in
+    let on : IsBefore b y = goes-ends (LeavesBefore b) (round env (Preparing b s names)) front (Go y) (file-ends b s names (next_waiting s)) goes in
     later (subst (λ (b : Start). IsBefore b y) before on)
 before-then env start (Opening o s) y es front rest out before is goes more later = opening-plain env o s (again front rest is goes more)
 before-then env start (Reading s i) y es front rest out never is goes more later = absurd never
+before-then env start (Finishing s i) y es front rest out never is goes more later = absurd never
 before-then env start (Leaving s i) y es front rest out never is goes more later = absurd never
 
 before-plain-state : (start : Start) (x : RunState) → IsBefore start x → is_recovering x ≡ false
@@ -91,6 +93,7 @@ before-plain-state start (Recovering o) never = absurd never
 before-plain-state start (Preparing b s names) before = refl
 before-plain-state start (Opening o s) before = refl
 before-plain-state start (Reading s i) never = absurd never
+before-plain-state start (Finishing s i) never = absurd never
 before-plain-state start (Leaving s i) never = absurd never
 
 before-plain : (env : Environment) (start : Start) {x : RunState} {es : List Event} {out : Result Status Stop} → IsBefore start x → (loop : Loop (round env) x es out) → events_at is_recovering loop ≡ []

@@ -9,7 +9,7 @@ use Rattle.session_play.specs.declared.act.Found.TheVariants as found
 use Rattle.session_play.specs.declared.recovering.RecoveryAnswer.{RecoveryAnswer}
 use Rattle.session_play.specs.declared.recovering.RecoveryAnswer.TheVariants as recovery
 use Rattle.session_play.specs.Input.{Input, no_input}
-use Rattle.session_play.specs.Play.{Act, Line, Play, Ret, Ask, Next, Go, Last}
+use Rattle.session_play.specs.Play.{Act, Line, Play, Ret, Ask, Next, Go, Last, bind}
 use Rattle.session_play.specs.Acts.{AllActs, Threads, may_load, loads_nothing}
 use Rattle.session_play.specs.Causes.{NextFrom}
 use Rattle.mailx_vars.specs.Names.{is_short_name}
@@ -21,19 +21,19 @@ use Rattle.mailx_session.specs.declared.status.Status.{Status}
 use Rattle.mailx_session.specs.Openings.{with_opened}
 use Rattle.mailx_session.specs.declared.frames.WaitingLine.{WaitingLine}
 use Rattle.mailx_session.specs.Waits.{Pending}
-use Rattle.mailx_session.specs.Pending.{taken}
-use Rattle.mailx_session.specs.States.{resumed}
+use Rattle.mailx_session.specs.States.{is_drafting, next_waiting, resumed, rested}
+use Rattle.mailx_session.specs.Drafting.{ended_draft}
 use Rattle.mailx_session.specs.Rounds.{typed_play, waiting_play}
 use Rattle.mailx_top.specs.declared.environment.Environment.{Environment}
 use Rattle.mailx_top.specs.declared.words.Manner.{Manner}
 use Rattle.mailx_top.specs.declared.words.Manner.TheVariants.{Silent, Rows, Quiet, Greeting}
 use Rattle.mailx_top.specs.Words.{Start}
-use Rattle.mailx_top.specs.Meaning.{RunState, at_prompt, first_of, Recovering, recovering, recovered, Opening, Reading, Leaving, round, opening, folder_name, with_name_or_fault, loaded, unheld, is_no_mail, with_list, greeted, turn, next_turn, line_round, with_input, prompted, input_of, is_opening, Preparing}
+use Rattle.mailx_top.specs.Meaning.{RunState, at_prompt, first_of, Recovering, recovering, recovered, Opening, Reading, Finishing, Leaving, round, opening, folder_name, with_name_or_fault, loaded, unheld, is_no_mail, with_list, greeted, turn, next_turn, line_round, finishing_round, with_input, with_finishing, prompted, input_of, is_opening, Preparing}
 use Rattle.session_play.proofs.ShapeLemmas.{bind-acts, bind-threads, weaker-acts, may-all}
 use Rattle.mailx_session.specs.Leaving.{leaving}
 use Rattle.mailx_top.proofs.OrderLemmas.{Keeps}
 use Rattle.mailx_top.proofs.LeavingLemmas.{last-acts, leaving-threads}
-use Rattle.mailx_top.proofs.LineLemmas.{typed-acts, typed-threads, waiting-acts, waiting-threads}
+use Rattle.mailx_top.proofs.LineLemmas.{typed-acts, typed-threads, waiting-acts, waiting-threads, ended-acts, ended-threads}
 use Rattle.mailx_top.proofs.StartupLemmas.{file-acts, file-threads}
 
 abbrev On : Input → Play (Next RunState Status) → Type 0
@@ -86,8 +86,12 @@ threads-with : (i : Input) (n : Next SessionState Status) (j : Input) → j ≡ 
 threads-with i (Go s) j same = same
 threads-with i (Last e) j same = tt
 
+threads-behind : (b : Bool) (s : SessionState) (j : Input) → On j (Ret (Go (if b then Finishing s j else Leaving (rested s) j)))
+threads-behind true s j = refl
+threads-behind false s j = refl
+
 threads-turn : (s : SessionState) (j : Input) (line : Option (List ℕ)) → On j (turn s j line)
-threads-turn s j None = refl
+threads-turn s j None = threads-behind (is_drafting s) s j
 threads-turn s j (Some line) =
     bind-threads (λ (n : Next SessionState Status) (k : Input). k ≡ j) (NextFrom input_of) (typed_play s line) (with_input j) j (typed-threads s line j) (threads-with j)
 
@@ -106,11 +110,27 @@ threads-line-round s i (Some p) =
     let t = resumed s p.1 in
     bind-threads (λ (n : Next SessionState Status) (k : Input). k ≡ i) (NextFrom input_of) (waiting_play t p.0) (with_input i) i (waiting-threads t p.0 i) (threads-with i)
 
+threads-finishing : (i : Input) (n : Next SessionState Status) (j : Input) → j ≡ i → On j (with_finishing i n)
+threads-finishing i (Go s) j same = same
+threads-finishing i (Last e) j same = tt
+
+threads-ended : (b : Bool) (s : SessionState) (i : Input) → On i (if b then bind (ended_draft s) (with_finishing i) else Ret (Go (Leaving (rested s) i)))
+threads-ended true s i =
+    bind-threads (λ (n : Next SessionState Status) (k : Input). k ≡ i) (NextFrom input_of) (ended_draft s) (with_finishing i) i (ended-threads s i) (threads-finishing i)
+threads-ended false s i = refl
+
+threads-finishing-round : (s : SessionState) (i : Input) (next : Option (WaitingLine × List Pending)) → On i (finishing_round s i next)
+threads-finishing-round s i None = threads-ended (is_drafting s) s i
+threads-finishing-round s i (Some p) =
+    let t = resumed s p.1 in
+    bind-threads (λ (n : Next SessionState Status) (k : Input). k ≡ i) (NextFrom input_of) (waiting_play t p.0) (with_finishing i) i (waiting-threads t p.0 i) (threads-finishing i)
+
 pub threads-round : (env : Environment) (x : RunState) → On (input_of x) (round env x)
 threads-round env (Recovering start) = threads-recovering env start
-threads-round env (Preparing start s names) = file-threads start s names (taken s.frames)
+threads-round env (Preparing start s names) = file-threads start s names (next_waiting s)
 threads-round env (Opening start s) = threads-opening start s
-threads-round env (Reading s i) = threads-line-round s i (taken s.frames)
+threads-round env (Reading s i) = threads-line-round s i (next_waiting s)
+threads-round env (Finishing s i) = threads-finishing-round s i (next_waiting s)
 threads-round env (Leaving s i) = bind-threads (Keeps i) (NextFrom input_of) (leaving s) (λ e. Ret (Last e)) i (leaving-threads s i) (λ e j same. tt)
 
 -- acts that pass a test on either side
@@ -182,13 +202,27 @@ line-round-acts s i None = next-acts s i
 line-round-acts s i (Some p) =
     let t = resumed s p.1 in bind-acts (may_load false) (waiting_play t p.0) (with_input i) (waiting-acts t p.0) (with-acts i)
 
+finishing-acts : (i : Input) (n : Next SessionState Status) → AllActs (may_load false) (with_finishing i n)
+finishing-acts i (Go s) = tt
+finishing-acts i (Last e) = tt
+
+ended-round-acts : (b : Bool) (s : SessionState) (i : Input) → AllActs (may_load false) (if b then bind (ended_draft s) (with_finishing i) else Ret (Go (Leaving (rested s) i)))
+ended-round-acts true s i = bind-acts (may_load false) (ended_draft s) (with_finishing i) (ended-acts s) (finishing-acts i)
+ended-round-acts false s i = tt
+
+finishing-round-acts : (s : SessionState) (i : Input) (next : Option (WaitingLine × List Pending)) → AllActs (may_load false) (finishing_round s i next)
+finishing-round-acts s i None = ended-round-acts (is_drafting s) s i
+finishing-round-acts s i (Some p) =
+    let t = resumed s p.1 in bind-acts (may_load false) (waiting_play t p.0) (with_finishing i) (waiting-acts t p.0) (finishing-acts i)
+
 pub reading-acts : (env : Environment) (s : SessionState) (i : Input) → AllActs (may_load false) (round env (Reading s i))
-reading-acts env s i = line-round-acts s i (taken s.frames)
+reading-acts env s i = line-round-acts s i (next_waiting s)
 
 -- where a folder is opened each load that fails cuts the run off, and elsewhere none does
 pub loads-round : (env : Environment) (x : RunState) → AllActs (may_load (is_opening x)) (round env x)
 loads-round env (Recovering start) = recovering-acts env start
-loads-round env (Preparing start s names) = file-acts start s names (taken s.frames)
+loads-round env (Preparing start s names) = file-acts start s names (next_waiting s)
 loads-round env (Opening start s) = opening-acts start s
 loads-round env (Reading s i) = reading-acts env s i
+loads-round env (Finishing s i) = finishing-round-acts s i (next_waiting s)
 loads-round env (Leaving s i) = last-acts s

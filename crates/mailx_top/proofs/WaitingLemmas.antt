@@ -2,7 +2,7 @@
 use Rattle.std.proofs.Common.{◌≡◌, ◌&&◌, ℕ, Bool, true, false, List, [], ◌∷◌, ◌++◌, refl, sym, ◌∙◌, ap, subst, inl, append_assoc}
 use Rattle.std.proofs.lemmas.Bool.{cond-true, cond-false}
 use Rattle.std.proofs.lemmas.List.{append-nil}
-use Rattle.std.specs.Prelude.{not}
+use Rattle.std.specs.Prelude.{not, if◌then◌else◌}
 use Rattle.std.specs.declared.option.Option.{Option}
 use Rattle.std.specs.declared.option.Option.TheVariants.{Some, None}
 use Rattle.std.specs.declared.result.Result.{Result}
@@ -20,14 +20,16 @@ use Rattle.mailx_session.specs.declared.status.Status.{Status}
 use Rattle.mailx_session.specs.Waits.{Pending}
 use Rattle.mailx_session.specs.Pending.{taken, open_before}
 use Rattle.read_commands.specs.Origins.{is_defining}
-use Rattle.mailx_session.specs.States.{IsSession, cut_to, resumed, rested}
+use Rattle.mailx_session.specs.States.{IsSession, is_drafting, next_waiting, with_draft, cut_to, resumed, at_rest, rested}
+use Rattle.mailx_session.specs.Drafting.{ended_draft}
+use Rattle.compose_tilde.specs.declared.machine.Machine.{Machine}
 use Rattle.mailx_session.specs.Startup.{startup_play, StartupGoes, begun}
 use Rattle.mailx_session.specs.Startup as files
 use Rattle.mailx_session.proofs.RoundLemmas.{rested-same}
-use Rattle.mailx_session.specs.Rounds.{typed_play, waiting_play, WaitingGo, none, more, ended, LineGoes, typed}
+use Rattle.mailx_session.specs.Rounds.{typed_play, waiting_play, WaitingGo, none, more, ended, LineGoes, typed, DraftEnds, FinishGo}
 use Rattle.mailx_session.specs.Rounds as rounds
 use Rattle.mailx_top.specs.declared.environment.Environment.{Environment}
-use Rattle.mailx_top.specs.Meaning.{RunState, at_prompt, Reading, Leaving, round, last_round, line_round, next_turn, turn, prompted, with_input, next_state, after_line, LeadsTo, LeadsAfterPrompt, Preparing, Opening, first_of, startup_files, files_with, with_files, next_file, file_round, prepared, after_file, after_files}
+use Rattle.mailx_top.specs.Meaning.{RunState, at_prompt, Reading, Finishing, Leaving, behind_input, round, last_round, line_round, finishing_round, with_finishing, next_turn, turn, prompted, with_input, next_state, after_line, LeadsTo, LeadsAfterPrompt, Preparing, Opening, first_of, startup_files, files_with, with_files, next_file, file_round, prepared, after_file, after_files}
 use Rattle.mailx_top.specs.Words.{Start, is_silent}
 
 -- a result of a session's line, with the input that is left
@@ -51,9 +53,21 @@ leads-more env x y front rest es (Ok (Go z)) is goes leads = λ later end loop.
 leads-more env x y front rest es (Ok (Last e)) is goes loop = again front rest is goes loop
 leads-more env x y front rest es (Err cause) is goes loop = again front rest is goes loop
 
--- between two lines of the input the prompt is said on a terminal, unless a definition is under way
-pub prompt_at_rest : (s : SessionState) → IsSession s → (s.terminal && not (is_defining s.desk)) ≡ at_prompt s
-prompt_at_rest s is = ap (λ (t : SessionState). t.terminal && not (is_defining t.desk)) (sym (rested-same s is))
+-- between two lines of the input the prompt is said on a terminal, unless a draft is open or a definition is under way
+pub prompt_at_rest : (s : SessionState) → IsSession s → ((s.terminal && not (is_drafting s)) && not (is_defining s.desk)) ≡ at_prompt s
+prompt_at_rest s is = ap (λ (t : SessionState). (s.terminal && not (is_drafting s)) && not (is_defining t.desk)) (sym (rested-same s is))
+
+-- there no line waits that is carried out before the next of the input
+pub none_waits : (s : SessionState) → IsSession s → next_waiting s ≡ None
+none_waits s is = go (is_drafting s) is.frames
+  where
+    go : (b : Bool) → (b ≡ false → s.frames ≡ []) → (if b then None else taken s.frames) ≡ None
+    go true idle = refl
+    go false idle = ap taken (idle refl)
+
+-- nor does one where no draft is open, in a state at rest
+pub idle-waits : (s : SessionState) → is_drafting s ≡ false → rested s ≡ s → next_waiting s ≡ None
+idle-waits s free same = cond-false _ _ _ free ∙ ap taken (sym (ap (λ (t : SessionState). t.frames) (sym (cond-false (is_drafting s) s (at_rest s) free) ∙ same)))
 
 -- the prompt has nothing to do with conditions
 prompted-alike : (terminal : Bool) (nested : Option ℕ) (desk : Desk) → prompted terminal desk ≡ prompted terminal (cut_to nested desk)
@@ -61,9 +75,16 @@ prompted-alike true nested desk = refl
 prompted-alike false nested desk = refl
 
 -- where no line waits, the state is as good as one at rest
-rested-round : (env : Environment) (s : SessionState) (i : Input) → taken s.frames ≡ None → round env (Reading s i) ≡ round env (Reading (rested s) i)
-rested-round env s i none_left = ap (line_round s i) none_left
-    ∙ ap (λ (p : Play (Unit {0})). bind p (λ u. Ask (Line i) (λ a. turn s a.1 a.0))) (prompted-alike (at_prompt s) (open_before s.frames) s.desk)
+rested-as : (env : Environment) (s : SessionState) (i : Input) (draft : Option Machine) → next_waiting (with_draft s draft) ≡ None
+    → round env (Reading (with_draft s draft) i) ≡ round env (Reading (rested (with_draft s draft)) i)
+rested-as env s i (Some m) none_left = refl
+rested-as env s i None none_left =
+    let t = with_draft s None in
+    ap (line_round t i) none_left
+    ∙ ap (λ (p : Play (Unit {0})). bind p (λ u. Ask (Line i) (λ a. turn t a.1 a.0))) (prompted-alike (at_prompt t) (open_before t.frames) t.desk)
+
+rested-round : (env : Environment) (s : SessionState) (i : Input) → next_waiting s ≡ None → round env (Reading s i) ≡ round env (Reading (rested s) i)
+rested-round env s i none_left = rested-as env s i s.draft none_left
 
 -- the lines that wait are rounds
 pub waiting-leads : (env : Environment) (i : Input) {s : SessionState} {es : List Event} {out : Result (Next SessionState Status) Stop} → WaitingGo s es out → LeadsTo env (Reading s i) es (onward i out)
@@ -82,11 +103,11 @@ waiting-leads env i {s = s} {es = es} (rounds.cut {cause = cause} line frames is
 waiting-leads env i {s = s} rounds.short = cut (at-memory (round env (Reading s i)))
 
 -- a line is asked for and taken, where none waits
-asked-round : (env : Environment) (s : SessionState) (i j : Input) (line : Option (List ℕ)) (said took es : List Event) (out : Result (Next RunState Status) Stop) → s.frames ≡ []
+asked-round : (env : Environment) (s : SessionState) (i j : Input) (line : Option (List ℕ)) (said took es : List Event) (out : Result (Next RunState Status) Stop) → next_waiting s ≡ None
     → Goes (prompted (at_prompt s) s.desk) said (Ok tt) → Goes (Ask (Line i) Ret) took (Ok (line, j)) → Goes (turn s j line) es out
     → Goes (round env (Reading s i)) (said ++ (took ++ es)) out
 asked-round env s i j line said took es out idle says takes goes =
-    let same : round env (Reading s i) ≡ next_turn s i = ap (line_round s i) (ap taken idle) in
+    let same : round env (Reading s i) ≡ next_turn s i = ap (line_round s i) idle in
     subst (λ (p : Play (Next RunState Status)). Goes p (said ++ (took ++ es)) out) (sym same)
     (goes-then (prompted (at_prompt s) s.desk) (λ u. Ask (Line i) (λ a. turn s a.1 a.0)) tt out said (took ++ es) says
     (goes-then (Ask (Line i) Ret) (λ a. turn s a.1 a.0) (line, j) out took es takes goes))
@@ -97,7 +118,7 @@ joined said took front rest es is =
     ∙ (ap (λ (l : List Event). said ++ l) (sym (append_assoc took front rest)) ∙ sym (append_assoc said (took ++ front) rest))
 
 -- what a line of the input leads to, once the prompt was said and the line was taken
-pub line-leads : (env : Environment) (s : SessionState) (i j : Input) (line : List ℕ) (said took es : List Event) (out : Result (Next SessionState Status) Stop) → s.frames ≡ []
+pub line-leads : (env : Environment) (s : SessionState) (i j : Input) (line : List ℕ) (said took es : List Event) (out : Result (Next SessionState Status) Stop) → next_waiting s ≡ None
     → Goes (prompted (at_prompt s) s.desk) said (Ok tt) → Goes (Ask (Line i) Ret) took (Ok (Some line, j)) → LineGoes s line es out → LeadsTo env (Reading s i) (said ++ (took ++ es)) (onward j out)
 line-leads env s i j line said took es out idle says takes (typed {t = t} front rest is goes waits) =
     leads-more env (Reading s i) (Reading t j) (said ++ (took ++ front)) rest (said ++ (took ++ es)) (onward j out) (joined said took front rest es is)
@@ -109,7 +130,7 @@ line-leads env s i j line said took es out idle says takes (rounds.cut_short {ca
     cut (asked-round env s i j (Some line) said took es (Err cause) idle says takes (goes-cut (typed_play s line) (with_input j) cause es goes))
 
 -- the same, of a session's line in a run
-pub step-leads : (env : Environment) (s t : SessionState) (i j : Input) (line : List ℕ) (r : Result (Option Status) Stop) → s.frames ≡ [] → (took es : List Event)
+pub step-leads : (env : Environment) (s t : SessionState) (i j : Input) (line : List ℕ) (r : Result (Option Status) Stop) → next_waiting s ≡ None → (took es : List Event)
     → Goes (Ask (Line i) Ret) took (Ok (Some line, j)) → LineGoes s line es (after_line t r) → LeadsAfterPrompt env s i (took ++ es) (next_state t j r)
 step-leads env s t i j line (Ok None) idle took es takes goes = λ said says. line-leads env s i j line said took es (Ok (Go t)) idle says takes goes
 step-leads env s t i j line (Ok (Some e)) idle took es takes goes = λ said says. line-leads env s i j line said took es (Ok (Last e)) idle says takes goes
@@ -121,28 +142,28 @@ leads-once env x es (Ok (Go y)) goes = λ rest out loop. again es rest refl goes
 leads-once env x es (Ok (Last e)) goes = last goes
 leads-once env x es (Err cause) goes = cut goes
 
--- the end of the input
-pub end-leads : (env : Environment) (s : SessionState) (i j : Input) (out : Result (Next RunState Status) Stop) → s.frames ≡ [] → rested s ≡ s → (took es : List Event)
-    → Goes (Ask (Line i) Ret) took (Ok (None, j)) → Goes (last_round s) es out → LeadsAfterPrompt env s i (took ++ es) out
-end-leads env s i j out idle at_rest took es takes goes = λ said says.
-    leads-more env (Reading s i) (Leaving (rested s) j) (said ++ took) es (said ++ (took ++ es)) out (sym (append_assoc said took es))
-    (subst (λ (l : List Event). Goes (round env (Reading s i)) (said ++ l) (Ok (Go (Leaving (rested s) j)))) (append-nil took)
-    (asked-round env s i j None said took [] (Ok (Go (Leaving (rested s) j))) idle says takes (refl, inl refl)))
-    (leads-once env (Leaving (rested s) j) es out (subst (λ (t : SessionState). Goes (last_round t) es out) (sym at_rest) goes))
+-- the end of the input, and what follows it
+pub end-leads : (env : Environment) (s : SessionState) (i j : Input) (out : Result (Next RunState Status) Stop) → next_waiting s ≡ None → (took es : List Event)
+    → Goes (Ask (Line i) Ret) took (Ok (None, j)) → LeadsTo env (behind_input s j) es out → LeadsAfterPrompt env s i (took ++ es) out
+end-leads env s i j out idle took es takes leads = λ said says.
+    leads-more env (Reading s i) (behind_input s j) (said ++ took) es (said ++ (took ++ es)) out (sym (append_assoc said took es))
+    (subst (λ (l : List Event). Goes (round env (Reading s i)) (said ++ l) (Ok (Go (behind_input s j)))) (append-nil took)
+    (asked-round env s i j None said took [] (Ok (Go (behind_input s j))) idle says takes (refl, inl refl)))
+    leads
 
 -- a line that isn't taken
-pub take-cut-leads : (env : Environment) (s : SessionState) (i : Input) (cause : Stop) → s.frames ≡ [] → (took : List Event) → Goes {R = Option (List ℕ) × Input} (Ask (Line i) Ret) took (Err cause)
+pub take-cut-leads : (env : Environment) (s : SessionState) (i : Input) (cause : Stop) → next_waiting s ≡ None → (took : List Event) → Goes {R = Option (List ℕ) × Input} (Ask (Line i) Ret) took (Err cause)
     → LeadsAfterPrompt env s i took (Err cause)
 take-cut-leads env s i cause idle took takes = λ said says.
-    let same : round env (Reading s i) ≡ next_turn s i = ap (line_round s i) (ap taken idle) in
+    let same : round env (Reading s i) ≡ next_turn s i = ap (line_round s i) idle in
     cut (subst (λ (p : Play (Next RunState Status)). Goes p (said ++ took) (Err cause)) (sym same)
     (goes-then (prompted (at_prompt s) s.desk) (λ u. Ask (Line i) (λ a. turn s a.1 a.0)) tt (Err cause) said took says (goes-cut (Ask (Line i) Ret) (λ a. turn s a.1 a.0) cause took takes)))
 
 -- a prompt that isn't said
-pub prompt-cut-leads : (env : Environment) (s : SessionState) (i : Input) (cause : Stop) → s.frames ≡ [] → (said : List Event) → Goes (prompted (at_prompt s) s.desk) said (Err cause)
+pub prompt-cut-leads : (env : Environment) (s : SessionState) (i : Input) (cause : Stop) → next_waiting s ≡ None → (said : List Event) → Goes (prompted (at_prompt s) s.desk) said (Err cause)
     → LeadsTo env (Reading s i) said (Err cause)
 prompt-cut-leads env s i cause idle said says =
-    let same : round env (Reading s i) ≡ next_turn s i = ap (line_round s i) (ap taken idle) in
+    let same : round env (Reading s i) ≡ next_turn s i = ap (line_round s i) idle in
     cut (subst (λ (p : Play (Next RunState Status)). Goes p said (Err cause)) (sym same) (goes-cut (prompted (at_prompt s) s.desk) (λ u. Ask (Line i) (λ a. turn s a.1 a.0)) cause said says))
 
 -- rounds so far, and what leads on from there
@@ -158,8 +179,13 @@ onward-files start names (Ok (Go s)) = Ok (Go (Preparing start s names))
 onward-files start names (Ok (Last e)) = Ok (Last e)
 onward-files start names (Err cause) = Err cause
 
-rested-file : (env : Environment) (start : Start) (s : SessionState) (names : List (List ℕ)) → taken s.frames ≡ None → round env (Preparing start s names) ≡ round env (Preparing start (rested s) names)
-rested-file env start s names none_left = ap (file_round start s names) none_left
+rested-file-as : (env : Environment) (start : Start) (s : SessionState) (names : List (List ℕ)) (draft : Option Machine) → next_waiting (with_draft s draft) ≡ None
+    → round env (Preparing start (with_draft s draft) names) ≡ round env (Preparing start (rested (with_draft s draft)) names)
+rested-file-as env start s names (Some m) none_left = refl
+rested-file-as env start s names None none_left = ap (file_round start (with_draft s None) names) none_left
+
+rested-file : (env : Environment) (start : Start) (s : SessionState) (names : List (List ℕ)) → next_waiting s ≡ None → round env (Preparing start s names) ≡ round env (Preparing start (rested s) names)
+rested-file env start s names none_left = rested-file-as env start s names s.draft none_left
 
 -- the lines of a start-up file are rounds
 waiting-files : (env : Environment) (start : Start) (names : List (List ℕ)) {s : SessionState} {es : List Event} {out : Result (Next SessionState Status) Stop} → WaitingGo s es out
@@ -181,7 +207,7 @@ waiting-files env start names {s = s} rounds.short = cut (at-memory (round env (
 
 -- in a state at rest the next file is loaded
 next-round : (env : Environment) (start : Start) (s : SessionState) (names : List (List ℕ)) → IsSession s → round env (Preparing start s names) ≡ next_file start s names
-next-round env start s names is = ap (file_round start s names) (ap taken is.frames) ∙ ap (λ (t : SessionState). next_file start t names) (rested-same s is)
+next-round env start s names is = ap (file_round start s names) (none_waits s is) ∙ ap (λ (t : SessionState). next_file start t names) (rested-same s is)
 
 -- so is a start-up file
 file-goes : (env : Environment) (start : Start) (s : SessionState) (name : List ℕ) (names : List (List ℕ)) → IsSession s → {es : List Event} {out : Result (Next SessionState Status) Stop} → StartupGoes s name es out
@@ -230,3 +256,107 @@ aloud-loop env start aloud es out loop =
     let s = first_of env start.user in
     let named : startup_files start s.desk.places ≡ files_with start.no_system_file s.desk.places.rc = cond-false _ _ _ aloud in
     subst (λ (names : List (List ℕ)). Loop (round env) (Preparing start s names) es out) (sym named) loop
+
+-- a result of drafts that end, and of lines that wait, at the end of the input
+abbrev onward-finishing : Input → Result (Next SessionState Status) Stop → Result (Next RunState Status) Stop
+onward-finishing j (Ok (Go s)) = Ok (Go (Finishing s j))
+onward-finishing j (Ok (Last e)) = Ok (Last e)
+onward-finishing j (Err cause) = Err cause
+
+rested-finishing-as : (env : Environment) (s : SessionState) (i : Input) (draft : Option Machine) → next_waiting (with_draft s draft) ≡ None
+    → round env (Finishing (with_draft s draft) i) ≡ round env (Finishing (rested (with_draft s draft)) i)
+rested-finishing-as env s i (Some m) none_left = refl
+rested-finishing-as env s i None none_left = ap (finishing_round (with_draft s None) i) none_left
+
+rested-finishing : (env : Environment) (s : SessionState) (i : Input) → next_waiting s ≡ None → round env (Finishing s i) ≡ round env (Finishing (rested s) i)
+rested-finishing env s i none_left = rested-finishing-as env s i s.draft none_left
+
+-- the lines that wait are rounds there too
+waiting-finishing : (env : Environment) (i : Input) {s : SessionState} {es : List Event} {out : Result (Next SessionState Status) Stop} → WaitingGo s es out
+    → LeadsTo env (Finishing s i) es (onward-finishing i out)
+waiting-finishing env i {s = s} (none none_left) = λ rest out loop. same-round env (Finishing s i) (Finishing (rested s) i) (rested-finishing env s i none_left) loop
+waiting-finishing env i {s = s} {es = es} (more {t = t} {out = out} line frames front rest is_next is goes later) =
+    leads-more env (Finishing s i) (Finishing t i) front rest es (onward-finishing i out) is
+    (subst (λ (p : Play (Next RunState Status)). Goes p front (Ok (Go (Finishing t i)))) (sym (ap (finishing_round s i) is_next))
+    (goes-as (waiting_play (resumed s frames) line) (with_finishing i) (Go t) (Go (Finishing t i)) front refl goes))
+    (waiting-finishing env i later)
+waiting-finishing env i {s = s} {es = es} (ended {e = e} line frames is_next goes) =
+    last (subst (λ (p : Play (Next RunState Status)). Goes p es (Ok (Last e))) (sym (ap (finishing_round s i) is_next))
+    (goes-as (waiting_play (resumed s frames) line) (with_finishing i) (Last e) (Last e) es refl goes))
+waiting-finishing env i {s = s} {es = es} (rounds.cut {cause = cause} line frames is_next goes) =
+    cut (subst (λ (p : Play (Next RunState Status)). Goes p es (Err cause)) (sym (ap (finishing_round s i) is_next))
+    (goes-cut (waiting_play (resumed s frames) line) (with_finishing i) cause es goes))
+waiting-finishing env i {s = s} rounds.short = cut (at-memory (round env (Finishing s i)))
+
+-- a draft that is open ends
+ended-round : (env : Environment) (s : SessionState) (i : Input) → is_drafting s ≡ true → round env (Finishing s i) ≡ bind (ended_draft s) (with_finishing i)
+ended-round env s i drafting = ap (finishing_round s i) (cond-true _ _ _ drafting) ∙ cond-true _ _ _ drafting
+
+draft-leads : (env : Environment) (i : Input) (s : SessionState) {es : List Event} {out : Result (Next SessionState Status) Stop} → is_drafting s ≡ true → DraftEnds s es out
+    → LeadsTo env (Finishing s i) es (onward-finishing i out)
+draft-leads env i s {es = es} {out = out} drafting (rounds.told {t = t} front rest is goes waits) =
+    leads-more env (Finishing s i) (Finishing t i) front rest es (onward-finishing i out) is
+    (subst (λ (p : Play (Next RunState Status)). Goes p front (Ok (Go (Finishing t i)))) (sym (ended-round env s i drafting))
+    (goes-as (ended_draft s) (with_finishing i) (Go t) (Go (Finishing t i)) front refl goes))
+    (waiting-finishing env i waits)
+draft-leads env i s {es = es} drafting (rounds.untold {cause = cause} goes) =
+    cut (subst (λ (p : Play (Next RunState Status)). Goes p es (Err cause)) (sym (ended-round env s i drafting)) (goes-cut (ended_draft s) (with_finishing i) cause es goes))
+
+-- so do further ones
+finish-leads : (env : Environment) (i : Input) {s : SessionState} {es : List Event} {out : Result (Next SessionState Status) Stop} → FinishGo s es out
+    → LeadsTo env (Finishing s i) es (onward-finishing i out)
+finish-leads env i {s = s} (rounds.finished free) = λ rest out loop. loop
+finish-leads env i {s = s} {es = es} {out = out} (rounds.onward {t = t} front rest drafting is first later) =
+    subst (λ (l : List Event). LeadsTo env (Finishing s i) l (onward-finishing i out)) (sym is)
+    (leads-then env (Finishing s i) (Finishing t i) (onward-finishing i out) front rest (draft-leads env i s drafting first) (finish-leads env i later))
+finish-leads env i {s = s} (rounds.left drafting goes) = draft-leads env i s drafting goes
+finish-leads env i {s = s} (rounds.lost drafting goes) = draft-leads env i s drafting goes
+
+-- once no draft is open, and none waits, the folder is left
+abbrev onward-left : Input → Result (Next SessionState Status) Stop → Result (Next RunState Status) Stop
+onward-left j (Ok (Go s)) = Ok (Go (Leaving (rested s) j))
+onward-left j (Ok (Last e)) = Ok (Last e)
+onward-left j (Err cause) = Err cause
+
+abbrev IsOver : Result (Next SessionState Status) Stop → Type 0
+IsOver (Ok (Go s)) = (is_drafting s ≡ false) × (next_waiting s ≡ None)
+IsOver (Ok (Last e)) = Unit {0}
+IsOver (Err cause) = Unit {0}
+
+over-round : (env : Environment) (s : SessionState) (i : Input) → is_drafting s ≡ false → next_waiting s ≡ None → round env (Finishing s i) ≡ Ret (Go (Leaving (rested s) i))
+over-round env s i free none_left = ap (finishing_round s i) none_left ∙ cond-false _ _ _ free
+
+over-leads : (env : Environment) (x : RunState) (i : Input) (es : List Event) (out : Result (Next SessionState Status) Stop) → IsOver out → LeadsTo env x es (onward-finishing i out)
+    → LeadsTo env x es (onward-left i out)
+over-leads env x i es (Ok (Go s)) over leads = λ rest out loop.
+    leads rest out (again [] rest refl (subst (λ (p : Play (Next RunState Status)). Goes p [] (Ok (Go (Leaving (rested s) i)))) (sym (over-round env s i over.0 over.1)) (refl, inl refl)) loop)
+over-leads env x i es (Ok (Last e)) over leads = leads
+over-leads env x i es (Err cause) over leads = leads
+
+-- behind the last line of the input, where a draft is drafting
+drafting-leads : (env : Environment) (s : SessionState) (j : Input) (es : List Event) (out : Result (Next SessionState Status) Stop) → is_drafting s ≡ true → IsOver out → FinishGo s es out
+    → LeadsTo env (behind_input s j) es (onward-left j out)
+drafting-leads env s j es out drafting over goes =
+    subst (λ (x : RunState). LeadsTo env x es (onward-left j out)) (sym (cond-true (is_drafting s) (Finishing s j) (Leaving (rested s) j) drafting))
+    (over-leads env (Finishing s j) j es out over (finish-leads env j goes))
+
+behind-leads : (env : Environment) (j : Input) {s : SessionState} {es : List Event} {out : Result (Next SessionState Status) Stop} → IsOver out → FinishGo s es out
+    → LeadsTo env (behind_input s j) es (onward-left j out)
+behind-leads env j {s = s} over (rounds.finished free) = λ rest out loop.
+    subst (λ (x : RunState). Loop (round env) x rest out) (sym (cond-false (is_drafting s) (Finishing s j) (Leaving (rested s) j) free)) loop
+behind-leads env j {s = s} {es = es} {out = out} over (rounds.onward front rest drafting is first later) = drafting-leads env s j es out drafting over (rounds.onward front rest drafting is first later)
+behind-leads env j {s = s} {es = es} {out = out} over (rounds.left drafting goes) = drafting-leads env s j es out drafting over (rounds.left drafting goes)
+behind-leads env j {s = s} {es = es} {out = out} over (rounds.lost drafting goes) = drafting-leads env s j es out drafting over (rounds.lost drafting goes)
+
+-- the same, of a session's end of the input in a run
+pub finish-ends : (env : Environment) (s t : SessionState) (j : Input) (e : Status) (es : List Event) → FinishGo s es (after_line t (Ok (Some e))) → LeadsTo env (behind_input s j) es (Ok (Last e))
+finish-ends env s t j e es goes = behind-leads env j tt goes
+
+pub finish-cut : (env : Environment) (s t : SessionState) (j : Input) (cause : Stop) (es : List Event) → FinishGo s es (after_line t (Err cause)) → LeadsTo env (behind_input s j) es (Err cause)
+finish-cut env s t j cause es goes = behind-leads env j tt goes
+
+pub finish-leaves : (env : Environment) (s t : SessionState) (j : Input) (out : Result (Next RunState Status) Stop) → is_drafting t ≡ false → rested t ≡ t → (es fs : List Event)
+    → FinishGo s es (after_line t (Ok None)) → Goes (last_round t) fs out → LeadsTo env (behind_input s j) (es ++ fs) out
+finish-leaves env s t j out free same es fs goes leaves =
+    leads-then env (behind_input s j) (Leaving (rested t) j) out es fs (behind-leads env j (free, idle-waits t free same) goes)
+    (leads-once env (Leaving (rested t) j) fs out (subst (λ (u : SessionState). Goes (last_round u) fs out) (sym same) leaves))

@@ -27,8 +27,8 @@ use Rattle.mailx_session.specs.declared.status.Status.TheVariants as status
 use Rattle.mailx_session.specs.Openings.{first_state, with_opened, greeting}
 use Rattle.mailx_session.specs.declared.frames.WaitingLine.{WaitingLine}
 use Rattle.mailx_session.specs.Waits.{Pending}
-use Rattle.mailx_session.specs.Pending.{taken}
-use Rattle.mailx_session.specs.States.{resumed, rested}
+use Rattle.mailx_session.specs.States.{is_drafting, next_waiting, resumed, rested}
+use Rattle.mailx_session.specs.Drafting.{ended_draft}
 use Rattle.mailx_session.specs.Rounds.{typed_play, waiting_play}
 use Rattle.mailx_session.specs.Startup.{startup_play}
 use Rattle.mailx_session.specs.Leaving.{leaving}
@@ -41,12 +41,14 @@ use Rattle.mailx_top.specs.Words.{Start, is_silent}
 
 -- where a run is between two rounds: before what a stopped run has left is recovered, and then a folder opened, if one is
 -- named; before a line of a start-up file, or the next of the files that are left; before the folder is opened; before a
--- line; or at the end of the input, where the folder is left
+-- line; at the end of the input, where drafts end that are still open, and lines that wait are carried out; or behind
+-- these, where the folder is left
 pub data RunState : Type 0 where
   Recovering : Option Start → RunState
   Preparing : Start → SessionState → List (List ℕ) → RunState
   Opening : Option Start → SessionState → RunState
   Reading : SessionState → Input → RunState
+  Finishing : SessionState → Input → RunState
   Leaving : SessionState → Input → RunState
 
 -- the state after a line, whose input is left, or the end
@@ -54,14 +56,19 @@ abbrev pub with_input : Input → Next SessionState Status → Play (Next RunSta
 with_input j (Go s) = Ret (Go (Reading s j))
 with_input j (Last e) = Ret (Last e)
 
--- what a line of the input does; without one the folder is left, in a state at rest
+-- behind the last line of the input a draft that is open ends; where none is, the folder is left, in a state at rest
+abbrev pub behind_input : SessionState → Input → RunState
+behind_input s j = if is_drafting s then Finishing s j else Leaving (rested s) j
+
+-- what a line of the input does; without one the input is over
 abbrev pub turn : SessionState → Input → Option (List ℕ) → Play (Next RunState Status)
-turn s j None = Ret (Go (Leaving (rested s) j))
+turn s j None = Ret (Go (behind_input s j))
 turn s j (Some line) = bind (typed_play s line) (with_input j)
 
--- the prompt is said before a line is asked for: on a terminal, unless the line is one of a definition that is under way
+-- the prompt is said before a line is asked for: on a terminal, unless the line is one of a draft that is open, or of a
+-- definition that is under way
 abbrev pub at_prompt : SessionState → Bool
-at_prompt s = s.terminal && not (is_defining (rested s).desk)
+at_prompt s = (s.terminal && not (is_drafting s)) && not (is_defining (rested s).desk)
 
 -- what is said before a line is asked for: the value of `prompt`, where the prompt is said
 abbrev pub prompted : Bool → Desk → Play (Unit {0})
@@ -76,6 +83,17 @@ next_turn s i = bind (prompted (at_prompt s) s.desk) (λ u. Ask (Line i) (λ a. 
 abbrev pub line_round : SessionState → Input → Option (WaitingLine × List Pending) → Play (Next RunState Status)
 line_round s i None = next_turn s i
 line_round s i (Some (line, frames)) = bind (waiting_play (resumed s frames) line) (with_input i)
+
+-- the state at the end of the input after a draft ended or a line was carried out, or the end
+abbrev pub with_finishing : Input → Next SessionState Status → Play (Next RunState Status)
+with_finishing i (Go s) = Ret (Go (Finishing s i))
+with_finishing i (Last e) = Ret (Last e)
+
+-- at the end of the input a line that waits is taken first; where none does, a draft that is open ends; else the folder
+-- is left
+abbrev pub finishing_round : SessionState → Input → Option (WaitingLine × List Pending) → Play (Next RunState Status)
+finishing_round s i None = if is_drafting s then bind (ended_draft s) (with_finishing i) else Ret (Go (Leaving (rested s) i))
+finishing_round s i (Some (line, frames)) = bind (waiting_play (resumed s frames) line) (with_finishing i)
 
 -- the folder is left, and the run ends
 abbrev pub last_round : SessionState → Play (Next RunState Status)
@@ -226,9 +244,10 @@ recovering env (Some start) = Ask (Recover (actor_in env) env.token) (recovered 
 -- what a run in this environment does from a state on, to its next state or its end
 abbrev pub round : Environment → RunState → Play (Next RunState Status)
 round env (Recovering start) = recovering env start
-round env (Preparing start s names) = file_round start s names (taken s.frames)
+round env (Preparing start s names) = file_round start s names (next_waiting s)
 round env (Opening start s) = opening start s
-round env (Reading s i) = line_round s i (taken s.frames)
+round env (Reading s i) = line_round s i (next_waiting s)
+round env (Finishing s i) = finishing_round s i (next_waiting s)
 round env (Leaving s i) = last_round s
 
 -- a recovery is to be made
@@ -237,6 +256,7 @@ is_recovering (Recovering start) = true
 is_recovering (Preparing start s names) = false
 is_recovering (Opening start s) = false
 is_recovering (Reading s i) = false
+is_recovering (Finishing s i) = false
 is_recovering (Leaving s i) = false
 
 -- a folder is to be opened
@@ -245,6 +265,7 @@ is_opening (Recovering start) = false
 is_opening (Preparing start s names) = false
 is_opening (Opening start s) = true
 is_opening (Reading s i) = false
+is_opening (Finishing s i) = false
 is_opening (Leaving s i) = false
 
 -- the input that a state begins with
@@ -253,6 +274,7 @@ input_of (Recovering start) = no_input
 input_of (Preparing start s names) = no_input
 input_of (Opening start s) = no_input
 input_of (Reading s i) = i
+input_of (Finishing s i) = i
 input_of (Leaving s i) = i
 
 -- the start-up files after the recovery, or the end

@@ -1,16 +1,16 @@
 // A session by lines.
-ghost use Rattle.std.specs.Prelude.{◌≡◌, ◌<◌, Some, IfOk, IfNone, IfSome, IsSome, unwrap_or, [], codes};
+ghost use Rattle.std.specs.Prelude.{◌≡◌, ◌<◌, false, Ok, Some, None, IfOk, IfNone, IfSome, IsSome, unwrap_or, [], codes};
 ghost use Rattle.mailx_vars.specs.Settings.{value_of};
 ghost use Rattle.host_port.specs.Ran.{Ran};
 ghost use Rattle.host_port.specs.Calls.{NeverFall};
 ghost use Rattle.session_play.specs.Input.{Input, left, no_input};
 ghost use Rattle.session_play.specs.Play.{Play, Goes, Loop, Caused};
-ghost use Rattle.mailx_session.specs.Rounds.{LineGoes};
+ghost use Rattle.mailx_session.specs.Rounds.{FinishGo, LineGoes};
 ghost use Rattle.mailx_session.specs.Sessions.{stop_of};
-ghost use Rattle.mailx_session.specs.States.{rested};
+ghost use Rattle.mailx_session.specs.States.{is_drafting, next_waiting, rested};
 ghost use Rattle.mailx_session.specs.Statuses.{IsEnd, IsLineEnd};
 ghost use Rattle.mailx_top.specs.declared.environment.Environment.{Environment};
-ghost use Rattle.mailx_top.specs.Meaning.{round, Reading, last_round, next_state, at_prompt, prompted, after_line, LeadsTo, LeadsAfterPrompt};
+ghost use Rattle.mailx_top.specs.Meaning.{round, Reading, behind_input, last_round, next_state, at_prompt, prompted, after_line, LeadsTo, LeadsAfterPrompt};
 
 use host_port::Host;
 use mailx_session::{Flow, RunError, Session, Status};
@@ -28,20 +28,20 @@ fn prompt(session: &Session) -> &[u8]
     }
 }
 
-// Whether the prompt is said: on a terminal, unless a definition is under way.
-#[tactic(auto, using(crate::proofs::WaitingLemmas::prompt_at_rest))]
+// Whether the prompt is said: on a terminal, unless a draft is open or a definition is under way.
+#[tactic(auto, using(crate::proofs::WaitingLemmas::prompt_at_rest, crate::proofs::WaitingLemmas::none_waits))]
 fn is_prompted(session: &Session) -> bool
     ensures prompted { result ≡ at_prompt session.now }
-    ensures idle { session.now.frames ≡ [] }
+    ensures idle { next_waiting session.now ≡ None }
 {
-    session.state().terminal && !is_defining(session.desk())
+    session.state().terminal && !session.drafting() && !is_defining(session.desk())
 }
 
 // Says the prompt, where it is said.
 fn say_prompt<H: Host>(host: &mut H, session: &Session) -> Result<(), Stop>
     ensures ran { Ran H.world host.old host.new
         (λ es. Goes (prompted (at_prompt session.now) session.now.desk) es result) }
-    ensures idle { session.now.frames ≡ [] }
+    ensures idle { next_waiting session.now ≡ None }
     ensures cause { Caused (H.world.counts host.old) (H.world.counts host.new) result }
 {
     if is_prompted(session) {
@@ -76,7 +76,22 @@ fn step<H: Host>(host: &mut H, session: &mut Session, line: &[u8]) -> Result<Opt
     }
 }
 
-// Leaves the folder at the end of the input.
+// Ends a draft that is open at the end of the input, and carries out the lines that wait.
+fn finish<H: Host>(host: &mut H, session: &mut Session) -> Result<Option<Status>, Stop>
+    ensures ran { Ran H.world host.old host.new
+        (λ es. FinishGo session.old es (after_line session.new result)) }
+    ensures over { result ≡ Ok None → is_drafting session.new ≡ false }
+    ensures cause { Caused (H.world.counts host.old) (H.world.counts host.new) result }
+    ensures line_end { IfOk result (λ end. IfSome end IsLineEnd) }
+{
+    match session.finish(host) {
+        Ok(Flow::Go) => Ok(None),
+        Ok(Flow::End(status)) => Ok(Some(status)),
+        Err(error) => Err(stop_of(&error)),
+    }
+}
+
+// Leaves the folder, where no draft is open.
 fn leave<H: Host>(host: &mut H, session: &mut Session) -> Result<Option<Status>, Stop>
     ensures ran { (j : Input) → Ran H.world host.old host.new
         (λ es. Goes (last_round session.old) es (next_state session.new j result)) }
@@ -91,6 +106,22 @@ fn leave<H: Host>(host: &mut H, session: &mut Session) -> Result<Option<Status>,
     }
 }
 
+// The end of the input: drafts end, and then the folder is left.
+fn end_of_input<H: Host>(host: &mut H, session: &mut Session) -> Result<Option<Status>, Stop>
+    ensures ran { (env : Environment) → (j : Input) → Ran H.world host.old host.new
+        (λ es. LeadsTo env (behind_input session.old j) es (next_state session.new j result)) }
+    ensures fall { NeverFall (H.world.counts host.old) (H.world.counts host.new) }
+    ensures cause { Caused (H.world.counts host.old) (H.world.counts host.new) result }
+    ensures ended { IfOk result IsSome }
+    ensures plain { IfOk result (λ end. IfSome end IsEnd) }
+{
+    match finish(host, session) {
+        Ok(None) => leave(host, session),
+        Ok(Some(status)) => Ok(Some(status)),
+        Err(cause) => Err(cause),
+    }
+}
+
 // Takes the next line, or the end of input, once the prompt was said.
 fn next_line<H: Host>(
     alloc: Global,
@@ -98,7 +129,7 @@ fn next_line<H: Host>(
     reader: &mut Reader,
     session: &mut Session,
 ) -> Result<Option<Status>, Stop>
-    requires { session.old.frames ≡ [] }
+    requires { next_waiting session.old ≡ None }
     ensures ran { (env : Environment) → Ran H.world host.old host.new
         (λ es. LeadsAfterPrompt env session.old reader.old es (next_state session.new reader.new result)) }
     ensures fall { NeverFall (H.world.counts host.old) (H.world.counts host.new) }
@@ -108,7 +139,7 @@ fn next_line<H: Host>(
 {
     match reader.line(alloc, host) {
         Ok(Some(line)) => step(host, session, line.bytes()),
-        Ok(None) => leave(host, session),
+        Ok(None) => end_of_input(host, session),
         Err(cause) => Err(cause),
     }
 }

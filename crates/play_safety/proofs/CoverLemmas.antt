@@ -41,6 +41,8 @@ module _ (actor : List ℕ) (token : ℕ) where
       record { same_files = more.same_files; same_locks = more.same_locks; sound = more.sound }
   looking (event.In bytes failed ∷ es) d queue files owners s looks lawful = looking es d queue files owners s looks.1 lawful
   looking (event.Out bytes failed ∷ es) d queue files owners s looks lawful = looking es d queue files owners s looks.1 lawful
+  looking (event.Child program args input answer failed ∷ es) d queue files owners s looks lawful = looking es d queue files owners s looks.1 lawful
+  looking (event.Now seconds ∷ es) d queue files owners s looks lawful = looking es d queue files owners s looks.1 lawful
   looking (event.Load name seen ∷ es) d queue files owners s looks lawful = looking es d queue files owners s looks.1 lawful
   looking (e ∷ es) d queue files owners s looks lawful = absurd (let h = looks.0 in (cc h))
 
@@ -66,6 +68,8 @@ module _ (actor : List ℕ) (token : ℕ) where
         go false = stopped-looking a [] (event.Foreign f ∷ b) x refl looks lawful
     stops-looking a (event.In bytes failed) b part looks lawful = stopped-looking a (event.In bytes failed ∷ []) b (disk d a) refl looks lawful
     stops-looking a (event.Out bytes failed) b part looks lawful = stopped-looking a (event.Out bytes failed ∷ []) b (disk d a) refl looks lawful
+    stops-looking a (event.Child program args input answer failed) b part looks lawful = stopped-looking a (event.Child program args input answer failed ∷ []) b (disk d a) refl looks lawful
+    stops-looking a (event.Now seconds) b part looks lawful = stopped-looking a (event.Now seconds ∷ []) b (disk d a) refl looks lawful
     stops-looking a (event.Load name seen) b part looks lawful = stopped-looking a (event.Load name seen ∷ []) b (disk d a) refl looks lawful
     stops-looking a e b part looks lawful = absurd (let h = looks-back a (e ∷ b) looks in let k = h.0 in (cc k))
 

@@ -41,7 +41,7 @@ use Rattle.session_play.specs.declared.stop.Stop.{Stop}
 use Rattle.session_play.specs.declared.stop.Stop.TheVariants as stop
 use Rattle.session_play.specs.Acts.{AllEnds}
 use Rattle.session_play.specs.Committing.{Commit, answer_as}
-use Rattle.session_play.specs.Play.{Act, Answer, Changes, Play, Ret, Ask, Did, Partly, Next, Go, Last, Line, Say, Read, Try, Recover, Know}
+use Rattle.session_play.specs.Play.{Act, Answer, Changes, Play, Ret, Ask, Did, Partly, Next, Go, Last, Line, Say, Read, Try, Recover, Child, Now, Know}
 use Rattle.play_safety.specs.Passes.{decided_in, accepted_by, pending_by, Commits, Passes, PassesAll, again, last, cut}
 use Rattle.play_safety.specs.Safe.{IsBy, OfCommit, EachCommit, NextKeeps, MayRun, queue_of, queue}
 use Rattle.play_safety.specs.Appended.{Decides, IsOnlyOne}
@@ -187,6 +187,8 @@ module _ (actor : List ℕ) (token : ℕ) (fits : token < 2 ^ 64) where
   act-fits (Say bytes) answer d files owners es by s honest lawful did = undecided-fit (Say bytes) d es ((act-answered actor token fits (Say bytes) answer d files owners es [] by s honest lawful did).count)
   act-fits (Read name) answer d files owners es by s honest lawful did = undecided-fit (Read name) d es ((act-answered actor token fits (Read name) answer d files owners es [] by s honest lawful did).count)
   act-fits (Try name) answer d files owners es by s honest lawful did = undecided-fit (Try name) d es ((act-answered actor token fits (Try name) answer d files owners es [] by s honest lawful did).count)
+  act-fits (Child program args input) answer d files owners es by s honest lawful did = undecided-fit (Child program args input) d es ((act-answered actor token fits (Child program args input) answer d files owners es [] by s honest lawful did).count)
+  act-fits Now answer d files owners es by s honest lawful did = undecided-fit Now d es ((act-answered actor token fits Now answer d files owners es [] by s honest lawful did).count)
   act-fits (Know texts) answer d files owners es by s honest lawful did = undecided-fit (Know texts) d es ((act-answered actor token fits (Know texts) answer d files owners es [] by s honest lawful did).count)
   act-fits (Recover o t) answer d files owners es by s honest lawful did = undecided-fit (Recover o t) d es ((act-answered actor token fits (Recover o t) answer d files owners es [] by s honest lawful did).count)
 
@@ -213,6 +215,8 @@ module _ (actor : List ℕ) (token : ℕ) (fits : token < 2 ^ 64) where
   cut-fits (Say bytes) cause d files owners es by s honest lawful how = undecided-fit (Say bytes) d es ((act-cut actor token fits (Say bytes) cause d files owners es [] by s honest lawful how).count)
   cut-fits (Read name) cause d files owners es by s honest lawful how = undecided-fit (Read name) d es ((act-cut actor token fits (Read name) cause d files owners es [] by s honest lawful how).count)
   cut-fits (Try name) cause d files owners es by s honest lawful how = undecided-fit (Try name) d es ((act-cut actor token fits (Try name) cause d files owners es [] by s honest lawful how).count)
+  cut-fits (Child program args input) cause d files owners es by s honest lawful how = undecided-fit (Child program args input) d es ((act-cut actor token fits (Child program args input) cause d files owners es [] by s honest lawful how).count)
+  cut-fits Now cause d files owners es by s honest lawful how = undecided-fit Now d es ((act-cut actor token fits Now cause d files owners es [] by s honest lawful how).count)
   cut-fits (Know texts) cause d files owners es by s honest lawful how = undecided-fit (Know texts) d es ((act-cut actor token fits (Know texts) cause d files owners es [] by s honest lawful how).count)
   cut-fits (Recover o t) cause d files owners es by s honest lawful how = undecided-fit (Recover o t) d es ((act-cut actor token fits (Recover o t) cause d files owners es [] by s honest lawful how).count)
 

@@ -31,7 +31,7 @@ use Rattle.session_play.specs.declared.changing.Committed.TheVariants as committ
 use Rattle.session_play.specs.declared.stop.Stop.{Stop}
 use Rattle.session_play.specs.Acts.{AllActs, AllEnds, is_neutral}
 use Rattle.session_play.specs.Committing.{Commit}
-use Rattle.session_play.specs.Play.{Act, Changes, Play, Ret, Ask, Did, Partly, Goes, Next, Go, Last, Loop, Line, Say, Read, Try, Recover, Know}
+use Rattle.session_play.specs.Play.{Act, Changes, Play, Ret, Ask, Did, Partly, Goes, Next, Go, Last, Loop, Line, Say, Read, Try, Recover, Child, Now, Know}
 use Rattle.session_play.specs.Play as plays
 use Rattle.play_safety.specs.Passes.{decided_in, accepted_by, Commits, no_commits, behind, at_cut, Passes, PassesAll, again, last, cut}
 use Rattle.play_safety.specs.Safe.{IsBy, OfCommit, EachCommit, NextKeeps, MayRun, queue, IsCalm, IsCrashSafe, is_output, PlaysAreSafe, TracesAreRead}
@@ -194,6 +194,8 @@ neutral-commit P (Line i) h = tt
 neutral-commit P (Say bytes) h = tt
 neutral-commit P (Read name) h = tt
 neutral-commit P (Try name) h = tt
+neutral-commit P (Child program args input) h = tt
+neutral-commit P Now h = tt
 neutral-commit P (Know texts) h = tt
 neutral-commit P (Changes c) h = absurd (cc h)
 neutral-commit P (Recover actor token) h = absurd (cc h)

@@ -47,7 +47,7 @@ use Rattle.session_play.specs.declared.recovering.RecoveryAnswer.TheVariants as 
 use Rattle.session_play.specs.Recovering.{recovery_as, IsRecoveryOf}
 use Rattle.session_play.specs.Acts.{is_neutral, AllEnds}
 use Rattle.session_play.proofs.ShapeLemmas.{came-same}
-use Rattle.session_play.specs.Play.{Act, Answer, Line, Say, Read, Try, Changes, Recover, Know, Play, Ret, Ask, Did, Partly, Next, Go, Last}
+use Rattle.session_play.specs.Play.{Act, Answer, Line, Say, Read, Try, Changes, Recover, Child, Now, Know, Play, Ret, Ask, Did, Partly, Next, Go, Last}
 use Rattle.session_play.proofs.CommitLemmas.{answer-fine}
 use Rattle.session_play.proofs.LooksLemmas.{neutral-did, neutral-part}
 use Rattle.play_safety.specs.Passes.{decided_in, accepted_by, Commits, behind, at_cut, Passes, PassesAll, again, last, cut}
@@ -304,6 +304,8 @@ module _ (actor : List ℕ) (token : ℕ) where
     act-answered (Say bytes) a d files owners es more by s honest lawful did = looks-passed d more files owners es s (neutral-did (Say bytes) a (own es) refl did) lawful
     act-answered (Read name) a d files owners es more by s honest lawful did = looks-passed d more files owners es s (neutral-did (Read name) a (own es) refl did) lawful
     act-answered (Try name) a d files owners es more by s honest lawful did = looks-passed d more files owners es s (neutral-did (Try name) a (own es) refl did) lawful
+    act-answered (Child program args input) a d files owners es more by s honest lawful did = looks-passed d more files owners es s (neutral-did (Child program args input) a (own es) refl did) lawful
+    act-answered Now a d files owners es more by s honest lawful did = looks-passed d more files owners es s (neutral-did Now a (own es) refl did) lawful
     act-answered (Know texts) a d files owners es more by s honest lawful did = looks-passed d more files owners es s (neutral-did (Know texts) a (own es) refl did) lawful
     act-answered (Changes c) a d files owners es more by s honest lawful did =
         let P : Commit → Type 0 = λ c. Did (Changes c) a (own es) → Answered (Changes c) d files owners es more in
@@ -362,6 +364,8 @@ module _ (actor : List ℕ) (token : ℕ) where
     act-cut (Say bytes) cause d files owners es more by s honest lawful how = looks-cut (calm_at cause) d files owners es more s lawful (cut-looks (Say bytes) cause (own es) refl how)
     act-cut (Read name) cause d files owners es more by s honest lawful how = looks-cut (calm_at cause) d files owners es more s lawful (cut-looks (Read name) cause (own es) refl how)
     act-cut (Try name) cause d files owners es more by s honest lawful how = looks-cut (calm_at cause) d files owners es more s lawful (cut-looks (Try name) cause (own es) refl how)
+    act-cut (Child program args input) cause d files owners es more by s honest lawful how = looks-cut (calm_at cause) d files owners es more s lawful (cut-looks (Child program args input) cause (own es) refl how)
+    act-cut Now cause d files owners es more by s honest lawful how = looks-cut (calm_at cause) d files owners es more s lawful (cut-looks Now cause (own es) refl how)
     act-cut (Know texts) cause d files owners es more by s honest lawful how = looks-cut (calm_at cause) d files owners es more s lawful (cut-looks (Know texts) cause (own es) refl how)
     act-cut (Changes c) cause d files owners es more by s honest lawful how =
         let P : Commit → Type 0 = λ c. IsCutSo (Changes c) cause (own es) → CutOff (calm_at cause) (Changes c) d files owners es more in

@@ -30,6 +30,7 @@ use Rattle.folder_commands.specs.declared.wanted.Filing.{Filing}
 use Rattle.folder_commands.specs.Saving.{copy, copy_by_author, save, save_by_author, write}
 use Rattle.folder_commands.specs.Leaving.{quit}
 use Rattle.folder_commands.specs.Opening.{file}
+use Rattle.draft_commands.specs.Mailing.{mail}
 use Rattle.show_commands.specs.Telling.{from, size, number, echo, help}
 
 -- the whole name of the command that a word spells; a line without a word is one of `print`
@@ -96,6 +97,7 @@ meaning_of command.Save line desk = filed (save desk line.words)
 meaning_of command.SaveByAuthor line desk = filed (save_by_author desk line.words)
 meaning_of command.Write line desk = filed (write desk line.words)
 meaning_of command.File line desk = file (name_of line.word) desk line.words
+meaning_of command.Mail line desk = mail desk line.words
 meaning_of command.Quit line desk = alone line (Ok (quit desk))
 meaning_of command.Exit line desk = alone line exit
 meaning_of other line desk = Err (not_built (name_of line.word))
@@ -139,6 +141,7 @@ is_built command.Save = true
 is_built command.SaveByAuthor = true
 is_built command.Write = true
 is_built command.File = true
+is_built command.Mail = true
 is_built command.Quit = true
 is_built command.Exit = true
 is_built other = false

@@ -14,6 +14,7 @@ ghost use Rattle.macro_commands.specs.Calling.{defines};
 ghost use Rattle.show_commands.specs.Telling.{number, help};
 
 use command_desk::{Ask, Desk, Refusal, Steps, fault, quietly, unchanged};
+use draft_commands::mail;
 use folder_commands::{Filing, copy, copy_by_author, file, quit, save, save_by_author, write};
 use line_words::{Command, CommandLine, LineError, read_line, whole_name};
 use macro_commands::{call, define, defines, undef};
@@ -204,6 +205,7 @@ fn carry_out(alloc: Global, line: &CommandLine, desk: &Desk) -> Result<Steps, Re
         Command::SaveByAuthor => filed(alloc, desk, save_by_author(alloc, desk, words)),
         Command::Write => filed(alloc, desk, write(alloc, desk, words)),
         Command::File => file(alloc, name_of(line.word.bytes()), desk, words),
+        Command::Mail => mail(alloc, desk, words),
         Command::Quit => lone_quit(alloc, line, desk),
         Command::Exit => lone_exit(alloc, line, desk),
         Command::Scroll => lone_scroll(alloc, line, desk),
@@ -253,6 +255,7 @@ pub(crate) fn is_built(command: Command) -> bool
         | Command::SaveByAuthor
         | Command::Write
         | Command::File
+        | Command::Mail
         | Command::Quit
         | Command::Exit => true,
         _ => false,

@@ -5,6 +5,7 @@ use Rattle.host_port.specs.declared.event.Event.{Event}
 use Rattle.host_port.specs.declared.event.Event.TheVariants as event
 use Rattle.host_port.specs.declared.event.Seen.TheVariants as seen
 use Rattle.host_port.specs.declared.event.LoadAnswer.{LoadAnswer}
+use Rattle.host_port.specs.declared.event.ChildAnswer.{ChildAnswer}
 use Rattle.host_port.specs.declared.host.LoadError.TheVariants as error
 use Rattle.host_port.specs.Disk.{Disk}
 use Rattle.host_port.specs.Calls.{Loaded}
@@ -15,7 +16,7 @@ use Rattle.session_play.specs.declared.act.Found.TheVariants as found
 use Rattle.session_play.specs.declared.stop.Stop.TheVariants as stop
 use Rattle.std.specs.declared.option.Option.{Option}
 use Rattle.std.specs.declared.option.Option.TheVariants.{Some, None}
-use Rattle.session_play.specs.Play.{Ask, Ret, Say, Read, Try, Goes}
+use Rattle.session_play.specs.Play.{Ask, Ret, Say, Read, Try, Child, Goes}
 
 append_nil : (xs : List ℕ) → xs ≡ xs ++ []
 append_nil [] = refl
@@ -73,4 +74,22 @@ pub tried-memory : (name : List ℕ) (d : Disk) (e : Event) → e ≡ event.Load
     → Agrees d e × Goes {R = Option Found} (Ask (Try name) Ret) (own (e ∷ [])) (Err stop.Memory)
 tried-memory name d e is =
     let P : Event → Type 0 = λ e. Agrees d e × Goes {R = Option Found} (Ask (Try name) Ret) (own (e ∷ [])) (Err stop.Memory) in
+    subst P (sym is) (tt, inr (stop.Memory, refl, inr refl))
+
+pub child-ran : (program : List ℕ) (args : List (List ℕ)) (input : List ℕ) (a : ChildAnswer) (d : Disk) (e : Event) → e ≡ event.Child program args input (Some a) false
+    → Agrees d e × Goes {R = Option ChildAnswer} (Ask (Child program args input) Ret) (own (e ∷ [])) (Ok (Some a))
+child-ran program args input a d e is =
+    let P : Event → Type 0 = λ e. Agrees d e × Goes {R = Option ChildAnswer} (Ask (Child program args input) Ret) (own (e ∷ [])) (Ok (Some a)) in
+    subst P (sym is) (tt, inl (Some a, event.Child program args input (Some a) false ∷ [], [], refl, refl, (refl, inl refl)))
+
+pub child-failed : (program : List ℕ) (args : List (List ℕ)) (input : List ℕ) (d : Disk) (e : Event) → e ≡ event.Child program args input None true
+    → Agrees d e × Goes {R = Option ChildAnswer} (Ask (Child program args input) Ret) (own (e ∷ [])) (Ok None)
+child-failed program args input d e is =
+    let P : Event → Type 0 = λ e. Agrees d e × Goes {R = Option ChildAnswer} (Ask (Child program args input) Ret) (own (e ∷ [])) (Ok None) in
+    subst P (sym is) (tt, inl (None, event.Child program args input None true ∷ [], [], refl, refl, (refl, inl refl)))
+
+pub child-memory : (program : List ℕ) (args : List (List ℕ)) (input : List ℕ) (d : Disk) (e : Event) → e ≡ event.Child program args input None false
+    → Agrees d e × Goes {R = Option ChildAnswer} (Ask (Child program args input) Ret) (own (e ∷ [])) (Err stop.Memory)
+child-memory program args input d e is =
+    let P : Event → Type 0 = λ e. Agrees d e × Goes {R = Option ChildAnswer} (Ask (Child program args input) Ret) (own (e ∷ [])) (Err stop.Memory) in
     subst P (sym is) (tt, inr (stop.Memory, refl, inr refl))

@@ -11,7 +11,7 @@ use Rattle.session_play.specs.declared.act.Found.TheVariants as found
 use Rattle.session_play.specs.declared.stop.Stop.{Stop}
 use Rattle.session_play.specs.declared.stop.Stop.TheVariants as stop
 use Rattle.session_play.specs.Input.{Input, input_limit, first_line, last_line, next_of, next_line, took, Reads}
-use Rattle.session_play.specs.Play.{Act, Answer, Line, Say, Read, Try, Changes, Recover, Know, Play, Ret, Ask, Says, SaysInPart, seen_of, seen_at, Did, Partly, Goes, Next, Go, Last, Loop, again, last, cut}
+use Rattle.session_play.specs.Play.{Act, Answer, Line, Say, Read, Try, Changes, Recover, Child, Now, Know, Play, Ret, Ask, Says, SaysInPart, seen_of, seen_at, Did, Partly, Goes, Next, Go, Last, Loop, again, last, cut}
 use Rattle.session_play.specs.Acts.{AllActs, TakesFrom, input_after, Threads, may_load}
 use Rattle.session_play.specs.Causes.{some_in_failed, some_out_failed, some_load_saw, is_failed, bytes_in, counted, events_at, of_commit, commits_of, commits_in, IsExplained, NextFrom}
 use Rattle.std.specs.List.{list_any}
@@ -104,6 +104,9 @@ load-clean : (name : List ℕ) (f : Option Found) (es : List Event) (i : Input) 
 load-clean name f es i le is =
     subst (λ (es : List Event). IsClean es i i) (sym is) (record { in_ok = refl; out_ok = refl; bytes = omega arith; within = le })
 
+event-clean : (e : Event) (es : List Event) (i : Input) → i.taken ≤ input_limit → es ≡ e ∷ [] → IsClean (e ∷ []) i i → IsClean es i i
+event-clean e es i le is c = subst (λ (es : List Event). IsClean es i i) (sym is) c
+
 none-clean : (es : List Event) (i : Input) → i.taken ≤ input_limit → es ≡ [] → IsClean es i i
 none-clean es i le is = subst (λ (es : List Event). IsClean es i i) (sym is) (clean-none i le)
 
@@ -171,6 +174,12 @@ cut-by (Recover actor token) stop.Memory es i le same h = let s = recovery-strea
 cut-by (Recover actor token) stop.Input es i le same never = absurd never
 cut-by (Recover actor token) stop.Output es i le same never = absurd never
 cut-by (Recover actor token) stop.TooMuch es i le same never = absurd never
+cut-by (Child program args input) stop.Memory es i le same is = load-cut-by stop.Memory es i _ le is (record { in_is = refl; out_is = refl; amount = omega arith })
+cut-by (Child program args input) stop.Disk es i le same never = absurd never
+cut-by (Child program args input) stop.Input es i le same never = absurd never
+cut-by (Child program args input) stop.Output es i le same never = absurd never
+cut-by (Child program args input) stop.TooMuch es i le same never = absurd never
+cut-by Now cause es i le same never = absurd never
 cut-by (Know texts) cause es i le same never = absurd never
 
 some-same : {A : Type 0} {a b : A} → Some a ≡ Some b → a ≡ b
@@ -215,6 +224,8 @@ did-clean (Read name) f es i le same did = load-clean name (Some f) es i le did
 did-clean (Try name) f es i le same did = load-clean name f es i le did
 did-clean (Changes c) a es i le same did = streams-clean es i le (commit-streams c es (answer_as a) did)
 did-clean (Recover actor token) a es i le same did = streams-clean es i le (recovery-streams actor token es (recovery_as a) did)
+did-clean (Child program args input) a es i le same did = event-clean _ es i le did (record { in_ok = refl; out_ok = refl; bytes = omega arith; within = le })
+did-clean Now seconds es i le same did = event-clean _ es i le did (record { in_ok = refl; out_ok = refl; bytes = omega arith; within = le })
 did-clean (Know texts) rows es i le same did = none-clean es i le did.0
 
 -- a play that came to its end is clean
@@ -272,6 +283,8 @@ did-quiet false (Line i) a es may did = refl
 did-quiet false (Say bytes) u es may did = refl
 did-quiet false (Read name) f es may did = refl
 did-quiet false (Try name) f es may did = refl
+did-quiet false (Child program args input) rows es may did = refl
+did-quiet false Now rows es may did = refl
 did-quiet false (Know texts) rows es may did = refl
 did-quiet true (Line i) a es may did = (unseen-did is_failed (Line i) a es refl did, refl)
 did-quiet true (Say bytes) u es may did = (unseen-did is_failed (Say bytes) u es refl did, refl)
@@ -279,6 +292,8 @@ did-quiet true (Read name) f es may did = (subst (Unseen is_failed) (sym did) (l
 did-quiet true (Try name) f es may did = absurd (cc may)
 did-quiet true (Changes c) a es may did = absurd (cc may)
 did-quiet true (Recover actor token) a es may did = absurd (cc may)
+did-quiet true (Child program args input) rows es may did = (unseen-did is_failed (Child program args input) rows es refl did, refl)
+did-quiet true Now rows es may did = (unseen-did is_failed Now rows es refl did, refl)
 did-quiet true (Know texts) rows es may did = (unseen-did is_failed (Know texts) rows es refl did, refl)
 
 cut-loads : (b : Bool) (act : Act) (cause : Stop) (es : List Event) → may_load b act ≡ true → Partly act cause es → Loads b (is_disk cause) es (of_commit act es)
@@ -322,6 +337,13 @@ cut-loads false (Recover actor token) stop.Memory es may h = recovery-short acto
 cut-loads false (Recover actor token) stop.Input es may never = absurd never
 cut-loads false (Recover actor token) stop.Output es may never = absurd never
 cut-loads false (Recover actor token) stop.TooMuch es may never = absurd never
+cut-loads true (Child program args input) stop.Memory es may part = (unseen-cut is_failed (Child program args input) stop.Memory es refl part, refl)
+cut-loads false (Child program args input) stop.Memory es may part = refl
+cut-loads b (Child program args input) stop.Disk es may never = absurd never
+cut-loads b (Child program args input) stop.Input es may never = absurd never
+cut-loads b (Child program args input) stop.Output es may never = absurd never
+cut-loads b (Child program args input) stop.TooMuch es may never = absurd never
+cut-loads b Now cause es may never = absurd never
 cut-loads b (Know texts) cause es may never = absurd never
 
 loads-none : (b is_cut : Bool) (es commits : List Event) → is_cut ≡ false → es ≡ [] → commits ≡ [] → Loads b is_cut es commits
@@ -347,6 +369,8 @@ of-none (Line i) es is = refl
 of-none (Say bytes) es is = refl
 of-none (Read name) es is = refl
 of-none (Try name) es is = refl
+of-none (Child program args input) es is = refl
+of-none Now es is = refl
 of-none (Know texts) es is = refl
 
 goes-loads : {R : Type 0} (b : Bool) (p : Play R) (es : List Event) (out : Result R Stop) → AllActs (may_load b) p → (g : Goes p es out) → Loads b (is_disk_cut out) es (commits_of p es out g)

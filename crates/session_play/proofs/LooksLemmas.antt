@@ -14,7 +14,7 @@ use Rattle.session_play.specs.declared.stop.Stop.{Stop}
 use Rattle.session_play.specs.declared.stop.Stop.TheVariants as stop
 use Rattle.session_play.specs.Input.{Input, took, Reads}
 use Rattle.session_play.specs.Acts.{is_neutral, AllActs}
-use Rattle.session_play.specs.Play.{Act, Answer, Line, Say, Read, Try, Changes, Recover, Know, Play, Ret, Ask, Says, SaysInPart, Did, Partly, Goes, Next, Loop, again, last, cut}
+use Rattle.session_play.specs.Play.{Act, Answer, Line, Say, Read, Try, Changes, Recover, Child, Now, Know, Play, Ret, Ask, Says, SaysInPart, Did, Partly, Goes, Next, Loop, again, last, cut}
 
 looks-then : (es fs : List Event) → OnlyLooks es → OnlyLooks fs → OnlyLooks (es ++ fs)
 looks-then [] fs x y = y
@@ -59,6 +59,8 @@ neutral-did (Read name) f es neutral did = subst OnlyLooks (sym did) (refl, tt)
 neutral-did (Try name) f es neutral did = subst OnlyLooks (sym did) (refl, tt)
 neutral-did (Changes c) a es neutral did = absurd (cc neutral)
 neutral-did (Recover actor token) a es neutral did = absurd (cc neutral)
+neutral-did (Child program args input) a es neutral did = subst OnlyLooks (sym did) (refl, tt)
+neutral-did Now seconds es neutral did = subst OnlyLooks (sym did) (refl, tt)
 neutral-did (Know texts) rows es neutral did = looks-none es did.0
 
 -- where it is cut off, too
@@ -81,6 +83,12 @@ neutral-part (Try name) stop.Output es neutral never = absurd never
 neutral-part (Try name) stop.TooMuch es neutral never = absurd never
 neutral-part (Changes c) cause es neutral part = absurd (cc neutral)
 neutral-part (Recover actor token) cause es neutral part = absurd (cc neutral)
+neutral-part (Child program args input) stop.Memory es neutral is = subst OnlyLooks (sym is) (refl, tt)
+neutral-part (Child program args input) stop.Disk es neutral never = absurd never
+neutral-part (Child program args input) stop.Input es neutral never = absurd never
+neutral-part (Child program args input) stop.Output es neutral never = absurd never
+neutral-part (Child program args input) stop.TooMuch es neutral never = absurd never
+neutral-part Now cause es neutral never = absurd never
 neutral-part (Know texts) cause es neutral never = absurd never
 
 goes-looks : {R : Type 0} (p : Play R) (es : List Event) (out : Result R Stop) → AllActs is_neutral p → Goes p es out → OnlyLooks es

@@ -7,7 +7,7 @@ use Rattle.host_port.specs.declared.event.Seen.{Seen}
 use Rattle.session_play.specs.declared.stop.Stop.{Stop}
 use Rattle.session_play.specs.declared.stop.Stop.TheVariants as stop
 use Rattle.session_play.specs.Input.{Input, took, Reads}
-use Rattle.session_play.specs.Play.{Act, Answer, Line, Say, Read, Try, Changes, Recover, Know, Play, Ret, Ask, Says, SaysInPart, Did, Partly, Goes}
+use Rattle.session_play.specs.Play.{Act, Answer, Line, Say, Read, Try, Changes, Recover, Child, Now, Know, Play, Ret, Ask, Says, SaysInPart, Did, Partly, Goes}
 use Rattle.session_play.specs.Acts.{AllActs, loads_nothing}
 use Rattle.session_play.specs.Causes.{some_load_saw}
 
@@ -54,6 +54,8 @@ unseen-did test (Read name) f es l did = absurd (cc l)
 unseen-did test (Try name) f es l did = absurd (cc l)
 unseen-did test (Changes c) a es l did = absurd (cc l)
 unseen-did test (Recover actor token) a es l did = absurd (cc l)
+unseen-did test (Child program args input) a es l did = subst (Unseen test) (sym did) refl
+unseen-did test Now seconds es l did = subst (Unseen test) (sym did) refl
 unseen-did test (Know texts) rows es l did = unseen-none test es did.0
 
 unseen-line : (test : Seen → Bool) (cause : Stop) (i : Input) (es : List Event) → Partly (Line i) cause es → Unseen test es
@@ -76,6 +78,12 @@ unseen-cut test (Read name) cause es l part = absurd (cc l)
 unseen-cut test (Try name) cause es l part = absurd (cc l)
 unseen-cut test (Changes c) cause es l part = absurd (cc l)
 unseen-cut test (Recover actor token) cause es l part = absurd (cc l)
+unseen-cut test (Child program args input) stop.Memory es l is = subst (Unseen test) (sym is) refl
+unseen-cut test (Child program args input) stop.Disk es l never = absurd never
+unseen-cut test (Child program args input) stop.Input es l never = absurd never
+unseen-cut test (Child program args input) stop.Output es l never = absurd never
+unseen-cut test (Child program args input) stop.TooMuch es l never = absurd never
+unseen-cut test Now cause es l never = absurd never
 unseen-cut test (Know texts) cause es l never = absurd never
 
 -- a play that loads nothing

@@ -6,7 +6,7 @@ use Rattle.host_port.specs.declared.event.Event.{Event}
 use Rattle.session_play.specs.declared.stop.Stop.{Stop}
 use Rattle.session_play.specs.Input.{Input}
 use Rattle.session_play.specs.Acts.{AllActs, AllEnds, Threads, is_neutral, loads_nothing, may_load, input_after}
-use Rattle.session_play.specs.Play.{Act, Line, Say, Read, Try, Changes, Recover, Know, Play, Ret, Ask, Goes, bind}
+use Rattle.session_play.specs.Play.{Act, Line, Say, Read, Try, Changes, Recover, Child, Now, Know, Play, Ret, Ask, Goes, bind}
 
 abbrev pub came : {R : Type 0} → R → Result R Stop
 came r = Ok r
@@ -46,7 +46,11 @@ may-all true (Line i) l = refl
 may-all false (Line i) l = refl
 may-all true (Say bytes) l = refl
 may-all false (Say bytes) l = refl
+may-all true (Child program args input) l = refl
+may-all true Now l = refl
 may-all true (Know texts) l = refl
+may-all false (Child program args input) l = refl
+may-all false Now l = refl
 may-all false (Know texts) l = refl
 may-all b (Read name) l = absurd (cc l)
 may-all b (Try name) l = absurd (cc l)
@@ -61,6 +65,8 @@ may-neutral (Read name) l = refl
 may-neutral (Try name) l = refl
 may-neutral (Changes c) l = absurd (cc l)
 may-neutral (Recover actor token) l = absurd (cc l)
+may-neutral (Child program args input) l = refl
+may-neutral Now l = refl
 may-neutral (Know texts) l = refl
 
 -- an act that loads nothing is neutral
@@ -71,4 +77,6 @@ silent-neutral (Read name) l = refl
 silent-neutral (Try name) l = refl
 silent-neutral (Changes c) l = absurd (cc l)
 silent-neutral (Recover actor token) l = absurd (cc l)
+silent-neutral (Child program args input) l = refl
+silent-neutral Now l = refl
 silent-neutral (Know texts) l = refl

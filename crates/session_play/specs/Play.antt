@@ -1,5 +1,5 @@
 -- What a run does, act by act, and which events carry out which act.
-use Rattle.std.specs.Prelude.{◌≡◌, ◌⊎◌, ◌+◌, ◌<◌, ◌≤◌, ℕ, true, false, List, [], ◌∷◌, ◌++◌, length}
+use Rattle.std.specs.Prelude.{◌≡◌, ◌⊎◌, ◌+◌, ◌<◌, ◌≤◌, ℕ, ℤ, is_none, true, false, List, [], ◌∷◌, ◌++◌, length}
 use Rattle.std.specs.declared.option.Option.{Option}
 use Rattle.std.specs.declared.option.Option.TheVariants.{Some, None}
 use Rattle.std.specs.declared.result.Result.{Result}
@@ -8,6 +8,7 @@ use Rattle.host_port.specs.declared.event.Event.{Event}
 use Rattle.host_port.specs.declared.event.Event.TheVariants as event
 use Rattle.host_port.specs.declared.event.Seen.{Seen}
 use Rattle.host_port.specs.declared.event.Seen.TheVariants as seen
+use Rattle.host_port.specs.declared.event.ChildAnswer.{ChildAnswer}
 use Rattle.host_port.specs.Calls.{Counts, Rose}
 use Rattle.message_state.specs.declared.row.Row.{Row}
 use Rattle.folder_commit.specs.declared.error.CommitError.TheVariants as error
@@ -25,7 +26,8 @@ use Rattle.session_play.specs.Input.{Input, input_limit, buffer_size, next_line,
 
 -- What a run asks: the next line of its input; to say bytes; to load a file, where a failure cuts the run off; to try to load one, where a
 -- failure is an answer; to commit changes of files, where a fault of the disk cuts the run off; to recover what a stopped commit of an actor has
--- left, where such a fault does so too; and the rows of some texts, which it finds without the outside.
+-- left, where such a fault does so too; to run a program with arguments and an input, where a failure is an answer; the time; and the rows of
+-- some texts, which it finds without the outside.
 pub data Act : Type 0 where
   Line : Input → Act
   Say : List ℕ → Act
@@ -33,10 +35,13 @@ pub data Act : Type 0 where
   Try : List ℕ → Act
   Changes : Commit → Act
   Recover : List ℕ → ℕ → Act
+  Child : List ℕ → List (List ℕ) → List ℕ → Act
+  Now : Act
   Know : List (List ℕ) → Act
 
 -- what it is answered: the line, or none at the end, with the input that is left; nothing; what the load found; the same, or none where the
--- load failed; what the commit answers; what the recovery answers; the rows
+-- load failed; what the commit answers; what the recovery answers; what the program answers, or none where it could not be run; the seconds
+-- since 1970; the rows
 abbrev pub Answer : Act → Type 0
 Answer (Line i) = Option (List ℕ) × Input
 Answer (Say bytes) = Unit {0}
@@ -44,6 +49,8 @@ Answer (Read name) = Found
 Answer (Try name) = Option Found
 Answer (Changes c) = Committed
 Answer (Recover actor token) = RecoveryAnswer
+Answer (Child program args input) = Option ChildAnswer
+Answer Now = ℤ
 Answer (Know texts) = List Row
 
 -- acts, each followed by what its answer calls for, to a result
@@ -87,6 +94,8 @@ Did (Read name) f es = es ≡ event.Load name (seen_of f) ∷ []
 Did (Try name) f es = es ≡ event.Load name (seen_at f) ∷ []
 Did (Changes c) a es = IsCommitOf c es (answer_as a)
 Did (Recover actor token) a es = IsRecoveryOf actor token es (recovery_as a)
+Did (Child program args input) a es = es ≡ event.Child program args input a (is_none a) ∷ []
+Did Now seconds es = es ≡ event.Now seconds ∷ []
 Did (Know texts) rows es = (es ≡ []) × AreRows texts rows
 
 -- bytes that fit the buffer and pass the limit
@@ -112,6 +121,7 @@ Partly (Changes c) stop.Disk es = FailsIn c es
 Partly (Changes c) stop.Memory es = IsCommitOf c es (Err error.Memory)
 Partly (Recover actor token) stop.Disk es = IsRecoveryOf actor token es (Err recover.Disk)
 Partly (Recover actor token) stop.Memory es = IsRecoveryOf actor token es (Err recover.Memory)
+Partly (Child program args input) stop.Memory es = es ≡ event.Child program args input None false ∷ []
 Partly act cause es = ⊥
 
 -- The events are those of the play, to its end or to where it was cut off. Want of memory may come at any place.

@@ -1,12 +1,13 @@
 // The acts of a play, each by the host's calls.
-ghost use Rattle.std.specs.Prelude.{◌≡◌, IfErr};
+ghost use Rattle.std.specs.Prelude.{◌≡◌, ◌≤◌, length, IfErr, IfOk, IfNone, IfSome};
+ghost use Rattle.host_port.specs.Calls.{Rose, output_limit};
 ghost use Rattle.host_port.specs.Names.{IsFileName};
 ghost use Rattle.host_port.specs.Ran.{Ran};
 ghost use Rattle.session_play.specs.Cuts.{IsLoadCut};
-ghost use Rattle.session_play.specs.Play.{Play, Ask, Ret, Say, Read, Try, Goes, Caused};
+ghost use Rattle.session_play.specs.Play.{Play, Ask, Ret, Say, Read, Try, Child, Goes, Caused};
 
 use crate::Stop;
-use host_port::{Host, LoadAnswer, LoadError};
+use host_port::{ChildAnswer, ChildError, Host, LoadAnswer, LoadError};
 use mail_text::Text;
 use std::alloc::Global;
 
@@ -68,5 +69,28 @@ pub fn try_load<H: Host>(alloc: Global, host: &mut H, name: &[u8]) -> Result<Opt
         Err(LoadError::TooLarge { length }) => Ok(Some(Found::TooLarge { length })),
         Err(LoadError::Failed) => Ok(None),
         Err(LoadError::Memory) => Err(Stop::Memory),
+    }
+}
+
+/// Runs a program with these arguments and this input, and waits for its end; None where it could not be run.
+pub fn run_child<H: Host>(
+    alloc: Global,
+    host: &mut H,
+    program: &[u8],
+    args: &[Text],
+    input: &[u8],
+) -> Result<Option<ChildAnswer>, Stop>
+    ensures ran { Ran H.world host.old host.new
+        (λ es. Goes (Ask (Child program.now args.now input.now) Ret) es result) }
+    ensures cause { Caused (H.world.counts host.old) (H.world.counts host.new) result }
+    ensures only_memory { IfErr result (λ cause. cause ≡ Stop.Memory) }
+    ensures failed { IfOk result (λ answer. IfNone answer
+        (Rose (H.world.counts host.old).children (H.world.counts host.new).children)) }
+    ensures bound { IfOk result (λ answer. IfSome answer (λ a. length a.output ≤ output_limit)) }
+{
+    match host.child(alloc, program, args, input) {
+        Ok(answer) => Ok(Some(answer)),
+        Err(ChildError::Failed) => Ok(None),
+        Err(ChildError::Memory) => Err(Stop::Memory),
     }
 }

@@ -164,6 +164,8 @@ module _ (actor : List ℕ) (token : ℕ) where
       record { due = record { same_files = more.due.same_files; same_locks = more.due.same_locks; sound = more.due.sound }; fresh = more.fresh; rest = more.rest }
   between (event.In bytes failed ∷ es) d queue files owners s looks lawful = let more = between es d queue files owners s looks.1 lawful in record { due = more.due; fresh = more.fresh; rest = more.rest }
   between (event.Out bytes failed ∷ es) d queue files owners s looks lawful = let more = between es d queue files owners s looks.1 lawful in record { due = more.due; fresh = more.fresh; rest = more.rest }
+  between (event.Child program args input answer failed ∷ es) d queue files owners s looks lawful = let more = between es d queue files owners s looks.1 lawful in record { due = more.due; fresh = more.fresh; rest = more.rest }
+  between (event.Now seconds ∷ es) d queue files owners s looks lawful = let more = between es d queue files owners s looks.1 lawful in record { due = more.due; fresh = more.fresh; rest = more.rest }
   between (event.Load name seen ∷ es) d queue files owners s looks lawful = let more = between es d queue files owners s looks.1 lawful in record { due = more.due; fresh = more.fresh; rest = more.rest }
   between (e ∷ es) d queue files owners s looks lawful = absurd (let h = looks.0 in (cc h))
 

@@ -119,6 +119,8 @@ module _ (actor : List ℕ) (token : ℕ) (d : Disk) (queue : List (List Edit)) 
       go false = stopped-due [] (event.Foreign f ∷ rest) x refl (again [] (event.Foreign f ∷ rest) b)
   stops-between (event.In bytes failed) rest part b = stopped-due (event.In bytes failed ∷ []) rest (disk d before) refl (again (event.In bytes failed ∷ []) rest b)
   stops-between (event.Out bytes failed) rest part b = stopped-due (event.Out bytes failed ∷ []) rest (disk d before) refl (again (event.Out bytes failed ∷ []) rest b)
+  stops-between (event.Child program args input answer failed) rest part b = stopped-due (event.Child program args input answer failed ∷ []) rest (disk d before) refl (again (event.Child program args input answer failed ∷ []) rest b)
+  stops-between (event.Now seconds) rest part b = stopped-due (event.Now seconds ∷ []) rest (disk d before) refl (again (event.Now seconds ∷ []) rest b)
   stops-between (event.Load name seen) rest part b = stopped-due (event.Load name seen ∷ []) rest (disk d before) refl (again (event.Load name seen ∷ []) rest b)
   stops-between e rest part b = absurd (let h = looks-back before (e ∷ rest) b.looks in let k = h.0 in (cc k))
 

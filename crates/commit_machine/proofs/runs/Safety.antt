@@ -71,6 +71,8 @@ goes_disk j (x ∷ es) s last goes e (inr m) = goes_disk j es (after_reply j goe
 pub events_have_rows : EventsHaveRows
 events_have_rows (event.In b f) = record { answer = refl; failed = refl; acts = refl; changes = refl; keeps = λ d o h. refl }
 events_have_rows (event.Out b f) = record { answer = refl; failed = refl; acts = refl; changes = refl; keeps = λ d o h. refl }
+events_have_rows (event.Child program args input answer failed) = record { answer = refl; failed = refl; acts = refl; changes = refl; keeps = λ d o h. refl }
+events_have_rows (event.Now seconds) = record { answer = refl; failed = refl; acts = refl; changes = refl; keeps = λ d o h. refl }
 events_have_rows (event.Load n (seen.Bytes c held)) = record { answer = refl; failed = refl; acts = refl; changes = refl; keeps = λ d o h. refl }
 events_have_rows (event.Load n (seen.TooLarge k)) = record { answer = refl; failed = refl; acts = refl; changes = refl; keeps = λ d o h. refl }
 events_have_rows (event.Load n seen.Failed) = record { answer = refl; failed = refl; acts = refl; changes = refl; keeps = λ d o h. refl }

@@ -3,7 +3,7 @@ use Rattle.host_port.proofs.RanLemmas.{Ran-then, Ran-map, Ran-none}
 use Rattle.session_play.specs.Steps.{in_order}
 use Rattle.session_play.proofs.LeadLemmas.{leads-none, asked-on, asked-over, asked-refused, asked-ended, asked-cut, asked-all}
 use Rattle.mailx_session.specs.Sessions.{asked}
-use Rattle.mailx_session.proofs.SourcingLemmas.{brings_none, brings-then, quiet-at}
+use Rattle.mailx_session.proofs.SourcingLemmas.{brings_none, brings-then, only-then, quiet-at}
 use Rattle.mailx_session.proofs.AskLemmas.{never-fall-none, never-fall-then, caused-later}
 use Rattle.mailx_session.proofs.asks.ask_all.Goals as goal
 
@@ -20,7 +20,7 @@ loop-ask-init g c = record {
 pub loop-ask-preserved : goal.loop-ask-preserved
 loop-ask-preserved g c = record {
   state = c.in-Ok-On.ensures.valid;
-  desk = rw c.in-Ok-On.field-0-is at c.in-Ok-On.ensures.desk ∙ c.loop-ask.invariant.desk;
+  desk = only-then c.args.state.now c.loop-ask.state c.do_ask.new.state c.loop-ask.invariant.desk (rw c.in-Ok-On.field-0-is at c.in-Ok-On.ensures.desk);
   fall = never-fall-then _ _ _ c.loop-ask.invariant.fall c.in-Ok-On.ensures.fall;
   brought = brings-then c.args.state.now c.loop-ask.state c.do_ask.new.state c.loop-ask.invariant.brought c.in-Ok-On.ensures.brings;
   quiet = λ none.
@@ -44,13 +44,13 @@ returns-in-Ok-Over-clause-quiet g c = λ none.
     c.in-Ok-Over.ensures.quiet (quiet-at c.args.asks.now c.loop-ask.ask-index c.ask-item.result c.ask-item.result none c.loop-ask-test.true (sym c.ask-item.is)) ∙ c.loop-ask.invariant.quiet none
 
 pub returns-in-Ok-Refused-clause-desk : goal.returns-in-Ok-Refused-clause-desk
-returns-in-Ok-Refused-clause-desk g c = rw c.in-Ok-Refused.field-0-is at c.in-Ok-Refused.ensures.desk ∙ c.loop-ask.invariant.desk
+returns-in-Ok-Refused-clause-desk g c = only-then c.args.state.now c.loop-ask.state c.do_ask.new.state c.loop-ask.invariant.desk (rw c.in-Ok-Refused.field-0-is at c.in-Ok-Refused.ensures.desk)
 
 pub returns-in-Ok-Ended-clause-desk : goal.returns-in-Ok-Ended-clause-desk
-returns-in-Ok-Ended-clause-desk g c = rw c.in-Ok-Ended.field-0-is at c.in-Ok-Ended.ensures.desk ∙ c.loop-ask.invariant.desk
+returns-in-Ok-Ended-clause-desk g c = only-then c.args.state.now c.loop-ask.state c.do_ask.new.state c.loop-ask.invariant.desk (rw c.in-Ok-Ended.field-0-is at c.in-Ok-Ended.ensures.desk)
 
 pub returns-in-Err-clause-desk : goal.returns-in-Err-clause-desk
-returns-in-Err-clause-desk g c = c.in-Err.ensures.desk ∙ c.loop-ask.invariant.desk
+returns-in-Err-clause-desk g c = only-then c.args.state.now c.loop-ask.state c.do_ask.new.state c.loop-ask.invariant.desk c.in-Err.ensures.desk
 
 pub returns-in-Ok-Refused-clause-ran : goal.returns-in-Ok-Refused-clause-ran
 returns-in-Ok-Refused-clause-ran g c =

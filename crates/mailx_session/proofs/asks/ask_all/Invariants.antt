@@ -4,7 +4,7 @@ use Rattle.host_port.specs.Calls.{NeverFall}
 use Rattle.host_port.specs.Ran.{Ran}
 use Rattle.session_play.proofs.LeadLemmas.{LeftAt}
 use Rattle.mailx_session.specs.Bringing.{brings, OnlyBrings}
-use Rattle.mailx_session.specs.States.{IsState}
+use Rattle.mailx_session.specs.States.{IsState, OnlyFrames}
 use Rattle.mailx_session.specs.Sessions.{asked}
 use Rattle.mailx_session.proofs.asks.ask_all.Given as goal
 
@@ -14,6 +14,6 @@ invariant-loop-ask g l = record {
   fall : NeverFall (g.H.Host.world.counts l.fn.host) (g.H.Host.world.counts l.host);
   ran : Ran g.H.Host.world l.fn.host l.host (LeftAt asked l.fn.state l.asks l.ask-index l.state);
   brought : OnlyBrings l.fn.state l.state;
-  desk : l.state.desk ≡ l.fn.state.desk;
+  desk : OnlyFrames l.fn.state l.state;
   quiet : list_any brings l.asks ≡ false → l.state ≡ l.fn.state;
 }

@@ -1,6 +1,6 @@
 use Rattle.std.proofs.Common.{refl, inl}
 use Rattle.host_port.proofs.RanLemmas.{Ran-none}
-use Rattle.mailx_session.proofs.AskLemmas.{asked-say, asked-commit, asked-source, asked-lines, asked-open, asked-exit}
+use Rattle.mailx_session.proofs.AskLemmas.{asked-say, asked-commit, asked-source, asked-lines, asked-open, asked-draft, asked-exit}
 use Rattle.mailx_session.proofs.SourcingLemmas.{kept-valid, keeps-desk, called-goes, called-caused}
 use Rattle.mailx_session.proofs.asks.do_ask.Goals as goal
 
@@ -35,6 +35,9 @@ returns-in-Lines-clause-cause g c = called-caused (g.H.Host.world.counts c.args.
 
 pub returns-in-Open-clause-ran : goal.returns-in-Open-clause-ran
 returns-in-Open-clause-ran g c = rw (asked-open c.args.state.now c.args.ask.now _ _ _ c.in-Open.is) (rw (c.bytes-in-Open.ensures, c.items-in-Open.ensures) at c.switch.ensures.ran)
+
+pub returns-in-Draft-clause-ran : goal.returns-in-Draft-clause-ran
+returns-in-Draft-clause-ran g c = rw (asked-draft c.args.state.now c.args.ask.now _ c.in-Draft.is) c.begin.ensures.ran
 
 pub returns-in-Exit-clause-ran : goal.returns-in-Exit-clause-ran
 returns-in-Exit-clause-ran g c = rw (asked-exit c.args.state.now c.args.ask.now c.in-Exit.is) (Ran-none (refl, inl refl))

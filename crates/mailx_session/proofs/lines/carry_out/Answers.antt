@@ -13,6 +13,7 @@ use Rattle.command_desk.specs.Desks.{IsDesk}
 use Rattle.command_desk.specs.Effects.{effect}
 use Rattle.mailx_session.specs.States.{settled}
 use Rattle.mailx_session.specs.Sessions.{asked, in_play, next_of}
+use Rattle.mailx_session.proofs.SourcingLemmas.{only-desk}
 use Rattle.mailx_session.proofs.lines.carry_out.Goals as goal
 
 -- memory may be wanted after a play
@@ -23,7 +24,7 @@ goes-short p k a es x =
 
 pub settle-requires-clause-after : goal.settle-requires-clause-after
 settle-requires-clause-after g c =
-    let same : c.do_asks.new.state.desk ≡ c.args.state.now.desk = rw c.in-Ok-On.field-0-is at c.in-Ok-On.ensures.desk in
+    let same : c.do_asks.new.state.desk ≡ c.args.state.now.desk = only-desk c.args.state.now c.do_asks.new.state (rw c.in-Ok-On.field-0-is at c.in-Ok-On.ensures.desk) in
     subst (λ (d : Desk). IsDesk (effect d c.args.steps.effects)) (sym same) c.requires.desk
 
 pub returns-in-Ok-clause-ran : goal.returns-in-Ok-clause-ran

@@ -1,54 +1,77 @@
-use Rattle.std.proofs.Common.{◌<◌, refl, sym, ◌∙◌, ap, subst}
-use Rattle.host_port.proofs.RanLemmas.{Ran-then, Ran-map}
+use Rattle.std.proofs.Common.{◌≡◌, ◌<◌, ◌≤◌, refl, sym, ◌∙◌, ap, subst, arith}
+use Rattle.std.specs.declared.option.Option.TheVariants.{Some}
+use Rattle.host_port.proofs.RanLemmas.{Ran-then, Ran-map, Ran-none}
 use Rattle.mailx_session.specs.declared.state.SessionState.{SessionState}
 use Rattle.mailx_session.specs.Sessions.{stop_of}
-use Rattle.mailx_session.proofs.AskLemmas.{never-fall-then}
+use Rattle.mailx_session.proofs.AskLemmas.{never-fall-none, never-fall-then}
 use Rattle.mailx_session.proofs.PendingLemmas.{fewer-left, less-then, nothing-taken}
-use Rattle.mailx_session.proofs.SourcingLemmas.{weight-taken}
-use Rattle.mailx_session.proofs.RoundLemmas.{waits-more, waits-ended, waits-cut, waits-over, waits-short, rested-resumed}
+use Rattle.mailx_session.proofs.SourcingLemmas.{le-refl, weight-taken}
+use Rattle.mailx_session.proofs.RoundLemmas.{waits-none, waits-more, waits-ended, waits-cut, waits-over, waits-short, next-taken, no-both, at-most, below-most}
 use Rattle.mailx_session.specs.States.{rested}
 use Rattle.mailx_session.specs.Bringing.{weight}
 use Rattle.mailx_session.proofs.lines.waiting_lines.Goals as goal
 
+pub lines-init : goal.lines-init
+lines-init g c = record {
+  state = c.requires;
+  fall = never-fall-none _;
+  ran = Ran-none (waits-none c.args.state.now);
+  nothing = λ over. refl;
+  light = le-refl (weight c.args.state.now);
+  lighter = λ out inside. absurd (no-both inside out);
+}
+
 pub returns-in-Ok-End-clause-ran : goal.returns-in-Ok-End-clause-ran
 returns-in-Ok-End-clause-ran g c =
-    let is = rw c.in-Ok-Some.field-0-is at c.in-Ok-Some.ensures.taken in
-    let same = c.in-Ok-Some.ensures.resumed in
-    Ran-then (waits-ended c.args.state.now c.lines.state c.next_waiting.new.state c.in-Ok-End.status c.in-Ok-Some.line is same) c.lines.invariant.ran (rw c.in-Ok-End.field-0-is at c.in-Ok-End.ensures.ran)
+    let is = rw c.in-Ok-Some.field-0-is at c.in-Ok-Some.ensures.next in
+    Ran-then (waits-ended c.args.state.now c.lines.state c.next_waiting.new.state c.in-Ok-End.status c.in-Ok-Some.line is.0 is.1) c.lines.invariant.ran (rw c.in-Ok-End.field-0-is at c.in-Ok-End.ensures.ran)
 
 pub returns-in-Err-waiting_line-clause-ran : goal.returns-in-Err-waiting_line-clause-ran
 returns-in-Err-waiting_line-clause-ran g c =
-    let is = rw c.in-Ok-Some.field-0-is at c.in-Ok-Some.ensures.taken in
-    let same = c.in-Ok-Some.ensures.resumed in
-    Ran-then (waits-cut c.args.state.now c.lines.state c.next_waiting.new.state (stop_of c.in-Err-waiting_line.error) c.in-Ok-Some.line is same) c.lines.invariant.ran c.in-Err-waiting_line.ensures.ran
+    let is = rw c.in-Ok-Some.field-0-is at c.in-Ok-Some.ensures.next in
+    Ran-then (waits-cut c.args.state.now c.lines.state c.next_waiting.new.state (stop_of c.in-Err-waiting_line.error) c.in-Ok-Some.line is.0 is.1) c.lines.invariant.ran c.in-Err-waiting_line.ensures.ran
 
 pub lines-smaller : goal.lines-smaller
 lines-smaller g c =
-    let is = rw c.in-Ok-Some.field-0-is at c.in-Ok-Some.ensures.taken in
-    let same = c.in-Ok-Some.ensures.resumed in
+    let is = rw c.in-Ok-Some.field-0-is at c.in-Ok-Some.ensures.next in
+    let took = next-taken c.lines.state c.in-Ok-Some.line c.next_waiting.new.state.frames is.0 in
     less-then _ _ _ c.in-Ok-Go.ensures.falls
-    (subst (λ (s : SessionState). weight s < weight c.lines.state) (sym same) (weight-taken c.lines.state c.next_waiting.new.state.frames (fewer-left _ _ _ is)))
+    (subst (λ (s : SessionState). weight s < weight c.lines.state) (sym is.1) (weight-taken c.lines.state c.next_waiting.new.state.frames (fewer-left _ _ _ took.1)))
 
 pub lines-preserved : goal.lines-preserved
 lines-preserved g c =
-    let is = rw c.in-Ok-Some.field-0-is at c.in-Ok-Some.ensures.taken in
-    let same = c.in-Ok-Some.ensures.resumed in
+    let is = rw c.in-Ok-Some.field-0-is at c.in-Ok-Some.ensures.next in
+    let took = next-taken c.lines.state c.in-Ok-Some.line c.next_waiting.new.state.frames is.0 in
+    let less : weight c.waiting_line.new.state < weight c.lines.state =
+    less-then _ _ _ c.in-Ok-Go.ensures.falls
+    (subst (λ (s : SessionState). weight s < weight c.lines.state) (sym is.1) (weight-taken c.lines.state c.next_waiting.new.state.frames (fewer-left _ _ _ took.1))) in
     record {
       state = c.in-Ok-Go.ensures.state;
       fall = never-fall-then _ _ _ c.lines.invariant.fall c.in-Ok-Go.ensures.ran.never_fall;
-      ran = Ran-then (waits-more c.args.state.now c.lines.state c.next_waiting.new.state c.waiting_line.new.state c.in-Ok-Some.line is same) c.lines.invariant.ran (rw c.in-Ok-Go.field-0-is at c.in-Ok-Go.ensures.ran);
-      nothing = λ none. absurd (nothing-taken _ _ _ (ap (λ (s : SessionState). s.frames) (c.lines.invariant.nothing none) ∙ none) is);
+      ran = Ran-then (waits-more c.args.state.now c.lines.state c.next_waiting.new.state c.waiting_line.new.state c.in-Ok-Some.line is.0 is.1) c.lines.invariant.ran (rw c.in-Ok-Go.field-0-is at c.in-Ok-Go.ensures.ran);
+      nothing = λ none. absurd (nothing-taken _ _ _ (ap (λ (s : SessionState). s.frames) (c.lines.invariant.nothing none) ∙ none) took.1);
+      light = at-most _ _ _ less c.lines.invariant.light;
+      lighter = λ out inside. below-most _ _ _ less c.lines.invariant.light;
     }
 
 pub returns-in-Ok-None-clause-ran : goal.returns-in-Ok-None-clause-ran
 returns-in-Ok-None-clause-ran g c =
-    let over = rw c.in-Ok-None.field-0-is at c.in-Ok-None.ensures.taken in
-    Ran-map (waits-over c.args.state.now c.lines.state c.next_waiting.new.state over.0 c.in-Ok-None.ensures.resumed over.1) c.lines.invariant.ran
+    let over = rw c.in-Ok-None.field-0-is at c.in-Ok-None.ensures.next in
+    Ran-map (waits-over c.args.state.now c.lines.state c.next_waiting.new.state over.0 over.1) c.lines.invariant.ran
 
 pub returns-in-Ok-None-clause-nothing : goal.returns-in-Ok-None-clause-nothing
 returns-in-Ok-None-clause-nothing g c = λ none.
-    let over = rw c.in-Ok-None.field-0-is at c.in-Ok-None.ensures.taken in
-    (rested-resumed c.lines.state c.next_waiting.new.state c.in-Ok-None.ensures.resumed over.1 ∙ ap rested (c.lines.invariant.nothing none), refl)
+    let over = rw c.in-Ok-None.field-0-is at c.in-Ok-None.ensures.next in
+    (over.1 ∙ ap rested (c.lines.invariant.nothing none), refl)
 
 pub returns-in-Err-clause-ran : goal.returns-in-Err-clause-ran
 returns-in-Err-clause-ran g c = Ran-map (waits-short c.args.state.now c.lines.state) c.lines.invariant.ran
+
+pub returns-in-Ok-End-clause-falls : goal.returns-in-Ok-End-clause-falls
+returns-in-Ok-End-clause-falls g c = λ out inside.
+    let is = rw c.in-Ok-Some.field-0-is at c.in-Ok-Some.ensures.next in
+    let took = next-taken c.lines.state c.in-Ok-Some.line c.next_waiting.new.state.frames is.0 in
+    let less : weight c.waiting_line.new.state < weight c.lines.state =
+    less-then _ _ _ c.in-Ok-End.ensures.falls
+    (subst (λ (s : SessionState). weight s < weight c.lines.state) (sym is.1) (weight-taken c.lines.state c.next_waiting.new.state.frames (fewer-left _ _ _ took.1))) in
+    below-most _ _ _ less c.lines.invariant.light

@@ -1,7 +1,7 @@
-use Rattle.std.specs.Prelude.{◌≡◌, []}
+use Rattle.std.specs.Prelude.{◌≡◌, ◌≤◌, ◌<◌, true, false, []}
 use Rattle.host_port.specs.Calls.{NeverFall}
 use Rattle.host_port.specs.Ran.{Ran}
-use Rattle.mailx_session.specs.States.{IsState}
+use Rattle.mailx_session.specs.States.{IsState, is_drafting}
 use Rattle.mailx_session.specs.Bringing.{weight}
 use Rattle.mailx_session.proofs.RoundLemmas.{WaitsSoFar}
 use Rattle.mailx_session.proofs.lines.waiting_lines.Given as goal
@@ -12,6 +12,8 @@ invariant-lines g l = record {
   fall : NeverFall (g.H.Host.world.counts l.fn.host) (g.H.Host.world.counts l.host);
   ran : Ran g.H.Host.world l.fn.host l.host (WaitsSoFar l.fn.state l.state);
   nothing : l.fn.state.frames ≡ [] → l.state ≡ l.fn.state;
+  light : weight l.state ≤ weight l.fn.state;
+  lighter : is_drafting l.fn.state ≡ false → is_drafting l.state ≡ true → weight l.state < weight l.fn.state;
 }
 
 abbrev pub decreases-lines : goal.decreases-lines

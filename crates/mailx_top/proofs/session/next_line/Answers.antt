@@ -11,11 +11,11 @@ returns-in-Ok-Some-clause-ran g c = λ env.
 
 pub returns-in-Ok-None-clause-ran : goal.returns-in-Ok-None-clause-ran
 returns-in-Ok-None-clause-ran g c = λ env.
-    Ran-then (end-leads env c.args.session.now c.args.reader.now c.line.new.self _ c.requires c.leave.ensures.idle)
-    (rw c.in-Ok-None.field-0-is at c.in-Ok-None.ensures.ran) (c.leave.ensures.ran c.line.new.self)
+    Ran-then (end-leads env c.args.session.now c.args.reader.now c.line.new.self _ c.requires)
+    (rw c.in-Ok-None.field-0-is at c.in-Ok-None.ensures.ran) (c.end_of_input.ensures.ran env c.line.new.self)
 
 pub returns-in-Ok-None-clause-progress : goal.returns-in-Ok-None-clause-progress
-returns-in-Ok-None-clause-progress g c = ended-whatever c.leave.result _ c.leave.ensures.ended
+returns-in-Ok-None-clause-progress g c = ended-whatever c.end_of_input.result _ c.end_of_input.ensures.ended
 
 pub returns-in-Ok-Some-clause-plain : goal.returns-in-Ok-Some-clause-plain
 returns-in-Ok-Some-clause-plain g c = line-ends c.step.result c.step.ensures.line_end
@@ -28,4 +28,4 @@ pub returns-in-Ok-Some-clause-fall : goal.returns-in-Ok-Some-clause-fall
 returns-in-Ok-Some-clause-fall g c = never-fall-then _ _ _ c.line.ensures.ran.never_fall c.step.ensures.ran.never_fall
 
 pub returns-in-Ok-None-clause-fall : goal.returns-in-Ok-None-clause-fall
-returns-in-Ok-None-clause-fall g c = never-fall-then _ _ _ c.line.ensures.ran.never_fall (c.leave.ensures.ran c.line.new.self).never_fall
+returns-in-Ok-None-clause-fall g c = never-fall-then _ _ _ c.line.ensures.ran.never_fall c.end_of_input.ensures.fall

@@ -1,0 +1,6 @@
+pub mod BlankLemmas
+pub mod ChosenLemmas
+pub mod FlatLemmas
+pub mod BodyLemmas
+pub mod WaitLemmas
+pub mod LetterLemmas

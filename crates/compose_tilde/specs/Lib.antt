@@ -1,0 +1,11 @@
+pub mod Escapes
+pub mod Reading
+pub mod Written
+pub mod Views
+pub mod Values
+pub mod Quoting
+pub mod Steps
+pub mod Meanings
+pub mod Lines
+pub mod Answering
+pub mod Laws

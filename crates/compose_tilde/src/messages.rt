@@ -1,0 +1,130 @@
+// The messages that a draft takes.
+ghost use Rattle.std.specs.Prelude.{◌≡◌, ◌≤◌, ◌<◌, ◌-◌, ◌++◌, All, IfOk, OnOk, IfErr, length, map};
+ghost use Rattle.std.specs.List.{flat_map};
+ghost use Rattle.mail_text.specs.Lines.{with_feed};
+ghost use Rattle.message_show.specs.ShownText.{shown_text};
+ghost use Rattle.message_state.specs.ShownRows.{IsShown};
+ghost use Rattle.compose_tilde.specs.Views.{view_of, IsView, IsMessage, IsChosen, chosen, message_text, texts};
+ghost use Rattle.compose_tilde.specs.Quoting.{forwarded, indent, indented, quoted, all_forwarded, all_quoted};
+
+use crate::need::ComposeError;
+use crate::view::ComposeView;
+use mail_text::{Items, Memory, Text, lines};
+use mailx_vars::Vars;
+use message_list::{ListError, Purpose, read_list, select};
+use message_show::{How, shown_text};
+use message_state::Shown;
+use std::alloc::Global;
+
+// The live messages that the words select.
+pub(crate) fn chosen(alloc: Global, shown: &Shown, words: &[Text]) -> Result<Items<u32>, ListError>
+    requires { IsShown shown.now }
+    ensures chosen { IsChosen result (chosen shown.now words.now) }
+    ensures messages { IfOk result (λ ns. All (IsMessage shown.now) ns) }
+{
+    let list = match read_list(alloc, words) {
+        Ok(list) => list,
+        Err(error) => return Err(error),
+    };
+    match select(alloc, &list, shown, Purpose::Live) {
+        Ok(numbers) => Ok(Items::of(numbers)),
+        Err(error) => Err(error),
+    }
+}
+
+// Puts a message as it is printed, without the line of its number.
+fn put_forwarded(
+    alloc: Global,
+    out: &mut Text,
+    view: &ComposeView<'_>,
+    how: How,
+    n: u32,
+) -> Result<(), Memory>
+    requires valid { IsView (view_of view.now) }
+    requires message { IsMessage view.now.shown.now n }
+    ensures { OnOk result (out.new ≡ out.old ++ forwarded (view_of view.now) how n) }
+{
+    match view.folder {
+        Some(folder) => {
+            let shown = shown_text(alloc, &folder.message(n as usize - 1), view.sets, how)?;
+            out.push(shown.bytes())?;
+            out.push(b"\n")
+        }
+        None => unreachable!(),
+    }
+}
+
+// What stands in front of the lines of a message that is quoted.
+fn indent(vars: &Vars) -> &[u8]
+    ensures { result.now ≡ indent vars.now }
+{
+    match vars.get(b"indentprefix") {
+        Some(value) => value,
+        None => b"",
+    }
+}
+
+// Puts a text with this in front of each line.
+fn put_indented(out: &mut Text, front: &[u8], text: &[u8]) -> Result<(), Memory>
+    ensures { OnOk result (out.new ≡ out.old ++ indented front.now text.now) }
+{
+    for line in lines(text) {
+        out.push(front)?;
+        out.push(line)?;
+        out.push(b"\n")?;
+    }
+    Ok(())
+}
+
+// Puts a message whose lines are quoted.
+fn put_quoted(
+    alloc: Global,
+    out: &mut Text,
+    view: &ComposeView<'_>,
+    how: How,
+    n: u32,
+) -> Result<(), Memory>
+    requires valid { IsView (view_of view.now) }
+    requires message { IsMessage view.now.shown.now n }
+    ensures { OnOk result (out.new ≡ out.old ++ quoted (view_of view.now) how n) }
+{
+    let mut shown = Text::new(alloc);
+    put_forwarded(alloc, &mut shown, view, how, n)?;
+    put_indented(out, indent(view.vars), shown.bytes())
+}
+
+// Messages as they are printed, one behind the other.
+pub(crate) fn all_forwarded(
+    alloc: Global,
+    view: &ComposeView<'_>,
+    how: How,
+    numbers: &[u32],
+) -> Result<Text, Memory>
+    requires valid { IsView (view_of view.now) }
+    requires messages { All (IsMessage view.now.shown.now) numbers.now }
+    ensures { IfOk result (λ t. t ≡ all_forwarded (view_of view.now) how numbers.now) }
+{
+    let mut out = Text::new(alloc);
+    for n in numbers {
+        put_forwarded(alloc, &mut out, view, how, *n)?;
+    }
+    Ok(out)
+}
+
+// The same of messages whose lines are quoted.
+pub(crate) fn all_quoted(
+    alloc: Global,
+    view: &ComposeView<'_>,
+    how: How,
+    numbers: &[u32],
+) -> Result<Text, Memory>
+    requires valid { IsView (view_of view.now) }
+    requires messages { All (IsMessage view.now.shown.now) numbers.now }
+    ensures { IfOk result (λ t. t ≡ all_quoted (view_of view.now) how numbers.now) }
+{
+    let mut out = Text::new(alloc);
+    for n in numbers {
+        put_quoted(alloc, &mut out, view, how, *n)?;
+    }
+    Ok(out)
+}

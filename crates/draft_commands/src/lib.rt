@@ -1,0 +1,6 @@
+//! The commands that begin a message.
+#![tactic(auto)]
+
+mod mailing;
+
+pub use mailing::mail;

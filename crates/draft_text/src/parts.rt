@@ -1,0 +1,56 @@
+// A draft whose parts but the body hold no line feed.
+ghost use Rattle.std.specs.Prelude.{◌≡◌, map, IfOk};
+ghost use Rattle.draft_text.specs.Texts.{flat_byte, flat, flattened};
+ghost use Rattle.draft_text.specs.DraftLaws.{HasFlatParts};
+
+use crate::Draft;
+use mail_text::{Items, Memory, Text};
+use std::alloc::Global;
+
+// A space for a line feed, and any other byte as it is.
+fn flat_byte(byte: u8) -> u8
+    ensures { result ≡ flat_byte byte }
+{
+    if byte == b'\n' { b' ' } else { byte }
+}
+
+/// The bytes with a space for each line feed. Only want of memory can fail.
+pub fn flat(alloc: Global, bytes: &[u8]) -> Result<Text, Memory>
+    ensures { IfOk result (λ t. t ≡ flat bytes.now) }
+{
+    let mut text = Vec::with_capacity(alloc, bytes.len())?;
+    for byte in bytes {
+        text.push_reserved(flat_byte(*byte));
+    }
+    Ok(Text::of(text))
+}
+
+// The same of each text of a list.
+fn all_flat(alloc: Global, texts: &[Text]) -> Result<Items<Text>, Memory>
+    ensures { IfOk result (λ items. items ≡ map flat texts.now) }
+{
+    let mut items = Items::new(alloc);
+    for text in texts {
+        items.push(flat(alloc, text.bytes())?)?;
+    }
+    Ok(items)
+}
+
+/// The draft with a space for each line feed of its parts but the body, which stays as it is: so none of those parts
+/// holds a line feed, and the texts of the draft read back, by `a_stored_draft_reads_back` and
+/// `a_sent_draft_reads_back`. Only want of memory can fail.
+pub fn flattened(alloc: Global, draft: &Draft) -> Result<Draft, Memory>
+    ensures draft { IfOk result (λ d. d ≡ flattened draft.now) }
+    ensures parts { IfOk result (λ d. HasFlatParts d) }
+{
+    Ok(Draft {
+        to: all_flat(alloc, draft.to.items())?,
+        cc: all_flat(alloc, draft.cc.items())?,
+        bcc: all_flat(alloc, draft.bcc.items())?,
+        subject: flat(alloc, draft.subject.bytes())?,
+        from: flat(alloc, draft.from.bytes())?,
+        reply: flat(alloc, draft.reply.bytes())?,
+        references: all_flat(alloc, draft.references.items())?,
+        body: Text::copy(alloc, draft.body.bytes())?,
+    })
+}

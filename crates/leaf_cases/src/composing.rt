@@ -1,0 +1,238 @@
+// Cases of drafts that are written line by line, each from an empty draft, with the variables and the messages that are
+// kept, of which the field `subject` is left out. The kind is `receive`, `send` or `terminal`. Then come the current
+// message and the steps, by their first byte: `=` and a line, `<` and the bytes of a file, `!` and what a command
+// answered, its status, a space and its output, `?` and the same of an output that was cut, `,` for what was carried
+// out, `-` for a refusal, `*` for whether the next line is the subject, and `@` for the draft.
+ghost use Rattle.std.specs.Prelude.{◌≡◌, true};
+ghost use Rattle.message_state.specs.ShownRows.{IsShown};
+ghost use Rattle.draft_text.specs.DraftLaws.{HasFlatParts};
+ghost use Rattle.compose_tilde.specs.Views.{view_of, IsView};
+
+use crate::case::{number, parts, words};
+use crate::view::shown_of;
+use case_blocks::Answer as Out;
+use compose_tilde::{Answer, Compose, ComposeError, ComposeView, Need};
+use draft_text::Draft;
+use host_port::ChildAnswer;
+use mail_text::{Items, Memory, Text};
+use mailx_vars::Vars;
+use mbox_scan::Folder;
+use memchr::memchr;
+use message_show::FieldSets;
+use message_state::Shown;
+use rc_conditionals::Mode;
+use std::alloc::Global;
+use std::str;
+
+pub fn put(vars: &Vars, messages: &[Text], case: &[Text], out: &mut Out) {
+    match shown_of(messages, &[], &[], number(case, 2), out) {
+        Ok(Some(shown)) => put_of(vars, &shown, messages, case, out),
+        Ok(None) => out.put_bad(),
+        Err(Memory) => out.lack(),
+    }
+}
+
+// The bytes of a folder with the texts of these messages.
+fn folder_bytes(messages: &[Text], out: &mut Out) -> Text {
+    let mut bytes = Text::new(out.alloc());
+    for message in messages {
+        let text = match memchr(b' ', message.bytes()) {
+            Some(at) => &message.bytes()[at + 1..],
+            None => b"",
+        };
+        out.note(bytes.push(text));
+        out.note(bytes.push(b"\n\n"));
+    }
+    bytes
+}
+
+fn put_of(vars: &Vars, shown: &Shown, messages: &[Text], case: &[Text], out: &mut Out)
+    requires { IsShown shown.now }
+{
+    let bytes = folder_bytes(messages, out);
+    match Folder::open(out.alloc(), bytes) {
+        Ok(folder) => put_with(vars, shown, &folder, case, out),
+        Err(_) => out.put_bad(),
+    }
+}
+
+fn put_with(vars: &Vars, shown: &Shown, folder: &Folder, case: &[Text], out: &mut Out)
+    requires { IsShown shown.now }
+{
+    let mut sets = FieldSets::new(out.alloc());
+    let names = parts("subject", ';', out);
+    out.note(sets.ignore(names.items()));
+    let count = folder.count();
+    let view = ComposeView {
+        vars,
+        shown,
+        folder: if count == 0 { None } else { Some(folder) },
+        sets: &sets,
+        mode: if words(case, 1) == "send" {
+            Mode::Send
+        } else {
+            Mode::Receive
+        },
+        terminal: words(case, 1) == "terminal",
+    };
+    if is_view(&view) {
+        put_steps(&view, case, out);
+    } else {
+        out.put_bad();
+    }
+}
+
+// Whether the view is valid, what is shown aside.
+fn is_view(view: &ComposeView<'_>) -> bool
+    requires { IsShown view.now.shown.now }
+    ensures { result ≡ true → IsView (view_of view.now) }
+{
+    match view.folder {
+        Some(folder) => folder.count() == view.shown.rows.items().len(),
+        None => view.shown.rows.items().is_empty(),
+    }
+}
+
+// An empty draft.
+fn no_draft(alloc: Global) -> Draft
+    ensures { HasFlatParts result }
+{
+    Draft {
+        to: Items::new(alloc),
+        cc: Items::new(alloc),
+        bcc: Items::new(alloc),
+        subject: Text::new(alloc),
+        from: Text::new(alloc),
+        reply: Text::new(alloc),
+        references: Items::new(alloc),
+        body: Text::new(alloc),
+    }
+}
+
+fn put_steps(view: &ComposeView<'_>, case: &[Text], out: &mut Out)
+    requires { IsView (view_of view.now) }
+{
+    let mut compose = Compose::new(out.alloc(), no_draft(out.alloc()));
+    for step in case.iter().skip(3) {
+        put_step(&mut compose, view, step.bytes(), out);
+        out.put(b";");
+    }
+}
+
+fn put_step(compose: &mut Compose, view: &ComposeView<'_>, step: &[u8], out: &mut Out)
+    requires { IsView (view_of view.now) }
+{
+    match step {
+        [b'=', line @ ..] => put_line(compose, view, line, out),
+        [b'<', bytes @ ..] => {
+            let bytes = out.copied(bytes);
+            put_answer(compose, view, Answer::Loaded(bytes), out);
+        }
+        [b'!', answer @ ..] => put_child(compose, view, answer, false, out),
+        [b'?', answer @ ..] => put_child(compose, view, answer, true, out),
+        [b',', ..] => put_answer(compose, view, Answer::Carried, out),
+        [b'-', ..] => compose.refuse(),
+        [b'*', ..] => out.put_flag(compose.asks_subject(view)),
+        [b'@', ..] => put_draft(compose.draft(), out),
+        _ => out.put_bad(),
+    }
+}
+
+fn put_line(compose: &mut Compose, view: &ComposeView<'_>, line: &[u8], out: &mut Out)
+    requires { IsView (view_of view.now) }
+{
+    if compose.waiting() {
+        return out.put(b"waits");
+    }
+    let need = compose.line(line, view);
+    put_need(need, out);
+}
+
+fn put_answer(compose: &mut Compose, view: &ComposeView<'_>, answer: Answer, out: &mut Out) {
+    if !compose.waits_for(&answer) {
+        return out.put(b"waits not");
+    }
+    let need = compose.answer(answer, view);
+    put_need(need, out);
+}
+
+// The status and the output that a command answers.
+fn put_child(
+    compose: &mut Compose,
+    view: &ComposeView<'_>,
+    answer: &[u8],
+    cut: bool,
+    out: &mut Out,
+) {
+    let (status, output) = match memchr(b' ', answer) {
+        Some(at) => (&answer[..at], &answer[at + 1..]),
+        None => (answer, b"".as_slice()),
+    };
+    let child = ChildAnswer {
+        status: str::from_utf8(status).unwrap_or("").parse().unwrap_or(0),
+        output: out.copied(output),
+        cut,
+    };
+    put_answer(compose, view, Answer::Ran(child), out);
+}
+
+fn put_need(need: Result<Need, ComposeError>, out: &mut Out) {
+    match need {
+        Ok(Need::More) => out.put(b"More"),
+        Ok(Need::Say(bytes)) => put_named(b"Say", &bytes, out),
+        Ok(Need::Load(name)) => put_named(b"Load", &name, out),
+        Ok(Need::Dead) => out.put(b"Dead"),
+        Ok(Need::Child { command, input }) => {
+            put_named(b"Child", &command, out);
+            out.put_in_angles(input.bytes());
+        }
+        Ok(Need::Command(line)) => put_named(b"Command", &line, out),
+        Ok(Need::Put { name, bytes }) => {
+            put_named(b"Put", &name, out);
+            out.put_in_angles(bytes.bytes());
+        }
+        Ok(Need::Done) => out.put(b"Done"),
+        Ok(Need::Quit) => out.put(b"Quit"),
+        Ok(Need::Drop) => out.put(b"Drop"),
+        Err(error) => put_error(&error, out),
+    }
+}
+
+fn put_named(name: &[u8], bytes: &Text, out: &mut Out) {
+    out.put(name);
+    out.put(b" ");
+    out.put_in_angles(bytes.bytes());
+}
+
+fn put_error(error: &ComposeError, out: &mut Out) {
+    match error {
+        ComposeError::Memory => out.lack(),
+        ComposeError::Unknown {
+            letter: Some(letter),
+        }
+        | ComposeError::BadArguments { letter } => {
+            out.put(&[*letter]);
+            out.put(b": ");
+        }
+        _ => {}
+    }
+    out.put_shown(error);
+}
+
+// A draft: its names with `,` behind each, its subject and its body.
+fn put_draft(draft: &Draft, out: &mut Out) {
+    put_names(b"To ", draft.to.items(), out);
+    put_names(b"Cc ", draft.cc.items(), out);
+    put_names(b"Bcc ", draft.bcc.items(), out);
+    out.put_in_angles(draft.subject.bytes());
+    out.put_in_angles(draft.body.bytes());
+}
+
+fn put_names(list: &[u8], names: &[Text], out: &mut Out) {
+    out.put(list);
+    for name in names {
+        out.put(name.bytes());
+        out.put(b",");
+    }
+    out.put(b" ");
+}

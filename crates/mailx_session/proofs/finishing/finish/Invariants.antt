@@ -1,0 +1,15 @@
+use Rattle.host_port.specs.Calls.{NeverFall}
+use Rattle.host_port.specs.Ran.{Ran}
+use Rattle.mailx_session.specs.States.{IsSession}
+use Rattle.mailx_session.proofs.FinishLemmas.{open_weight, EndsSoFar}
+use Rattle.mailx_session.proofs.finishing.finish.Given as goal
+
+abbrev pub invariant-drafts : goal.invariant-drafts
+invariant-drafts g l = record {
+  session : IsSession l.state;
+  fall : NeverFall (g.H.Host.world.counts l.fn.host) (g.H.Host.world.counts l.host);
+  ran : Ran g.H.Host.world l.fn.host l.host (EndsSoFar l.fn.state l.state);
+}
+
+abbrev pub decreases-drafts : goal.decreases-drafts
+decreases-drafts g l = open_weight l.state

@@ -1,0 +1,162 @@
+-- What a line of a draft does that is open.
+use Rattle.std.specs.Prelude.{◌≡◌, ℕ, Bool, true, false, List, [], ◌∷◌, ◌++◌, codes, if◌then◌else◌}
+use Rattle.std.specs.Option.{option_map}
+use Rattle.std.specs.declared.option.Option.{Option}
+use Rattle.std.specs.declared.option.Option.TheVariants.{Some, None}
+use Rattle.std.specs.declared.result.Result.{Result}
+use Rattle.std.specs.declared.result.Result.TheVariants.{Ok, Err}
+use Rattle.mail_text.specs.Lines.{with_feed}
+use Rattle.host_port.specs.declared.event.ChildAnswer.{ChildAnswer}
+use Rattle.folder_change.specs.declared.change.Change.TheVariants.{AddRaw}
+use Rattle.mailx_vars.specs.Names.{is_short_name}
+use Rattle.message_list.specs.declared.list.ListError.{ListError}
+use Rattle.message_list.specs.declared.list.ListError.TheVariants as list_error
+use Rattle.compose_tilde.specs.declared.machine.Machine.{Machine}
+use Rattle.compose_tilde.specs.declared.need.Need.{Need}
+use Rattle.compose_tilde.specs.declared.need.Need.TheVariants as need
+use Rattle.compose_tilde.specs.declared.need.Answer.{Answer}
+use Rattle.compose_tilde.specs.declared.need.Answer.TheVariants as answer
+use Rattle.compose_tilde.specs.declared.need.ComposeError.{ComposeError}
+use Rattle.compose_tilde.specs.declared.need.ComposeError.TheVariants as error
+use Rattle.compose_tilde.specs.Steps.{Step}
+use Rattle.compose_tilde.specs.Lines.{line_step}
+use Rattle.compose_tilde.specs.Answering.{idle, answer_step}
+use Rattle.session_play.specs.declared.act.Found.{Found}
+use Rattle.session_play.specs.declared.act.Found.TheVariants as found
+use Rattle.session_play.specs.Play.{Play, Ret, Ask, Say, Try, Child, Next, Go, Last}
+use Rattle.session_play.specs.Steps.{refused}
+use Rattle.command_desk.specs.declared.steps.Ask.TheVariants as asks
+use Rattle.command_desk.specs.declared.steps.Steps.{Steps}
+use Rattle.command_desk.specs.Answers.{OrFault}
+use Rattle.command_desk.specs.Effects.{unchanged}
+use Rattle.command_desk.specs.FileNames.{expanded}
+use Rattle.command_desk.specs.Faults.{bad_list, no_such, none_applicable, bad_name, no_such_file, too_large, cannot_be_read}
+use Rattle.folder_commands.specs.Saving.{reply}
+use Rattle.read_commands.specs.declared.origin.Origin.TheVariants as origin
+use Rattle.read_commands.specs.Origins.{commanded}
+use Rattle.mailx_session.specs.declared.state.SessionState.{SessionState}
+use Rattle.mailx_session.specs.declared.status.Status.{Status}
+use Rattle.mailx_session.specs.States.{with_draft, with_count}
+use Rattle.mailx_session.specs.Sessions.{carried_out}
+use Rattle.mailx_session.specs.Beginning.{view_in}
+
+-- the line that refuses the messages of an escape
+abbrev pub list_fault : ListError → List ℕ
+list_fault (list_error.Syntax word) = bad_list word
+list_fault (list_error.NoSuch word) = no_such word
+list_fault list_error.NoneMatch = none_applicable
+list_fault list_error.Memory = []
+
+-- an escape as its faults name it
+abbrev pub tilde : List ℕ → List ℕ
+tilde letters = codes "~" ++ letters
+
+-- the line that refuses an escape
+abbrev pub escape_fault : ComposeError → List ℕ
+escape_fault (error.Unknown None) = with_feed (tilde [] ++ codes ": unknown escape")
+escape_fault (error.Unknown (Some letter)) = with_feed (tilde (letter ∷ []) ++ codes ": unknown escape")
+escape_fault (error.BadArguments letter) = with_feed (tilde (letter ∷ []) ++ codes ": bad arguments")
+escape_fault error.NotSending = with_feed (codes "not while sending")
+escape_fault error.TooMuch = with_feed (codes "too much output")
+escape_fault (error.List e) = list_fault e
+escape_fault error.Memory = []
+
+-- the draft waits for no answer any more, and is as it was
+abbrev pub released : SessionState → SessionState
+released s = with_draft s (option_map idle s.draft)
+
+-- once the draft took an answer what it says is said
+abbrev pub told : SessionState → Need → Play (Next SessionState Status)
+told s (need.Say bytes) = Ask (Say bytes) (λ _. Ret (Go s))
+told s other = Ret (Go s)
+
+-- the draft takes an answer, or refuses it
+abbrev pub took_answer : SessionState → Step → Play (Next SessionState Status)
+took_answer s (Ok step) = told (with_draft s (Some step.0)) step.1
+took_answer s (Err e) = refused (released s) (escape_fault e)
+
+abbrev pub given : SessionState → Option Machine → Answer → Play (Next SessionState Status)
+given s None answer = Ret (Go s)
+given s (Some m) answer = took_answer s (answer_step m answer)
+
+-- an answer is given to the draft
+abbrev pub answered : SessionState → Answer → Play (Next SessionState Status)
+answered s answer = given s s.draft answer
+
+-- what follows the load of a file of this name for the draft; a lock on it is no matter
+abbrev pub after_fetch : SessionState → List ℕ → Option Found → Play (Next SessionState Status)
+after_fetch s name None = refused s (cannot_be_read name)
+after_fetch s name (Some (found.TooLarge n)) = refused s (too_large name)
+after_fetch s name (Some (found.Bytes None held)) = refused s (no_such_file name)
+after_fetch s name (Some (found.Bytes (Some text) held)) = answered s (answer.Loaded text)
+
+-- the file of this name is loaded for the draft, where it can be a file's
+abbrev pub fetched_named : SessionState → List ℕ → Play (Next SessionState Status)
+fetched_named s name = if is_short_name name then Ask (Try name) (after_fetch s name) else refused s (bad_name name)
+
+-- the same, where a word stands for a name
+abbrev pub fetched : SessionState → OrFault (List ℕ) → Play (Next SessionState Status)
+fetched s (Ok name) = fetched_named s name
+fetched s (Err line) = refused s line
+
+-- what follows a command that was run for the draft
+abbrev pub after_child : SessionState → Option ChildAnswer → Play (Next SessionState Status)
+after_child s None = refused s (with_feed (codes "command could not be run"))
+after_child s (Some a) = answered s (answer.Ran a)
+
+-- a command is run for the draft by the shell
+abbrev pub run_for : SessionState → List ℕ → List ℕ → Play (Next SessionState Status)
+run_for s command input = Ask (Child s.desk.places.shell (codes "-c" ∷ command ∷ []) input) (after_child s)
+
+-- bytes are put at the end of a file by a commit, and then the reply is said
+abbrev pub written : List ℕ → List ℕ → Steps
+written name bytes = record {
+  asks = asks.Commit (AddRaw name bytes ∷ []) ∷ asks.Say (reply name (codes "Written") 1) ∷ [];
+  effects = unchanged;
+}
+
+-- the same of the file that a word stands for
+abbrev pub put : SessionState → OrFault (List ℕ) → List ℕ → Play (Next SessionState Status)
+put s (Ok name) bytes = carried_out s (Ok (written name bytes))
+put s (Err line) bytes = refused s line
+
+-- a command of the session is carried out while the draft is open; it is the first that is counted
+abbrev pub commanded_within : SessionState → List ℕ → Play (Next SessionState Status)
+commanded_within s line = carried_out (with_count s 1) (commanded origin.Draft s.desk line)
+
+-- the draft is over
+abbrev pub without_draft : SessionState → SessionState
+without_draft s = with_draft s None
+
+-- the draft is done, and is to be sent, which isn't built
+abbrev pub ended_draft : SessionState → Play (Next SessionState Status)
+ended_draft s = refused (without_draft s) (with_feed (codes "sending: not built"))
+
+-- what the draft needs
+abbrev pub needed : SessionState → Need → Play (Next SessionState Status)
+needed s need.More = Ret (Go s)
+needed s (need.Say bytes) = Ask (Say bytes) (λ _. Ret (Go s))
+needed s (need.Load word) = fetched s (expanded s.desk word)
+needed s need.Dead = fetched s (Ok s.desk.places.dead)
+needed s (need.Child command input) = run_for s command input
+needed s (need.Command line) = commanded_within s line
+needed s (need.Put word bytes) = put s (expanded s.desk word) bytes
+needed s need.Done = ended_draft s
+needed s need.Quit = Ret (Go (without_draft s))
+needed s need.Drop = Ret (Go (without_draft s))
+
+-- the draft took a line, or refuses it
+abbrev pub took_line : SessionState → Step → Play (Next SessionState Status)
+took_line s (Ok step) = needed (with_draft s (Some step.0)) step.1
+took_line s (Err e) = refused s (escape_fault e)
+
+abbrev pub drafted : SessionState → Option Machine → List ℕ → Play (Next SessionState Status)
+drafted s None line = Ret (Go s)
+drafted s (Some m) line = took_line s (line_step m line (view_in s))
+
+abbrev pub drafted_on : SessionState → List ℕ → Play (Next SessionState Status)
+drafted_on s line = drafted s s.draft line
+
+-- a line of the draft that is open, which waits for no answer any more
+abbrev pub draft_play : SessionState → List ℕ → Play (Next SessionState Status)
+draft_play s line = drafted_on (released s) line

@@ -1,0 +1,493 @@
+// The lines of a draft that is open.
+ghost use Rattle.std.specs.Prelude.{◌≡◌, ◌++◌, ◌∷◌, [], List, ℕ, true, Ok, IfOk, codes};
+ghost use Rattle.mail_text.specs.Lines.{with_feed};
+ghost use Rattle.host_port.specs.Ran.{Ran};
+ghost use Rattle.session_play.specs.Play.{Play, Ask, Try, Next, Goes};
+ghost use Rattle.mailx_vars.specs.Names.{is_short_name};
+ghost use Rattle.command_desk.specs.Desks.{IsDesk};
+ghost use Rattle.command_desk.specs.FileNames.{expanded};
+ghost use Rattle.mailx_session.specs.declared.state.SessionState.{SessionState};
+ghost use Rattle.mailx_session.specs.declared.status.Status.{Status};
+ghost use Rattle.mailx_session.specs.Beginning.{view_as};
+ghost use Rattle.mailx_session.specs.Drafting.{answered, after_child, after_fetch, commanded_within, draft_play, ended_draft, fetched, fetched_named, needed, put, run_for, tilde, told, without_draft, written};
+ghost use Rattle.mailx_session.specs.Taking.{AwaitsAll, IsAwaited, IsEscapeFault, SaysFault, TookAnswer, TookLine};
+ghost use Rattle.mailx_session.specs.States.{IsState};
+ghost use Rattle.mailx_session.specs.Sessions.{carried_out, in_play, next_of, LineCaused, EndsByLine};
+
+use crate::asks::say;
+use crate::beginning::view_as;
+use crate::lines::{carry_line, carry_out, refuse};
+use crate::saving::line_of;
+use crate::startup::say_fault;
+use crate::{Flow, RunError, SessionState};
+use command_desk::{expanded, unchanged};
+use compose_tilde::{Answer, Compose, ComposeError, Need};
+use folder_change::Change;
+use folder_commands::reply;
+use host_port::{ChildAnswer, Host};
+use mail_text::{Items, Memory, Text};
+use mailx_vars::is_short_name;
+use message_list::ListError;
+use read_commands::{Ask as Wanted, Desk, Origin, Refusal, Steps};
+use session_play::{Found, run_child, try_load};
+use std::alloc::Global;
+
+// An escape as its faults name it, and what is wrong with it, as a line.
+fn tilde_line(alloc: Global, letters: &[u8], fault: &[u8]) -> Result<Text, Memory>
+    ensures { IfOk result (λ line. line ≡ with_feed (tilde letters.now ++ fault.now)) }
+{
+    let mut word = Text::copy(alloc, b"~")?;
+    word.push(letters)?;
+    line_of(alloc, word.bytes(), fault)
+}
+
+// The line that refuses the messages of an escape.
+fn list_line(alloc: Global, error: &ListError) -> Result<Text, Memory>
+    ensures { IfOk result (IsEscapeFault (ComposeError.List error.now)) }
+{
+    match error {
+        ListError::Syntax { word } => line_of(alloc, word.bytes(), b": bad message list"),
+        ListError::NoSuch { word } => line_of(alloc, word.bytes(), b": no such message"),
+        ListError::NoneMatch => line_of(alloc, b"", b"no applicable message"),
+        ListError::Memory => Err(Memory),
+    }
+}
+
+// The line that refuses an escape.
+fn escape_line(alloc: Global, error: &ComposeError) -> Result<Text, Memory>
+    ensures { IfOk result (IsEscapeFault error.now) }
+{
+    match error {
+        ComposeError::Unknown { letter: None } => tilde_line(alloc, b"", b": unknown escape"),
+        ComposeError::Unknown {
+            letter: Some(letter),
+        } => tilde_line(alloc, &[*letter], b": unknown escape"),
+        ComposeError::BadArguments { letter } => tilde_line(alloc, &[*letter], b": bad arguments"),
+        ComposeError::NotSending => line_of(alloc, b"", b"not while sending"),
+        ComposeError::TooMuch => line_of(alloc, b"", b"too much output"),
+        ComposeError::List(error) => list_line(alloc, error),
+        ComposeError::Memory => Err(Memory),
+    }
+}
+
+// Refuses an escape by its line.
+fn refuse_escape<H: Host>(
+    alloc: Global,
+    state: &SessionState,
+    host: &mut H,
+    error: &ComposeError,
+) -> Result<Flow, RunError>
+    ensures ran { (p : Play (Next SessionState Status)) → SaysFault error.now state.now p
+        → Ran H.world host.old host.new (λ es. Goes p es (in_play (next_of state.now) result)) }
+    ensures go { IfOk result (λ flow. flow ≡ Flow.Go) }
+    ensures cause { LineCaused (H.world.counts host.old) (H.world.counts host.new) result }
+{
+    match escape_line(alloc, error) {
+        Ok(line) => refuse(state, host, &line),
+        Err(Memory) => Err(RunError::Memory),
+    }
+}
+
+// Says what the draft says once it took an answer.
+fn tell<H: Host>(state: &SessionState, host: &mut H, need: &Need) -> Result<Flow, RunError>
+    ensures ran { Ran H.world host.old host.new
+        (λ es. Goes (told state.now need.now) es (in_play (next_of state.now) result)) }
+    ensures go { IfOk result (λ flow. flow ≡ Flow.Go) }
+    ensures cause { LineCaused (H.world.counts host.old) (H.world.counts host.new) result }
+{
+    match need {
+        Need::Say(bytes) => refuse(state, host, bytes),
+        Need::More
+        | Need::Load(_)
+        | Need::Dead
+        | Need::Child { .. }
+        | Need::Command(_)
+        | Need::Put { .. }
+        | Need::Done
+        | Need::Quit
+        | Need::Drop => Ok(Flow::Go),
+    }
+}
+
+// The draft, where one is open, takes an answer that it waits for.
+fn take_answer(
+    desk: &Desk,
+    terminal: bool,
+    draft: &mut Option<Compose>,
+    answer: Answer,
+) -> Result<Need, ComposeError>
+    requires desk { IsDesk desk.now }
+    requires awaited { IsAwaited draft.old answer }
+    ensures { TookAnswer result draft.old answer draft.new }
+{
+    match draft {
+        Some(compose) => compose.answer(answer, &view_as(desk, terminal)),
+        None => Ok(Need::More),
+    }
+}
+
+// Gives an answer to the draft.
+fn give<H: Host>(
+    alloc: Global,
+    state: &mut SessionState,
+    host: &mut H,
+    answer: Answer,
+) -> Result<Flow, RunError>
+    requires state { IsState state.old }
+    requires awaited { IsAwaited state.old.draft answer }
+    ensures ran { Ran H.world host.old host.new
+        (λ es. Goes (answered state.old answer) es (in_play (next_of state.new) result)) }
+    ensures go { IfOk result (λ flow. flow ≡ Flow.Go) }
+    ensures state { IsState state.new }
+    ensures cause { LineCaused (H.world.counts host.old) (H.world.counts host.new) result }
+{
+    match take_answer(&state.desk, state.terminal, &mut state.draft, answer) {
+        Ok(need) => tell(state, host, &need),
+        Err(error) => refuse_escape(alloc, state, host, &error),
+    }
+}
+
+// What follows the load of a file of this name for the draft.
+fn after_fetch<H: Host>(
+    alloc: Global,
+    state: &mut SessionState,
+    host: &mut H,
+    name: &[u8],
+    found: Option<Found>,
+) -> Result<Flow, RunError>
+    requires state { IsState state.old }
+    requires awaited { (bytes : List ℕ) → IsAwaited state.old.draft (Answer.Loaded bytes) }
+    ensures ran { Ran H.world host.old host.new
+        (λ es. Goes (after_fetch state.old name.now found) es (in_play (next_of state.new) result)) }
+    ensures go { IfOk result (λ flow. flow ≡ Flow.Go) }
+    ensures state { IsState state.new }
+    ensures cause { LineCaused (H.world.counts host.old) (H.world.counts host.new) result }
+{
+    match found {
+        Some(
+            Found::Bytes {
+                bytes: Some(text),
+                ..
+            },
+        ) => give(alloc, state, host, Answer::Loaded(text)),
+        Some(Found::Bytes { bytes: None, .. }) => {
+            say_fault(alloc, state, host, name, b": no such file")
+        }
+        Some(Found::TooLarge { .. }) => say_fault(alloc, state, host, name, b": too large"),
+        None => say_fault(alloc, state, host, name, b": cannot be read"),
+    }
+}
+
+// Loads a file for the draft, whose name can be one.
+fn fetch_named<H: Host>(
+    alloc: Global,
+    state: &mut SessionState,
+    host: &mut H,
+    name: &[u8],
+) -> Result<Flow, RunError>
+    requires state { IsState state.old }
+    requires name { is_short_name name.now ≡ true }
+    requires awaited { (bytes : List ℕ) → IsAwaited state.old.draft (Answer.Loaded bytes) }
+    ensures ran { Ran H.world host.old host.new
+        (λ es. Goes (Ask (Try name.now) (after_fetch state.old name.now)) es
+        (in_play (next_of state.new) result)) }
+    ensures go { IfOk result (λ flow. flow ≡ Flow.Go) }
+    ensures state { IsState state.new }
+    ensures cause { LineCaused (H.world.counts host.old) (H.world.counts host.new) result }
+{
+    match try_load(alloc, host, name) {
+        Ok(found) => after_fetch(alloc, state, host, name, found),
+        Err(_) => Err(RunError::Memory),
+    }
+}
+
+// Loads a file for the draft, or says what is wrong with its name.
+fn fetch<H: Host>(
+    alloc: Global,
+    state: &mut SessionState,
+    host: &mut H,
+    name: &[u8],
+) -> Result<Flow, RunError>
+    requires state { IsState state.old }
+    requires awaited { (bytes : List ℕ) → IsAwaited state.old.draft (Answer.Loaded bytes) }
+    ensures ran { Ran H.world host.old host.new
+        (λ es. Goes (fetched_named state.old name.now) es (in_play (next_of state.new) result)) }
+    ensures go { IfOk result (λ flow. flow ≡ Flow.Go) }
+    ensures state { IsState state.new }
+    ensures cause { LineCaused (H.world.counts host.old) (H.world.counts host.new) result }
+{
+    if is_short_name(name) {
+        fetch_named(alloc, state, host, name)
+    } else {
+        say_fault(alloc, state, host, name, b": bad name")
+    }
+}
+
+// The same of the file that a word stands for.
+fn fetch_word<H: Host>(
+    alloc: Global,
+    state: &mut SessionState,
+    host: &mut H,
+    word: &[u8],
+) -> Result<Flow, RunError>
+    requires state { IsState state.old }
+    requires awaited { (bytes : List ℕ) → IsAwaited state.old.draft (Answer.Loaded bytes) }
+    ensures ran { Ran H.world host.old host.new
+        (λ es. Goes (fetched state.old (expanded state.old.desk word.now)) es
+        (in_play (next_of state.new) result)) }
+    ensures go { IfOk result (λ flow. flow ≡ Flow.Go) }
+    ensures state { IsState state.new }
+    ensures cause { LineCaused (H.world.counts host.old) (H.world.counts host.new) result }
+{
+    match expanded(alloc, &state.desk, word) {
+        Ok(name) => fetch(alloc, state, host, name.bytes()),
+        Err(Refusal::Fault { line }) => refuse(state, host, &line),
+        Err(Refusal::Memory) => Err(RunError::Memory),
+    }
+}
+
+// The same of the dead letter.
+fn fetch_dead<H: Host>(
+    alloc: Global,
+    state: &mut SessionState,
+    host: &mut H,
+) -> Result<Flow, RunError>
+    requires state { IsState state.old }
+    requires awaited { (bytes : List ℕ) → IsAwaited state.old.draft (Answer.Loaded bytes) }
+    ensures ran { Ran H.world host.old host.new
+        (λ es. Goes (fetched_named state.old state.old.desk.places.dead) es
+        (in_play (next_of state.new) result)) }
+    ensures go { IfOk result (λ flow. flow ≡ Flow.Go) }
+    ensures state { IsState state.new }
+    ensures cause { LineCaused (H.world.counts host.old) (H.world.counts host.new) result }
+{
+    match Text::copy(alloc, state.desk.places.dead.bytes()) {
+        Ok(name) => fetch(alloc, state, host, name.bytes()),
+        Err(Memory) => Err(RunError::Memory),
+    }
+}
+
+// The arguments with which the shell runs a command.
+fn shell_args(alloc: Global, command: Text) -> Result<Items<Text>, Memory>
+    ensures { IfOk result (λ args. args ≡ codes "-c" ∷ command ∷ []) }
+{
+    let mut args = Items::new(alloc);
+    args.push(Text::copy(alloc, b"-c")?)?;
+    args.push(command)?;
+    Ok(args)
+}
+
+// What follows a command that was run for the draft.
+fn after_child<H: Host>(
+    alloc: Global,
+    state: &mut SessionState,
+    host: &mut H,
+    answer: Option<ChildAnswer>,
+) -> Result<Flow, RunError>
+    requires state { IsState state.old }
+    requires awaited { (a : ChildAnswer) → IsAwaited state.old.draft (Answer.Ran a) }
+    ensures ran { Ran H.world host.old host.new
+        (λ es. Goes (after_child state.old answer) es (in_play (next_of state.new) result)) }
+    ensures go { IfOk result (λ flow. flow ≡ Flow.Go) }
+    ensures state { IsState state.new }
+    ensures cause { LineCaused (H.world.counts host.old) (H.world.counts host.new) result }
+{
+    match answer {
+        Some(answer) => give(alloc, state, host, Answer::Ran(answer)),
+        None => say_fault(alloc, state, host, b"", b"command could not be run"),
+    }
+}
+
+// Runs a command for the draft by the shell.
+fn run_for<H: Host>(
+    alloc: Global,
+    state: &mut SessionState,
+    host: &mut H,
+    command: Text,
+    input: &[u8],
+) -> Result<Flow, RunError>
+    requires state { IsState state.old }
+    requires awaited { (a : ChildAnswer) → IsAwaited state.old.draft (Answer.Ran a) }
+    ensures ran { Ran H.world host.old host.new
+        (λ es. Goes (run_for state.old command input.now) es (in_play (next_of state.new) result)) }
+    ensures go { IfOk result (λ flow. flow ≡ Flow.Go) }
+    ensures state { IsState state.new }
+    ensures cause { LineCaused (H.world.counts host.old) (H.world.counts host.new) result }
+{
+    let args = match shell_args(alloc, command) {
+        Ok(args) => args,
+        Err(Memory) => return Err(RunError::Memory),
+    };
+    let shell = state.desk.places.shell.bytes();
+    match run_child(alloc, host, shell, args.items(), input) {
+        Ok(answer) => after_child(alloc, state, host, answer),
+        Err(_) => Err(RunError::Memory),
+    }
+}
+
+// Bytes are put at the end of a file by a commit, and then the reply is said.
+fn written(alloc: Global, name: Text, bytes: Text) -> Result<Steps, Memory>
+    ensures { IfOk result (λ steps. steps ≡ written name bytes) }
+{
+    let reply = reply(alloc, name.bytes(), b"Written", 1)?;
+    let mut changes = Items::new(alloc);
+    changes.push(Change::AddRaw { name, bytes })?;
+    let mut asks = Items::new(alloc);
+    asks.push(Wanted::Commit { changes })?;
+    asks.push(Wanted::Say(reply))?;
+    Ok(Steps {
+        asks,
+        effects: unchanged(alloc),
+    })
+}
+
+// Puts bytes at the end of a file.
+fn put_named<H: Host>(
+    alloc: Global,
+    state: &mut SessionState,
+    host: &mut H,
+    name: Text,
+    bytes: Text,
+) -> Result<Flow, RunError>
+    requires { IsState state.old }
+    ensures ran { Ran H.world host.old host.new
+        (λ es. Goes (carried_out state.old (Ok (written name bytes))) es (in_play (next_of state.new) result)) }
+    ensures state { IsState state.new }
+    ensures done { IfOk result EndsByLine }
+    ensures cause { LineCaused (H.world.counts host.old) (H.world.counts host.new) result }
+{
+    match written(alloc, name, bytes) {
+        Ok(steps) => carry_out(alloc, state, host, steps),
+        Err(Memory) => Err(RunError::Memory),
+    }
+}
+
+// The same of the file that a word stands for.
+fn put<H: Host>(
+    alloc: Global,
+    state: &mut SessionState,
+    host: &mut H,
+    word: &[u8],
+    bytes: Text,
+) -> Result<Flow, RunError>
+    requires { IsState state.old }
+    ensures ran { Ran H.world host.old host.new
+        (λ es. Goes (put state.old (expanded state.old.desk word.now) bytes) es
+        (in_play (next_of state.new) result)) }
+    ensures state { IsState state.new }
+    ensures done { IfOk result EndsByLine }
+    ensures cause { LineCaused (H.world.counts host.old) (H.world.counts host.new) result }
+{
+    match expanded(alloc, &state.desk, word) {
+        Ok(name) => put_named(alloc, state, host, name, bytes),
+        Err(Refusal::Fault { line }) => refuse(state, host, &line),
+        Err(Refusal::Memory) => Err(RunError::Memory),
+    }
+}
+
+// Carries out a command of the session while the draft is open.
+fn command_within<H: Host>(
+    alloc: Global,
+    state: &mut SessionState,
+    host: &mut H,
+    line: &[u8],
+) -> Result<Flow, RunError>
+    requires { IsState state.old }
+    ensures ran { Ran H.world host.old host.new
+        (λ es. Goes (commanded_within state.old line.now) es (in_play (next_of state.new) result)) }
+    ensures state { IsState state.new }
+    ensures done { IfOk result EndsByLine }
+    ensures cause { LineCaused (H.world.counts host.old) (H.world.counts host.new) result }
+{
+    state.count = 1;
+    carry_line(alloc, state, host, Origin::Draft, line)
+}
+
+/// The draft is done, and is dropped: sending isn't built.
+pub(crate) fn end_draft<H: Host>(
+    alloc: Global,
+    state: &mut SessionState,
+    host: &mut H,
+) -> Result<Flow, RunError>
+    requires { IsState state.old }
+    ensures ran { Ran H.world host.old host.new
+        (λ es. Goes (ended_draft state.old) es (in_play (next_of state.new) result)) }
+    ensures over { state.new ≡ without_draft state.old }
+    ensures go { IfOk result (λ flow. flow ≡ Flow.Go) }
+    ensures state { IsState state.new }
+    ensures cause { LineCaused (H.world.counts host.old) (H.world.counts host.new) result }
+{
+    state.draft = None;
+    say_fault(alloc, state, host, b"", b"sending: not built")
+}
+
+// Does what the draft needs.
+fn meet<H: Host>(
+    alloc: Global,
+    state: &mut SessionState,
+    host: &mut H,
+    need: Need,
+) -> Result<Flow, RunError>
+    requires state { IsState state.old }
+    requires awaited { AwaitsAll state.old.draft need }
+    ensures ran { Ran H.world host.old host.new
+        (λ es. Goes (needed state.old need) es (in_play (next_of state.new) result)) }
+    ensures state { IsState state.new }
+    ensures done { IfOk result EndsByLine }
+    ensures cause { LineCaused (H.world.counts host.old) (H.world.counts host.new) result }
+{
+    match need {
+        Need::More => Ok(Flow::Go),
+        Need::Say(bytes) => refuse(state, host, &bytes),
+        Need::Load(word) => fetch_word(alloc, state, host, word.bytes()),
+        Need::Dead => fetch_dead(alloc, state, host),
+        Need::Child { command, input } => run_for(alloc, state, host, command, input.bytes()),
+        Need::Command(line) => command_within(alloc, state, host, line.bytes()),
+        Need::Put { name, bytes } => put(alloc, state, host, name.bytes(), bytes),
+        Need::Done => end_draft(alloc, state, host),
+        Need::Quit | Need::Drop => {
+            state.draft = None;
+            Ok(Flow::Go)
+        }
+    }
+}
+
+// The draft, where one is open, takes a line, and waits for no answer any more.
+fn take_line(
+    desk: &Desk,
+    terminal: bool,
+    draft: &mut Option<Compose>,
+    line: &[u8],
+) -> Result<Need, ComposeError>
+    requires { IsDesk desk.now }
+    ensures line { TookLine result draft.old line.now (view_as desk.now terminal) draft.new }
+    ensures awaited { IfOk result (AwaitsAll draft.new) }
+{
+    match draft {
+        Some(compose) => {
+            compose.refuse();
+            compose.line(line, &view_as(desk, terminal))
+        }
+        None => Ok(Need::More),
+    }
+}
+
+/// Takes a line of the draft that is open.
+pub(crate) fn draft_line<H: Host>(
+    alloc: Global,
+    state: &mut SessionState,
+    host: &mut H,
+    line: &[u8],
+) -> Result<Flow, RunError>
+    requires { IsState state.old }
+    ensures ran { Ran H.world host.old host.new
+        (λ es. Goes (draft_play state.old line.now) es (in_play (next_of state.new) result)) }
+    ensures state { IsState state.new }
+    ensures done { IfOk result EndsByLine }
+    ensures cause { LineCaused (H.world.counts host.old) (H.world.counts host.new) result }
+{
+    match take_line(&state.desk, state.terminal, &mut state.draft, line) {
+        Ok(need) => meet(alloc, state, host, need),
+        Err(error) => refuse_escape(alloc, state, host, &error),
+    }
+}
