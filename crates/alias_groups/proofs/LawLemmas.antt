@@ -72,7 +72,7 @@ distinct-push (x ∷ xs) name h new =
     let parts = or-parts (same_ascii name x) (has_name xs name) new in
     (apart-push x name xs h.0 (same-symm (str_to_ascii_lowercase x) (str_to_ascii_lowercase name) ∙ parts.0), distinct-push xs name h.1 parts.1)
 
-once-with_name : (names : Names) (name : List ℕ) → IsDistinct same_ascii names → IsDistinct same_ascii (with_name names name)
+pub once-with_name : (names : Names) (name : List ℕ) → IsDistinct same_ascii names → IsDistinct same_ascii (with_name names name)
 once-with_name names name h =
     ⊎_elim
     (λ t. subst (IsDistinct same_ascii) (sym (cond-true _ _ _ t)) h)
@@ -111,7 +111,7 @@ unfolding walk
 once-walk zero groups dropped opened names w h = h
 once-walk (suc depth) groups dropped opened names w h = once-met_all (walk depth groups dropped) (once-walk depth groups dropped) groups dropped opened names w h
 
-none-once : IsDistinct same_ascii []
+pub none-once : IsDistinct same_ascii []
 unfolding IsDistinct
 none-once = tt
 

@@ -12,4 +12,5 @@ mod walk;
 pub use aliases::Aliases;
 pub use error::{AliasError, ExpandError};
 pub use laws::{aliases_are_kept, each_name_once, no_walk_is_cut};
-pub use own::{Own, each_once};
+pub use names::Names;
+pub use own::{Own, dropped_names, each_once};

@@ -8,9 +8,9 @@ use mail_text::{Memory, Text};
 use std::alloc::Global;
 use std::marker::Model;
 
-// Names in order of first naming, each once, ASCII case ignored. Contracts see the list of them.
+/// Names in order of first naming, each once, ASCII case ignored. Contracts see the list of them.
 #[derive(Drop)]
-pub(crate) struct Names {
+pub struct Names {
     alloc: Global,
     names: Vec<Text>,
     keys: IndexSet<Vec<u8>>,
@@ -37,8 +37,8 @@ fn lower_case(alloc: Global, name: &[u8]) -> Result<Vec<u8>, Memory>
 }
 
 impl Names {
-    // No names. It takes no memory.
-    pub(crate) fn new(alloc: Global) -> Names
+    /// No names. It takes no memory.
+    pub fn new(alloc: Global) -> Names
         ensures { result ≡ [] }
     {
         Names {
@@ -48,30 +48,30 @@ impl Names {
         }
     }
 
-    // How many they are.
-    pub(crate) fn len(&self) -> usize
+    /// How many they are.
+    pub fn len(&self) -> usize
         ensures { result ≡ length self.now }
     {
         self.names.len()
     }
 
-    // The names as a vector.
-    pub(crate) fn into_vec(self) -> Vec<Text>
+    /// The names as a vector.
+    pub fn into_vec(self) -> Vec<Text>
         ensures { result.items ≡ self }
     {
         self.names
     }
 
-    // Whether the name is among them.
-    pub(crate) fn has(&self, name: &[u8]) -> Result<bool, Memory>
+    /// Whether the name is among them, in time that grows with the name alone.
+    pub fn has(&self, name: &[u8]) -> Result<bool, Memory>
         ensures { IfOk result (λ has. has ≡ has_name self.now name.now) }
     {
         let key = lower_case(self.alloc, name)?;
         Ok(self.keys.contains(key.as_slice()))
     }
 
-    // Puts a name at the end, if it isn't there.
-    pub(crate) fn put(&mut self, name: &[u8]) -> Result<(), Memory>
+    /// Puts a name at the end, if it isn't there.
+    pub fn put(&mut self, name: &[u8]) -> Result<(), Memory>
         ensures ok { OnOk result (self.new ≡ with_name self.old name.now) }
         ensures err { OnErr result (self.new ≡ self.old) }
     {
@@ -87,8 +87,8 @@ impl Names {
         Ok(())
     }
 
-    // Puts each of these names at the end, if it isn't there. After want of memory some may have been put.
-    pub(crate) fn put_all(&mut self, names: &[Text]) -> Result<(), Memory>
+    /// Puts each of these names at the end, if it isn't there. After want of memory some may have been put.
+    pub fn put_all(&mut self, names: &[Text]) -> Result<(), Memory>
         ensures { OnOk result (self.new ≡ with_names self.old names.now) }
     {
         for name in names {

@@ -24,8 +24,9 @@ pub fn each_once(alloc: Global, names: &[Text]) -> Result<Items<Text>, Memory>
     Ok(Items::of(once.into_vec()))
 }
 
-// The own names that are left out where an alias leads to them: none with `metoo`.
-pub(crate) fn dropped_names(alloc: Global, own: &Own, metoo: bool) -> Result<Names, Memory>
+/// The own names that are left out: none with `metoo`. Names that an alias stands for are left out so, and those to whom
+/// a message went that is answered.
+pub fn dropped_names(alloc: Global, own: &Own, metoo: bool) -> Result<Names, Memory>
     ensures { IfOk result (λ names. names ≡ dropped_names own.now metoo) }
 {
     let mut names = Names::new(alloc);

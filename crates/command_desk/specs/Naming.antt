@@ -1,7 +1,7 @@
 -- Changes of what the user has named: aliases, own names, fields and macros.
 use Rattle.std.specs.Prelude.{ℕ, List, Option, is_some, if◌then◌else◌}
 use Rattle.std.specs.List.{fold}
-use Rattle.std.specs.declared.option.Option.TheVariants.{Some, None}
+use Rattle.std.specs.declared.option.Option.TheVariants.{Some}
 use Rattle.alias_groups.specs.Groups.{Group}
 use Rattle.alias_groups.specs.Removal as removal
 use Rattle.alias_groups.specs.declared.own.Own.{Own}

@@ -1,5 +1,5 @@
 -- The messages that the words of a command select.
-use Rattle.std.specs.Prelude.{◌≡◌, ℕ, Bool, false, ◌==◌, List, [], ◌∷◌, length, ◌-◌, slice_index, slice_get, Option, unwrap_or}
+use Rattle.std.specs.Prelude.{◌≡◌, ℕ, Bool, false, ◌==◌, List, [], ◌∷◌, length, ◌-◌, take, slice_index, slice_get, Option, unwrap_or}
 use Rattle.std.specs.List.{filter_map, list_any}
 use Rattle.std.specs.Option.{option_map}
 use Rattle.std.specs.declared.result.Result.TheVariants.{Ok, Err}
@@ -40,6 +40,14 @@ chosen purpose desk words =
 abbrev pub single : List ℕ → List ℕ → OrFault ℕ
 single name (n ∷ []) = Ok n
 single name ns = Err (bad_arguments name)
+
+-- the words of a list in front of a file or a command: all but the last
+abbrev pub list_words : List (List ℕ) → List (List ℕ)
+list_words words = take (length words - 1) words
+
+-- the word of the file or the command: the last one
+abbrev pub last_word : List (List ℕ) → List ℕ
+last_word words = unwrap_or (slice_get words (length words - 1)) []
 
 -- the last of some messages
 abbrev pub last_message : List ℕ → ℕ

@@ -5,7 +5,7 @@ use mailx_vars::{Places, Vars};
 use message_show::FieldSets;
 use message_state::Shown;
 use quit_rules::Open;
-use rc_conditionals::Conditions;
+use rc_conditionals::{Conditions, Mode};
 
 /// The state of a session between two commands. Calls that take one ask for a valid one: what it shows is valid, its
 /// rows are those of the folder's texts, marks aside, its marks are those of the folder, and a line has room for two
@@ -30,6 +30,8 @@ pub struct Desk {
     pub macros: Macros,
     /// The conditions that are open.
     pub conditions: Conditions,
+    /// Whether the run sends a message or reads a folder, which the conditions `s` and `r` ask for.
+    pub mode: Mode,
     /// Whether the input is a terminal, which the condition `t` asks for.
     pub terminal: bool,
     /// The page that was said last, from 0.

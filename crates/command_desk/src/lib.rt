@@ -18,10 +18,10 @@ pub use effects::{
     written,
 };
 pub use faults::fault;
-pub use file_names::expanded;
+pub use file_names::{expanded, named_after, named_plainly};
 pub use lists::{as_lines, copies, put_lines};
 pub use messages::{message, printed, put_heading, put_printed};
 pub use naming::Naming;
 pub use quit_rules::Open;
-pub use selecting::{Among, chosen, last_message, single};
+pub use selecting::{Among, chosen, last_message, last_word, list_words, single};
 pub use steps::{Ask, Refusal, Steps, quietly, says};

@@ -3,7 +3,7 @@ ghost use Rattle.std.specs.Prelude.{◌≡◌, ◌≤◌, ◌<◌, All, IfOk, le
 ghost use Rattle.mbox_scan.specs.declared.folder.TheConstants.{MOST_MESSAGES};
 ghost use Rattle.command_desk.specs.Answers.{Means};
 ghost use Rattle.command_desk.specs.Desks.{IsDesk, IsMessageOf};
-ghost use Rattle.command_desk.specs.Selecting.{chosen, single, last_message, is_among, flag_of, IsListRefusal, AreFlags};
+ghost use Rattle.command_desk.specs.Selecting.{chosen, single, list_words, last_word, last_message, is_among, flag_of, IsListRefusal, AreFlags};
 
 use crate::faults::fault;
 use crate::{Desk, Refusal};
@@ -53,6 +53,24 @@ pub fn single(alloc: Global, name: &[u8], numbers: &[u32]) -> Result<u32, Refusa
     match numbers {
         [n] => Ok(*n),
         _ => Err(fault(alloc, name, b": bad arguments")),
+    }
+}
+
+/// The words of a list in front of a file or a command: all but the last.
+pub fn list_words(words: &[Text]) -> &[Text]
+    ensures { result.now ≡ list_words words.now }
+{
+    let (list, _) = words.split_at(words.len().saturating_sub(1));
+    list
+}
+
+/// The word of the file or the command: the last one.
+pub fn last_word(words: &[Text]) -> &[u8]
+    ensures { result.now ≡ last_word words.now }
+{
+    match words.get(words.len().saturating_sub(1)) {
+        Some(word) => word.bytes(),
+        None => &[],
     }
 }
 

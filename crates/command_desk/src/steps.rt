@@ -33,9 +33,18 @@ pub enum Ask {
         reply: Text,
     },
     /// A message is begun: the lines of the input that follow are those of this draft, until it is over. A line feed in
-    /// a part of it but the body stands for a space.
+    /// a part of it but the body stands for a space. Where a file is named the message is recorded in it: the name stands
+    /// for itself, and may be one that no file can have. Where a message is named it becomes current first.
     Draft {
         draft: Draft,
+        file: Option<Text>,
+        current: Option<u32>,
+    },
+    /// This command is run by the shell of the places with this input. Its output is said, and behind it `exit status N`
+    /// where its status isn't 0; one that can't be run refuses what follows.
+    Child {
+        command: Text,
+        input: Text,
     },
     /// The run ends without changes.
     Exit,

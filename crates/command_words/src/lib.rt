@@ -3,6 +3,7 @@
 
 mod error;
 mod mode;
+mod names;
 mod options;
 mod parse;
 mod reading;
@@ -11,5 +12,6 @@ mod texts;
 
 pub use error::WordsError;
 pub use mode::Mode;
+pub use names::names_in;
 pub use options::Options;
 pub use reading::{Wanted, read_words};

@@ -3,6 +3,7 @@ ghost use Rattle.host_port.specs.Names.{IsFileName};
 
 use crate::commits;
 use crate::names::is_name;
+use crate::sending::put_sent;
 use case_blocks::{Answer, cut, number};
 use host_memory::MemHost;
 use host_port::{ChildAnswer, ChildError, Host, LoadAnswer, LoadError};
@@ -116,7 +117,8 @@ fn put_ran(answer: &ChildAnswer, out: &mut Answer) {
     }
 }
 
-fn arguments(words: &str, out: &mut Answer) -> Items<Text> {
+/// Words as items.
+pub fn arguments(words: &str, out: &mut Answer) -> Items<Text> {
     let mut args = Items::new(out.alloc());
     for word in words.split(' ') {
         if !word.is_empty() {
@@ -150,6 +152,7 @@ pub fn put_call(host: &mut MemHost, line: &str, out: &mut Answer) {
             out.put_plain(done(host.say(bytes.bytes())));
         }
         "child" => put_child(host, rest, out),
+        "send" => put_sent(host, rest, out),
         "now" => out.put_shown(&host.now()),
         "recover" => out.put_plain(commits::recovered(out.alloc(), host)),
         "commit" => commits::put_commit(host, rest, out),

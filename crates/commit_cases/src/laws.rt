@@ -11,6 +11,7 @@ use folder_change::{
     add_appends, applied_in_order, each_file_alone, front_prepends, others_stay,
     rewrite_by_the_base, rewrite_keeps_the_rest,
 };
+use sender_port::names_are_plain;
 
 fn machine() {
     crash_safe();
@@ -48,4 +49,5 @@ pub fn call() {
     applied_in_order();
     each_file_alone();
     others_stay();
+    names_are_plain();
 }

@@ -1,5 +1,5 @@
-//! Cases of the host in memory, of changes, records, commits and recoveries. Standard input has the cases, and for each
-//! the program prints what its lines answer.
+//! Cases of the host in memory, of changes, records, commits and recoveries, and of mail that is sent. Standard input
+//! has the cases, and for each the program prints what its lines answer.
 //!
 //! The lines of a case are those of `case_blocks`, and these, which are carried out in their order. A line `do` is a
 //! call of the host or of a library over it; the actor of recoveries and commits is `/h/m`, and their token 1.
@@ -13,10 +13,13 @@
 //! | `do load NAME` | what was seen |
 //! | `do child PROGRAM INPUT ARGUMENT..` | the child's status and output, or the length of a long one; `, cut` |
 //! | `do now` | the time |
+//! | `do send SENDER MESSAGE NAME..` | how the sending ended; SENDER is `sendmail`, and `-` where that is unset |
 //! | `do recover`, `do add NAME TEXT` | how the recovery, or the commit that adds the text to the file, ended |
 //! | `do empty NAME TEXT` | how the commit ended that leaves a file without a message, read before as the text |
 //! | `do commit CHANGE ; CHANGE.. / BASE` | how the commit of these changes ended, an error in its words |
 //! | `letters` | a letter for each event so far |
+//! | `children` | of each child so far its program, its arguments and its input, each in `<>` |
+//! | `sendable NAME..` | `yes`, or why mail can't be sent to these names |
 //! | `stop N PART` | what a stop inside the event of this number leaves, of which this part was done |
 //! | `stops` | what a recovery leaves after a stop inside each event, with each part of it done |
 //! | `change KIND / CURRENT / BASE / TEXT\|TEXT..` | what a change makes of a file; `-` is no file |
@@ -44,6 +47,7 @@ mod names;
 mod pure;
 mod records;
 mod script;
+mod sending;
 mod stops;
 
 use case_blocks::told;

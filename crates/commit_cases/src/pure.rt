@@ -3,6 +3,7 @@ use crate::changes::put_change;
 use crate::commits::{may_change, put_words};
 use crate::large::put_large;
 use crate::records::{put_read, put_swap, put_written};
+use crate::sending::put_sendable;
 use case_blocks::{Answer, Case, cut, number, text_under};
 use commit_machine::{is_record_name, new_name, record_name, right_name, staged_name};
 use commit_record::is_lawful;
@@ -47,6 +48,7 @@ pub fn put_answer(case: Case<'_>, line: &str, out: &mut Answer) {
             out.put_flag(is_record_name(actor.as_bytes(), name.as_bytes()));
         }
         "names" => put_names(rest, out),
+        "sendable" => put_sendable(rest, out),
         "words" => put_words(out),
         "large" => put_large(out),
         _ => put_of_record(case, line, out),

@@ -1,6 +1,7 @@
 // One case, line by line.
 use crate::calls::put_call;
 use crate::pure::put_answer;
+use crate::sending::put_children;
 use crate::stops::{put_stop, put_stops};
 use case_blocks::{Answer, Case, Tells, cut, host, is_plain, put_disk, put_title, view};
 use host_memory::{DiskView, MemHost};
@@ -47,6 +48,7 @@ fn put_line(case: Case<'_>, host: &mut MemHost, start: &DiskView, line: &str, ou
     match kind {
         "do" => put_call(host, rest, out),
         "letters" => put_letters(host, out),
+        "children" => put_children(host, out),
         _ => put_answer(case, line, out),
     }
     out.put_plain(b"\n");

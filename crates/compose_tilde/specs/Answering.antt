@@ -42,6 +42,10 @@ is_zero status = int_eq status (pos 0)
 abbrev pub status_line : ℤ → List ℕ
 status_line status = if is_zero status then [] else with_feed (codes "exit status " ++ signed_decimal status)
 
+-- what is said of a command that was run: its output, as far as it was kept, and its status
+abbrev pub said_of : ChildAnswer → List ℕ
+said_of child = child.output ++ status_line child.status
+
 -- what is needed once a command has ended: what there is to be said of its status is said
 abbrev pub told : ℤ → Need
 told status = if is_zero status then need.More else need.Say (status_line status)
@@ -61,7 +65,7 @@ filter m child =
 -- what an answer comes to, by what was waited for
 abbrev pub answered : Wait → Answer → Machine → Step
 answered File (answer.Loaded bytes) m = goes_on m (appended m.draft bytes)
-answered Said (answer.Ran child) m = says m (child.output ++ status_line child.status)
+answered Said (answer.Ran child) m = says m (said_of child)
 answered Taken (answer.Ran child) m = take_output m child
 answered Filtered (answer.Ran child) m = filter m child
 answered wait other m = Ok (m, need.More)

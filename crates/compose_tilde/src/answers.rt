@@ -2,7 +2,7 @@
 ghost use Rattle.std.specs.Prelude.{◌≡◌, ◌++◌, true, Some, IfOk, OnOk, OnErr};
 ghost use Rattle.compose_tilde.specs.Values.{with_body, appended};
 ghost use Rattle.compose_tilde.specs.Steps.{Means, goes_on, says};
-ghost use Rattle.compose_tilde.specs.Answering.{is_awaited, is_zero, status_line, told, take_output, filter, answered, idle, answer_step};
+ghost use Rattle.compose_tilde.specs.Answering.{is_awaited, is_zero, status_line, said_of, told, take_output, filter, answered, idle, answer_step};
 
 use crate::machine::{Machine, Wait};
 use crate::meaning::take;
@@ -64,9 +64,10 @@ fn told(alloc: Global, status: i32) -> Result<Need, Memory>
     }
 }
 
-// The output of a command is said.
-fn say_output(child: ChildAnswer) -> Result<Need, Memory>
-    ensures { IfOk result (λ need. need ≡ Need.Say (child.output ++ status_line child.status)) }
+/// What is said of a command that was run: its output, as far as it was kept, and behind it `exit status N` where its
+/// status isn't 0.
+pub fn said_of(child: ChildAnswer) -> Result<Text, Memory>
+    ensures { IfOk result (λ t. t ≡ said_of child) }
 {
     let ChildAnswer {
         status,
@@ -75,7 +76,14 @@ fn say_output(child: ChildAnswer) -> Result<Need, Memory>
     } = child;
     let mut out = output;
     put_status(&mut out, status)?;
-    Ok(Need::Say(out))
+    Ok(out)
+}
+
+// The output of a command is said.
+fn say_output(child: ChildAnswer) -> Result<Need, Memory>
+    ensures { IfOk result (λ need. need ≡ Need.Say (said_of child)) }
+{
+    Ok(Need::Say(said_of(child)?))
 }
 
 // The body takes the output of a command, where it wasn't cut.

@@ -15,6 +15,7 @@ mod saying;
 mod values;
 mod view;
 
+pub use answers::said_of;
 pub use compose::Compose;
 pub use escape::Escape;
 pub use laws::{

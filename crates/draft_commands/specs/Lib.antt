@@ -1,1 +1,2 @@
 pub mod Mailing
+pub mod Replying

@@ -1,5 +1,6 @@
 -- A message that is begun to names.
-use Rattle.std.specs.Prelude.{ℕ, List, [], ◌∷◌, codes, unwrap_or}
+use Rattle.std.specs.Prelude.{ℕ, List, [], ◌∷◌, codes, unwrap_or, Option}
+use Rattle.std.specs.declared.option.Option.TheVariants.{None}
 use Rattle.std.specs.declared.result.Result.TheVariants.{Ok, Err}
 use Rattle.mailx_vars.specs.Settings.{value_of}
 use Rattle.draft_text.specs.declared.draft.Draft.{Draft}
@@ -27,11 +28,11 @@ draft_to desk names = record {
   body = [];
 }
 
--- this draft is asked for, and nothing is changed
-abbrev pub drafting : Draft → Steps
-drafting draft = record { asks = asks.Draft draft ∷ []; effects = unchanged }
+-- this draft is asked for, which is recorded in this file where there is one, and before which this message becomes current where there is one
+abbrev pub drafting : Draft → Option (List ℕ) → Option ℕ → Steps
+drafting draft file current = record { asks = asks.Draft draft file current ∷ []; effects = unchanged }
 
 -- `mail`: a message is begun to the names that its words are
 abbrev pub mail : Desk → List (List ℕ) → OrFault Steps
 mail desk [] = Err (bad_arguments (codes "mail"))
-mail desk (w ∷ ws) = Ok (drafting (draft_to desk (w ∷ ws)))
+mail desk (w ∷ ws) = Ok (drafting (draft_to desk (w ∷ ws)) None None)

@@ -9,8 +9,8 @@ use draft_text::Draft;
 use mail_text::{Items, Memory, Text};
 use std::alloc::Global;
 
-// Who writes messages: the value of the variable `from`, and nothing where it is unset.
-fn writer(alloc: Global, desk: &Desk) -> Result<Text, Memory>
+/// Who writes messages: the value of the variable `from`, and nothing where it is unset.
+pub(crate) fn writer(alloc: Global, desk: &Desk) -> Result<Text, Memory>
     ensures { IfOk result (λ t. t ≡ writer desk.now) }
 {
     match desk.vars.get(b"from") {
@@ -35,12 +35,22 @@ fn draft_to(alloc: Global, desk: &Desk, names: &[Text]) -> Result<Draft, Memory>
     })
 }
 
-// This draft is asked for, and nothing is changed.
-fn drafting(alloc: Global, draft: Draft) -> Result<Steps, Memory>
-    ensures { IfOk result (λ steps. steps ≡ drafting draft) }
+/// This draft is asked for, which is recorded in this file where there is one, and before which this message becomes
+/// current where there is one.
+pub(crate) fn drafting(
+    alloc: Global,
+    draft: Draft,
+    file: Option<Text>,
+    current: Option<u32>,
+) -> Result<Steps, Memory>
+    ensures { IfOk result (λ steps. steps ≡ drafting draft file current) }
 {
     let mut asks = Items::new(alloc);
-    asks.push(Ask::Draft { draft })?;
+    asks.push(Ask::Draft {
+        draft,
+        file,
+        current,
+    })?;
     Ok(Steps {
         asks,
         effects: unchanged(alloc),
@@ -57,5 +67,5 @@ pub fn mail(alloc: Global, desk: &Desk, words: &[Text]) -> Result<Steps, Refusal
         return Err(fault(alloc, b"mail", b": bad arguments"));
     }
     let draft = draft_to(alloc, desk, words)?;
-    Ok(drafting(alloc, draft)?)
+    Ok(drafting(alloc, draft, None, None)?)
 }

@@ -4,3 +4,6 @@ pub mod FieldLemmas
 pub mod FlatLemmas
 pub mod FoundLemmas
 pub mod StoredLemmas
+pub mod AddressesLemmas
+pub mod ReplyLemmas
+pub mod ReplyLawLemmas

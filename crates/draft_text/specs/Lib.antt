@@ -1,2 +1,5 @@
 pub mod Texts
 pub mod DraftLaws
+pub mod Addresses
+pub mod Replies
+pub mod ReplyLaws

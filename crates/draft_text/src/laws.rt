@@ -1,4 +1,6 @@
 ghost use Rattle.draft_text.specs.DraftLaws.{StoredIsProper, StoredReadsBack, OpeningIsRead, SentReadsBack, FieldsAreFound, PlainIsStored, FlatIsKept};
+ghost use Rattle.draft_text.specs.Addresses.{EachIsWhatIsRead};
+ghost use Rattle.draft_text.specs.ReplyLaws.{EachOnce, AnsweredStay, OwnAreLeftOut};
 
 /// A law: where no part of a draft but its body holds a line feed, and the user's name holds none, its text can be put
 /// into a mailbox and read back as one message.
@@ -38,4 +40,17 @@ pub fn plain_bodies_are_stored_as_they_are()
 /// A law: a draft of which no part but the body holds a line feed is the same once line feeds stand for spaces there.
 pub fn a_draft_of_flat_parts_stays()
     ensures { FlatIsKept }
+{}
+
+/// A law: the addresses of a value are the list that it reads as, and none where a piece of it is bad.
+pub fn addresses_are_what_is_read()
+    ensures { EachIsWhatIsRead }
+{}
+
+/// Laws of answers: no address stands twice in one, ASCII case ignored; it goes to all who are answered; and an own name
+/// that is to be dropped is in it only where it is answered.
+pub fn answers_go_to_each_once()
+    ensures once { EachOnce }
+    ensures answered { AnsweredStay }
+    ensures own { OwnAreLeftOut }
 {}

@@ -1,4 +1,3 @@
-pub mod FileNames
 pub mod Saving
 pub mod Leaving
 pub mod Making

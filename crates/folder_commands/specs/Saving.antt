@@ -15,10 +15,9 @@ use Rattle.command_desk.specs.Answers.{OrFault, next}
 use Rattle.command_desk.specs.Desks.{message_text}
 use Rattle.command_desk.specs.Effects.{marked}
 use Rattle.command_desk.specs.Faults.{bad_arguments}
-use Rattle.command_desk.specs.Selecting.{chosen}
+use Rattle.command_desk.specs.Selecting.{chosen, list_words, last_word}
 use Rattle.folder_commands.specs.declared.wanted.Filing.{Filing}
-use Rattle.command_desk.specs.FileNames.{expanded}
-use Rattle.folder_commands.specs.FileNames.{list_words, file_word, author_of, named_after}
+use Rattle.command_desk.specs.FileNames.{expanded, author_of, named_after}
 
 -- what is said once so many messages were put into the file of this name
 abbrev pub reply : List ℕ → List ℕ → ℕ → List ℕ
@@ -54,7 +53,7 @@ into_mbox act desk = next (chosen Live desk []) (λ ns. Ok (adding act desk ns d
 
 -- A list and a file behind it; a single word is the file, and without a word it is mbox.
 abbrev pub into_file : Act → Desk → List (List ℕ) → OrFault Filing
-into_file act desk words = if length words == 0 then into_mbox act desk else into_named act desk (list_words words) (file_word words)
+into_file act desk words = if length words == 0 then into_mbox act desk else into_named act desk (list_words words) (last_word words)
 
 -- the file is named after the author of the first selected message
 abbrev pub by_author : Act → Desk → List (List ℕ) → OrFault Filing
@@ -83,7 +82,7 @@ write_to desk list word = next (chosen Live desk list) (λ ns. next (expanded de
 
 -- `write`: a list and a file behind it, which can't be left out
 abbrev pub write : Desk → List (List ℕ) → OrFault Filing
-write desk words = if length words == 0 then Err (bad_arguments (codes "write")) else write_to desk (list_words words) (file_word words)
+write desk words = if length words == 0 then Err (bad_arguments (codes "write")) else write_to desk (list_words words) (last_word words)
 
 -- where an answer makes a message current, it is one, or none
 abbrev pub IsFilingWithin : {E : Type 0} → Desk → Result Filing E → Type 0

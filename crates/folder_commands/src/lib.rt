@@ -3,7 +3,6 @@
 //! Nothing is changed yet. What these make of the file that is opened is said here too.
 #![tactic(auto)]
 
-mod file_names;
 mod laws;
 mod leaving;
 mod making;

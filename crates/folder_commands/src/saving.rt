@@ -7,8 +7,9 @@ ghost use Rattle.command_desk.specs.Desks.{IsDesk, IsMessageOf, message_text};
 ghost use Rattle.folder_commands.specs.Saving.{reply, body_line, adding, writing, into_named, into_mbox, into_file, by_author, copy, copy_by_author, save, save_by_author, write_to, write, IsFilingWithin};
 
 use crate::Filing;
-use crate::file_names::{file_word, list_words, named_after};
-use command_desk::{Desk, Refusal, chosen, expanded, fault, marked, message};
+use command_desk::{
+    Desk, Refusal, chosen, expanded, fault, last_word, list_words, marked, message, named_after,
+};
 use folder_change::Change;
 use itoa::Buffer;
 use mail_headers::Header;
@@ -149,7 +150,7 @@ fn into_file(alloc: Global, act: Act, desk: &Desk, words: &[Text]) -> Result<Fil
     if words.is_empty() {
         into_mbox(alloc, act, desk)
     } else {
-        into_named(alloc, act, desk, list_words(words), file_word(words))
+        into_named(alloc, act, desk, list_words(words), last_word(words))
     }
 }
 
@@ -224,6 +225,6 @@ pub fn write(alloc: Global, desk: &Desk, words: &[Text]) -> Result<Filing, Refus
     if words.is_empty() {
         Err(fault(alloc, b"write", b": bad arguments"))
     } else {
-        write_to(alloc, desk, list_words(words), file_word(words))
+        write_to(alloc, desk, list_words(words), last_word(words))
     }
 }

@@ -1,12 +1,59 @@
 // Cases of drafts, each at the same moment.
 use crate::case::{field, parts, words};
+use alias_groups::Own;
 use case_blocks::Answer;
-use draft_text::{Draft, flat, flattened, mbox_text, message_text};
+use draft_text::{Draft, ReplyHow, answered, flat, flattened, mbox_text, message_text, reply_to};
 use mail_dates::Moment;
 use mail_text::{Memory, Text};
 
-/// The message of a draft, its text in a mailbox, or the draft without line feeds in its parts; a text without them.
+/// The message of a draft, its text in a mailbox, or the draft without line feeds in its parts; a text without them; the
+/// draft that answers a message, and who is answered.
 pub fn put(case: &[Text], out: &mut Answer) {
+    match words(case, 1) {
+        "reply" => put_reply(case, out),
+        "answered" => put_answered(field(case, 2), out),
+        _ => put_texts(case, out),
+    }
+}
+
+// To whom an answer goes, by a word.
+fn how_of(word: &str) -> ReplyHow {
+    if word == "authors" {
+        ReplyHow::Authors
+    } else {
+        ReplyHow::All
+    }
+}
+
+// The draft that answers a message.
+fn put_reply(case: &[Text], out: &mut Answer) {
+    let own = Own {
+        user: out.copied(field(case, 3)),
+        alternates: parts(words(case, 4), ';', out),
+    };
+    let metoo = words(case, 5) == "metoo";
+    match reply_to(
+        out.alloc(),
+        field(case, 6),
+        how_of(words(case, 2)),
+        &own,
+        metoo,
+    ) {
+        Ok(draft) => put_parts(&draft, out),
+        Err(error) => out.put_shown(&error),
+    }
+}
+
+// Who is answered.
+fn put_answered(text: &[u8], out: &mut Answer) {
+    match answered(out.alloc(), text) {
+        Ok(names) => put_list(names.items(), out),
+        Err(Memory) => out.lack(),
+    }
+}
+
+// What is made of a draft.
+fn put_texts(case: &[Text], out: &mut Answer) {
     let draft = draft_of(case, out);
     let m = Moment {
         seconds: 1_704_240_000,

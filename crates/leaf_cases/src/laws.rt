@@ -6,8 +6,8 @@ use compose_tilde::{
 };
 use draft_text::{
     a_draft_can_be_put_into_a_mailbox, a_draft_of_flat_parts_stays, a_sent_draft_reads_back,
-    a_stored_draft_reads_back, an_opening_line_reads_back, each_field_is_found,
-    plain_bodies_are_stored_as_they_are,
+    a_stored_draft_reads_back, addresses_are_what_is_read, an_opening_line_reads_back,
+    answers_go_to_each_once, each_field_is_found, plain_bodies_are_stored_as_they_are,
 };
 use mail_addresses::{
     comments_are_balanced, each_value_is_read, one_reading, pieces_are_cut_again,
@@ -83,6 +83,8 @@ fn speak_of_drafts() {
     each_field_is_found();
     plain_bodies_are_stored_as_they_are();
     a_draft_of_flat_parts_stays();
+    addresses_are_what_is_read();
+    answers_go_to_each_once();
     each_letter_stands_for_one_escape();
     lines_make_the_body();
     no_part_but_the_body_holds_a_line_feed();

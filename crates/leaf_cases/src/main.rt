@@ -16,6 +16,7 @@ mod conditions;
 mod dates;
 mod drafts;
 mod headers;
+mod keeping;
 mod kept;
 mod laws;
 mod lists;
@@ -56,6 +57,7 @@ fn put_answer(kept: &mut Kept, case: &[Text], out: &mut Answer) {
         "macro" => macros::put(case, out),
         "quit" => quits::put(&kept.vars, case, out),
         "draft" => drafts::put(case, out),
+        "keep" => keeping::put(&kept.vars, case, out),
         "compose" => composing::put(&kept.vars, kept.messages.items(), case, out),
         "laws" => laws::put(out),
         _ => out.put_bad(),

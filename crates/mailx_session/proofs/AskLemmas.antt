@@ -1,22 +1,30 @@
 -- What is asked for, by the kind of ask.
-use Rattle.std.proofs.Common.{◌≡◌, ℕ, List, ap, arith}
+use Rattle.std.proofs.Common.{◌≡◌, Option, ℕ, List, ap, arith, subst}
 use Rattle.host_port.specs.Calls.{Counts, NeverFall, Rose}
 use Rattle.std.specs.Prelude.{◌≤◌}
+use Rattle.std.specs.declared.result.Result.{Result}
 use Rattle.std.specs.declared.result.Result.TheVariants.{Err}
 use Rattle.mailx_session.specs.declared.error.RunError.{RunError}
 use Rattle.mailx_session.specs.declared.error.RunError.TheVariants as error
 use Rattle.mailx_session.specs.declared.asks.Asked.{Asked}
-use Rattle.session_play.specs.Play.{Ret, Ask, Say}
-use Rattle.session_play.specs.Steps.{On, Ended}
+use Rattle.host_port.specs.declared.event.Event.{Event}
+use Rattle.session_play.specs.declared.stop.Stop.{Stop}
+use Rattle.session_play.specs.Play.{Ret, Ask, Say, Goes}
+use Rattle.session_play.specs.Steps.{After, On, Ended}
 use Rattle.mailx_session.specs.declared.state.SessionState.{SessionState}
+use Rattle.mailx_session.specs.declared.status.Status.{Status}
 use Rattle.command_desk.specs.declared.steps.Ask as asked_of
 use Rattle.command_desk.specs.declared.steps.Ask.TheVariants as asks
-use Rattle.mailx_session.specs.declared.status.Status.TheVariants.{Done}
 use Rattle.folder_change.specs.declared.change.Change.{Change}
+use Rattle.mailx_session.specs.Outcomes.{status_of}
 use Rattle.mailx_session.specs.Saving.{names_fault, saved}
 use Rattle.mailx_session.specs.Sourcing.{source_fault, sourced}
 use Rattle.draft_text.specs.declared.draft.Draft.{Draft}
-use Rattle.mailx_session.specs.Beginning.{begun}
+use Rattle.mailx_session.specs.Beginning.{beginning, file_fault}
+use Rattle.mailx_session.specs.Running.{after_run, run_asked}
+use Rattle.std.specs.declared.option.Option.TheVariants.{Some}
+use Rattle.host_port.specs.declared.event.ChildAnswer.{ChildAnswer}
+use Rattle.compose_tilde.specs.Answering.{said_of}
 use Rattle.mailx_session.specs.Calling.{called}
 use Rattle.mailx_session.specs.Switching.{open_fault, switches}
 use Rattle.mailx_session.specs.Sessions.{asked, LineCaused}
@@ -36,10 +44,24 @@ asked-lines s ask text is = ap (asked s) is
 pub asked-open : (s : SessionState) (ask : asked_of.Ask) (name : List ℕ) (changes : List Change) (reply : List ℕ) → ask ≡ asks.Open name changes reply → asked s ask ≡ switches s name changes reply (open_fault s.actor name changes)
 asked-open s ask name changes reply is = ap (asked s) is
 
-pub asked-draft : (s : SessionState) (ask : asked_of.Ask) (draft : Draft) → ask ≡ asks.Draft draft → asked s ask ≡ begun s draft
-asked-draft s ask draft is = ap (asked s) is
+pub asked-draft : (s : SessionState) (ask : asked_of.Ask) (draft : Draft) (file : Option (List ℕ)) (current : Option ℕ) → ask ≡ asks.Draft draft file current → asked s ask ≡ beginning s draft file current (file_fault s.actor file)
+asked-draft s ask draft file current is = ap (asked s) is
 
-pub asked-exit : (s : SessionState) (ask : asked_of.Ask) → ask ≡ asks.Exit → asked s ask ≡ Ret (Ended Done)
+pub asked-child : (s : SessionState) (ask : asked_of.Ask) (command input : List ℕ) → ask ≡ asks.Child command input → asked s ask ≡ run_asked s command input
+asked-child s ask command input is = ap (asked s) is
+
+-- a command that is run, where it and its input are others' bytes
+pub run-asked-as : (s : SessionState) (w v input bytes : List ℕ) (out : Result (After SessionState Status) Stop) → w ≡ v → input ≡ bytes
+    → (es : List Event) → Goes (run_asked s w input) es out → Goes (run_asked s v bytes) es out
+run-asked-as s w v input bytes out command same =
+    let G : List ℕ → List ℕ → Type 0 = λ x y. (es : List Event) → Goes (run_asked s w input) es out → Goes (run_asked s x y) es out in
+    subst (λ (y : List ℕ). G v y) same (subst (λ (x : List ℕ). G x input) command (λ es goes. goes))
+
+-- what follows a command that was run
+pub after-run : (s : SessionState) (answer : Option ChildAnswer) (child : ChildAnswer) → answer ≡ Some child → after_run s answer ≡ Ask (Say (said_of child)) (λ _. Ret (On s))
+after-run s answer child is = ap (after_run s) is
+
+pub asked-exit : (s : SessionState) (ask : asked_of.Ask) → ask ≡ asks.Exit → asked s ask ≡ Ret (Ended (status_of s.outcome))
 asked-exit s ask is = ap (asked s) is
 
 pub never-fall-none : (c : Counts) → NeverFall c c

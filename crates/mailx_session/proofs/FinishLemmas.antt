@@ -1,8 +1,10 @@
 -- The end of the input, draft by draft, so far.
-use Rattle.std.proofs.Common.{◌≡◌, ◌<◌, ℕ, suc, Bool, true, false, cond, List, [], ◌++◌, refl, sym, ◌∙◌, ap, subst, append_assoc, arith}
+use Rattle.std.proofs.Common.{◌≡◌, ◌<◌, ℕ, suc, Bool, true, false, List, [], ◌++◌, refl, sym, ◌∙◌, ap, subst, append_assoc, arith}
 use Rattle.std.proofs.lemmas.Bool.{cond-true, cond-false}
 use Rattle.std.proofs.lemmas.List.{append-nil}
-use Rattle.std.specs.Prelude.{OnOk, if◌then◌else◌}
+use Rattle.std.specs.Prelude.{OnOk, is_some, if◌then◌else◌}
+use Rattle.std.specs.declared.option.Option.{Option}
+use Rattle.std.specs.declared.option.Option.TheVariants.{None}
 use Rattle.std.specs.declared.result.Result.{Result}
 use Rattle.std.specs.declared.result.Result.TheVariants.{Ok, Err}
 use Rattle.host_port.specs.declared.event.Event.{Event}
@@ -10,9 +12,9 @@ use Rattle.session_play.specs.declared.stop.Stop.{Stop}
 use Rattle.session_play.specs.Play.{Next, Go, Last}
 use Rattle.mailx_session.specs.declared.state.SessionState.{SessionState}
 use Rattle.mailx_session.specs.declared.status.Status.{Status}
-use Rattle.mailx_session.specs.States.{is_drafting, at_rest, rested}
+use Rattle.compose_tilde.specs.declared.machine.Machine.{Machine}
+use Rattle.mailx_session.specs.States.{is_drafting, rested, KeepsButDraft}
 use Rattle.mailx_session.specs.Bringing.{weight}
-use Rattle.mailx_session.specs.Drafting.{without_draft}
 use Rattle.mailx_session.specs.Rounds.{DraftEnds, FinishGo, finished, onward, left, lost}
 use Rattle.mailx_session.proofs.RoundLemmas.{rested-in, rested-out, no-both}
 
@@ -32,12 +34,16 @@ on-ok : {T E : Type 0} (r : Result T E) {P Q : Type 0} → (P → Q) → OnOk r 
 on-ok (Ok t) f h = f h
 on-ok (Err e) f h = tt
 
-pub ended-falls : {T E : Type 0} (s t u : SessionState) (r : Result T E) → t ≡ without_draft s
+pub ended-falls : {T E : Type 0} (s t u : SessionState) (r : Result T E) → KeepsButDraft s t → t.draft ≡ None
     → (is_drafting t ≡ false → OnOk r (is_drafting u ≡ true → weight u < weight t)) → OnOk r (is_drafting (rested u) ≡ true → weight (rested u) < weight s)
-ended-falls s t u r over falls =
-    let out : is_drafting t ≡ false = ap (λ (x : SessionState). is_drafting x) over in
-    let same : weight t ≡ weight s = ap (λ (x : SessionState). weight x) over in
+ended-falls s t u r keeps over falls =
+    let out : is_drafting t ≡ false = ap (λ (d : Option Machine). is_some d) over in
+    let same : weight t ≡ weight s = ap (λ (x : SessionState). weight x) keeps in
     on-ok r (λ less. rested-falls u (weight s) (λ inside. subst (λ (n : ℕ). weight u < n) same (less inside))) (falls out)
+
+-- where the run ends with a draft none is open
+pub ended-last : (t : SessionState) (n : ℕ) → t.draft ≡ None → is_drafting (rested t) ≡ true → weight (rested t) < n
+ended-last t n over = rested-falls t n (λ inside. absurd (no-both inside (ap (λ (d : Option Machine). is_some d) over)))
 
 pub open-falls : (s t : SessionState) → is_drafting s ≡ true → (is_drafting t ≡ true → weight t < weight s) → open_weight t < open_weight s
 open-falls s t inside less = subst (λ (n : ℕ). open_weight t < n) (sym (cond-true _ _ _ inside)) (go (is_drafting t) refl)

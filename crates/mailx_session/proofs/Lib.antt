@@ -10,3 +10,4 @@ pub mod SwitchingLemmas
 mod LeavingLemmas
 mod DraftLemmas
 mod FinishLemmas
+mod SendingLemmas

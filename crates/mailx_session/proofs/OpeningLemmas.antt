@@ -1,6 +1,6 @@
 -- The desk of a folder that is opened is valid.
 use Rattle.std.proofs.Common.{◌≡◌, Bool, ◌≤◌, ℕ, List, [], ◌∷◌, ◌++◌, length, map, refl, sym, ap, ◌∙◌, arith}
-use Rattle.std.specs.Prelude.{All, IfSome, false}
+use Rattle.std.specs.Prelude.{All, IfSome}
 use Rattle.std.specs.List.{AllZip, range_with_len}
 use Rattle.std.proofs.lemmas.List.Sorted.{IsPermutation-refl}
 use Rattle.std.proofs.lemmas.List.{length-replicate}
@@ -8,11 +8,11 @@ use Rattle.std.proofs.lemmas.List.FromFn.{length-range_with_len}
 use Rattle.mail_dates.specs.Clock.{IsInYears}
 use Rattle.mbox_scan.specs.Mailbox.{texts_of, pieces, starts, message_limit}
 use Rattle.mailx_vars.specs.declared.environment.Places.{Places}
-use Rattle.message_state.specs.declared.mark.Mark.{Mark}
 use Rattle.message_state.specs.declared.row.Row.{Row}
 use Rattle.message_state.specs.declared.shown.Shown.{Shown}
 use Rattle.message_state.specs.Rows.{IsRow}
 use Rattle.message_state.specs.Status.{mark_of}
+use Rattle.rc_conditionals.specs.declared.conditions.Mode.{Mode}
 use Rattle.session_play.specs.Knowing.{AreRows}
 use Rattle.command_desk.specs.declared.desk.Desk.{Desk}
 use Rattle.command_desk.specs.Desks.{IsDesk, AreRowsButMarks}
@@ -48,9 +48,9 @@ opened-desk desk name bytes system rows wide are years few within = record {
 }
 
 -- a desk without messages
-pub empty-desk : (places : Places) (terminal : Bool) → 2 ≤ places.width → IsDesk (desk_with places terminal)
+pub empty-desk : (places : Places) (mode : Mode) (terminal : Bool) → 2 ≤ places.width → IsDesk (desk_with places mode terminal)
 unfolding texts_of pieces starts
-empty-desk places terminal wide = record {
+empty-desk places mode terminal wide = record {
   shown = record { few = omega arith; order = IsPermutation-refl []; depths = refl; current = omega arith; years = λ k d within. absurd (omega arith) };
   rows = tt;
   marks = refl;

@@ -22,9 +22,9 @@ use Rattle.mailx_session.specs.declared.frames.WaitingLine.{WaitingLine}
 use Rattle.mailx_session.specs.declared.state.SessionState.{SessionState}
 use Rattle.mailx_session.specs.declared.status.Status.{Status}
 use Rattle.mailx_session.specs.Waits.{Pending}
-use Rattle.mailx_session.specs.Pending.{taken, open_before, closed}
+use Rattle.mailx_session.specs.Pending.{taken, open_before}
 use Rattle.mailx_session.specs.States.{IsActor, IsState, IsSession, is_drafting, next_waiting, with_frames, with_count, cut_to, resumed, at_rest, rested}
-use Rattle.mailx_session.specs.Rounds.{line_play, command_play, typed_play, counted_play, is_idle, outside_play, waiting_play, WaitingGo, none, more, ended, cut, short}
+use Rattle.mailx_session.specs.Rounds.{line_play, command_play, counted_play, is_idle, outside_play, waiting_play, WaitingGo, none, more, ended, cut, short}
 
 pub no-both : {b : Bool} → b ≡ true → b ≡ false → ⊥
 no-both holds not_so = absurd (cc (holds, not_so))

@@ -1,5 +1,5 @@
 -- A commit that a command asks for carries out its play.
-use Rattle.std.proofs.Common.{◌≡◌, ℕ, List, [], ◌∷◌, ◌++◌, length, slice_index_or, refl, sym, ◌∙◌, ap, subst, inl, inr, None}
+use Rattle.std.proofs.Common.{List, [], refl, sym, ap, subst, inl, inr, None}
 use Rattle.std.specs.declared.result.Result.{Result}
 use Rattle.std.specs.declared.result.Result.TheVariants.{Ok, Err}
 use Rattle.host_port.specs.declared.event.Event.{Event}
@@ -9,17 +9,15 @@ use Rattle.session_play.specs.declared.changing.Committed.{Committed}
 use Rattle.session_play.specs.declared.stop.Stop.{Stop}
 use Rattle.session_play.specs.declared.stop.Stop.TheVariants as stop
 use Rattle.session_play.specs.Play.{Ret, Ask, Changes, Goes, Caused}
-use Rattle.session_play.specs.Steps.{After}
 use Rattle.session_play.proofs.PlayLemmas.{goes-then, goes-cut}
 use Rattle.std.proofs.lemmas.List.{append-nil}
 use Rattle.mailx_session.specs.declared.asks.Asked.{Asked}
 use Rattle.mailx_session.specs.declared.error.RunError.{RunError}
 use Rattle.mailx_session.specs.declared.error.RunError.TheVariants as error
 use Rattle.mailx_session.specs.declared.state.SessionState.{SessionState}
-use Rattle.mailx_session.specs.declared.status.Status.{Status}
 use Rattle.mailx_session.specs.Follows.{Follows}
 use Rattle.mailx_session.specs.Saving.{commit_of, after_commit, saved}
-use Rattle.mailx_session.specs.Sessions.{after_asks, in_play, stop_of, LineCaused}
+use Rattle.mailx_session.specs.Sessions.{after_asks, in_play, LineCaused}
 
 pub commit-follows : (s : SessionState) (changes : List Change) (answer : Result Committed Stop) (r : Result Asked RunError) → Follows s changes answer r → (es : List Event)
     → Goes {R = Committed} (Ask (Changes (commit_of s changes)) Ret) es answer → Goes (saved s changes None) es (in_play (after_asks s) r)

@@ -39,7 +39,7 @@ use Rattle.mailx_session.specs.declared.status.Status.{Status}
 use Rattle.mailx_session.specs.declared.state.SessionState.{SessionState}
 use Rattle.mailx_session.specs.Waits.{Pending}
 use Rattle.mailx_session.specs.Pending.{frame_of, lines_left}
-use Rattle.mailx_session.specs.States.{IsState, with_desk, with_draft, with_frames, resumed, OnlyFrames, KeepsOthers}
+use Rattle.mailx_session.specs.States.{IsState, with_desk, with_draft, with_file, with_frames, resumed, OnlyFrames, KeepsOthers}
 use Rattle.mailx_session.specs.Bringing.{is_source, is_call, sources, calls, source_limit, origin_at, with_lines, brings, brings_lines, room, weight, HasPlace, OnlyBrings}
 use Rattle.mailx_session.specs.Sourcing.{source_fault}
 use Rattle.mailx_session.specs.Calling.{called}
@@ -59,7 +59,7 @@ brings_none s t same = subst (λ (u : SessionState). OnlyBrings s u) (sym same) 
 -- what is brought after other lines
 pub brings-then : (a b c : SessionState) → OnlyBrings a b → OnlyBrings b c → OnlyBrings a c
 brings-then a b c x y = record {
-  rest = y.rest ∙ ap (λ (s : SessionState). with_draft (with_frames (with_desk s c.desk) c.frames) c.draft) x.rest;
+  rest = y.rest ∙ ap (λ (s : SessionState). with_file (with_draft (with_frames (with_desk s c.desk) c.frames) c.draft) c.file) x.rest;
   inside = (x.inside.0 ++ y.inside.0, y.inside.1 ∙ (ap (λ (fs : List Pending). fs ++ y.inside.0) x.inside.1 ∙ append_assoc a.frames x.inside.0 y.inside.0));
   room = le-then (room c.frames) (room b.frames) (room a.frames) y.room x.room;
 }
@@ -224,7 +224,7 @@ source-name frames name plain = go (is_short_name name) (nat_lt (sources frames)
 
 -- and so do no lines, with the count as it was
 pub weight_kept : (s t : SessionState) → KeepsOthers s t → t.frames ≡ s.frames → weight t ≤ weight s
-weight_kept s t others same = subst (λ (u : SessionState). weight u ≤ weight s) (sym (others ∙ ap (λ (fs : List Pending). with_draft (with_frames (with_desk s t.desk) fs) t.draft) same)) (le-refl (weight s))
+weight_kept s t others same = subst (λ (u : SessionState). weight u ≤ weight s) (sym (others ∙ ap (λ (fs : List Pending). with_file (with_draft (with_frames (with_desk s t.desk) fs) t.draft) t.file) same)) (le-refl (weight s))
 
 -- a line of a definition brings nothing
 definition-brings : (b : Bool) (o : Option MacroError) (line : List ℕ)

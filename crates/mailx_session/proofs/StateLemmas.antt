@@ -1,5 +1,5 @@
 -- The state that a session begins with is valid.
-use Rattle.std.proofs.Common.{◌≡◌, ◌≤◌, ℕ, Bool, true, List, ◌++◌, length, codes, refl, ap, ◌∙◌, arith, length-append}
+use Rattle.std.proofs.Common.{◌≡◌, ◌≤◌, ℕ, Bool, true, List, ◌++◌, codes, refl, ap, ◌∙◌, arith, length-append}
 use Rattle.std.specs.Prelude.{◌==◌, not}
 use Rattle.std.specs.declared.option.Option.TheVariants.{Some}
 use Rattle.std.proofs.lemmas.Bool.{and_parts, cond-true}
@@ -7,6 +7,7 @@ use Rattle.std.proofs.lemmas.List.Folds.{list_all-append}
 use Rattle.mailx_vars.specs.declared.environment.Places.{Places}
 use Rattle.mailx_vars.specs.Environment.{Pairs, knows_user, places_in, places_of, variable}
 use Rattle.mailx_vars.specs.Names.{is_short_name}
+use Rattle.rc_conditionals.specs.declared.conditions.Mode.{Mode}
 use Rattle.mailx_session.specs.States.{IsActor, IsSession}
 use Rattle.mailx_session.specs.Openings.{state_with}
 use Rattle.mailx_session.proofs.NameLemmas.{short-name}
@@ -28,5 +29,6 @@ actor-is home short =
       no_zero = list_all-append (λ b. not (b == 0)) home (codes "/.mailx") ∙ rw is.no_zero refl;
     }
 
-pub first-valid : (places : Places) (terminal : Bool) (token : ℕ) → 2 ≤ places.width → is_short_name places.home ≡ true → IsSession (state_with places terminal token)
-first-valid places terminal token wide home = record { state = record { desk = empty-desk places terminal wide; actor = actor-is places.home home }; frames = λ o. refl; count = λ o. refl }
+pub first-valid : (places : Places) (mode : Mode) (terminal by_recipient : Bool) (token : ℕ) → 2 ≤ places.width → is_short_name places.home ≡ true
+    → IsSession (state_with places mode terminal by_recipient token)
+first-valid places mode terminal by_recipient token wide home = record { state = record { desk = empty-desk places mode terminal wide; actor = actor-is places.home home }; frames = λ o. refl; count = λ o. refl }

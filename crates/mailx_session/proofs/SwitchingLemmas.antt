@@ -9,7 +9,7 @@ use Rattle.host_port.specs.declared.event.Event.{Event}
 use Rattle.folder_change.specs.declared.change.Change.{Change}
 use Rattle.mailx_vars.specs.Names.{is_short_name}
 use Rattle.session_play.specs.declared.stop.Stop.{Stop}
-use Rattle.session_play.specs.Play.{Play, Goes}
+use Rattle.session_play.specs.Play.{Goes}
 use Rattle.session_play.specs.Steps.{After}
 use Rattle.command_desk.specs.declared.desk.Desk.{Desk}
 use Rattle.command_desk.specs.Answers.{OrFault, Means}

@@ -66,7 +66,7 @@ abbrev pub brings : asked_of.Ask → Bool
 brings (asks.Source name) = true
 brings (asks.Lines text) = true
 brings (asks.Open name changes reply) = true
-brings (asks.Draft draft) = true
+brings (asks.Draft draft file current) = true
 brings ask = false
 
 -- a command's steps bring lines, a folder or a draft

@@ -1,9 +1,8 @@
 -- What a line of a draft does that is open.
-use Rattle.std.specs.Prelude.{◌≡◌, ℕ, Bool, true, false, List, [], ◌∷◌, ◌++◌, codes, if◌then◌else◌}
+use Rattle.std.specs.Prelude.{ℕ, List, [], ◌∷◌, ◌++◌, codes, if◌then◌else◌}
 use Rattle.std.specs.Option.{option_map}
 use Rattle.std.specs.declared.option.Option.{Option}
 use Rattle.std.specs.declared.option.Option.TheVariants.{Some, None}
-use Rattle.std.specs.declared.result.Result.{Result}
 use Rattle.std.specs.declared.result.Result.TheVariants.{Ok, Err}
 use Rattle.mail_text.specs.Lines.{with_feed}
 use Rattle.host_port.specs.declared.event.ChildAnswer.{ChildAnswer}
@@ -23,7 +22,7 @@ use Rattle.compose_tilde.specs.Lines.{line_step}
 use Rattle.compose_tilde.specs.Answering.{idle, answer_step}
 use Rattle.session_play.specs.declared.act.Found.{Found}
 use Rattle.session_play.specs.declared.act.Found.TheVariants as found
-use Rattle.session_play.specs.Play.{Play, Ret, Ask, Say, Try, Child, Next, Go, Last}
+use Rattle.session_play.specs.Play.{Play, Ret, Ask, Say, Try, Next, Go}
 use Rattle.session_play.specs.Steps.{refused}
 use Rattle.command_desk.specs.declared.steps.Ask.TheVariants as asks
 use Rattle.command_desk.specs.declared.steps.Steps.{Steps}
@@ -36,9 +35,11 @@ use Rattle.read_commands.specs.declared.origin.Origin.TheVariants as origin
 use Rattle.read_commands.specs.Origins.{commanded}
 use Rattle.mailx_session.specs.declared.state.SessionState.{SessionState}
 use Rattle.mailx_session.specs.declared.status.Status.{Status}
-use Rattle.mailx_session.specs.States.{with_draft, with_count}
+use Rattle.mailx_session.specs.States.{with_draft, with_count, without_draft}
 use Rattle.mailx_session.specs.Sessions.{carried_out}
+use Rattle.mailx_session.specs.Running.{by_shell, not_run}
 use Rattle.mailx_session.specs.Beginning.{view_in}
+use Rattle.mailx_session.specs.Sending.{ended_draft, quit_draft}
 
 -- the line that refuses the messages of an escape
 abbrev pub list_fault : ListError → List ℕ
@@ -101,12 +102,12 @@ fetched s (Err line) = refused s line
 
 -- what follows a command that was run for the draft
 abbrev pub after_child : SessionState → Option ChildAnswer → Play (Next SessionState Status)
-after_child s None = refused s (with_feed (codes "command could not be run"))
+after_child s None = refused s not_run
 after_child s (Some a) = answered s (answer.Ran a)
 
 -- a command is run for the draft by the shell
 abbrev pub run_for : SessionState → List ℕ → List ℕ → Play (Next SessionState Status)
-run_for s command input = Ask (Child s.desk.places.shell (codes "-c" ∷ command ∷ []) input) (after_child s)
+run_for s command input = Ask (by_shell s.desk command input) (after_child s)
 
 -- bytes are put at the end of a file by a commit, and then the reply is said
 abbrev pub written : List ℕ → List ℕ → Steps
@@ -124,14 +125,6 @@ put s (Err line) bytes = refused s line
 abbrev pub commanded_within : SessionState → List ℕ → Play (Next SessionState Status)
 commanded_within s line = carried_out (with_count s 1) (commanded origin.Draft s.desk line)
 
--- the draft is over
-abbrev pub without_draft : SessionState → SessionState
-without_draft s = with_draft s None
-
--- the draft is done, and is to be sent, which isn't built
-abbrev pub ended_draft : SessionState → Play (Next SessionState Status)
-ended_draft s = refused (without_draft s) (with_feed (codes "sending: not built"))
-
 -- what the draft needs
 abbrev pub needed : SessionState → Need → Play (Next SessionState Status)
 needed s need.More = Ret (Go s)
@@ -142,7 +135,7 @@ needed s (need.Child command input) = run_for s command input
 needed s (need.Command line) = commanded_within s line
 needed s (need.Put word bytes) = put s (expanded s.desk word) bytes
 needed s need.Done = ended_draft s
-needed s need.Quit = Ret (Go (without_draft s))
+needed s need.Quit = quit_draft s
 needed s need.Drop = Ret (Go (without_draft s))
 
 -- the draft took a line, or refuses it

@@ -1,17 +1,17 @@
 -- The end of the input.
-use Rattle.std.specs.Prelude.{ℕ, List}
 use Rattle.session_play.specs.Play.{Play, Ret, Ask, Say, bind}
 use Rattle.session_play.specs.Steps.{After, On, Over, Refused, Ended, in_order}
 use Rattle.folder_commands.specs.Leaving.{quit}
 use Rattle.mailx_session.specs.declared.state.SessionState.{SessionState}
 use Rattle.mailx_session.specs.declared.status.Status.{Status}
 use Rattle.mailx_session.specs.declared.status.Status.TheVariants as status
+use Rattle.mailx_session.specs.Outcomes.{status_of}
 use Rattle.mailx_session.specs.Sessions.{asked}
 
 -- how the run ends once the folder was to be left: where that was refused, its line is said
 abbrev pub left_by : After SessionState Status → Play Status
-left_by (On s) = Ret status.Done
-left_by (Over s) = Ret status.Done
+left_by (On s) = Ret (status_of s.outcome)
+left_by (Over s) = Ret (status_of s.outcome)
 left_by (Refused line) = Ask (Say line) (λ _. Ret status.Refused)
 left_by (Ended e) = Ret e
 

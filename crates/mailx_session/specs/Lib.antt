@@ -8,7 +8,10 @@ pub mod Sourcing
 pub mod Calling
 pub mod Switching
 pub mod Beginning
+pub mod Running
 pub mod Sessions
+pub mod Outcomes
+pub mod Sending
 pub mod Drafting
 pub mod Taking
 pub mod Leaving

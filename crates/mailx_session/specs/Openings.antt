@@ -10,6 +10,7 @@ use Rattle.mailx_vars.specs.Settings.{defaults, is_set}
 use Rattle.message_state.specs.declared.mark.State.TheVariants.{New, Unread}
 use Rattle.message_state.specs.declared.row.Row.{Row}
 use Rattle.message_state.specs.declared.shown.Shown.{Shown}
+use Rattle.rc_conditionals.specs.declared.conditions.Mode.{Mode}
 use Rattle.session_play.specs.Knowing.{AreRows}
 use Rattle.command_desk.specs.declared.desk.Desk.{Desk}
 use Rattle.quit_rules.specs.declared.open.Open.{Open}
@@ -19,12 +20,13 @@ use Rattle.show_commands.specs.Paging.{page_size, page_of, current_page}
 use Rattle.folder_commands.specs.Opening.{is_in, opening_line}
 use Rattle.mailx_session.specs.declared.opening.Opening.{Opening}
 use Rattle.mailx_session.specs.declared.state.SessionState.{SessionState}
+use Rattle.mailx_session.specs.declared.outcome.Outcome.TheVariants.{Fine}
 use Rattle.mailx_session.specs.States.{with_desk}
 
 -- a desk without messages and without a previous file, with the variables that are set at the start; the user's own name is that of the
 -- environment
-abbrev pub desk_with : Places → Bool → Desk
-desk_with places terminal = record {
+abbrev pub desk_with : Places → Mode → Bool → Desk
+desk_with places mode terminal = record {
   folder = record { name = []; system = false; folder = []; marks = [] };
   previous = [];
   shown = record { rows = []; order = []; depth = []; current = 0 };
@@ -34,6 +36,7 @@ desk_with places terminal = record {
   sets = record { ignored = []; retained = [] };
   macros = record { done = []; unfinished = None };
   conditions = [];
+  mode = mode;
   terminal = terminal;
   page = 0;
   fresh = true;
@@ -41,19 +44,22 @@ desk_with places terminal = record {
 }
 
 -- the state before a folder is opened, in a run of this token: the name of the actor is `.mailx` in the home folder
-abbrev pub state_with : Places → Bool → ℕ → SessionState
-state_with places terminal token = record {
-  desk = desk_with places terminal;
+abbrev pub state_with : Places → Mode → Bool → Bool → ℕ → SessionState
+state_with places mode terminal by_recipient token = record {
+  desk = desk_with places mode terminal;
   actor = places.home ++ codes "/.mailx";
   token = token;
   terminal = terminal;
+  by_recipient = by_recipient;
   frames = [];
   count = 0;
   draft = None;
+  file = None;
+  outcome = Fine;
 }
 
-abbrev pub first_state : Pairs → Bool → ℕ → SessionState
-first_state pairs terminal token = state_with (places_in pairs) terminal token
+abbrev pub first_state : Pairs → Mode → Bool → Bool → ℕ → SessionState
+first_state pairs mode terminal by_recipient token = state_with (places_in pairs) mode terminal by_recipient token
 
 -- the number of the message at a place from 0, or what stands in its stead
 abbrev pub number_or : ℕ → Option ℕ → ℕ

@@ -19,7 +19,8 @@ use Rattle.mailx_session.specs.declared.status.Status.{Status}
 use Rattle.mailx_session.specs.Waits.{Pending}
 use Rattle.mailx_session.specs.States.{command_limit, is_drafting, next_waiting, with_count, resumed, rested}
 use Rattle.mailx_session.specs.Sessions.{carried_out}
-use Rattle.mailx_session.specs.Drafting.{draft_play, ended_draft}
+use Rattle.mailx_session.specs.Drafting.{draft_play}
+use Rattle.mailx_session.specs.Sending.{ended_draft}
 
 -- what a line from somewhere does
 abbrev pub line_play : Origin → SessionState → List ℕ → Play (Next SessionState Status)
@@ -80,10 +81,11 @@ pub data LineGoes (s : SessionState) (line : List ℕ) : List Event → Result (
   last : {es : List Event} {e : Status} → Goes (typed_play s line) es (Ok (Last e)) → LineGoes s line es (Ok (Last e))
   cut_short : {es : List Event} {cause : Stop} → Goes (typed_play s line) es (Err cause) → LineGoes s line es (Err cause)
 
--- The draft that is open ends, and the lines that wait are carried out.
+-- The draft that is open ends, and the lines that wait are carried out, unless the run ends with it.
 pub data DraftEnds (s : SessionState) : List Event → Result (Next SessionState Status) Stop → Type 0 where
   told : {t : SessionState} {es : List Event} {out : Result (Next SessionState Status) Stop} (front rest : List Event) → es ≡ front ++ rest
       → Goes (ended_draft s) front (Ok (Go t)) → WaitingGo t rest out → DraftEnds s es out
+  told_last : {es : List Event} {e : Status} → Goes (ended_draft s) es (Ok (Last e)) → DraftEnds s es (Ok (Last e))
   untold : {es : List Event} {cause : Stop} → Goes (ended_draft s) es (Err cause) → DraftEnds s es (Err cause)
 
 -- The end of the input: while a draft is open it ends, and the lines that wait are carried out.

@@ -1,5 +1,5 @@
 -- What a session does with a line.
-use Rattle.std.specs.Prelude.{◌≡◌, ℕ, Bool, true, false, List}
+use Rattle.std.specs.Prelude.{◌≡◌, Bool, true, false}
 use Rattle.std.specs.declared.result.Result.{Result}
 use Rattle.std.specs.declared.result.Result.TheVariants.{Ok, Err}
 use Rattle.host_port.specs.Calls.{Counts, Rose}
@@ -21,9 +21,10 @@ use Rattle.mailx_session.specs.declared.flow.Flow.{Flow}
 use Rattle.mailx_session.specs.declared.flow.Flow.TheVariants as flow
 use Rattle.mailx_session.specs.declared.state.SessionState.{SessionState}
 use Rattle.mailx_session.specs.declared.status.Status.{Status}
-use Rattle.mailx_session.specs.declared.status.Status.TheVariants.{Done}
 use Rattle.mailx_session.specs.States.{settled, OnlyFrames}
-use Rattle.mailx_session.specs.Beginning.{begun}
+use Rattle.mailx_session.specs.Beginning.{beginning, file_fault}
+use Rattle.mailx_session.specs.Outcomes.{status_of}
+use Rattle.mailx_session.specs.Running.{run_asked}
 use Rattle.mailx_session.specs.Statuses.{IsLineEnd}
 use Rattle.mailx_session.specs.Saving.{names_fault, saved}
 use Rattle.mailx_session.specs.Sourcing.{source_fault, sourced}
@@ -37,8 +38,9 @@ asked s (asks.Commit changes) = saved s changes (names_fault s.actor changes)
 asked s (asks.Source name) = sourced s name (source_fault s.frames name)
 asked s (asks.Lines text) = Ret (called s text)
 asked s (asks.Open name changes reply) = switches s name changes reply (open_fault s.actor name changes)
-asked s (asks.Draft draft) = begun s draft
-asked s asks.Exit = Ret (Ended Done)
+asked s (asks.Draft draft file current) = beginning s draft file current (file_fault s.actor file)
+asked s (asks.Child command input) = run_asked s command input
+asked s asks.Exit = Ret (Ended (status_of s.outcome))
 
 -- a command's steps are carried out, or the line that refuses it is said
 abbrev pub carried_out : SessionState → OrFault Steps → Play (Next SessionState Status)

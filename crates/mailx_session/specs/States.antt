@@ -10,6 +10,7 @@ use Rattle.command_desk.specs.declared.desk.Desk.{Desk}
 use Rattle.command_desk.specs.declared.effects.Effects.{Effects}
 use Rattle.command_desk.specs.Desks.{IsDesk}
 use Rattle.command_desk.specs.Effects.{effect}
+use Rattle.mailx_session.specs.declared.outcome.Outcome.{Outcome}
 use Rattle.mailx_session.specs.declared.state.SessionState.{SessionState}
 use Rattle.compose_tilde.specs.declared.machine.Machine.{Machine}
 use Rattle.mailx_session.specs.declared.frames.WaitingLine.{WaitingLine}
@@ -56,6 +57,18 @@ with_count s count = record s { count = count }
 abbrev pub with_draft : SessionState → Option Machine → SessionState
 with_draft s draft = record s { draft = draft }
 
+-- the state with another file of its draft, or with none
+abbrev pub with_file : SessionState → Option (List ℕ) → SessionState
+with_file s file = record s { file = file }
+
+-- the state in which drafts came to this
+abbrev pub with_outcome : SessionState → Outcome → SessionState
+with_outcome s outcome = record s { outcome = outcome }
+
+-- the draft is over
+abbrev pub without_draft : SessionState → SessionState
+without_draft s = record s { draft = None; file = None }
+
 -- the line that is carried out next: one of those that wait, unless a draft is open, whose lines come from the input
 abbrev pub next_waiting : SessionState → Option (WaitingLine × List Pending)
 next_waiting s = if is_drafting s then None else taken s.frames
@@ -101,6 +114,14 @@ settled s effects = with_desk s (effect s.desk effects)
 abbrev pub OnlyFrames : SessionState → SessionState → Type 0
 OnlyFrames old new = new ≡ with_frames old new.frames
 
--- only the desk, the lines that wait and the draft changed
+-- only the desk, the lines that wait, the draft and its file changed
 abbrev pub KeepsOthers : SessionState → SessionState → Type 0
-KeepsOthers old new = new ≡ with_draft (with_frames (with_desk old new.desk) new.frames) new.draft
+KeepsOthers old new = new ≡ with_file (with_draft (with_frames (with_desk old new.desk) new.frames) new.draft) new.file
+
+-- only what became of drafts changed
+abbrev pub KeepsButOutcome : SessionState → SessionState → Type 0
+KeepsButOutcome old new = new ≡ with_outcome old new.outcome
+
+-- only the draft, its file and what became of drafts changed
+abbrev pub KeepsButDraft : SessionState → SessionState → Type 0
+KeepsButDraft old new = new ≡ with_outcome (with_file (with_draft old new.draft) new.file) new.outcome

@@ -11,6 +11,7 @@ status_number status.Usage = 2
 status_number status.InputFault = 3
 status_number status.OutputFault = 4
 status_number status.DiskFault = 5
+status_number (status.NotSent n) = 6
 status_number status.Refused = 7
 status_number status.Memory = 8
 status_number status.InputLimit = 9
@@ -21,13 +22,17 @@ status_number status.BadRecord = 11
 abbrev pub IsEnd : Status → Type 0
 IsEnd status.Done = Unit {0}
 IsEnd status.NoMail = Unit {0}
+IsEnd (status.NotSent n) = Unit {0}
 IsEnd status.Refused = Unit {0}
 IsEnd status.NoFolder = Unit {0}
 IsEnd status.BadRecord = Unit {0}
 IsEnd s = ⊥
 
--- a line of a session ends the run so: it is done, or what stands as the record is none
+-- a line of a session ends the run so: it is done, a draft wasn't sent, or its record or dead letter was refused, or what stands as the record of
+-- commits is none
 abbrev pub IsLineEnd : Status → Type 0
 IsLineEnd status.Done = Unit {0}
+IsLineEnd (status.NotSent n) = Unit {0}
+IsLineEnd status.Refused = Unit {0}
 IsLineEnd status.BadRecord = Unit {0}
 IsLineEnd s = ⊥

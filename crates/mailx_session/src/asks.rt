@@ -10,8 +10,10 @@ ghost use Rattle.mailx_session.specs.States.{IsState};
 ghost use Rattle.mailx_session.specs.Bringing.{brings, OnlyBrings};
 ghost use Rattle.mailx_session.specs.Sessions.{asked, after_asks, in_play, is_on, LineCaused, EndsByAsk, StaysUnlessOn, KeepsDesk};
 
-use crate::beginning::begin;
+use crate::beginning::begin_recorded;
 use crate::calling::call;
+use crate::outcome::status_of;
+use crate::running::run_asked;
 use crate::saving::save;
 use crate::sourcing::source;
 use crate::switching::switch;
@@ -75,13 +77,20 @@ fn do_ask<H: Host>(
             changes,
             reply,
         } => switch(alloc, state, host, name.bytes(), changes.items(), reply),
-        Wanted::Draft { draft } => begin(alloc, state, host, draft),
-        Wanted::Exit => Ok(Asked::Ended(Status::Done)),
+        Wanted::Draft {
+            draft,
+            file,
+            current,
+        } => begin_recorded(alloc, state, host, draft, file, *current),
+        Wanted::Child { command, input } => {
+            run_asked(alloc, state, host, command.bytes(), input.bytes())
+        }
+        Wanted::Exit => Ok(Asked::Ended(status_of(state.outcome))),
     }
 }
 
-// Says bytes that a command asks for.
-fn say_line<H: Host>(host: &mut H, bytes: &Text) -> Result<Asked, RunError>
+/// Says bytes that a command asks for.
+pub(crate) fn say_line<H: Host>(host: &mut H, bytes: &Text) -> Result<Asked, RunError>
     ensures ran { (s : SessionState) → Ran H.world host.old host.new
         (λ es. Goes (Ask (Say bytes.now) (λ _. Ret (after_asks s Asked.On))) es (in_play (after_asks s) result)) }
     ensures fall { NeverFall (H.world.counts host.old) (H.world.counts host.new) }

@@ -1,5 +1,5 @@
 // The lines of a draft that is open.
-ghost use Rattle.std.specs.Prelude.{◌≡◌, ◌++◌, ◌∷◌, [], List, ℕ, true, Ok, IfOk, codes};
+ghost use Rattle.std.specs.Prelude.{◌≡◌, ◌++◌, List, ℕ, true, Ok, IfOk};
 ghost use Rattle.mail_text.specs.Lines.{with_feed};
 ghost use Rattle.host_port.specs.Ran.{Ran};
 ghost use Rattle.session_play.specs.Play.{Play, Ask, Try, Next, Goes};
@@ -9,7 +9,7 @@ ghost use Rattle.command_desk.specs.FileNames.{expanded};
 ghost use Rattle.mailx_session.specs.declared.state.SessionState.{SessionState};
 ghost use Rattle.mailx_session.specs.declared.status.Status.{Status};
 ghost use Rattle.mailx_session.specs.Beginning.{view_as};
-ghost use Rattle.mailx_session.specs.Drafting.{answered, after_child, after_fetch, commanded_within, draft_play, ended_draft, fetched, fetched_named, needed, put, run_for, tilde, told, without_draft, written};
+ghost use Rattle.mailx_session.specs.Drafting.{answered, after_child, after_fetch, commanded_within, draft_play, fetched, fetched_named, needed, put, run_for, tilde, told, written};
 ghost use Rattle.mailx_session.specs.Taking.{AwaitsAll, IsAwaited, IsEscapeFault, SaysFault, TookAnswer, TookLine};
 ghost use Rattle.mailx_session.specs.States.{IsState};
 ghost use Rattle.mailx_session.specs.Sessions.{carried_out, in_play, next_of, LineCaused, EndsByLine};
@@ -17,7 +17,9 @@ ghost use Rattle.mailx_session.specs.Sessions.{carried_out, in_play, next_of, Li
 use crate::asks::say;
 use crate::beginning::view_as;
 use crate::lines::{carry_line, carry_out, refuse};
+use crate::running::by_shell;
 use crate::saving::line_of;
+use crate::sending::{end_draft, quit_draft};
 use crate::startup::say_fault;
 use crate::{Flow, RunError, SessionState};
 use command_desk::{expanded, unchanged};
@@ -29,7 +31,7 @@ use mail_text::{Items, Memory, Text};
 use mailx_vars::is_short_name;
 use message_list::ListError;
 use read_commands::{Ask as Wanted, Desk, Origin, Refusal, Steps};
-use session_play::{Found, run_child, try_load};
+use session_play::{Found, try_load};
 use std::alloc::Global;
 
 // An escape as its faults name it, and what is wrong with it, as a line.
@@ -267,16 +269,6 @@ fn fetch_dead<H: Host>(
     }
 }
 
-// The arguments with which the shell runs a command.
-fn shell_args(alloc: Global, command: Text) -> Result<Items<Text>, Memory>
-    ensures { IfOk result (λ args. args ≡ codes "-c" ∷ command ∷ []) }
-{
-    let mut args = Items::new(alloc);
-    args.push(Text::copy(alloc, b"-c")?)?;
-    args.push(command)?;
-    Ok(args)
-}
-
 // What follows a command that was run for the draft.
 fn after_child<H: Host>(
     alloc: Global,
@@ -314,14 +306,9 @@ fn run_for<H: Host>(
     ensures state { IsState state.new }
     ensures cause { LineCaused (H.world.counts host.old) (H.world.counts host.new) result }
 {
-    let args = match shell_args(alloc, command) {
-        Ok(args) => args,
-        Err(Memory) => return Err(RunError::Memory),
-    };
-    let shell = state.desk.places.shell.bytes();
-    match run_child(alloc, host, shell, args.items(), input) {
+    match by_shell(alloc, &state.desk, host, command.bytes(), input) {
         Ok(answer) => after_child(alloc, state, host, answer),
-        Err(_) => Err(RunError::Memory),
+        Err(error) => Err(error),
     }
 }
 
@@ -403,24 +390,6 @@ fn command_within<H: Host>(
     carry_line(alloc, state, host, Origin::Draft, line)
 }
 
-/// The draft is done, and is dropped: sending isn't built.
-pub(crate) fn end_draft<H: Host>(
-    alloc: Global,
-    state: &mut SessionState,
-    host: &mut H,
-) -> Result<Flow, RunError>
-    requires { IsState state.old }
-    ensures ran { Ran H.world host.old host.new
-        (λ es. Goes (ended_draft state.old) es (in_play (next_of state.new) result)) }
-    ensures over { state.new ≡ without_draft state.old }
-    ensures go { IfOk result (λ flow. flow ≡ Flow.Go) }
-    ensures state { IsState state.new }
-    ensures cause { LineCaused (H.world.counts host.old) (H.world.counts host.new) result }
-{
-    state.draft = None;
-    say_fault(alloc, state, host, b"", b"sending: not built")
-}
-
 // Does what the draft needs.
 fn meet<H: Host>(
     alloc: Global,
@@ -445,8 +414,10 @@ fn meet<H: Host>(
         Need::Command(line) => command_within(alloc, state, host, line.bytes()),
         Need::Put { name, bytes } => put(alloc, state, host, name.bytes(), bytes),
         Need::Done => end_draft(alloc, state, host),
-        Need::Quit | Need::Drop => {
+        Need::Quit => quit_draft(alloc, state, host),
+        Need::Drop => {
             state.draft = None;
+            state.file = None;
             Ok(Flow::Go)
         }
     }

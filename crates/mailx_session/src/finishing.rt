@@ -6,14 +6,14 @@ ghost use Rattle.mailx_session.specs.Rounds.{DraftEnds, FinishGo};
 ghost use Rattle.mailx_session.specs.States.{IsState, IsSession, is_drafting, rested};
 ghost use Rattle.mailx_session.specs.Sessions.{in_play, next_of, LineCaused, EndsByLine};
 
-use crate::drafting::end_draft;
 use crate::lines::waiting_lines;
+use crate::sending::end_draft;
 use crate::state::rest;
 use crate::{Flow, RunError, SessionState};
 use host_port::Host;
 use std::alloc::Global;
 
-// Ends the draft, and carries out the lines that wait, until another one is open.
+// Ends the draft, and carries out the lines that wait, until another one is open, unless the run ends with it.
 fn end_and_go_on<H: Host>(
     alloc: Global,
     state: &mut SessionState,
@@ -29,7 +29,8 @@ fn end_and_go_on<H: Host>(
     ensures cause { LineCaused (H.world.counts host.old) (H.world.counts host.new) result }
 {
     match end_draft(alloc, state, host) {
-        Ok(_) => waiting_lines(alloc, state, host),
+        Ok(Flow::Go) => waiting_lines(alloc, state, host),
+        Ok(Flow::End(status)) => Ok(Flow::End(status)),
         Err(error) => Err(error),
     }
 }

@@ -13,6 +13,7 @@ ghost use Rattle.mailx_session.specs.Bringing.{brings};
 ghost use Rattle.mailx_session.specs.Leaving.{left_by, leaving};
 
 use crate::asks::{Asked, do_asks, say};
+use crate::outcome::status_of;
 use crate::{RunError, SessionState, Status};
 use host_port::Host;
 use mail_text::{Memory, Text};
@@ -33,15 +34,15 @@ fn end_refused<H: Host>(host: &mut H, line: &Text) -> Result<Status, RunError>
 }
 
 // How the run ends, by what the answers to the asks of a quit left.
-fn end_by<H: Host>(host: &mut H, asked: Asked) -> Result<Status, RunError>
+fn end_by<H: Host>(host: &mut H, state: &SessionState, asked: Asked) -> Result<Status, RunError>
     requires { EndsByAsk asked }
-    ensures ran { (s : SessionState) → Ran H.world host.old host.new
-        (λ es. Goes (left_by (after_asks s asked)) es (in_play (λ (e : Status). e) result)) }
+    ensures ran { Ran H.world host.old host.new
+        (λ es. Goes (left_by (after_asks state.now asked)) es (in_play (λ (e : Status). e) result)) }
     ensures end { IfOk result IsEnd }
     ensures cause { LineCaused (H.world.counts host.old) (H.world.counts host.new) result }
 {
     match asked {
-        Asked::On | Asked::Over => Ok(Status::Done),
+        Asked::On | Asked::Over => Ok(status_of(state.outcome)),
         Asked::Refused { line } => end_refused(host, &line),
         Asked::Ended(status) => Ok(status),
     }
@@ -62,7 +63,7 @@ fn leave_by<H: Host>(
     ensures cause { LineCaused (H.world.counts host.old) (H.world.counts host.new) result }
 {
     let asked = do_asks(alloc, state, host, asks)?;
-    end_by(host, asked)
+    end_by(host, state, asked)
 }
 
 /// Leaves the folder at the end of the input, as `quit` does. Where that is refused its line is said, and the run ends

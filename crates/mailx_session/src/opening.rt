@@ -10,7 +10,7 @@ ghost use Rattle.folder_commands.specs.Opening.{is_in};
 ghost use Rattle.mailx_session.specs.Openings.{is_system, first_current, desk_with, state_with, IsKnownSize, IsOpening, plain, with_folder, with_page, page_at};
 ghost use Rattle.command_desk.specs.Desks.{IsDesk};
 
-use crate::{Frames, SessionState};
+use crate::{Frames, Outcome, SessionState};
 use alias_groups::{Aliases, Own};
 use mail_text::{Items, Memory, Text};
 use mailx_macros::Macros;
@@ -18,7 +18,7 @@ use mailx_vars::{Places, Vars};
 use mbox_scan::Folder;
 use message_show::FieldSets;
 use message_state::{Mark, Order, Row, RowList, Shown, State, row_of};
-use rc_conditionals::Conditions;
+use rc_conditionals::{Conditions, Mode};
 use read_commands::{Desk, Open, Refusal, page_of, page_size};
 use std::alloc::Global;
 
@@ -42,8 +42,8 @@ pub(crate) fn is_system(places: &Places, name: &[u8]) -> bool
 }
 
 // The desk before a folder is opened.
-fn first_desk(alloc: Global, places: Places, terminal: bool) -> Result<Desk, Memory>
-    ensures { IfOk result (λ desk. desk ≡ desk_with places terminal) }
+fn first_desk(alloc: Global, places: Places, mode: Mode, terminal: bool) -> Result<Desk, Memory>
+    ensures { IfOk result (λ desk. desk ≡ desk_with places mode terminal) }
 {
     let none = Text::new(alloc);
     let folder = match Folder::open(alloc, none) {
@@ -73,6 +73,7 @@ fn first_desk(alloc: Global, places: Places, terminal: bool) -> Result<Desk, Mem
         sets: FieldSets::new(alloc),
         macros: Macros::new(alloc),
         conditions: Conditions::new(),
+        mode,
         terminal,
         page: 0,
         fresh: true,
@@ -93,20 +94,25 @@ pub fn actor_of(alloc: Global, home: &[u8]) -> Result<Text, Memory>
 pub(crate) fn first_state(
     alloc: Global,
     places: Places,
+    mode: Mode,
     terminal: bool,
+    by_recipient: bool,
     token: u64,
 ) -> Result<SessionState, Memory>
-    ensures { IfOk result (λ state. state ≡ state_with places terminal token) }
+    ensures { IfOk result (λ state. state ≡ state_with places mode terminal by_recipient token) }
 {
     let actor = actor_of(alloc, places.home.bytes())?;
     Ok(SessionState {
-        desk: first_desk(alloc, places, terminal)?,
+        desk: first_desk(alloc, places, mode, terminal)?,
         actor,
         token,
         terminal,
+        by_recipient,
         frames: Frames::new(alloc),
         count: 0,
         draft: None,
+        file: None,
+        outcome: Outcome::Fine,
     })
 }
 

@@ -33,8 +33,8 @@ pub(crate) fn line_of(alloc: Global, word: &[u8], fault: &[u8]) -> Result<Text, 
     Ok(line)
 }
 
-// What is wrong with a name, for a file that a commit of this actor is to change.
-fn name_fault(alloc: Global, actor: &[u8], name: &[u8]) -> Result<Option<Text>, Memory>
+/// What is wrong with a name, for a file that a commit of this actor is to change.
+pub(crate) fn name_fault(alloc: Global, actor: &[u8], name: &[u8]) -> Result<Option<Text>, Memory>
     ensures { IfOk result (λ fault. fault ≡ name_fault actor.now name.now) }
 {
     if !is_short_name(name) {

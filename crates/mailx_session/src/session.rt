@@ -6,6 +6,7 @@ ghost use Rattle.mailx_vars.specs.Environment.{knows_user};
 ghost use Rattle.command_desk.specs.Desks.{IsDesk};
 ghost use Rattle.read_commands.specs.declared.origin.Origin.{Origin};
 ghost use Rattle.read_commands.specs.Origins.{commanded};
+ghost use Rattle.mailx_session.specs.Beginning.{composing};
 ghost use Rattle.mailx_session.specs.States.{IsState, IsSession, is_drafting, rested};
 ghost use Rattle.mailx_session.specs.Leaving.{leaving};
 ghost use Rattle.mailx_session.specs.Rounds.{FinishGo, LineGoes};
@@ -16,6 +17,7 @@ ghost use Rattle.mailx_session.specs.Bringing.{brings_lines};
 ghost use Rattle.mailx_session.specs.Sessions.{next_of, in_play, LineCaused, EndsByLine, StaysAtEnd};
 ghost use Rattle.mailx_session.specs.Openings.{first_state, greeting, Opens};
 
+use crate::beginning::compose;
 use crate::finishing::finish;
 use crate::greeting::greeting;
 use crate::leaving::leave;
@@ -24,10 +26,12 @@ use crate::opening::{first_state, opening_of, put_folder};
 use crate::startup::startup_file;
 use crate::state::rest;
 use crate::{Flow, RunError, SessionState, Status};
+use draft_text::Draft;
 use host_port::Host;
 use mail_text::{Memory, Text};
 use mailx_vars::Places;
 use mbox_scan::Folder;
+use rc_conditionals::Mode;
 use read_commands::Desk;
 use std::alloc::Global;
 use std::marker::Model;
@@ -51,20 +55,22 @@ impl Model for Session {
 }
 
 impl Session {
-    /// A session with an empty folder and the variables that are set at the start, in a run of this token. HOME and
-    /// LOGNAME are set in the environment.
+    /// A session with an empty folder and the variables that are set at the start, in a run of this mode and token;
+    /// `by_recipient` is the flag `-F`. HOME and LOGNAME are set in the environment.
     pub fn new(
         alloc: Global,
         pairs: &[(Text, Text)],
+        mode: Mode,
         terminal: bool,
+        by_recipient: bool,
         token: u64,
     ) -> Result<Session, Memory>
         requires { knows_user pairs.now ≡ true }
-        ensures { IfOk result (λ session. session ≡ first_state pairs.now terminal token) }
+        ensures { IfOk result (λ session. session ≡ first_state pairs.now mode terminal by_recipient token) }
     {
         match Places::read(alloc, pairs)? {
             Some(places) => Ok(Session {
-                state: first_state(alloc, places, terminal, token)?,
+                state: first_state(alloc, places, mode, terminal, by_recipient, token)?,
                 alloc,
             }),
             None => Err(Memory),
@@ -84,6 +90,17 @@ impl Session {
             opening.shown,
         );
         Ok(())
+    }
+
+    /// Begins the draft of send mode, once `Subject: ` was said where the next line is the subject.
+    pub fn compose<H: Host>(&mut self, draft: &Draft, host: &mut H) -> Result<(), RunError>
+        ensures ran { Ran H.world host.old host.new
+            (λ es. Goes (composing self.old draft.now) es (in_play (λ u. self.new) result)) }
+        ensures cause { LineCaused (H.world.counts host.old) (H.world.counts host.new) result }
+    {
+        let begun = compose(self.alloc, &mut self.state, host, draft);
+        rest(self.alloc, &mut self.state);
+        begun
     }
 
     /// What is said at the start: with `header` set the opening line and the page of the current message.

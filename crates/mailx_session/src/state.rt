@@ -2,7 +2,7 @@
 ghost use Rattle.std.specs.Prelude.{◌≡◌, [], None};
 ghost use Rattle.mailx_session.specs.States.{IsState, IsSession, at_rest, cut_to, rested, resumed};
 
-use crate::Frames;
+use crate::{Frames, Outcome};
 use compose_tilde::Compose;
 use mail_text::Text;
 use mailx_macros::Macros;
@@ -21,12 +21,18 @@ pub struct SessionState {
     pub token: u64,
     /// Whether the input is a terminal.
     pub terminal: bool,
+    /// The flag `-F`: a draft is recorded in the file named after its first recipient.
+    pub by_recipient: bool,
     /// The lines from elsewhere that wait to be carried out.
     pub frames: Frames,
     /// How many commands the last line of the input has given so far, itself among them.
     pub count: u32,
     /// The draft that is open, so that the lines of the input are those of it.
     pub draft: Option<Compose>,
+    /// The file that this draft is recorded in, where it is one of its own.
+    pub file: Option<Text>,
+    /// What became of the drafts so far.
+    pub outcome: Outcome,
 }
 
 // Drops the definition that is under way, where one is.

@@ -13,7 +13,10 @@ pub enum Status {
     OutputFault,
     /// A file could not be read, or written.
     DiskFault,
-    /// Another has the lock of a file, or the quit at the end of the input was refused.
+    /// A draft wasn't sent: its names were refused, or the sender could not be run, or ended with this status, which is
+    /// not 0.
+    NotSent { status: Option<i32> },
+    /// Another has the lock of the folder, or the quit at the end of the input, a record or a dead letter was refused.
     Refused,
     /// Out of memory.
     Memory,
@@ -40,6 +43,7 @@ impl Status {
             Status::InputFault => 3,
             Status::OutputFault => 4,
             Status::DiskFault => 5,
+            Status::NotSent { .. } => 6,
             Status::Refused => 7,
             Status::Memory => 8,
             Status::InputLimit => 9,

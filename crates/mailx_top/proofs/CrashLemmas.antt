@@ -1,8 +1,9 @@
 -- A run is crash safe.
-use Rattle.std.proofs.Common.{◌≡◌, ◌<◌, ◌^◌, ◌+◌, ℕ, Bool, true, false, List, [], ◌∷◌, ◌++◌, length, refl, sym, subst}
+use Rattle.std.proofs.Common.{◌≡◌, ◌<◌, ◌^◌, ◌+◌, ℕ, Bool, true, false, List, [], ◌∷◌, ◌++◌, length, refl, sym, subst, nat_le}
 use Rattle.std.specs.Prelude.{nat_lt, if◌then◌else◌}
 use Rattle.std.specs.declared.option.Option.{Option}
 use Rattle.std.specs.declared.option.Option.TheVariants.{Some, None}
+use Rattle.host_port.specs.declared.event.ChildAnswer.{ChildAnswer}
 use Rattle.std.specs.declared.result.Result.{Result}
 use Rattle.std.specs.declared.result.Result.TheVariants.{Ok, Err}
 use Rattle.host_port.specs.declared.event.Event.{Event}
@@ -54,8 +55,10 @@ use Rattle.draft_text.specs.Texts.{flattened}
 use Rattle.compose_tilde.specs.Answering.{new_machine}
 use Rattle.compose_tilde.specs.Lines.{asks_subject}
 use Rattle.mailx_session.specs.States.{is_drafting, next_waiting, settled, resumed, with_count, rested, command_limit}
-use Rattle.mailx_session.specs.Beginning.{view_in}
-use Rattle.mailx_session.specs.Drafting.{ended_draft}
+use Rattle.command_desk.specs.Effects.{moved}
+use Rattle.mailx_session.specs.Beginning.{view_in, begun, at_message, placed, file_fault, beginning}
+use Rattle.mailx_session.specs.Sending.{ended_draft}
+use Rattle.mailx_session.specs.Running.{after_run}
 use Rattle.mailx_session.specs.Saving.{names_fault, is_changed, commit_of, after_commit, saved}
 use Rattle.mailx_session.proofs.NameLemmas.{named-files}
 use Rattle.mailx_session.specs.declared.kinds.FrameKind.TheVariants as kinds
@@ -72,15 +75,17 @@ use Rattle.mailx_top.specs.declared.environment.Environment.{Environment}
 use Rattle.mailx_top.specs.declared.words.Manner.{Manner}
 use Rattle.mailx_top.specs.declared.words.Manner.TheVariants.{Silent, Rows, Quiet, Greeting}
 use Rattle.mailx_top.specs.Words.{Start, may_say, start_of}
-use Rattle.mailx_top.specs.Meaning.{RunState, at_prompt, Recovering, recovered, Opening, Reading, Finishing, Leaving, round, last_round, opening, folder_name, with_name_or_fault, loaded, unheld, is_no_mail, with_list, greeted, turn, line_round, finishing_round, with_input, with_finishing, prompted, first_of, actor_in, Preparing, with_files, next_file, file_round}
+use Rattle.mailx_top.specs.Meaning.{RunState, at_prompt, is_over, next_unless, Recovering, recovered, recovered_unless, Opening, Reading, Finishing, Leaving, round, last_round, opening, starting_with, folder_name, with_name_or_fault, loaded, unheld, is_no_mail, with_list, greeted, turn, line_round, finishing_round, with_input, with_finishing, prompted, first_of, actor_in, Preparing, with_files, next_file, file_round}
 use Rattle.mailx_top.specs.Statuses.{line_at_end}
 use Rattle.mailx_top.specs.Runs.{Ending, IsRun}
 use Rattle.mailx_top.specs.Crash.{IsSafe}
 use Rattle.mailx_top.proofs.EndLemmas.{cut-looks, end-looks, actor-same}
 use Rattle.mailx_top.proofs.LeavingLemmas.{any-ends}
-use Rattle.mailx_top.proofs.RoundLemmas.{loads-round}
+use Rattle.command_words.specs.declared.options.Options.{Options}
+use Rattle.mailx_top.proofs.RoundLemmas.{loads-round, sent, asks_in, begun_in}
 use Rattle.mailx_top.proofs.LineLemmas.{begins}
-use Rattle.mailx_top.proofs.DraftLemmas.{IsPassed, typed-passes, ended-passes, rested-passes}
+use Rattle.mailx_session.specs.Sending.{saved_one}
+use Rattle.mailx_top.proofs.DraftLemmas.{IsPassed, Line-play, typed-passes, ended-passes, rested-passes}
 
 -- a state of this actor and this token
 abbrev pub IsOf : List ℕ → ℕ → SessionState → Type 0
@@ -195,13 +200,55 @@ module _ (actor : List ℕ) (token : ℕ) where
   begun-of true s draft of = λ u. of
   begun-of false s draft of = of
 
+  run-commits : (s : SessionState) (a : Option ChildAnswer) → EachCommit (IsBy actor token) (after_run s a)
+  run-commits s None = tt
+  run-commits s (Some child) = (tt, λ u. tt)
+
+  run-of : (s : SessionState) (a : Option ChildAnswer) → IsOf actor token s → AllEnds (AfterOf actor token) (after_run s a)
+  run-of s None of = tt
+  run-of s (Some child) of = λ u. of
+
+  moved-of : (b : Bool) (s : SessionState) (n : ℕ) → IsOf actor token s → IsOf actor token (if b then settled s (moved s.desk n) else s)
+  moved-of true s n of = of
+  moved-of false s n of = of
+
+  at-of : (s : SessionState) (current : Option ℕ) → IsOf actor token s → IsOf actor token (at_message s current)
+  at-of s None of = of
+  at-of s (Some n) of = moved-of (nat_le n (length s.desk.shown.rows)) s n of
+
+  placed-commits : (file : Option (List ℕ)) (current : Option ℕ) (a : After SessionState Status) → AfterOf actor token a → EachCommit (IsBy actor token) (placed file current a)
+  placed-commits file current (On s) of = tt
+  placed-commits file current (Over s) of = tt
+  placed-commits file current (Refused line) of = tt
+  placed-commits file current (Ended e) of = tt
+
+  placed-of : (file : Option (List ℕ)) (current : Option ℕ) (a : After SessionState Status) → AfterOf actor token a → AllEnds (AfterOf actor token) (placed file current a)
+  placed-of file current (On s) of = of
+  placed-of file current (Over s) of = at-of s current of
+  placed-of file current (Refused line) of = of
+  placed-of file current (Ended e) of = of
+
+  beginning-commits : (s : SessionState) (draft : Draft) (file : Option (List ℕ)) (current : Option ℕ) (fault : Option (List ℕ)) → IsOf actor token s
+      → EachCommit (IsBy actor token) (beginning s draft file current fault)
+  beginning-commits s draft file current (Some line) of = tt
+  beginning-commits s draft file current None of =
+      bind-commits (IsBy actor token) (AfterOf actor token) (begun s draft) (placed file current) (begun-commits (asks_subject (new_machine (flattened draft)) (view_in s)) s draft)
+      (begun-of (asks_subject (new_machine (flattened draft)) (view_in s)) s draft of) (placed-commits file current)
+
+  beginning-of : (s : SessionState) (draft : Draft) (file : Option (List ℕ)) (current : Option ℕ) (fault : Option (List ℕ)) → IsOf actor token s
+      → AllEnds (AfterOf actor token) (beginning s draft file current fault)
+  beginning-of s draft file current (Some line) of = tt
+  beginning-of s draft file current None of =
+      bind-ends (AfterOf actor token) (AfterOf actor token) (begun s draft) (placed file current) (begun-of (asks_subject (new_machine (flattened draft)) (view_in s)) s draft of) (placed-of file current)
+
   ask-commits : (s : SessionState) (ask : asked_of.Ask) → IsOf actor token s → EachCommit (IsBy actor token) (asked s ask)
   ask-commits s (asks.Say bytes) of = (tt, λ u. tt)
   ask-commits s (asks.Commit changes) of = saved-commits s changes (names_fault s.actor changes) refl of
   ask-commits s (asks.Source name) of = sourced-commits s name (source_fault s.frames name)
   ask-commits s (asks.Lines text) of = tt
   ask-commits s (asks.Open name changes reply) of = switches-commits s name changes reply (open_fault s.actor name changes) refl of
-  ask-commits s (asks.Draft draft) of = begun-commits (asks_subject (new_machine (flattened draft)) (view_in s)) s draft
+  ask-commits s (asks.Draft draft file current) of = beginning-commits s draft file current (file_fault s.actor file) of
+  ask-commits s (asks.Child command input) of = (tt, λ a. run-commits s a)
   ask-commits s asks.Exit of = tt
 
   ask-of : (s : SessionState) (ask : asked_of.Ask) → IsOf actor token s → AllEnds (AfterOf actor token) (asked s ask)
@@ -210,7 +257,8 @@ module _ (actor : List ℕ) (token : ℕ) where
   ask-of s (asks.Source name) of = sourced-of s name (source_fault s.frames name) of
   ask-of s (asks.Lines text) of = called-of (nat_lt (calls s.frames) call_limit) (with_lines kinds.Call s text) of
   ask-of s (asks.Open name changes reply) of = switches-of s name changes reply (open_fault s.actor name changes) of
-  ask-of s (asks.Draft draft) of = begun-of (asks_subject (new_machine (flattened draft)) (view_in s)) s draft of
+  ask-of s (asks.Draft draft file current) of = beginning-of s draft file current (file_fault s.actor file) of
+  ask-of s (asks.Child command input) of = λ a. run-of s a of
   ask-of s asks.Exit of = tt
 
   onward-commits : (l : List asked_of.Ask) → ((t : SessionState) → IsOf actor token t → EachCommit (IsBy actor token) (in_order asked t l)) → (a : After SessionState Status) → AfterOf actor token a
@@ -288,44 +336,73 @@ module _ (actor : List ℕ) (token : ℕ) where
   waiting-of false s line of = outside-of (is_idle s line) s line of
 
   -- a line of the input, and the end of a draft
-  draft-commits : IsPassed (EachCommit (IsBy actor token)) (IsOf actor token)
+  change-commits : (go : After SessionState Status → Line-play) → ((t : SessionState) → IsOf actor token t → EachCommit (IsBy actor token) (go (On t)))
+      → ((t : SessionState) → IsOf actor token t → EachCommit (IsBy actor token) (go (Over t))) → ((line : List ℕ) → EachCommit (IsBy actor token) (go (Refused line)))
+      → ((e : Status) → go (Ended e) ≡ Ret (Last e)) → (a : After SessionState Status) → AfterOf actor token a → EachCommit (IsBy actor token) (go a)
+  change-commits go on over refused ended (On t) of = on t of
+  change-commits go on over refused ended (Over t) of = over t of
+  change-commits go on over refused ended (Refused line) of = refused line
+  change-commits go on over refused ended (Ended e) of = subst (EachCommit (IsBy actor token)) (sym (ended e)) tt
+
+  draft-commits : IsPassed (EachCommit (IsBy actor token)) (IsOf actor token) (IsOf actor token)
   draft-commits = record {
     goes = λ s of. tt;
-    says = λ bytes s of. (tt, λ u. tt);
+    tells = λ bytes go all. (tt, λ u. all);
     loads = λ name go all. (tt, all);
     runs = λ program args input go all. (tt, all);
+    times = λ tz go all. (tt, all);
+    files = λ s c go of on over refused ended.
+        bind-commits (IsBy actor token) (AfterOf actor token) (saved_one s c) go (saved-commits s (c ∷ []) (names_fault s.actor (c ∷ [])) refl of)
+        (saved-of s (c ∷ []) (names_fault s.actor (c ∷ [])) of) (change-commits go on over refused ended);
     carries = carried-commits;
     drafts = λ s draft of. of;
     counts = λ s n of. of;
     rests = λ s of. of;
+    stays = λ s of. of;
+    closes = λ s of. of;
+    outcomes = λ s o of. of;
   }
 
-  draft-of : IsPassed (AllEnds (NextOf actor token)) (IsOf actor token)
+  change-of : (go : After SessionState Status → Line-play) → ((t : SessionState) → IsOf actor token t → AllEnds (NextOf actor token) (go (On t)))
+      → ((t : SessionState) → IsOf actor token t → AllEnds (NextOf actor token) (go (Over t))) → ((line : List ℕ) → AllEnds (NextOf actor token) (go (Refused line)))
+      → ((e : Status) → go (Ended e) ≡ Ret (Last e)) → (a : After SessionState Status) → AfterOf actor token a → AllEnds (NextOf actor token) (go a)
+  change-of go on over refused ended (On t) of = on t of
+  change-of go on over refused ended (Over t) of = over t of
+  change-of go on over refused ended (Refused line) of = refused line
+  change-of go on over refused ended (Ended e) of = subst (AllEnds (NextOf actor token)) (sym (ended e)) tt
+
+  draft-of : IsPassed (AllEnds (NextOf actor token)) (IsOf actor token) (IsOf actor token)
   draft-of = record {
     goes = λ s of. of;
-    says = λ bytes s of u. of;
+    tells = λ bytes go all u. all;
     loads = λ name go all. all;
     runs = λ program args input go all. all;
+    times = λ tz go all. all;
+    files = λ s c go of on over refused ended.
+        bind-ends (AfterOf actor token) (NextOf actor token) (saved_one s c) go (saved-of s (c ∷ []) (names_fault s.actor (c ∷ [])) of) (change-of go on over refused ended);
     carries = carried-of;
     drafts = λ s draft of. of;
     counts = λ s n of. of;
     rests = λ s of. of;
+    stays = λ s of. of;
+    closes = λ s of. of;
+    outcomes = λ s o of. of;
   }
 
   rested-of : (s : SessionState) → IsOf actor token s → IsOf actor token (rested s)
-  rested-of s of = rested-passes (AllEnds (NextOf actor token)) (IsOf actor token) draft-of s of
+  rested-of s of = rested-passes (AllEnds (NextOf actor token)) (IsOf actor token) (IsOf actor token) draft-of s of
 
   typed-commits : (s : SessionState) (line : List ℕ) → IsOf actor token s → EachCommit (IsBy actor token) (typed_play s line)
-  typed-commits s line of = typed-passes (EachCommit (IsBy actor token)) (IsOf actor token) draft-commits s line of
+  typed-commits s line of = typed-passes (EachCommit (IsBy actor token)) (IsOf actor token) (IsOf actor token) draft-commits s line of
 
   typed-of : (s : SessionState) (line : List ℕ) → IsOf actor token s → AllEnds (NextOf actor token) (typed_play s line)
-  typed-of s line of = typed-passes (AllEnds (NextOf actor token)) (IsOf actor token) draft-of s line of
+  typed-of s line of = typed-passes (AllEnds (NextOf actor token)) (IsOf actor token) (IsOf actor token) draft-of s line of
 
   ended-commits : (s : SessionState) → IsOf actor token s → EachCommit (IsBy actor token) (ended_draft s)
-  ended-commits s of = ended-passes (EachCommit (IsBy actor token)) (IsOf actor token) draft-commits s of
+  ended-commits s of = ended-passes (EachCommit (IsBy actor token)) (IsOf actor token) (IsOf actor token) draft-commits s of
 
   ended-of : (s : SessionState) → IsOf actor token s → AllEnds (NextOf actor token) (ended_draft s)
-  ended-of s of = ended-passes (AllEnds (NextOf actor token)) (IsOf actor token) draft-of s of
+  ended-of s of = ended-passes (AllEnds (NextOf actor token)) (IsOf actor token) (IsOf actor token) draft-of s of
 
   with-commits : (i : Input) (n : Next SessionState Status) → NextOf actor token n → EachCommit (IsBy actor token) (with_input i n)
   with-commits i (Go s) of = tt
@@ -357,19 +434,27 @@ module _ (actor : List ℕ) (token : ℕ) where
   prompted-ends true desk = λ u. tt
   prompted-ends false desk = tt
 
-  line-commits : (s : SessionState) (i : Input) (next : Option (WaitingLine × List Pending)) → IsOf actor token s → EachCommit (IsBy actor token) (line_round s i next)
-  line-commits s i None of =
+  unless-commits : (b : Bool) (s : SessionState) (i : Input) → IsOf actor token s → EachCommit (IsBy actor token) (next_unless b s i)
+  unless-commits true s i of = tt
+  unless-commits false s i of =
       bind-commits (IsBy actor token) (λ (u : Unit {0}). Unit {0}) (prompted (at_prompt s) s.desk) (λ u. Ask (Line i) (λ a. turn s a.1 a.0)) (prompted-commits (at_prompt s) s.desk) (prompted-ends (at_prompt s) s.desk)
       (λ u t. (tt, λ a. turn-commits s a.1 a.0 of))
+
+  line-commits : (s : SessionState) (i : Input) (next : Option (WaitingLine × List Pending)) → IsOf actor token s → EachCommit (IsBy actor token) (line_round s i next)
+  line-commits s i None of = unless-commits (is_over s) s i of
   line-commits s i (Some p) of =
       let t = resumed s p.1 in
       let b = is_defining t.desk in
       bind-commits (IsBy actor token) (NextOf actor token) (waiting_play t p.0) (with_input i) (waiting-commits b t p.0 of) (waiting-of b t p.0 of) (with-commits i)
 
-  line-of : (s : SessionState) (i : Input) (next : Option (WaitingLine × List Pending)) → IsOf actor token s → AllEnds (NextKeeps (StateOf actor token)) (line_round s i next)
-  line-of s i None of =
+  unless-of : (b : Bool) (s : SessionState) (i : Input) → IsOf actor token s → AllEnds (NextKeeps (StateOf actor token)) (next_unless b s i)
+  unless-of true s i of = rested-of s of
+  unless-of false s i of =
       bind-ends (λ (u : Unit {0}). Unit {0}) (NextKeeps (StateOf actor token)) (prompted (at_prompt s) s.desk) (λ u. Ask (Line i) (λ a. turn s a.1 a.0)) (prompted-ends (at_prompt s) s.desk)
       (λ u t a. turn-of s a.1 a.0 of)
+
+  line-of : (s : SessionState) (i : Input) (next : Option (WaitingLine × List Pending)) → IsOf actor token s → AllEnds (NextKeeps (StateOf actor token)) (line_round s i next)
+  line-of s i None of = unless-of (is_over s) s i of
   line-of s i (Some p) of =
       let t = resumed s p.1 in
       bind-ends (NextOf actor token) (NextKeeps (StateOf actor token)) (waiting_play t p.0) (with_input i) (waiting-of (is_defining t.desk) t p.0 of) (with-of i)
@@ -448,13 +533,21 @@ module _ (actor : List ℕ) (token : ℕ) where
   named-of s start (Ok name) of = either-of (is_short_name name) _ _ (λ f. loaded-of s start name f of) (λ u. tt)
   named-of s start (Err line) of = λ u. tt
 
+  sent-of : (b : Bool) (t : SessionState) → IsOf actor token t → AllEnds (NextKeeps (StateOf actor token)) (sent b t)
+  sent-of true t of = λ u. of
+  sent-of false t of = of
+
+  starting-of : (sends : Option Options) (s : SessionState) (start : Start) → IsOf actor token s → AllEnds (NextKeeps (StateOf actor token)) (starting_with sends s start)
+  starting-of (Some o) s start of = sent-of (asks_in s o) (begun_in s o) of
+  starting-of None s start of = named-of s start (folder_name s start) of
+
   recovered-commits : (env : Environment) (start : Start) (a : RecoveryAnswer) → EachCommit (IsBy actor token) (recovered env start a)
   recovered-commits env start (recovery.Done found) = tt
   recovered-commits env start (recovery.Busy name) = (tt, λ u. tt)
   recovered-commits env start recovery.NotARecord = tt
   recovered-commits env start (recovery.TooLarge name length) = tt
 
-  recovered-of : (env : Environment) (start : Start) (a : RecoveryAnswer) → IsOf actor token (first_of env start.user) → AllEnds (NextKeeps (StateOf actor token)) (recovered env start a)
+  recovered-of : (env : Environment) (start : Start) (a : RecoveryAnswer) → IsOf actor token (first_of env (Some start)) → AllEnds (NextKeeps (StateOf actor token)) (recovered env start a)
   recovered-of env start (recovery.Done found) of = of
   recovered-of env start (recovery.Busy name) of = λ u. tt
   recovered-of env start recovery.NotARecord of = tt
@@ -513,12 +606,21 @@ module _ (actor : List ℕ) (token : ℕ) where
       let t = resumed s p.1 in
       bind-ends (NextOf actor token) (NextKeeps (StateOf actor token)) (waiting_play t p.0) (with_files start names) (waiting-of (is_defining t.desk) t p.0 of) (files-of start names)
 
+-- a recovery is one of the run
+recovering-commits : (sends : Option Options) (env : Environment) (start : Start) → EachCommit (IsBy (actor_in env) env.token) (recovered_unless sends env start (actor_in env) env.token)
+recovering-commits (Some o) env start = tt
+recovering-commits None env start =
+    let none : AreFiles (actor_in env) [] = All-nil (λ (c : Change). is_file_name (actor_in env) (name_of c) ≡ true) in
+    (record { actor_is = refl; token_is = refl; files = none }, recovered-commits (actor_in env) env.token env start)
+
+recovering-of : (sends : Option Options) (env : Environment) (start : Start) → AllEnds (NextKeeps (StateOf (actor_in env) env.token)) (recovered_unless sends env start (actor_in env) env.token)
+recovering-of (Some o) env start = (actor-same env start, refl)
+recovering-of None env start = λ a. recovered-of (actor_in env) env.token env start a (actor-same env start, refl)
+
 -- each commit of a round is one of the run
 pub round-commits : (env : Environment) (x : RunState) → StateOf (actor_in env) env.token x → EachCommit (IsBy (actor_in env) env.token) (round env x)
 round-commits env (Recovering None) of = tt
-round-commits env (Recovering (Some start)) of =
-    let none : AreFiles (actor_in env) [] = All-nil (λ (c : Change). is_file_name (actor_in env) (name_of c) ≡ true) in
-    (record { actor_is = refl; token_is = refl; files = none }, recovered-commits (actor_in env) env.token env start)
+round-commits env (Recovering (Some start)) of = recovering-commits start.sends env start
 round-commits env (Preparing start s names) of = file-commits (actor_in env) env.token start s names (next_waiting s) of
 round-commits env (Opening start s) of =
     neutral-commits (IsBy (actor_in env) env.token) (opening start s) (weaker-acts (may_load true) is_neutral may-neutral (opening start s) (loads-round env (Opening start s)))
@@ -529,10 +631,10 @@ round-commits env (Leaving s i) of = last-commits (actor_in env) env.token s of
 -- and each round leaves a state of its actor and token
 pub round-of : (env : Environment) (x : RunState) → StateOf (actor_in env) env.token x → AllEnds (NextKeeps (StateOf (actor_in env) env.token)) (round env x)
 round-of env (Recovering None) of = (refl, refl)
-round-of env (Recovering (Some start)) of = λ a. recovered-of (actor_in env) env.token env start a (actor-same env start.user, refl)
+round-of env (Recovering (Some start)) of = recovering-of start.sends env start
 round-of env (Preparing start s names) of = file-of (actor_in env) env.token start s names (next_waiting s) of
 round-of env (Opening None s) of = λ u. tt
-round-of env (Opening (Some start) s) of = named-of (actor_in env) env.token s start (folder_name s start) of
+round-of env (Opening (Some start) s) of = starting-of (actor_in env) env.token start.sends s start of
 round-of env (Reading s i) of = line-of (actor_in env) env.token s i (next_waiting s) of
 round-of env (Finishing s i) of = finishing-round-of (actor_in env) env.token s i (next_waiting s) of
 round-of env (Leaving s i) of = last-of (actor_in env) env.token s

@@ -13,7 +13,7 @@ use Rattle.host_port.specs.Calls.{Counts, NeverFall, Rose}
 use Rattle.session_play.specs.declared.stop.Stop.{Stop}
 use Rattle.session_play.specs.declared.stop.Stop.TheVariants as stop
 use Rattle.std.specs.Prelude.{codes, ◌++◌, if◌then◌else◌, IfOk, IfSome, IfNone, IsSome}
-use Rattle.session_play.specs.Play.{Caused, Play, Ret, Ask, Goes, Next, Go, Last, Loop, again, last, cut}
+use Rattle.session_play.specs.Play.{Caused, Play, Ret, Ask, Goes, Next, Last, Loop, again, last, cut}
 use Rattle.mailx_vars.specs.declared.environment.Places.{Places}
 use Rattle.mailx_vars.specs.Environment.{Pairs, knows_user, places_in, places_of}
 use Rattle.mailx_top.specs.declared.environment.Environment.{Environment}
@@ -32,6 +32,8 @@ use Rattle.std.specs.declared.option.Option.TheVariants.{Some, None}
 use Rattle.mailx_top.specs.Statuses.{status_at_stop, line_at_stop}
 use Rattle.mailx_top.specs.Usage.{IsSayCut, IsStartCut, IsStartEnd, EndsOr, EndsOrOpens, StopsAtStart, EndsUnopened, EndsAsNamed, IsBadName, IsOrCut, IsUnopened}
 use Rattle.mailx_top.specs.Words.{Start}
+use Rattle.mailx_top.specs.Sending.{mode_with}
+use Rattle.mailx_session.specs.Openings.{first_state}
 use Rattle.mailx_top.specs.Runs.{AsFar, SaysLast, SaysAtCut, SaysAtEnd, SaysUnlessIdle}
 
 pub said-far : (r : Result Unit OutFault) (bytes line : List ℕ) → bytes ≡ line → (d : Disk) (e : Event) → Said r bytes d e → Agrees d e × AsFar line (own (e ∷ []))
@@ -100,9 +102,12 @@ named-short env None s named = tt
 named-short env (Some start) s named = (tt, λ bad. tt)
 
 -- the actor is the same whatever user's mailbox is opened
-pub actor-same : (env : Environment) (user : Option (List ℕ)) → (first_of env user).actor ≡ actor_in env
-actor-same env None = refl
-actor-same env (Some user) = refl
+pub actor-same : (env : Environment) (start : Start) → (first_of env (Some start)).actor ≡ actor_in env
+actor-same env start = go start.user
+  where
+    go : (user : Option (List ℕ)) → (first_state (pairs_for user env.pairs) (mode_with start.sends) env.terminal start.by_recipient env.token).actor ≡ actor_in env
+    go None = refl
+    go (Some user) = refl
 
 -- so is what is known of home folder and user
 pub user-known : (user : List ℕ) (pairs : Pairs) → knows_user (pairs_for (Some user) pairs) ≡ knows_user pairs
@@ -147,12 +152,13 @@ line-ends (Ok (Some e)) ends = go e ends
     go : (e : Status) → IsLineEnd e → IsEnd e
     go status.Done t = tt
     go status.BadRecord t = tt
+    go (status.NotSent n) t = tt
+    go status.Refused t = tt
     go status.NoMail never = absurd never
     go status.Usage never = absurd never
     go status.InputFault never = absurd never
     go status.OutputFault never = absurd never
     go status.DiskFault never = absurd never
-    go status.Refused never = absurd never
     go status.Memory never = absurd never
     go status.InputLimit never = absurd never
     go status.NoFolder never = absurd never
@@ -173,6 +179,7 @@ end-no-fault {A = A} env (Some start) s f named fault is = go f (subst IsEnd is 
   where
     go : (f : Status) → IsEnd f → IsFault f → A
     go status.Done e never = absurd never
+    go (status.NotSent n) e never = absurd never
     go status.NoMail e never = absurd never
     go status.Refused e never = absurd never
     go status.NoFolder e never = absurd never
@@ -190,6 +197,7 @@ only-usage env (Some start) s named is = absurd (subst IsEnd is named.0)
 
 or-same : (wanted s : Status) → s ≡ wanted → IsOrCut wanted s
 or-same wanted status.Done is = is
+or-same wanted (status.NotSent n) is = is
 or-same wanted status.NoMail is = is
 or-same wanted status.Usage is = is
 or-same wanted status.InputFault is = is
@@ -222,6 +230,7 @@ unopened-end status.NoFolder u = tt
 unopened-end status.Refused u = tt
 unopened-end status.BadRecord u = tt
 unopened-end status.Done never = absurd never
+unopened-end (status.NotSent n) never = absurd never
 unopened-end status.NoMail never = absurd never
 unopened-end status.Usage never = absurd never
 unopened-end status.InputFault never = absurd never
@@ -262,6 +271,7 @@ pub start-unopened : (s : Status) → IsStartEnd s → EndsUnopened (Ok s)
 start-unopened status.Refused e = tt
 start-unopened status.BadRecord e = tt
 start-unopened status.Done never = absurd never
+start-unopened (status.NotSent n) never = absurd never
 start-unopened status.NoFolder never = absurd never
 start-unopened status.NoMail never = absurd never
 start-unopened status.Usage never = absurd never
@@ -275,6 +285,7 @@ pub start-end : (s : Status) → IsStartEnd s → IsEnd s
 start-end status.Refused e = tt
 start-end status.BadRecord e = tt
 start-end status.Done never = absurd never
+start-end (status.NotSent n) never = absurd never
 start-end status.NoFolder never = absurd never
 start-end status.NoMail never = absurd never
 start-end status.Usage never = absurd never

@@ -20,7 +20,10 @@ use Rattle.command_desk.specs.Answers.{OrFault}
 use Rattle.mailx_session.specs.declared.state.SessionState.{SessionState}
 use Rattle.mailx_session.specs.declared.status.Status.{Status}
 use Rattle.mailx_session.specs.Openings.{Opens}
-use Rattle.mailx_top.specs.Meaning.{RunState, starting, folder_name, with_name, with_name_or_fault, loaded, unheld, is_no_mail, with_list, begun, greeted, heard, ends_with}
+use Rattle.command_words.specs.declared.options.Options.{Options}
+use Rattle.mailx_top.specs.Openings.{OpensBadly}
+use Rattle.mailx_top.specs.Usage.{IsNoName, IsBadlyNamed}
+use Rattle.mailx_top.specs.Meaning.{RunState, Opening, opening, sending, starting, starting_with, folder_name, with_name, with_name_or_fault, loaded, unheld, is_no_mail, with_list, begun, greeted, heard, ends_with}
 use Rattle.std.specs.Prelude.{◌++◌, codes, Bool, false}
 use Rattle.mail_text.specs.declared.text.Text.{Text}
 use Rattle.session_play.specs.declared.act.Found.{Found}
@@ -74,6 +77,20 @@ with-large s start name f n is = ap (loaded s start name) is
 
 pub with-bad-name : (s : SessionState) (start : Start) (name : List ℕ) → is_short_name name ≡ false → with_name s start name ≡ ends_with start (with_feed (name ++ codes ": bad name")) status.NoFolder
 with-bad-name s start name bad = cond-false _ _ _ bad
+
+-- a draft begins in the folder's place, which has no bad name then
+pub begins-draft : (s : SessionState) (start : Start) (o : Options) → start.sends ≡ Some o → opening (Some start) s ≡ sending s o
+begins-draft s start o is = ap (λ (sends : Option Options). starting_with sends s start) is
+
+pub no-bad-name : {A : Type 0} (s : SessionState) (start : Start) (o : Options) → start.sends ≡ Some o → OpensBadly (Opening (Some start) s) → A
+no-bad-name s start o is bad = absurd (subst (λ (sends : Option Options). IsBadlyNamed sends (folder_name s start)) is bad)
+
+-- or the folder is opened
+pub begins-folder : (s : SessionState) (start : Start) → start.sends ≡ None → opening (Some start) s ≡ starting s start
+begins-folder s start is = ap (λ (sends : Option Options). starting_with sends s start) is
+
+pub its-bad-name : (s : SessionState) (start : Start) → start.sends ≡ None → OpensBadly (Opening (Some start) s) → IsNoName (folder_name s start)
+its-bad-name s start is bad = subst (λ (sends : Option Options). IsBadlyNamed sends (folder_name s start)) is bad
 
 -- what is done by what the folder's word stands for
 pub with-word : (s : SessionState) (start : Start) (name : OrFault (List ℕ)) → folder_name s start ≡ name → starting s start ≡ with_name_or_fault s start name

@@ -1,5 +1,5 @@
 -- The end of the input: its acts and its ends.
-use Rattle.std.proofs.Common.{◌≡◌, ◌⊎◌, ℕ, Bool, true, false, List, [], ◌∷◌, ◌++◌, length, refl, inl, inr}
+use Rattle.std.proofs.Common.{◌≡◌, ℕ, Bool, true, false, List, [], ◌∷◌, ◌++◌, length, refl, sym, ap, subst, inl, inr}
 use Rattle.std.specs.Prelude.{◌||◌, ◌==◌, is_some, if◌then◌else◌}
 use Rattle.std.specs.Option.{option_map_or}
 use Rattle.std.specs.declared.option.Option.{Option}
@@ -24,9 +24,12 @@ use Rattle.mailx_session.specs.Saving.{names_fault, is_changed, after_commit, sa
 use Rattle.mailx_session.specs.Sessions.{asked}
 use Rattle.mailx_session.specs.Leaving.{left_by, leaving}
 use Rattle.mailx_top.specs.Meaning.{RunState, last_round}
-use Rattle.mailx_top.specs.Leavings.{first_answer, refuses, left_changes, is_quit_refused}
+use Rattle.mailx_session.specs.declared.outcome.Outcome.{Outcome}
+use Rattle.mailx_session.specs.declared.outcome.Outcome.TheVariants as outcome
+use Rattle.mailx_session.specs.Outcomes.{status_of}
+use Rattle.mailx_top.specs.Leavings.{first_answer, refuses, left_changes, is_quit_refused, is_refused_before}
 use Rattle.mailx_top.proofs.OrderLemmas.{Keeps}
-use Rattle.mailx_top.proofs.LineLemmas.{asks-acts, asks-threads}
+use Rattle.mailx_top.proofs.LineLemmas.{EndsBy, asks-acts, asks-threads}
 
 left-acts : (a : After SessionState Status) → AllActs (may_load false) (left_by a)
 left-acts (On s) = tt
@@ -54,19 +57,42 @@ pub any-ends : {R : Type 0} (p : Play R) → AllEnds (λ (r : R). Unit {0}) p
 any-ends (Ret r) = tt
 any-ends (Ask act go) = λ a. any-ends (go a)
 
--- the ends of a session by its last quit: it is done, which stands for a record that can't be read too, or refused
+-- the ends of a session by its last quit and its drafts: it is refused, or done, which stands for one that wasn't sent and for a record that can't
+-- be read too
 abbrev pub end_at : Bool → Status
 end_at refused = if refused then status.Refused else status.Done
 
--- once the folder is open a run ends in one of three ways, of which two count as one
+-- once the folder is open a run ends in one of four ways, of which three count as one
 abbrev pub opened_end : Status → Status
 opened_end status.BadRecord = status.Done
+opened_end (status.NotSent n) = status.Done
 opened_end e = e
 
+-- a run that ends by what became of drafts, and one that ends for its record
+pub outcome-end : (o : Outcome) → opened_end (status_of o) ≡ end_at (is_refused_before o (status_of o))
+outcome-end outcome.Fine = refl
+outcome-end (outcome.NotSent n) = refl
+outcome-end outcome.Refused = refl
+
+pub record-end : (o : Outcome) → status.Done ≡ end_at (is_refused_before o status.BadRecord)
+record-end outcome.Fine = refl
+record-end (outcome.NotSent n) = refl
+record-end outcome.Refused = refl
+
+-- a quit that was refused or not ends the run so
+abbrev pub EndsByQuit : Outcome → Bool → Status → Type 0
+EndsByQuit o true e = e ≡ status.Refused
+EndsByQuit o false e = EndsBy o e
+
+pub quit-end : (o : Outcome) (b : Bool) (e : Status) → EndsByQuit o b e → opened_end e ≡ end_at (b || is_refused_before o e)
+quit-end o true e is = ap opened_end is
+quit-end o false e (inl is) = subst (λ (e : Status). opened_end e ≡ end_at (is_refused_before o e)) (sym is) (outcome-end o)
+quit-end o false e (inr is) = subst (λ (e : Status). opened_end e ≡ end_at (is_refused_before o e)) (sym is) (record-end o)
+
 -- the round ends the run so
-abbrev EndsAt : Status → Next RunState Status → Type 0
-EndsAt e (Go y) = ⊥
-EndsAt e (Last r) = opened_end r ≡ e
+abbrev EndsAt : Outcome → Bool → Next RunState Status → Type 0
+EndsAt o b (Go y) = ⊥
+EndsAt o b (Last r) = EndsByQuit o b r
 
 abbrev ended : Status → Play (Next RunState Status)
 ended e = Ret (Last e)
@@ -80,34 +106,34 @@ abbrev quit_of : SessionState → List Change → List asked_of.Ask → Option (
 quit_of s changes rest fault = bind (bind (bind (saved s changes fault) (onward (λ (t : SessionState). in_order asked t rest))) left_by) ended
 
 -- once it was committed the run is done
-done-ends : (b : Bool) (s : SessionState) (text : List ℕ) → AllEnds (EndsAt status.Done) (bind (bind (in_order asked s ((if b then [] else asks.Say text ∷ []) ++ asks.Exit ∷ [])) left_by) ended)
-done-ends true s text = refl
-done-ends false s text = λ u. refl
+done-ends : (b : Bool) (s : SessionState) (text : List ℕ) → AllEnds (EndsAt s.outcome false) (bind (bind (in_order asked s ((if b then [] else asks.Say text ∷ []) ++ asks.Exit ∷ [])) left_by) ended)
+done-ends true s text = inl refl
+done-ends false s text = λ u. inl refl
 
 large-ends : (b : Bool) (line : List ℕ) (s : SessionState) (rest : List asked_of.Ask)
-    → AllEnds (EndsAt (end_at b)) (bind (bind (onward (λ (t : SessionState). in_order asked t rest) (if b then Refused line else Ended status.BadRecord)) left_by) ended)
+    → AllEnds (EndsAt s.outcome b) (bind (bind (onward (λ (t : SessionState). in_order asked t rest) (if b then Refused line else Ended status.BadRecord)) left_by) ended)
 large-ends true line s rest = λ u. refl
-large-ends false line s rest = refl
+large-ends false line s rest = inr refl
 
 answered-ends : (s : SessionState) (changes : List Change) (text : List ℕ) (a : Committed)
-    → AllEnds (EndsAt (end_at (refuses changes a))) (after_change s changes (said text ++ asks.Exit ∷ []) a)
+    → AllEnds (EndsAt s.outcome (refuses changes a)) (after_change s changes (said text ++ asks.Exit ∷ []) a)
 answered-ends s changes text committed.Done = done-ends (length text == 0) s text
 answered-ends s changes text (committed.Busy name) = λ u. refl
-answered-ends s changes text committed.NotARecord = refl
+answered-ends s changes text committed.NotARecord = inr refl
 answered-ends s changes text (committed.Changed name at) = λ u. refl
 answered-ends s changes text (committed.TooLarge name length) = large-ends (is_changed changes name) _ s (said text ++ asks.Exit ∷ [])
 answered-ends s changes text (committed.TooManyNames count) = λ u. refl
 
 quit-ends : (s : SessionState) (changes : List Change) (text : List ℕ) (fault : Option (List ℕ)) (es : List Event) (r : Status)
     (goes : Goes (quit_of s changes (said text ++ asks.Exit ∷ []) fault) es (Ok (Last r)))
-    → opened_end r ≡ end_at (is_some fault || option_map_or (refuses changes) (first_answer (quit_of s changes (said text ++ asks.Exit ∷ []) fault) es (Ok (Last r)) goes) false)
+    → EndsByQuit s.outcome (is_some fault || option_map_or (refuses changes) (first_answer (quit_of s changes (said text ++ asks.Exit ∷ []) fault) es (Ok (Last r)) goes) false) r
 quit-ends s changes text (Some line) es r goes =
-    goes-ends (EndsAt status.Refused) (quit_of s changes (said text ++ asks.Exit ∷ []) (Some line)) es (Last r) (λ u. refl) goes
+    goes-ends (EndsAt s.outcome true) (quit_of s changes (said text ++ asks.Exit ∷ []) (Some line)) es (Last r) (λ u. refl) goes
 quit-ends s changes text None es r (inl (a, front, rest, is, did, goes)) =
-    goes-ends (EndsAt (end_at (refuses changes a))) (after_change s changes (said text ++ asks.Exit ∷ []) a) rest (Last r) (answered-ends s changes text a) goes
+    goes-ends (EndsAt s.outcome (refuses changes a)) (after_change s changes (said text ++ asks.Exit ∷ []) a) rest (Last r) (answered-ends s changes text a) goes
 quit-ends s changes text None es r (inr (cause, other, part)) = absurd (cc other)
 
 -- the end of a run whose last round left the folder
 pub last-ends : (s : SessionState) (es : List Event) (r : Status) (goes : Goes (last_round s) es (Ok (Last r)))
-    → opened_end r ≡ end_at (is_quit_refused s (first_answer (last_round s) es (Ok (Last r)) goes))
+    → EndsByQuit s.outcome (is_quit_refused s (first_answer (last_round s) es (Ok (Last r)) goes)) r
 last-ends s es r goes = quit-ends s (left_changes s) (left_reply s.desk) (names_fault s.actor (left_changes s)) es r goes

@@ -13,3 +13,4 @@ pub mod RoundLemmas
 pub mod WaitingLemmas
 pub mod RecoveringLemmas
 pub mod RecordLemmas
+pub mod UnsentLemmas

@@ -14,9 +14,8 @@ use Rattle.mbox_scan.specs.Mailbox.{list_of, message_limit}
 use Rattle.session_play.specs.declared.act.Found.{Found}
 use Rattle.session_play.specs.declared.act.Found.TheVariants as found
 use Rattle.session_play.specs.declared.stop.Stop.{Stop}
-use Rattle.session_play.specs.declared.stop.Stop.TheVariants as stop
-use Rattle.session_play.specs.Input.{Input, took, Reads}
-use Rattle.session_play.specs.Play.{Line, Say, Read, Know, Play, Ret, Ask, Says, SaysInPart, seen_of, Partly, Goes, Next, Go, Last, Loop, again, last, cut, bind}
+use Rattle.session_play.specs.Input.{Input}
+use Rattle.session_play.specs.Play.{Line, Read, Know, Play, Ret, Ask, seen_of, Goes, Next, Go, Last, Loop, again, last, cut, bind}
 use Rattle.mail_text.specs.Lines.{with_feed}
 use Rattle.mailx_vars.specs.Names.{is_short_name}
 use Rattle.command_desk.specs.declared.desk.Desk.{Desk}
@@ -28,26 +27,27 @@ use Rattle.mailx_session.specs.Openings.{with_opened}
 use Rattle.mailx_session.specs.declared.frames.WaitingLine.{WaitingLine}
 use Rattle.mailx_session.specs.Waits.{Pending}
 use Rattle.mailx_session.specs.States.{is_drafting, next_waiting, resumed, rested}
-use Rattle.mailx_session.specs.Drafting.{ended_draft}
+use Rattle.mailx_session.specs.Sending.{ended_draft}
 use Rattle.mailx_session.specs.Rounds.{typed_play, waiting_play}
 use Rattle.mailx_top.specs.declared.environment.Environment.{Environment}
 use Rattle.mailx_top.specs.declared.words.Manner.{Manner}
 use Rattle.mailx_top.specs.declared.words.Manner.TheVariants.{Silent, Rows, Quiet, Greeting}
 use Rattle.mailx_top.specs.Words.{Start}
-use Rattle.mailx_top.specs.Meaning.{RunState, at_prompt, first_of, Recovering, Opening, Reading, Finishing, Leaving, round, opening, folder_name, with_name_or_fault, loaded, unheld, is_no_mail, with_list, greeted, heard, ends_with, turn, next_turn, line_round, finishing_round, with_input, with_finishing, prompted, says_and_ends, is_opening, usage, Preparing}
+use Rattle.mailx_top.specs.Meaning.{RunState, at_prompt, Recovering, Opening, Reading, Finishing, Leaving, round, opening, starting, starting_with, folder_name, with_name_or_fault, loaded, unheld, is_no_mail, with_list, greeted, heard, ends_with, turn, next_turn, is_over, next_unless, line_round, finishing_round, with_input, with_finishing, prompted, says_and_ends, is_opening, usage, Preparing}
 use Rattle.session_play.specs.Acts.{AllActs, AllEnds, loads_nothing}
 use Rattle.session_play.specs.Causes.{some_load_saw, counted, events_at}
-use Rattle.session_play.proofs.SawLemmas.{Unseen, unseen-then, goes-unseen}
+use Rattle.session_play.proofs.SawLemmas.{Unseen, goes-unseen}
 use Rattle.session_play.proofs.ShapeLemmas.{came-same, goes-ends, bind-ends}
-use Rattle.mailx_session.specs.Statuses.{IsLineEnd}
 use Rattle.mailx_session.specs.Leaving.{leaving}
-use Rattle.mailx_top.specs.Leavings.{first_answer, is_refused_at, refused_at_end}
-use Rattle.mailx_top.proofs.LeavingLemmas.{any-ends, end_at, opened_end, last-ends}
-use Rattle.mailx_top.proofs.LineLemmas.{EndsByLine, typed-ends, waiting-ends, ended-ends}
-use Rattle.mailx_top.proofs.RoundLemmas.{loaded-acts}
+use Rattle.mailx_session.specs.declared.outcome.Outcome.{Outcome}
+use Rattle.mailx_top.specs.Leavings.{first_answer, is_quit_refused, is_refused_before, is_refused_at, refused_at_end}
+use Rattle.mailx_top.proofs.LeavingLemmas.{any-ends, end_at, opened_end, quit-end, last-ends}
+use Rattle.mailx_top.proofs.LineLemmas.{EndsBy, EndsByLine, typed-ends, waiting-ends, ended-ends}
+use Rattle.command_words.specs.declared.options.Options.{Options}
+use Rattle.mailx_top.proofs.RoundLemmas.{loaded-acts, sent, asks_in, begun_in, sent-acts}
 use Rattle.mailx_top.proofs.StartupLemmas.{IsBefore, LeavesBefore, file-ends}
-use Rattle.mailx_top.specs.Openings.{OpensBadly, OpenedBadly, saw_held, is_no_list, is_no_folder, is_named, saw_no_mail, saw_no_folder, OpensNoMail, OpensNone, EndsOrIsCut, IsOpeningExplained}
-use Rattle.mailx_top.specs.Usage.{IsNoName}
+use Rattle.mailx_top.specs.Openings.{OpensBadly, OpenedBadly, saw_held, is_no_list, is_no_folder, is_named, saw_no_mail, saw_no_folder, OpensNoMail, OpensNone, IsOpeningExplained}
+use Rattle.mailx_top.specs.Usage.{IsNoName, IsBadlyNamed}
 
 abbrev pub IsReadingState : RunState → Type 0
 IsReadingState (Recovering start) = ⊥
@@ -57,22 +57,13 @@ IsReadingState (Reading s i) = Unit {0}
 IsReadingState (Finishing s i) = Unit {0}
 IsReadingState (Leaving s i) = Unit {0}
 
-line-end : (e : Status) → IsLineEnd e → opened_end e ≡ status.Done
-line-end status.Done is = refl
-line-end status.BadRecord is = refl
-line-end status.NoMail never = absurd never
-line-end status.Usage never = absurd never
-line-end status.InputFault never = absurd never
-line-end status.OutputFault never = absurd never
-line-end status.DiskFault never = absurd never
-line-end status.Refused never = absurd never
-line-end status.Memory never = absurd never
-line-end status.InputLimit never = absurd never
-line-end status.NoFolder never = absurd never
+line-end : (o : Outcome) (e : Status) → EndsBy o e → opened_end e ≡ end_at (is_refused_before o e)
+line-end o e by_line = quit-end o false e by_line
 
 -- another end is itself
 other-end : (r e : Status) → opened_end r ≡ e → (e ≡ status.Done → ⊥) → r ≡ e
 other-end status.BadRecord e is other = absurd (other (sym is))
+other-end (status.NotSent n) e is other = absurd (other (sym is))
 other-end status.Done e is other = is
 other-end status.NoMail e is other = is
 other-end status.Usage e is other = is
@@ -89,77 +80,82 @@ EndsLike e (Ok r) = opened_end r ≡ e
 EndsLike e (Err cause) = Unit {0}
 
 -- a round that reads a line goes on, or ends as a line does
-abbrev ReadsOn : Next RunState Status → Type 0
-ReadsOn (Go y) = IsReadingState y
-ReadsOn (Last e) = opened_end e ≡ status.Done
+abbrev pub ReadsOn : Outcome → Next RunState Status → Type 0
+ReadsOn o (Go y) = IsReadingState y
+ReadsOn o (Last e) = EndsBy o e
 
-ends-with : (j : Input) (n : Next SessionState Status) → EndsByLine n → AllEnds ReadsOn (with_input j n)
-ends-with j (Go s) by_line = tt
-ends-with j (Last e) by_line = line-end e by_line
+ends-with : (o : Outcome) (j : Input) (n : Next SessionState Status) → EndsByLine o n → AllEnds (ReadsOn o) (with_input j n)
+ends-with o j (Go s) by_line = tt
+ends-with o j (Last e) by_line = by_line
 
 ends-behind : (b : Bool) (s : SessionState) (j : Input) → IsReadingState (if b then Finishing s j else Leaving (rested s) j)
 ends-behind true s j = tt
 ends-behind false s j = tt
 
-ends-turn : (s : SessionState) (j : Input) (line : Option (List ℕ)) → AllEnds ReadsOn (turn s j line)
+ends-turn : (s : SessionState) (j : Input) (line : Option (List ℕ)) → AllEnds (ReadsOn s.outcome) (turn s j line)
 ends-turn s j None = ends-behind (is_drafting s) s j
-ends-turn s j (Some line) = bind-ends EndsByLine ReadsOn (typed_play s line) (with_input j) (typed-ends s line) (ends-with j)
+ends-turn s j (Some line) = bind-ends (EndsByLine s.outcome) (ReadsOn s.outcome) (typed_play s line) (with_input j) (typed-ends s line) (ends-with s.outcome j)
 
 ends-prompted : (terminal : Bool) (desk : Desk) → AllEnds (λ (u : Unit {0}). Unit {0}) (prompted terminal desk)
 ends-prompted true desk = λ u. tt
 ends-prompted false desk = tt
 
-ends-next : (s : SessionState) (i : Input) → AllEnds ReadsOn (next_turn s i)
+ends-next : (s : SessionState) (i : Input) → AllEnds (ReadsOn s.outcome) (next_turn s i)
 ends-next s i =
-    bind-ends (λ (u : Unit {0}). Unit {0}) ReadsOn (prompted (at_prompt s) s.desk) (λ u. Ask (Line i) (λ a. turn s a.1 a.0))
+    bind-ends (λ (u : Unit {0}). Unit {0}) (ReadsOn s.outcome) (prompted (at_prompt s) s.desk) (λ u. Ask (Line i) (λ a. turn s a.1 a.0))
     (ends-prompted (at_prompt s) s.desk) (λ u t a. ends-turn s a.1 a.0)
 
-ends-line-round : (s : SessionState) (i : Input) (next : Option (WaitingLine × List Pending)) → AllEnds ReadsOn (line_round s i next)
-ends-line-round s i None = ends-next s i
+ends-unless : (b : Bool) (s : SessionState) (i : Input) → AllEnds (ReadsOn s.outcome) (next_unless b s i)
+ends-unless true s i = tt
+ends-unless false s i = ends-next s i
+
+pub ends-line-round : (s : SessionState) (i : Input) (next : Option (WaitingLine × List Pending)) → AllEnds (ReadsOn s.outcome) (line_round s i next)
+ends-line-round s i None = ends-unless (is_over s) s i
 ends-line-round s i (Some p) =
-    let t = resumed s p.1 in bind-ends EndsByLine ReadsOn (waiting_play t p.0) (with_input i) (waiting-ends t p.0) (ends-with i)
+    let t = resumed s p.1 in bind-ends (EndsByLine s.outcome) (ReadsOn s.outcome) (waiting_play t p.0) (with_input i) (waiting-ends t p.0) (ends-with s.outcome i)
 
 -- so does a round at the end of the input
-ends-finishing : (j : Input) (n : Next SessionState Status) → EndsByLine n → AllEnds ReadsOn (with_finishing j n)
-ends-finishing j (Go s) by_line = tt
-ends-finishing j (Last e) by_line = line-end e by_line
+ends-finishing : (o : Outcome) (j : Input) (n : Next SessionState Status) → EndsByLine o n → AllEnds (ReadsOn o) (with_finishing j n)
+ends-finishing o j (Go s) by_line = tt
+ends-finishing o j (Last e) by_line = by_line
 
-ends-ended : (b : Bool) (s : SessionState) (i : Input) → AllEnds ReadsOn (if b then bind (ended_draft s) (with_finishing i) else Ret (Go (Leaving (rested s) i)))
-ends-ended true s i = bind-ends EndsByLine ReadsOn (ended_draft s) (with_finishing i) (ended-ends s) (ends-finishing i)
+ends-ended : (b : Bool) (s : SessionState) (i : Input) → AllEnds (ReadsOn s.outcome) (if b then bind (ended_draft s) (with_finishing i) else Ret (Go (Leaving (rested s) i)))
+ends-ended true s i = bind-ends (EndsByLine s.outcome) (ReadsOn s.outcome) (ended_draft s) (with_finishing i) (ended-ends s) (ends-finishing s.outcome i)
 ends-ended false s i = tt
 
-ends-finishing-round : (s : SessionState) (i : Input) (next : Option (WaitingLine × List Pending)) → AllEnds ReadsOn (finishing_round s i next)
+pub ends-finishing-round : (s : SessionState) (i : Input) (next : Option (WaitingLine × List Pending)) → AllEnds (ReadsOn s.outcome) (finishing_round s i next)
 ends-finishing-round s i None = ends-ended (is_drafting s) s i
 ends-finishing-round s i (Some p) =
-    let t = resumed s p.1 in bind-ends EndsByLine ReadsOn (waiting_play t p.0) (with_finishing i) (waiting-ends t p.0) (ends-finishing i)
+    let t = resumed s p.1 in bind-ends (EndsByLine s.outcome) (ReadsOn s.outcome) (waiting_play t p.0) (with_finishing i) (waiting-ends t p.0) (ends-finishing s.outcome i)
 
 -- a round is followed by none that opens a folder
 abbrev pub ReadsNext : Next RunState Status → Type 0
 ReadsNext (Go y) = IsReadingState y
 ReadsNext (Last e) = Unit {0}
 
-only-next : (p : Play (Next RunState Status)) → AllEnds ReadsOn p → AllEnds ReadsNext p
-only-next (Ret (Go y)) ends = ends
-only-next (Ret (Last e)) ends = tt
-only-next (Ask act go) ends = λ a. only-next (go a) (ends a)
+only-next : (o : Outcome) (p : Play (Next RunState Status)) → AllEnds (ReadsOn o) p → AllEnds ReadsNext p
+only-next o (Ret (Go y)) ends = ends
+only-next o (Ret (Last e)) ends = tt
+only-next o (Ask act go) ends = λ a. only-next o (go a) (ends a)
 
 pub next-round : (env : Environment) (x : RunState) → IsReadingState x → AllEnds ReadsNext (round env x)
 next-round env (Recovering start) never = absurd never
 next-round env (Preparing start s names) never = absurd never
 next-round env (Opening start s) never = absurd never
-next-round env (Reading s i) reading = only-next (round env (Reading s i)) (ends-line-round s i (next_waiting s))
-next-round env (Finishing s i) reading = only-next (round env (Finishing s i)) (ends-finishing-round s i (next_waiting s))
+next-round env (Reading s i) reading = only-next s.outcome (round env (Reading s i)) (ends-line-round s i (next_waiting s))
+next-round env (Finishing s i) reading = only-next s.outcome (round env (Finishing s i)) (ends-finishing-round s i (next_waiting s))
 next-round env (Leaving s i) reading = bind-ends (λ (e : Status). Unit {0}) ReadsNext (leaving s) (λ e. Ret (Last e)) (any-ends (leaving s)) (λ e t. tt)
 
 -- how the last round of a run ends it
 round-ends : (env : Environment) (x : RunState) (es : List Event) (r : Status) → IsReadingState x → (goes : Goes (round env x) es (Ok (Last r)))
-    → opened_end r ≡ end_at (is_refused_at x (first_answer (round env x) es (Ok (Last r)) goes))
+    → opened_end r ≡ end_at (is_refused_at x r (first_answer (round env x) es (Ok (Last r)) goes))
 round-ends env (Recovering start) es r never goes = absurd never
 round-ends env (Preparing start s names) es r never goes = absurd never
 round-ends env (Opening start s) es r never goes = absurd never
-round-ends env (Reading s i) es r reading goes = goes-ends ReadsOn (round env (Reading s i)) es (Last r) (ends-line-round s i (next_waiting s)) goes
-round-ends env (Finishing s i) es r reading goes = goes-ends ReadsOn (round env (Finishing s i)) es (Last r) (ends-finishing-round s i (next_waiting s)) goes
-round-ends env (Leaving s i) es r reading goes = last-ends s es r goes
+round-ends env (Reading s i) es r reading goes = line-end s.outcome r (goes-ends (ReadsOn s.outcome) (round env (Reading s i)) es (Last r) (ends-line-round s i (next_waiting s)) goes)
+round-ends env (Finishing s i) es r reading goes = line-end s.outcome r (goes-ends (ReadsOn s.outcome) (round env (Finishing s i)) es (Last r) (ends-finishing-round s i (next_waiting s)) goes)
+round-ends env (Leaving s i) es r reading goes =
+    quit-end s.outcome (is_quit_refused s (first_answer (round env (Leaving s i)) es (Ok (Last r)) goes)) r (last-ends s es r goes)
 
 reads-nothing : (x : RunState) → IsReadingState x → is_opening x ≡ false
 reads-nothing (Recovering start) never = absurd never
@@ -441,10 +437,33 @@ explained-said Bad start text e es b out plain goes to =
     let u = continues-blind (is_named start) b (says_and_ends text e) es out (refl, λ u. tt) goes in
     explained-as Bad start es b out e (to u) (continues-with b e (says_and_ends text e) es out (λ u. plain) goes)
 
-explained-opening : (start : Option Start) (s : SessionState) (es : List Event) (at_end : Bool) (out : Result Status Stop) → Continues at_end (opening start s) es out
-    → IsOpeningExplained (OpensBadly (Opening start s)) start out es at_end
-explained-opening None s es at_end out goes = explained-said ⊥ None usage status.Usage es at_end out refl goes (matches-none es)
-explained-opening (Some start) s es at_end out goes = word (folder_name s start) refl goes
+-- a draft that begins in the folder's place
+sent-ends : (b : Bool) (t : SessionState) → AllEnds (EndsWith status.Done) (sent b t)
+sent-ends true t = λ u. (tt, refl)
+sent-ends false t = (tt, refl)
+
+matches-sent : (start : Start) (es : List Event) → LoadsNone start.named es → Matches ⊥ (Some start) es status.Done
+matches-sent start es u = record {
+  refused = λ is. absurd (cc is);
+  held = λ h. no-end _ u.held h;
+  none = λ is. absurd (cc is);
+  opens_none = none-opens;
+  no_mail = λ is. absurd (cc is);
+  opens_no_mail = λ h. no-end _ u.mail h;
+}
+  where
+    none-opens : OpensNone ⊥ (Some start) es → status.Done ≡ status.NoFolder
+    none-opens (inl never) = absurd never
+    none-opens (inr h) = no-end _ u.folder h
+
+explained-sent : (b : Bool) (t : SessionState) (start : Start) (es : List Event) (at_end : Bool) (out : Result Status Stop) → Continues at_end (sent b t) es out → IsOpeningExplained ⊥ (Some start) out es at_end
+explained-sent b t start es at_end out goes =
+    let u = continues-blind start.named at_end (sent b t) es out (sent-acts b t) goes in
+    explained-as ⊥ (Some start) es at_end out status.Done (matches-sent start es u) (continues-with at_end status.Done (sent b t) es out (sent-ends b t) goes)
+
+explained-folder : (start : Start) (s : SessionState) (es : List Event) (at_end : Bool) (out : Result Status Stop) → Continues at_end (starting s start) es out
+    → IsOpeningExplained (IsNoName (folder_name s start)) (Some start) out es at_end
+explained-folder start s es at_end out goes = word (folder_name s start) refl goes
   where
     Bad : Type 0
     Bad = IsNoName (folder_name s start)
@@ -462,6 +481,16 @@ explained-opening (Some start) s es at_end out goes = word (folder_name s start)
     word (Ok name) is goes = named name is (is_short_name name) refl goes
     word (Err line) is goes = said line (subst IsNoName (sym is) tt) goes
 
+explained-starting : (sends : Option Options) (start : Start) (s : SessionState) (es : List Event) (at_end : Bool) (out : Result Status Stop) → Continues at_end (starting_with sends s start) es out
+    → IsOpeningExplained (IsBadlyNamed sends (folder_name s start)) (Some start) out es at_end
+explained-starting (Some o) start s es at_end out goes = explained-sent (asks_in s o) (begun_in s o) start es at_end out goes
+explained-starting None start s es at_end out goes = explained-folder start s es at_end out goes
+
+explained-opening : (start : Option Start) (s : SessionState) (es : List Event) (at_end : Bool) (out : Result Status Stop) → Continues at_end (opening start s) es out
+    → IsOpeningExplained (OpensBadly (Opening start s)) start out es at_end
+explained-opening None s es at_end out goes = explained-said ⊥ None usage status.Usage es at_end out refl goes (matches-none es)
+explained-opening (Some start) s es at_end out goes = explained-starting start.sends start s es at_end out goes
+
 next-of : (e : Status) (p : Play (Next RunState Status)) → AllEnds (EndsWith e) p → AllEnds ReadsNext p
 next-of e (Ret (Go y)) ends = ends.0
 next-of e (Ret (Last r)) ends = tt
@@ -475,9 +504,13 @@ named-next s start (Ok name) = go (is_short_name name)
     go false = λ u. tt
 named-next s start (Err line) = λ u. tt
 
+starting-next : (sends : Option Options) (s : SessionState) (start : Start) → AllEnds ReadsNext (starting_with sends s start)
+starting-next (Some o) s start = next-of status.Done (sent (asks_in s o) (begun_in s o)) (sent-ends (asks_in s o) (begun_in s o))
+starting-next None s start = named-next s start (folder_name s start)
+
 opening-next : (start : Option Start) (s : SessionState) → AllEnds ReadsNext (opening start s)
 opening-next None s = λ u. tt
-opening-next (Some start) s = named-next s start (folder_name s start)
+opening-next (Some start) s = starting-next start.sends s start
 
 pub opening-reads : (start : Option Start) (s : SessionState) (y : RunState) (es : List Event) → Goes (opening start s) es (Ok (Go y)) → IsReadingState y
 opening-reads start s y es goes = goes-ends ReadsNext (opening start s) es (Go y) (opening-next start s) goes
@@ -538,20 +571,24 @@ pub or-later : {A B : Type 0} → (A → ⊥) → A ⊎ B → B
 or-later never (inl a) = absurd (never a)
 or-later never (inr b) = b
 
--- where a start-up file's round ends the run it is done, or for a record that can't be read
-files-last : (start : Start) (r : Status) → IsLineEnd r → IsOpeningExplained ⊥ (Some start) (Ok r) [] false
-files-last start r by_line = record {
-  refused_only = λ is. absurd (subst IsLineEnd (came-same r status.Refused is) by_line);
-  refused_always = λ h. absurd (cc h);
-  no_folder_only = λ is. absurd (subst IsLineEnd (came-same r status.NoFolder is) by_line);
-  no_folder_always = λ h. absurd (none h);
-  no_mail_only = λ is. absurd (subst IsLineEnd (came-same r status.NoMail is) by_line);
-  no_mail_always = λ h. absurd (cc h);
+-- where nothing was loaded nothing tells why no folder was opened
+matches-nothing : (start : Start) → Matches ⊥ (Some start) [] status.Done
+matches-nothing start = record {
+  refused = λ is. absurd (cc is);
+  held = λ h. absurd (cc h);
+  none = λ is. absurd (cc is);
+  opens_none = none;
+  no_mail = λ is. absurd (cc is);
+  opens_no_mail = λ h. absurd (cc h);
 }
   where
-    none : OpensNone ⊥ (Some start) [] → ⊥
-    none (inl never) = never
-    none (inr h) = cc h
+    none : OpensNone ⊥ (Some start) [] → status.Done ≡ status.NoFolder
+    none (inl never) = absurd never
+    none (inr h) = absurd (cc h)
+
+-- where a start-up file's round ends the run, it ends as a line does
+files-last : (o : Outcome) (start : Start) (r : Status) → EndsBy o r → IsOpeningExplained ⊥ (Some start) (Ok r) [] (is_refused_before o r)
+files-last o start r by_line = explained-open (is_refused_before o r) ⊥ (Some start) [] (Ok r) (matches-nothing start) (line-end o r by_line)
 
 -- a round before the opening, and what follows it
 files-then : (env : Environment) (start : Start) (x y : RunState) (es front rest : List Event) (out : Result Status Stop) → IsBefore start x → (is : es ≡ front ++ rest) → (goes : Goes (round env x) front (Ok (Go y)))
@@ -559,7 +596,7 @@ files-then : (env : Environment) (start : Start) (x y : RunState) (es front rest
     → IsOpeningExplained (OpensBadly x ⊎ OpenedBadly more) (Some start) out (counted (is_opening x) front ++ events_at is_opening more) (refused_at_end more)
 files-then env start (Recovering o) y es front rest out never is goes more later = absurd never
 files-then env start (Preparing b s names) y es front rest out before is goes more later =
-    let on : IsBefore b y = goes-ends (LeavesBefore b) (round env (Preparing b s names)) front (Go y) (file-ends b s names (next_waiting s)) goes in
+    let on : IsBefore b y = goes-ends (LeavesBefore s.outcome b) (round env (Preparing b s names)) front (Go y) (file-ends b s names (next_waiting s)) goes in
     let at : IsBefore start y = subst (λ (b : Start). IsBefore b y) before on in
     explained-by (OpenedBadly more) (⊥ ⊎ OpenedBadly more) inr (or-later (λ never. never)) (Some start) out (events_at is_opening more) (refused_at_end more) (later at)
 files-then env start (Opening o s) y es front rest out before is goes more later =
@@ -572,10 +609,10 @@ files-then env start (Leaving s i) y es front rest out never is goes more later 
 
 -- a round before the opening that ends the run
 files-over : (env : Environment) (start : Start) (x : RunState) (es : List Event) (r : Status) → IsBefore start x → (goes : Goes (round env x) es (Ok (Last r)))
-    → IsOpeningExplained (OpensBadly x) (Some start) (Ok r) (counted (is_opening x) es) (is_refused_at x (first_answer (round env x) es (Ok (Last r)) goes))
+    → IsOpeningExplained (OpensBadly x) (Some start) (Ok r) (counted (is_opening x) es) (is_refused_at x r (first_answer (round env x) es (Ok (Last r)) goes))
 files-over env start (Recovering o) es r never goes = absurd never
 files-over env start (Preparing b s names) es r before goes =
-    files-last start r (goes-ends (LeavesBefore b) (round env (Preparing b s names)) es (Last r) (file-ends b s names (next_waiting s)) goes)
+    files-last s.outcome start r (goes-ends (LeavesBefore s.outcome b) (round env (Preparing b s names)) es (Last r) (file-ends b s names (next_waiting s)) goes)
 files-over env start (Opening o s) es r before goes =
     subst (λ (p : Option Start). IsOpeningExplained (OpensBadly (Opening o s)) p (Ok r) es false) before (explained-opening o s es false (Ok r) (inr (refl, inl (r, refl, goes))))
 files-over env start (Reading s i) es r never goes = absurd never

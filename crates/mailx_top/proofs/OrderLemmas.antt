@@ -1,10 +1,10 @@
 -- Asks in order pass what each ask passes.
-use Rattle.std.proofs.Common.{◌≡◌, ℕ, Bool, List, [], ◌∷◌, refl, sym, subst}
+use Rattle.std.proofs.Common.{◌≡◌, Bool, List, [], ◌∷◌, refl, sym, subst}
 use Rattle.session_play.specs.Input.{Input}
-use Rattle.session_play.specs.Acts.{AllActs, AllEnds, Threads}
+use Rattle.session_play.specs.Acts.{AllActs, Threads}
 use Rattle.session_play.specs.Play.{Act, Play}
 use Rattle.session_play.specs.Steps.{After, On, Over, Refused, Ended, onward, in_order}
-use Rattle.session_play.proofs.ShapeLemmas.{bind-acts, bind-ends, bind-threads}
+use Rattle.session_play.proofs.ShapeLemmas.{bind-acts, bind-threads}
 
 onward-acts : {S R : Type 0} (test : Act → Bool) (k : S → Play (After S R)) → ((s : S) → AllActs test (k s)) → (a : After S R) → AllActs test (onward k a)
 onward-acts test k all (On s) = all s
@@ -17,18 +17,6 @@ pub order-acts : {S R A : Type 0} (test : Act → Bool) (asked : S → A → Pla
 order-acts test asked each s [] = tt
 order-acts {S = S} test asked each s (a ∷ rest) =
     bind-acts test (asked s a) (onward (λ (t : S). in_order asked t rest)) (each s a) (onward-acts test (λ (t : S). in_order asked t rest) (λ t. order-acts test asked each t rest))
-
-onward-ends : {S R : Type 0} (P : After S R → Type 0) (k : S → Play (After S R)) → ((s : S) → AllEnds P (k s)) → (a : After S R) → P a → AllEnds P (onward k a)
-onward-ends P k all (On s) p = all s
-onward-ends P k all (Over s) p = p
-onward-ends P k all (Refused line) p = p
-onward-ends P k all (Ended r) p = p
-
-pub order-ends : {S R A : Type 0} (P : After S R → Type 0) (asked : S → A → Play (After S R)) → ((s : S) → P (On s)) → ((s : S) (a : A) → AllEnds P (asked s a))
-    → (s : S) (l : List A) → AllEnds P (in_order asked s l)
-order-ends P asked on each s [] = on s
-order-ends {S = S} P asked on each s (a ∷ rest) =
-    bind-ends P P (asked s a) (onward (λ (t : S). in_order asked t rest)) (each s a) (onward-ends P (λ (t : S). in_order asked t rest) (λ t. order-ends P asked on each t rest))
 
 -- the input stays as it was
 abbrev pub Keeps : {T : Type 0} → Input → T → Input → Type 0

@@ -3,6 +3,7 @@ use Rattle.std.proofs.Common.{◌≡◌, ◌<◌, ◌^◌, ◌+◌, ◌||◌, �
 use Rattle.std.specs.Prelude.{nat_lt, not, if◌then◌else◌}
 use Rattle.std.specs.declared.option.Option.{Option}
 use Rattle.std.specs.declared.option.Option.TheVariants.{Some, None}
+use Rattle.host_port.specs.declared.event.ChildAnswer.{ChildAnswer}
 use Rattle.std.specs.declared.result.Result.{Result}
 use Rattle.std.specs.declared.result.Result.TheVariants.{Ok, Err}
 use Rattle.host_port.specs.declared.event.Event.{Event}
@@ -51,8 +52,9 @@ use Rattle.draft_text.specs.Texts.{flattened}
 use Rattle.compose_tilde.specs.Answering.{new_machine}
 use Rattle.compose_tilde.specs.Lines.{asks_subject}
 use Rattle.mailx_session.specs.States.{is_drafting, next_waiting, settled, resumed, with_count, rested, command_limit}
-use Rattle.mailx_session.specs.Beginning.{view_in}
-use Rattle.mailx_session.specs.Drafting.{ended_draft}
+use Rattle.mailx_session.specs.Beginning.{view_in, begun, placed, file_fault, beginning}
+use Rattle.mailx_session.specs.Sending.{ended_draft}
+use Rattle.mailx_session.specs.Running.{after_run}
 use Rattle.mailx_session.specs.Saving.{names_fault, is_changed, after_commit, saved}
 use Rattle.mailx_session.specs.Switching.{open_fault, loaded_folder, switched, announced, switched_to, switches}
 use Rattle.mailx_session.specs.declared.kinds.FrameKind.TheVariants as kinds
@@ -67,12 +69,19 @@ use Rattle.mailx_top.specs.declared.environment.Environment.{Environment}
 use Rattle.mailx_top.specs.declared.words.Manner.{Manner}
 use Rattle.mailx_top.specs.declared.words.Manner.TheVariants.{Silent, Rows, Quiet, Greeting}
 use Rattle.mailx_top.specs.Words.{Start}
-use Rattle.mailx_top.specs.Meaning.{RunState, at_prompt, Recovering, recovered, Opening, Reading, Finishing, Leaving, round, last_round, opening, folder_name, with_name_or_fault, loaded, unheld, is_no_mail, with_list, greeted, turn, line_round, finishing_round, with_input, with_finishing, prompted, first_of, actor_in, Preparing, with_files, next_file, file_round}
+use Rattle.mailx_top.specs.Meaning.{RunState, at_prompt, is_over, next_unless, Recovering, recovered, recovered_unless, Opening, Reading, Finishing, Leaving, round, last_round, starting_with, folder_name, with_name_or_fault, loaded, unheld, is_no_mail, with_list, greeted, turn, line_round, finishing_round, with_input, with_finishing, prompted, actor_in, Preparing, with_files, next_file, file_round}
 use Rattle.mailx_top.specs.Starts.{is_bad_record}
 use Rattle.mailx_top.specs.Unreadable.{is_unreadable, met_unreadable, some_unreadable, some_unreadable_in, IsRecordExplained}
+use Rattle.command_words.specs.declared.options.Options.{Options}
+use Rattle.mailx_top.proofs.RoundLemmas.{sent, asks_in, begun_in}
 use Rattle.mailx_top.proofs.CrashLemmas.{StateOf, round-commits, round-of}
 use Rattle.mailx_top.proofs.LineLemmas.{begins}
-use Rattle.mailx_top.proofs.DraftLemmas.{IsPassed, typed-passes, ended-passes}
+use Rattle.mailx_session.specs.declared.outcome.Outcome.{Outcome}
+use Rattle.mailx_session.specs.declared.outcome.Outcome.TheVariants as outcome
+use Rattle.mailx_session.specs.Outcomes.{status_of}
+use Rattle.mailx_session.specs.Sending.{saved_one}
+use Rattle.mailx_top.specs.Leavings.{is_for_record}
+use Rattle.mailx_top.proofs.DraftLemmas.{IsPassed, Line-play, typed-passes, ended-passes}
 
 -- the answer to a commit of these changes is that the record can't be read
 abbrev answers_unreadable : List Change → Committed → Bool
@@ -172,7 +181,7 @@ module _ (actor : List ℕ) (token : ℕ) (fits : token < 2 ^ 64) where
   act-told (Try name) a es by did = refl
   act-told (Recover b t) a es by did = recovery-told b t es a did
   act-told (Child program args input) a es by did = refl
-  act-told Now a es by did = refl
+  act-told (Now tz) a es by did = refl
   act-told (Know texts) a es by did = refl
 
   -- a play that came to its end
@@ -184,11 +193,6 @@ module _ (actor : List ℕ) (token : ℕ) (fits : token < 2 ^ 64) where
       ap (λ (b : Bool). met || (b || later)) (act-told act answer front each.0 did)
       ∙ (or-moved met (unreadable_by act answer) later ∙ goes-told ends (unreadable_by act answer || met) (go answer) rest r (each.1 answer) (tells answer) goes)
   goes-told ends met (Ask act go) es r each tells (inr (cause, other, how)) = absurd (cc other)
-
--- the status of a record that can't be read
-abbrev is_for_record : Status → Bool
-is_for_record status.BadRecord = true
-is_for_record e = false
 
 abbrev after_ends : After SessionState Status → Bool
 after_ends (On s) = false
@@ -250,14 +254,36 @@ begun-tells : (b : Bool) (s : SessionState) (draft : Draft) → Tells after_ends
 begun-tells true s draft = λ u. refl
 begun-tells false s draft = refl
 
+placed-tells : (file : Option (List ℕ)) (current : Option ℕ) (a : After SessionState Status) → Tells after_ends (after_ends a) (placed file current a)
+placed-tells file current (On s) = refl
+placed-tells file current (Over s) = refl
+placed-tells file current (Refused line) = refl
+placed-tells file current (Ended e) = refl
+
+beginning-tells : (s : SessionState) (draft : Draft) (file : Option (List ℕ)) (current : Option ℕ) (fault : Option (List ℕ)) → Tells after_ends false (beginning s draft file current fault)
+beginning-tells s draft file current (Some line) = refl
+beginning-tells s draft file current None =
+    bind-tells after_ends after_ends false (begun s draft) (placed file current) (begun-tells (asks_subject (new_machine (flattened draft)) (view_in s)) s draft) (placed-tells file current)
+
+-- a run that ends by what became of drafts
+outcome-tells : (o : Outcome) → is_for_record (status_of o) ≡ false
+outcome-tells outcome.Fine = refl
+outcome-tells (outcome.NotSent n) = refl
+outcome-tells outcome.Refused = refl
+
+run-tells : (s : SessionState) (a : Option ChildAnswer) → Tells after_ends false (after_run s a)
+run-tells s None = refl
+run-tells s (Some child) = λ u. refl
+
 ask-tells : (s : SessionState) (ask : asked_of.Ask) → Tells after_ends false (asked s ask)
 ask-tells s (asks.Say bytes) = λ u. refl
 ask-tells s (asks.Commit changes) = saved-tells s changes (names_fault s.actor changes)
 ask-tells s (asks.Source name) = sourced-tells s name (source_fault s.frames name)
 ask-tells s (asks.Lines text) = called-tells (nat_lt (calls s.frames) call_limit) (with_lines kinds.Call s text)
 ask-tells s (asks.Open name changes reply) = switches-tells s name changes reply (open_fault s.actor name changes)
-ask-tells s (asks.Draft draft) = begun-tells (asks_subject (new_machine (flattened draft)) (view_in s)) s draft
-ask-tells s asks.Exit = refl
+ask-tells s (asks.Draft draft file current) = beginning-tells s draft file current (file_fault s.actor file)
+ask-tells s (asks.Child command input) = λ a. run-tells s a
+ask-tells s asks.Exit = outcome-tells s.outcome
 
 onward-tells : (l : List asked_of.Ask) → ((t : SessionState) → Tells after_ends false (in_order asked t l)) → (a : After SessionState Status) → Tells after_ends (after_ends a) (onward (λ (t : SessionState). in_order asked t l) a)
 onward-tells l each (On t) = each t
@@ -300,21 +326,37 @@ with-tells i (Last e) = refl
 abbrev Any-state : SessionState → Type 0
 Any-state s = Unit {0}
 
-draft-tells : IsPassed (Tells next_ends false) Any-state
+abbrev Line-tells : Line-play → Type 0
+Line-tells p = Tells next_ends false p
+
+change-tells : (go : After SessionState Status → Line-play) → ((t : SessionState) → Any-state t → Line-tells (go (On t))) → ((t : SessionState) → Any-state t → Line-tells (go (Over t)))
+    → ((line : List ℕ) → Line-tells (go (Refused line))) → ((e : Status) → go (Ended e) ≡ Ret (Last e)) → (a : After SessionState Status) → Tells next_ends (after_ends a) (go a)
+change-tells go on over refused ended (On t) = on t tt
+change-tells go on over refused ended (Over t) = over t tt
+change-tells go on over refused ended (Refused line) = refused line
+change-tells go on over refused ended (Ended e) = subst (λ (p : Line-play). Tells next_ends (is_for_record e) p) (sym (ended e)) refl
+
+draft-tells : IsPassed Line-tells Any-state Any-state
 draft-tells = record {
   goes = λ s q. refl;
-  says = λ bytes s q u. refl;
+  tells = λ bytes go all u. all;
   loads = λ name go all. all;
   runs = λ program args input go all. all;
+  times = λ tz go all. all;
+  files = λ s c go q on over refused ended.
+      bind-tells after_ends next_ends false (saved_one s c) go (saved-tells s (c ∷ []) (names_fault s.actor (c ∷ []))) (change-tells go on over refused ended);
   carries = λ s m q. carried-tells s m;
   drafts = λ s draft q. tt;
   counts = λ s n q. tt;
   rests = λ s q. tt;
+  stays = λ s q. tt;
+  closes = λ s q. tt;
+  outcomes = λ s o q. tt;
 }
 
 turn-tells : (s : SessionState) (j : Input) (line : Option (List ℕ)) → Tells next_ends false (turn s j line)
 turn-tells s j None = refl
-turn-tells s j (Some line) = bind-tells next_ends next_ends false (typed_play s line) (with_input j) (typed-passes (Tells next_ends false) Any-state draft-tells s line tt) (with-tells j)
+turn-tells s j (Some line) = bind-tells next_ends next_ends false (typed_play s line) (with_input j) (typed-passes Line-tells Any-state Any-state draft-tells s line tt) (with-tells j)
 
 -- what no commit stands in
 abbrev none_met : Unit {0} → Bool
@@ -324,8 +366,12 @@ prompted-tells : (terminal : Bool) (desk : Desk) → Tells none_met false (promp
 prompted-tells true desk = λ u. refl
 prompted-tells false desk = refl
 
+unless-tells : (b : Bool) (s : SessionState) (i : Input) → Tells next_ends false (next_unless b s i)
+unless-tells true s i = refl
+unless-tells false s i = bind-tells none_met next_ends false (prompted (at_prompt s) s.desk) (λ u. Ask (Line i) (λ a. turn s a.1 a.0)) (prompted-tells (at_prompt s) s.desk) (λ u a. turn-tells s a.1 a.0)
+
 line-tells : (s : SessionState) (i : Input) (next : Option (WaitingLine × List Pending)) → Tells next_ends false (line_round s i next)
-line-tells s i None = bind-tells none_met next_ends false (prompted (at_prompt s) s.desk) (λ u. Ask (Line i) (λ a. turn s a.1 a.0)) (prompted-tells (at_prompt s) s.desk) (λ u a. turn-tells s a.1 a.0)
+line-tells s i None = unless-tells (is_over s) s i
 line-tells s i (Some p) =
     let t = resumed s p.1 in
     bind-tells next_ends next_ends false (waiting_play t p.0) (with_input i) (waiting-tells (is_defining t.desk) t p.0) (with-tells i)
@@ -336,7 +382,7 @@ finishing-tells i (Go s) = refl
 finishing-tells i (Last e) = refl
 
 ended-tells : (b : Bool) (s : SessionState) (i : Input) → Tells next_ends false (if b then bind (ended_draft s) (with_finishing i) else Ret (Go (Leaving (rested s) i)))
-ended-tells true s i = bind-tells next_ends next_ends false (ended_draft s) (with_finishing i) (ended-passes (Tells next_ends false) Any-state draft-tells s tt) (finishing-tells i)
+ended-tells true s i = bind-tells next_ends next_ends false (ended_draft s) (with_finishing i) (ended-passes Line-tells Any-state Any-state draft-tells s tt) (finishing-tells i)
 ended-tells false s i = refl
 
 finishing-round-tells : (s : SessionState) (i : Input) (next : Option (WaitingLine × List Pending)) → Tells next_ends false (finishing_round s i next)
@@ -345,9 +391,15 @@ finishing-round-tells s i (Some p) =
     let t = resumed s p.1 in
     bind-tells next_ends next_ends false (waiting_play t p.0) (with_finishing i) (waiting-tells (is_defining t.desk) t p.0) (finishing-tells i)
 
+-- a run that nothing else ends doesn't end for its record
+not-for-record : (o : Outcome) → is_for_record (status_of o) ≡ false
+not-for-record outcome.Fine = refl
+not-for-record (outcome.NotSent n) = refl
+not-for-record outcome.Refused = refl
+
 left-tells : (a : After SessionState Status) → Tells is_for_record (after_ends a) (left_by a)
-left-tells (On s) = refl
-left-tells (Over s) = refl
+left-tells (On s) = not-for-record s.outcome
+left-tells (Over s) = not-for-record s.outcome
 left-tells (Refused line) = λ u. refl
 left-tells (Ended e) = refl
 
@@ -384,11 +436,23 @@ named-tells : (s : SessionState) (start : Start) (name : OrFault (List ℕ)) →
 named-tells s start (Ok name) = either-tells (is_short_name name) _ _ (λ f. loaded-tells s start name f) (λ u. refl)
 named-tells s start (Err line) = λ u. refl
 
+sent-tells : (b : Bool) (t : SessionState) → Tells next_ends false (sent b t)
+sent-tells true t = λ u. refl
+sent-tells false t = refl
+
+starting-tells : (sends : Option Options) (s : SessionState) (start : Start) → Tells next_ends false (starting_with sends s start)
+starting-tells (Some o) s start = sent-tells (asks_in s o) (begun_in s o)
+starting-tells None s start = named-tells s start (folder_name s start)
+
 recovered-tells : (env : Environment) (start : Start) (a : RecoveryAnswer) → Tells next_ends (found_unreadable a || false) (recovered env start a)
 recovered-tells env start (recovery.Done f) = refl
 recovered-tells env start (recovery.Busy name) = λ u. refl
 recovered-tells env start recovery.NotARecord = refl
 recovered-tells env start (recovery.TooLarge name n) = refl
+
+recovering-tells : (sends : Option Options) (env : Environment) (start : Start) → Tells next_ends false (recovered_unless sends env start (actor_in env) env.token)
+recovering-tells (Some o) env start = refl
+recovering-tells None env start = λ a. recovered-tells env start a
 
 -- the start-up files
 startup-tells : (s : SessionState) (name : List ℕ) (f : Option Found) → Tells next_ends false (after_startup s name f)
@@ -417,10 +481,10 @@ file-tells start s names (Some p) =
 
 round-tells : (env : Environment) (x : RunState) → Tells next_ends false (round env x)
 round-tells env (Recovering None) = refl
-round-tells env (Recovering (Some start)) = λ a. recovered-tells env start a
+round-tells env (Recovering (Some start)) = recovering-tells start.sends env start
 round-tells env (Preparing start s names) = file-tells start s names (next_waiting s)
 round-tells env (Opening None s) = λ u. refl
-round-tells env (Opening (Some start) s) = named-tells s start (folder_name s start)
+round-tells env (Opening (Some start) s) = starting-tells start.sends s start
 round-tells env (Reading s i) = line-tells s i (next_waiting s)
 round-tells env (Finishing s i) = finishing-round-tells s i (next_waiting s)
 round-tells env (Leaving s i) = last-tells s
@@ -442,6 +506,7 @@ loop-told env fits of (cut goes) = tt
 for-record : (e : Status) → is_for_record e ≡ true → e ≡ status.BadRecord
 for-record status.BadRecord is = refl
 for-record status.Done is = absurd (cc is)
+for-record (status.NotSent n) is = absurd (cc is)
 for-record status.NoMail is = absurd (cc is)
 for-record status.Usage is = absurd (cc is)
 for-record status.InputFault is = absurd (cc is)

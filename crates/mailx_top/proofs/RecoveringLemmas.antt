@@ -13,11 +13,11 @@ use Rattle.host_port.specs.declared.event.Event.TheVariants as event
 use Rattle.host_port.specs.declared.event.Seen.{Seen}
 use Rattle.host_port.specs.declared.event.Seen.TheVariants as seen
 use Rattle.commit_record.specs.declared.record.Record.{Record}
-use Rattle.commit_machine.specs.Records.{record_of, is_go}
+use Rattle.commit_machine.specs.Records.{record_of}
 use Rattle.commit_machine.specs.Jobs.{Before, Found, Busy, NotARecord, TooLarge, Ending, Recovered, Refused, Failed, NoMemory}
 use Rattle.commit_machine.specs.Restraints.{is_failed}
 use Rattle.folder_recovery.specs.Recovering.{found}
-use Rattle.folder_recovery.specs.Told.{told_end, unless_failed, unless_long, end_by, end_seen, end_found, end_read}
+use Rattle.folder_recovery.specs.Told.{told_end, unless_long, end_by, end_seen, end_read}
 use Rattle.folder_recovery.proofs.ToldLemmas.{is-told}
 use Rattle.session_play.specs.declared.stop.Stop.{Stop}
 use Rattle.session_play.specs.declared.stop.Stop.TheVariants as stop
@@ -25,18 +25,19 @@ use Rattle.session_play.specs.declared.recovering.RecoveryAnswer.{RecoveryAnswer
 use Rattle.session_play.specs.declared.recovering.RecoveryAnswer.TheVariants as recovery
 use Rattle.session_play.specs.Recovering.{recovery_as, IsRecoveryOf}
 use Rattle.session_play.specs.Causes.{counted, events_at}
-use Rattle.session_play.specs.Play.{Play, Ret, Ask, Recover, Says, Goes, Next, Go, Last, Loop, again, last, cut}
+use Rattle.session_play.specs.Play.{Play, Ret, Says, Goes, Next, Go, Last, Loop, again, last, cut}
 use Rattle.session_play.proofs.ShapeLemmas.{came-same, goes-ends}
 use Rattle.mailx_session.specs.declared.state.SessionState.{SessionState}
 use Rattle.mailx_session.specs.States.{next_waiting}
 use Rattle.mailx_session.specs.declared.status.Status.{Status}
 use Rattle.mailx_session.specs.declared.status.Status.TheVariants as status
 use Rattle.mailx_top.specs.declared.environment.Environment.{Environment}
-use Rattle.mailx_top.specs.Words.{Start}
-use Rattle.mailx_top.specs.Meaning.{RunState, Recovering, Preparing, Opening, Reading, Finishing, Leaving, round, file_round, prepared, recovered, first_of, actor_in, heard, ends_with, says_and_ends, usage, is_recovering, is_opening}
+use Rattle.command_words.specs.declared.options.Options.{Options}
+use Rattle.mailx_top.specs.Words.{Start, sent_by}
+use Rattle.mailx_top.specs.Meaning.{RunState, Recovering, Preparing, Opening, Reading, Finishing, Leaving, round, prepared, recovered, recovered_unless, first_of, actor_in, heard, ends_with, says_and_ends, usage, is_recovering, is_opening}
 use Rattle.mailx_top.specs.Openings.{OpenedBadly, IsOpeningExplained}
 use Rattle.mailx_top.specs.Leavings.{refused_at_end}
-use Rattle.mailx_top.specs.Starts.{is_recovered, is_right_busy, is_bad_record, IsStartExplained}
+use Rattle.mailx_top.specs.Starts.{is_recovered, is_right_busy, is_bad_record, IsStartExplained, IsExplainedFrom}
 use Rattle.mailx_top.proofs.OpeningLemmas.{IsReadingState, ReadsNext, next-round, opening-reads, explained-by, or-later, files-explained}
 use Rattle.mailx_top.proofs.StartupLemmas.{IsBefore, LeavesBefore, file-ends}
 
@@ -81,7 +82,7 @@ before-then : (env : Environment) (start : Start) (x y : RunState) (es front res
     → (more : Loop (round env) y rest out) → (IsBefore start y → events_at is_recovering more ≡ []) → counted (is_recovering x) front ++ events_at is_recovering more ≡ []
 before-then env start (Recovering o) y es front rest out never is goes more later = absurd never
 before-then env start (Preparing b s names) y es front rest out before is goes more later =
-    let on : IsBefore b y = goes-ends (LeavesBefore b) (round env (Preparing b s names)) front (Go y) (file-ends b s names (next_waiting s)) goes in
+    let on : IsBefore b y = goes-ends (LeavesBefore s.outcome b) (round env (Preparing b s names)) front (Go y) (file-ends b s names (next_waiting s)) goes in
     later (subst (λ (b : Start). IsBefore b y) before on)
 before-then env start (Opening o s) y es front rest out before is goes more later = opening-plain env o s (again front rest is goes more)
 before-then env start (Reading s i) y es front rest out never is goes more later = absurd never
@@ -327,20 +328,65 @@ usage-at env y s front rest out is none =
     let E : RunState → Type 0 = λ y. (more : Loop (round env) y rest out) → Explained (⊥ ⊎ OpenedBadly more) None out (told_end (actor_in env) (front ++ events_at is_recovering more)) (events_at is_opening more) (refused_at_end more) in
     subst E (sym is) (λ more. usage-told env s front more none)
 
--- a run from its start tells how its recovery ended, and why it opened no folder
+-- a run that recovers, from its recovery on
+abbrev Recovery : Environment → Start → Play (Next RunState Status)
+Recovery env start = recovered_unless None env start (actor_in env) env.token
+
+recovery-then : (env : Environment) (start : Start) (y : RunState) (front rest : List Event) (out : Result Status Stop) → Goes (Recovery env start) front (Ok (Go y)) → (more : Loop (round env) y rest out)
+    → Explained (⊥ ⊎ OpenedBadly more) (Some start) out (told_end (actor_in env) (front ++ events_at is_recovering more)) (events_at is_opening more) (refused_at_end more)
+recovery-then env start y front rest out (inl (a, xs, ys, parts, did, goes)) more =
+    let r = reaches env (actor_in env) env.token start a y xs ys did goes in
+    let before : IsBefore start y = subst (IsBefore start) (sym r.0) refl in
+    opened-after env start y front before more (subst (λ (l : List Event). is_recovered (told_end (actor_in env) l) ≡ true) (sym parts) r.1)
+recovery-then env start y front rest out (inr (cause, other, part)) more = absurd (cc other)
+
+recovery-over : (env : Environment) (start : Start) (r : Status) (es : List Event) → Goes (Recovery env start) es (Ok (Last r)) → Explained ⊥ (Some start) (Ok r) (told_end (actor_in env) es) [] false
+recovery-over env start r es (inl (a, xs, ys, parts, did, goes)) =
+    subst (λ (l : List Event). Explained ⊥ (Some start) (Ok r) (told_end (actor_in env) l) [] false) (sym parts) (ended-by env (actor_in env) env.token start a r xs ys did goes)
+recovery-over env start r es (inr (cause, other, part)) = absurd (cc other)
+
+-- a run that sends, from its start-up files on
+prepared-then : (env : Environment) (start : Start) (y : RunState) (front rest : List Event) (out : Result Status Stop) → Goes (Ret (let n : Next RunState Status = Go (prepared env start) in n)) front (Ok (Go y))
+    → (more : Loop (round env) y rest out)
+    → (front ++ events_at is_recovering more ≡ []) × IsOpeningExplained (⊥ ⊎ OpenedBadly more) (Some start) out (events_at is_opening more) (refused_at_end more)
+prepared-then env start y front rest out (none, inl same) more =
+    let at : y ≡ prepared env start = go-same y (prepared env start) (came-same (Go y) (Go (prepared env start)) same) in
+    let before : IsBefore start y = subst (IsBefore start) (sym at) refl in
+    let plain : events_at is_recovering more ≡ [] = before-plain env start before more in (
+      ap (λ (l : List Event). l ++ events_at is_recovering more) none ∙ plain,
+      explained-by (OpenedBadly more) (⊥ ⊎ OpenedBadly more) inr (or-later (λ never. never)) (Some start) out (events_at is_opening more) (refused_at_end more) (files-explained env start before more),
+    )
+prepared-then env start y front rest out (none, inr other) more = absurd (cc other)
+
+-- a run from its start tells how its recovery ended, where it makes one, and why it opened no folder
+abbrev ExplainedSo : Option Options → Environment → Option Start → Result Status Stop → List Event → Type 0 → List Event → Bool → Type 0
+ExplainedSo sends env start out es Bad opened at_end = IsExplainedFrom sends (actor_in env) out es (IsOpeningExplained Bad start out opened at_end)
+
+explained-then : (sends : Option Options) (env : Environment) (start : Start) (y : RunState) (front rest : List Event) (out : Result Status Stop)
+    → Goes (recovered_unless sends env start (actor_in env) env.token) front (Ok (Go y)) → (more : Loop (round env) y rest out)
+    → ExplainedSo sends env (Some start) out (front ++ events_at is_recovering more) (⊥ ⊎ OpenedBadly more) (events_at is_opening more) (refused_at_end more)
+explained-then (Some o) env start y front rest out goes more = prepared-then env start y front rest out goes more
+explained-then None env start y front rest out goes more = recovery-then env start y front rest out goes more
+
+explained-over : (sends : Option Options) (env : Environment) (start : Start) (r : Status) (es : List Event) → Goes (recovered_unless sends env start (actor_in env) env.token) es (Ok (Last r))
+    → ExplainedSo sends env (Some start) (Ok r) es ⊥ [] false
+explained-over (Some o) env start r es (none, inl other) = absurd (cc other)
+explained-over (Some o) env start r es (none, inr other) = absurd (cc other)
+explained-over None env start r es goes = recovery-over env start r es goes
+
+explained-short : (sends : Option Options) (env : Environment) (start : Start) (cause : Stop) (es : List Event) → Goes (recovered_unless sends env start (actor_in env) env.token) es (Err cause)
+    → ExplainedSo sends env (Some start) (Err cause) es ⊥ [] false
+explained-short (Some o) env start cause es (none, end) = (none, plainly-cut ⊥ (Some start) cause [] false)
+explained-short None env start cause es goes = explained-cut ⊥ (Some start) cause (told_end (actor_in env) es) [] false (plainly-cut ⊥ (Some start) cause [] false)
+
 pub recovering-explained : (env : Environment) (start : Option Start) (es : List Event) (out : Result Status Stop) (loop : Loop (round env) (Recovering start) es out)
-    → Explained (OpenedBadly loop) start out (told_end (actor_in env) (events_at is_recovering loop)) (events_at is_opening loop) (refused_at_end loop)
+    → ExplainedSo (sent_by start) env start out (events_at is_recovering loop) (OpenedBadly loop) (events_at is_opening loop) (refused_at_end loop)
 recovering-explained env None es out (again {y = y} front rest is (none, inl same) more) =
     usage-at env y (first_of env None) front rest out (go-same y (Opening None (first_of env None)) (came-same (Go y) (Go (Opening None (first_of env None))) same)) none more
 recovering-explained env None es out (again front rest is (none, inr other) more) = absurd (cc other)
 recovering-explained env None es out (last (none, inl other)) = absurd (cc other)
 recovering-explained env None es out (last (none, inr other)) = absurd (cc other)
-recovering-explained env (Some start) es out (again {y = y} front rest is (inl (a, xs, ys, parts, did, goes)) more) =
-    let r = reaches env (actor_in env) env.token start a y xs ys did goes in
-    let before : IsBefore start y = subst (IsBefore start) (sym r.0) refl in
-    opened-after env start y front before more (subst (λ (l : List Event). is_recovered (told_end (actor_in env) l) ≡ true) (sym parts) r.1)
-recovering-explained env (Some start) es out (again front rest is (inr (cause, other, part)) more) = absurd (cc other)
-recovering-explained env (Some start) es out (last {r = r} (inl (a, xs, ys, parts, did, goes))) =
-    subst (λ (l : List Event). Explained ⊥ (Some start) (Ok r) (told_end (actor_in env) l) [] false) (sym parts) (ended-by env (actor_in env) env.token start a r xs ys did goes)
-recovering-explained env (Some start) es out (last (inr (cause, other, part))) = absurd (cc other)
-recovering-explained env start es out (cut {cause = cause} goes) = explained-cut ⊥ start cause (told_end (actor_in env) es) [] false (plainly-cut ⊥ start cause [] false)
+recovering-explained env None es out (cut {cause = cause} goes) = explained-cut ⊥ None cause (told_end (actor_in env) es) [] false (plainly-cut ⊥ None cause [] false)
+recovering-explained env (Some start) es out (again {y = y} front rest is goes more) = explained-then start.sends env start y front rest out goes more
+recovering-explained env (Some start) es out (last {r = r} goes) = explained-over start.sends env start r es goes
+recovering-explained env (Some start) es out (cut {cause = cause} goes) = explained-short start.sends env start cause es goes

@@ -22,13 +22,19 @@ use Rattle.mailx_session.specs.Openings.{with_opened}
 use Rattle.mailx_session.specs.declared.frames.WaitingLine.{WaitingLine}
 use Rattle.mailx_session.specs.Waits.{Pending}
 use Rattle.mailx_session.specs.States.{is_drafting, next_waiting, resumed, rested}
-use Rattle.mailx_session.specs.Drafting.{ended_draft}
+use Rattle.mailx_session.specs.Sending.{ended_draft}
+use Rattle.command_words.specs.declared.options.Options.{Options}
+use Rattle.draft_text.specs.Texts.{flattened}
+use Rattle.compose_tilde.specs.Answering.{new_machine}
+use Rattle.compose_tilde.specs.Lines.{asks_subject}
+use Rattle.mailx_session.specs.Beginning.{view_in, with_begun, subject_asked}
 use Rattle.mailx_session.specs.Rounds.{typed_play, waiting_play}
 use Rattle.mailx_top.specs.declared.environment.Environment.{Environment}
 use Rattle.mailx_top.specs.declared.words.Manner.{Manner}
 use Rattle.mailx_top.specs.declared.words.Manner.TheVariants.{Silent, Rows, Quiet, Greeting}
 use Rattle.mailx_top.specs.Words.{Start}
-use Rattle.mailx_top.specs.Meaning.{RunState, at_prompt, first_of, Recovering, recovering, recovered, Opening, Reading, Finishing, Leaving, round, opening, folder_name, with_name_or_fault, loaded, unheld, is_no_mail, with_list, greeted, turn, next_turn, line_round, finishing_round, with_input, with_finishing, prompted, input_of, is_opening, Preparing}
+use Rattle.mailx_top.specs.Sending.{draft_with}
+use Rattle.mailx_top.specs.Meaning.{RunState, at_prompt, actor_in, Recovering, recovering, recovered, recovered_unless, Opening, Reading, Finishing, Leaving, round, opening, starting_with, folder_name, with_name_or_fault, loaded, unheld, is_no_mail, with_list, greeted, turn, next_turn, is_over, next_unless, line_round, finishing_round, with_input, with_finishing, prompted, input_of, is_opening, Preparing}
 use Rattle.session_play.proofs.ShapeLemmas.{bind-acts, bind-threads, weaker-acts, may-all}
 use Rattle.mailx_session.specs.Leaving.{leaving}
 use Rattle.mailx_top.proofs.OrderLemmas.{Keeps}
@@ -68,9 +74,27 @@ threads-named : (s : SessionState) (start : Start) (name : OrFault (List ℕ)) �
 threads-named s start (Ok name) = both (is_short_name name) _ _ no_input (tt, threads-loaded s start name) (tt, λ u. tt)
 threads-named s start (Err line) = (tt, λ u. tt)
 
+-- a draft that begins, after the question for its subject where that is asked for
+abbrev pub sent : Bool → SessionState → Play (Next RunState Status)
+sent b t = bind (bind (subject_asked b) (λ u. Ret t)) (λ t. Ret (Go (Reading t no_input)))
+
+abbrev pub asks_in : SessionState → Options → Bool
+asks_in s o = asks_subject (new_machine (flattened (draft_with s.desk o))) (view_in s)
+
+abbrev pub begun_in : SessionState → Options → SessionState
+begun_in s o = with_begun s (draft_with s.desk o)
+
+threads-sent : (b : Bool) (t : SessionState) → On no_input (sent b t)
+threads-sent true t = (tt, λ u. refl)
+threads-sent false t = refl
+
+threads-starting : (sends : Option Options) (s : SessionState) (start : Start) → On no_input (starting_with sends s start)
+threads-starting (Some o) s start = threads-sent (asks_in s o) (begun_in s o)
+threads-starting None s start = threads-named s start (folder_name s start)
+
 threads-opening : (start : Option Start) (s : SessionState) → On no_input (opening start s)
 threads-opening None s = (tt, λ u. tt)
-threads-opening (Some start) s = threads-named s start (folder_name s start)
+threads-opening (Some start) s = threads-starting start.sends s start
 
 threads-recovered : (env : Environment) (start : Start) (a : RecoveryAnswer) → On no_input (recovered env start a)
 threads-recovered env start (recovery.Done found) = refl
@@ -78,9 +102,13 @@ threads-recovered env start (recovery.Busy name) = (tt, λ u. tt)
 threads-recovered env start recovery.NotARecord = tt
 threads-recovered env start (recovery.TooLarge name length) = tt
 
+threads-recovered-unless : (sends : Option Options) (env : Environment) (start : Start) → On no_input (recovered_unless sends env start (actor_in env) env.token)
+threads-recovered-unless (Some o) env start = refl
+threads-recovered-unless None env start = (tt, threads-recovered env start)
+
 threads-recovering : (env : Environment) (start : Option Start) → On no_input (recovering env start)
 threads-recovering env None = refl
-threads-recovering env (Some start) = (tt, threads-recovered env start)
+threads-recovering env (Some start) = threads-recovered-unless start.sends env start
 
 threads-with : (i : Input) (n : Next SessionState Status) (j : Input) → j ≡ i → On j (with_input i n)
 threads-with i (Go s) j same = same
@@ -104,8 +132,12 @@ threads-turn-next s i =
     bind-threads (λ (u : Unit {0}) (j : Input). j ≡ i) (NextFrom input_of) (prompted (at_prompt s) s.desk) (λ u. Ask (Line i) (λ a. turn s a.1 a.0)) i (threads-prompted (at_prompt s) s.desk i)
     (λ u j same. (sym same, λ a. threads-turn s a.1 a.0))
 
+threads-unless : (b : Bool) (s : SessionState) (i : Input) → On i (next_unless b s i)
+threads-unless true s i = refl
+threads-unless false s i = threads-turn-next s i
+
 threads-line-round : (s : SessionState) (i : Input) (next : Option (WaitingLine × List Pending)) → On i (line_round s i next)
-threads-line-round s i None = threads-turn-next s i
+threads-line-round s i None = threads-unless (is_over s) s i
 threads-line-round s i (Some p) =
     let t = resumed s p.1 in
     bind-threads (λ (n : Next SessionState Status) (k : Input). k ≡ i) (NextFrom input_of) (waiting_play t p.0) (with_input i) i (waiting-threads t p.0 i) (threads-with i)
@@ -167,9 +199,17 @@ named-acts s start (Ok name) =
     either (may_load true) (is_short_name name) _ _ (refl, λ f. loads-less true (loaded s start name f) (loaded-acts s start name f)) (refl, λ u. tt)
 named-acts s start (Err line) = (refl, λ u. tt)
 
+pub sent-acts : (b : Bool) (t : SessionState) → AllActs loads_nothing (sent b t)
+sent-acts true t = (refl, λ u. tt)
+sent-acts false t = tt
+
+starting-acts : (sends : Option Options) (s : SessionState) (start : Start) → AllActs (may_load true) (starting_with sends s start)
+starting-acts (Some o) s start = loads-less true (sent (asks_in s o) (begun_in s o)) (sent-acts (asks_in s o) (begun_in s o))
+starting-acts None s start = named-acts s start (folder_name s start)
+
 opening-acts : (start : Option Start) (s : SessionState) → AllActs (may_load true) (opening start s)
 opening-acts None s = (refl, λ u. tt)
-opening-acts (Some start) s = named-acts s start (folder_name s start)
+opening-acts (Some start) s = starting-acts start.sends s start
 
 recovered-acts : (env : Environment) (start : Start) (a : RecoveryAnswer) → AllActs (may_load false) (recovered env start a)
 recovered-acts env start (recovery.Done found) = tt
@@ -177,9 +217,13 @@ recovered-acts env start (recovery.Busy name) = (refl, λ u. tt)
 recovered-acts env start recovery.NotARecord = tt
 recovered-acts env start (recovery.TooLarge name length) = tt
 
+recovered-unless-acts : (sends : Option Options) (env : Environment) (start : Start) → AllActs (may_load false) (recovered_unless sends env start (actor_in env) env.token)
+recovered-unless-acts (Some o) env start = tt
+recovered-unless-acts None env start = (refl, recovered-acts env start)
+
 recovering-acts : (env : Environment) (start : Option Start) → AllActs (may_load false) (recovering env start)
 recovering-acts env None = tt
-recovering-acts env (Some start) = (refl, recovered-acts env start)
+recovering-acts env (Some start) = recovered-unless-acts start.sends env start
 
 with-acts : (i : Input) (n : Next SessionState Status) → AllActs (may_load false) (with_input i n)
 with-acts i (Go s) = tt
@@ -197,8 +241,12 @@ next-acts : (s : SessionState) (i : Input) → AllActs (may_load false) (next_tu
 next-acts s i =
     bind-acts (may_load false) (prompted (at_prompt s) s.desk) (λ u. Ask (Line i) (λ a. turn s a.1 a.0)) (prompted-acts (at_prompt s) s.desk) (λ u. (refl, λ a. turn-acts s a.1 a.0))
 
+unless-acts : (b : Bool) (s : SessionState) (i : Input) → AllActs (may_load false) (next_unless b s i)
+unless-acts true s i = tt
+unless-acts false s i = next-acts s i
+
 line-round-acts : (s : SessionState) (i : Input) (next : Option (WaitingLine × List Pending)) → AllActs (may_load false) (line_round s i next)
-line-round-acts s i None = next-acts s i
+line-round-acts s i None = unless-acts (is_over s) s i
 line-round-acts s i (Some p) =
     let t = resumed s p.1 in bind-acts (may_load false) (waiting_play t p.0) (with_input i) (waiting-acts t p.0) (with-acts i)
 

@@ -13,6 +13,7 @@ use Rattle.mailx_top.specs.Runs.{Ending, SaysUnlessIdle, IsRun}
 use Rattle.mailx_top.specs.Words.{Start, may_say, start_of}
 use Rattle.mailx_top.proofs.RecordLemmas.{record-explained}
 use Rattle.mailx_top.proofs.RecoveringLemmas.{recovering-explained}
+use Rattle.mailx_top.proofs.UnsentLemmas.{sending-explained}
 use Rattle.mailx_top.proofs.RoundLemmas.{threads-round, loads-round}
 
 pub run-of : (start : Option Start) (env : Environment) → env.token < 2 ^ 64 → (s : Status) (out : Result Status Stop) (front behind : List Event) → Loop (round env) (Recovering (start_of start env.pairs)) front out
@@ -23,4 +24,5 @@ run-of start env fits s out front behind loop ending said = record {
   explained = loop-explained (round env) input_of is_opening _ front _ (threads-round env) (loads-round env) refl loop;
   record_met = record-explained env fits _ front _ loop;
   opening = recovering-explained env _ front _ loop;
+  sending = sending-explained env loop;
 }

@@ -1,5 +1,5 @@
 -- A start-up file takes no input; what its acts and ends pass.
-use Rattle.std.proofs.Common.{◌≡◌, ℕ, Bool, true, false, List, [], ◌∷◌, refl, subst, sym}
+use Rattle.std.proofs.Common.{◌≡◌, ℕ, Bool, true, false, List, [], ◌∷◌, refl}
 use Rattle.std.specs.Prelude.{if◌then◌else◌}
 use Rattle.std.specs.declared.option.Option.{Option}
 use Rattle.std.specs.declared.option.Option.TheVariants.{Some, None}
@@ -8,7 +8,7 @@ use Rattle.session_play.specs.declared.act.Found.TheVariants as found
 use Rattle.session_play.specs.Input.{Input, no_input}
 use Rattle.session_play.specs.Acts.{AllActs, AllEnds, Threads, may_load}
 use Rattle.session_play.specs.Causes.{NextFrom}
-use Rattle.session_play.specs.Play.{Play, Ret, Ask, Try, Next, Go, Last}
+use Rattle.session_play.specs.Play.{Play, Ask, Try, Next, Go, Last}
 use Rattle.session_play.specs.Steps.{refused}
 use Rattle.session_play.proofs.ShapeLemmas.{bind-acts, bind-ends, bind-threads}
 use Rattle.mailx_vars.specs.Names.{is_short_name}
@@ -22,7 +22,8 @@ use Rattle.mailx_session.specs.Rounds.{waiting_play}
 use Rattle.mailx_session.specs.Startup.{after_startup, startup_play}
 use Rattle.mailx_top.specs.Words.{Start}
 use Rattle.mailx_top.specs.Meaning.{RunState, Preparing, Opening, with_files, next_file, file_round, input_of}
-use Rattle.mailx_top.proofs.LineLemmas.{EndsByLine, waiting-acts, waiting-ends, waiting-threads}
+use Rattle.mailx_session.specs.declared.outcome.Outcome.{Outcome}
+use Rattle.mailx_top.proofs.LineLemmas.{EndsBy, EndsByLine, waiting-acts, waiting-ends, waiting-threads}
 
 -- a file that is loaded, or whose name is refused
 after-acts : (s : SessionState) (name : List ℕ) (f : Option Found) → AllActs (may_load false) (after_startup s name f)
@@ -35,15 +36,15 @@ named-acts : (b : Bool) (s : SessionState) (name : List ℕ) → AllActs (may_lo
 named-acts true s name = (refl, λ f. after-acts s name f)
 named-acts false s name = (refl, λ u. tt)
 
-after-ends : (s : SessionState) (name : List ℕ) (f : Option Found) → AllEnds EndsByLine (after_startup s name f)
-after-ends s name None = λ u. tt
-after-ends s name (Some (found.TooLarge n)) = λ u. tt
-after-ends s name (Some (found.Bytes None held)) = tt
-after-ends s name (Some (found.Bytes (Some text) held)) = tt
+after-ends : (o : Outcome) (s : SessionState) (name : List ℕ) (f : Option Found) → AllEnds (EndsByLine o) (after_startup s name f)
+after-ends o s name None = λ u. tt
+after-ends o s name (Some (found.TooLarge n)) = λ u. tt
+after-ends o s name (Some (found.Bytes None held)) = tt
+after-ends o s name (Some (found.Bytes (Some text) held)) = tt
 
-named-ends : (b : Bool) (s : SessionState) (name : List ℕ) → AllEnds EndsByLine (if b then Ask (Try name) (after_startup s name) else refused s (bad_name name))
-named-ends true s name = λ f. after-ends s name f
-named-ends false s name = λ u. tt
+named-ends : (o : Outcome) (b : Bool) (s : SessionState) (name : List ℕ) → AllEnds (EndsByLine o) (if b then Ask (Try name) (after_startup s name) else refused s (bad_name name))
+named-ends o true s name = λ f. after-ends o s name f
+named-ends o false s name = λ u. tt
 
 abbrev KeepsInput : Input → Next SessionState Status → Input → Type 0
 KeepsInput i n j = j ≡ i
@@ -98,21 +99,21 @@ IsBefore start (Opening o s) = o ≡ Some start
 IsBefore start x = ⊥
 
 -- a start-up file leaves it so, or ends the run as a line does
-abbrev pub LeavesBefore : Start → Next RunState Status → Type 0
-LeavesBefore start (Go y) = IsBefore start y
-LeavesBefore start (Last e) = EndsByLine (Last e)
+abbrev pub LeavesBefore : Outcome → Start → Next RunState Status → Type 0
+LeavesBefore o start (Go y) = IsBefore start y
+LeavesBefore o start (Last e) = EndsBy o e
 
-with-ends : (start : Start) (names : List (List ℕ)) (n : Next SessionState Status) → EndsByLine n → AllEnds (LeavesBefore start) (with_files start names n)
-with-ends start names (Go s) by_line = refl
-with-ends start names (Last e) by_line = by_line
+with-ends : (o : Outcome) (start : Start) (names : List (List ℕ)) (n : Next SessionState Status) → EndsByLine o n → AllEnds (LeavesBefore o start) (with_files start names n)
+with-ends o start names (Go s) by_line = refl
+with-ends o start names (Last e) by_line = by_line
 
-next-ends : (start : Start) (s : SessionState) (names : List (List ℕ)) → AllEnds (LeavesBefore start) (next_file start s names)
-next-ends start s [] = refl
-next-ends start s (name ∷ names) =
-    bind-ends EndsByLine (LeavesBefore start) (startup_play s name) (with_files start names) (named-ends (is_short_name name) s name) (with-ends start names)
+next-ends : (o : Outcome) (start : Start) (s : SessionState) (names : List (List ℕ)) → AllEnds (LeavesBefore o start) (next_file start s names)
+next-ends o start s [] = refl
+next-ends o start s (name ∷ names) =
+    bind-ends (EndsByLine o) (LeavesBefore o start) (startup_play s name) (with_files start names) (named-ends o (is_short_name name) s name) (with-ends o start names)
 
-pub file-ends : (start : Start) (s : SessionState) (names : List (List ℕ)) (next : Option (WaitingLine × List Pending)) → AllEnds (LeavesBefore start) (file_round start s names next)
-file-ends start s names None = next-ends start (rested s) names
+pub file-ends : (start : Start) (s : SessionState) (names : List (List ℕ)) (next : Option (WaitingLine × List Pending)) → AllEnds (LeavesBefore s.outcome start) (file_round start s names next)
+file-ends start s names None = next-ends s.outcome start (rested s) names
 file-ends start s names (Some p) =
     let t = resumed s p.1 in
-    bind-ends EndsByLine (LeavesBefore start) (waiting_play t p.0) (with_files start names) (waiting-ends t p.0) (with-ends start names)
+    bind-ends (EndsByLine s.outcome) (LeavesBefore s.outcome start) (waiting_play t p.0) (with_files start names) (waiting-ends t p.0) (with-ends s.outcome start names)

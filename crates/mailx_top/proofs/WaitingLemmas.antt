@@ -14,14 +14,12 @@ use Rattle.session_play.specs.Play.{Play, Ret, Ask, bind, Line, Goes, Next, Go, 
 use Rattle.session_play.proofs.PlayLemmas.{at-memory, goes-then, goes-cut, goes-as}
 use Rattle.session_play.proofs.LoopLemmas.{SoFar}
 use Rattle.command_desk.specs.declared.desk.Desk.{Desk}
-use Rattle.mailx_session.specs.declared.frames.WaitingLine.{WaitingLine}
 use Rattle.mailx_session.specs.declared.state.SessionState.{SessionState}
 use Rattle.mailx_session.specs.declared.status.Status.{Status}
-use Rattle.mailx_session.specs.Waits.{Pending}
 use Rattle.mailx_session.specs.Pending.{taken, open_before}
 use Rattle.read_commands.specs.Origins.{is_defining}
 use Rattle.mailx_session.specs.States.{IsSession, is_drafting, next_waiting, with_draft, cut_to, resumed, at_rest, rested}
-use Rattle.mailx_session.specs.Drafting.{ended_draft}
+use Rattle.mailx_session.specs.Sending.{ended_draft}
 use Rattle.compose_tilde.specs.declared.machine.Machine.{Machine}
 use Rattle.mailx_session.specs.Startup.{startup_play, StartupGoes, begun}
 use Rattle.mailx_session.specs.Startup as files
@@ -29,7 +27,7 @@ use Rattle.mailx_session.proofs.RoundLemmas.{rested-same}
 use Rattle.mailx_session.specs.Rounds.{typed_play, waiting_play, WaitingGo, none, more, ended, LineGoes, typed, DraftEnds, FinishGo}
 use Rattle.mailx_session.specs.Rounds as rounds
 use Rattle.mailx_top.specs.declared.environment.Environment.{Environment}
-use Rattle.mailx_top.specs.Meaning.{RunState, at_prompt, Reading, Finishing, Leaving, behind_input, round, last_round, line_round, finishing_round, with_finishing, next_turn, turn, prompted, with_input, next_state, after_line, LeadsTo, LeadsAfterPrompt, Preparing, Opening, first_of, startup_files, files_with, with_files, next_file, file_round, prepared, after_file, after_files}
+use Rattle.mailx_top.specs.Meaning.{RunState, at_prompt, Reading, Finishing, Leaving, behind_input, round, last_round, is_over, next_unless, AsksNext, line_round, finishing_round, with_finishing, next_turn, turn, prompted, with_input, next_state, after_line, LeadsTo, LeadsAfterPrompt, Preparing, Opening, first_of, startup_files, files_with, with_files, next_file, file_round, prepared, after_file, after_files}
 use Rattle.mailx_top.specs.Words.{Start, is_silent}
 
 -- a result of a session's line, with the input that is left
@@ -74,14 +72,19 @@ prompted-alike : (terminal : Bool) (nested : Option ℕ) (desk : Desk) → promp
 prompted-alike true nested desk = refl
 prompted-alike false nested desk = refl
 
+next-alike : (b : Bool) (s : SessionState) (i : Input) → next_unless b (with_draft s None) i ≡ next_unless b (rested (with_draft s None)) i
+next-alike true s i = refl
+next-alike false s i =
+    let t = with_draft s None in
+    ap (λ (p : Play (Unit {0})). bind p (λ u. Ask (Line i) (λ a. turn t a.1 a.0))) (prompted-alike (at_prompt t) (open_before t.frames) t.desk)
+
 -- where no line waits, the state is as good as one at rest
 rested-as : (env : Environment) (s : SessionState) (i : Input) (draft : Option Machine) → next_waiting (with_draft s draft) ≡ None
     → round env (Reading (with_draft s draft) i) ≡ round env (Reading (rested (with_draft s draft)) i)
 rested-as env s i (Some m) none_left = refl
 rested-as env s i None none_left =
     let t = with_draft s None in
-    ap (line_round t i) none_left
-    ∙ ap (λ (p : Play (Unit {0})). bind p (λ u. Ask (Line i) (λ a. turn t a.1 a.0))) (prompted-alike (at_prompt t) (open_before t.frames) t.desk)
+    ap (line_round t i) none_left ∙ next-alike (is_over t) s i
 
 rested-round : (env : Environment) (s : SessionState) (i : Input) → next_waiting s ≡ None → round env (Reading s i) ≡ round env (Reading (rested s) i)
 rested-round env s i none_left = rested-as env s i s.draft none_left
@@ -102,12 +105,16 @@ waiting-leads env i {s = s} {es = es} (rounds.cut {cause = cause} line frames is
     (goes-cut (waiting_play (resumed s frames) line) (with_input i) cause es goes))
 waiting-leads env i {s = s} rounds.short = cut (at-memory (round env (Reading s i)))
 
--- a line is asked for and taken, where none waits
-asked-round : (env : Environment) (s : SessionState) (i j : Input) (line : Option (List ℕ)) (said took es : List Event) (out : Result (Next RunState Status) Stop) → next_waiting s ≡ None
+-- where none waits, and the run isn't over, a line is asked for
+next-asks : (env : Environment) (s : SessionState) (i : Input) → AsksNext s → round env (Reading s i) ≡ next_turn s i
+next-asks env s i asks = ap (line_round s i) asks.0 ∙ ap (λ (b : Bool). next_unless b s i) asks.1
+
+-- and taken
+asked-round : (env : Environment) (s : SessionState) (i j : Input) (line : Option (List ℕ)) (said took es : List Event) (out : Result (Next RunState Status) Stop) → AsksNext s
     → Goes (prompted (at_prompt s) s.desk) said (Ok tt) → Goes (Ask (Line i) Ret) took (Ok (line, j)) → Goes (turn s j line) es out
     → Goes (round env (Reading s i)) (said ++ (took ++ es)) out
 asked-round env s i j line said took es out idle says takes goes =
-    let same : round env (Reading s i) ≡ next_turn s i = ap (line_round s i) idle in
+    let same = next-asks env s i idle in
     subst (λ (p : Play (Next RunState Status)). Goes p (said ++ (took ++ es)) out) (sym same)
     (goes-then (prompted (at_prompt s) s.desk) (λ u. Ask (Line i) (λ a. turn s a.1 a.0)) tt out said (took ++ es) says
     (goes-then (Ask (Line i) Ret) (λ a. turn s a.1 a.0) (line, j) out took es takes goes))
@@ -118,7 +125,7 @@ joined said took front rest es is =
     ∙ (ap (λ (l : List Event). said ++ l) (sym (append_assoc took front rest)) ∙ sym (append_assoc said (took ++ front) rest))
 
 -- what a line of the input leads to, once the prompt was said and the line was taken
-pub line-leads : (env : Environment) (s : SessionState) (i j : Input) (line : List ℕ) (said took es : List Event) (out : Result (Next SessionState Status) Stop) → next_waiting s ≡ None
+pub line-leads : (env : Environment) (s : SessionState) (i j : Input) (line : List ℕ) (said took es : List Event) (out : Result (Next SessionState Status) Stop) → AsksNext s
     → Goes (prompted (at_prompt s) s.desk) said (Ok tt) → Goes (Ask (Line i) Ret) took (Ok (Some line, j)) → LineGoes s line es out → LeadsTo env (Reading s i) (said ++ (took ++ es)) (onward j out)
 line-leads env s i j line said took es out idle says takes (typed {t = t} front rest is goes waits) =
     leads-more env (Reading s i) (Reading t j) (said ++ (took ++ front)) rest (said ++ (took ++ es)) (onward j out) (joined said took front rest es is)
@@ -130,7 +137,7 @@ line-leads env s i j line said took es out idle says takes (rounds.cut_short {ca
     cut (asked-round env s i j (Some line) said took es (Err cause) idle says takes (goes-cut (typed_play s line) (with_input j) cause es goes))
 
 -- the same, of a session's line in a run
-pub step-leads : (env : Environment) (s t : SessionState) (i j : Input) (line : List ℕ) (r : Result (Option Status) Stop) → next_waiting s ≡ None → (took es : List Event)
+pub step-leads : (env : Environment) (s t : SessionState) (i j : Input) (line : List ℕ) (r : Result (Option Status) Stop) → AsksNext s → (took es : List Event)
     → Goes (Ask (Line i) Ret) took (Ok (Some line, j)) → LineGoes s line es (after_line t r) → LeadsAfterPrompt env s i (took ++ es) (next_state t j r)
 step-leads env s t i j line (Ok None) idle took es takes goes = λ said says. line-leads env s i j line said took es (Ok (Go t)) idle says takes goes
 step-leads env s t i j line (Ok (Some e)) idle took es takes goes = λ said says. line-leads env s i j line said took es (Ok (Last e)) idle says takes goes
@@ -142,8 +149,17 @@ leads-once env x es (Ok (Go y)) goes = λ rest out loop. again es rest refl goes
 leads-once env x es (Ok (Last e)) goes = last goes
 leads-once env x es (Err cause) goes = cut goes
 
+-- where the run is over the folder is left
+pub over-ends : (env : Environment) (s : SessionState) (i : Input) (out : Result (Next RunState Status) Stop) → next_waiting s ≡ None → is_over s ≡ true → rested s ≡ s → (es : List Event)
+    → Goes (last_round s) es out → LeadsTo env (Reading s i) es out
+over-ends env s i out idle over same es leaves =
+    let shut : round env (Reading s i) ≡ Ret (Go (Leaving (rested s) i)) = ap (line_round s i) idle ∙ ap (λ (b : Bool). next_unless b s i) over in
+    leads-more env (Reading s i) (Leaving (rested s) i) [] es es out refl
+    (subst (λ (p : Play (Next RunState Status)). Goes p [] (Ok (Go (Leaving (rested s) i)))) (sym shut) (refl, inl refl))
+    (leads-once env (Leaving (rested s) i) es out (subst (λ (u : SessionState). Goes (last_round u) es out) (sym same) leaves))
+
 -- the end of the input, and what follows it
-pub end-leads : (env : Environment) (s : SessionState) (i j : Input) (out : Result (Next RunState Status) Stop) → next_waiting s ≡ None → (took es : List Event)
+pub end-leads : (env : Environment) (s : SessionState) (i j : Input) (out : Result (Next RunState Status) Stop) → AsksNext s → (took es : List Event)
     → Goes (Ask (Line i) Ret) took (Ok (None, j)) → LeadsTo env (behind_input s j) es out → LeadsAfterPrompt env s i (took ++ es) out
 end-leads env s i j out idle took es takes leads = λ said says.
     leads-more env (Reading s i) (behind_input s j) (said ++ took) es (said ++ (took ++ es)) out (sym (append_assoc said took es))
@@ -152,18 +168,18 @@ end-leads env s i j out idle took es takes leads = λ said says.
     leads
 
 -- a line that isn't taken
-pub take-cut-leads : (env : Environment) (s : SessionState) (i : Input) (cause : Stop) → next_waiting s ≡ None → (took : List Event) → Goes {R = Option (List ℕ) × Input} (Ask (Line i) Ret) took (Err cause)
+pub take-cut-leads : (env : Environment) (s : SessionState) (i : Input) (cause : Stop) → AsksNext s → (took : List Event) → Goes {R = Option (List ℕ) × Input} (Ask (Line i) Ret) took (Err cause)
     → LeadsAfterPrompt env s i took (Err cause)
 take-cut-leads env s i cause idle took takes = λ said says.
-    let same : round env (Reading s i) ≡ next_turn s i = ap (line_round s i) idle in
+    let same = next-asks env s i idle in
     cut (subst (λ (p : Play (Next RunState Status)). Goes p (said ++ took) (Err cause)) (sym same)
     (goes-then (prompted (at_prompt s) s.desk) (λ u. Ask (Line i) (λ a. turn s a.1 a.0)) tt (Err cause) said took says (goes-cut (Ask (Line i) Ret) (λ a. turn s a.1 a.0) cause took takes)))
 
 -- a prompt that isn't said
-pub prompt-cut-leads : (env : Environment) (s : SessionState) (i : Input) (cause : Stop) → next_waiting s ≡ None → (said : List Event) → Goes (prompted (at_prompt s) s.desk) said (Err cause)
+pub prompt-cut-leads : (env : Environment) (s : SessionState) (i : Input) (cause : Stop) → AsksNext s → (said : List Event) → Goes (prompted (at_prompt s) s.desk) said (Err cause)
     → LeadsTo env (Reading s i) said (Err cause)
 prompt-cut-leads env s i cause idle said says =
-    let same : round env (Reading s i) ≡ next_turn s i = ap (line_round s i) idle in
+    let same = next-asks env s i idle in
     cut (subst (λ (p : Play (Next RunState Status)). Goes p said (Err cause)) (sym same) (goes-cut (prompted (at_prompt s) s.desk) (λ u. Ask (Line i) (λ a. turn s a.1 a.0)) cause said says))
 
 -- rounds so far, and what leads on from there
@@ -242,18 +258,18 @@ leads-then env x y (Ok (Last e)) es fs first second = first fs (Ok e) second
 leads-then env x y (Err cause) es fs first second = first fs (Err cause) second
 
 -- where the run is to be silent no start-up file is read
-pub silent-loop : (env : Environment) (start : Start) → is_silent start.manner ≡ true → (es : List Event) (out : Result Status Stop) → Loop (round env) (Opening (Some start) (first_of env start.user)) es out
+pub silent-loop : (env : Environment) (start : Start) → is_silent start.manner ≡ true → (es : List Event) (out : Result Status Stop) → Loop (round env) (Opening (Some start) (first_of env (Some start))) es out
     → Loop (round env) (prepared env start) es out
 silent-loop env start silent es out loop =
-    let s = first_of env start.user in
+    let s = first_of env (Some start) in
     let none_left : startup_files start s.desk.places ≡ [] = cond-true _ _ _ silent in
     subst (λ (names : List (List ℕ)). Loop (round env) (Preparing start s names) es out) (sym none_left) (again [] es refl (refl, inl refl) loop)
 
 -- elsewhere they are
 pub aloud-loop : (env : Environment) (start : Start) → is_silent start.manner ≡ false → (es : List Event) (out : Result Status Stop)
-    → Loop (round env) (Preparing start (first_of env start.user) (files_with start.no_system_file (first_of env start.user).desk.places.rc)) es out → Loop (round env) (prepared env start) es out
+    → Loop (round env) (Preparing start (first_of env (Some start)) (files_with start.no_system_file (first_of env (Some start)).desk.places.rc)) es out → Loop (round env) (prepared env start) es out
 aloud-loop env start aloud es out loop =
-    let s = first_of env start.user in
+    let s = first_of env (Some start) in
     let named : startup_files start s.desk.places ≡ files_with start.no_system_file s.desk.places.rc = cond-false _ _ _ aloud in
     subst (λ (names : List (List ℕ)). Loop (round env) (Preparing start s names) es out) (sym named) loop
 
@@ -299,6 +315,8 @@ draft-leads env i s {es = es} {out = out} drafting (rounds.told {t = t} front re
     (subst (λ (p : Play (Next RunState Status)). Goes p front (Ok (Go (Finishing t i)))) (sym (ended-round env s i drafting))
     (goes-as (ended_draft s) (with_finishing i) (Go t) (Go (Finishing t i)) front refl goes))
     (waiting-finishing env i waits)
+draft-leads env i s {es = es} drafting (rounds.told_last {e = e} goes) =
+    last (subst (λ (p : Play (Next RunState Status)). Goes p es (Ok (Last e))) (sym (ended-round env s i drafting)) (goes-as (ended_draft s) (with_finishing i) (Last e) (Last e) es refl goes))
 draft-leads env i s {es = es} drafting (rounds.untold {cause = cause} goes) =
     cut (subst (λ (p : Play (Next RunState Status)). Goes p es (Err cause)) (sym (ended-round env s i drafting)) (goes-cut (ended_draft s) (with_finishing i) cause es goes))
 

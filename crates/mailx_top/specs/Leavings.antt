@@ -1,11 +1,11 @@
 -- Whether the quit at the end of the input was refused, by what its commit was answered.
 use Rattle.std.proofs.Common.{inl, inr}
-use Rattle.std.specs.Prelude.{◌||◌, Bool, true, false, List, is_some}
+use Rattle.std.specs.Prelude.{◌≡◌, ◌||◌, ◌&&◌, not, ℤ, Bool, true, false, List, is_some}
 use Rattle.std.specs.Option.{option_map_or}
 use Rattle.std.specs.declared.option.Option.{Option}
 use Rattle.std.specs.declared.option.Option.TheVariants.{Some, None}
 use Rattle.std.specs.declared.result.Result.{Result}
-use Rattle.std.specs.declared.result.Result.TheVariants.{Ok}
+use Rattle.std.specs.declared.result.Result.TheVariants.{Ok, Err}
 use Rattle.host_port.specs.declared.event.Event.{Event}
 use Rattle.folder_change.specs.declared.change.Change.{Change}
 use Rattle.session_play.specs.declared.changing.Committed.{Committed}
@@ -14,9 +14,12 @@ use Rattle.session_play.specs.declared.stop.Stop.{Stop}
 use Rattle.session_play.specs.Play.{Act, Answer, Changes, Play, Ret, Ask, Goes, Next, Last, Loop, again, last, cut}
 use Rattle.quit_rules.specs.Plans.{quit_changes}
 use Rattle.mailx_session.specs.declared.state.SessionState.{SessionState}
+use Rattle.mailx_session.specs.declared.outcome.Outcome.{Outcome}
+use Rattle.mailx_session.specs.declared.outcome.Outcome.TheVariants as outcome
 use Rattle.mailx_session.specs.declared.status.Status.{Status}
+use Rattle.mailx_session.specs.declared.status.Status.TheVariants as status
 use Rattle.mailx_session.specs.Saving.{names_fault, is_changed}
-use Rattle.mailx_top.specs.Meaning.{RunState, Leaving}
+use Rattle.mailx_top.specs.Meaning.{RunState, Recovering, Preparing, Opening, Reading, Finishing, Leaving}
 
 -- what an act was answered, if it commits; else a later answer
 abbrev pub or_answered : (act : Act) → Answer act → Option Committed → Option Committed
@@ -47,13 +50,62 @@ left_changes s = quit_changes s.desk.folder s.desk.vars s.desk.places.mbox
 abbrev pub is_quit_refused : SessionState → Option Committed → Bool
 is_quit_refused s answer = is_some (names_fault s.actor (left_changes s)) || option_map_or (refuses (left_changes s)) answer false
 
--- so is the quit of a round, if it leaves the folder
-abbrev pub is_refused_at : RunState → Option Committed → Bool
-is_refused_at (Leaving s i) answer = is_quit_refused s answer
-is_refused_at x answer = false
+-- the record or the dead letter of a draft was refused
+abbrev pub is_draft_refused : Outcome → Bool
+is_draft_refused outcome.Fine = false
+is_draft_refused (outcome.NotSent n) = false
+is_draft_refused outcome.Refused = true
 
--- the last round of a run left the folder at the end of the input, and that quit was refused
+-- a run ends for a record of commits that can't be read
+abbrev pub is_for_record : Status → Bool
+is_for_record status.BadRecord = true
+is_for_record e = false
+
+-- a draft was refused so before the round that ends the run, which doesn't end it for a record that can't be read
+abbrev pub is_refused_before : Outcome → Status → Bool
+is_refused_before o e = is_draft_refused o && not (is_for_record e)
+
+-- the round that ends the run refuses its quit, if it leaves the folder, or a draft was refused before it
+abbrev pub is_refused_at : RunState → Status → Option Committed → Bool
+is_refused_at (Recovering start) e answer = false
+is_refused_at (Preparing start s names) e answer = is_refused_before s.outcome e
+is_refused_at (Opening start s) e answer = false
+is_refused_at (Reading s i) e answer = is_refused_before s.outcome e
+is_refused_at (Finishing s i) e answer = is_refused_before s.outcome e
+is_refused_at (Leaving s i) e answer = is_quit_refused s answer || is_refused_before s.outcome e
+
+-- the last round of a run left the folder at the end of the input, and that quit was refused, or the record or the dead letter of a draft was
+-- refused before
 abbrev pub refused_at_end : {round : RunState → Play (Next RunState Status)} {x : RunState} {es : List Event} {out : Result Status Stop} → Loop round x es out → Bool
 refused_at_end (again front rest is goes more) = refused_at_end more
-refused_at_end {round = round} (last {x = x} {es = es} {r = r} goes) = is_refused_at x (first_answer (round x) es (Ok (Last r)) goes)
+refused_at_end {round = round} (last {x = x} {es = es} {r = r} goes) = is_refused_at x r (first_answer (round x) es (Ok (Last r)) goes)
 refused_at_end (cut goes) = false
+
+-- what became of drafts before a round, where a session goes on
+abbrev pub outcome_before : RunState → Outcome
+outcome_before (Recovering start) = outcome.Fine
+outcome_before (Preparing start s names) = s.outcome
+outcome_before (Opening start s) = outcome.Fine
+outcome_before (Reading s i) = s.outcome
+outcome_before (Finishing s i) = s.outcome
+outcome_before (Leaving s i) = s.outcome
+
+-- and before the last round of a run
+abbrev pub last_outcome : {round : RunState → Play (Next RunState Status)} {x : RunState} {es : List Event} {out : Result Status Stop} → Loop round x es out → Outcome
+last_outcome (again front rest is goes more) = last_outcome more
+last_outcome (last {x = x} goes) = outcome_before x
+last_outcome (cut {x = x} goes) = outcome_before x
+
+-- the run ends as one that left a draft unsent, by a sender with this status where one was run, unless it is refused, or ends for a record that can't
+-- be read, or is cut off
+abbrev pub EndsUnsent : Option ℤ → Bool → Result Status Stop → Type 0
+EndsUnsent n refused (Ok (status.NotSent m)) = m ≡ n
+EndsUnsent n refused (Ok status.Refused) = refused ≡ true
+EndsUnsent n refused (Ok status.BadRecord) = Unit {0}
+EndsUnsent n refused (Ok e) = ⊥
+EndsUnsent n refused (Err cause) = Unit {0}
+
+-- A run ends so exactly where a draft wasn't sent before its last round, and none was refused.
+pub record IsUnsentExplained (out : Result Status Stop) (before : Outcome) (refused : Bool) : Type 0 where
+  pub only : (n : Option ℤ) → out ≡ Ok (status.NotSent n) → before ≡ outcome.NotSent n
+  pub always : (n : Option ℤ) → before ≡ outcome.NotSent n → EndsUnsent n refused out

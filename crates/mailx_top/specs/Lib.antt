@@ -1,5 +1,6 @@
 pub mod Words
 pub mod Wants
+pub mod Sending
 pub mod Meaning
 pub mod Leavings
 pub mod Statuses

@@ -1,5 +1,5 @@
 -- The meaning of a run: what it does at the opening, and for each line.
-use Rattle.std.specs.Prelude.{nat_lt, ◌==◌, ◌&&◌, not, ℕ, Bool, true, false, List, [], ◌∷◌, ◌++◌, if◌then◌else◌, length, unwrap_or, codes}
+use Rattle.std.specs.Prelude.{◌≡◌, nat_lt, ◌==◌, ◌&&◌, not, ℕ, Bool, true, false, List, [], ◌∷◌, ◌++◌, if◌then◌else◌, length, unwrap_or, codes}
 use Rattle.std.specs.declared.option.Option.{Option}
 use Rattle.std.specs.declared.option.Option.TheVariants.{Some, None}
 use Rattle.std.specs.declared.result.Result.{Result}
@@ -17,6 +17,9 @@ use Rattle.host_port.specs.declared.event.Event.{Event}
 use Rattle.mailx_vars.specs.declared.environment.Places.{Places}
 use Rattle.mailx_vars.specs.Names.{is_short_name}
 use Rattle.mailx_vars.specs.Settings.{value_of}
+use Rattle.rc_conditionals.specs.declared.conditions.Mode.TheVariants.{Receive}
+use Rattle.rc_conditionals.specs.Turns.{is_send}
+use Rattle.command_words.specs.declared.options.Options.{Options}
 use Rattle.command_desk.specs.declared.desk.Desk.{Desk}
 use Rattle.command_desk.specs.Answers.{OrFault}
 use Rattle.command_desk.specs.FileNames.{expanded}
@@ -28,7 +31,8 @@ use Rattle.mailx_session.specs.Openings.{first_state, with_opened, greeting}
 use Rattle.mailx_session.specs.declared.frames.WaitingLine.{WaitingLine}
 use Rattle.mailx_session.specs.Waits.{Pending}
 use Rattle.mailx_session.specs.States.{is_drafting, next_waiting, resumed, rested}
-use Rattle.mailx_session.specs.Drafting.{ended_draft}
+use Rattle.mailx_session.specs.Sending.{ended_draft}
+use Rattle.mailx_session.specs.Beginning.{composing}
 use Rattle.mailx_session.specs.Rounds.{typed_play, waiting_play}
 use Rattle.mailx_session.specs.Startup.{startup_play}
 use Rattle.mailx_session.specs.Leaving.{leaving}
@@ -38,10 +42,11 @@ use Rattle.mailx_vars.specs.Environment.{Pairs}
 use Rattle.mailx_top.specs.declared.words.Manner.{Manner}
 use Rattle.mailx_top.specs.declared.words.Manner.TheVariants.{Silent, Rows, Quiet, Greeting}
 use Rattle.mailx_top.specs.Words.{Start, is_silent}
+use Rattle.mailx_top.specs.Sending.{mode_with, draft_with}
 
--- where a run is between two rounds: before what a stopped run has left is recovered, and then a folder opened, if one is
--- named; before a line of a start-up file, or the next of the files that are left; before the folder is opened; before a
--- line; at the end of the input, where drafts end that are still open, and lines that wait are carried out; or behind
+-- where a run is between two rounds: before what a stopped run has left is recovered, and then a folder opened or a draft
+-- begun, if the words ask for one; before a line of a start-up file, or the next of the files that are left; before the
+-- folder is opened, or the draft begun; before a line; at the end of the input, where drafts end that are still open, and lines that wait are carried out; or behind
 -- these, where the folder is left
 pub data RunState : Type 0 where
   Recovering : Option Start → RunState
@@ -79,9 +84,22 @@ prompted false desk = Ret tt
 abbrev pub next_turn : SessionState → Input → Play (Next RunState Status)
 next_turn s i = bind (prompted (at_prompt s) s.desk) (λ u. Ask (Line i) (λ a. turn s a.1 a.0))
 
--- a line that waits is taken first; where none does, the input is asked for one
+-- a run that sends is over with its draft
+abbrev pub is_over : SessionState → Bool
+is_over s = is_send s.desk.mode && not (is_drafting s)
+
+-- where the run is over the folder is left, and else the next line asked for
+abbrev pub next_unless : Bool → SessionState → Input → Play (Next RunState Status)
+next_unless true s i = Ret (Go (Leaving (rested s) i))
+next_unless false s i = next_turn s i
+
+-- no line waits, and the run isn't over, so that the input is asked for a line
+abbrev pub AsksNext : SessionState → Type 0
+AsksNext s = (next_waiting s ≡ None) × (is_over s ≡ false)
+
+-- a line that waits is taken first; where none does, the input is asked for one, unless the run is over
 abbrev pub line_round : SessionState → Input → Option (WaitingLine × List Pending) → Play (Next RunState Status)
-line_round s i None = next_turn s i
+line_round s i None = next_unless (is_over s) s i
 line_round s i (Some (line, frames)) = bind (waiting_play (resumed s frames) line) (with_input i)
 
 -- the state at the end of the input after a draft ended or a line was carried out, or the end
@@ -184,18 +202,28 @@ abbrev pub pairs_for : Option (List ℕ) → Pairs → Pairs
 pairs_for None pairs = pairs
 pairs_for (Some user) pairs = (codes "MAIL", codes "/var/mail/" ++ user) ∷ pairs
 
--- the state of a session that begins in an environment
-abbrev pub first_of : Environment → Option (List ℕ) → SessionState
-first_of env user = first_state (pairs_for user env.pairs) env.terminal env.token
+-- the state of a session that begins in an environment, whose words ask for this start or for none
+abbrev pub first_of : Environment → Option Start → SessionState
+first_of env None = first_state env.pairs Receive env.terminal false env.token
+first_of env (Some start) = first_state (pairs_for start.user env.pairs) (mode_with start.sends) env.terminal start.by_recipient env.token
 
 -- the actor of a run's commits
 abbrev pub actor_in : Environment → List ℕ
 actor_in env = (first_of env None).actor
 
--- a run opens its folder in a state, or its words are refused
+-- the draft begins, and then its lines are read
+abbrev pub sending : SessionState → Options → Play (Next RunState Status)
+sending s o = bind (composing s (draft_with s.desk o)) (λ t. Ret (Go (Reading t no_input)))
+
+-- the draft begins, where one is to be sent; else the folder is opened
+abbrev pub starting_with : Option Options → SessionState → Start → Play (Next RunState Status)
+starting_with (Some o) s start = sending s o
+starting_with None s start = starting s start
+
+-- a run opens its folder or begins its draft in a state, or its words are refused
 abbrev pub opening : Option Start → SessionState → Play (Next RunState Status)
 opening None s = says_and_ends usage status.Usage
-opening (Some start) s = starting s start
+opening (Some start) s = starting_with start.sends s start
 
 -- the start-up file of the system
 abbrev pub system_file : List ℕ
@@ -227,7 +255,7 @@ file_round start s names (Some (line, frames)) = bind (waiting_play (resumed s f
 
 -- before the start-up files, in the first state of a run
 abbrev pub prepared : Environment → Start → RunState
-prepared env start = let s = first_of env start.user in Preparing start s (startup_files start s.desk.places)
+prepared env start = let s = first_of env (Some start) in Preparing start s (startup_files start s.desk.places)
 
 -- what follows the recovery at the start: the start-up files, once it is done
 abbrev pub recovered : Environment → Start → RecoveryAnswer → Play (Next RunState Status)
@@ -236,10 +264,15 @@ recovered env start (recovery.Busy name) = ends_with start (with_feed (name ++ c
 recovered env start recovery.NotARecord = Ret (Last status.BadRecord)
 recovered env start (recovery.TooLarge name length) = Ret (Last status.BadRecord)
 
--- what a stopped commit of the actor has left is recovered before all else, unless the words are refused
+-- what a stopped commit of the actor has left is recovered, unless a draft is to be sent
+abbrev pub recovered_unless : Option Options → Environment → Start → List ℕ → ℕ → Play (Next RunState Status)
+recovered_unless (Some o) env start actor token = Ret (Go (prepared env start))
+recovered_unless None env start actor token = Ask (Recover actor token) (recovered env start)
+
+-- that comes before all else, unless the words are refused
 abbrev pub recovering : Environment → Option Start → Play (Next RunState Status)
 recovering env None = Ret (Go (Opening None (first_of env None)))
-recovering env (Some start) = Ask (Recover (actor_in env) env.token) (recovered env start)
+recovering env (Some start) = recovered_unless start.sends env start (actor_in env) env.token
 
 -- what a run in this environment does from a state on, to its next state or its end
 abbrev pub round : Environment → RunState → Play (Next RunState Status)
@@ -250,7 +283,7 @@ round env (Reading s i) = line_round s i (next_waiting s)
 round env (Finishing s i) = finishing_round s i (next_waiting s)
 round env (Leaving s i) = last_round s
 
--- a recovery is to be made
+-- a recovery is to be made, if any is
 abbrev pub is_recovering : RunState → Bool
 is_recovering (Recovering start) = true
 is_recovering (Preparing start s names) = false
@@ -259,7 +292,7 @@ is_recovering (Reading s i) = false
 is_recovering (Finishing s i) = false
 is_recovering (Leaving s i) = false
 
--- a folder is to be opened
+-- a folder is to be opened, or a draft begun
 abbrev pub is_opening : RunState → Bool
 is_opening (Recovering start) = false
 is_opening (Preparing start s names) = false

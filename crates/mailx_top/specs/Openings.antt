@@ -1,11 +1,10 @@
 -- Why a run opened no folder, read off the own events of its opening.
-use Rattle.std.specs.Prelude.{◌≡◌, ◌⊎◌, ◌||◌, ◌&&◌, not, nat_lt, ℕ, Bool, true, false, List, [], ◌∷◌, length}
+use Rattle.std.specs.Prelude.{◌≡◌, ◌⊎◌, ◌||◌, ◌&&◌, not, nat_lt, ℕ, Bool, true, false, List, length}
 use Rattle.std.specs.declared.option.Option.{Option}
 use Rattle.std.specs.declared.option.Option.TheVariants.{Some, None}
 use Rattle.std.specs.declared.result.Result.{Result}
 use Rattle.std.specs.declared.result.Result.TheVariants.{Ok, Err}
 use Rattle.host_port.specs.declared.event.Event.{Event}
-use Rattle.host_port.specs.declared.event.Event.TheVariants as event
 use Rattle.host_port.specs.declared.event.Seen.{Seen}
 use Rattle.host_port.specs.declared.event.Seen.TheVariants as seen
 use Rattle.mbox_scan.specs.Mailbox.{list_of, message_limit}
@@ -16,7 +15,7 @@ use Rattle.mailx_session.specs.declared.status.Status.{Status}
 use Rattle.mailx_session.specs.declared.status.Status.TheVariants as status
 use Rattle.mailx_top.specs.Words.{Start}
 use Rattle.mailx_top.specs.Meaning.{RunState, Opening, folder_name, is_no_mail}
-use Rattle.mailx_top.specs.Usage.{IsNoName}
+use Rattle.mailx_top.specs.Usage.{IsBadlyNamed}
 
 -- a load saw that the folder is held
 abbrev pub saw_held : Seen → Bool
@@ -55,7 +54,7 @@ OpensNoMail start es = some_load_saw (saw_no_mail (is_named start)) es ≡ true
 
 -- a folder is to be opened whose word stands for no name in this state, or for one that can't be a file's
 abbrev pub OpensBadly : RunState → Type 0
-OpensBadly (Opening (Some start) s) = IsNoName (folder_name s start)
+OpensBadly (Opening (Some start) s) = IsBadlyNamed start.sends (folder_name s start)
 OpensBadly x = ⊥
 
 -- it is so in some round of a loop

@@ -12,13 +12,12 @@ use Rattle.session_play.specs.Play.{Whole}
 use Rattle.session_play.specs.Causes.{IsExplained, events_at, commits_in}
 use Rattle.mailx_session.specs.declared.status.Status.{Status}
 use Rattle.mailx_top.specs.declared.environment.Environment.{Environment}
-use Rattle.folder_recovery.specs.Told.{told_end}
 use Rattle.mailx_top.specs.Meaning.{Recovering, round, actor_in, is_recovering, is_opening}
-use Rattle.mailx_top.specs.Leavings.{refused_at_end}
+use Rattle.mailx_top.specs.Leavings.{refused_at_end, last_outcome, IsUnsentExplained}
 use Rattle.mailx_top.specs.Openings.{OpenedBadly, IsOpeningExplained}
-use Rattle.mailx_top.specs.Starts.{IsStartExplained}
+use Rattle.mailx_top.specs.Starts.{IsExplainedFrom}
 use Rattle.mailx_top.specs.Unreadable.{some_unreadable_in, IsRecordExplained}
-use Rattle.mailx_top.specs.Words.{Start, may_say, start_of}
+use Rattle.mailx_top.specs.Words.{Start, may_say, sent_by, start_of}
 use Rattle.mailx_top.specs.Statuses.{status_at_stop, line_at_stop, line_at_end}
 
 -- bytes are said by one Out, as far as they went
@@ -54,12 +53,13 @@ SaysUnlessIdle may (Err cause) front behind = may ≡ true → behind ≡ [] →
 -- meaning, with each cut explained. A load counts as one of the folder where its round opens the folder (those of
 -- start-up files and of lines don't), and a fault of the disk in a commit or in the recovery counts too. A run ends for
 -- its record exactly where its recovery or a commit of it met one that can't be read. How the recovery ended its own
--- events tell.
+-- events tell; a run that sends makes none.
 pub record IsRun (start : Option Start) (env : Environment) (s : Status) (es : List Event) : Type 0 where
   pub whole : Whole (round env) (Recovering (start_of start env.pairs)) (Ending (actor_in env) (may_say start) s) es
   pub said : SaysUnlessIdle (may_say start) whole.out whole.front whole.behind
   pub explained : IsExplained whole.out whole.front (events_at is_opening whole.plays) (commits_in whole.plays)
   pub record_met : IsRecordExplained whole.out (some_unreadable_in whole.plays)
-  pub opening : IsStartExplained whole.out (told_end (actor_in env) (events_at is_recovering whole.plays))
+  pub opening : IsExplainedFrom (sent_by (start_of start env.pairs)) (actor_in env) whole.out (events_at is_recovering whole.plays)
       (IsOpeningExplained (OpenedBadly whole.plays) (start_of start env.pairs) whole.out
       (events_at is_opening whole.plays) (refused_at_end whole.plays))
+  pub sending : IsUnsentExplained whole.out (last_outcome whole.plays) (refused_at_end whole.plays)

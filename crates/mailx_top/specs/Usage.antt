@@ -11,6 +11,7 @@ use Rattle.mailx_session.specs.declared.status.Status.{Status}
 use Rattle.mailx_session.specs.declared.status.Status.TheVariants as status
 use Rattle.mailx_session.specs.Statuses.{IsEnd}
 use Rattle.command_desk.specs.Answers.{OrFault}
+use Rattle.command_words.specs.declared.options.Options.{Options}
 use Rattle.mailx_top.specs.declared.environment.Environment.{Environment}
 use Rattle.mailx_top.specs.Words.{Start, is_silent}
 use Rattle.mailx_top.specs.Meaning.{first_of, folder_name}
@@ -37,10 +38,15 @@ abbrev pub IsNoName : OrFault (List ℕ) → Type 0
 IsNoName (Ok name) = is_short_name name ≡ false
 IsNoName (Err line) = Unit {0}
 
--- the folder that is to be opened has such a word, and no start-up file can set variables that it stands on
+-- a folder is to be opened, and its word is such
+abbrev pub IsBadlyNamed : Option Options → OrFault (List ℕ) → Type 0
+IsBadlyNamed (Some o) name = ⊥
+IsBadlyNamed None name = IsNoName name
+
+-- so is the folder's that is to be opened, and no start-up file can set variables that it stands on
 abbrev pub IsBadName : Environment → Option Start → Type 0
 IsBadName env None = ⊥
-IsBadName env (Some start) = (is_silent start.manner ≡ true) × IsNoName (folder_name (first_of env start.user) start)
+IsBadName env (Some start) = (is_silent start.manner ≡ true) × IsBadlyNamed start.sends (folder_name (first_of env (Some start)) start)
 
 -- the recovery at the start is cut off by a fault of the disk, or for want of memory; so is the line that it may say, where the output fails
 abbrev pub IsStartCut : Stop → Type 0

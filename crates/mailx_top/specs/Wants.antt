@@ -6,7 +6,15 @@ use Rattle.mailx_top.specs.Words.{Start}
 
 -- how to start
 abbrev pub start_from : Asked → Start
-start_from a = record { word = a.word.now; named = a.named; user = option_copied a.user; no_system_file = a.no_system_file; manner = a.manner }
+start_from a = record {
+  word = a.word.now;
+  named = a.named;
+  user = option_copied a.user;
+  no_system_file = a.no_system_file;
+  by_recipient = a.by_recipient;
+  manner = a.manner;
+  sends = option_copied a.sends;
+}
 
 -- the same, where the words ask for anything
 abbrev pub may_start : Option Asked → Option Start

@@ -13,13 +13,16 @@ use Rattle.mailx_top.specs.declared.words.Manner.{Manner}
 use Rattle.mailx_top.specs.declared.words.Manner.TheVariants.{Silent, Rows, Quiet, Greeting}
 
 -- how to start: the word of the folder to open, whether `-f` asks for it, the user of `-u`, whether `-n` passes over the
--- start-up file of the system, and what is said once the folder is open
+-- start-up file of the system, whether `-F` names the file of a draft, what is said once the folder is open, and what the
+-- draft begins with that is begun in the folder's place, where one is
 pub record Start : Type 0 where
   pub word : List ℕ
   pub named : Bool
   pub user : Option (List ℕ)
   pub no_system_file : Bool
+  pub by_recipient : Bool
   pub manner : Manner
+  pub sends : Option Options
 
 -- the first of these words, or another where there is none
 abbrev pub first_or : List ℕ → List (List ℕ) → List ℕ
@@ -35,12 +38,21 @@ abbrev pub manner_of : Options → Manner
 manner_of o = if o.exists then Silent else if o.headers then Rows else if o.quiet then Quiet else Greeting
 
 abbrev pub start_with : Options → Start
-start_with o = record { word = folder_word o; named = o.folder; user = o.user; no_system_file = o.no_system_file; manner = manner_of o }
+start_with o = record {
+  word = folder_word o;
+  named = o.folder;
+  user = o.user;
+  no_system_file = o.no_system_file;
+  by_recipient = o.named;
+  manner = manner_of o;
+  sends = None;
+}
 
--- how to start in a mode; what sends or tries isn't built, nor is `-F`
+-- how to start in a mode; what tries isn't built
 abbrev pub start_in : Mode → Options → Option Start
 start_in mode.Exists o = Some (start_with o)
-start_in mode.Receive o = if o.named then None else Some (start_with o)
+start_in mode.Receive o = Some (start_with o)
+start_in mode.Send o = Some (record (start_with o) { sends = Some o })
 start_in m o = None
 
 abbrev pub start_by : Wanted → Option Start
@@ -59,6 +71,11 @@ is_silent manner = false
 abbrev pub may_say : Option Start → Bool
 may_say None = false
 may_say (Some start) = not (is_silent start.manner)
+
+-- what the draft begins with that a run sends, where it sends one
+abbrev pub sent_by : Option Start → Option Options
+sent_by None = None
+sent_by (Some start) = start.sends
 
 -- how to start; none where the words are refused, or home folder and user aren't known
 abbrev pub start_of : Option Start → Pairs → Option Start

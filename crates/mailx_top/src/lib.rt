@@ -5,6 +5,7 @@ mod environment;
 mod laws;
 mod open;
 mod recovering;
+mod sending;
 mod session;
 mod startup;
 mod status;

@@ -9,11 +9,13 @@ ghost use Rattle.mailx_vars.specs.Names.{is_short_name};
 ghost use Rattle.mailx_session.specs.declared.state.SessionState.{SessionState};
 ghost use Rattle.mailx_session.specs.Openings.{Opens};
 ghost use Rattle.mailx_top.specs.declared.environment.Environment.{Environment};
-ghost use Rattle.mailx_top.specs.Meaning.{starting, with_name, folder_name, loaded, unheld, is_no_mail, reader, with_list, begun, greeted, all_rows, heard, ends_with, round, Opening, next_state};
+ghost use Rattle.mailx_top.specs.Meaning.{starting, with_name, folder_name, loaded, unheld, is_no_mail, reader, with_list, begun, greeted, all_rows, heard, ends_with, round, Opening, opening, next_state};
+ghost use Rattle.mailx_top.specs.Openings.{OpensBadly};
 ghost use Rattle.mailx_session.specs.Statuses.{IsEnd};
 ghost use Rattle.mailx_top.specs.Usage.{EndsOr, EndsOrOpens, IsNoName};
 ghost use Rattle.mailx_top.specs.Wants.{start_from};
 
+use crate::sending::begin_draft;
 use crate::words::{Asked, Manner};
 use command_desk::{Refusal, expanded};
 use host_port::Host;
@@ -404,8 +406,8 @@ fn open_name<H: Host>(
     }
 }
 
-/// Opens the folder that the words name, or says why not.
-pub(crate) fn open<H: Host>(
+// Opens the folder that the words name, or says why not.
+fn open<H: Host>(
     alloc: Global,
     host: &mut H,
     start: Asked<'_>,
@@ -422,5 +424,26 @@ pub(crate) fn open<H: Host>(
         Ok(name) => open_name(alloc, host, start, name.bytes(), session),
         Err(Refusal::Fault { line }) => end_with(host, start, line.bytes(), Status::NoFolder),
         Err(Refusal::Memory) => Err(Stop::Memory),
+    }
+}
+
+/// Begins the draft that is to be sent, where one is; else opens the folder that the words name, or says why not.
+pub(crate) fn open_or_begin<H: Host>(
+    alloc: Global,
+    host: &mut H,
+    start: Asked<'_>,
+    session: &mut Session,
+) -> Result<Option<Status>, Stop>
+    ensures ran { Ran H.world host.old host.new
+        (λ es. Goes (opening (Some (start_from start.entry)) session.old) es
+        (next_state session.new no_input result)) }
+    ensures cause { Caused (H.world.counts host.old) (H.world.counts host.new) result }
+    ensures plain { IfOk result (λ end. IfSome end (λ e. IsEnd e)) }
+    ensures bad_name { OpensBadly (Opening (Some (start_from start.entry)) session.old)
+        → EndsOrOpens Status.NoFolder result }
+{
+    match start.sends {
+        Some(options) => begin_draft(alloc, host, options, session),
+        None => open(alloc, host, start, session),
     }
 }

@@ -2,7 +2,7 @@
 ghost use Rattle.host_port.specs.Ran.{Ran};
 ghost use Rattle.session_play.specs.Play.{Play, Ask, Recover, Goes, Caused};
 ghost use Rattle.mailx_top.specs.declared.environment.Environment.{Environment};
-ghost use Rattle.mailx_top.specs.Meaning.{recovered, after_recovery};
+ghost use Rattle.mailx_top.specs.Meaning.{recovered, recovered_unless, after_recovery};
 ghost use Rattle.mailx_top.specs.Usage.{StopsAtStart};
 ghost use Rattle.mailx_top.specs.Wants.{start_from};
 
@@ -35,9 +35,9 @@ fn answered<H: Host>(
     }
 }
 
-/// Recovers what a stopped commit of the session's actor has left. None where the start-up files are to be read then,
-/// and the folder is to be opened, else how the run ends.
-pub(crate) fn recover_first<H: Host>(
+// Recovers what a stopped commit of the session's actor has left. None where the start-up files are to be read then, and
+// the folder is to be opened, else how the run ends.
+fn recover_first<H: Host>(
     alloc: Global,
     host: &mut H,
     start: Asked<'_>,
@@ -52,5 +52,24 @@ pub(crate) fn recover_first<H: Host>(
     match recovery(alloc, host, session.state().actor.bytes()) {
         Ok(answer) => answered(alloc, host, start, answer),
         Err(cause) => Err(cause),
+    }
+}
+
+/// The same, unless a draft is to be sent: then nothing is recovered.
+pub(crate) fn recover_unless_sending<H: Host>(
+    alloc: Global,
+    host: &mut H,
+    start: Asked<'_>,
+    session: &Session,
+) -> Result<Option<Status>, Stop>
+    ensures ran { (env : Environment) → Ran H.world host.old host.new
+        (λ es. Goes (recovered_unless (start_from start.entry).sends env (start_from start.entry) session.now.actor
+        session.now.token) es (after_recovery env (start_from start.entry) result)) }
+    ensures cause { Caused (H.world.counts host.old) (H.world.counts host.new) result }
+    ensures stops { StopsAtStart result }
+{
+    match start.sends {
+        Some(_) => Ok(None),
+        None => recover_first(alloc, host, start, session),
     }
 }

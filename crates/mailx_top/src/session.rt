@@ -2,6 +2,7 @@
 ghost use Rattle.std.specs.Prelude.{◌≡◌, ◌<◌, false, Ok, Some, None, IfOk, IfNone, IfSome, IsSome, unwrap_or, [], codes};
 ghost use Rattle.mailx_vars.specs.Settings.{value_of};
 ghost use Rattle.host_port.specs.Ran.{Ran};
+ghost use Rattle.rc_conditionals.specs.Turns.{is_send};
 ghost use Rattle.host_port.specs.Calls.{NeverFall};
 ghost use Rattle.session_play.specs.Input.{Input, left, no_input};
 ghost use Rattle.session_play.specs.Play.{Play, Goes, Loop, Caused};
@@ -10,10 +11,11 @@ ghost use Rattle.mailx_session.specs.Sessions.{stop_of};
 ghost use Rattle.mailx_session.specs.States.{is_drafting, next_waiting, rested};
 ghost use Rattle.mailx_session.specs.Statuses.{IsEnd, IsLineEnd};
 ghost use Rattle.mailx_top.specs.declared.environment.Environment.{Environment};
-ghost use Rattle.mailx_top.specs.Meaning.{round, Reading, behind_input, last_round, next_state, at_prompt, prompted, after_line, LeadsTo, LeadsAfterPrompt};
+ghost use Rattle.mailx_top.specs.Meaning.{round, Reading, AsksNext, behind_input, is_over, last_round, next_state, at_prompt, prompted, after_line, LeadsTo, LeadsAfterPrompt};
 
 use host_port::Host;
 use mailx_session::{Flow, RunError, Session, Status};
+use rc_conditionals::Mode;
 use read_commands::is_defining;
 use session_play::{Reader, Stop, say};
 use std::alloc::Global;
@@ -29,10 +31,9 @@ fn prompt(session: &Session) -> &[u8]
 }
 
 // Whether the prompt is said: on a terminal, unless a draft is open or a definition is under way.
-#[tactic(auto, using(crate::proofs::WaitingLemmas::prompt_at_rest, crate::proofs::WaitingLemmas::none_waits))]
+#[tactic(auto, using(crate::proofs::WaitingLemmas::prompt_at_rest))]
 fn is_prompted(session: &Session) -> bool
-    ensures prompted { result ≡ at_prompt session.now }
-    ensures idle { next_waiting session.now ≡ None }
+    ensures { result ≡ at_prompt session.now }
 {
     session.state().terminal && !session.drafting() && !is_defining(session.desk())
 }
@@ -41,7 +42,6 @@ fn is_prompted(session: &Session) -> bool
 fn say_prompt<H: Host>(host: &mut H, session: &Session) -> Result<(), Stop>
     ensures ran { Ran H.world host.old host.new
         (λ es. Goes (prompted (at_prompt session.now) session.now.desk) es result) }
-    ensures idle { next_waiting session.now ≡ None }
     ensures cause { Caused (H.world.counts host.old) (H.world.counts host.new) result }
 {
     if is_prompted(session) {
@@ -129,7 +129,7 @@ fn next_line<H: Host>(
     reader: &mut Reader,
     session: &mut Session,
 ) -> Result<Option<Status>, Stop>
-    requires { next_waiting session.old ≡ None }
+    requires { AsksNext session.old }
     ensures ran { (env : Environment) → Ran H.world host.old host.new
         (λ es. LeadsAfterPrompt env session.old reader.old es (next_state session.new reader.new result)) }
     ensures fall { NeverFall (H.world.counts host.old) (H.world.counts host.new) }
@@ -144,12 +144,14 @@ fn next_line<H: Host>(
     }
 }
 
+// Says the prompt, where it is said, and takes the next line.
 fn one_line<H: Host>(
     alloc: Global,
     host: &mut H,
     reader: &mut Reader,
     session: &mut Session,
 ) -> Result<Option<Status>, Stop>
+    requires { AsksNext session.old }
     ensures ran { (env : Environment) → Ran H.world host.old host.new
         (λ es. LeadsTo env (Reading session.old reader.old) es (next_state session.new reader.new result)) }
     ensures fall { NeverFall (H.world.counts host.old) (H.world.counts host.new) }
@@ -163,7 +165,47 @@ fn one_line<H: Host>(
     }
 }
 
-/// Lines from the input, to its end or to the line that ends the run.
+// Whether a run of this mode sends a message.
+fn is_send(mode: Mode) -> bool
+    ensures { result ≡ is_send mode }
+{
+    match mode {
+        Mode::Send => true,
+        Mode::Receive => false,
+    }
+}
+
+// Whether the run sends and its draft is over.
+#[tactic(auto, using(crate::proofs::WaitingLemmas::none_waits))]
+fn is_over(session: &Session) -> bool
+    ensures over { result ≡ is_over session.now }
+    ensures idle { next_waiting session.now ≡ None }
+{
+    is_send(session.state().desk.mode) && !session.drafting()
+}
+
+// Takes the next line, or leaves the folder where the run is over.
+fn line_or_end<H: Host>(
+    alloc: Global,
+    host: &mut H,
+    reader: &mut Reader,
+    session: &mut Session,
+) -> Result<Option<Status>, Stop>
+    ensures ran { (env : Environment) → Ran H.world host.old host.new
+        (λ es. LeadsTo env (Reading session.old reader.old) es (next_state session.new reader.new result)) }
+    ensures fall { NeverFall (H.world.counts host.old) (H.world.counts host.new) }
+    ensures cause { Caused (H.world.counts host.old) (H.world.counts host.new) result }
+    ensures progress { IfOk result (λ end. IfNone end (left reader.new < left reader.old)) }
+    ensures plain { IfOk result (λ end. IfSome end IsEnd) }
+{
+    if is_over(session) {
+        leave(host, session)
+    } else {
+        one_line(alloc, host, reader, session)
+    }
+}
+
+/// Lines from the input, to its end, to the line that ends the run, or to the end of the draft in a run that sends.
 pub(crate) fn lines<H: Host>(
     alloc: Global,
     host: &mut H,
@@ -176,7 +218,7 @@ pub(crate) fn lines<H: Host>(
 {
     let mut reader = Reader::new(alloc);
     'lines: loop {
-        if let Some(end) = one_line(alloc, host, &mut reader, session)? {
+        if let Some(end) = line_or_end(alloc, host, &mut reader, session)? {
             return Ok(end);
         }
     }

@@ -6,20 +6,22 @@ ghost use Rattle.host_port.specs.Ran.{Ran};
 ghost use Rattle.host_port.specs.declared.event.Event.{Event};
 ghost use Rattle.session_play.specs.Play.{Play, Loop, Caused};
 ghost use Rattle.mailx_vars.specs.Environment.{knows_user};
-ghost use Rattle.mailx_top.specs.Meaning.{round, first_of, folder_name, actor_in, files_with, prepared, Recovering, Preparing, Opening};
+ghost use Rattle.mailx_top.specs.Meaning.{round, first_of, actor_in, files_with, prepared, Recovering, Preparing, Opening};
+ghost use Rattle.mailx_top.specs.Openings.{OpensBadly};
 ghost use Rattle.mailx_top.specs.Runs.{IsRun, SaysLast, SaysAtEnd};
 ghost use Rattle.mailx_top.specs.Ends.{ended_as};
 ghost use Rattle.mailx_top.specs.Statuses.{line_at_stop, line_at_end, not_a_record};
 ghost use Rattle.mailx_session.specs.Statuses.{IsEnd};
-ghost use Rattle.mailx_top.specs.Usage.{EndsAsNamed, EndsOr, EndsUnopened, IsBadName, IsNoName, IsOrCut, IsUnopened};
+ghost use Rattle.mailx_top.specs.Usage.{EndsAsNamed, EndsOr, EndsUnopened, IsBadName, IsOrCut, IsUnopened};
 ghost use Rattle.mailx_top.specs.Wants.{may_start, start_from};
 ghost use Rattle.folder_commit.specs.Safe.{MayCommit};
 ghost use Rattle.mailx_top.specs.Crash.{IsSafe};
 ghost use Rattle.mailx_top.specs.Words.{asked, may_say, start_of};
 
 use crate::Environment;
-use crate::open::{end_with_usage, open};
-use crate::recovering::recover_first;
+use crate::open::{end_with_usage, open_or_begin};
+use crate::recovering::recover_unless_sending;
+use crate::sending::mode_with;
 use crate::session::lines;
 use crate::startup::read_files;
 use crate::status::{stop_line, stop_status};
@@ -32,7 +34,7 @@ use mailx_vars::Places;
 use session_play::Stop;
 use std::alloc::Global;
 
-// A session from the opening of its folder to its end.
+// A session from the opening of its folder, or from the begin of its draft, to its end.
 fn open_session<H: Host>(
     alloc: Global,
     host: &mut H,
@@ -43,9 +45,10 @@ fn open_session<H: Host>(
         (λ es. Loop (round env) (Opening (Some (start_from start.entry)) session.old) es result) }
     ensures cause { Caused (H.world.counts host.old) (H.world.counts host.new) result }
     ensures plain { IfOk result (λ e. IsEnd e) }
-    ensures bad_name { IsNoName (folder_name session.old (start_from start.entry)) → EndsOr Status.NoFolder result }
+    ensures bad_name { OpensBadly (Opening (Some (start_from start.entry)) session.old)
+        → EndsOr Status.NoFolder result }
 {
-    match open(alloc, host, start, session) {
+    match open_or_begin(alloc, host, start, session) {
         Ok(None) => lines(alloc, host, session),
         Ok(Some(end)) => Ok(end),
         Err(cause) => Err(cause),
@@ -80,7 +83,7 @@ fn prepare_session<H: Host>(
     start: Asked<'_>,
     session: &mut Session,
 ) -> Result<Status, Stop>
-    requires { session.old ≡ first_of env.now (start_from start).user }
+    requires { session.old ≡ first_of env.now (Some (start_from start)) }
     ensures ran { Ran H.world host.old host.new
         (λ es. Loop (round env.now) (prepared env.now (start_from start.entry)) es result) }
     ensures cause { Caused (H.world.counts host.old) (H.world.counts host.new) result }
@@ -102,14 +105,14 @@ fn play_session<H: Host>(
     start: Asked<'_>,
     session: &mut Session,
 ) -> Result<Status, Stop>
-    requires { session.old ≡ first_of env.now (start_from start).user }
+    requires { session.old ≡ first_of env.now (Some (start_from start)) }
     ensures ran { Ran H.world host.old host.new
         (λ es. Loop (round env.now) (Recovering (Some (start_from start.entry))) es result) }
     ensures cause { Caused (H.world.counts host.old) (H.world.counts host.new) result }
     ensures plain { IfOk result (λ e. IsEnd e) }
     ensures bad_name { IsBadName env.now (Some (start_from start.entry)) → EndsUnopened result }
 {
-    match recover_first(alloc, host, start, session) {
+    match recover_unless_sending(alloc, host, start, session) {
         Ok(None) => prepare_session(alloc, host, env, start, session),
         Ok(Some(end)) => Ok(end),
         Err(cause) => Err(cause),
@@ -141,14 +144,30 @@ fn pairs_of_user(
 // The session that a run begins with.
 fn first_session(alloc: Global, env: &Environment, start: Asked<'_>) -> Result<Session, Memory>
     requires { knows_user env.now.pairs ≡ true }
-    ensures { IfOk result (λ session. session ≡ first_of env.now (start_from start.entry).user) }
+    ensures { IfOk result (λ session. session ≡ first_of env.now (Some (start_from start.entry))) }
 {
+    let mode = mode_with(start.sends);
+    let by_recipient = start.by_recipient;
     match start.user {
         Some(user) => {
             let pairs = pairs_of_user(alloc, env.pairs.items(), user)?;
-            Session::new(alloc, pairs.items(), env.terminal, env.token)
+            Session::new(
+                alloc,
+                pairs.items(),
+                mode,
+                env.terminal,
+                by_recipient,
+                env.token,
+            )
         }
-        None => Session::new(alloc, env.pairs.items(), env.terminal, env.token),
+        None => Session::new(
+            alloc,
+            env.pairs.items(),
+            mode,
+            env.terminal,
+            by_recipient,
+            env.token,
+        ),
     }
 }
 
@@ -282,8 +301,8 @@ fn say_cut<H: Host>(host: &mut H, asked: Option<Asked<'_>>, cause: Stop)
 }
 
 /// All that the program does: it reads the words of the command line without the program's own name, recovers what a
-/// stopped run has left, opens the folder that they ask for, carries out the lines of its input, and answers how it
-/// ended. The status' cause is the clause of its name.
+/// stopped run has left and opens the folder that they ask for, or begins the draft that they ask for, carries out the
+/// lines of its input, and answers how it ended. The status' cause is the clause of its name.
 pub fn run<H: Host>(alloc: Global, words: &[Text], env: &Environment, host: &mut H) -> Status
     // The own events are those of the command meaning, and output and status are its.
     ensures run { Ran H.world host.old host.new (IsRun (asked words.now) env.now result) }

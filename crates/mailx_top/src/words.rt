@@ -1,5 +1,5 @@
 // The words of the command line.
-ghost use Rattle.std.specs.Prelude.{◌≡◌, IfOk, IfSome, true};
+ghost use Rattle.std.specs.Prelude.{◌≡◌, IfOk, IfSome, Some, true};
 ghost use Rattle.std.specs.Option.{option_and_then, option_copied};
 ghost use Rattle.command_words.specs.Readings.{reading};
 ghost use Rattle.mailx_vars.specs.Environment.{knows_user};
@@ -36,8 +36,12 @@ pub(crate) struct Asked<'a> {
     pub user: Option<&'a [u8]>,
     /// Whether the start-up file of the system is passed over.
     pub no_system_file: bool,
+    /// Whether a draft is recorded in the file named after its first recipient.
+    pub by_recipient: bool,
     /// What is said once the folder is open.
     pub manner: Manner,
+    /// What the draft begins with that is begun in the folder's place, where one is.
+    pub sends: Option<&'a Options>,
 }
 
 impl Manner {
@@ -105,18 +109,30 @@ fn start_with(options: &Options) -> Asked<'_>
         named: options.folder,
         user: user_of(options),
         no_system_file: options.no_system_file,
+        by_recipient: options.named,
         manner: manner_of(options),
+        sends: None,
     }
 }
 
-// How to start in a mode. What sends or tries isn't built, nor is `-F`.
+// The same, where a draft is begun.
+fn send_with(options: &Options) -> Asked<'_>
+    ensures { start_from result ≡ record (start_with options.now) { sends = Some options.now } }
+{
+    Asked {
+        sends: Some(options),
+        ..start_with(options)
+    }
+}
+
+// How to start in a mode. What tries isn't built.
 fn start_by(wanted: &Wanted) -> Option<Asked<'_>>
     ensures { may_start result ≡ start_by wanted.now }
 {
     match wanted.mode {
-        Mode::Exists => Some(start_with(&wanted.options)),
-        Mode::Receive if !wanted.options.named => Some(start_with(&wanted.options)),
-        _ => None,
+        Mode::Exists | Mode::Receive => Some(start_with(&wanted.options)),
+        Mode::Send => Some(send_with(&wanted.options)),
+        Mode::Try { .. } => None,
     }
 }
 

@@ -44,7 +44,7 @@ module _ (actor : List ℕ) (token : ℕ) (fits : token < 2 ^ 64) where
   act-decided (Try name) a d es by may did = tt
   act-decided (Recover b t) a d es by may did = tt
   act-decided (Child program args input) a d es by may did = tt
-  act-decided Now a d es by may did = tt
+  act-decided (Now tz) a d es by may did = tt
   act-decided (Know texts) a d es by may did = tt
 
   pub play-decided : {R : Type 0} (p : Play R) (d : Disk) (es : List Event) (commits : Commits) (out : Result R Stop) (more : List (List Edit)) (files : Files) (owners : Locks) → EachCommit (IsBy actor token) p → Stands actor token d files owners

@@ -305,7 +305,7 @@ module _ (actor : List ℕ) (token : ℕ) where
     act-answered (Read name) a d files owners es more by s honest lawful did = looks-passed d more files owners es s (neutral-did (Read name) a (own es) refl did) lawful
     act-answered (Try name) a d files owners es more by s honest lawful did = looks-passed d more files owners es s (neutral-did (Try name) a (own es) refl did) lawful
     act-answered (Child program args input) a d files owners es more by s honest lawful did = looks-passed d more files owners es s (neutral-did (Child program args input) a (own es) refl did) lawful
-    act-answered Now a d files owners es more by s honest lawful did = looks-passed d more files owners es s (neutral-did Now a (own es) refl did) lawful
+    act-answered (Now tz) a d files owners es more by s honest lawful did = looks-passed d more files owners es s (neutral-did (Now tz) a (own es) refl did) lawful
     act-answered (Know texts) a d files owners es more by s honest lawful did = looks-passed d more files owners es s (neutral-did (Know texts) a (own es) refl did) lawful
     act-answered (Changes c) a d files owners es more by s honest lawful did =
         let P : Commit → Type 0 = λ c. Did (Changes c) a (own es) → Answered (Changes c) d files owners es more in
@@ -365,7 +365,7 @@ module _ (actor : List ℕ) (token : ℕ) where
     act-cut (Read name) cause d files owners es more by s honest lawful how = looks-cut (calm_at cause) d files owners es more s lawful (cut-looks (Read name) cause (own es) refl how)
     act-cut (Try name) cause d files owners es more by s honest lawful how = looks-cut (calm_at cause) d files owners es more s lawful (cut-looks (Try name) cause (own es) refl how)
     act-cut (Child program args input) cause d files owners es more by s honest lawful how = looks-cut (calm_at cause) d files owners es more s lawful (cut-looks (Child program args input) cause (own es) refl how)
-    act-cut Now cause d files owners es more by s honest lawful how = looks-cut (calm_at cause) d files owners es more s lawful (cut-looks Now cause (own es) refl how)
+    act-cut (Now tz) cause d files owners es more by s honest lawful how = looks-cut (calm_at cause) d files owners es more s lawful (cut-looks (Now tz) cause (own es) refl how)
     act-cut (Know texts) cause d files owners es more by s honest lawful how = looks-cut (calm_at cause) d files owners es more s lawful (cut-looks (Know texts) cause (own es) refl how)
     act-cut (Changes c) cause d files owners es more by s honest lawful how =
         let P : Commit → Type 0 = λ c. IsCutSo (Changes c) cause (own es) → CutOff (calm_at cause) (Changes c) d files owners es more in

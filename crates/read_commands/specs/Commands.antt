@@ -31,6 +31,10 @@ use Rattle.folder_commands.specs.Saving.{copy, copy_by_author, save, save_by_aut
 use Rattle.folder_commands.specs.Leaving.{quit}
 use Rattle.folder_commands.specs.Opening.{file}
 use Rattle.draft_commands.specs.Mailing.{mail}
+use Rattle.child_commands.specs.Running.{shell}
+use Rattle.child_commands.specs.Piping.{pipe}
+use Rattle.child_commands.specs.Listing.{folders}
+use Rattle.draft_commands.specs.Replying.{followup, followup_authors, reply, reply_authors}
 use Rattle.show_commands.specs.Telling.{from, size, number, echo, help}
 
 -- the whole name of the command that a word spells; a line without a word is one of `print`
@@ -98,6 +102,13 @@ meaning_of command.SaveByAuthor line desk = filed (save_by_author desk line.word
 meaning_of command.Write line desk = filed (write desk line.words)
 meaning_of command.File line desk = file (name_of line.word) desk line.words
 meaning_of command.Mail line desk = mail desk line.words
+meaning_of command.Shell line desk = shell line.rest
+meaning_of command.Pipe line desk = pipe (name_of line.word) desk line.words
+meaning_of command.Folders line desk = alone line (folders desk)
+meaning_of command.Reply line desk = reply (name_of line.word) desk line.words
+meaning_of command.ReplyAuthors line desk = reply_authors (name_of line.word) desk line.words
+meaning_of command.Followup line desk = followup desk line.words
+meaning_of command.FollowupAuthors line desk = followup_authors desk line.words
 meaning_of command.Quit line desk = alone line (Ok (quit desk))
 meaning_of command.Exit line desk = alone line exit
 meaning_of other line desk = Err (not_built (name_of line.word))
@@ -142,6 +153,13 @@ is_built command.SaveByAuthor = true
 is_built command.Write = true
 is_built command.File = true
 is_built command.Mail = true
+is_built command.Shell = true
+is_built command.Pipe = true
+is_built command.Folders = true
+is_built command.Reply = true
+is_built command.ReplyAuthors = true
+is_built command.Followup = true
+is_built command.FollowupAuthors = true
 is_built command.Quit = true
 is_built command.Exit = true
 is_built other = false

@@ -6,6 +6,7 @@ ghost use Rattle.command_desk.specs.Answers.{OrFault, Means, IsRefused};
 ghost use Rattle.show_commands.specs.Paging.{scroll};
 ghost use Rattle.command_desk.specs.Desks.{IsDesk, IsWithin};
 ghost use Rattle.command_desk.specs.Effects.{effect};
+ghost use Rattle.child_commands.specs.Listing.{folders};
 ghost use Rattle.folder_commands.specs.Saving.{IsFilingWithin};
 ghost use Rattle.folder_commands.specs.Leaving.{quit};
 ghost use Rattle.folder_commands.specs.declared.wanted.Filing.{Filing};
@@ -13,8 +14,9 @@ ghost use Rattle.read_commands.specs.Commands.{name_of, alone, exit, filed, step
 ghost use Rattle.macro_commands.specs.Calling.{defines};
 ghost use Rattle.show_commands.specs.Telling.{number, help};
 
+use child_commands::{folders, pipe, shell};
 use command_desk::{Ask, Desk, Refusal, Steps, fault, quietly, unchanged};
-use draft_commands::mail;
+use draft_commands::{followup, followup_authors, mail, reply, reply_authors};
 use folder_commands::{Filing, copy, copy_by_author, file, quit, save, save_by_author, write};
 use line_words::{Command, CommandLine, LineError, read_line, whole_name};
 use macro_commands::{call, define, defines, undef};
@@ -86,6 +88,15 @@ fn lone_defines(alloc: Global, line: &CommandLine, desk: &Desk) -> Result<Steps,
 {
     no_words(alloc, line)?;
     defines(alloc, desk)
+}
+
+fn lone_folders(alloc: Global, line: &CommandLine, desk: &Desk) -> Result<Steps, Refusal>
+    requires { IsDesk desk.now }
+    ensures means { Means result (alone line.now (folders desk.now)) }
+    ensures within { IsWithin desk.now result }
+{
+    no_words(alloc, line)?;
+    folders(alloc, desk)
 }
 
 fn lone_exit(alloc: Global, line: &CommandLine, desk: &Desk) -> Result<Steps, Refusal>
@@ -206,6 +217,13 @@ fn carry_out(alloc: Global, line: &CommandLine, desk: &Desk) -> Result<Steps, Re
         Command::Write => filed(alloc, desk, write(alloc, desk, words)),
         Command::File => file(alloc, name_of(line.word.bytes()), desk, words),
         Command::Mail => mail(alloc, desk, words),
+        Command::Shell => shell(alloc, desk, line.rest.bytes()),
+        Command::Pipe => pipe(alloc, name_of(line.word.bytes()), desk, words),
+        Command::Folders => lone_folders(alloc, line, desk),
+        Command::Reply => reply(alloc, name_of(line.word.bytes()), desk, words),
+        Command::ReplyAuthors => reply_authors(alloc, name_of(line.word.bytes()), desk, words),
+        Command::Followup => followup(alloc, desk, words),
+        Command::FollowupAuthors => followup_authors(alloc, desk, words),
         Command::Quit => lone_quit(alloc, line, desk),
         Command::Exit => lone_exit(alloc, line, desk),
         Command::Scroll => lone_scroll(alloc, line, desk),
@@ -256,6 +274,13 @@ pub(crate) fn is_built(command: Command) -> bool
         | Command::Write
         | Command::File
         | Command::Mail
+        | Command::Shell
+        | Command::Pipe
+        | Command::Folders
+        | Command::Reply
+        | Command::ReplyAuthors
+        | Command::Followup
+        | Command::FollowupAuthors
         | Command::Quit
         | Command::Exit => true,
         _ => false,

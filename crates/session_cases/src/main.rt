@@ -9,8 +9,10 @@
 //! | `env NAME=VALUE` | a variable of the environment |
 //! | `terminal` | the input is a terminal |
 //! | `token N` | the word that no other run has; without it 1 |
+//! | `children` | what each child that ran was given is printed |
 //!
-//! For each case come `case TITLE`, the output in lines `|TEXT` (the last `:TEXT` where it has no line feed), `status
+//! For each case come `case TITLE`, the output in lines `|TEXT` (the last `:TEXT` where it has no line feed), with
+//! `children` a line `ran <PROGRAM> <ARGUMENT>..` for each child and below it the input in such lines, `status
 //! N`, what became of the disk (`file NAME` with its bytes, `gone NAME`, `lock NAME TOKEN`), `lost` where memory was
 //! refused, and an empty line.
 #![tactic(auto)]

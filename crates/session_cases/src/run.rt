@@ -6,7 +6,7 @@ use mail_text::{Items, Memory, Text};
 use mailx_top::{Environment, run};
 
 /// The heads of lines that say something of a run.
-const HEADS: [&str; 4] = ["words ", "env ", "terminal", "token "];
+const HEADS: [&str; 5] = ["words ", "env ", "terminal", "token ", "children"];
 
 fn words(case: Case<'_>, out: &mut Answer) -> Items<Text> {
     let mut words = Items::new(out.alloc());
@@ -59,9 +59,39 @@ fn put_said(host: &MemHost, out: &mut Answer) {
     out.put_lines(said.bytes());
 }
 
+// What a child was given: its program with the arguments, and the input.
+fn put_given(program: &Text, args: &[Text], input: &Text, out: &mut Answer) {
+    out.put_plain(b"ran ");
+    out.put_in_angles(program.bytes());
+    for arg in args {
+        out.put_plain(b" ");
+        out.put_in_angles(arg.bytes());
+    }
+    out.put_plain(b"\n");
+    out.put_lines(input.bytes());
+}
+
+// What each child that ran was given.
+fn put_children(host: &MemHost, out: &mut Answer) {
+    for event in host.trace() {
+        if let Event::Child {
+            program,
+            args,
+            input,
+            ..
+        } = event
+        {
+            put_given(program, args.items(), input, out);
+        }
+    }
+}
+
 fn put_run(case: Case<'_>, host: &mut MemHost, out: &mut Answer) {
     let status = ended(case, host, out);
     put_said(host, out);
+    if value(case, "children").is_some() {
+        put_children(host, out);
+    }
     out.put_plain(b"status ");
     out.put_shown(&status);
     out.put_plain(b"\n");

@@ -16,7 +16,12 @@ use Rattle.session_play.specs.declared.act.Found.TheVariants as found
 use Rattle.session_play.specs.declared.stop.Stop.TheVariants as stop
 use Rattle.std.specs.declared.option.Option.{Option}
 use Rattle.std.specs.declared.option.Option.TheVariants.{Some, None}
-use Rattle.session_play.specs.Play.{Ask, Ret, Say, Read, Try, Child, Goes}
+use Rattle.std.specs.Prelude.{ℤ}
+use Rattle.mail_dates.specs.declared.moment.Moment.{Moment}
+use Rattle.mail_dates.specs.declared.zone.Zone.{Zone}
+use Rattle.mail_dates.specs.Zones.{zone_offset, within_years}
+use Rattle.session_play.specs.Moments.{IsZoneOf, IsMomentAt}
+use Rattle.session_play.specs.Play.{Ask, Ret, Say, Read, Try, Child, Now, Goes}
 
 append_nil : (xs : List ℕ) → xs ≡ xs ++ []
 append_nil [] = refl
@@ -93,3 +98,9 @@ pub child-memory : (program : List ℕ) (args : List (List ℕ)) (input : List �
 child-memory program args input d e is =
     let P : Event → Type 0 = λ e. Agrees d e × Goes {R = Option ChildAnswer} (Ask (Child program args input) Ret) (own (e ∷ [])) (Err stop.Memory) in
     subst P (sym is) (tt, inr (stop.Memory, refl, inr refl))
+
+pub time-told : (tz : List ℕ) (seconds : ℤ) (m : Moment) → IsMomentAt tz seconds m → (d : Disk) (e : Event) → e ≡ event.Now seconds
+    → Agrees d e × Goes {R = Moment} (Ask (Now tz) Ret) (own (e ∷ [])) (Ok m)
+time-told tz seconds m at d e is =
+    let P : Event → Type 0 = λ e. Agrees d e × Goes {R = Moment} (Ask (Now tz) Ret) (own (e ∷ [])) (Ok m) in
+    subst P (sym is) (tt, inl (m, event.Now seconds ∷ [], [], refl, (seconds, refl, at), (refl, inl refl)))

@@ -179,7 +179,7 @@ cut-by (Child program args input) stop.Disk es i le same never = absurd never
 cut-by (Child program args input) stop.Input es i le same never = absurd never
 cut-by (Child program args input) stop.Output es i le same never = absurd never
 cut-by (Child program args input) stop.TooMuch es i le same never = absurd never
-cut-by Now cause es i le same never = absurd never
+cut-by (Now tz) cause es i le same never = absurd never
 cut-by (Know texts) cause es i le same never = absurd never
 
 some-same : {A : Type 0} {a b : A} → Some a ≡ Some b → a ≡ b
@@ -225,7 +225,7 @@ did-clean (Try name) f es i le same did = load-clean name f es i le did
 did-clean (Changes c) a es i le same did = streams-clean es i le (commit-streams c es (answer_as a) did)
 did-clean (Recover actor token) a es i le same did = streams-clean es i le (recovery-streams actor token es (recovery_as a) did)
 did-clean (Child program args input) a es i le same did = event-clean _ es i le did (record { in_ok = refl; out_ok = refl; bytes = omega arith; within = le })
-did-clean Now seconds es i le same did = event-clean _ es i le did (record { in_ok = refl; out_ok = refl; bytes = omega arith; within = le })
+did-clean (Now tz) m es i le same did = event-clean _ es i le did.1 (record { in_ok = refl; out_ok = refl; bytes = omega arith; within = le })
 did-clean (Know texts) rows es i le same did = none-clean es i le did.0
 
 -- a play that came to its end is clean
@@ -284,7 +284,7 @@ did-quiet false (Say bytes) u es may did = refl
 did-quiet false (Read name) f es may did = refl
 did-quiet false (Try name) f es may did = refl
 did-quiet false (Child program args input) rows es may did = refl
-did-quiet false Now rows es may did = refl
+did-quiet false (Now tz) rows es may did = refl
 did-quiet false (Know texts) rows es may did = refl
 did-quiet true (Line i) a es may did = (unseen-did is_failed (Line i) a es refl did, refl)
 did-quiet true (Say bytes) u es may did = (unseen-did is_failed (Say bytes) u es refl did, refl)
@@ -293,7 +293,7 @@ did-quiet true (Try name) f es may did = absurd (cc may)
 did-quiet true (Changes c) a es may did = absurd (cc may)
 did-quiet true (Recover actor token) a es may did = absurd (cc may)
 did-quiet true (Child program args input) rows es may did = (unseen-did is_failed (Child program args input) rows es refl did, refl)
-did-quiet true Now rows es may did = (unseen-did is_failed Now rows es refl did, refl)
+did-quiet true (Now tz) rows es may did = (unseen-did is_failed (Now tz) rows es refl did, refl)
 did-quiet true (Know texts) rows es may did = (unseen-did is_failed (Know texts) rows es refl did, refl)
 
 cut-loads : (b : Bool) (act : Act) (cause : Stop) (es : List Event) → may_load b act ≡ true → Partly act cause es → Loads b (is_disk cause) es (of_commit act es)
@@ -343,7 +343,7 @@ cut-loads b (Child program args input) stop.Disk es may never = absurd never
 cut-loads b (Child program args input) stop.Input es may never = absurd never
 cut-loads b (Child program args input) stop.Output es may never = absurd never
 cut-loads b (Child program args input) stop.TooMuch es may never = absurd never
-cut-loads b Now cause es may never = absurd never
+cut-loads b (Now tz) cause es may never = absurd never
 cut-loads b (Know texts) cause es may never = absurd never
 
 loads-none : (b is_cut : Bool) (es commits : List Event) → is_cut ≡ false → es ≡ [] → commits ≡ [] → Loads b is_cut es commits
@@ -370,7 +370,7 @@ of-none (Say bytes) es is = refl
 of-none (Read name) es is = refl
 of-none (Try name) es is = refl
 of-none (Child program args input) es is = refl
-of-none Now es is = refl
+of-none (Now tz) es is = refl
 of-none (Know texts) es is = refl
 
 goes-loads : {R : Type 0} (b : Bool) (p : Play R) (es : List Event) (out : Result R Stop) → AllActs (may_load b) p → (g : Goes p es out) → Loads b (is_disk_cut out) es (commits_of p es out g)

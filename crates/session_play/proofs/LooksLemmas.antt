@@ -60,7 +60,7 @@ neutral-did (Try name) f es neutral did = subst OnlyLooks (sym did) (refl, tt)
 neutral-did (Changes c) a es neutral did = absurd (cc neutral)
 neutral-did (Recover actor token) a es neutral did = absurd (cc neutral)
 neutral-did (Child program args input) a es neutral did = subst OnlyLooks (sym did) (refl, tt)
-neutral-did Now seconds es neutral did = subst OnlyLooks (sym did) (refl, tt)
+neutral-did (Now tz) m es neutral did = subst OnlyLooks (sym did.1) (refl, tt)
 neutral-did (Know texts) rows es neutral did = looks-none es did.0
 
 -- where it is cut off, too
@@ -88,7 +88,7 @@ neutral-part (Child program args input) stop.Disk es neutral never = absurd neve
 neutral-part (Child program args input) stop.Input es neutral never = absurd never
 neutral-part (Child program args input) stop.Output es neutral never = absurd never
 neutral-part (Child program args input) stop.TooMuch es neutral never = absurd never
-neutral-part Now cause es neutral never = absurd never
+neutral-part (Now tz) cause es neutral never = absurd never
 neutral-part (Know texts) cause es neutral never = absurd never
 
 goes-looks : {R : Type 0} (p : Play R) (es : List Event) (out : Result R Stop) → AllActs is_neutral p → Goes p es out → OnlyLooks es

@@ -55,7 +55,7 @@ unseen-did test (Try name) f es l did = absurd (cc l)
 unseen-did test (Changes c) a es l did = absurd (cc l)
 unseen-did test (Recover actor token) a es l did = absurd (cc l)
 unseen-did test (Child program args input) a es l did = subst (Unseen test) (sym did) refl
-unseen-did test Now seconds es l did = subst (Unseen test) (sym did) refl
+unseen-did test (Now tz) m es l did = subst (Unseen test) (sym did.1) refl
 unseen-did test (Know texts) rows es l did = unseen-none test es did.0
 
 unseen-line : (test : Seen → Bool) (cause : Stop) (i : Input) (es : List Event) → Partly (Line i) cause es → Unseen test es
@@ -83,7 +83,7 @@ unseen-cut test (Child program args input) stop.Disk es l never = absurd never
 unseen-cut test (Child program args input) stop.Input es l never = absurd never
 unseen-cut test (Child program args input) stop.Output es l never = absurd never
 unseen-cut test (Child program args input) stop.TooMuch es l never = absurd never
-unseen-cut test Now cause es l never = absurd never
+unseen-cut test (Now tz) cause es l never = absurd never
 unseen-cut test (Know texts) cause es l never = absurd never
 
 -- a play that loads nothing

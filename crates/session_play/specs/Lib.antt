@@ -2,6 +2,7 @@ pub mod Input
 pub mod Knowing
 pub mod Committing
 pub mod Recovering
+pub mod Moments
 pub mod Play
 pub mod Steps
 pub mod Acts

@@ -10,6 +10,7 @@ use Rattle.host_port.specs.declared.event.Seen.{Seen}
 use Rattle.host_port.specs.declared.event.Seen.TheVariants as seen
 use Rattle.host_port.specs.declared.event.ChildAnswer.{ChildAnswer}
 use Rattle.host_port.specs.Calls.{Counts, Rose}
+use Rattle.mail_dates.specs.declared.moment.Moment.{Moment}
 use Rattle.message_state.specs.declared.row.Row.{Row}
 use Rattle.folder_commit.specs.declared.error.CommitError.TheVariants as error
 use Rattle.session_play.specs.Knowing.{AreRows}
@@ -23,11 +24,12 @@ use Rattle.session_play.specs.declared.act.Found.TheVariants as found
 use Rattle.session_play.specs.declared.stop.Stop.{Stop}
 use Rattle.session_play.specs.declared.stop.Stop.TheVariants as stop
 use Rattle.session_play.specs.Input.{Input, input_limit, buffer_size, next_line, Reads}
+use Rattle.session_play.specs.Moments.{IsMomentAt}
 
 -- What a run asks: the next line of its input; to say bytes; to load a file, where a failure cuts the run off; to try to load one, where a
 -- failure is an answer; to commit changes of files, where a fault of the disk cuts the run off; to recover what a stopped commit of an actor has
--- left, where such a fault does so too; to run a program with arguments and an input, where a failure is an answer; the time; and the rows of
--- some texts, which it finds without the outside.
+-- left, where such a fault does so too; to run a program with arguments and an input, where a failure is an answer; the moment that it is, in the
+-- zone of a TZ text; and the rows of some texts, which it finds without the outside.
 pub data Act : Type 0 where
   Line : Input → Act
   Say : List ℕ → Act
@@ -36,12 +38,12 @@ pub data Act : Type 0 where
   Changes : Commit → Act
   Recover : List ℕ → ℕ → Act
   Child : List ℕ → List (List ℕ) → List ℕ → Act
-  Now : Act
+  Now : List ℕ → Act
   Know : List (List ℕ) → Act
 
 -- what it is answered: the line, or none at the end, with the input that is left; nothing; what the load found; the same, or none where the
--- load failed; what the commit answers; what the recovery answers; what the program answers, or none where it could not be run; the seconds
--- since 1970; the rows
+-- load failed; what the commit answers; what the recovery answers; what the program answers, or none where it could not be run; the moment;
+-- the rows
 abbrev pub Answer : Act → Type 0
 Answer (Line i) = Option (List ℕ) × Input
 Answer (Say bytes) = Unit {0}
@@ -50,7 +52,7 @@ Answer (Try name) = Option Found
 Answer (Changes c) = Committed
 Answer (Recover actor token) = RecoveryAnswer
 Answer (Child program args input) = Option ChildAnswer
-Answer Now = ℤ
+Answer (Now tz) = Moment
 Answer (Know texts) = List Row
 
 -- acts, each followed by what its answer calls for, to a result
@@ -95,7 +97,7 @@ Did (Try name) f es = es ≡ event.Load name (seen_at f) ∷ []
 Did (Changes c) a es = IsCommitOf c es (answer_as a)
 Did (Recover actor token) a es = IsRecoveryOf actor token es (recovery_as a)
 Did (Child program args input) a es = es ≡ event.Child program args input a (is_none a) ∷ []
-Did Now seconds es = es ≡ event.Now seconds ∷ []
+Did (Now tz) m es = (seconds : ℤ) × (es ≡ event.Now seconds ∷ []) × IsMomentAt tz seconds m
 Did (Know texts) rows es = (es ≡ []) × AreRows texts rows
 
 -- bytes that fit the buffer and pass the limit

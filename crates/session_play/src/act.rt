@@ -4,11 +4,14 @@ ghost use Rattle.host_port.specs.Calls.{Rose, output_limit};
 ghost use Rattle.host_port.specs.Names.{IsFileName};
 ghost use Rattle.host_port.specs.Ran.{Ran};
 ghost use Rattle.session_play.specs.Cuts.{IsLoadCut};
-ghost use Rattle.session_play.specs.Play.{Play, Ask, Ret, Say, Read, Try, Child, Goes, Caused};
+ghost use Rattle.mail_dates.specs.Clock.{IsPrintable};
+ghost use Rattle.session_play.specs.Moments.{IsZoneOf};
+ghost use Rattle.session_play.specs.Play.{Play, Ask, Ret, Say, Read, Try, Child, Now, Goes, Caused};
 
 use crate::Stop;
 use host_port::{ChildAnswer, ChildError, Host, LoadAnswer, LoadError};
-use mail_text::Text;
+use mail_dates::{Moment, Zone, ZoneError, moment_at, utc, zone_of};
+use mail_text::{Memory, Text};
 use std::alloc::Global;
 
 /// What a load found.
@@ -92,5 +95,33 @@ pub fn run_child<H: Host>(
         Ok(answer) => Ok(Some(answer)),
         Err(ChildError::Failed) => Ok(None),
         Err(ChildError::Memory) => Err(Stop::Memory),
+    }
+}
+
+// The zone of a TZ text; UTC where the text is no POSIX rule.
+fn zone_in(alloc: Global, tz: &[u8]) -> Result<Zone, Memory>
+    ensures { IfOk result (IsZoneOf tz.now) }
+{
+    match zone_of(alloc, tz) {
+        Ok(zone) => Ok(zone),
+        Err(ZoneError::NotARule) => Ok(utc()),
+        Err(ZoneError::Memory) => Err(Memory),
+    }
+}
+
+/// The moment that it is, in the zone of a TZ text; in UTC where the text is no POSIX rule (POSIX.1-2017, Base
+/// Definitions, 8.3). Only want of memory can fail.
+pub fn now<H: Host>(alloc: Global, host: &mut H, tz: &[u8]) -> Result<Moment, Stop>
+    ensures ran { Ran H.world host.old host.new (λ es. Goes (Ask (Now tz.now) Ret) es result) }
+    ensures cause { Caused (H.world.counts host.old) (H.world.counts host.new) result }
+    ensures only_memory { IfErr result (λ cause. cause ≡ Stop.Memory) }
+    ensures printable { IfOk result IsPrintable }
+{
+    match zone_in(alloc, tz) {
+        Ok(zone) => {
+            let seconds = host.now();
+            Ok(moment_at(&zone, seconds))
+        }
+        Err(Memory) => Err(Stop::Memory),
     }
 }

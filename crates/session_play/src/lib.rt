@@ -7,7 +7,7 @@ mod reader;
 mod recovering;
 mod stop;
 
-pub use act::{Found, load, run_child, say, try_load};
+pub use act::{Found, load, now, run_child, say, try_load};
 pub use changing::{Committed, change};
 pub use reader::Reader;
 pub use recovering::{RecoveryAnswer, recovery};

@@ -5,7 +5,6 @@ use Rattle.std.specs.declared.option.Option.TheVariants.{Some}
 use Rattle.std.specs.declared.result.Result.{Result}
 use Rattle.std.specs.declared.result.Result.TheVariants.{Ok, Err}
 use Rattle.rc_conditionals.specs.declared.conditions.Condition.{Condition}
-use Rattle.rc_conditionals.specs.declared.conditions.Mode.TheVariants.{Receive}
 use Rattle.rc_conditionals.specs.declared.error.CondError.{CondError}
 use Rattle.rc_conditionals.specs.declared.error.CondError.TheVariants as error
 use Rattle.rc_conditionals.specs.Turns.{turned}
@@ -31,9 +30,9 @@ abbrev pub turns_or_fault : List ℕ → Result (List Condition) CondError → O
 turns_or_fault test (Ok list) = quietly (turns list)
 turns_or_fault test (Err e) = Err (condition_fault test e)
 
--- a condition is opened, turned round or closed, in receive mode
+-- a condition is opened, turned round or closed
 abbrev pub turning : Desk → List ℕ → List ℕ → OrFault Steps
-turning desk name test = turns_or_fault test (turned name test Receive desk.terminal desk.conditions)
+turning desk name test = turns_or_fault test (turned name test desk.mode desk.terminal desk.conditions)
 
 -- `if`: its one word is the test
 abbrev pub opening : Desk → List (List ℕ) → OrFault Steps

@@ -7,7 +7,7 @@ ghost use Rattle.setting_commands.specs.Conditions.{condition_fault, turns, turn
 
 use command_desk::{Desk, Effects, Refusal, Steps, fault, quietly, unchanged};
 use mail_text::Text;
-use rc_conditionals::{CondError, Conditions, Mode};
+use rc_conditionals::{CondError, Conditions};
 use std::alloc::Global;
 
 // The refusal of a condition, whose test this is.
@@ -32,14 +32,14 @@ fn turns(alloc: Global, conditions: Conditions) -> Effects
     }
 }
 
-// Opens a condition, turns it round or closes it, in receive mode.
+// Opens a condition, turns it round or closes it.
 fn turning(alloc: Global, desk: &Desk, name: &[u8], test: &[u8]) -> Result<Steps, Refusal>
     requires { IsConditionWord name.now }
     ensures means { Means result (turning desk.now name.now test.now) }
     ensures within { IsWithin desk.now result }
 {
     let mut conditions = desk.conditions.copy();
-    match conditions.turn(name, test, Mode::Receive, desk.terminal) {
+    match conditions.turn(name, test, desk.mode, desk.terminal) {
         Ok(()) => Ok(quietly(alloc, turns(alloc, conditions))),
         Err(error) => Err(refusal(alloc, test, error)),
     }

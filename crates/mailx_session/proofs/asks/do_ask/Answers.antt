@@ -1,6 +1,6 @@
 use Rattle.std.proofs.Common.{refl, inl}
-use Rattle.host_port.proofs.RanLemmas.{Ran-none}
-use Rattle.mailx_session.proofs.AskLemmas.{asked-say, asked-commit, asked-source, asked-lines, asked-open, asked-draft, asked-exit}
+use Rattle.host_port.proofs.RanLemmas.{Ran-none, Ran-map}
+use Rattle.mailx_session.proofs.AskLemmas.{asked-say, asked-commit, asked-source, asked-lines, asked-open, asked-draft, asked-child, asked-exit, run-asked-as}
 use Rattle.mailx_session.proofs.SourcingLemmas.{kept-valid, keeps-desk, called-goes, called-caused}
 use Rattle.mailx_session.proofs.asks.do_ask.Goals as goal
 
@@ -37,7 +37,10 @@ pub returns-in-Open-clause-ran : goal.returns-in-Open-clause-ran
 returns-in-Open-clause-ran g c = rw (asked-open c.args.state.now c.args.ask.now _ _ _ c.in-Open.is) (rw (c.bytes-in-Open.ensures, c.items-in-Open.ensures) at c.switch.ensures.ran)
 
 pub returns-in-Draft-clause-ran : goal.returns-in-Draft-clause-ran
-returns-in-Draft-clause-ran g c = rw (asked-draft c.args.state.now c.args.ask.now _ c.in-Draft.is) c.begin.ensures.ran
+returns-in-Draft-clause-ran g c = rw (asked-draft c.args.state.now c.args.ask.now _ _ _ c.in-Draft.is) c.begin_recorded.ensures.ran
+
+pub returns-in-Child-clause-ran : goal.returns-in-Child-clause-ran
+returns-in-Child-clause-ran g c = rw (asked-child c.args.state.now c.args.ask.now c.in-Child.command c.in-Child.input c.in-Child.is) (Ran-map (run-asked-as c.args.state.now _ _ _ _ _ c.bytes-in-Child.ensures c.bytes-in-Child-2.ensures) c.run_asked.ensures.ran)
 
 pub returns-in-Exit-clause-ran : goal.returns-in-Exit-clause-ran
-returns-in-Exit-clause-ran g c = rw (asked-exit c.args.state.now c.args.ask.now c.in-Exit.is) (Ran-none (refl, inl refl))
+returns-in-Exit-clause-ran g c = rw (asked-exit c.args.state.now c.args.ask.now c.in-Exit.is) (rw c.status_of.ensures.status (Ran-none (refl, inl refl)))

@@ -15,4 +15,4 @@ pub returns-clause-ran : goal.returns-clause-ran
 returns-clause-ran g c =
     let s = c.args.state.now in
     let t = c.do_asks.new.state in
-    Ran-then (goes-then (in_order asked s c.args.asks.now) left_by (after_asks t c.in_ok-asked.asked) _) c.in_ok-asked.ensures.ran (c.end_by.ensures.ran t)
+    Ran-then (goes-then (in_order asked s c.args.asks.now) left_by (after_asks t c.in_ok-asked.asked) _) c.in_ok-asked.ensures.ran c.end_by.ensures.ran

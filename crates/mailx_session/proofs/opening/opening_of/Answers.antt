@@ -2,7 +2,6 @@ use Rattle.std.proofs.Common.{◌≡◌, ◌≤◌, length, List, map, refl, ap,
 use Rattle.message_state.specs.declared.mark.Mark.{Mark}
 use Rattle.message_state.specs.declared.row.Row.{Row}
 use Rattle.message_state.specs.declared.shown.Shown.{Shown}
-use Rattle.quit_rules.specs.declared.open.Open.{Open}
 use Rattle.command_desk.specs.Desks.{IsDesk}
 use Rattle.mailx_session.specs.Openings.{with_folder, plain, first_current, is_system}
 use Rattle.mailx_session.proofs.OpeningLemmas.{opened-desk}

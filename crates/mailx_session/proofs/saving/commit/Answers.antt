@@ -1,4 +1,3 @@
-use Rattle.std.proofs.Common.{sym, ◌∙◌, ap}
 use Rattle.host_port.proofs.RanLemmas.{Ran-map}
 use Rattle.mailx_session.proofs.NameLemmas.{named-files}
 use Rattle.mailx_session.proofs.SavingLemmas.{commit-follows, commit-caused}

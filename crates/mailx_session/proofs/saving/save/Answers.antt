@@ -1,4 +1,4 @@
-use Rattle.std.proofs.Common.{◌≡◌, sym, ◌∙◌, None}
+use Rattle.std.proofs.Common.{◌≡◌, None}
 use Rattle.host_port.proofs.RanLemmas.{Ran-none}
 use Rattle.session_play.proofs.PlayLemmas.{at-memory}
 use Rattle.mailx_session.specs.Saving.{names_fault, saved}

@@ -1,12 +1,10 @@
-use Rattle.std.proofs.Common.{◌≡◌, ◌++◌, refl, sym, ◌∙◌, ap}
+use Rattle.std.proofs.Common.{◌++◌, refl}
 use Rattle.host_port.proofs.RanLemmas.{Ran-map}
 use Rattle.session_play.specs.Play.{Ask, Ret, Say}
 use Rattle.session_play.specs.Steps.{Over}
 use Rattle.session_play.proofs.PlayLemmas.{goes-as, goes-cut}
-use Rattle.command_desk.specs.declared.desk.Desk.{Desk}
 use Rattle.mailx_session.specs.States.{with_desk}
-use Rattle.mailx_session.specs.Switching.{announcement, laid_as, laid_on, with_laid}
-use Rattle.mailx_session.proofs.SourcingLemmas.{brings_none, brings-desk, valid-desk}
+use Rattle.mailx_session.specs.Switching.{announcement, laid_as}
 use Rattle.mailx_session.proofs.switching.announce.Goals as goal
 
 pub returns-in-Ok-clause-ran : goal.returns-in-Ok-clause-ran

@@ -1,5 +1,4 @@
-use Rattle.std.proofs.Common.{[], false, refl, sym, subst, inl}
-use Rattle.std.specs.declared.option.Option.{Option}
+use Rattle.std.proofs.Common.{[], false, refl, subst, inl}
 use Rattle.std.specs.declared.option.Option.TheVariants.{None}
 use Rattle.std.specs.declared.result.Result.{Result}
 use Rattle.std.specs.Prelude.{◌++◌, codes}

@@ -7,7 +7,7 @@ pub returns-in-Ok-clause-ran : goal.returns-in-Ok-clause-ran
 returns-in-Ok-clause-ran g c = λ env. Ran-then (λ said es says leads. leads said says) c.in-Ok.ensures.ran (c.next_line.ensures.ran env)
 
 pub returns-in-Err-clause-ran : goal.returns-in-Err-clause-ran
-returns-in-Err-clause-ran g c = λ env. Ran-map (prompt-cut-leads env c.args.session.now c.args.reader.now c.in-Err.cause c.in-Err.ensures.idle) c.in-Err.ensures.ran
+returns-in-Err-clause-ran g c = λ env. Ran-map (prompt-cut-leads env c.args.session.now c.args.reader.now c.in-Err.cause c.requires) c.in-Err.ensures.ran
 
 pub returns-in-Ok-clause-fall : goal.returns-in-Ok-clause-fall
 returns-in-Ok-clause-fall g c = never-fall-then _ _ _ c.in-Ok.ensures.ran.never_fall c.next_line.ensures.fall

@@ -13,7 +13,7 @@ any-env : Environment
 any-env = record { pairs = []; terminal = false; token = 0 }
 
 any-start : Start
-any-start = record { word = []; named = false; user = None; no_system_file = false; manner = Silent }
+any-start = record { word = []; named = false; user = None; no_system_file = false; by_recipient = false; manner = Silent; sends = None }
 
 pub returns-in-Ok-None-clause-ran : goal.returns-in-Ok-None-clause-ran
 returns-in-Ok-None-clause-ran g c = λ env start.

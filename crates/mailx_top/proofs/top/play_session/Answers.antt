@@ -1,4 +1,3 @@
-use Rattle.std.proofs.Common.{refl}
 use Rattle.host_port.proofs.RanLemmas.{Ran-then, Ran-map}
 use Rattle.session_play.specs.Play.{last, cut}
 use Rattle.mailx_top.specs.Wants.{start_from}
@@ -12,10 +11,10 @@ returns-in-Ok-None-clause-ran g c =
     (rw c.in-Ok-None.field-0-is at (c.in-Ok-None.ensures.ran c.args.env.now)) c.prepare_session.ensures.ran
 
 pub returns-in-Ok-Some-clause-ran : goal.returns-in-Ok-Some-clause-ran
-returns-in-Ok-Some-clause-ran g c = Ran-map (λ es x. last x) (rw (c.requires, c.in-Ok-Some.field-0-is, actor-same c.args.env.now (start_from c.args.start).user) at (c.in-Ok-Some.ensures.ran c.args.env.now))
+returns-in-Ok-Some-clause-ran g c = Ran-map (λ es x. last x) (rw (c.requires, c.in-Ok-Some.field-0-is, actor-same c.args.env.now (start_from c.args.start)) at (c.in-Ok-Some.ensures.ran c.args.env.now))
 
 pub returns-in-Err-clause-ran : goal.returns-in-Err-clause-ran
-returns-in-Err-clause-ran g c = Ran-map (λ es x. cut x) (rw (c.requires, actor-same c.args.env.now (start_from c.args.start).user) at (c.in-Err.ensures.ran c.args.env.now))
+returns-in-Err-clause-ran g c = Ran-map (λ es x. cut x) (rw (c.requires, actor-same c.args.env.now (start_from c.args.start)) at (c.in-Err.ensures.ran c.args.env.now))
 
 pub returns-in-Ok-None-clause-bad_name : goal.returns-in-Ok-None-clause-bad_name
 returns-in-Ok-None-clause-bad_name g c = λ bad. opens-none _ (c.prepare_session.ensures.bad_name bad)
@@ -28,5 +27,5 @@ returns-in-Ok-Some-clause-plain g c = start-end _ (rw c.in-Ok-Some.field-0-is at
 
 pub returns-in-Ok-None-clause-cause : goal.returns-in-Ok-None-clause-cause
 returns-in-Ok-None-clause-cause g c =
-    caused-since (g.H.Host.world.counts c.args.host.now) (g.H.Host.world.counts c.recover_first.new.host) (g.H.Host.world.counts c.prepare_session.new.host) c.prepare_session.result
+    caused-since (g.H.Host.world.counts c.args.host.now) (g.H.Host.world.counts c.recover_unless_sending.new.host) (g.H.Host.world.counts c.prepare_session.new.host) c.prepare_session.result
     (c.in-Ok-None.ensures.ran c.args.env.now).never_fall c.prepare_session.ensures.cause

@@ -1,4 +1,4 @@
-use Rattle.std.proofs.Common.{refl, sym, ◌∙◌}
+use Rattle.std.proofs.Common.{sym, ◌∙◌}
 use Rattle.host_port.proofs.RanLemmas.{Ran-map}
 use Rattle.mailx_top.specs.Wants.{start_from}
 use Rattle.mailx_top.proofs.WaitingLemmas.{silent-loop, aloud-loop}

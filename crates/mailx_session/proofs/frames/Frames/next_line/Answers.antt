@@ -1,8 +1,8 @@
-use Rattle.std.proofs.Common.{List, [], ◌∷◌, ◌++◌, length, drop, refl, sym, ◌∙◌, ap, append_assoc}
+use Rattle.std.proofs.Common.{List, [], ◌∷◌, ◌++◌, refl, sym, ◌∙◌, ap, append_assoc}
 use Rattle.std.proofs.lemmas.List.{append-nil}
 use Rattle.std.specs.declared.option.Option.TheVariants.{Some}
 use Rattle.mailx_session.specs.Waits.{Pending}
-use Rattle.mailx_session.specs.Pending.{taken, open_before, closed}
+use Rattle.mailx_session.specs.Pending.{taken, open_before}
 use Rattle.mailx_session.proofs.PendingLemmas.{taken-closed, put-back, open-then, not-none}
 use Rattle.mailx_session.proofs.frames.Frames.next_line.Goals as goal
 

@@ -1,0 +1,19 @@
+use Rattle.std.proofs.Common.{sym, ◌∙◌}
+use Rattle.host_port.proofs.RanLemmas.{Ran-map}
+use Rattle.mailx_top.proofs.EndLemmas.{ended-whatever}
+use Rattle.mailx_top.proofs.WaitingLemmas.{over-ends}
+use Rattle.mailx_top.proofs.session.line_or_end.Goals as goal
+
+pub one_line-requires : goal.one_line-requires
+one_line-requires g c = (c.is_over.ensures.idle, sym c.is_over.ensures.over ∙ c.if-is_over.false)
+
+pub returns-then-is_over-clause-ran : goal.returns-then-is_over-clause-ran
+returns-then-is_over-clause-ran g c = λ env.
+    Ran-map (over-ends env c.args.session.now c.args.reader.now _ c.is_over.ensures.idle (sym c.is_over.ensures.over ∙ c.if-is_over.true) c.leave.ensures.idle)
+    (c.leave.ensures.ran c.args.reader.now)
+
+pub returns-then-is_over-clause-fall : goal.returns-then-is_over-clause-fall
+returns-then-is_over-clause-fall g c = (c.leave.ensures.ran c.args.reader.now).never_fall
+
+pub returns-then-is_over-clause-progress : goal.returns-then-is_over-clause-progress
+returns-then-is_over-clause-progress g c = ended-whatever c.leave.result _ c.leave.ensures.ended
