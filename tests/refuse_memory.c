@@ -8,12 +8,20 @@ extern void *__libc_calloc(size_t, size_t);
 extern void *__libc_realloc(void *, size_t);
 extern void *__libc_memalign(size_t, size_t);
 
+static long at = -1;
+
+/* Programs that this one runs don't find the number in their environment. */
+__attribute__((constructor)) static void read_number(void) {
+  const char *said;
+  if (at >= 0) return;
+  said = getenv("REFUSE_AT");
+  at = said ? atol(said) : 0;
+  unsetenv("REFUSE_AT");
+}
+
 static int refused(void) {
-  static long taken, at = -1;
-  if (at < 0) {
-    const char *said = getenv("REFUSE_AT");
-    at = said ? atol(said) : 0;
-  }
+  static long taken;
+  read_number();
   if (++taken != at) return 0;
   errno = ENOMEM;
   return 1;

@@ -4,5 +4,5 @@
 mod mailing;
 mod replying;
 
-pub use mailing::mail;
+pub use mailing::{mail, writer};
 pub use replying::{followup, followup_authors, reply, reply_authors};

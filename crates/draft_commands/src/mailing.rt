@@ -10,7 +10,7 @@ use mail_text::{Items, Memory, Text};
 use std::alloc::Global;
 
 /// Who writes messages: the value of the variable `from`, and nothing where it is unset.
-pub(crate) fn writer(alloc: Global, desk: &Desk) -> Result<Text, Memory>
+pub fn writer(alloc: Global, desk: &Desk) -> Result<Text, Memory>
     ensures { IfOk result (λ t. t ≡ writer desk.now) }
 {
     match desk.vars.get(b"from") {

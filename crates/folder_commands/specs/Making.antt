@@ -1,12 +1,12 @@
 -- What changes make of a file that is to be opened.
-use Rattle.std.specs.Prelude.{◌≡◌, ℕ, Bool, true, false, is_some, nat_lt, List, [], ◌∷◌, length, if◌then◌else◌}
+use Rattle.std.specs.Prelude.{◌≡◌, ℕ, Bool, true, false, is_some, nat_lt, not, List, [], ◌∷◌, length, if◌then◌else◌}
 use Rattle.std.specs.Str.{bytes_eq}
 use Rattle.std.specs.declared.option.Option.{Option}
 use Rattle.std.specs.declared.option.Option.TheVariants.{Some, None}
 use Rattle.std.specs.declared.result.Result.{Result}
 use Rattle.std.specs.declared.result.Result.TheVariants.{Ok, Err}
 use Rattle.host_port.specs.Calls.{load_limit}
-use Rattle.mbox_scan.specs.Mailbox.{list_of, message_limit}
+use Rattle.mbox_scan.specs.Mailbox.{is_mailbox, list_of, message_limit}
 use Rattle.folder_change.specs.declared.change.Change.{Change}
 use Rattle.folder_change.specs.declared.error.ChangeError.{ChangeError}
 use Rattle.folder_change.specs.declared.error.ChangeError.TheVariants as error
@@ -59,9 +59,16 @@ abbrev pub openable_made : List ℕ → Made → Bool → OrFault (List ℕ)
 openable_made name (Ok file) stood = openable_file name file stood
 openable_made name (Err at) stood = Err (changed_at name at)
 
--- the bytes that are opened of the file of this name once the changes were made, or the line that says why it can't be opened then
+-- whether a file is there that is no mailbox
+abbrev pub is_other : Option (List ℕ) → Bool
+is_other (Some bytes) = not (is_mailbox bytes)
+is_other None = false
+
+-- The bytes that are opened of the file of this name once the changes were made, or the line that says why it can't be opened then. A file that is
+-- no mailbox isn't opened, whatever the changes would make of it.
 abbrev pub made_folder : List Change → List (List ℕ) → List ℕ → Option (List ℕ) → OrFault (List ℕ)
-made_folder changes base name file = openable_made name (made changes base name file) (is_some file)
+made_folder changes base name file =
+    if is_other file then Err (not_a_mailbox name) else openable_made name (made changes base name file) (is_some file)
 
 -- what is made of a file is what all of the changes together make of it, among any files
 abbrev pub MadeIsApplied : Type 0

@@ -39,7 +39,7 @@ use Rattle.folder_commit.proofs.TellLemmas.{alike}
 use Rattle.folder_commit.proofs.BusyLemmas.{busy-met, completes}
 
 -- the answer says how often there was a decision
-decided-so : (files : List (List ℕ)) (result : Result Unit CommitError) (end : Ending) (n : ℕ) → AnswersAs files result end → TellsDecisions end n → DecidedSo result n
+pub decided-so : (files : List (List ℕ)) (result : Result Unit CommitError) (end : Ending) (n : ℕ) → AnswersAs files result end → TellsDecisions end n → DecidedSo result n
 decided-so files (Ok u) end n is told = rw is at told
 decided-so files (Err (error.Busy name)) end n is told = rw is at told
 decided-so files (Err error.Record) end n is told = rw is at told

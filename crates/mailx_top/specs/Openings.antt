@@ -74,10 +74,10 @@ EndsOrIsCut e (Ok r) = r ≡ e
 EndsOrIsCut e (Err cause) = Unit {0}
 
 -- A run is refused exactly where the load of its opening saw the folder held, or the quit at the end of its input was
--- refused, and has no folder exactly where there is none to open, and no mail exactly where the system mailbox is to be
+-- refused, or a draft was refused before, and has no folder exactly where there is none to open, and no mail exactly where the system mailbox is to be
 -- opened, and its load saw it absent or empty, and not held, unless it is cut off. `Bad` says that the folder's word was
 -- bad in the state in which it was to be opened, `es` are the own events of the opening, and `at_end` says whether that
--- quit was refused.
+-- quit, or a draft, was refused.
 pub record IsOpeningExplained (Bad : Type 0) (start : Option Start) (out : Result Status Stop) (es : List Event)
     (at_end : Bool) : Type 0 where
   pub refused_only : out ≡ Ok status.Refused → (some_load_saw saw_held es || at_end) ≡ true

@@ -1,15 +1,15 @@
 -- The draft of send mode.
-use Rattle.std.specs.Prelude.{ℕ, List, [], codes, unwrap_or}
+use Rattle.std.specs.Prelude.{ℕ, List, [], unwrap_or}
 use Rattle.std.specs.Option.{option_map_or}
 use Rattle.std.specs.declared.option.Option.{Option}
 use Rattle.std.specs.declared.option.Option.TheVariants.{Some, None}
 use Rattle.command_words.specs.declared.options.Options.{Options}
 use Rattle.command_words.specs.Names.{names_in}
-use Rattle.mailx_vars.specs.Settings.{value_of}
 use Rattle.draft_text.specs.declared.draft.Draft.{Draft}
 use Rattle.rc_conditionals.specs.declared.conditions.Mode.{Mode}
 use Rattle.rc_conditionals.specs.declared.conditions.Mode.TheVariants.{Send, Receive}
 use Rattle.command_desk.specs.declared.desk.Desk.{Desk}
+use Rattle.draft_commands.specs.Mailing.{writer}
 
 -- the mode of a run that begins a draft, or that doesn't
 abbrev pub mode_with : Option Options → Mode
@@ -19,10 +19,6 @@ mode_with (Some o) = Send
 -- the names of an option's value; without the option there are none
 abbrev pub names_of : Option (List ℕ) → List (List ℕ)
 names_of value = option_map_or names_in value []
-
--- who writes messages: the value of the variable `from`; one that is unset counts as empty
-abbrev pub writer : Desk → List ℕ
-writer desk = unwrap_or (value_of desk.vars (codes "from")) []
 
 -- what a draft begins with: the operands are the names that it goes to, `-c` and `-b` give further ones, and `-s` the subject
 abbrev pub draft_with : Desk → Options → Draft

@@ -5,11 +5,12 @@ ghost use Rattle.host_port.specs.Ran.{Ran};
 ghost use Rattle.session_play.specs.Input.{no_input};
 ghost use Rattle.session_play.specs.Play.{Play, Goes, Caused};
 ghost use Rattle.mailx_top.specs.Meaning.{sending, next_state};
-ghost use Rattle.mailx_top.specs.Sending.{draft_with, mode_with, names_of, writer};
+ghost use Rattle.mailx_top.specs.Sending.{draft_with, mode_with, names_of};
 
 use crate::session::stop_of;
 use command_desk::copies;
 use command_words::{Options, names_in};
+use draft_commands::writer;
 use draft_text::Draft;
 use host_port::Host;
 use mail_text::{Items, Memory, Text};
@@ -45,16 +46,6 @@ fn subject_of(alloc: Global, value: &Option<Text>) -> Result<Text, Memory>
 {
     match value {
         Some(value) => Text::copy(alloc, value.bytes()),
-        None => Ok(Text::new(alloc)),
-    }
-}
-
-// Who writes messages: the value of the variable `from`, and nothing where it is unset.
-fn writer(alloc: Global, desk: &Desk) -> Result<Text, Memory>
-    ensures { IfOk result (λ t. t ≡ writer desk.now) }
-{
-    match desk.vars.get(b"from") {
-        Some(value) => Text::copy(alloc, value),
         None => Ok(Text::new(alloc)),
     }
 }

@@ -53,8 +53,8 @@ fn closing_quote(bytes: &[u8]) -> Option<usize>
     None
 }
 
-// The bytes before the first `@`, or all.
-fn before_at(author: &[u8]) -> &[u8]
+/// The bytes of a name before its first `@`, or all of them where there is none. It takes no memory.
+pub fn before_at(author: &[u8]) -> &[u8]
     ensures { result.now ≡ before_at author.now }
 {
     for (i, b) in author.iter().enumerate() {

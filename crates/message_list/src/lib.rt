@@ -10,7 +10,7 @@ mod span;
 mod subject;
 mod view;
 
-pub use author::author_local_part;
+pub use author::{author_local_part, before_at};
 pub use list::{End, Item, Kind, ListError, ListSpec, Purpose};
 pub use read::read_list;
 pub use selection::select;

@@ -1,5 +1,5 @@
 -- Plays as a whole: their traces are safe, and what is accepted in them can be read.
-use Rattle.std.proofs.Common.{◌≡◌, ℕ, ◌<◌, ◌||◌, Bool, true, false, List, [], ◌∷◌, ◌++◌, Option, Some, None, length, if◌then◌else◌, refl, ap, sym, subst, inl, inr, ◌∙◌, arith, append-nil}
+use Rattle.std.proofs.Common.{◌≡◌, ℕ, ◌<◌, ◌||◌, Bool, true, false, List, [], ◌∷◌, ◌++◌, Option, Some, None, length, if◌then◌else◌, ◌⊎◌, refl, ap, sym, subst, inl, inr, ◌∙◌, arith, append-nil}
 use Rattle.std.specs.List.{list_any}
 use Rattle.std.specs.declared.result.Result.{Result}
 use Rattle.std.specs.declared.result.Result.TheVariants.{Ok, Err}
@@ -13,7 +13,7 @@ use Rattle.folder_change.specs.declared.change.Change.{Change}
 use Rattle.commit_machine.specs.Names.{is_record_name, record_name}
 use Rattle.commit_machine.specs.Records.{record_in}
 use Rattle.commit_machine.specs.Settled.{Files, hides, placed}
-use Rattle.commit_machine.specs.Jobs.{Job, IsJob, Edit, Ending}
+use Rattle.commit_machine.specs.Jobs.{Job, IsJob, Edit, Ending, all_of}
 use Rattle.commit_machine.specs.Machine.{State, Call, Seizing, Ended, next, after_reply}
 use Rattle.commit_machine.specs.Goes.{IsOf, loads, stages, stage_fails, publishes, erases, locks, unlocks, seizes, releases, IsNext, reply}
 use Rattle.commit_machine.specs.Goes as machine
@@ -26,11 +26,15 @@ use Rattle.commit_machine.proofs.runs.Ends.{lawful_front}
 use Rattle.commit_machine.proofs.told.Decisions.{decisions_are_told}
 use Rattle.folder_commit.specs.Commits.{IsCommit}
 use Rattle.folder_commit.specs.Plans.{AreFiles}
+use Rattle.folder_commit.specs.declared.error.CommitError.{CommitError}
+use Rattle.folder_commit.specs.declared.error.CommitError.TheVariants as error
+use Rattle.folder_commit.specs.Safe.{DecidedSo}
+use Rattle.folder_commit.proofs.SafeLemmas.{decided-so}
 use Rattle.folder_commit.proofs.PlanLemmas.{is-job}
 use Rattle.session_play.specs.declared.changing.Committed.TheVariants as committed
 use Rattle.session_play.specs.declared.stop.Stop.{Stop}
 use Rattle.session_play.specs.Acts.{AllActs, AllEnds, is_neutral}
-use Rattle.session_play.specs.Committing.{Commit}
+use Rattle.session_play.specs.Committing.{Commit, IsCommitOf}
 use Rattle.session_play.specs.Play.{Act, Changes, Play, Ret, Ask, Did, Partly, Goes, Next, Go, Last, Loop, Line, Say, Read, Try, Recover, Child, Now, Know}
 use Rattle.session_play.specs.Play as plays
 use Rattle.play_safety.specs.Passes.{decided_in, accepted_by, Commits, no_commits, behind, at_cut, Passes, PassesAll, again, last, cut}
@@ -165,6 +169,9 @@ own-silent [] h = h
 own-silent (event.Foreign step ∷ es) h = own-silent es h
 own-silent (e ∷ es) h = silent-more (is_output e) (list_any is_output (own es)) (list_any is_output es) h (own-silent es)
 
+abbrev failed : CommitError → Result Unit CommitError
+failed why = Err why
+
 done-of : (cs : List Change) (base : List (List ℕ)) (actor : List ℕ) (token : ℕ) (d : Disk) (es : List Event) → AreFiles actor cs → MayRun actor token d es → 0 < length cs → IsCommit actor token cs base (own es) (Ok tt)
     → (decisions (job_for actor token cs base) d 0 es ≡ 1) × (list_any is_output es ≡ false)
 done-of [] base actor token d es are may some h = absurd (omega (arith, some))
@@ -175,6 +182,28 @@ done-of (c ∷ cs) base actor token d es are may some (inr (few, h)) =
     let j : IsJob job = is-job actor token (c ∷ cs) base may.fits are (omega arith) few in
     let run : IsRun job d es (Ended h.end) = record { job = j; fresh = may.fresh; sound = may.sound; goes = h.goes; honest = may.honest; lawful = may.lawful } in
     (subst (λ (end : Ending). TellsDecisions end (decisions job d 0 es)) h.is_as (decisions_are_told job d es h.end run), own-silent es (machine-silent job Seizing (own es) (Ended h.end) h.goes))
+
+-- no decision is what an answer says where too many files are named
+none-so : (why : CommitError) (n count : ℕ) → n ≡ 0 → ((failed why ≡ failed (error.TooManyNames count)) ⊎ (failed why ≡ failed error.Memory)) → DecidedSo (failed why) n
+none-so (error.Busy name) n count none how = none
+none-so error.Record n count none how = none
+none-so (error.Changed name at) n count none how = none
+none-so (error.TooLarge name length) n count none how = none
+none-so (error.TooManyNames k) n count none how = none
+none-so error.Memory n count none how = none
+none-so (error.Disk passed) n count none (inl other) = absurd (cc other)
+none-so (error.Disk passed) n count none (inr other) = absurd (cc other)
+
+refused-of : (why : CommitError) (cs : List Change) (base : List (List ℕ)) (actor : List ℕ) (token : ℕ) (d : Disk) (es : List Event) → AreFiles actor cs → MayRun actor token d es → IsCommit actor token cs base (own es) (failed why)
+    → DecidedSo (failed why) (decisions (job_for actor token cs base) d 0 es)
+refused-of why [] base actor token d es are may (none, is) = absurd (cc is)
+refused-of why (c ∷ cs) base actor token d es are may (inl (many, (none, how))) =
+    none-so why _ _ (looks-undecided (job_for actor token (c ∷ cs) base) es d 0 (subst OnlyLooks (sym none) tt)) how
+refused-of why (c ∷ cs) base actor token d es are may (inr (few, h)) =
+    let job = job_for actor token (c ∷ cs) base in
+    let j : IsJob job = is-job actor token (c ∷ cs) base may.fits are (omega arith) few in
+    let run : IsRun job d es (Ended h.end) = record { job = j; fresh = may.fresh; sound = may.sound; goes = h.goes; honest = may.honest; lawful = may.lawful } in
+    decided-so (all_of job) (failed why) h.end (decisions job d 0 es) h.is_as (decisions_are_told job d es h.end run)
 
 same-commit : (c : Commit) (actor : List ℕ) (token : ℕ) → IsBy actor token c → c ≡ record { actor = actor; token = token; changes = c.changes; base = c.base }
 same-commit c actor token by =
@@ -187,6 +216,13 @@ pub done-decided : (c : Commit) (actor : List ℕ) (token : ℕ) (d : Disk) (es 
 done-decided c actor token d es by may some did =
     let P : Commit → Type 0 = λ c. Did (Changes c) committed.Done (own es) → (decided_in c d es ≡ 1) × (list_any is_output es ≡ false) in
     subst P (sym (same-commit c actor token by)) (λ h. done-of c.changes c.base actor token d es by.files may some h) did
+
+-- a commit that fails is decided as often as its answer says
+pub refused-decided : (why : CommitError) (c : Commit) (actor : List ℕ) (token : ℕ) (d : Disk) (es : List Event) → IsBy actor token c → MayRun actor token d es
+    → IsCommitOf c (own es) (failed why) → DecidedSo (failed why) (decided_in c d es)
+refused-decided why c actor token d es by may did =
+    let P : Commit → Type 0 = λ c. IsCommitOf c (own es) (failed why) → DecidedSo (failed why) (decided_in c d es) in
+    subst P (sym (same-commit c actor token by)) (λ h. refused-of why c.changes c.base actor token d es by.files may h) did
 
 -- acts that change nothing make no commit
 neutral-commit : (P : Commit → Type 0) (act : Act) → is_neutral act ≡ true → OfCommit P act

@@ -99,18 +99,18 @@ PlaysAreSafe = (p : Play (Unit {0})) (actor : List ℕ) (token : ℕ) (d : Disk)
 abbrev pub TracesAreRead : Type 0
 TracesAreRead = (p : Play (Unit {0})) (d : Disk) (es : List Event) (out : Result Unit Stop) → Goes p (own es) out → (commits : Commits) × Passes p d es commits out
 
--- A commit that was answered as done is decided in these events, and they hold no output; without a change there is nothing to decide. A
--- recovery decides nothing.
+-- A commit that was answered as done is decided in these events, and they hold no output; without a change there is nothing to decide. One that
+-- was refused isn't decided in them. A recovery decides nothing.
 abbrev pub IsDecidedAs : Commit → Committed → Disk → List Event → Type 0
 IsDecidedAs c committed.Done d es = 0 < length c.changes → (decided_in c d es ≡ 1) × (list_any is_output es ≡ false)
-IsDecidedAs c a d es = Unit {0}
+IsDecidedAs c refused d es = decided_in c d es ≡ 0
 
 abbrev pub OfAnswer : (act : Act) → Answer act → Disk → List Event → Type 0
 OfAnswer (Changes c) a d es = IsDecidedAs c a d es
 OfAnswer act a d es = Unit {0}
 
--- Each commit of a play that was answered as done is decided in its own stretch, which holds no output. So whatever is said behind its answer is
--- said behind its decision.
+-- Each commit of a play that was answered as done is decided in its own stretch, which holds no output, so that whatever is said behind its answer
+-- is said behind its decision; and one that was refused isn't decided in its stretch, so that it changes no settled file.
 abbrev pub AnswersAreDecided : {R : Type 0} (p : Play R) (d : Disk) (es : List Event) (commits : Commits) (out : Result R Stop) → Passes p d es commits out → Type 0
 AnswersAreDecided (Ret r) d es commits out passes = Unit {0}
 AnswersAreDecided (Ask act go) d es commits out (inl (answer, front, rest, later, is, did, commits_is, goes)) =

@@ -1,6 +1,5 @@
 // The changes that record a draft, and that keep one which isn't sent.
 ghost use Rattle.std.specs.Prelude.{◌≡◌, true, false, None, IfOk, slice_get, unwrap_or, []};
-ghost use Rattle.message_list.specs.LocalParts.{before_at};
 ghost use Rattle.command_desk.specs.Answers.{Means};
 ghost use Rattle.send_rules.specs.Recording.{dead, located, recorded};
 
@@ -8,21 +7,8 @@ use command_desk::{Desk, Refusal, expanded, named_plainly};
 use dead_letter::{dead_change, record_change};
 use folder_change::Change;
 use mail_text::{Memory, Text};
+use message_list::before_at;
 use std::alloc::Global;
-
-// What stands before the first `@`, or the whole name.
-fn before_at(name: &[u8]) -> &[u8]
-    ensures { result.now ≡ before_at name.now }
-{
-    for (i, b) in name.iter().enumerate() {
-        if *b == b'@' {
-            let (local, _) = name.split_at(i);
-            return local;
-        }
-    }
-    let (local, _) = name.split_at(name.len());
-    local
-}
 
 // The first name.
 fn first(names: &[Text]) -> &[u8]
