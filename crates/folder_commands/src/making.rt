@@ -1,9 +1,9 @@
 // What changes make of a file that is to be opened.
-ghost use Rattle.std.specs.Prelude.{◌≡◌, ◌++◌, [], Ok, None, codes, option_copied, is_some, IfOk};
+ghost use Rattle.std.specs.Prelude.{◌≡◌, ◌++◌, [], Ok, None, codes, option_copied, IfOk};
 ghost use Rattle.mbox_scan.specs.Mailbox.{texts_of, list_of};
 ghost use Rattle.command_desk.specs.Answers.{Means, IsRefusal};
 ghost use Rattle.command_desk.specs.Faults.{changed_at};
-ghost use Rattle.folder_commands.specs.Making.{made, Makes, listed, openable, openable_file, openable_made, is_other, made_folder};
+ghost use Rattle.folder_commands.specs.Making.{made, Makes, listed, openable, openable_file, is_other, made_folder};
 
 use command_desk::{Refusal, fault};
 use folder_change::{Change, ChangeError, change_name, outcome};
@@ -139,24 +139,6 @@ fn is_other(file: &Option<Text>) -> bool
     }
 }
 
-// Opens what the changes make of a file that is a mailbox, or is absent.
-fn openable_made(
-    alloc: Global,
-    changes: &[Change],
-    base: &Folder,
-    name: &[u8],
-    file: Option<Text>,
-) -> Result<Folder, Refusal>
-    ensures { Means result (openable_made name.now (made changes.now (texts_of base.now) name.now file) (is_some file)) }
-{
-    let stood = file.is_some();
-    match made(alloc, changes, base, name, file) {
-        Ok(file) => openable_file(alloc, name, file, stood),
-        Err(ChangeError::Changed { at }) => Err(changed(alloc, name, at)),
-        Err(ChangeError::Memory) => Err(Refusal::Memory),
-    }
-}
-
 /// The folder that is opened of the file of this name once the changes were made, which are those of a folder that is
 /// left, `base`; `file` is the file before them, None where it is absent. Else the line that says why it can't be
 /// opened then: the file is no mailbox, it is absent and stays so, it has changed, or what is made of it is no mailbox,
@@ -171,8 +153,12 @@ pub fn made_folder(
     ensures { Means result (made_folder changes.now (texts_of base.now) name.now file) }
 {
     if is_other(&file) {
-        Err(fault(alloc, name, b": not a mailbox"))
-    } else {
-        openable_made(alloc, changes, base, name, file)
+        return Err(fault(alloc, name, b": not a mailbox"));
+    }
+    let stood = file.is_some();
+    match made(alloc, changes, base, name, file) {
+        Ok(file) => openable_file(alloc, name, file, stood),
+        Err(ChangeError::Changed { at }) => Err(changed(alloc, name, at)),
+        Err(ChangeError::Memory) => Err(Refusal::Memory),
     }
 }

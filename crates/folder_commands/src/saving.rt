@@ -166,7 +166,7 @@ fn by_author(alloc: Global, act: Act, desk: &Desk, words: &[Text]) -> Result<Fil
 }
 
 /// `copy`: the selected messages are added to a file, the last word's, or to mbox where there is no word; then they are
-/// looked at. Refused are, in this order: what `chosen` refuses, `#`, since there is no previous file, and `+` where no
+/// looked at. Refused are, in this order: what `chosen` refuses, `#` where there is no previous file, and `+` where no
 /// folder is set.
 pub fn copy(alloc: Global, desk: &Desk, words: &[Text]) -> Result<Filing, Refusal>
     requires { IsDesk desk.now }
