@@ -26,7 +26,8 @@ look() {
   printf '%s: %s: wanted\n%s\nand found\n%s\n' "$name" "$1" "$lines" "$found"
 }
 
-# in_terminal NAME SCREEN WORD..: a command in a terminal, in the folder `home`, and what stands on the screen then; its status stands there at its end
+# in_terminal NAME SCREEN WORD..: a command in a terminal, in the folder `home`, and what stands on the screen then; its status stands there at its
+# end. The server stays when a terminal is closed, since a new one could still meet a server that ends.
 in_terminal() {
   local words
   name=$1
@@ -34,7 +35,7 @@ in_terminal() {
   shift 2
   "${tmux[@]}" kill-session -t mail 2>/dev/null
   printf -v words ' %q' "$@"
-  "${tmux[@]}" new-session -d -s mail -x 80 -y 50 "cd home;$words; echo \"status \$?\"; read -r line"
+  "${tmux[@]}" new-session -d -s mail -x 80 -y 50 "cd home;$words; echo \"status \$?\"; read -r line" ';' set-option -g exit-empty off
   look "at the start"
 }
 

@@ -27,6 +27,26 @@ abbrev pub width_of : Option ℕ → ℕ
 width_of None = 80
 width_of (Some n) = if nat_le 40 n && nat_le n 1000 then n else 80
 
+-- the system mailbox of a user, and the start-up file, the mbox and the file of dead letters of a home folder
+abbrev pub mail_in : Pairs → List ℕ → List ℕ
+mail_in pairs user = or_default (variable pairs (codes "MAIL")) (codes "/var/mail/" ++ user)
+
+abbrev pub rc_in : Pairs → List ℕ → List ℕ
+rc_in pairs home = or_default (variable pairs (codes "MAILRC")) (home ++ codes "/.mailrc")
+
+abbrev pub mbox_in : Pairs → List ℕ → List ℕ
+mbox_in pairs home = or_default (variable pairs (codes "MBOX")) (home ++ codes "/mbox")
+
+abbrev pub dead_in : Pairs → List ℕ → List ℕ
+dead_in pairs home = or_default (variable pairs (codes "DEAD")) (home ++ codes "/dead.letter")
+
+-- the command that lists a folder, and the command interpreter
+abbrev pub lister_in : Pairs → List ℕ
+lister_in pairs = or_default (variable pairs (codes "LISTER")) (codes "ls")
+
+abbrev pub shell_in : Pairs → List ℕ
+shell_in pairs = or_default (variable pairs (codes "SHELL")) (codes "/bin/sh")
+
 -- the places that the environment names, with what stands in place of those that are unset or empty
 abbrev pub places_in : Pairs → Places
 places_in pairs =
@@ -35,12 +55,12 @@ places_in pairs =
     record {
       home = home;
       user = user;
-      mail = or_default (variable pairs (codes "MAIL")) (codes "/var/mail/" ++ user);
-      rc = or_default (variable pairs (codes "MAILRC")) (home ++ codes "/.mailrc");
-      mbox = or_default (variable pairs (codes "MBOX")) (home ++ codes "/mbox");
-      dead = or_default (variable pairs (codes "DEAD")) (home ++ codes "/dead.letter");
-      lister = or_default (variable pairs (codes "LISTER")) (codes "ls");
-      shell = or_default (variable pairs (codes "SHELL")) (codes "/bin/sh");
+      mail = mail_in pairs user;
+      rc = rc_in pairs home;
+      mbox = mbox_in pairs home;
+      dead = dead_in pairs home;
+      lister = lister_in pairs;
+      shell = shell_in pairs;
       tz = variable pairs (codes "TZ");
       width = width_of (number_of (variable pairs (codes "COLUMNS")));
     }

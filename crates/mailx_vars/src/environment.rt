@@ -3,7 +3,7 @@ ghost use Rattle.std.specs.List.{find};
 ghost use Rattle.std.specs.Option.{option_copied};
 ghost use Rattle.std.specs.Str.{bytes_eq};
 ghost use Rattle.mail_text.specs.Number.{number_of};
-ghost use Rattle.mailx_vars.specs.Environment.{knows_user, or_default, places_of, variable, width_of};
+ghost use Rattle.mailx_vars.specs.Environment.{dead_in, knows_user, lister_in, mail_in, mbox_in, or_default, places_of, rc_in, shell_in, variable, width_of};
 
 use crate::names::{is_short_name, is_user_name};
 use mail_text::{Memory, Text, read_number};
@@ -78,6 +78,47 @@ fn or_joined(alloc: Global, value: &[u8], front: &[u8], back: &[u8]) -> Result<T
     Ok(joined)
 }
 
+// Copies of two texts.
+fn copies(alloc: Global, first: &[u8], second: &[u8]) -> Result<(Text, Text), Memory>
+    ensures { IfOk result (λ both. both ≡ (first.now, second.now)) }
+{
+    let first = Text::copy(alloc, first)?;
+    let second = Text::copy(alloc, second)?;
+    Ok((first, second))
+}
+
+// The system mailbox and the start-up file of a user with this home folder.
+fn inboxes(
+    alloc: Global,
+    pairs: &[(Text, Text)],
+    home: &[u8],
+    user: &[u8],
+) -> Result<(Text, Text), Memory>
+    ensures { IfOk result (λ both. both ≡ (mail_in pairs.now user.now, rc_in pairs.now home.now)) }
+{
+    let mail = or_joined(alloc, variable(pairs, b"MAIL"), b"/var/mail/", user)?;
+    let rc = or_joined(alloc, variable(pairs, b"MAILRC"), home, b"/.mailrc")?;
+    Ok((mail, rc))
+}
+
+// The file for messages that were read, and that of dead letters.
+fn outboxes(alloc: Global, pairs: &[(Text, Text)], home: &[u8]) -> Result<(Text, Text), Memory>
+    ensures { IfOk result (λ both. both ≡ (mbox_in pairs.now home.now, dead_in pairs.now home.now)) }
+{
+    let mbox = or_joined(alloc, variable(pairs, b"MBOX"), home, b"/mbox")?;
+    let dead = or_joined(alloc, variable(pairs, b"DEAD"), home, b"/dead.letter")?;
+    Ok((mbox, dead))
+}
+
+// The command that lists a folder, and the command interpreter.
+fn programs(alloc: Global, pairs: &[(Text, Text)]) -> Result<(Text, Text), Memory>
+    ensures { IfOk result (λ both. both ≡ (lister_in pairs.now, shell_in pairs.now)) }
+{
+    let lister = or_default(alloc, variable(pairs, b"LISTER"), b"ls")?;
+    let shell = or_default(alloc, variable(pairs, b"SHELL"), b"/bin/sh")?;
+    Ok((lister, shell))
+}
+
 fn width_of(columns: &[u8]) -> usize
     ensures width { result ≡ width_of (number_of columns.now) }
     ensures within { (40 ≤ result) × (result ≤ 1000) }
@@ -108,16 +149,21 @@ impl Places {
         }
         let home = variable(pairs, b"HOME");
         let user = variable(pairs, b"LOGNAME");
+        let own = copies(alloc, home, user)?;
+        let inboxes = inboxes(alloc, pairs, home, user)?;
+        let outboxes = outboxes(alloc, pairs, home)?;
+        let programs = programs(alloc, pairs)?;
+        let tz = Text::copy(alloc, variable(pairs, b"TZ"))?;
         Ok(Some(Places {
-            home: Text::copy(alloc, home)?,
-            user: Text::copy(alloc, user)?,
-            mail: or_joined(alloc, variable(pairs, b"MAIL"), b"/var/mail/", user)?,
-            rc: or_joined(alloc, variable(pairs, b"MAILRC"), home, b"/.mailrc")?,
-            mbox: or_joined(alloc, variable(pairs, b"MBOX"), home, b"/mbox")?,
-            dead: or_joined(alloc, variable(pairs, b"DEAD"), home, b"/dead.letter")?,
-            lister: or_default(alloc, variable(pairs, b"LISTER"), b"ls")?,
-            shell: or_default(alloc, variable(pairs, b"SHELL"), b"/bin/sh")?,
-            tz: Text::copy(alloc, variable(pairs, b"TZ"))?,
+            home: own.0,
+            user: own.1,
+            mail: inboxes.0,
+            rc: inboxes.1,
+            mbox: outboxes.0,
+            dead: outboxes.1,
+            lister: programs.0,
+            shell: programs.1,
+            tz,
             width: width_of(variable(pairs, b"COLUMNS")),
         }))
     }
