@@ -36,6 +36,28 @@ fn all_flat(alloc: Global, texts: &[Text]) -> Result<Items<Text>, Memory>
     Ok(items)
 }
 
+// The same of two texts.
+fn both(alloc: Global, first: &[u8], second: &[u8]) -> Result<(Text, Text), Memory>
+    ensures { IfOk result (λ made. made ≡ (flat first.now, flat second.now)) }
+{
+    let first = flat(alloc, first)?;
+    let second = flat(alloc, second)?;
+    Ok((first, second))
+}
+
+// The same of two lists of texts.
+fn both_lists(
+    alloc: Global,
+    first: &[Text],
+    second: &[Text],
+) -> Result<(Items<Text>, Items<Text>), Memory>
+    ensures { IfOk result (λ made. made ≡ (map flat first.now, map flat second.now)) }
+{
+    let first = all_flat(alloc, first)?;
+    let second = all_flat(alloc, second)?;
+    Ok((first, second))
+}
+
 /// The draft with a space for each line feed of its parts but the body, which stays as it is: so none of those parts
 /// holds a line feed, and the texts of the draft read back, by `a_stored_draft_reads_back` and
 /// `a_sent_draft_reads_back`. Only want of memory can fail.
@@ -43,14 +65,19 @@ pub fn flattened(alloc: Global, draft: &Draft) -> Result<Draft, Memory>
     ensures draft { IfOk result (λ d. d ≡ flattened draft.now) }
     ensures parts { IfOk result (λ d. HasFlatParts d) }
 {
+    let named = both_lists(alloc, draft.to.items(), draft.cc.items())?;
+    let unseen = both_lists(alloc, draft.bcc.items(), draft.references.items())?;
+    let lines = both(alloc, draft.subject.bytes(), draft.from.bytes())?;
+    let reply = flat(alloc, draft.reply.bytes())?;
+    let body = Text::copy(alloc, draft.body.bytes())?;
     Ok(Draft {
-        to: all_flat(alloc, draft.to.items())?,
-        cc: all_flat(alloc, draft.cc.items())?,
-        bcc: all_flat(alloc, draft.bcc.items())?,
-        subject: flat(alloc, draft.subject.bytes())?,
-        from: flat(alloc, draft.from.bytes())?,
-        reply: flat(alloc, draft.reply.bytes())?,
-        references: all_flat(alloc, draft.references.items())?,
-        body: Text::copy(alloc, draft.body.bytes())?,
+        to: named.0,
+        cc: named.1,
+        bcc: unseen.0,
+        subject: lines.0,
+        from: lines.1,
+        reply,
+        references: unseen.1,
+        body,
     })
 }

@@ -238,14 +238,17 @@ fn followed(alloc: Global, row: &Row) -> Result<Items<Text>, Memory>
 fn draft_of(alloc: Global, row: &Row, to: Items<Text>, cc: Items<Text>) -> Result<Draft, Memory>
     ensures { IfOk result (λ draft. draft ≡ draft_of row.now to cc) }
 {
+    let subject = answer_subject(alloc, row.texts.subject())?;
+    let reply = Text::copy(alloc, row.texts.own_id())?;
+    let references = followed(alloc, row)?;
     Ok(Draft {
         to,
         cc,
         bcc: Items::new(alloc),
-        subject: answer_subject(alloc, row.texts.subject())?,
+        subject,
         from: Text::new(alloc),
-        reply: Text::copy(alloc, row.texts.own_id())?,
-        references: followed(alloc, row)?,
+        reply,
+        references,
         body: Text::new(alloc),
     })
 }
