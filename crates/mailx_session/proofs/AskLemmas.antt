@@ -1,16 +1,18 @@
 -- What is asked for, by the kind of ask.
-use Rattle.std.proofs.Common.{◌≡◌, Option, ℕ, List, ap, arith, subst}
+use Rattle.std.proofs.Common.{◌≡◌, Option, ℕ, List, refl, ap, arith, subst}
 use Rattle.host_port.specs.Calls.{Counts, NeverFall, Rose}
-use Rattle.std.specs.Prelude.{◌≤◌}
+use Rattle.std.specs.Prelude.{◌≤◌, ◌<◌, true, false, ◌++◌, length, get_or}
 use Rattle.std.specs.declared.result.Result.{Result}
-use Rattle.std.specs.declared.result.Result.TheVariants.{Err}
+use Rattle.std.specs.declared.result.Result.TheVariants.{Ok, Err}
 use Rattle.mailx_session.specs.declared.error.RunError.{RunError}
 use Rattle.mailx_session.specs.declared.error.RunError.TheVariants as error
 use Rattle.mailx_session.specs.declared.asks.Asked.{Asked}
+use Rattle.mailx_session.specs.declared.asks.Asked.TheVariants as answered
 use Rattle.host_port.specs.declared.event.Event.{Event}
 use Rattle.session_play.specs.declared.stop.Stop.{Stop}
 use Rattle.session_play.specs.Play.{Ret, Ask, Say, Goes}
-use Rattle.session_play.specs.Steps.{After, On, Ended}
+use Rattle.session_play.specs.Steps.{After, On, Ended, in_order}
+use Rattle.session_play.proofs.LeadLemmas.{LeftAt, asked-over, asked-refused, asked-ended, asked-cut}
 use Rattle.mailx_session.specs.declared.state.SessionState.{SessionState}
 use Rattle.mailx_session.specs.declared.status.Status.{Status}
 use Rattle.command_desk.specs.declared.steps.Ask as asked_of
@@ -27,7 +29,7 @@ use Rattle.host_port.specs.declared.event.ChildAnswer.{ChildAnswer}
 use Rattle.compose_tilde.specs.Answering.{said_of}
 use Rattle.mailx_session.specs.Calling.{called}
 use Rattle.mailx_session.specs.Switching.{open_fault, switches}
-use Rattle.mailx_session.specs.Sessions.{asked, LineCaused}
+use Rattle.mailx_session.specs.Sessions.{asked, after_asks, all_done, in_play, stop_of, LineCaused}
 
 pub asked-say : (s : SessionState) (ask : asked_of.Ask) (bytes : List ℕ) → ask ≡ asks.Say bytes → asked s ask ≡ Ask (Say bytes) (λ _. Ret (On s))
 asked-say s ask bytes is = ap (asked s) is
@@ -74,7 +76,25 @@ rose-later : (a b c : ℕ) → a ≤ b → Rose b c → Rose a c
 rose-later a b c le rose = omega arith
 
 -- a cause in a later call is one in the whole stretch
-pub caused-later : (a b c : Counts) (e : RunError) → NeverFall a b → LineCaused {T = Asked} b c (Err e) → LineCaused {T = Asked} a c (Err e)
-caused-later a b c error.Output fall rose = rose-later a.outs b.outs c.outs fall.outs rose
-caused-later a b c error.Disk fall rose = rose-later a.disks b.disks c.disks fall.disks rose
-caused-later a b c error.Memory fall t = tt
+pub caused-later : (a b c : Counts) (r : Result Asked RunError) → NeverFall a b → LineCaused b c r → LineCaused a c r
+caused-later a b c (Ok asked) fall t = tt
+caused-later a b c (Err error.Output) fall rose = rose-later a.outs b.outs c.outs fall.outs rose
+caused-later a b c (Err error.Disk) fall rose = rose-later a.disks b.disks c.disks fall.disks rose
+caused-later a b c (Err error.Memory) fall t = tt
+
+-- all was done, and the command isn't over
+pub done-on : (r : Result Asked RunError) → all_done r ≡ true → r ≡ Ok answered.On
+done-on (Ok answered.On) done = refl
+done-on (Ok answered.Over) done = absurd (cc done)
+done-on (Ok (answered.Refused line)) done = absurd (cc done)
+done-on (Ok (answered.Ended e)) done = absurd (cc done)
+done-on (Err e) done = absurd (cc done)
+
+-- what one of the asks leaves is what all of them leave, unless all was done
+pub asked-off : (first s t : SessionState) (r : Result Asked RunError) (l : List asked_of.Ask) (i : ℕ) (d a : asked_of.Ask) → i < length l → get_or l i d ≡ a → all_done r ≡ false
+    → (es fs : List Event) → LeftAt asked first l i s es → Goes (asked s a) fs (in_play (after_asks t) r) → Goes (in_order asked first l) (es ++ fs) (in_play (after_asks t) r)
+asked-off first s t (Ok answered.On) l i d a within is off = absurd (cc off)
+asked-off first s t (Ok answered.Over) l i d a within is off = asked-over asked first s t l i d a within is
+asked-off first s t (Ok (answered.Refused line)) l i d a within is off = asked-refused asked first s line l i d a within is
+asked-off first s t (Ok (answered.Ended e)) l i d a within is off = asked-ended asked first s e l i d a within is
+asked-off first s t (Err e) l i d a within is off = asked-cut asked first s (stop_of e) l i d a within is

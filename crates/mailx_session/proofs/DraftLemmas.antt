@@ -28,7 +28,7 @@ use Rattle.mailx_session.specs.declared.state.SessionState.{SessionState}
 use Rattle.mailx_session.specs.declared.status.Status.{Status}
 use Rattle.mailx_session.specs.States.{with_draft, rested}
 use Rattle.mailx_session.specs.Sessions.{after_asks}
-use Rattle.mailx_session.specs.Beginning.{view_in, with_begun, subject_asked, begun, composing}
+use Rattle.mailx_session.specs.Beginning.{view_in, with_begun, subject_asked, begun, begun_with, composing}
 use Rattle.mailx_session.specs.Drafting.{escape_fault, released, told, took_answer, given, answered, needed, took_line, drafted, draft_play, run_for}
 use Rattle.mailx_session.specs.Taking.{TookAnswer, TookLine, IsEscapeFault, SaysFault}
 
@@ -103,20 +103,16 @@ drafted-refused s (Some m) line e new is has = λ said fault.
     ∙ step-refused e said has.machine (line_step (idle m) line (view_in s)) (took_line t) (with_draft s new) (λ e. ap (λ (u : SessionState). refused u (escape_fault e)) there) fault has.means
 
 -- a draft begins once its subject was asked for, where it was
-pub begun-goes : (s : SessionState) (draft : Draft) (m : Machine) (asks : Bool) (es : List Event) → m ≡ new_machine (flattened draft)
-    → asks ≡ asks_subject (new_machine (flattened draft)) (view_in s) → Goes (subject_asked asks) es (Ok tt)
-    → Goes (begun s draft) es (Ok (Over (with_draft s (Some m))))
-begun-goes s draft m asks es is asked went =
-    let b = asks_subject (new_machine (flattened draft)) (view_in s) in
-    let G : Machine → Type 0 = λ n. Goes (begun s draft) es (Ok (Over (with_draft s (Some n)))) in
-    subst G (sym is)
-    (goes-as (subject_asked b) (λ u. Ret (Over (with_begun s draft))) tt (Over (with_begun s draft)) es refl (subst (λ (t : Bool). Goes (subject_asked t) es (Ok tt)) asked went))
+pub begun-goes : (s : SessionState) (m : Machine) (asks : Bool) (es : List Event) → asks ≡ asks_subject m (view_in s) → Goes (subject_asked asks) es (Ok tt)
+    → Goes (begun_with s m) es (Ok (Over (with_draft s (Some m))))
+begun-goes s m asks es asked went =
+    goes-as (subject_asked (asks_subject m (view_in s))) (λ u. Ret (Over (with_draft s (Some m)))) tt (Over (with_draft s (Some m))) es refl
+    (subst (λ (t : Bool). Goes (subject_asked t) es (Ok tt)) asked went)
 
-pub begun-cut : (s : SessionState) (draft : Draft) (asks : Bool) (cause : Stop) (es : List Event)
-    → asks ≡ asks_subject (new_machine (flattened draft)) (view_in s) → Goes (subject_asked asks) es (Err cause) → Goes (begun s draft) es (Err cause)
-begun-cut s draft asks cause es asked went =
-    let b = asks_subject (new_machine (flattened draft)) (view_in s) in
-    goes-cut (subject_asked b) (λ u. Ret (Over (with_begun s draft))) cause es (subst (λ (t : Bool). Goes (subject_asked t) es (Err cause)) asked went)
+pub begun-cut : (s : SessionState) (m : Machine) (asks : Bool) (cause : Stop) (es : List Event) → asks ≡ asks_subject m (view_in s) → Goes (subject_asked asks) es (Err cause)
+    → Goes (begun_with s m) es (Err cause)
+begun-cut s m asks cause es asked went =
+    goes-cut (subject_asked (asks_subject m (view_in s))) (λ u. Ret (Over (with_draft s (Some m)))) cause es (subst (λ (t : Bool). Goes (subject_asked t) es (Err cause)) asked went)
 
 -- the draft of send mode begins as one of a command does
 abbrev Over-line : Type 0

@@ -9,7 +9,7 @@ use Rattle.draft_text.specs.declared.draft.Draft.{Draft}
 use Rattle.std.specs.declared.result.Result.{Result}
 use Rattle.host_port.specs.declared.event.Event.{Event}
 use Rattle.session_play.specs.declared.stop.Stop.{Stop}
-use Rattle.session_play.specs.Play.{Ask, Now, Next, Goes}
+use Rattle.session_play.specs.Play.{Next, Goes}
 use Rattle.sender_port.specs.declared.error.NamesFault.{NamesFault}
 use Rattle.sender_port.specs.Names.{names_fault}
 use Rattle.send_rules.specs.Lines.{names_line, names_refused}
@@ -17,7 +17,7 @@ use Rattle.mailx_session.specs.declared.sending.Letter.{Letter}
 use Rattle.mailx_session.specs.declared.state.SessionState.{SessionState}
 use Rattle.mailx_session.specs.declared.status.Status.{Status}
 use Rattle.mailx_session.specs.States.{KeepsButDraft, KeepsButOutcome, with_draft, with_file, with_outcome, without_draft}
-use Rattle.mailx_session.specs.Sending.{done, ended, ended_draft, ended_with, given_up, letter_of, lost, quit_draft, quitted}
+use Rattle.mailx_session.specs.Sending.{done, ended, ended_draft, ended_with, given_up, lost_now, quit_draft, quitted}
 
 -- names that no line refuses can be sent to
 pub unrefused : (names : List (List ℕ)) → names_refused names ≡ None → names_fault names ≡ None
@@ -28,7 +28,7 @@ unrefused names is = go (names_fault names) is
     go (Some fault) none = absurd (cc none)
 
 -- a draft with a body goes to the dead letters
-pub given-up : (s : SessionState) (draft : Draft) → (length draft.body == 0) ≡ false → given_up s draft ≡ Ask (Now s.desk.places.tz) (λ m. lost s (letter_of draft m))
+pub given-up : (s : SessionState) (draft : Draft) → (length draft.body == 0) ≡ false → given_up s draft ≡ lost_now s draft
 given-up s draft is = cond-false _ _ _ is
 
 -- a draft that is open is done, or given up

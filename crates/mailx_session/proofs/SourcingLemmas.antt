@@ -106,6 +106,14 @@ keeps-desk s t (Ok (answered.Refused line)) same = same
 keeps-desk s t (Ok (answered.Ended e)) same = same
 keeps-desk s t (Err e) same = same
 
+-- what a later ask keeps is kept in the whole stretch
+pub keeps-then : (a b c : SessionState) (r : Result Asked RunError) → OnlyFrames a b → KeepsDesk b c r → KeepsDesk a c r
+keeps-then a b c (Ok answered.On) x y = only-then a b c x y
+keeps-then a b c (Ok answered.Over) x y = tt
+keeps-then a b c (Ok (answered.Refused line)) x y = only-then a b c x y
+keeps-then a b c (Ok (answered.Ended e)) x y = only-then a b c x y
+keeps-then a b c (Err e) x y = only-then a b c x y
+
 -- where the desk stays the state stays valid
 pub kept-valid : (s t : SessionState) → IsState s → OnlyBrings s t → OnlyFrames s t → IsState t
 kept-valid s t is b same = subst IsState (sym same) (record { desk = is.desk; actor = is.actor })

@@ -10,22 +10,23 @@ use Rattle.folder_change.specs.declared.change.Change.{Change}
 use Rattle.mailx_vars.specs.Names.{is_short_name}
 use Rattle.session_play.specs.declared.stop.Stop.{Stop}
 use Rattle.session_play.specs.Play.{Goes}
-use Rattle.session_play.specs.Steps.{After}
+use Rattle.session_play.specs.Steps.{After, Over, Refused, Ended}
 use Rattle.command_desk.specs.declared.desk.Desk.{Desk}
 use Rattle.command_desk.specs.Answers.{OrFault, Means}
 use Rattle.command_desk.specs.Faults.{bad_name}
 use Rattle.command_desk.specs.declared.steps.Refusal.{Refusal}
 use Rattle.command_desk.specs.declared.steps.Refusal.TheVariants as refusal
-use Rattle.session_play.proofs.PlayLemmas.{at-memory}
+use Rattle.session_play.proofs.PlayLemmas.{at-memory, goes-as, goes-cut}
 use Rattle.mailx_session.specs.declared.asks.Asked.{Asked}
+use Rattle.mailx_session.specs.declared.asks.Asked.TheVariants as answered
 use Rattle.mailx_session.specs.declared.error.RunError.{RunError}
-use Rattle.mailx_session.specs.Sessions.{after_asks, in_play, IsRefusedSo}
+use Rattle.mailx_session.specs.Sessions.{after_asks, all_done, in_play, stop_of, IsRefusedSo}
 use Rattle.mailx_session.specs.declared.opening.Opening.{Opening}
 use Rattle.mailx_session.specs.declared.state.SessionState.{SessionState}
 use Rattle.mailx_session.specs.declared.status.Status.{Status}
-use Rattle.mailx_session.specs.Saving.{names_fault}
+use Rattle.mailx_session.specs.Saving.{names_fault, saved}
 use Rattle.mailx_session.specs.Openings.{opened, IsOpening}
-use Rattle.mailx_session.specs.Switching.{open_fault, switched, laid_as, switching, switched_to}
+use Rattle.mailx_session.specs.Switching.{open_fault, switched, laid_as, announced, switching, switched_to}
 use Rattle.mailx_session.proofs.OpeningLemmas.{laid-is}
 
 -- where nothing stands in the way of a load, neither the name nor those of the changes are at fault
@@ -35,6 +36,15 @@ open-fault-none actor name changes plain = go (is_short_name name) (names_fault 
     go : (short : Bool) (fault : Option (List ℕ)) → (if short then fault else Some (bad_name name)) ≡ None → (short ≡ true) × (fault ≡ None)
     go true fault h = (refl, h)
     go false fault h = absurd (cc h)
+
+-- where not all of the changes were committed, what that left stays
+pub announced-off : (s : SessionState) (changes : List Change) (reply : List ℕ) (desk : Desk) (r : Result Asked RunError) → all_done r ≡ false
+    → (es : List Event) → Goes (saved s changes None) es (in_play (after_asks s) r) → Goes (switching s changes reply desk) es (in_play (after_asks s) r)
+announced-off s changes reply desk (Ok answered.On) off es went = absurd (cc off)
+announced-off s changes reply desk (Ok answered.Over) off es went = goes-as (saved s changes None) (announced reply desk) (Over s) (Over s) es refl went
+announced-off s changes reply desk (Ok (answered.Refused line)) off es went = goes-as (saved s changes None) (announced reply desk) (Refused line) (Refused line) es refl went
+announced-off s changes reply desk (Ok (answered.Ended e)) off es went = goes-as (saved s changes None) (announced reply desk) (Ended e) (Ended e) es refl went
+announced-off s changes reply desk (Err e) off es went = goes-cut (saved s changes None) (announced reply desk) (stop_of e) es went
 
 -- the desk with what is to be put on it is the one that is opened
 laid-switched : (desk : Desk) (name bytes : List ℕ) (o : Opening) (previous : List ℕ) (is : IsOpening desk name bytes o) → previous ≡ desk.folder.name

@@ -4,6 +4,7 @@ use Rattle.std.specs.declared.option.Option.{Option}
 use Rattle.std.specs.declared.option.Option.TheVariants.{Some, None}
 use Rattle.draft_text.specs.declared.draft.Draft.{Draft}
 use Rattle.draft_text.specs.Texts.{flattened}
+use Rattle.compose_tilde.specs.declared.machine.Machine.{Machine}
 use Rattle.compose_tilde.specs.Answering.{new_machine}
 use Rattle.compose_tilde.specs.Lines.{asks_subject}
 use Rattle.compose_tilde.specs.Views.{View}
@@ -43,9 +44,12 @@ subject_asked true = Ask (Say subject_prompt) Ret
 subject_asked false = Ret tt
 
 -- a draft begins, once its subject was asked for, and the command is over
+abbrev pub begun_with : SessionState → Machine → Play (After SessionState Status)
+begun_with s m = bind (subject_asked (asks_subject m (view_in s))) (λ u. Ret (Over (with_draft s (Some m))))
+
+-- no part of it but its body holds a line feed
 abbrev pub begun : SessionState → Draft → Play (After SessionState Status)
-begun s draft =
-    bind (subject_asked (asks_subject (new_machine (flattened draft)) (view_in s))) (λ u. Ret (Over (with_begun s draft)))
+begun s draft = begun_with s (new_machine (flattened draft))
 
 -- the draft of send mode begins in the same way
 abbrev pub composing : SessionState → Draft → Play SessionState

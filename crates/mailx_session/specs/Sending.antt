@@ -68,6 +68,10 @@ burying s (Some c) = bind (saved_one s c) (buried s (name_of c))
 abbrev pub lost : SessionState → Letter → Play (Next SessionState Status)
 lost s letter = burying s (dead s.desk (text_of s letter))
 
+-- the text of a draft goes there, as of the moment at which it is given up
+abbrev pub lost_now : SessionState → Draft → Play (Next SessionState Status)
+lost_now s draft = Ask (Now s.desk.places.tz) (λ m. lost s (letter_of draft m))
+
 -- this is said, and the text goes there
 abbrev pub unsent : SessionState → Letter → List ℕ → Play (Next SessionState Status)
 unsent s letter line = Ask (Say line) (λ _. lost s letter)
@@ -126,7 +130,7 @@ ended_draft s = ended s s.draft
 -- a draft is given up; one with a body goes to the dead letters
 abbrev pub given_up : SessionState → Draft → Play (Next SessionState Status)
 given_up s draft =
-    if length draft.body == 0 then Ret (Go s) else Ask (Now s.desk.places.tz) (λ m. lost s (letter_of draft m))
+    if length draft.body == 0 then Ret (Go s) else lost_now s draft
 
 abbrev pub quitted : SessionState → Option Machine → Play (Next SessionState Status)
 quitted s None = Ret (Go s)

@@ -92,6 +92,11 @@ abbrev pub EndsByAsk : Asked → Type 0
 EndsByAsk (answered.Ended s) = IsLineEnd s
 EndsByAsk a = Unit {0}
 
+-- all was done, and the command isn't over
+abbrev pub all_done : Result Asked RunError → Bool
+all_done (Ok answered.On) = true
+all_done r = false
+
 -- all was done, to the last or to one with which the command is over
 abbrev pub is_on : Result Asked RunError → Bool
 is_on (Ok answered.On) = true

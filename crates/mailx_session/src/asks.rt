@@ -8,7 +8,7 @@ ghost use Rattle.session_play.specs.Steps.{in_order};
 ghost use Rattle.mailx_session.specs.declared.state.SessionState.{SessionState};
 ghost use Rattle.mailx_session.specs.States.{IsState};
 ghost use Rattle.mailx_session.specs.Bringing.{brings, OnlyBrings};
-ghost use Rattle.mailx_session.specs.Sessions.{asked, after_asks, in_play, is_on, LineCaused, EndsByAsk, StaysUnlessOn, KeepsDesk};
+ghost use Rattle.mailx_session.specs.Sessions.{asked, after_asks, all_done, in_play, is_on, LineCaused, EndsByAsk, StaysUnlessOn, KeepsDesk};
 
 use crate::beginning::begin_recorded;
 use crate::calling::call;
@@ -103,6 +103,13 @@ pub(crate) fn say_line<H: Host>(host: &mut H, bytes: &Text) -> Result<Asked, Run
     }
 }
 
+/// Whether all was done, and the command isn't over.
+pub(crate) fn all_done(asked: &Result<Asked, RunError>) -> bool
+    ensures { result ≡ all_done asked.now }
+{
+    matches!(asked, Ok(Asked::On))
+}
+
 // Does what is asked for, in order, up to an answer with which the command is over, or that refuses what follows or
 // ends the run.
 fn ask_all<H: Host>(
@@ -123,12 +130,9 @@ fn ask_all<H: Host>(
     ensures cause { LineCaused (H.world.counts host.old) (H.world.counts host.new) result }
 {
     for ask in asks {
-        match do_ask(alloc, state, host, ask) {
-            Ok(Asked::On) => {}
-            Ok(Asked::Over) => return Ok(Asked::Over),
-            Ok(Asked::Refused { line }) => return Ok(Asked::Refused { line }),
-            Ok(Asked::Ended(status)) => return Ok(Asked::Ended(status)),
-            Err(error) => return Err(error),
+        let asked = do_ask(alloc, state, host, ask);
+        if !all_done(&asked) {
+            return asked;
         }
     }
     Ok(Asked::On)

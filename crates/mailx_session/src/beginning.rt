@@ -1,13 +1,13 @@
 // A draft that begins.
-ghost use Rattle.std.specs.Prelude.{◌≡◌, None, Some, IfOk};
+ghost use Rattle.std.specs.Prelude.{◌≡◌, None, Some, IfOk, OnOk};
 ghost use Rattle.host_port.specs.Calls.{NeverFall};
 ghost use Rattle.host_port.specs.Ran.{Ran};
 ghost use Rattle.session_play.specs.Play.{Play, Goes};
 ghost use Rattle.compose_tilde.specs.Views.{view_of, IsView};
 ghost use Rattle.command_desk.specs.Desks.{IsDesk};
-ghost use Rattle.mailx_session.specs.Beginning.{at_message, beginning, begun, composing, file_fault, subject_asked, view_as};
+ghost use Rattle.mailx_session.specs.Beginning.{at_message, beginning, begun, begun_with, composing, file_fault, subject_asked, view_as, with_begun};
 ghost use Rattle.mailx_session.specs.Bringing.{OnlyBrings};
-ghost use Rattle.mailx_session.specs.States.{IsState, rested};
+ghost use Rattle.mailx_session.specs.States.{IsState, rested, with_draft};
 ghost use Rattle.mailx_session.specs.Sessions.{after_asks, in_play, LineCaused, EndsByAsk, KeepsDesk};
 
 use crate::asks::{Asked, say};
@@ -50,6 +50,40 @@ fn ask_subject<H: Host>(host: &mut H, asks: bool) -> Result<(), RunError>
     }
 }
 
+// Opens a draft.
+fn open_draft(draft: &mut Option<Compose>, compose: Compose)
+    ensures { draft.new ≡ Some compose }
+{
+    *draft = Some(compose);
+}
+
+// Opens a draft, once its subject was asked for where the next line is that. The command is over then.
+fn begin_with<H: Host>(
+    state: &mut SessionState,
+    host: &mut H,
+    compose: Compose,
+) -> Result<Asked, RunError>
+    requires { IsState state.old }
+    ensures ran { Ran H.world host.old host.new
+        (λ es. Goes (begun_with state.old compose) es (in_play (after_asks state.new) result)) }
+    ensures fall { NeverFall (H.world.counts host.old) (H.world.counts host.new) }
+    ensures brings { OnlyBrings state.old state.new }
+    ensures valid { IsState state.new }
+    ensures desk { KeepsDesk state.old state.new result }
+    ensures over { IfOk result (λ asked. asked ≡ Asked.Over) }
+    ensures begun { OnOk result (state.new ≡ with_draft state.old (Some compose)) }
+    ensures cause { LineCaused (H.world.counts host.old) (H.world.counts host.new) result }
+{
+    let asks = compose.asks_subject(&view_as(&state.desk, state.terminal));
+    match ask_subject(host, asks) {
+        Ok(()) => {
+            open_draft(&mut state.draft, compose);
+            Ok(Asked::Over)
+        }
+        Err(error) => Err(error),
+    }
+}
+
 /// Begins a draft, once its subject was asked for where the next line is that. The command is over then.
 pub(crate) fn begin<H: Host>(
     alloc: Global,
@@ -65,19 +99,12 @@ pub(crate) fn begin<H: Host>(
     ensures valid { IsState state.new }
     ensures desk { KeepsDesk state.old state.new result }
     ensures over { IfOk result (λ asked. asked ≡ Asked.Over) }
+    ensures begun { OnOk result (state.new ≡ with_begun state.old draft.now) }
     ensures cause { LineCaused (H.world.counts host.old) (H.world.counts host.new) result }
 {
-    let compose = match flattened(alloc, draft) {
-        Ok(draft) => Compose::new(alloc, draft),
-        Err(Memory) => return Err(RunError::Memory),
-    };
-    let asks = compose.asks_subject(&view_as(&state.desk, state.terminal));
-    match ask_subject(host, asks) {
-        Ok(()) => {
-            state.draft = Some(compose);
-            Ok(Asked::Over)
-        }
-        Err(error) => Err(error),
+    match flattened(alloc, draft) {
+        Ok(draft) => begin_with(state, host, Compose::new(alloc, draft)),
+        Err(Memory) => Err(RunError::Memory),
     }
 }
 
@@ -92,6 +119,7 @@ pub(crate) fn compose<H: Host>(
     ensures ran { Ran H.world host.old host.new
         (λ es. Goes (composing state.old draft.now) es (in_play (λ u. rested state.new) result)) }
     ensures valid { IsState state.new }
+    ensures begun { OnOk result (state.new ≡ with_begun state.old draft.now) }
     ensures cause { LineCaused (H.world.counts host.old) (H.world.counts host.new) result }
 {
     match begin(alloc, state, host, draft) {

@@ -1,5 +1,5 @@
 // The state that a session begins with, and the rows and the view of a folder that is opened.
-ghost use Rattle.std.specs.Prelude.{◌≡◌, ◌++◌, ◌<◌, ◌≤◌, length, map, All, IfOk, IfSome, replicate, codes};
+ghost use Rattle.std.specs.Prelude.{◌≡◌, [], ◌++◌, ◌<◌, ◌≤◌, length, map, All, IfOk, IfSome, replicate, codes};
 ghost use Rattle.std.specs.List.{range_with_len, position};
 ghost use Rattle.show_commands.specs.Paging.{page_size};
 ghost use Rattle.mail_dates.specs.Clock.{IsInYears};
@@ -41,15 +41,23 @@ pub(crate) fn is_system(places: &Places, name: &[u8]) -> bool
     name == places.mail.bytes() && name != places.mbox.bytes()
 }
 
+// The folder without messages.
+fn no_folder(alloc: Global) -> Result<Folder, Memory>
+    ensures { IfOk result (λ folder. folder ≡ []) }
+{
+    match Folder::open(alloc, Text::new(alloc)) {
+        Ok(folder) => Ok(folder),
+        Err(_) => Err(Memory),
+    }
+}
+
 // The desk before a folder is opened.
 fn first_desk(alloc: Global, places: Places, mode: Mode, terminal: bool) -> Result<Desk, Memory>
     ensures { IfOk result (λ desk. desk ≡ desk_with places mode terminal) }
 {
-    let none = Text::new(alloc);
-    let folder = match Folder::open(alloc, none) {
-        Ok(folder) => folder,
-        Err(_) => return Err(Memory),
-    };
+    let user = Text::copy(alloc, places.user.bytes())?;
+    let vars = Vars::new(alloc)?;
+    let folder = no_folder(alloc)?;
     Ok(Desk {
         folder: Open {
             name: Text::new(alloc),
@@ -64,10 +72,10 @@ fn first_desk(alloc: Global, places: Places, mode: Mode, terminal: bool) -> Resu
             depth: Items::new(alloc),
             current: 0,
         },
-        vars: Vars::new(alloc)?,
+        vars,
         aliases: Aliases::new(alloc),
         own: Own {
-            user: Text::copy(alloc, places.user.bytes())?,
+            user,
             alternates: Items::new(alloc),
         },
         sets: FieldSets::new(alloc),
@@ -102,8 +110,9 @@ pub(crate) fn first_state(
     ensures { IfOk result (λ state. state ≡ state_with places mode terminal by_recipient token) }
 {
     let actor = actor_of(alloc, places.home.bytes())?;
+    let desk = first_desk(alloc, places, mode, terminal)?;
     Ok(SessionState {
-        desk: first_desk(alloc, places, mode, terminal)?,
+        desk,
         actor,
         token,
         terminal,

@@ -9,7 +9,7 @@ ghost use Rattle.command_desk.specs.Answers.{OrFault, Means};
 ghost use Rattle.send_rules.specs.Addressing.{addressees};
 ghost use Rattle.send_rules.specs.Lines.{names_refused, sender_ended};
 ghost use Rattle.send_rules.specs.Recording.{dead, recorded};
-ghost use Rattle.mailx_session.specs.Sending.{addressing, after_record, after_sender, buried, burying, dead_reply, done, ended_draft, ended_with, given_up, letter_of, lost, not_run, posting, quit_draft, recording, refused_by, saved_one, sending, text_of, unsent, unsent_by};
+ghost use Rattle.mailx_session.specs.Sending.{addressing, after_record, after_sender, buried, burying, dead_reply, done, ended_draft, ended_with, given_up, letter_of, lost, lost_now, not_run, posting, quit_draft, recording, refused_by, saved_one, sending, text_of, unsent, unsent_by};
 ghost use Rattle.mailx_session.specs.States.{IsState, KeepsButDraft, KeepsButOutcome, without_draft};
 ghost use Rattle.mailx_session.specs.Sessions.{after_asks, in_play, next_of, LineCaused, EndsByAsk, EndsByLine};
 
@@ -540,6 +540,26 @@ pub(crate) fn end_draft<H: Host>(
     }
 }
 
+// Puts the text of a draft to the dead letters, as of this moment.
+fn lose_now<H: Host>(
+    alloc: Global,
+    state: &mut SessionState,
+    host: &mut H,
+    draft: Draft,
+) -> Result<Flow, RunError>
+    requires { IsState state.old }
+    ensures ran { Ran H.world host.old host.new
+        (λ es. Goes (lost_now state.old draft) es (in_play (next_of state.new) result)) }
+    ensures keeps { KeepsButOutcome state.old state.new }
+    ensures done { IfOk result EndsByLine }
+    ensures cause { LineCaused (H.world.counts host.old) (H.world.counts host.new) result }
+{
+    match now(alloc, host, state.desk.places.tz.bytes()) {
+        Ok(moment) => lose(alloc, state, host, &Letter { draft, moment }),
+        Err(_) => Err(RunError::Memory),
+    }
+}
+
 // A draft is given up: one with a body goes to the dead letters.
 fn give_up<H: Host>(
     alloc: Global,
@@ -555,11 +575,9 @@ fn give_up<H: Host>(
     ensures cause { LineCaused (H.world.counts host.old) (H.world.counts host.new) result }
 {
     if draft.body.bytes().is_empty() {
-        return Ok(Flow::Go);
-    }
-    match now(alloc, host, state.desk.places.tz.bytes()) {
-        Ok(moment) => lose(alloc, state, host, &Letter { draft, moment }),
-        Err(_) => Err(RunError::Memory),
+        Ok(Flow::Go)
+    } else {
+        lose_now(alloc, state, host, draft)
     }
 }
 

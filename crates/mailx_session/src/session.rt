@@ -6,7 +6,7 @@ ghost use Rattle.mailx_vars.specs.Environment.{knows_user};
 ghost use Rattle.command_desk.specs.Desks.{IsDesk};
 ghost use Rattle.read_commands.specs.declared.origin.Origin.{Origin};
 ghost use Rattle.read_commands.specs.Origins.{commanded};
-ghost use Rattle.mailx_session.specs.Beginning.{composing};
+ghost use Rattle.mailx_session.specs.Beginning.{composing, with_begun};
 ghost use Rattle.mailx_session.specs.States.{IsState, IsSession, is_drafting, rested};
 ghost use Rattle.mailx_session.specs.Leaving.{leaving};
 ghost use Rattle.mailx_session.specs.Rounds.{FinishGo, LineGoes};
@@ -96,6 +96,7 @@ impl Session {
     pub fn compose<H: Host>(&mut self, draft: &Draft, host: &mut H) -> Result<(), RunError>
         ensures ran { Ran H.world host.old host.new
             (λ es. Goes (composing self.old draft.now) es (in_play (λ u. self.new) result)) }
+        ensures begun { OnOk result (self.new ≡ with_begun self.old draft.now) }
         ensures cause { LineCaused (H.world.counts host.old) (H.world.counts host.new) result }
     {
         let begun = compose(self.alloc, &mut self.state, host, draft);

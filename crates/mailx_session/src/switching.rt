@@ -14,7 +14,7 @@ ghost use Rattle.mailx_session.specs.Bringing.{OnlyBrings};
 ghost use Rattle.mailx_session.specs.Switching.{open_fault, loaded_folder, laid_as, announcement, announced, switching, switched_to, switches, with_laid, laid_on};
 ghost use Rattle.mailx_session.specs.Sessions.{after_asks, in_play, LineCaused, EndsByAsk, KeepsDesk, IsRefusedSo};
 
-use crate::asks::{Asked, say};
+use crate::asks::{Asked, all_done, say};
 use crate::greeting::announcement;
 use crate::opening::{Opening, opening_of, page_here};
 use crate::saving::{commit, line_of, names_fault};
@@ -198,12 +198,11 @@ fn leave_for<H: Host>(
     ensures end { IfOk result EndsByAsk }
     ensures cause { LineCaused (H.world.counts host.old) (H.world.counts host.new) result }
 {
-    match commit(alloc, state, host, changes) {
-        Ok(Asked::On) => announce(alloc, state, host, reply, opening, previous),
-        Ok(Asked::Over) => Ok(Asked::Over),
-        Ok(Asked::Refused { line }) => Ok(Asked::Refused { line }),
-        Ok(Asked::Ended(status)) => Ok(Asked::Ended(status)),
-        Err(error) => Err(error),
+    let asked = commit(alloc, state, host, changes);
+    if all_done(&asked) {
+        announce(alloc, state, host, reply, opening, previous)
+    } else {
+        asked
     }
 }
 

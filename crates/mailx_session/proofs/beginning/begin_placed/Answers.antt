@@ -1,9 +1,10 @@
 use Rattle.std.proofs.Common.{refl}
-use Rattle.host_port.proofs.RanLemmas.{Ran-map}
+use Rattle.host_port.proofs.RanLemmas.{Ran-map, Ran-none}
 use Rattle.session_play.specs.Steps.{Over}
-use Rattle.session_play.proofs.PlayLemmas.{goes-as, goes-cut}
+use Rattle.session_play.proofs.PlayLemmas.{at-memory, goes-as, goes-cut}
+use Rattle.std.specs.declared.option.Option.TheVariants.{None}
 use Rattle.mailx_session.specs.States.{with_file}
-use Rattle.mailx_session.specs.Beginning.{at_message, begun, placed}
+use Rattle.mailx_session.specs.Beginning.{at_message, beginning, begun, placed}
 use Rattle.mailx_session.proofs.beginning.begin_placed.Goals as goal
 
 pub returns-in-Ok-begin-clause-ran : goal.returns-in-Ok-begin-clause-ran
@@ -19,3 +20,6 @@ returns-in-Ok-begin-clause-ran g c =
 pub returns-in-Err-begin-clause-ran : goal.returns-in-Err-begin-clause-ran
 returns-in-Err-begin-clause-ran g c =
     Ran-map (goes-cut (begun c.args.state.now c.args.draft.now) (placed c.args.file.now c.args.current) _) c.in-Err-begin.ensures.ran
+
+pub returns-in-Err-clause-ran : goal.returns-in-Err-clause-ran
+returns-in-Err-clause-ran g c = Ran-none (at-memory (beginning c.args.state.now c.args.draft.now c.args.file.now c.args.current None))

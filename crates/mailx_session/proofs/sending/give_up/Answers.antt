@@ -1,21 +1,5 @@
-use Rattle.host_port.proofs.RanLemmas.{Ran-then, Ran-map}
-use Rattle.session_play.specs.Play.{Ask, Ret, Now}
-use Rattle.session_play.proofs.PlayLemmas.{goes-then, goes-cut}
-use Rattle.mailx_session.specs.Sending.{letter_of, lost}
 use Rattle.mailx_session.proofs.SendingLemmas.{given-up}
 use Rattle.mailx_session.proofs.sending.give_up.Goals as goal
 
-pub returns-in-Ok-clause-ran : goal.returns-in-Ok-clause-ran
-returns-in-Ok-clause-ran g c =
-    let s = c.args.state.now in
-    let draft = c.args.draft in
-    rw (given-up s draft (cc (c.is_empty.ensures, c.if-is_empty.false, c.bytes.ensures)))
-    (Ran-then (goes-then (Ask (Now s.desk.places.tz) Ret) (λ m. lost s (letter_of draft m)) _ _) (rw c.bytes-2.ensures at c.in-Ok.ensures.ran) c.lose.ensures.ran)
-
-pub returns-in-Err-clause-ran : goal.returns-in-Err-clause-ran
-returns-in-Err-clause-ran g c =
-    let s = c.args.state.now in
-    let draft = c.args.draft in
-    rw (given-up s draft (cc (c.is_empty.ensures, c.if-is_empty.false, c.bytes.ensures)))
-    (Ran-map (goes-cut (Ask (Now s.desk.places.tz) Ret) (λ m. lost s (letter_of draft m)) _)
-    (rw (c.bytes-2.ensures, c.in-Err.ensures.only_memory) at c.in-Err.ensures.ran))
+pub returns-else-is_empty-clause-ran : goal.returns-else-is_empty-clause-ran
+returns-else-is_empty-clause-ran g c = rw (given-up c.args.state.now c.args.draft (cc (c.is_empty.ensures, c.if-is_empty.false, c.bytes.ensures))) c.lose_now.ensures.ran
