@@ -12,6 +12,14 @@ fail() {
   exit 70
 }
 
+# how_many: a proof for each processor, as far as memory lasts: each takes up to 2.8 GB
+how_many() {
+  local processors memory
+  processors=$(nproc)
+  memory=$(awk '/^MemAvailable:/ { print int($2 / 2800000) }' /proc/meminfo)
+  echo $((memory < 1 ? 1 : memory < processors ? memory : processors))
+}
+
 # crates_below NAME: the crates of crates.txt that a crate stands on, and itself, each behind those that it stands on
 crates_below() {
   awk -v want="$1" '

@@ -1,5 +1,5 @@
 -- Lines of a draft, and answers to it, as what the draft took of them.
-use Rattle.std.proofs.Common.{◌≡◌, ℕ, Bool, true, false, List, refl, sym, ◌∙◌, ap, subst, inl, inr}
+use Rattle.std.proofs.Common.{◌≡◌, ℕ, List, sym, ◌∙◌, ap, subst}
 use Rattle.std.specs.Option.{option_map}
 use Rattle.std.specs.declared.option.Option.{Option}
 use Rattle.std.specs.declared.option.Option.TheVariants.{Some, None}
@@ -13,22 +13,16 @@ use Rattle.compose_tilde.specs.declared.need.Answer.{Answer}
 use Rattle.compose_tilde.specs.declared.need.ComposeError.{ComposeError}
 use Rattle.compose_tilde.specs.declared.need.ComposeError.TheVariants as error
 use Rattle.compose_tilde.specs.Steps.{Step, Means}
-use Rattle.compose_tilde.specs.Lines.{asks_subject, line_step}
-use Rattle.compose_tilde.specs.Answering.{new_machine, idle, answer_step}
+use Rattle.compose_tilde.specs.Lines.{line_step}
+use Rattle.compose_tilde.specs.Answering.{idle, answer_step}
 use Rattle.host_port.specs.declared.event.Event.{Event}
-use Rattle.draft_text.specs.declared.draft.Draft.{Draft}
-use Rattle.draft_text.specs.Texts.{flattened}
 use Rattle.session_play.specs.declared.stop.Stop.{Stop}
-use Rattle.session_play.specs.Play.{Play, Ret, Next, Goes, bind}
-use Rattle.session_play.specs.Steps.{After, Over, refused}
-use Rattle.session_play.proofs.PlayLemmas.{goes-as, goes-cut}
-use Rattle.mailx_session.specs.declared.asks.Asked.{Asked}
-use Rattle.mailx_session.specs.declared.asks.Asked.TheVariants as answered_as
-use Rattle.mailx_session.specs.declared.state.SessionState.{SessionState}
-use Rattle.mailx_session.specs.declared.status.Status.{Status}
-use Rattle.mailx_session.specs.States.{with_draft, rested}
-use Rattle.mailx_session.specs.Sessions.{after_asks}
-use Rattle.mailx_session.specs.Beginning.{view_in, with_begun, subject_asked, begun, begun_with, composing}
+use Rattle.session_play.specs.Play.{Play, Next, Goes}
+use Rattle.session_play.specs.Steps.{refused}
+use Rattle.session_state.specs.declared.state.SessionState.{SessionState}
+use Rattle.session_state.specs.declared.status.Status.{Status}
+use Rattle.session_state.specs.States.{with_draft}
+use Rattle.session_asks.specs.Beginning.{view_in}
 use Rattle.mailx_session.specs.Drafting.{escape_fault, released, told, took_answer, given, answered, needed, took_line, drafted, draft_play, run_for}
 use Rattle.mailx_session.specs.Taking.{TookAnswer, TookLine, IsEscapeFault, SaysFault}
 
@@ -101,53 +95,3 @@ drafted-refused s (Some m) line e new is has = λ said fault.
     let there : t ≡ with_draft s new = ap (with_draft s) (inside ∙ sym (has.is ∙ ap (λ (n : Machine). Some n) has.stays)) in
     ap (λ (d : Option Machine). drafted t d line) inside
     ∙ step-refused e said has.machine (line_step (idle m) line (view_in s)) (took_line t) (with_draft s new) (λ e. ap (λ (u : SessionState). refused u (escape_fault e)) there) fault has.means
-
--- a draft begins once its subject was asked for, where it was
-pub begun-goes : (s : SessionState) (m : Machine) (asks : Bool) (es : List Event) → asks ≡ asks_subject m (view_in s) → Goes (subject_asked asks) es (Ok tt)
-    → Goes (begun_with s m) es (Ok (Over (with_draft s (Some m))))
-begun-goes s m asks es asked went =
-    goes-as (subject_asked (asks_subject m (view_in s))) (λ u. Ret (Over (with_draft s (Some m)))) tt (Over (with_draft s (Some m))) es refl
-    (subst (λ (t : Bool). Goes (subject_asked t) es (Ok tt)) asked went)
-
-pub begun-cut : (s : SessionState) (m : Machine) (asks : Bool) (cause : Stop) (es : List Event) → asks ≡ asks_subject m (view_in s) → Goes (subject_asked asks) es (Err cause)
-    → Goes (begun_with s m) es (Err cause)
-begun-cut s m asks cause es asked went =
-    goes-cut (subject_asked (asks_subject m (view_in s))) (λ u. Ret (Over (with_draft s (Some m)))) cause es (subst (λ (t : Bool). Goes (subject_asked t) es (Err cause)) asked went)
-
--- the draft of send mode begins as one of a command does
-abbrev Over-line : Type 0
-Over-line = Result (After SessionState Status) Stop
-
-same-over : (x t : SessionState) (a : Asked) → (let r : Over-line = Ok (after_asks t a) in r) ≡ Ok (Over x) → t ≡ x
-same-over x t answered_as.On is = absurd (cc is)
-same-over x t answered_as.Over is = cc is
-same-over x t (answered_as.Refused line) is = absurd (cc is)
-same-over x t (answered_as.Ended e) is = absurd (cc is)
-
-composed-end : (s t : SessionState) (m : Machine) (a : Asked) (es : List Event) → Goes (Ret (let r : After SessionState Status = Over (with_draft s (Some m)) in r)) es (Ok (after_asks t a))
-    → Goes (Ret (with_draft s (Some m))) es (Ok (rested t))
-composed-end s t m a es (none, inl same) = (none, inl (ap (λ (u : SessionState). let r : Result SessionState Stop = Ok (rested u) in r) (same-over (with_draft s (Some m)) t a same)))
-composed-end s t m a es (none, inr other) = absurd (cc other)
-
-composed-as : (b : Bool) (s t : SessionState) (m : Machine) (a : Asked) (es : List Event)
-    → Goes (bind (subject_asked b) (λ u. Ret (let r : After SessionState Status = Over (with_draft s (Some m)) in r))) es (Ok (after_asks t a))
-    → Goes (bind (subject_asked b) (λ u. Ret (with_draft s (Some m)))) es (Ok (rested t))
-composed-as true s t m a es (inl (u, front, rest, is, did, end)) = inl (u, front, rest, is, did, composed-end s t m a rest end)
-composed-as true s t m a es (inr (cause, other, part)) = absurd (cc other)
-composed-as false s t m a es end = composed-end s t m a es end
-
-pub composed-goes : (s t : SessionState) (draft : Draft) (a : Asked) (es : List Event) → Goes (begun s draft) es (Ok (after_asks t a)) → Goes (composing s draft) es (Ok (rested t))
-composed-goes s t draft a es went = composed-as (asks_subject (new_machine (flattened draft)) (view_in s)) s t (new_machine (flattened draft)) a es went
-
-cut-end : (x : SessionState) (cause : Stop) (es : List Event) → Goes (Ret (let r : After SessionState Status = Over x in r)) es (Err cause) → Goes (Ret x) es (Err cause)
-cut-end x cause es (none, inl other) = absurd (cc other)
-cut-end x cause es (none, inr same) = (none, inr (cc same))
-
-cut-as : (b : Bool) (x : SessionState) (cause : Stop) (es : List Event) → Goes (bind (subject_asked b) (λ u. Ret (let r : After SessionState Status = Over x in r))) es (Err cause)
-    → Goes (bind (subject_asked b) (λ u. Ret x)) es (Err cause)
-cut-as true x cause es (inl (u, front, rest, is, did, end)) = inl (u, front, rest, is, did, cut-end x cause rest end)
-cut-as true x cause es (inr (why, same, part)) = inr (why, cc same, part)
-cut-as false x cause es end = cut-end x cause es end
-
-pub composed-cut : (s : SessionState) (draft : Draft) (cause : Stop) (es : List Event) → Goes (begun s draft) es (Err cause) → Goes (composing s draft) es (Err cause)
-composed-cut s draft cause es went = cut-as (asks_subject (new_machine (flattened draft)) (view_in s)) (with_begun s draft) cause es went

@@ -10,13 +10,13 @@ use Rattle.std.specs.declared.result.Result.TheVariants.{Ok, Err}
 use Rattle.host_port.specs.declared.event.Event.{Event}
 use Rattle.session_play.specs.declared.stop.Stop.{Stop}
 use Rattle.session_play.specs.Play.{Next, Go, Last}
-use Rattle.mailx_session.specs.declared.state.SessionState.{SessionState}
-use Rattle.mailx_session.specs.declared.status.Status.{Status}
+use Rattle.session_state.specs.declared.state.SessionState.{SessionState}
+use Rattle.session_state.specs.declared.status.Status.{Status}
 use Rattle.compose_tilde.specs.declared.machine.Machine.{Machine}
-use Rattle.mailx_session.specs.States.{is_drafting, rested, KeepsButDraft}
-use Rattle.mailx_session.specs.Bringing.{weight}
+use Rattle.session_state.specs.States.{is_drafting, rested, KeepsButDraft}
+use Rattle.session_state.specs.Bringing.{weight}
 use Rattle.mailx_session.specs.Rounds.{DraftEnds, FinishGo, finished, onward, left, lost}
-use Rattle.mailx_session.proofs.RoundLemmas.{rested-in, rested-out, no-both}
+use Rattle.session_state.proofs.RestLemmas.{rested-in, rested-out, no-both}
 
 -- what falls with each draft that ends
 abbrev pub open_weight : SessionState → ℕ

@@ -1,13 +1,4 @@
-pub mod AskLemmas
-pub mod NameLemmas
-pub mod OpeningLemmas
-pub mod PendingLemmas
+pub mod DraftLemmas
+pub mod FinishLemmas
+pub mod LeavingLemmas
 pub mod RoundLemmas
-pub mod StateLemmas
-pub mod SavingLemmas
-pub mod SourcingLemmas
-pub mod SwitchingLemmas
-mod LeavingLemmas
-mod DraftLemmas
-mod FinishLemmas
-mod SendingLemmas

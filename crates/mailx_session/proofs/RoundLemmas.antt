@@ -5,29 +5,24 @@ use Rattle.std.specs.declared.option.Option.{Option}
 use Rattle.std.specs.declared.option.Option.TheVariants.{Some, None}
 use Rattle.std.specs.declared.result.Result.{Result}
 use Rattle.std.specs.declared.result.Result.TheVariants.{Ok, Err}
-use Rattle.std.specs.Prelude.{OnErr, false, is_some, if◌then◌else◌}
+use Rattle.std.specs.Prelude.{OnErr, false, if◌then◌else◌}
 use Rattle.std.proofs.lemmas.Bool.{cond-true, cond-false}
 use Rattle.host_port.specs.declared.event.Event.{Event}
 use Rattle.session_play.specs.declared.stop.Stop.{Stop}
 use Rattle.session_play.specs.declared.stop.Stop.TheVariants as stop
 use Rattle.session_play.specs.Play.{Ret, Goes, Next, Go, Last}
-use Rattle.mailx_macros.specs.Macros.{Definitions, Macro}
-use Rattle.command_desk.specs.declared.desk.Desk.{Desk}
-use Rattle.command_desk.specs.Desks.{IsDesk}
 use Rattle.read_commands.specs.declared.origin.Origin.TheVariants.{Input}
-use Rattle.mailx_session.specs.declared.flow.Flow.{Flow}
-use Rattle.mailx_session.specs.declared.flow.Flow.TheVariants as flow
+use Rattle.session_state.specs.declared.flow.Flow.{Flow}
+use Rattle.session_state.specs.declared.flow.Flow.TheVariants as flow
 use Rattle.mailx_session.specs.Sessions.{StaysAtEnd}
-use Rattle.mailx_session.specs.declared.frames.WaitingLine.{WaitingLine}
-use Rattle.mailx_session.specs.declared.state.SessionState.{SessionState}
-use Rattle.mailx_session.specs.declared.status.Status.{Status}
-use Rattle.mailx_session.specs.Waits.{Pending}
-use Rattle.mailx_session.specs.Pending.{taken, open_before}
-use Rattle.mailx_session.specs.States.{IsActor, IsState, IsSession, is_drafting, next_waiting, with_frames, with_count, cut_to, resumed, at_rest, rested}
+use Rattle.session_state.specs.declared.frames.WaitingLine.{WaitingLine}
+use Rattle.session_state.specs.declared.state.SessionState.{SessionState}
+use Rattle.session_state.specs.declared.status.Status.{Status}
+use Rattle.session_state.specs.Waits.{Pending}
+use Rattle.session_state.specs.Pending.{taken}
+use Rattle.session_state.specs.States.{IsSession, is_drafting, next_waiting, with_count, resumed, at_rest, rested}
 use Rattle.mailx_session.specs.Rounds.{line_play, command_play, counted_play, is_idle, outside_play, waiting_play, WaitingGo, none, more, ended, cut, short}
-
-pub no-both : {b : Bool} → b ≡ true → b ≡ false → ⊥
-no-both holds not_so = absurd (cc (holds, not_so))
+use Rattle.session_state.proofs.RestLemmas.{rested-out, rested-same, counted-rested}
 
 no-next : {A : Type 0} {a : A} → None ≡ Some a → ⊥
 no-next e = absurd (cc e)
@@ -56,14 +51,6 @@ pub waits-cut : (s t v : SessionState) (cause : Stop) (line : WaitingLine) → n
     → Goes (waiting_play v line) fs (Err cause) → WaitingGo s (es ++ fs) (Err cause)
 waits-cut s t v cause line is same es fs so goes =
     so.whole fs (Err cause) (cut line v.frames is (subst (λ (x : SessionState). Goes (waiting_play x line) fs (Err cause)) same goes))
-
--- where no draft is open, a state at rest has no lines that wait
-pub rested-out : (s : SessionState) → is_drafting s ≡ false → rested s ≡ at_rest s
-rested-out s out = cond-false _ _ _ out
-
--- and where one is, it is as it is
-pub rested-in : (s : SessionState) → is_drafting s ≡ true → rested s ≡ s
-rested-in s inside = cond-true _ _ _ inside
 
 -- where no line is left, the state is at rest but for the count
 pub rested-resumed : (t v : SessionState) → is_drafting t ≡ false → v ≡ resumed t v.frames → v.frames ≡ [] → rested v ≡ rested t
@@ -98,19 +85,6 @@ pub idle-goes : (s : SessionState) (line : WaitingLine) (idle : Bool) → idle �
 idle-goes s line idle is holds =
     subst (λ (b : Bool). Goes (if b then Ret (Go s) else counted_play s line) [] (Ok (Go s))) (sym (sym is ∙ holds)) (refl, inl refl)
 
--- a session between two lines is at rest
-at-rest-same : (s : SessionState) → s.frames ≡ [] → s.count ≡ 0 → at_rest s ≡ s
-at-rest-same s over zero =
-    let cuts : at_rest s ≡ with_count (with_frames s []) 0 = ap (λ (fs : List Pending). record s { desk = cut_to (open_before fs) s.desk; frames = []; count = 0 }) over in
-    cuts ∙ ap (λ (fs : List Pending). with_count (with_frames s fs) 0) (sym over) ∙ ap (λ (n : ℕ). with_count s n) (sym zero)
-
-pub rested-same : (s : SessionState) → IsSession s → rested s ≡ s
-rested-same s is = go (is_drafting s) refl
-  where
-    go : (b : Bool) → is_drafting s ≡ b → rested s ≡ s
-    go true e = rested-in s e
-    go false e = rested-out s e ∙ at-rest-same s (is.frames e) (is.count e)
-
 -- and a line of the input is the first command
 pub typed-same : (s : SessionState) → IsSession s → with_count (rested s) 1 ≡ with_count s 1
 typed-same s is = ap (λ (t : SessionState). with_count t 1) (rested-same s is)
@@ -119,45 +93,11 @@ pub typed-goes : (s : SessionState) → IsSession s → (line : List ℕ) (es : 
     → Goes (line_play Input (with_count s 1) line) es out → Goes (command_play s line) es out
 typed-goes s is line es out goes = subst (λ (t : SessionState). Goes (line_play Input t line) es out) (sym (typed-same s is)) goes
 
--- where no definition is under way none is dropped
-pub none_dropped : (d : Definitions) → is_some d.unfinished ≡ false → d ≡ record d { unfinished = None }
-none_dropped d missing = go d.unfinished missing
-  where
-    go : (u : Option Macro) → is_some u ≡ false → record d { unfinished = u } ≡ record d { unfinished = None }
-    go None h = refl
-    go (Some m) h = absurd (cc h)
-
-desk-cut : (o : Option ℕ) (desk : Desk) → IsDesk desk → IsDesk (cut_to o desk)
-desk-cut o desk d = record { shown = d.shown; rows = d.rows; marks = d.marks; width = d.width }
-
--- conditions are no matter of validity
-pub rested_valid : (s t : SessionState) → t ≡ rested s → IsState s → IsSession t
-rested_valid s t same is =
-    subst IsSession (sym same) (go (is_drafting s) refl)
-  where
-    resting : is_drafting s ≡ false → IsSession (at_rest s)
-    resting out = record { state = record { desk = desk-cut (open_before s.frames) s.desk is.desk; actor = is.actor }; frames = λ o. refl; count = λ o. refl }
-
-    open_still : is_drafting s ≡ true → IsSession s
-    open_still inside = record { state = is; frames = λ o. absurd (no-both inside o); count = λ o. absurd (no-both inside o) }
-
-    go : (b : Bool) → is_drafting s ≡ b → IsSession (rested s)
-    go true e = subst IsSession (sym (rested-in s e)) (open_still e)
-    go false e = subst IsSession (sym (rested-out s e)) (resting e)
-
--- the desk but for its conditions, and the actor, are as in a valid state
-pub kept_valid : (s t : SessionState) (o : Option ℕ) → t.desk ≡ cut_to o s.desk → t.actor ≡ s.actor → IsState s → IsState t
-kept_valid s t o desk actor is = record { desk = subst IsDesk (sym desk) (desk-cut o s.desk is.desk); actor = subst IsActor (sym actor) is.actor }
-
 pub on-err : {T E : Type 0} (r : Result T E) {P Q : Type 0} → (P → Q) → OnErr r P → OnErr r Q
 on-err (Ok t) f h = tt
 on-err (Err e) f h = f h
 
 -- what stays where a line of the input ends the run
--- how many commands are counted is no matter to a state at rest
-pub counted-rested : (s : SessionState) (n : ℕ) → is_drafting s ≡ false → rested (with_count s n) ≡ rested s
-counted-rested s n out = let same : at_rest (with_count s n) ≡ at_rest s = refl in rested-out (with_count s n) out ∙ (same ∙ sym (rested-out s out))
-
 pub stays-rested : (s u : SessionState) → IsSession s → is_drafting s ≡ false → (went : Flow) → StaysAtEnd (with_count s 1) u went → StaysAtEnd s (rested u) went
 stays-rested s u is out flow.Go h = tt
 stays-rested s u is out (flow.End e) h = ap rested h ∙ (counted-rested s 1 out ∙ rested-same s is)

@@ -33,13 +33,13 @@ use Rattle.command_desk.specs.Faults.{bad_list, no_such, none_applicable, bad_na
 use Rattle.folder_commands.specs.Saving.{reply}
 use Rattle.read_commands.specs.declared.origin.Origin.TheVariants as origin
 use Rattle.read_commands.specs.Origins.{commanded}
-use Rattle.mailx_session.specs.declared.state.SessionState.{SessionState}
-use Rattle.mailx_session.specs.declared.status.Status.{Status}
-use Rattle.mailx_session.specs.States.{with_draft, with_count, without_draft}
+use Rattle.session_state.specs.declared.state.SessionState.{SessionState}
+use Rattle.session_state.specs.declared.status.Status.{Status}
+use Rattle.session_state.specs.States.{with_draft, with_count, without_draft}
 use Rattle.mailx_session.specs.Sessions.{carried_out}
-use Rattle.mailx_session.specs.Running.{by_shell, not_run}
-use Rattle.mailx_session.specs.Beginning.{view_in}
-use Rattle.mailx_session.specs.Sending.{ended_draft, quit_draft}
+use Rattle.session_asks.specs.Running.{by_shell, not_run}
+use Rattle.session_asks.specs.Beginning.{view_in}
+use Rattle.draft_sending.specs.Sending.{ended_draft, quit_draft}
 
 -- the line that refuses the messages of an escape
 abbrev pub list_fault : ListError → List ℕ

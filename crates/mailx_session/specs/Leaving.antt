@@ -2,11 +2,11 @@
 use Rattle.session_play.specs.Play.{Play, Ret, Ask, Say, bind}
 use Rattle.session_play.specs.Steps.{After, On, Over, Refused, Ended, in_order}
 use Rattle.folder_commands.specs.Leaving.{quit}
-use Rattle.mailx_session.specs.declared.state.SessionState.{SessionState}
-use Rattle.mailx_session.specs.declared.status.Status.{Status}
-use Rattle.mailx_session.specs.declared.status.Status.TheVariants as status
-use Rattle.mailx_session.specs.Outcomes.{status_of}
-use Rattle.mailx_session.specs.Sessions.{asked}
+use Rattle.session_state.specs.declared.state.SessionState.{SessionState}
+use Rattle.session_state.specs.declared.status.Status.{Status}
+use Rattle.session_state.specs.declared.status.Status.TheVariants as status
+use Rattle.session_state.specs.Outcomes.{status_of}
+use Rattle.session_asks.specs.Asks.{asked}
 
 -- how the run ends once the folder was to be left: where that was refused, its line is said
 abbrev pub left_by : After SessionState Status → Play Status

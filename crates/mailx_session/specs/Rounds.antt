@@ -13,14 +13,14 @@ use Rattle.session_play.specs.Play.{Play, Ret, Ask, Say, Next, Go, Last, Goes}
 use Rattle.read_commands.specs.declared.origin.Origin.{Origin}
 use Rattle.read_commands.specs.declared.origin.Origin.TheVariants.{Input}
 use Rattle.read_commands.specs.Origins.{commanded, is_defining, passes_over}
-use Rattle.mailx_session.specs.declared.frames.WaitingLine.{WaitingLine}
-use Rattle.mailx_session.specs.declared.state.SessionState.{SessionState}
-use Rattle.mailx_session.specs.declared.status.Status.{Status}
-use Rattle.mailx_session.specs.Waits.{Pending}
-use Rattle.mailx_session.specs.States.{command_limit, is_drafting, next_waiting, with_count, resumed, rested}
+use Rattle.session_state.specs.declared.frames.WaitingLine.{WaitingLine}
+use Rattle.session_state.specs.declared.state.SessionState.{SessionState}
+use Rattle.session_state.specs.declared.status.Status.{Status}
+use Rattle.session_state.specs.Waits.{Pending}
+use Rattle.session_state.specs.States.{command_limit, is_drafting, next_waiting, with_count, resumed, rested}
 use Rattle.mailx_session.specs.Sessions.{carried_out}
 use Rattle.mailx_session.specs.Drafting.{draft_play}
-use Rattle.mailx_session.specs.Sending.{ended_draft}
+use Rattle.draft_sending.specs.Sending.{ended_draft}
 
 -- what a line from somewhere does
 abbrev pub line_play : Origin → SessionState → List ℕ → Play (Next SessionState Status)

@@ -13,11 +13,11 @@ use Rattle.session_play.specs.Play.{Play, Ret, Ask, Try, Next, Go, Goes}
 use Rattle.session_play.specs.Steps.{refused}
 use Rattle.command_desk.specs.Faults.{bad_name, too_large, cannot_be_read}
 use Rattle.read_commands.specs.declared.origin.Origin.TheVariants.{Startup}
-use Rattle.mailx_session.specs.declared.kinds.FrameKind.TheVariants as kind
-use Rattle.mailx_session.specs.declared.state.SessionState.{SessionState}
-use Rattle.mailx_session.specs.declared.status.Status.{Status}
-use Rattle.mailx_session.specs.Pending.{frame_of}
-use Rattle.mailx_session.specs.States.{with_frames}
+use Rattle.session_state.specs.declared.kinds.FrameKind.TheVariants as kind
+use Rattle.session_state.specs.declared.state.SessionState.{SessionState}
+use Rattle.session_state.specs.declared.status.Status.{Status}
+use Rattle.session_state.specs.Pending.{frame_of}
+use Rattle.session_state.specs.States.{with_frames}
 use Rattle.mailx_session.specs.Rounds.{WaitingGo}
 
 -- the lines of a start-up file wait, in front of others, of which there are none where no draft is open

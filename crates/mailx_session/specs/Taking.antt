@@ -18,8 +18,8 @@ use Rattle.compose_tilde.specs.Views.{View}
 use Rattle.message_list.specs.declared.list.ListError.TheVariants as list_error
 use Rattle.session_play.specs.Play.{Play, Next}
 use Rattle.session_play.specs.Steps.{refused}
-use Rattle.mailx_session.specs.declared.state.SessionState.{SessionState}
-use Rattle.mailx_session.specs.declared.status.Status.{Status}
+use Rattle.session_state.specs.declared.state.SessionState.{SessionState}
+use Rattle.session_state.specs.declared.status.Status.{Status}
 use Rattle.mailx_session.specs.Drafting.{escape_fault}
 
 -- the draft, where one is open, waits for this answer

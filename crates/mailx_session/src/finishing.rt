@@ -1,16 +1,15 @@
 // The end of the input, where a draft is open.
 ghost use Rattle.std.specs.Prelude.{◌≡◌, ◌<◌, false, true, Ok, IfOk, OnOk};
 ghost use Rattle.host_port.specs.Ran.{Ran};
-ghost use Rattle.mailx_session.specs.Bringing.{weight};
+ghost use Rattle.session_state.specs.Bringing.{weight};
 ghost use Rattle.mailx_session.specs.Rounds.{DraftEnds, FinishGo};
-ghost use Rattle.mailx_session.specs.States.{IsState, IsSession, is_drafting, rested};
-ghost use Rattle.mailx_session.specs.Sessions.{in_play, next_of, LineCaused, EndsByLine};
+ghost use Rattle.session_state.specs.States.{IsState, IsSession, is_drafting, rested};
+ghost use Rattle.session_state.specs.Answers.{in_play, next_of, LineCaused, EndsByLine};
 
 use crate::lines::waiting_lines;
-use crate::sending::end_draft;
-use crate::state::rest;
-use crate::{Flow, RunError, SessionState};
+use draft_sending::end_draft;
 use host_port::Host;
+use session_state::{Flow, RunError, SessionState, rest};
 use std::alloc::Global;
 
 // Ends the draft, and carries out the lines that wait, until another one is open, unless the run ends with it.

@@ -4,20 +4,20 @@ ghost use Rattle.std.specs.List.{list_any};
 ghost use Rattle.host_port.specs.Ran.{Ran};
 ghost use Rattle.session_play.specs.Play.{Play, Ask, Ret, Say, Goes, bind};
 ghost use Rattle.session_play.specs.Steps.{in_order};
-ghost use Rattle.mailx_session.specs.declared.state.SessionState.{SessionState};
-ghost use Rattle.mailx_session.specs.declared.status.Status.{Status};
-ghost use Rattle.mailx_session.specs.States.{IsState};
-ghost use Rattle.mailx_session.specs.Statuses.{IsEnd};
-ghost use Rattle.mailx_session.specs.Sessions.{asked, after_asks, in_play, LineCaused, EndsByAsk};
-ghost use Rattle.mailx_session.specs.Bringing.{brings};
+ghost use Rattle.session_state.specs.declared.state.SessionState.{SessionState};
+ghost use Rattle.session_state.specs.declared.status.Status.{Status};
+ghost use Rattle.session_state.specs.States.{IsState};
+ghost use Rattle.session_state.specs.Statuses.{IsEnd};
+ghost use Rattle.session_asks.specs.Asks.{asked};
+ghost use Rattle.session_state.specs.Answers.{after_asks, in_play, LineCaused, EndsByAsk};
+ghost use Rattle.session_state.specs.Bringing.{brings};
 ghost use Rattle.mailx_session.specs.Leaving.{left_by, leaving};
 
-use crate::asks::{Asked, do_asks, say};
-use crate::outcome::status_of;
-use crate::{RunError, SessionState, Status};
 use host_port::Host;
 use mail_text::{Memory, Text};
 use read_commands::{Ask as Wanted, quit};
+use session_asks::do_asks;
+use session_state::{Asked, RunError, SessionState, Status, say, status_of};
 use std::alloc::Global;
 
 // Says the line by which the folder isn't left.

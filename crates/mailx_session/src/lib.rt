@@ -2,37 +2,15 @@
 //! the folder.
 #![tactic(auto)]
 
-mod asks;
-mod beginning;
-mod bringing;
-mod calling;
 mod drafting;
-mod error;
 mod finishing;
-mod flow;
-mod frames;
-mod greeting;
-mod kinds;
 mod leaving;
 mod lines;
-mod opening;
-mod outcome;
-mod running;
-mod saving;
-mod sending;
 mod session;
-mod sourcing;
 mod startup;
-mod state;
-mod status;
-mod switching;
 
-pub use error::RunError;
-pub use flow::Flow;
-pub use frames::{Frame, Frames, WaitingLine};
-pub use kinds::FrameKind;
-pub use opening::actor_of;
-pub use outcome::Outcome;
 pub use session::Session;
-pub use state::SessionState;
-pub use status::Status;
+pub use session_asks::actor_of;
+pub use session_state::{
+    Flow, Frame, FrameKind, Frames, Outcome, RunError, SessionState, Status, WaitingLine,
+};

@@ -3,48 +3,32 @@ ghost use Rattle.std.specs.Prelude.{◌≡◌, ◌≤◌, ◌<◌, ◌≢◌, Li
 ghost use Rattle.std.specs.List.{list_all, list_any};
 ghost use Rattle.mail_text.specs.Ascii.{is_blank};
 ghost use Rattle.host_port.specs.Ran.{Ran};
-ghost use Rattle.session_play.specs.Play.{Play, Goes};
+ghost use Rattle.session_play.specs.Play.{Goes};
 ghost use Rattle.session_play.specs.Steps.{refused};
 ghost use Rattle.command_desk.specs.Desks.{IsDesk};
 ghost use Rattle.command_desk.specs.Effects.{effect};
 ghost use Rattle.read_commands.specs.Origins.{commanded, is_defining};
 ghost use Rattle.read_commands.specs.declared.origin.Origin.{Origin};
-ghost use Rattle.mailx_session.specs.Pending.{IsTaken};
-ghost use Rattle.mailx_session.specs.Follows.{IsNext};
-ghost use Rattle.mailx_session.specs.States.{IsState, IsSession, is_drafting, resumed, rested, settled, with_frames, KeepsOthers};
-ghost use Rattle.mailx_session.specs.Bringing.{brings, brings_lines, room, weight};
+ghost use Rattle.session_state.specs.Pending.{IsTaken};
+ghost use Rattle.session_state.specs.Follows.{IsNext};
+ghost use Rattle.session_state.specs.States.{IsState, IsSession, is_drafting, resumed, rested, settled, with_frames, KeepsOthers};
+ghost use Rattle.session_state.specs.Bringing.{brings, brings_lines, room, weight};
 ghost use Rattle.mailx_session.specs.Rounds.{line_play, command_play, typed_play, dropped_play, counted_play, is_idle, outside_play, waiting_play, WaitingGo, LineGoes};
-ghost use Rattle.mailx_session.specs.Sessions.{carried_out, next_of, in_play, LineCaused, EndsByLine, StaysAtEnd, DoesNothing};
+ghost use Rattle.mailx_session.specs.Sessions.{carried_out, StaysAtEnd, DoesNothing};
+ghost use Rattle.session_state.specs.Answers.{next_of, in_play, LineCaused, EndsByLine};
 
-use crate::asks::{Asked, do_asks, say};
 use crate::drafting::draft_line;
-use crate::frames::Taken;
-use crate::state::{cut_to, drop_lines};
-use crate::{Flow, RunError, SessionState, WaitingLine};
 use host_port::Host;
 use mail_text::{Memory, Text, is_blank};
 use read_commands::{Effects, Origin, Refusal, Steps, is_defining, passes_over, perform_line};
+use session_asks::do_asks;
+use session_state::{
+    Asked, Flow, RunError, SessionState, Taken, WaitingLine, cut_to, drop_lines, refuse, say,
+};
 use std::alloc::Global;
 
 /// The most commands that one input line gives.
 const COMMAND_LIMIT: u32 = 100_000;
-
-/// Says the line that refuses a command, or tells what is wrong with a start-up file.
-pub(crate) fn refuse<H: Host>(
-    state: &SessionState,
-    host: &mut H,
-    line: &Text,
-) -> Result<Flow, RunError>
-    ensures ran { Ran H.world host.old host.new
-        (λ es. Goes (refused state.now line.now) es (in_play (next_of state.now) result)) }
-    ensures go { IfOk result (λ flow. flow ≡ Flow.Go) }
-    ensures cause { LineCaused (H.world.counts host.old) (H.world.counts host.new) result }
-{
-    match say(host, line.bytes()) {
-        Ok(()) => Ok(Flow::Go),
-        Err(error) => Err(error),
-    }
-}
 
 // Makes the changes of a command once what it asked for was done. After want of memory the lines that it brought are
 // gone: the first `depth` frames stay.
@@ -187,7 +171,7 @@ fn typed_line<H: Host>(
 
 // Says that there are too many commands, and drops the lines that wait, with the conditions and the definition that
 // they left open.
-#[tactic(auto, using(crate::proofs::SourcingLemmas::weight_dropped))]
+#[tactic(auto, using(session_asks::proofs::SourcingLemmas::weight_dropped))]
 fn drop_waiting<H: Host>(
     alloc: Global,
     state: &mut SessionState,
@@ -322,7 +306,7 @@ fn waiting_line<H: Host>(
 
 // Takes the next line that waits, and cuts the conditions and the definition that the frames left open which are
 // closed then.
-#[tactic(auto, using(crate::proofs::RoundLemmas::kept_valid))]
+#[tactic(auto, using(session_state::proofs::RestLemmas::kept_valid))]
 fn next_of_frames(alloc: Global, state: &mut SessionState) -> Result<Option<WaitingLine>, Memory>
     requires { IsState state.old }
     ensures taken { IfOk result (λ line. IsTaken line state.old.frames state.new.frames) }

@@ -1,31 +1,27 @@
 // A session and its lines.
 ghost use Rattle.std.specs.Prelude.{◌≡◌, true, false, List, ℕ, Ok, Err, IfOk, OnOk, OnErr};
 ghost use Rattle.host_port.specs.Ran.{Ran};
-ghost use Rattle.mailx_session.specs.declared.status.Status.{Status};
+ghost use Rattle.session_state.specs.declared.status.Status.{Status};
 ghost use Rattle.mailx_vars.specs.Environment.{knows_user};
 ghost use Rattle.command_desk.specs.Desks.{IsDesk};
 ghost use Rattle.read_commands.specs.declared.origin.Origin.{Origin};
 ghost use Rattle.read_commands.specs.Origins.{commanded};
-ghost use Rattle.mailx_session.specs.Beginning.{composing, with_begun};
-ghost use Rattle.mailx_session.specs.States.{IsState, IsSession, is_drafting, rested};
+ghost use Rattle.session_asks.specs.Beginning.{composing, with_new_draft};
+ghost use Rattle.session_state.specs.States.{IsState, IsSession, is_drafting, rested};
 ghost use Rattle.mailx_session.specs.Leaving.{leaving};
 ghost use Rattle.mailx_session.specs.Rounds.{FinishGo, LineGoes};
 ghost use Rattle.mailx_session.specs.Startup.{StartupGoes};
-ghost use Rattle.mailx_session.specs.Statuses.{IsEnd};
+ghost use Rattle.session_state.specs.Statuses.{IsEnd};
 ghost use Rattle.session_play.specs.Play.{Play, Goes};
-ghost use Rattle.mailx_session.specs.Bringing.{brings_lines};
-ghost use Rattle.mailx_session.specs.Sessions.{next_of, in_play, LineCaused, EndsByLine, StaysAtEnd};
-ghost use Rattle.mailx_session.specs.Openings.{first_state, greeting, Opens};
+ghost use Rattle.session_state.specs.Bringing.{brings_lines};
+ghost use Rattle.session_state.specs.Answers.{next_of, in_play, LineCaused, EndsByLine};
+ghost use Rattle.mailx_session.specs.Sessions.{StaysAtEnd};
+ghost use Rattle.session_asks.specs.Openings.{first_state, greeting, Opens};
 
-use crate::beginning::compose;
 use crate::finishing::finish;
-use crate::greeting::greeting;
 use crate::leaving::leave;
 use crate::lines::input_line;
-use crate::opening::{first_state, opening_of, put_folder};
 use crate::startup::startup_file;
-use crate::state::rest;
-use crate::{Flow, RunError, SessionState, Status};
 use draft_text::Draft;
 use host_port::Host;
 use mail_text::{Memory, Text};
@@ -33,6 +29,8 @@ use mailx_vars::Places;
 use mbox_scan::Folder;
 use rc_conditionals::Mode;
 use read_commands::Desk;
+use session_asks::{compose, first_state, greeting, opening_of, put_folder};
+use session_state::{Flow, RunError, SessionState, Status, rest};
 use std::alloc::Global;
 use std::marker::Model;
 
@@ -44,8 +42,8 @@ pub struct Session {
 }
 
 impl Model for Session {
-    ghost use Rattle.mailx_session.specs.declared.state.SessionState.{SessionState};
-    ghost use Rattle.mailx_session.specs.States.{IsSession};
+    ghost use Rattle.session_state.specs.declared.state.SessionState.{SessionState};
+    ghost use Rattle.session_state.specs.States.{IsSession};
 
     ghost Value = { SessionState };
 
@@ -96,7 +94,7 @@ impl Session {
     pub fn compose<H: Host>(&mut self, draft: &Draft, host: &mut H) -> Result<(), RunError>
         ensures ran { Ran H.world host.old host.new
             (λ es. Goes (composing self.old draft.now) es (in_play (λ u. self.new) result)) }
-        ensures begun { OnOk result (self.new ≡ with_begun self.old draft.now) }
+        ensures begun { OnOk result (self.new ≡ with_new_draft self.old draft.now) }
         ensures cause { LineCaused (H.world.counts host.old) (H.world.counts host.new) result }
     {
         let begun = compose(self.alloc, &mut self.state, host, draft);

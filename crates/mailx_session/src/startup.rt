@@ -5,18 +5,17 @@ ghost use Rattle.host_port.specs.Ran.{Ran};
 ghost use Rattle.session_play.specs.Play.{Play, Ask, Try, Goes};
 ghost use Rattle.session_play.specs.Steps.{refused};
 ghost use Rattle.mailx_vars.specs.Names.{is_short_name};
-ghost use Rattle.mailx_session.specs.States.{IsState, IsSession, rested};
+ghost use Rattle.session_state.specs.States.{IsState, IsSession, rested};
 ghost use Rattle.mailx_session.specs.Startup.{with_startup, after_startup, startup_play, StartupGoes};
-ghost use Rattle.mailx_session.specs.Sessions.{in_play, next_of, LineCaused, EndsByLine};
+ghost use Rattle.session_state.specs.Answers.{in_play, next_of, LineCaused, EndsByLine};
 
-use crate::lines::{refuse, waiting_lines};
-use crate::saving::line_of;
-use crate::{Flow, Frame, FrameKind, RunError, SessionState};
+use crate::lines::waiting_lines;
 use host_port::Host;
 use mail_text::{Memory, Text};
 use mailx_vars::is_short_name;
 use read_commands::Origin;
 use session_play::{Found, try_load};
+use session_state::{Flow, Frame, FrameKind, RunError, SessionState, line_of, refuse};
 use std::alloc::Global;
 
 /// Says a word and what is wrong with it.

@@ -44,29 +44,30 @@ use Rattle.command_desk.specs.declared.steps.Steps.{Steps}
 use Rattle.command_desk.specs.Answers.{OrFault}
 use Rattle.command_desk.specs.Faults.{too_large, calls_too_deep, bad_name}
 use Rattle.read_commands.specs.Origins.{commanded, is_defining}
-use Rattle.mailx_session.specs.declared.frames.WaitingLine.{WaitingLine}
-use Rattle.mailx_session.specs.declared.state.SessionState.{SessionState}
-use Rattle.mailx_session.specs.declared.status.Status.{Status}
-use Rattle.mailx_session.specs.declared.status.Status.TheVariants.{BadRecord}
-use Rattle.mailx_session.specs.Openings.{with_opened}
-use Rattle.mailx_session.specs.Waits.{Pending}
+use Rattle.session_state.specs.declared.frames.WaitingLine.{WaitingLine}
+use Rattle.session_state.specs.declared.state.SessionState.{SessionState}
+use Rattle.session_state.specs.declared.status.Status.{Status}
+use Rattle.session_state.specs.declared.status.Status.TheVariants.{BadRecord}
+use Rattle.session_asks.specs.Openings.{with_opened}
+use Rattle.session_state.specs.Waits.{Pending}
 use Rattle.draft_text.specs.declared.draft.Draft.{Draft}
 use Rattle.draft_text.specs.Texts.{flattened}
 use Rattle.compose_tilde.specs.Answering.{new_machine}
 use Rattle.compose_tilde.specs.Lines.{asks_subject}
-use Rattle.mailx_session.specs.States.{is_drafting, next_waiting, settled, resumed, with_count, rested, command_limit}
+use Rattle.session_state.specs.States.{is_drafting, next_waiting, settled, resumed, with_count, rested, command_limit}
 use Rattle.command_desk.specs.Effects.{moved}
-use Rattle.mailx_session.specs.Beginning.{view_in, begun, at_message, placed, file_fault, beginning}
-use Rattle.mailx_session.specs.Sending.{ended_draft}
-use Rattle.mailx_session.specs.Running.{after_run}
-use Rattle.mailx_session.specs.Saving.{names_fault, is_changed, commit_of, after_commit, saved}
-use Rattle.mailx_session.proofs.NameLemmas.{named-files}
-use Rattle.mailx_session.specs.declared.kinds.FrameKind.TheVariants as kinds
-use Rattle.mailx_session.specs.Bringing.{call_limit, calls, with_lines}
-use Rattle.mailx_session.specs.Sourcing.{source_fault, after_load, sourced}
-use Rattle.mailx_session.specs.Switching.{open_fault, loaded_folder, switched, announced, switched_to, switches}
-use Rattle.mailx_session.proofs.SwitchingLemmas.{open-fault-none}
-use Rattle.mailx_session.specs.Sessions.{asked, carried_out}
+use Rattle.session_asks.specs.Beginning.{view_in, begun, at_message, placed, file_fault, beginning}
+use Rattle.draft_sending.specs.Sending.{ended_draft}
+use Rattle.session_asks.specs.Running.{after_run}
+use Rattle.session_state.specs.Saving.{names_fault, is_changed, commit_of, after_commit, saved}
+use Rattle.session_state.proofs.NameLemmas.{named-files}
+use Rattle.session_state.specs.declared.kinds.FrameKind.TheVariants as kinds
+use Rattle.session_state.specs.Bringing.{call_limit, calls, with_lines}
+use Rattle.session_asks.specs.Sourcing.{source_fault, after_load, sourced}
+use Rattle.session_asks.specs.Switching.{open_fault, loaded_folder, switched, announced, switched_to, switches}
+use Rattle.session_asks.proofs.SwitchingLemmas.{open-fault-none}
+use Rattle.session_asks.specs.Asks.{asked}
+use Rattle.mailx_session.specs.Sessions.{carried_out}
 use Rattle.mailx_session.specs.Startup.{after_startup, startup_play}
 use Rattle.folder_commands.specs.Leaving.{quit}
 use Rattle.mailx_session.specs.Leaving.{left_by, leaving}
@@ -84,7 +85,7 @@ use Rattle.mailx_top.proofs.LeavingLemmas.{any-ends}
 use Rattle.command_words.specs.declared.options.Options.{Options}
 use Rattle.mailx_top.proofs.RoundLemmas.{loads-round, sent, asks_in, begun_in}
 use Rattle.mailx_top.proofs.LineLemmas.{begins}
-use Rattle.mailx_session.specs.Sending.{saved_one}
+use Rattle.draft_sending.specs.Sending.{saved_one}
 use Rattle.mailx_top.proofs.DraftLemmas.{IsPassed, Line-play, typed-passes, ended-passes, rested-passes}
 
 -- a state of this actor and this token

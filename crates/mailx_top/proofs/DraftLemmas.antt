@@ -38,15 +38,15 @@ use Rattle.command_desk.specs.FileNames.{expanded}
 use Rattle.command_desk.specs.Faults.{bad_name}
 use Rattle.read_commands.specs.declared.origin.Origin.TheVariants as origin
 use Rattle.read_commands.specs.Origins.{commanded}
-use Rattle.mailx_session.specs.declared.state.SessionState.{SessionState}
-use Rattle.mailx_session.specs.declared.status.Status.{Status}
-use Rattle.mailx_session.specs.declared.outcome.Outcome.{Outcome}
-use Rattle.mailx_session.specs.declared.outcome.Outcome.TheVariants as outcome
-use Rattle.mailx_session.specs.States.{is_drafting, with_draft, with_count, with_outcome, without_draft, at_rest, rested}
+use Rattle.session_state.specs.declared.state.SessionState.{SessionState}
+use Rattle.session_state.specs.declared.status.Status.{Status}
+use Rattle.session_state.specs.declared.outcome.Outcome.{Outcome}
+use Rattle.session_state.specs.declared.outcome.Outcome.TheVariants as outcome
+use Rattle.session_state.specs.States.{is_drafting, with_draft, with_count, with_outcome, without_draft, at_rest, rested}
 use Rattle.mailx_session.specs.Sessions.{carried_out}
-use Rattle.mailx_session.specs.Beginning.{view_in}
-use Rattle.mailx_session.specs.Outcomes.{not_sent}
-use Rattle.mailx_session.specs.Sending.{letter_of, text_of, unsent_by, refused_by, dead_reply, saved_one, buried, burying, lost, unsent, after_sender, sending, after_record, recording, posting, addressing, done, ended, ended_draft, quitted}
+use Rattle.session_asks.specs.Beginning.{view_in}
+use Rattle.session_state.specs.Outcomes.{not_sent}
+use Rattle.draft_sending.specs.Sending.{letter_of, text_of, unsent_by, refused_by, dead_reply, saved_one, buried, burying, lost, unsent, after_sender, sending, after_record, recording, posting, addressing, done, ended, ended_draft, quitted}
 use Rattle.mailx_session.specs.Drafting.{released, told, took_answer, given, answered, after_fetch, fetched, after_child, written, put, needed, took_line, drafted, draft_play}
 use Rattle.mailx_session.specs.Rounds.{command_play, typed_play}
 

@@ -18,22 +18,22 @@ use Rattle.mailx_vars.specs.declared.environment.Places.{Places}
 use Rattle.mailx_vars.specs.Environment.{Pairs, knows_user, places_in, places_of}
 use Rattle.mailx_top.specs.declared.environment.Environment.{Environment}
 use Rattle.mailx_top.specs.Meaning.{actor_in, first_of, pairs_for, next_state, after_recovery}
-use Rattle.mailx_session.specs.declared.state.SessionState.{SessionState}
+use Rattle.session_state.specs.declared.state.SessionState.{SessionState}
 use Rattle.session_play.specs.Input.{Input}
 use Rattle.session_play.specs.Cuts.{IsLoadCut}
-use Rattle.mailx_session.specs.declared.error.RunError.{RunError}
-use Rattle.mailx_session.specs.declared.error.RunError.TheVariants as error
-use Rattle.mailx_session.specs.declared.status.Status.{Status}
-use Rattle.mailx_session.specs.declared.status.Status.TheVariants as status
-use Rattle.mailx_session.specs.Sessions.{LineCaused, stop_of}
-use Rattle.mailx_session.specs.Statuses.{IsEnd, IsLineEnd}
+use Rattle.session_state.specs.declared.error.RunError.{RunError}
+use Rattle.session_state.specs.declared.error.RunError.TheVariants as error
+use Rattle.session_state.specs.declared.status.Status.{Status}
+use Rattle.session_state.specs.declared.status.Status.TheVariants as status
+use Rattle.session_state.specs.Answers.{LineCaused, stop_of}
+use Rattle.session_state.specs.Statuses.{IsEnd, IsLineEnd}
 use Rattle.std.specs.declared.option.Option.{Option}
 use Rattle.std.specs.declared.option.Option.TheVariants.{Some, None}
 use Rattle.mailx_top.specs.Statuses.{status_at_stop, line_at_stop}
 use Rattle.mailx_top.specs.Usage.{IsSayCut, IsStartCut, IsStartEnd, EndsOr, EndsOrOpens, StopsAtStart, EndsUnopened, EndsAsNamed, IsBadName, IsOrCut, IsUnopened}
 use Rattle.mailx_top.specs.Words.{Start}
 use Rattle.mailx_top.specs.Sending.{mode_with}
-use Rattle.mailx_session.specs.Openings.{first_state}
+use Rattle.session_asks.specs.Openings.{first_state}
 use Rattle.mailx_top.specs.Runs.{AsFar, SaysLast, SaysAtCut, SaysAtEnd, SaysUnlessIdle}
 
 pub said-far : (r : Result Unit OutFault) (bytes line : List ℕ) → bytes ≡ line → (d : Disk) (e : Event) → Said r bytes d e → Agrees d e × AsFar line (own (e ∷ []))

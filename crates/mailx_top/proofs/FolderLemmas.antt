@@ -11,15 +11,15 @@ use Rattle.mbox_scan.specs.declared.error.ScanError.{ScanError}
 use Rattle.mbox_scan.specs.declared.error.ScanError.TheVariants as scan
 use Rattle.mbox_scan.specs.Mailbox.{list_of, is_mailbox, texts_of, starts, pieces, message_limit}
 use Rattle.mail_text.specs.Lines.{with_feed}
-use Rattle.mailx_session.specs.declared.status.Status.TheVariants as status
+use Rattle.session_state.specs.declared.status.Status.TheVariants as status
 use Rattle.mailx_top.specs.Words.{Start, is_silent}
 use Rattle.host_port.specs.declared.event.Event.{Event}
 use Rattle.session_play.specs.declared.stop.Stop.{Stop}
 use Rattle.session_play.specs.Play.{Goes, Next}
 use Rattle.command_desk.specs.Answers.{OrFault}
-use Rattle.mailx_session.specs.declared.state.SessionState.{SessionState}
-use Rattle.mailx_session.specs.declared.status.Status.{Status}
-use Rattle.mailx_session.specs.Openings.{Opens}
+use Rattle.session_state.specs.declared.state.SessionState.{SessionState}
+use Rattle.session_state.specs.declared.status.Status.{Status}
+use Rattle.session_asks.specs.Openings.{Opens}
 use Rattle.command_words.specs.declared.options.Options.{Options}
 use Rattle.mailx_top.specs.Openings.{OpensBadly}
 use Rattle.mailx_top.specs.Usage.{IsNoName, IsBadlyNamed}

@@ -17,16 +17,16 @@ use Rattle.session_play.proofs.ShapeLemmas.{bind-acts, bind-threads, goes-ends}
 use Rattle.command_desk.specs.declared.steps.Ask as asked_of
 use Rattle.command_desk.specs.declared.steps.Ask.TheVariants as asks
 use Rattle.folder_commands.specs.Leaving.{said, left_reply, quit}
-use Rattle.mailx_session.specs.declared.state.SessionState.{SessionState}
-use Rattle.mailx_session.specs.declared.status.Status.{Status}
-use Rattle.mailx_session.specs.declared.status.Status.TheVariants as status
-use Rattle.mailx_session.specs.Saving.{names_fault, is_changed, after_commit, saved}
-use Rattle.mailx_session.specs.Sessions.{asked}
+use Rattle.session_state.specs.declared.state.SessionState.{SessionState}
+use Rattle.session_state.specs.declared.status.Status.{Status}
+use Rattle.session_state.specs.declared.status.Status.TheVariants as status
+use Rattle.session_state.specs.Saving.{names_fault, is_changed, after_commit, saved}
+use Rattle.session_asks.specs.Asks.{asked}
 use Rattle.mailx_session.specs.Leaving.{left_by, leaving}
 use Rattle.mailx_top.specs.Meaning.{RunState, last_round}
-use Rattle.mailx_session.specs.declared.outcome.Outcome.{Outcome}
-use Rattle.mailx_session.specs.declared.outcome.Outcome.TheVariants as outcome
-use Rattle.mailx_session.specs.Outcomes.{status_of}
+use Rattle.session_state.specs.declared.outcome.Outcome.{Outcome}
+use Rattle.session_state.specs.declared.outcome.Outcome.TheVariants as outcome
+use Rattle.session_state.specs.Outcomes.{status_of}
 use Rattle.mailx_top.specs.Leavings.{first_answer, refuses, left_changes, is_quit_refused, is_refused_before}
 use Rattle.mailx_top.proofs.OrderLemmas.{Keeps}
 use Rattle.mailx_top.proofs.LineLemmas.{EndsBy, asks-acts, asks-threads}

@@ -7,20 +7,20 @@ use Rattle.session_play.specs.Play.{Play, Next, Go, Last, bind}
 use Rattle.session_play.specs.Steps.{After, On, Over, Refused, Ended, onward, in_order, concluded}
 use Rattle.session_play.proofs.ShapeLemmas.{bind-acts, bind-ends, bind-threads}
 use Rattle.mailx_top.proofs.OrderLemmas.{Keeps, order-acts, order-threads}
-use Rattle.mailx_session.specs.declared.state.SessionState.{SessionState}
+use Rattle.session_state.specs.declared.state.SessionState.{SessionState}
 use Rattle.command_desk.specs.declared.effects.Effects.{Effects}
 use Rattle.command_desk.specs.declared.steps.Ask as asked_of
 use Rattle.command_desk.specs.declared.steps.Ask.TheVariants as asks
 use Rattle.command_desk.specs.declared.steps.Steps.{Steps}
 use Rattle.command_desk.specs.Answers.{OrFault}
 use Rattle.read_commands.specs.Origins.{commanded, is_defining}
-use Rattle.mailx_session.specs.declared.status.Status.{Status}
-use Rattle.mailx_session.specs.declared.status.Status.TheVariants.{BadRecord}
-use Rattle.mailx_session.specs.Saving.{names_fault, is_changed, after_commit, saved}
-use Rattle.mailx_session.specs.declared.kinds.FrameKind.TheVariants as kinds
-use Rattle.mailx_session.specs.Bringing.{call_limit, calls, with_lines}
-use Rattle.mailx_session.specs.Sourcing.{source_fault, after_load, sourced}
-use Rattle.mailx_session.specs.Switching.{open_fault, loaded_folder, switched, announced, switched_to, switches}
+use Rattle.session_state.specs.declared.status.Status.{Status}
+use Rattle.session_state.specs.declared.status.Status.TheVariants.{BadRecord}
+use Rattle.session_state.specs.Saving.{names_fault, is_changed, after_commit, saved}
+use Rattle.session_state.specs.declared.kinds.FrameKind.TheVariants as kinds
+use Rattle.session_state.specs.Bringing.{call_limit, calls, with_lines}
+use Rattle.session_asks.specs.Sourcing.{source_fault, after_load, sourced}
+use Rattle.session_asks.specs.Switching.{open_fault, loaded_folder, switched, announced, switched_to, switches}
 use Rattle.command_desk.specs.declared.desk.Desk.{Desk}
 use Rattle.session_play.specs.declared.act.Found.{Found}
 use Rattle.session_play.specs.declared.act.Found.TheVariants as found
@@ -33,19 +33,20 @@ use Rattle.session_play.specs.declared.changing.Committed.TheVariants as committ
 use Rattle.command_desk.specs.Faults.{too_large, calls_too_deep}
 use Rattle.std.specs.Prelude.{nat_lt, nat_le, if◌then◌else◌, ◌+◌}
 use Rattle.session_play.specs.Play.{Ret, Ask}
-use Rattle.mailx_session.specs.declared.frames.WaitingLine.{WaitingLine}
+use Rattle.session_state.specs.declared.frames.WaitingLine.{WaitingLine}
 use Rattle.draft_text.specs.declared.draft.Draft.{Draft}
 use Rattle.draft_text.specs.Texts.{flattened}
 use Rattle.compose_tilde.specs.Answering.{new_machine}
 use Rattle.compose_tilde.specs.Lines.{asks_subject}
-use Rattle.mailx_session.specs.States.{settled, with_count, command_limit}
-use Rattle.mailx_session.specs.Sessions.{asked, carried_out}
+use Rattle.session_state.specs.States.{settled, with_count, command_limit}
+use Rattle.session_asks.specs.Asks.{asked}
+use Rattle.mailx_session.specs.Sessions.{carried_out}
 use Rattle.command_desk.specs.Effects.{moved}
-use Rattle.mailx_session.specs.Beginning.{view_in, with_begun, subject_asked, begun, at_message, placed, file_fault, beginning}
-use Rattle.mailx_session.specs.Sending.{saved_one, ended_draft}
-use Rattle.mailx_session.specs.Outcomes.{status_of}
-use Rattle.mailx_session.specs.declared.outcome.Outcome.{Outcome}
-use Rattle.mailx_session.specs.Running.{after_run}
+use Rattle.session_asks.specs.Beginning.{view_in, with_new_draft, subject_asked, begun, at_message, placed, file_fault, beginning}
+use Rattle.draft_sending.specs.Sending.{saved_one, ended_draft}
+use Rattle.session_state.specs.Outcomes.{status_of}
+use Rattle.session_state.specs.declared.outcome.Outcome.{Outcome}
+use Rattle.session_asks.specs.Running.{after_run}
 use Rattle.mailx_top.proofs.DraftLemmas.{Line-play, IsPassed, typed-passes, ended-passes}
 use Rattle.mailx_session.specs.Rounds.{line_play, typed_play, dropped_play, counted_play, is_idle, outside_play, waiting_play}
 
@@ -178,7 +179,7 @@ called-ends false t = tt
 
 -- a draft that begins, and the question for its subject
 abbrev pub begins : Bool → SessionState → Draft → Play After-line
-begins b s draft = bind (subject_asked b) (λ u. Ret (Over (with_begun s draft)))
+begins b s draft = bind (subject_asked b) (λ u. Ret (Over (with_new_draft s draft)))
 
 begun-acts : (b : Bool) (s : SessionState) (draft : Draft) → AllActs (may_load false) (begins b s draft)
 begun-acts true s draft = (refl, λ u. tt)

@@ -20,14 +20,14 @@ use Rattle.mail_text.specs.Lines.{with_feed}
 use Rattle.mailx_vars.specs.Names.{is_short_name}
 use Rattle.command_desk.specs.declared.desk.Desk.{Desk}
 use Rattle.command_desk.specs.Answers.{OrFault}
-use Rattle.mailx_session.specs.declared.state.SessionState.{SessionState}
-use Rattle.mailx_session.specs.declared.status.Status.{Status}
-use Rattle.mailx_session.specs.declared.status.Status.TheVariants as status
-use Rattle.mailx_session.specs.Openings.{with_opened}
-use Rattle.mailx_session.specs.declared.frames.WaitingLine.{WaitingLine}
-use Rattle.mailx_session.specs.Waits.{Pending}
-use Rattle.mailx_session.specs.States.{is_drafting, next_waiting, resumed, rested}
-use Rattle.mailx_session.specs.Sending.{ended_draft}
+use Rattle.session_state.specs.declared.state.SessionState.{SessionState}
+use Rattle.session_state.specs.declared.status.Status.{Status}
+use Rattle.session_state.specs.declared.status.Status.TheVariants as status
+use Rattle.session_asks.specs.Openings.{with_opened}
+use Rattle.session_state.specs.declared.frames.WaitingLine.{WaitingLine}
+use Rattle.session_state.specs.Waits.{Pending}
+use Rattle.session_state.specs.States.{is_drafting, next_waiting, resumed, rested}
+use Rattle.draft_sending.specs.Sending.{ended_draft}
 use Rattle.mailx_session.specs.Rounds.{typed_play, waiting_play}
 use Rattle.mailx_top.specs.declared.environment.Environment.{Environment}
 use Rattle.mailx_top.specs.declared.words.Manner.{Manner}
@@ -39,7 +39,7 @@ use Rattle.session_play.specs.Causes.{some_load_saw, counted, events_at}
 use Rattle.session_play.proofs.SawLemmas.{Unseen, goes-unseen}
 use Rattle.session_play.proofs.ShapeLemmas.{came-same, goes-ends, bind-ends}
 use Rattle.mailx_session.specs.Leaving.{leaving}
-use Rattle.mailx_session.specs.declared.outcome.Outcome.{Outcome}
+use Rattle.session_state.specs.declared.outcome.Outcome.{Outcome}
 use Rattle.mailx_top.specs.Leavings.{first_answer, is_quit_refused, is_refused_before, is_refused_at, refused_at_end}
 use Rattle.mailx_top.proofs.LeavingLemmas.{any-ends, end_at, opened_end, quit-end, last-ends}
 use Rattle.mailx_top.proofs.LineLemmas.{EndsBy, EndsByLine, typed-ends, waiting-ends, ended-ends}

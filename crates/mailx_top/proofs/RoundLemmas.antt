@@ -16,18 +16,18 @@ use Rattle.mailx_vars.specs.Names.{is_short_name}
 use Rattle.std.specs.declared.result.Result.TheVariants.{Ok, Err}
 use Rattle.command_desk.specs.declared.desk.Desk.{Desk}
 use Rattle.command_desk.specs.Answers.{OrFault}
-use Rattle.mailx_session.specs.declared.state.SessionState.{SessionState}
-use Rattle.mailx_session.specs.declared.status.Status.{Status}
-use Rattle.mailx_session.specs.Openings.{with_opened}
-use Rattle.mailx_session.specs.declared.frames.WaitingLine.{WaitingLine}
-use Rattle.mailx_session.specs.Waits.{Pending}
-use Rattle.mailx_session.specs.States.{is_drafting, next_waiting, resumed, rested}
-use Rattle.mailx_session.specs.Sending.{ended_draft}
+use Rattle.session_state.specs.declared.state.SessionState.{SessionState}
+use Rattle.session_state.specs.declared.status.Status.{Status}
+use Rattle.session_asks.specs.Openings.{with_opened}
+use Rattle.session_state.specs.declared.frames.WaitingLine.{WaitingLine}
+use Rattle.session_state.specs.Waits.{Pending}
+use Rattle.session_state.specs.States.{is_drafting, next_waiting, resumed, rested}
+use Rattle.draft_sending.specs.Sending.{ended_draft}
 use Rattle.command_words.specs.declared.options.Options.{Options}
 use Rattle.draft_text.specs.Texts.{flattened}
 use Rattle.compose_tilde.specs.Answering.{new_machine}
 use Rattle.compose_tilde.specs.Lines.{asks_subject}
-use Rattle.mailx_session.specs.Beginning.{view_in, with_begun, subject_asked}
+use Rattle.session_asks.specs.Beginning.{view_in, with_new_draft, subject_asked}
 use Rattle.mailx_session.specs.Rounds.{typed_play, waiting_play}
 use Rattle.mailx_top.specs.declared.environment.Environment.{Environment}
 use Rattle.mailx_top.specs.declared.words.Manner.{Manner}
@@ -82,7 +82,7 @@ abbrev pub asks_in : SessionState → Options → Bool
 asks_in s o = asks_subject (new_machine (flattened (draft_with s.desk o))) (view_in s)
 
 abbrev pub begun_in : SessionState → Options → SessionState
-begun_in s o = with_begun s (draft_with s.desk o)
+begun_in s o = with_new_draft s (draft_with s.desk o)
 
 threads-sent : (b : Bool) (t : SessionState) → On no_input (sent b t)
 threads-sent true t = (tt, λ u. refl)

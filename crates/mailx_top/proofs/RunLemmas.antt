@@ -6,7 +6,7 @@ use Rattle.host_port.specs.declared.event.Event.{Event}
 use Rattle.session_play.specs.declared.stop.Stop.{Stop}
 use Rattle.session_play.specs.Play.{Loop}
 use Rattle.session_play.proofs.CauseLemmas.{loop-explained}
-use Rattle.mailx_session.specs.declared.status.Status.{Status}
+use Rattle.session_state.specs.declared.status.Status.{Status}
 use Rattle.mailx_top.specs.declared.environment.Environment.{Environment}
 use Rattle.mailx_top.specs.Meaning.{Recovering, round, actor_in, input_of, is_opening}
 use Rattle.mailx_top.specs.Runs.{Ending, SaysUnlessIdle, IsRun}

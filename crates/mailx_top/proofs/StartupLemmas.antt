@@ -13,16 +13,16 @@ use Rattle.session_play.specs.Steps.{refused}
 use Rattle.session_play.proofs.ShapeLemmas.{bind-acts, bind-ends, bind-threads}
 use Rattle.mailx_vars.specs.Names.{is_short_name}
 use Rattle.command_desk.specs.Faults.{bad_name}
-use Rattle.mailx_session.specs.declared.frames.WaitingLine.{WaitingLine}
-use Rattle.mailx_session.specs.declared.state.SessionState.{SessionState}
-use Rattle.mailx_session.specs.declared.status.Status.{Status}
-use Rattle.mailx_session.specs.Waits.{Pending}
-use Rattle.mailx_session.specs.States.{resumed, rested}
+use Rattle.session_state.specs.declared.frames.WaitingLine.{WaitingLine}
+use Rattle.session_state.specs.declared.state.SessionState.{SessionState}
+use Rattle.session_state.specs.declared.status.Status.{Status}
+use Rattle.session_state.specs.Waits.{Pending}
+use Rattle.session_state.specs.States.{resumed, rested}
 use Rattle.mailx_session.specs.Rounds.{waiting_play}
 use Rattle.mailx_session.specs.Startup.{after_startup, startup_play}
 use Rattle.mailx_top.specs.Words.{Start}
 use Rattle.mailx_top.specs.Meaning.{RunState, Preparing, Opening, with_files, next_file, file_round, input_of}
-use Rattle.mailx_session.specs.declared.outcome.Outcome.{Outcome}
+use Rattle.session_state.specs.declared.outcome.Outcome.{Outcome}
 use Rattle.mailx_top.proofs.LineLemmas.{EndsBy, EndsByLine, waiting-acts, waiting-ends, waiting-threads}
 
 -- a file that is loaded, or whose name is refused

@@ -19,13 +19,13 @@ use Rattle.session_play.specs.Play.{Ask, Read, Next, Go, Last, Goes, Loop, again
 use Rattle.session_play.proofs.ShapeLemmas.{goes-ends}
 use Rattle.command_words.specs.declared.options.Options.{Options}
 use Rattle.command_desk.specs.Answers.{OrFault}
-use Rattle.mailx_session.specs.declared.outcome.Outcome.{Outcome}
-use Rattle.mailx_session.specs.declared.outcome.Outcome.TheVariants as outcome
-use Rattle.mailx_session.specs.declared.state.SessionState.{SessionState}
-use Rattle.mailx_session.specs.declared.status.Status.{Status}
-use Rattle.mailx_session.specs.declared.status.Status.TheVariants as status
-use Rattle.mailx_session.specs.Outcomes.{status_of}
-use Rattle.mailx_session.specs.States.{next_waiting}
+use Rattle.session_state.specs.declared.outcome.Outcome.{Outcome}
+use Rattle.session_state.specs.declared.outcome.Outcome.TheVariants as outcome
+use Rattle.session_state.specs.declared.state.SessionState.{SessionState}
+use Rattle.session_state.specs.declared.status.Status.{Status}
+use Rattle.session_state.specs.declared.status.Status.TheVariants as status
+use Rattle.session_state.specs.Outcomes.{status_of}
+use Rattle.session_state.specs.States.{next_waiting}
 use Rattle.mailx_top.specs.declared.environment.Environment.{Environment}
 use Rattle.mailx_top.specs.declared.words.Manner.{Manner}
 use Rattle.mailx_top.specs.declared.words.Manner.TheVariants.{Silent, Rows, Quiet, Greeting}

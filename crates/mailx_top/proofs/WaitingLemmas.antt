@@ -14,16 +14,16 @@ use Rattle.session_play.specs.Play.{Play, Ret, Ask, bind, Line, Goes, Next, Go, 
 use Rattle.session_play.proofs.PlayLemmas.{at-memory, goes-then, goes-cut, goes-as}
 use Rattle.session_play.proofs.LoopLemmas.{SoFar}
 use Rattle.command_desk.specs.declared.desk.Desk.{Desk}
-use Rattle.mailx_session.specs.declared.state.SessionState.{SessionState}
-use Rattle.mailx_session.specs.declared.status.Status.{Status}
-use Rattle.mailx_session.specs.Pending.{taken, open_before}
+use Rattle.session_state.specs.declared.state.SessionState.{SessionState}
+use Rattle.session_state.specs.declared.status.Status.{Status}
+use Rattle.session_state.specs.Pending.{taken, open_before}
 use Rattle.read_commands.specs.Origins.{is_defining}
-use Rattle.mailx_session.specs.States.{IsSession, is_drafting, next_waiting, with_draft, cut_to, resumed, at_rest, rested}
-use Rattle.mailx_session.specs.Sending.{ended_draft}
+use Rattle.session_state.specs.States.{IsSession, is_drafting, next_waiting, with_draft, cut_to, resumed, at_rest, rested}
+use Rattle.draft_sending.specs.Sending.{ended_draft}
 use Rattle.compose_tilde.specs.declared.machine.Machine.{Machine}
 use Rattle.mailx_session.specs.Startup.{startup_play, StartupGoes, begun}
 use Rattle.mailx_session.specs.Startup as files
-use Rattle.mailx_session.proofs.RoundLemmas.{rested-same}
+use Rattle.session_state.proofs.RestLemmas.{rested-same}
 use Rattle.mailx_session.specs.Rounds.{typed_play, waiting_play, WaitingGo, none, more, ended, LineGoes, typed, DraftEnds, FinishGo}
 use Rattle.mailx_session.specs.Rounds as rounds
 use Rattle.mailx_top.specs.declared.environment.Environment.{Environment}

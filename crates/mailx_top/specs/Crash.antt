@@ -8,7 +8,7 @@ use Rattle.host_port.specs.Own.{own}
 use Rattle.session_play.specs.declared.stop.Stop.{Stop}
 use Rattle.play_safety.specs.Passes.{Commits, PassesAll}
 use Rattle.play_safety.specs.Safe.{IsCrashSafe, AllAnswersAreDecided}
-use Rattle.mailx_session.specs.declared.status.Status.{Status}
+use Rattle.session_state.specs.declared.status.Status.{Status}
 use Rattle.mailx_top.specs.declared.environment.Environment.{Environment}
 use Rattle.mailx_top.specs.Words.{Start, may_say, start_of}
 use Rattle.mailx_top.specs.Meaning.{Recovering, round, actor_in}

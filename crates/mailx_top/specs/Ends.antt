@@ -2,7 +2,7 @@
 use Rattle.std.specs.declared.result.Result.{Result}
 use Rattle.std.specs.declared.result.Result.TheVariants.{Ok, Err}
 use Rattle.session_play.specs.declared.stop.Stop.{Stop}
-use Rattle.mailx_session.specs.declared.status.Status.{Status}
+use Rattle.session_state.specs.declared.status.Status.{Status}
 use Rattle.mailx_top.specs.declared.top.End.{End}
 
 -- the status of an end, or the cut

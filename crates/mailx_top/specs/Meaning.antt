@@ -24,15 +24,15 @@ use Rattle.command_desk.specs.declared.desk.Desk.{Desk}
 use Rattle.command_desk.specs.Answers.{OrFault}
 use Rattle.command_desk.specs.FileNames.{expanded}
 use Rattle.read_commands.specs.Origins.{is_defining}
-use Rattle.mailx_session.specs.declared.state.SessionState.{SessionState}
-use Rattle.mailx_session.specs.declared.status.Status.{Status}
-use Rattle.mailx_session.specs.declared.status.Status.TheVariants as status
-use Rattle.mailx_session.specs.Openings.{first_state, with_opened, greeting}
-use Rattle.mailx_session.specs.declared.frames.WaitingLine.{WaitingLine}
-use Rattle.mailx_session.specs.Waits.{Pending}
-use Rattle.mailx_session.specs.States.{is_drafting, next_waiting, resumed, rested}
-use Rattle.mailx_session.specs.Sending.{ended_draft}
-use Rattle.mailx_session.specs.Beginning.{composing}
+use Rattle.session_state.specs.declared.state.SessionState.{SessionState}
+use Rattle.session_state.specs.declared.status.Status.{Status}
+use Rattle.session_state.specs.declared.status.Status.TheVariants as status
+use Rattle.session_asks.specs.Openings.{first_state, with_opened, greeting}
+use Rattle.session_state.specs.declared.frames.WaitingLine.{WaitingLine}
+use Rattle.session_state.specs.Waits.{Pending}
+use Rattle.session_state.specs.States.{is_drafting, next_waiting, resumed, rested}
+use Rattle.draft_sending.specs.Sending.{ended_draft}
+use Rattle.session_asks.specs.Beginning.{composing}
 use Rattle.mailx_session.specs.Rounds.{typed_play, waiting_play}
 use Rattle.mailx_session.specs.Startup.{startup_play}
 use Rattle.mailx_session.specs.Leaving.{leaving}

@@ -11,8 +11,8 @@ use Rattle.mbox_scan.specs.Mailbox.{list_of, message_limit}
 use Rattle.session_play.specs.declared.stop.Stop.{Stop}
 use Rattle.session_play.specs.Play.{Play, Next, Loop, again, last, cut}
 use Rattle.session_play.specs.Causes.{some_load_saw}
-use Rattle.mailx_session.specs.declared.status.Status.{Status}
-use Rattle.mailx_session.specs.declared.status.Status.TheVariants as status
+use Rattle.session_state.specs.declared.status.Status.{Status}
+use Rattle.session_state.specs.declared.status.Status.TheVariants as status
 use Rattle.mailx_top.specs.Words.{Start}
 use Rattle.mailx_top.specs.Meaning.{RunState, Opening, folder_name, is_no_mail}
 use Rattle.mailx_top.specs.Usage.{IsBadlyNamed}

@@ -9,8 +9,8 @@ use Rattle.host_port.specs.declared.event.Event.{Event}
 use Rattle.command_words.specs.declared.options.Options.{Options}
 use Rattle.folder_recovery.specs.Told.{told_end}
 use Rattle.session_play.specs.declared.stop.Stop.{Stop}
-use Rattle.mailx_session.specs.declared.status.Status.{Status}
-use Rattle.mailx_session.specs.declared.status.Status.TheVariants as status
+use Rattle.session_state.specs.declared.status.Status.{Status}
+use Rattle.session_state.specs.declared.status.Status.TheVariants as status
 use Rattle.mailx_top.specs.Openings.{EndsOrIsCut}
 
 -- it is done, so that the folder is to be opened

@@ -6,8 +6,8 @@ use Rattle.commit_machine.specs.Names.{record_name}
 use Rattle.session_play.specs.declared.stop.Stop.{Stop}
 use Rattle.session_play.specs.declared.stop.Stop.TheVariants as stop
 use Rattle.mail_text.specs.Lines.{with_feed}
-use Rattle.mailx_session.specs.declared.status.Status.{Status}
-use Rattle.mailx_session.specs.declared.status.Status.TheVariants as status
+use Rattle.session_state.specs.declared.status.Status.{Status}
+use Rattle.session_state.specs.declared.status.Status.TheVariants as status
 
 -- the status at a cut
 abbrev pub status_at_stop : Stop → Status

@@ -10,9 +10,9 @@ use Rattle.folder_commit.specs.Told.{end_told}
 use Rattle.folder_recovery.specs.Told.{told_end}
 use Rattle.session_play.specs.declared.stop.Stop.{Stop}
 use Rattle.session_play.specs.Play.{Act, Answer, Changes, Recover, Play, Ret, Ask, Goes, Next, Go, Last, Loop, again, last, cut}
-use Rattle.mailx_session.specs.Saving.{is_changed}
-use Rattle.mailx_session.specs.declared.status.Status.{Status}
-use Rattle.mailx_session.specs.declared.status.Status.TheVariants as status
+use Rattle.session_state.specs.Saving.{is_changed}
+use Rattle.session_state.specs.declared.status.Status.{Status}
+use Rattle.session_state.specs.declared.status.Status.TheVariants as status
 use Rattle.mailx_top.specs.Openings.{EndsOrIsCut}
 use Rattle.mailx_top.specs.Starts.{is_bad_record}
 

@@ -7,9 +7,9 @@ use Rattle.std.specs.declared.result.Result.TheVariants.{Ok, Err}
 use Rattle.session_play.specs.declared.stop.Stop.{Stop}
 use Rattle.session_play.specs.declared.stop.Stop.TheVariants as stop
 use Rattle.mailx_vars.specs.Names.{is_short_name}
-use Rattle.mailx_session.specs.declared.status.Status.{Status}
-use Rattle.mailx_session.specs.declared.status.Status.TheVariants as status
-use Rattle.mailx_session.specs.Statuses.{IsEnd}
+use Rattle.session_state.specs.declared.status.Status.{Status}
+use Rattle.session_state.specs.declared.status.Status.TheVariants as status
+use Rattle.session_state.specs.Statuses.{IsEnd}
 use Rattle.command_desk.specs.Answers.{OrFault}
 use Rattle.command_words.specs.declared.options.Options.{Options}
 use Rattle.mailx_top.specs.declared.environment.Environment.{Environment}

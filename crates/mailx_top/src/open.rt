@@ -6,12 +6,12 @@ ghost use Rattle.mbox_scan.specs.Mailbox.{texts_of, list_of};
 ghost use Rattle.session_play.specs.Input.{no_input};
 ghost use Rattle.session_play.specs.Play.{Play, Ask, Ret, Say, Read, Goes, Loop, Caused};
 ghost use Rattle.mailx_vars.specs.Names.{is_short_name};
-ghost use Rattle.mailx_session.specs.declared.state.SessionState.{SessionState};
-ghost use Rattle.mailx_session.specs.Openings.{Opens};
+ghost use Rattle.session_state.specs.declared.state.SessionState.{SessionState};
+ghost use Rattle.session_asks.specs.Openings.{Opens};
 ghost use Rattle.mailx_top.specs.declared.environment.Environment.{Environment};
 ghost use Rattle.mailx_top.specs.Meaning.{starting, with_name, folder_name, loaded, unheld, is_no_mail, reader, with_list, begun, greeted, all_rows, heard, ends_with, round, Opening, opening, next_state};
 ghost use Rattle.mailx_top.specs.Openings.{OpensBadly};
-ghost use Rattle.mailx_session.specs.Statuses.{IsEnd};
+ghost use Rattle.session_state.specs.Statuses.{IsEnd};
 ghost use Rattle.mailx_top.specs.Usage.{EndsOr, EndsOrOpens, IsNoName};
 ghost use Rattle.mailx_top.specs.Wants.{start_from};
 

@@ -7,9 +7,9 @@ ghost use Rattle.host_port.specs.Calls.{NeverFall};
 ghost use Rattle.session_play.specs.Input.{Input, left, no_input};
 ghost use Rattle.session_play.specs.Play.{Play, Goes, Loop, Caused};
 ghost use Rattle.mailx_session.specs.Rounds.{FinishGo, LineGoes};
-ghost use Rattle.mailx_session.specs.Sessions.{stop_of};
-ghost use Rattle.mailx_session.specs.States.{is_drafting, next_waiting, rested};
-ghost use Rattle.mailx_session.specs.Statuses.{IsEnd, IsLineEnd};
+ghost use Rattle.session_state.specs.Answers.{stop_of};
+ghost use Rattle.session_state.specs.States.{is_drafting, next_waiting, rested};
+ghost use Rattle.session_state.specs.Statuses.{IsEnd, IsLineEnd};
 ghost use Rattle.mailx_top.specs.declared.environment.Environment.{Environment};
 ghost use Rattle.mailx_top.specs.Meaning.{round, Reading, AsksNext, behind_input, is_over, last_round, next_state, at_prompt, prompted, after_line, LeadsTo, LeadsAfterPrompt};
 

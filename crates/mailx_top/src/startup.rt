@@ -2,9 +2,9 @@
 ghost use Rattle.std.specs.Prelude.{◌≡◌, ◌∷◌, List, ℕ, [], IfOk, IfSome};
 ghost use Rattle.host_port.specs.Ran.{Ran};
 ghost use Rattle.session_play.specs.Play.{Play, Caused};
-ghost use Rattle.mailx_session.specs.States.{IsSession};
+ghost use Rattle.session_state.specs.States.{IsSession};
 ghost use Rattle.mailx_session.specs.Startup.{StartupGoes};
-ghost use Rattle.mailx_session.specs.Statuses.{IsEnd, IsLineEnd};
+ghost use Rattle.session_state.specs.Statuses.{IsEnd, IsLineEnd};
 ghost use Rattle.mailx_top.specs.declared.environment.Environment.{Environment};
 ghost use Rattle.mailx_top.specs.Meaning.{Preparing, LeadsTo, after_line, after_file, after_files, files_with, system_file};
 ghost use Rattle.mailx_top.specs.Words.{Start};

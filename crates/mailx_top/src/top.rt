@@ -11,7 +11,7 @@ ghost use Rattle.mailx_top.specs.Openings.{OpensBadly};
 ghost use Rattle.mailx_top.specs.Runs.{IsRun, SaysLast, SaysAtEnd};
 ghost use Rattle.mailx_top.specs.Ends.{ended_as};
 ghost use Rattle.mailx_top.specs.Statuses.{line_at_stop, line_at_end, not_a_record};
-ghost use Rattle.mailx_session.specs.Statuses.{IsEnd};
+ghost use Rattle.session_state.specs.Statuses.{IsEnd};
 ghost use Rattle.mailx_top.specs.Usage.{EndsAsNamed, EndsOr, EndsUnopened, IsBadName, IsOrCut, IsUnopened};
 ghost use Rattle.mailx_top.specs.Wants.{may_start, start_from};
 ghost use Rattle.folder_commit.specs.Safe.{MayCommit};

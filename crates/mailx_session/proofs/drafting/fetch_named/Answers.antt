@@ -2,7 +2,7 @@ use Rattle.host_port.proofs.RanLemmas.{Ran-then, Ran-map}
 use Rattle.session_play.specs.Play.{Ask, Ret, Try}
 use Rattle.session_play.proofs.PlayLemmas.{goes-then, goes-cut}
 use Rattle.mailx_session.specs.Drafting.{after_fetch}
-use Rattle.mailx_session.proofs.NameLemmas.{file-name}
+use Rattle.session_state.proofs.NameLemmas.{file-name}
 use Rattle.mailx_session.proofs.drafting.fetch_named.Goals as goal
 
 pub try_load-requires : goal.try_load-requires

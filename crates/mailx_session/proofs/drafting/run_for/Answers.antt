@@ -2,7 +2,7 @@ use Rattle.host_port.proofs.RanLemmas.{Ran-then, Ran-map}
 use Rattle.session_play.specs.Play.{Ask, Ret}
 use Rattle.session_play.proofs.PlayLemmas.{goes-then, goes-cut}
 use Rattle.mailx_session.specs.Drafting.{after_child}
-use Rattle.mailx_session.specs.Running.{by_shell}
+use Rattle.session_asks.specs.Running.{by_shell}
 use Rattle.mailx_session.proofs.DraftLemmas.{run-as}
 use Rattle.mailx_session.proofs.drafting.run_for.Goals as goal
 

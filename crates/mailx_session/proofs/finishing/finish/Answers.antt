@@ -1,6 +1,6 @@
 use Rattle.host_port.proofs.RanLemmas.{Ran-then, Ran-map}
-use Rattle.mailx_session.specs.Sessions.{stop_of}
-use Rattle.mailx_session.proofs.AskLemmas.{never-fall-then}
+use Rattle.session_state.specs.Answers.{stop_of}
+use Rattle.session_asks.proofs.AskLemmas.{never-fall-then}
 use Rattle.mailx_session.proofs.FinishLemmas.{ends-more, ends-left, ends-lost, ends-done}
 use Rattle.mailx_session.proofs.finishing.finish.Goals as goal
 

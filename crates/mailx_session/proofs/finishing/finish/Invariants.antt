@@ -1,6 +1,6 @@
 use Rattle.host_port.specs.Calls.{NeverFall}
 use Rattle.host_port.specs.Ran.{Ran}
-use Rattle.mailx_session.specs.States.{IsSession}
+use Rattle.session_state.specs.States.{IsSession}
 use Rattle.mailx_session.proofs.FinishLemmas.{open_weight, EndsSoFar}
 use Rattle.mailx_session.proofs.finishing.finish.Given as goal
 

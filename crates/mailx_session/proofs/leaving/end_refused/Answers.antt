@@ -2,7 +2,7 @@ use Rattle.std.proofs.Common.{refl}
 use Rattle.host_port.proofs.RanLemmas.{Ran-map}
 use Rattle.session_play.specs.Play.{Ask, Ret, Say}
 use Rattle.session_play.proofs.PlayLemmas.{goes-as, goes-cut}
-use Rattle.mailx_session.specs.declared.status.Status.TheVariants as status
+use Rattle.session_state.specs.declared.status.Status.TheVariants as status
 use Rattle.mailx_session.proofs.leaving.end_refused.Goals as goal
 
 pub returns-in-Ok-clause-ran : goal.returns-in-Ok-clause-ran

@@ -2,7 +2,8 @@ use Rattle.std.proofs.lemmas.Result.{err_from_is_err_and}
 use Rattle.host_port.proofs.RanLemmas.{Ran-then, Ran-map}
 use Rattle.session_play.specs.Steps.{in_order}
 use Rattle.session_play.proofs.PlayLemmas.{goes-then, goes-cut}
-use Rattle.mailx_session.specs.Sessions.{asked, after_asks}
+use Rattle.session_asks.specs.Asks.{asked}
+use Rattle.session_state.specs.Answers.{after_asks}
 use Rattle.mailx_session.specs.Leaving.{left_by}
 use Rattle.mailx_session.proofs.leaving.leave_by.Goals as goal
 

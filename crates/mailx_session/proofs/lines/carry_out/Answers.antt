@@ -7,13 +7,14 @@ use Rattle.session_play.specs.declared.stop.Stop.TheVariants as stop
 use Rattle.session_play.specs.Play.{Play, Goes, Go, Last, bind}
 use Rattle.session_play.specs.Steps.{On, Over, Refused, Ended, in_order, refused, concluded}
 use Rattle.session_play.proofs.PlayLemmas.{goes-then, goes-as, goes-cut, at-memory}
-use Rattle.mailx_session.specs.declared.state.SessionState.{SessionState}
+use Rattle.session_state.specs.declared.state.SessionState.{SessionState}
 use Rattle.command_desk.specs.declared.desk.Desk.{Desk}
 use Rattle.command_desk.specs.Desks.{IsDesk}
 use Rattle.command_desk.specs.Effects.{effect}
-use Rattle.mailx_session.specs.States.{settled}
-use Rattle.mailx_session.specs.Sessions.{asked, in_play, next_of}
-use Rattle.mailx_session.proofs.SourcingLemmas.{only-desk}
+use Rattle.session_state.specs.States.{settled}
+use Rattle.session_asks.specs.Asks.{asked}
+use Rattle.session_state.specs.Answers.{in_play, next_of}
+use Rattle.session_asks.proofs.SourcingLemmas.{only-desk}
 use Rattle.mailx_session.proofs.lines.carry_out.Goals as goal
 
 -- memory may be wanted after a play

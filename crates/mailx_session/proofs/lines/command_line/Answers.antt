@@ -1,8 +1,9 @@
 use Rattle.std.proofs.Common.{ap, ◌∙◌}
 use Rattle.host_port.proofs.RanLemmas.{Ran-map}
 use Rattle.command_desk.proofs.DeskLemmas.{if-ok}
-use Rattle.mailx_session.specs.States.{rested}
-use Rattle.mailx_session.proofs.RoundLemmas.{typed-goes, counted-rested, rested-same, stays-rested, on-err}
+use Rattle.session_state.specs.States.{rested}
+use Rattle.mailx_session.proofs.RoundLemmas.{typed-goes, stays-rested, on-err}
+use Rattle.session_state.proofs.RestLemmas.{counted-rested, rested-same}
 use Rattle.mailx_session.proofs.lines.command_line.Goals as goal
 
 pub returns-clause-ran : goal.returns-clause-ran

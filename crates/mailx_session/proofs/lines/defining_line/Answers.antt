@@ -1,4 +1,4 @@
-use Rattle.mailx_session.proofs.SourcingLemmas.{defining_brings_none, weight_kept}
+use Rattle.session_asks.proofs.SourcingLemmas.{defining_brings_none, weight_kept}
 use Rattle.mailx_session.proofs.lines.defining_line.Goals as goal
 
 pub returns-clause-falls : goal.returns-clause-falls

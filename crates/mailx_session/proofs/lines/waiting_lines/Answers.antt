@@ -1,13 +1,14 @@
 use Rattle.std.proofs.Common.{◌<◌, refl, sym, ◌∙◌, ap, subst}
 use Rattle.host_port.proofs.RanLemmas.{Ran-then, Ran-map, Ran-none}
-use Rattle.mailx_session.specs.declared.state.SessionState.{SessionState}
-use Rattle.mailx_session.specs.Sessions.{stop_of}
-use Rattle.mailx_session.proofs.AskLemmas.{never-fall-none, never-fall-then}
-use Rattle.mailx_session.proofs.PendingLemmas.{fewer-left, less-then, nothing-taken}
-use Rattle.mailx_session.proofs.SourcingLemmas.{le-refl, weight-taken}
-use Rattle.mailx_session.proofs.RoundLemmas.{waits-none, waits-more, waits-ended, waits-cut, waits-over, waits-short, next-taken, no-both, at-most, below-most}
-use Rattle.mailx_session.specs.States.{rested}
-use Rattle.mailx_session.specs.Bringing.{weight}
+use Rattle.session_state.specs.declared.state.SessionState.{SessionState}
+use Rattle.session_state.specs.Answers.{stop_of}
+use Rattle.session_asks.proofs.AskLemmas.{never-fall-none, never-fall-then}
+use Rattle.session_state.proofs.PendingLemmas.{fewer-left, less-then, nothing-taken}
+use Rattle.session_asks.proofs.SourcingLemmas.{le-refl, weight-taken}
+use Rattle.mailx_session.proofs.RoundLemmas.{waits-none, waits-more, waits-ended, waits-cut, waits-over, waits-short, next-taken, at-most, below-most}
+use Rattle.session_state.proofs.RestLemmas.{no-both}
+use Rattle.session_state.specs.States.{rested}
+use Rattle.session_state.specs.Bringing.{weight}
 use Rattle.mailx_session.proofs.lines.waiting_lines.Goals as goal
 
 pub lines-init : goal.lines-init

@@ -1,8 +1,8 @@
 use Rattle.std.specs.Prelude.{◌≡◌, ◌≤◌, ◌<◌, true, false, []}
 use Rattle.host_port.specs.Calls.{NeverFall}
 use Rattle.host_port.specs.Ran.{Ran}
-use Rattle.mailx_session.specs.States.{IsState, is_drafting}
-use Rattle.mailx_session.specs.Bringing.{weight}
+use Rattle.session_state.specs.States.{IsState, is_drafting}
+use Rattle.session_state.specs.Bringing.{weight}
 use Rattle.mailx_session.proofs.RoundLemmas.{WaitsSoFar}
 use Rattle.mailx_session.proofs.lines.waiting_lines.Given as goal
 

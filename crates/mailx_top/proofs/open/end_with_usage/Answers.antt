@@ -2,7 +2,7 @@ use Rattle.std.proofs.Common.{refl}
 use Rattle.host_port.proofs.RanLemmas.{Ran-map}
 use Rattle.session_play.specs.Play.{Ask, Ret, Say, Last, last, cut}
 use Rattle.session_play.proofs.PlayLemmas.{goes-as, goes-cut}
-use Rattle.mailx_session.specs.declared.status.Status.TheVariants.{Usage}
+use Rattle.session_state.specs.declared.status.Status.TheVariants.{Usage}
 use Rattle.mailx_top.specs.Meaning.{usage}
 use Rattle.mailx_top.proofs.open.end_with_usage.Goals as goal
 

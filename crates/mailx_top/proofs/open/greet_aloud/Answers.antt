@@ -3,7 +3,7 @@ use Rattle.host_port.proofs.RanLemmas.{Ran-map, Ran-none}
 use Rattle.session_play.specs.Input.{no_input}
 use Rattle.session_play.specs.Play.{Ask, Ret, Say, Go}
 use Rattle.session_play.proofs.PlayLemmas.{goes-as, at-memory}
-use Rattle.mailx_session.specs.Openings.{greeting}
+use Rattle.session_asks.specs.Openings.{greeting}
 use Rattle.mailx_top.specs.declared.words.Manner.TheVariants.{Greeting}
 use Rattle.mailx_top.specs.Meaning.{Reading, greeted}
 use Rattle.mailx_top.proofs.open.greet_aloud.Goals as goal

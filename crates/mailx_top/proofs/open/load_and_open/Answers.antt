@@ -3,7 +3,7 @@ use Rattle.session_play.specs.Play.{Ask, Ret, Read}
 use Rattle.session_play.proofs.PlayLemmas.{goes-then, goes-cut}
 use Rattle.mailx_top.specs.Meaning.{loaded}
 use Rattle.mailx_top.specs.Wants.{start_from}
-use Rattle.mailx_session.proofs.NameLemmas.{file-name}
+use Rattle.session_state.proofs.NameLemmas.{file-name}
 use Rattle.mailx_top.proofs.open.load_and_open.Goals as goal
 
 pub load-requires : goal.load-requires

@@ -2,7 +2,7 @@ use Rattle.std.proofs.Common.{refl}
 use Rattle.host_port.proofs.RanLemmas.{Ran-map, Ran-none}
 use Rattle.session_play.specs.Play.{Ask, Ret, Say, Last}
 use Rattle.session_play.proofs.PlayLemmas.{goes-as, at-memory}
-use Rattle.mailx_session.specs.declared.status.Status.TheVariants.{Done}
+use Rattle.session_state.specs.declared.status.Status.TheVariants.{Done}
 use Rattle.mailx_top.specs.declared.words.Manner.TheVariants.{Rows}
 use Rattle.mailx_top.specs.Meaning.{all_rows, greeted}
 use Rattle.mailx_top.proofs.open.show_rows.Goals as goal

@@ -7,9 +7,9 @@ use Rattle.host_port.proofs.RanLemmas.{Ran-none, Ran-map}
 use Rattle.session_play.specs.declared.stop.Stop.{Stop}
 use Rattle.session_play.specs.Input.{no_input}
 use Rattle.session_play.specs.Play.{Goes, Next}
-use Rattle.mailx_session.specs.declared.state.SessionState.{SessionState}
-use Rattle.mailx_session.specs.declared.status.Status.{Status}
-use Rattle.mailx_session.specs.declared.status.Status.TheVariants as status
+use Rattle.session_state.specs.declared.state.SessionState.{SessionState}
+use Rattle.session_state.specs.declared.status.Status.{Status}
+use Rattle.session_state.specs.declared.status.Status.TheVariants as status
 use Rattle.mailx_top.specs.Meaning.{RunState, ends_with, first_of}
 use Rattle.mailx_top.specs.Wants.{start_from}
 use Rattle.mailx_top.proofs.EndLemmas.{said-next, said-stops}

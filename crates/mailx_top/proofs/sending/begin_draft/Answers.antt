@@ -3,8 +3,8 @@ use Rattle.host_port.proofs.RanLemmas.{Ran-map, Ran-none}
 use Rattle.session_play.specs.Input.{no_input}
 use Rattle.session_play.specs.Play.{Ret, Go}
 use Rattle.session_play.proofs.PlayLemmas.{goes-as, goes-cut, at-memory}
-use Rattle.mailx_session.specs.Beginning.{composing}
-use Rattle.mailx_session.specs.declared.state.SessionState.{SessionState}
+use Rattle.session_asks.specs.Beginning.{composing}
+use Rattle.session_state.specs.declared.state.SessionState.{SessionState}
 use Rattle.mailx_top.specs.Meaning.{Reading, sending}
 use Rattle.mailx_top.specs.Sending.{draft_with}
 use Rattle.mailx_top.proofs.sending.begin_draft.Goals as goal

@@ -1,7 +1,7 @@
 use Rattle.std.proofs.Common.{ap}
 use Rattle.std.specs.declared.result.Result.TheVariants.{Ok}
 use Rattle.host_port.proofs.RanLemmas.{Ran-then, Ran-map}
-use Rattle.mailx_session.proofs.AskLemmas.{never-fall-then}
+use Rattle.session_asks.proofs.AskLemmas.{never-fall-then}
 use Rattle.session_play.specs.Input.{no_input}
 use Rattle.mailx_top.proofs.WaitingLemmas.{finish-leaves, finish-ends, finish-cut}
 use Rattle.mailx_top.proofs.session.end_of_input.Goals as goal

@@ -1,4 +1,4 @@
-use Rattle.mailx_session.specs.declared.flow.Flow.{Flow}
+use Rattle.session_state.specs.declared.flow.Flow.{Flow}
 use Rattle.mailx_top.proofs.EndLemmas.{caused-line}
 use Rattle.mailx_top.proofs.session.finish.Goals as goal
 

@@ -3,7 +3,7 @@ use Rattle.session_play.specs.Play.{Ret, Last}
 use Rattle.session_play.proofs.PlayLemmas.{goes-as, goes-cut}
 use Rattle.std.proofs.Common.{refl}
 use Rattle.mailx_session.specs.Leaving.{leaving}
-use Rattle.mailx_session.specs.declared.status.Status.{Status}
+use Rattle.session_state.specs.declared.status.Status.{Status}
 use Rattle.mailx_top.proofs.EndLemmas.{caused-line}
 use Rattle.mailx_top.proofs.session.leave.Goals as goal
 

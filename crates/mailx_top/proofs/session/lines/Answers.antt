@@ -2,7 +2,7 @@ use Rattle.std.proofs.Common.{[], refl}
 use Rattle.std.proofs.lemmas.Result.{err_from_is_err_and}
 use Rattle.host_port.proofs.RanLemmas.{Ran-none, Ran-then}
 use Rattle.session_play.proofs.LoopLemmas.{so-far-none}
-use Rattle.mailx_session.proofs.AskLemmas.{never-fall-none, never-fall-then}
+use Rattle.session_asks.proofs.AskLemmas.{never-fall-none, never-fall-then}
 use Rattle.mailx_top.proofs.WaitingLemmas.{so-far-leads}
 use Rattle.mailx_top.specs.Meaning.{Reading, round}
 use Rattle.session_play.specs.Input.{no_input}

@@ -1,5 +1,5 @@
 use Rattle.host_port.proofs.RanLemmas.{Ran-then, Ran-map}
-use Rattle.mailx_session.proofs.AskLemmas.{never-fall-then}
+use Rattle.session_asks.proofs.AskLemmas.{never-fall-then}
 use Rattle.mailx_top.proofs.WaitingLemmas.{prompt-cut-leads}
 use Rattle.mailx_top.proofs.session.one_line.Goals as goal
 

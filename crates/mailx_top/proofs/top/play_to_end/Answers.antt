@@ -1,7 +1,7 @@
 use Rattle.std.proofs.Common.{refl, sym, subst, Ok}
 use Rattle.host_port.proofs.RanLemmas.{Ran-map}
 use Rattle.session_play.specs.Play.{Loop}
-use Rattle.mailx_session.specs.declared.status.Status.{Status}
+use Rattle.session_state.specs.declared.status.Status.{Status}
 use Rattle.mailx_top.specs.Meaning.{round, Recovering}
 use Rattle.mailx_top.specs.Wants.{may_start}
 use Rattle.mailx_top.specs.Words.{start_of}

@@ -3,7 +3,7 @@ use Rattle.std.specs.Option.{option_and_then}
 use Rattle.host_port.specs.Ran.{Ran}
 use Rattle.host_port.proofs.RanLemmas.{Ran-then, Ran-since, Ran-none}
 use Rattle.session_play.specs.declared.stop.Stop.TheVariants as stop
-use Rattle.mailx_session.specs.declared.status.Status.TheVariants as status
+use Rattle.session_state.specs.declared.status.Status.TheVariants as status
 use Rattle.session_play.specs.Play.{cut}
 use Rattle.session_play.proofs.PlayLemmas.{at-memory}
 use Rattle.mailx_top.specs.Meaning.{recovering}

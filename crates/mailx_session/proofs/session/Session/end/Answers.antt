@@ -1,4 +1,4 @@
-use Rattle.mailx_session.proofs.RoundLemmas.{rested-same}
+use Rattle.session_state.proofs.RestLemmas.{rested-same}
 use Rattle.mailx_session.proofs.session.Session.end.Goals as goal
 
 pub returns-clause-ran : goal.returns-clause-ran

@@ -1,7 +1,7 @@
 use Rattle.std.proofs.Common.{◌≤◌, sym, subst, arith}
-use Rattle.mailx_session.specs.declared.state.SessionState.{SessionState}
-use Rattle.mailx_session.specs.States.{IsSession}
-use Rattle.mailx_session.proofs.StateLemmas.{first-valid, home-short}
+use Rattle.session_state.specs.declared.state.SessionState.{SessionState}
+use Rattle.session_state.specs.States.{IsSession}
+use Rattle.session_asks.proofs.StateLemmas.{first-valid, home-short}
 use Rattle.mailx_session.proofs.session.Session.new.Goals as goal
 
 pub invariant_of-result : goal.invariant_of-result

@@ -1,8 +1,8 @@
 use Rattle.std.proofs.Common.{◌≡◌, ap, ◌∙◌, subst}
-use Rattle.mailx_session.specs.declared.state.SessionState.{SessionState}
-use Rattle.mailx_session.specs.States.{with_desk}
-use Rattle.mailx_session.specs.Openings.{with_opened}
-use Rattle.mailx_session.proofs.OpeningLemmas.{laid-is}
+use Rattle.session_state.specs.declared.state.SessionState.{SessionState}
+use Rattle.session_state.specs.States.{with_desk}
+use Rattle.session_asks.specs.Openings.{with_opened}
+use Rattle.session_asks.proofs.OpeningLemmas.{laid-is}
 use Rattle.mailx_session.proofs.session.Session.open.Goals as goal
 
 pub returns-clause-ok : goal.returns-clause-ok

@@ -1,6 +1,0 @@
-use Rattle.mailx_session.proofs.NameLemmas.{file-name}
-use Rattle.mailx_session.proofs.SourcingLemmas.{source-name}
-use Rattle.mailx_session.proofs.sourcing.load_lines.Goals as goal
-
-pub try_load-requires : goal.try_load-requires
-try_load-requires g c = file-name c.args.name.now (source-name c.args.state.now.frames c.args.name.now c.requires)

@@ -1,7 +1,0 @@
-use Rattle.host_port.proofs.RanLemmas.{Ran-none}
-use Rattle.session_play.proofs.PlayLemmas.{at-memory}
-use Rattle.mailx_session.specs.Switching.{open_fault, switches}
-use Rattle.mailx_session.proofs.switching.switch.Goals as goal
-
-pub returns-in-Err-clause-ran : goal.returns-in-Err-clause-ran
-returns-in-Err-clause-ran g c = Ran-none (at-memory (switches c.args.state.now c.args.name.now c.args.changes.now c.args.reply.now (open_fault c.args.state.now.actor c.args.name.now c.args.changes.now)))

@@ -1,0 +1,6 @@
+pub mod AskLemmas
+pub mod BeginningLemmas
+pub mod OpeningLemmas
+pub mod SourcingLemmas
+pub mod StateLemmas
+pub mod SwitchingLemmas

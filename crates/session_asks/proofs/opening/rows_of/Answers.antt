@@ -1,0 +1,34 @@
+use Rattle.std.proofs.Common.{◌+◌, ◌++◌, ◌∷◌, [], ℕ, List, take, sym, subst, arith}
+use Rattle.std.specs.Prelude.{All, IfSome}
+use Rattle.std.proofs.lemmas.Slice.Zip.{AllZip-long}
+use Rattle.std.proofs.lemmas.List.{length-take-le}
+use Rattle.std.proofs.lemmas.List.Elements.{All-push}
+use Rattle.mail_dates.specs.Clock.{IsInYears}
+use Rattle.mbox_scan.specs.Mailbox.{texts_of}
+use Rattle.message_state.specs.declared.row.Row.{Row}
+use Rattle.message_state.specs.Rows.{IsRow}
+use Rattle.session_play.specs.Knowing.{AreRows}
+use Rattle.session_asks.proofs.OpeningLemmas.{zip-push}
+use Rattle.session_asks.proofs.opening.rows_of.Goals as goal
+
+pub loop-k-preserved : goal.loop-k-preserved
+loop-k-preserved c =
+    let texts = texts_of c.args.folder.now in
+    let row = c.in_ok-row_of.field-0 in
+    let rows = c.loop-k.rows in
+    let k = c.loop-k.k in
+    let is : IsRow c.message.result row = subst (λ (t : List ℕ). IsRow t row) c.text.ensures c.in_ok-row_of.ensures.row in
+    let more : AreRows (take k texts ++ c.message.result ∷ []) (rows ++ row ∷ []) = zip-push IsRow (take k texts) rows c.message.result row c.loop-k.invariant.0 is in
+    let years : All (λ (row : Row). IfSome row.moment IsInYears) (rows ++ row ∷ []) = All-push (λ (row : Row). IfSome row.moment IsInYears) rows row c.loop-k.invariant.1 c.in_ok-row_of.ensures.years in (
+      subst (λ (l : List Row). AreRows (take (k + 1) texts) l) (sym c.in_ok-push.ensures.ok) (subst (λ (ts : List (List ℕ)). AreRows ts (rows ++ row ∷ [])) (sym c.message.ensures.front) more),
+      subst (All (λ (row : Row). IfSome row.moment IsInYears)) (sym c.in_ok-push.ensures.ok) years,
+    )
+
+pub returns-clause-few : goal.returns-clause-few
+returns-clause-few c =
+    let texts = texts_of c.args.folder.now in
+    let long = AllZip-long IsRow (take c.loop-k.k texts) c.loop-k.rows c.loop-k.invariant.0 in
+    let within = length-take-le c.loop-k.k texts in
+    let few = c.count-k-end.ensures.few in
+    let count = c.count-k-end.ensures.count in
+    omega arith

@@ -1,0 +1,62 @@
+-- What a command asks for, and what its answer leaves.
+use Rattle.std.specs.Prelude.{◌≡◌, Bool, true, false}
+use Rattle.std.specs.declared.result.Result.{Result}
+use Rattle.std.specs.declared.result.Result.TheVariants.{Ok, Err}
+use Rattle.session_play.specs.Play.{Play, Ret, Ask, Say}
+use Rattle.session_play.specs.Steps.{After, On, Over, Refused, Ended}
+use Rattle.command_desk.specs.declared.steps.Ask as asked_of
+use Rattle.command_desk.specs.declared.steps.Ask.TheVariants as asks
+use Rattle.command_desk.specs.declared.steps.Refusal.{Refusal}
+use Rattle.command_desk.specs.declared.steps.Refusal.TheVariants as refusal
+use Rattle.session_state.specs.declared.answers.Asked.{Asked}
+use Rattle.session_state.specs.declared.answers.Asked.TheVariants as answered
+use Rattle.session_state.specs.declared.error.RunError.{RunError}
+use Rattle.session_state.specs.declared.error.RunError.TheVariants as error
+use Rattle.session_state.specs.declared.state.SessionState.{SessionState}
+use Rattle.session_state.specs.declared.status.Status.{Status}
+use Rattle.session_state.specs.States.{OnlyFrames}
+use Rattle.session_asks.specs.Beginning.{beginning, file_fault}
+use Rattle.session_state.specs.Outcomes.{status_of}
+use Rattle.session_asks.specs.Running.{run_asked}
+use Rattle.session_state.specs.Saving.{names_fault, saved}
+use Rattle.session_asks.specs.Sourcing.{source_fault, sourced}
+use Rattle.session_asks.specs.Calling.{called}
+use Rattle.session_asks.specs.Switching.{open_fault, switches}
+
+-- what is asked for, and what its answer leaves
+abbrev pub asked : SessionState → asked_of.Ask → Play (After SessionState Status)
+asked s (asks.Say bytes) = Ask (Say bytes) (λ _. Ret (On s))
+asked s (asks.Commit changes) = saved s changes (names_fault s.actor changes)
+asked s (asks.Source name) = sourced s name (source_fault s.frames name)
+asked s (asks.Lines text) = Ret (called s text)
+asked s (asks.Open name changes reply) = switches s name changes reply (open_fault s.actor name changes)
+asked s (asks.Draft draft file current) = beginning s draft file current (file_fault s.actor file)
+asked s (asks.Child command input) = run_asked s command input
+asked s asks.Exit = Ret (Ended (status_of s.outcome))
+
+-- all was done, and the command isn't over
+abbrev pub all_done : Result Asked RunError → Bool
+all_done (Ok answered.On) = true
+all_done r = false
+
+-- all was done, to the last or to one with which the command is over
+abbrev pub is_on : Result Asked RunError → Bool
+is_on (Ok answered.On) = true
+is_on (Ok answered.Over) = true
+is_on r = false
+
+-- where not all was done, the state stays
+abbrev pub StaysUnlessOn : SessionState → SessionState → Result Asked RunError → Type 0
+StaysUnlessOn old new (Ok answered.On) = Unit {0}
+StaysUnlessOn old new (Ok answered.Over) = Unit {0}
+StaysUnlessOn old new r = new ≡ old
+
+-- desk and draft stay, unless the command is over with an ask
+abbrev pub KeepsDesk : SessionState → SessionState → Result Asked RunError → Type 0
+KeepsDesk old new (Ok answered.Over) = Unit {0}
+KeepsDesk old new r = OnlyFrames old new
+
+-- a refusal leaves its line, or is a cut for want of memory
+abbrev pub IsRefusedSo : Refusal → Result Asked RunError → Type 0
+IsRefusedSo (refusal.Fault line) r = r ≡ Ok (answered.Refused line)
+IsRefusedSo refusal.Memory r = r ≡ Err error.Memory

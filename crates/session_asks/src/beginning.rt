@@ -1,0 +1,235 @@
+// A draft that begins.
+ghost use Rattle.std.specs.Prelude.{◌≡◌, None, Some, IfOk, OnOk};
+ghost use Rattle.host_port.specs.Calls.{NeverFall};
+ghost use Rattle.host_port.specs.Ran.{Ran};
+ghost use Rattle.session_play.specs.Play.{Play, Goes};
+ghost use Rattle.compose_tilde.specs.Views.{view_of, IsView};
+ghost use Rattle.command_desk.specs.Desks.{IsDesk};
+ghost use Rattle.session_asks.specs.Beginning.{at_message, beginning, begun, begun_with, composing, file_fault, subject_asked, view_as, with_new_draft};
+ghost use Rattle.session_state.specs.Bringing.{OnlyBrings};
+ghost use Rattle.session_state.specs.States.{IsState, rested, with_draft};
+ghost use Rattle.session_state.specs.Answers.{after_asks, in_play, LineCaused, EndsByAsk};
+ghost use Rattle.session_asks.specs.Asks.{KeepsDesk};
+
+use command_desk::moved;
+use compose_tilde::{Compose, ComposeView};
+use draft_text::{Draft, flattened};
+use host_port::Host;
+use mail_text::{Memory, Text};
+use read_commands::Desk;
+use session_state::{Asked, RunError, SessionState, name_fault, say};
+use std::alloc::Global;
+
+/// What a line of a draft is read with.
+pub fn view_as(desk: &Desk, terminal: bool) -> ComposeView<'_>
+    requires { IsDesk desk.now }
+    ensures view { view_of result ≡ view_as desk.now terminal }
+    ensures valid { IsView (view_of result) }
+{
+    ComposeView {
+        vars: &desk.vars,
+        shown: &desk.shown,
+        folder: Some(&desk.folder.folder),
+        sets: &desk.sets,
+        mode: desk.mode,
+        terminal,
+    }
+}
+
+// Says `Subject: `, where the next line is the subject.
+fn ask_subject<H: Host>(host: &mut H, asks: bool) -> Result<(), RunError>
+    ensures ran { Ran H.world host.old host.new
+        (λ es. Goes (subject_asked asks) es (in_play (λ u. u) result)) }
+    ensures cause { LineCaused (H.world.counts host.old) (H.world.counts host.new) result }
+{
+    if asks {
+        say(host, b"Subject: ")
+    } else {
+        Ok(())
+    }
+}
+
+// Opens a draft.
+fn open_draft(draft: &mut Option<Compose>, compose: Compose)
+    ensures { draft.new ≡ Some compose }
+{
+    *draft = Some(compose);
+}
+
+// Opens a draft, once its subject was asked for where the next line is that. The command is over then.
+fn begin_with<H: Host>(
+    state: &mut SessionState,
+    host: &mut H,
+    compose: Compose,
+) -> Result<Asked, RunError>
+    requires { IsState state.old }
+    ensures ran { Ran H.world host.old host.new
+        (λ es. Goes (begun_with state.old compose) es (in_play (after_asks state.new) result)) }
+    ensures fall { NeverFall (H.world.counts host.old) (H.world.counts host.new) }
+    ensures brings { OnlyBrings state.old state.new }
+    ensures valid { IsState state.new }
+    ensures desk { KeepsDesk state.old state.new result }
+    ensures over { IfOk result (λ asked. asked ≡ Asked.Over) }
+    ensures begun { OnOk result (state.new ≡ with_draft state.old (Some compose)) }
+    ensures cause { LineCaused (H.world.counts host.old) (H.world.counts host.new) result }
+{
+    let asks = compose.asks_subject(&view_as(&state.desk, state.terminal));
+    match ask_subject(host, asks) {
+        Ok(()) => {
+            open_draft(&mut state.draft, compose);
+            Ok(Asked::Over)
+        }
+        Err(error) => Err(error),
+    }
+}
+
+/// Begins a draft, once its subject was asked for where the next line is that. The command is over then.
+pub(crate) fn begin<H: Host>(
+    alloc: Global,
+    state: &mut SessionState,
+    host: &mut H,
+    draft: &Draft,
+) -> Result<Asked, RunError>
+    requires { IsState state.old }
+    ensures ran { Ran H.world host.old host.new
+        (λ es. Goes (begun state.old draft.now) es (in_play (after_asks state.new) result)) }
+    ensures fall { NeverFall (H.world.counts host.old) (H.world.counts host.new) }
+    ensures brings { OnlyBrings state.old state.new }
+    ensures valid { IsState state.new }
+    ensures desk { KeepsDesk state.old state.new result }
+    ensures over { IfOk result (λ asked. asked ≡ Asked.Over) }
+    ensures begun { OnOk result (state.new ≡ with_new_draft state.old draft.now) }
+    ensures cause { LineCaused (H.world.counts host.old) (H.world.counts host.new) result }
+{
+    match flattened(alloc, draft) {
+        Ok(draft) => begin_with(state, host, Compose::new(alloc, draft)),
+        Err(Memory) => Err(RunError::Memory),
+    }
+}
+
+/// Begins the draft of send mode in the same way.
+pub fn compose<H: Host>(
+    alloc: Global,
+    state: &mut SessionState,
+    host: &mut H,
+    draft: &Draft,
+) -> Result<(), RunError>
+    requires { IsState state.old }
+    ensures ran { Ran H.world host.old host.new
+        (λ es. Goes (composing state.old draft.now) es (in_play (λ u. rested state.new) result)) }
+    ensures valid { IsState state.new }
+    ensures begun { OnOk result (state.new ≡ with_new_draft state.old draft.now) }
+    ensures cause { LineCaused (H.world.counts host.old) (H.world.counts host.new) result }
+{
+    match begin(alloc, state, host, draft) {
+        Ok(_) => Ok(()),
+        Err(error) => Err(error),
+    }
+}
+
+// Makes message n current, where the desk has so many.
+fn move_within(alloc: Global, state: &mut SessionState, n: u32)
+    requires { IsState state.old }
+    ensures moved { state.new ≡ at_message state.old (Some n) }
+    ensures state { IsState state.new }
+{
+    if n as usize <= state.desk.shown.rows.items().len() {
+        let effects = moved(alloc, &state.desk, n);
+        match state.desk.settle(effects) {
+            Ok(()) => {}
+            Err(Memory) => {}
+        }
+    }
+}
+
+// The same, where one is to be.
+fn move_to(alloc: Global, state: &mut SessionState, current: Option<u32>)
+    requires { IsState state.old }
+    ensures moved { state.new ≡ at_message state.old current }
+    ensures state { IsState state.new }
+{
+    if let Some(n) = current {
+        move_within(alloc, state, n);
+    }
+}
+
+// What is wrong with the file of a draft.
+fn file_fault(alloc: Global, actor: &[u8], file: &Option<Text>) -> Result<Option<Text>, Memory>
+    ensures { IfOk result (λ line. line ≡ file_fault actor.now file.now) }
+{
+    match file {
+        Some(name) => name_fault(alloc, actor, name.bytes()),
+        None => Ok(None),
+    }
+}
+
+// A copy of the name of a file, where there is one.
+fn file_copy(alloc: Global, file: &Option<Text>) -> Result<Option<Text>, Memory>
+    ensures { IfOk result (λ copy. copy ≡ file.now) }
+{
+    match file {
+        Some(name) => Ok(Some(Text::copy(alloc, name.bytes())?)),
+        None => Ok(None),
+    }
+}
+
+// Begins a draft that is recorded in this file, where it has one of its own; this message is current then.
+fn begin_placed<H: Host>(
+    alloc: Global,
+    state: &mut SessionState,
+    host: &mut H,
+    draft: &Draft,
+    file: &Option<Text>,
+    current: Option<u32>,
+) -> Result<Asked, RunError>
+    requires { IsState state.old }
+    ensures ran { Ran H.world host.old host.new
+        (λ es. Goes (beginning state.old draft.now file.now current None) es (in_play (after_asks state.new) result)) }
+    ensures fall { NeverFall (H.world.counts host.old) (H.world.counts host.new) }
+    ensures brings { OnlyBrings state.old state.new }
+    ensures valid { IsState state.new }
+    ensures desk { KeepsDesk state.old state.new result }
+    ensures end { IfOk result EndsByAsk }
+    ensures cause { LineCaused (H.world.counts host.old) (H.world.counts host.new) result }
+{
+    let copy = match file_copy(alloc, file) {
+        Ok(copy) => copy,
+        Err(Memory) => return Err(RunError::Memory),
+    };
+    match begin(alloc, state, host, draft) {
+        Ok(_) => {
+            move_to(alloc, state, current);
+            state.file = copy;
+            Ok(Asked::Over)
+        }
+        Err(error) => Err(error),
+    }
+}
+
+/// Begins a draft that a command asks for, unless something is wrong with the file that it is recorded in, where it has
+/// one of its own; this message is current then.
+pub(crate) fn begin_recorded<H: Host>(
+    alloc: Global,
+    state: &mut SessionState,
+    host: &mut H,
+    draft: &Draft,
+    file: &Option<Text>,
+    current: Option<u32>,
+) -> Result<Asked, RunError>
+    requires { IsState state.old }
+    ensures ran { Ran H.world host.old host.new
+        (λ es. Goes (beginning state.old draft.now file.now current (file_fault state.old.actor file.now)) es
+        (in_play (after_asks state.new) result)) }
+    ensures fall { NeverFall (H.world.counts host.old) (H.world.counts host.new) }
+    ensures brings { OnlyBrings state.old state.new }
+    ensures valid { IsState state.new }
+    ensures desk { KeepsDesk state.old state.new result }
+    ensures end { IfOk result EndsByAsk }
+    ensures cause { LineCaused (H.world.counts host.old) (H.world.counts host.new) result }
+{
+    match file_fault(alloc, state.actor.bytes(), file) {
+        Ok(Some(line)) => Ok(Asked::Refused { line }),
+        Ok(None) => begin_placed(alloc, state, host, draft, file, current),
+        Err(Memory) => Err(RunError::Memory),
+    }
+}

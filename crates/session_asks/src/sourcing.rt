@@ -1,0 +1,107 @@
+// A file whose lines a command brings.
+ghost use Rattle.std.specs.Prelude.{◌≡◌, ◌<◌, None, IfOk};
+ghost use Rattle.host_port.specs.Calls.{NeverFall};
+ghost use Rattle.host_port.specs.Ran.{Ran};
+ghost use Rattle.session_play.specs.Play.{Play, Goes};
+ghost use Rattle.session_state.specs.Bringing.{source_limit, sources, OnlyBrings};
+ghost use Rattle.session_asks.specs.Sourcing.{source_fault, sourced, after_load};
+ghost use Rattle.session_state.specs.States.{OnlyFrames};
+ghost use Rattle.session_state.specs.Answers.{after_asks, in_play, LineCaused, EndsByAsk};
+
+use crate::bringing::bring;
+use host_port::Host;
+use mail_text::{Memory, Text};
+use mailx_vars::is_short_name;
+use session_play::{Found, try_load};
+use session_state::{Asked, FrameKind, Frames, RunError, SessionState, line_of, refused};
+use std::alloc::Global;
+
+/// The most sourced files that are open at once.
+const SOURCE_LIMIT: usize = 16;
+
+// What stands in the way of a load: what is wrong with the name, or too many open files.
+fn source_fault(alloc: Global, frames: &Frames, name: &[u8]) -> Result<Option<Text>, Memory>
+    ensures { IfOk result (λ fault. fault ≡ source_fault frames.now name.now) }
+{
+    if !is_short_name(name) {
+        Ok(Some(line_of(alloc, name, b": bad name")?))
+    } else if frames.sources() >= SOURCE_LIMIT {
+        Ok(Some(line_of(alloc, b"sources nest too deep", b"")?))
+    } else {
+        Ok(None)
+    }
+}
+
+// What the load of a file of this name leaves.
+fn after_load(
+    alloc: Global,
+    state: &mut SessionState,
+    name: &[u8],
+    found: Option<Found>,
+) -> Result<Asked, Memory>
+    requires { sources state.old.frames < source_limit }
+    ensures means { IfOk result (λ asked. after_asks state.new asked ≡ after_load state.old name.now found) }
+    ensures brings { OnlyBrings state.old state.new }
+    ensures desk { OnlyFrames state.old state.new }
+    ensures end { IfOk result EndsByAsk }
+{
+    match found {
+        Some(
+            Found::Bytes {
+                bytes: Some(text),
+                ..
+            },
+        ) => bring(state, FrameKind::Source, text),
+        Some(Found::Bytes { bytes: None, .. }) => refused(alloc, name, b": no such file"),
+        Some(Found::TooLarge { .. }) => refused(alloc, name, b": too large"),
+        None => refused(alloc, name, b": cannot be read"),
+    }
+}
+
+// Loads a file whose name was tested, and brings its lines.
+fn load_lines<H: Host>(
+    alloc: Global,
+    state: &mut SessionState,
+    host: &mut H,
+    name: &[u8],
+) -> Result<Asked, RunError>
+    requires { source_fault state.old.frames name.now ≡ None }
+    ensures ran { Ran H.world host.old host.new
+        (λ es. Goes (sourced state.old name.now None) es (in_play (after_asks state.new) result)) }
+    ensures fall { NeverFall (H.world.counts host.old) (H.world.counts host.new) }
+    ensures brings { OnlyBrings state.old state.new }
+    ensures desk { OnlyFrames state.old state.new }
+    ensures end { IfOk result EndsByAsk }
+    ensures cause { LineCaused (H.world.counts host.old) (H.world.counts host.new) result }
+{
+    match try_load(alloc, host, name) {
+        Ok(found) => match after_load(alloc, state, name, found) {
+            Ok(asked) => Ok(asked),
+            Err(Memory) => Err(RunError::Memory),
+        },
+        Err(_) => Err(RunError::Memory),
+    }
+}
+
+/// Loads a file and brings its lines, unless something stands in the way.
+pub(crate) fn source<H: Host>(
+    alloc: Global,
+    state: &mut SessionState,
+    host: &mut H,
+    name: &[u8],
+) -> Result<Asked, RunError>
+    ensures ran { Ran H.world host.old host.new
+        (λ es. Goes (sourced state.old name.now (source_fault state.old.frames name.now)) es
+        (in_play (after_asks state.new) result)) }
+    ensures fall { NeverFall (H.world.counts host.old) (H.world.counts host.new) }
+    ensures brings { OnlyBrings state.old state.new }
+    ensures desk { OnlyFrames state.old state.new }
+    ensures end { IfOk result EndsByAsk }
+    ensures cause { LineCaused (H.world.counts host.old) (H.world.counts host.new) result }
+{
+    match source_fault(alloc, &state.frames, name) {
+        Ok(Some(line)) => Ok(Asked::Refused { line }),
+        Ok(None) => load_lines(alloc, state, host, name),
+        Err(Memory) => Err(RunError::Memory),
+    }
+}

@@ -1,0 +1,345 @@
+// Another file, which is opened in place of the folder.
+ghost use Rattle.std.specs.Prelude.{◌≡◌, ◌++◌, ◌<◌, None, Ok, IfOk, IfSome};
+ghost use Rattle.host_port.specs.Calls.{Counts, NeverFall};
+ghost use Rattle.host_port.specs.Ran.{Ran};
+ghost use Rattle.session_play.specs.Play.{Play, Ask, Ret, Say, Goes};
+ghost use Rattle.session_play.specs.Steps.{On};
+ghost use Rattle.command_desk.specs.Answers.{Means};
+ghost use Rattle.command_desk.specs.Desks.{IsDesk};
+ghost use Rattle.show_commands.specs.Paging.{page_size};
+ghost use Rattle.session_state.specs.States.{IsState};
+ghost use Rattle.session_state.specs.Saving.{names_fault};
+ghost use Rattle.session_asks.specs.Openings.{IsKnownSize, IsOpening, with_folder};
+ghost use Rattle.session_state.specs.Bringing.{OnlyBrings};
+ghost use Rattle.session_asks.specs.Switching.{open_fault, loaded_folder, laid_as, announcement, announced, switching, switched_to, switches, with_laid, laid_on};
+ghost use Rattle.session_state.specs.Answers.{after_asks, in_play, LineCaused, EndsByAsk};
+ghost use Rattle.session_asks.specs.Asks.{KeepsDesk, IsRefusedSo};
+
+use crate::asks::all_done;
+use crate::greetings::announcement;
+use crate::opening::{Opening, opening_of, page_here};
+use command_desk::{Refusal, fault};
+use folder_change::Change;
+use folder_commands::made_folder;
+use host_port::Host;
+use mail_text::{Memory, Text};
+use mailx_vars::is_short_name;
+use mbox_scan::Folder;
+use message_state::Shown;
+use read_commands::{Desk, Open};
+use session_play::{Found, try_load};
+use session_state::{Asked, RunError, SessionState, commit, line_of, names_fault, say};
+use std::alloc::Global;
+use std::mem;
+
+/// What stands on the desk for a folder.
+#[derive(Drop)]
+pub(crate) struct Laid {
+    folder: Open,
+    shown: Shown,
+    page: usize,
+    fresh: bool,
+    previous: Text,
+}
+
+// What stands in the way of a load: what is wrong with the name of the file, or else with that of one that is changed.
+fn open_fault(
+    alloc: Global,
+    actor: &[u8],
+    name: &[u8],
+    changes: &[Change],
+) -> Result<Option<Text>, Memory>
+    ensures { IfOk result (λ fault. fault ≡ open_fault actor.now name.now changes.now) }
+{
+    if is_short_name(name) {
+        names_fault(alloc, actor, changes)
+    } else {
+        Ok(Some(line_of(alloc, name, b": bad name")?))
+    }
+}
+
+// Opens a file of this name by what its load found, as the changes of the folder that is left make it.
+fn loaded_folder(
+    alloc: Global,
+    desk: &Desk,
+    changes: &[Change],
+    name: &[u8],
+    found: Option<Found>,
+) -> Result<Folder, Refusal>
+    ensures { Means result (loaded_folder desk.now changes.now name.now found) }
+{
+    match found {
+        Some(Found::Bytes { held: true, .. }) => Err(fault(alloc, name, b": busy")),
+        Some(Found::Bytes { bytes, held: false }) => {
+            made_folder(alloc, changes, &desk.folder.folder, name, bytes)
+        }
+        Some(Found::TooLarge { .. }) => Err(fault(alloc, name, b": too large")),
+        None => Err(fault(alloc, name, b": cannot be read")),
+    }
+}
+
+// Puts these parts on the desk, and hands out its own ones.
+fn exchange(desk: &mut Desk, other: Laid) -> Laid
+    ensures put { desk.new ≡ with_laid desk.old other }
+    ensures taken { result ≡ laid_on desk.old }
+{
+    let folder = mem::replace(&mut desk.folder, other.folder);
+    let shown = mem::replace(&mut desk.shown, other.shown);
+    let previous = mem::replace(&mut desk.previous, other.previous);
+    let before = Laid {
+        folder,
+        shown,
+        page: desk.page,
+        fresh: desk.fresh,
+        previous,
+    };
+    desk.page = other.page;
+    desk.fresh = other.fresh;
+    before
+}
+
+// Puts a folder on the desk, and hands out what stood there.
+fn lay(desk: &mut Desk, opening: Opening, previous: Text) -> Laid
+    requires size { IsKnownSize (page_size desk.old) opening.size }
+    requires some { IfSome opening.size (λ n. 0 < n) }
+    requires desk { IsDesk (with_folder desk.old opening.folder opening.shown) }
+    ensures put { desk.new ≡ laid_as desk.old opening previous }
+    ensures taken { result ≡ laid_on desk.old }
+    ensures valid { IsDesk desk.new }
+{
+    let Opening {
+        size,
+        folder,
+        shown,
+    } = opening;
+    let before = exchange(
+        desk,
+        Laid {
+            folder,
+            shown,
+            page: 0,
+            fresh: true,
+            previous,
+        },
+    );
+    desk.page = page_here(desk, size);
+    before
+}
+
+// Says a reply and then the lines of the folder on the desk.
+fn say_opened<H: Host>(
+    alloc: Global,
+    host: &mut H,
+    desk: &Desk,
+    reply: &Text,
+) -> Result<(), RunError>
+    requires { IsDesk desk.now }
+    ensures ran { Ran H.world host.old host.new
+        (λ es. Goes (Ask (Say (reply.now ++ announcement desk.now)) Ret) es (in_play (λ u. u) result)) }
+    ensures cause { LineCaused (H.world.counts host.old) (H.world.counts host.new) result }
+{
+    match announcement(alloc, desk, reply.bytes()) {
+        Ok(text) => say(host, text.bytes()),
+        Err(Memory) => Err(RunError::Memory),
+    }
+}
+
+// Puts a folder on the desk and says its lines behind the reply. Where they can't be said the desk is as before.
+fn announce<H: Host>(
+    alloc: Global,
+    state: &mut SessionState,
+    host: &mut H,
+    reply: &Text,
+    opening: Opening,
+    previous: Text,
+) -> Result<Asked, RunError>
+    requires state { IsState state.old }
+    requires size { IsKnownSize (page_size state.old.desk) opening.size }
+    requires some { IfSome opening.size (λ n. 0 < n) }
+    requires desk { IsDesk (with_folder state.old.desk opening.folder opening.shown) }
+    ensures ran { let desk = laid_as state.old.desk opening previous in Ran H.world host.old host.new
+        (λ es. Goes (announced reply.now desk (On state.old)) es (in_play (after_asks state.new) result)) }
+    ensures brings { OnlyBrings state.old state.new }
+    ensures valid { IsState state.new }
+    ensures desk { KeepsDesk state.old state.new result }
+    ensures end { IfOk result EndsByAsk }
+    ensures cause { LineCaused (H.world.counts host.old) (H.world.counts host.new) result }
+{
+    let before = lay(&mut state.desk, opening, previous);
+    match say_opened(alloc, host, &state.desk, reply) {
+        Ok(()) => Ok(Asked::Over),
+        Err(error) => {
+            let _opened = exchange(&mut state.desk, before);
+            Err(error)
+        }
+    }
+}
+
+// Commits the changes and opens the folder.
+fn leave_for<H: Host>(
+    alloc: Global,
+    state: &mut SessionState,
+    host: &mut H,
+    changes: &[Change],
+    reply: &Text,
+    opening: Opening,
+    previous: Text,
+) -> Result<Asked, RunError>
+    requires state { IsState state.old }
+    requires names { names_fault state.old.actor changes.now ≡ None }
+    requires size { IsKnownSize (page_size state.old.desk) opening.size }
+    requires some { IfSome opening.size (λ n. 0 < n) }
+    requires desk { IsDesk (with_folder state.old.desk opening.folder opening.shown) }
+    ensures ran { let desk = laid_as state.old.desk opening previous in Ran H.world host.old host.new
+        (λ es. Goes (switching state.old changes.now reply.now desk) es (in_play (after_asks state.new) result)) }
+    ensures brings { OnlyBrings state.old state.new }
+    ensures valid { IsState state.new }
+    ensures desk { KeepsDesk state.old state.new result }
+    ensures end { IfOk result EndsByAsk }
+    ensures cause { LineCaused (H.world.counts host.old) (H.world.counts host.new) result }
+{
+    let asked = commit(alloc, state, host, changes);
+    if all_done(&asked) {
+        announce(alloc, state, host, reply, opening, previous)
+    } else {
+        asked
+    }
+}
+
+// What is to be put on the desk for a folder of this name, and the name of the one on the desk.
+fn opening_named(
+    alloc: Global,
+    desk: &Desk,
+    name: &[u8],
+    folder: Folder,
+) -> Result<(Opening, Text), Memory>
+    requires { IsDesk desk.now }
+    ensures { IfOk result (λ both. IsOpening desk.now name.now folder both.0 × (both.1 ≡ desk.now.folder.name)) }
+{
+    let previous = Text::copy(alloc, desk.folder.name.bytes())?;
+    let name = Text::copy(alloc, name)?;
+    let opening = opening_of(alloc, desk, name, folder)?;
+    Ok((opening, previous))
+}
+
+// Opens a folder once the changes were committed.
+fn switch_to<H: Host>(
+    alloc: Global,
+    state: &mut SessionState,
+    host: &mut H,
+    name: &[u8],
+    changes: &[Change],
+    reply: &Text,
+    folder: Folder,
+) -> Result<Asked, RunError>
+    requires state { IsState state.old }
+    requires names { names_fault state.old.actor changes.now ≡ None }
+    ensures ran { Ran H.world host.old host.new
+        (λ es. Goes (switched_to state.old name.now changes.now reply.now (Ok folder)) es
+        (in_play (after_asks state.new) result)) }
+    ensures brings { OnlyBrings state.old state.new }
+    ensures valid { IsState state.new }
+    ensures desk { KeepsDesk state.old state.new result }
+    ensures end { IfOk result EndsByAsk }
+    ensures cause { LineCaused (H.world.counts host.old) (H.world.counts host.new) result }
+{
+    match opening_named(alloc, &state.desk, name, folder) {
+        Ok((opening, previous)) => {
+            leave_for(alloc, state, host, changes, reply, opening, previous)
+        }
+        Err(Memory) => Err(RunError::Memory),
+    }
+}
+
+// What a refusal leaves.
+fn refused_by(refusal: Refusal) -> Result<Asked, RunError>
+    ensures refused { IsRefusedSo refusal result }
+    ensures end { IfOk result EndsByAsk }
+    ensures cause { (old : Counts) (new : Counts) → LineCaused old new result }
+{
+    match refusal {
+        Refusal::Fault { line } => Ok(Asked::Refused { line }),
+        Refusal::Memory => Err(RunError::Memory),
+    }
+}
+
+// Opens a file by what its load found, once the changes were committed.
+fn switch_found<H: Host>(
+    alloc: Global,
+    state: &mut SessionState,
+    host: &mut H,
+    name: &[u8],
+    changes: &[Change],
+    reply: &Text,
+    found: Option<Found>,
+) -> Result<Asked, RunError>
+    requires state { IsState state.old }
+    requires names { names_fault state.old.actor changes.now ≡ None }
+    ensures ran { Ran H.world host.old host.new (λ es.
+        Goes (switched_to state.old name.now changes.now reply.now
+        (loaded_folder state.old.desk changes.now name.now found))
+        es (in_play (after_asks state.new) result)) }
+    ensures brings { OnlyBrings state.old state.new }
+    ensures valid { IsState state.new }
+    ensures desk { KeepsDesk state.old state.new result }
+    ensures end { IfOk result EndsByAsk }
+    ensures cause { LineCaused (H.world.counts host.old) (H.world.counts host.new) result }
+{
+    match loaded_folder(alloc, &state.desk, changes, name, found) {
+        Ok(folder) => switch_to(alloc, state, host, name, changes, reply, folder),
+        Err(refusal) => refused_by(refusal),
+    }
+}
+
+// Loads a file whose name was tested, as were those of the changes, and opens it once these were committed.
+fn load_and_switch<H: Host>(
+    alloc: Global,
+    state: &mut SessionState,
+    host: &mut H,
+    name: &[u8],
+    changes: &[Change],
+    reply: &Text,
+) -> Result<Asked, RunError>
+    requires state { IsState state.old }
+    requires names { open_fault state.old.actor name.now changes.now ≡ None }
+    ensures ran { Ran H.world host.old host.new (λ es. Goes (switches state.old name.now changes.now reply.now None)
+        es (in_play (after_asks state.new) result)) }
+    ensures brings { OnlyBrings state.old state.new }
+    ensures valid { IsState state.new }
+    ensures desk { KeepsDesk state.old state.new result }
+    ensures end { IfOk result EndsByAsk }
+    ensures cause { LineCaused (H.world.counts host.old) (H.world.counts host.new) result }
+{
+    match try_load(alloc, host, name) {
+        Ok(found) => switch_found(alloc, state, host, name, changes, reply, found),
+        Err(_) => Err(RunError::Memory),
+    }
+}
+
+/// Opens a file in place of the folder, which is left by these changes: they are committed once the file was loaded.
+/// Then the reply and the new folder's lines are said.
+pub(crate) fn switch<H: Host>(
+    alloc: Global,
+    state: &mut SessionState,
+    host: &mut H,
+    name: &[u8],
+    changes: &[Change],
+    reply: &Text,
+) -> Result<Asked, RunError>
+    requires { IsState state.old }
+    ensures ran { let fault = open_fault state.old.actor name.now changes.now in Ran H.world host.old host.new
+        (λ es. Goes (switches state.old name.now changes.now reply.now fault) es
+        (in_play (after_asks state.new) result)) }
+    ensures fall { NeverFall (H.world.counts host.old) (H.world.counts host.new) }
+    ensures brings { OnlyBrings state.old state.new }
+    ensures valid { IsState state.new }
+    ensures desk { KeepsDesk state.old state.new result }
+    ensures end { IfOk result EndsByAsk }
+    ensures cause { LineCaused (H.world.counts host.old) (H.world.counts host.new) result }
+{
+    match open_fault(alloc, state.actor.bytes(), name, changes) {
+        Ok(Some(line)) => Ok(Asked::Refused { line }),
+        Ok(None) => load_and_switch(alloc, state, host, name, changes, reply),
+        Err(Memory) => Err(RunError::Memory),
+    }
+}

@@ -1,0 +1,4 @@
+pub mod NameLemmas
+pub mod PendingLemmas
+pub mod RestLemmas
+pub mod SavingLemmas

@@ -1,0 +1,30 @@
+-- What a commit leaves of a command, and what is taken of lines that wait.
+use Rattle.std.specs.Prelude.{◌≡◌, List}
+use Rattle.std.specs.declared.option.Option.{Option}
+use Rattle.std.specs.declared.option.Option.TheVariants.{Some, None}
+use Rattle.std.specs.declared.result.Result.{Result}
+use Rattle.std.specs.declared.result.Result.TheVariants.{Ok, Err}
+use Rattle.folder_change.specs.declared.change.Change.{Change}
+use Rattle.session_play.specs.declared.changing.Committed.{Committed}
+use Rattle.session_play.specs.declared.stop.Stop.{Stop}
+use Rattle.session_state.specs.declared.answers.Asked.{Asked}
+use Rattle.session_state.specs.declared.error.RunError.{RunError}
+use Rattle.session_state.specs.declared.error.RunError.TheVariants as error
+use Rattle.session_state.specs.declared.state.SessionState.{SessionState}
+use Rattle.session_state.specs.declared.frames.WaitingLine.{WaitingLine}
+use Rattle.session_state.specs.States.{next_waiting, resumed, rested}
+use Rattle.session_state.specs.Saving.{after_commit}
+use Rattle.session_state.specs.Answers.{after_asks, stop_of}
+
+-- an answered commit of changes leaves what it is to leave, unless memory is wanting; one that was cut off is that cut
+abbrev pub Follows : SessionState → List Change → Result Committed Stop → Result Asked RunError → Type 0
+Follows s changes (Ok answer) (Ok asked) = after_asks s asked ≡ after_commit s changes answer
+Follows s changes (Ok answer) (Err error.Memory) = Unit {0}
+Follows s changes (Ok answer) (Err e) = ⊥
+Follows s changes (Err cause) (Ok asked) = ⊥
+Follows s changes (Err cause) (Err e) = stop_of e ≡ cause
+
+-- the line that is carried out next was taken, or there is none
+abbrev pub IsNext : Option WaitingLine → SessionState → SessionState → Type 0
+IsNext (Some line) old new = (next_waiting old ≡ Some (line, new.frames)) × (new ≡ resumed old new.frames)
+IsNext None old new = (next_waiting old ≡ None) × (rested new ≡ rested old)

@@ -1,0 +1,9 @@
+pub mod Statuses
+pub mod Waits
+pub mod Pending
+pub mod States
+pub mod Answers
+pub mod Saving
+pub mod Bringing
+pub mod Outcomes
+pub mod Follows

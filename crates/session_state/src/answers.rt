@@ -1,0 +1,64 @@
+// What the answers to a command's asks leave, and what is said.
+ghost use Rattle.std.specs.Prelude.{◌≡◌, IfOk};
+ghost use Rattle.host_port.specs.Calls.{NeverFall};
+ghost use Rattle.host_port.specs.Ran.{Ran};
+ghost use Rattle.session_play.specs.Play.{Ask, Ret, Say, Goes};
+ghost use Rattle.session_play.specs.Steps.{refused};
+ghost use Rattle.session_state.specs.declared.state.SessionState.{SessionState};
+ghost use Rattle.session_state.specs.Answers.{after_asks, next_of, in_play, LineCaused, EndsByAsk};
+
+use crate::{Flow, RunError, SessionState, Status};
+use host_port::Host;
+use mail_text::Text;
+
+/// What the answers to a command's asks leave.
+#[derive(Drop)]
+pub enum Asked {
+    /// All was done.
+    On,
+    /// The command is over: nothing that follows is done.
+    Over,
+    /// The command is refused by this line.
+    Refused { line: Text },
+    /// The run ends.
+    Ended(Status),
+}
+
+/// Says bytes.
+pub fn say<H: Host>(host: &mut H, bytes: &[u8]) -> Result<(), RunError>
+    ensures ran { Ran H.world host.old host.new
+        (λ es. Goes (Ask (Say bytes.now) Ret) es (in_play (λ u. u) result)) }
+    ensures cause { LineCaused (H.world.counts host.old) (H.world.counts host.new) result }
+{
+    match session_play::say(host, bytes) {
+        Ok(()) => Ok(()),
+        Err(_) => Err(RunError::Output),
+    }
+}
+
+/// Says bytes that a command asks for.
+pub fn say_line<H: Host>(host: &mut H, bytes: &Text) -> Result<Asked, RunError>
+    ensures ran { (s : SessionState) → Ran H.world host.old host.new
+        (λ es. Goes (Ask (Say bytes.now) (λ _. Ret (after_asks s Asked.On))) es (in_play (after_asks s) result)) }
+    ensures fall { NeverFall (H.world.counts host.old) (H.world.counts host.new) }
+    ensures done { IfOk result EndsByAsk }
+    ensures cause { LineCaused (H.world.counts host.old) (H.world.counts host.new) result }
+{
+    match say(host, bytes.bytes()) {
+        Ok(()) => Ok(Asked::On),
+        Err(error) => Err(error),
+    }
+}
+
+/// Says the line that refuses a command, or tells what is wrong with a start-up file.
+pub fn refuse<H: Host>(state: &SessionState, host: &mut H, line: &Text) -> Result<Flow, RunError>
+    ensures ran { Ran H.world host.old host.new
+        (λ es. Goes (refused state.now line.now) es (in_play (next_of state.now) result)) }
+    ensures go { IfOk result (λ flow. flow ≡ Flow.Go) }
+    ensures cause { LineCaused (H.world.counts host.old) (H.world.counts host.new) result }
+{
+    match say(host, line.bytes()) {
+        Ok(()) => Ok(Flow::Go),
+        Err(error) => Err(error),
+    }
+}

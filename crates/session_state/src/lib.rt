@@ -1,0 +1,22 @@
+//! What a session knows between two lines, how runs end, and what a commit leaves of it.
+#![tactic(auto)]
+
+mod answers;
+mod error;
+mod flow;
+mod frames;
+mod kinds;
+mod outcome;
+mod saving;
+mod state;
+mod status;
+
+pub use answers::{Asked, refuse, say, say_line};
+pub use error::RunError;
+pub use flow::Flow;
+pub use frames::{Frame, Frames, Taken, WaitingLine};
+pub use kinds::FrameKind;
+pub use outcome::{Outcome, not_sent, status_of};
+pub use saving::{commit, line_of, name_fault, names_fault, refused, save};
+pub use state::{SessionState, cut_to, drop_lines, rest};
+pub use status::Status;

@@ -1,0 +1,54 @@
+// What became of the drafts of a run so far.
+ghost use Rattle.std.specs.Prelude.{◌≡◌};
+ghost use Rattle.session_state.specs.Outcomes.{not_sent, or_earlier, status_of};
+ghost use Rattle.session_state.specs.Statuses.{IsEnd, IsLineEnd};
+
+use crate::Status;
+
+/// What became of the drafts of a run so far.
+#[derive(Clone, Copy, Debug, PartialEq, Eq)]
+pub enum Outcome {
+    /// Each was sent, or dropped as it was to be.
+    Fine,
+    /// One wasn't sent: its names were refused, or the sender could not be run, or ended with this status. The last
+    /// such status is kept.
+    NotSent { status: Option<i32> },
+    /// The record or the dead letter of one was refused.
+    Refused,
+}
+
+// A sender's status, or where there is none that of an earlier one.
+fn or_earlier(status: Option<i32>, earlier: Option<i32>) -> Option<i32>
+    ensures { result ≡ or_earlier status earlier }
+{
+    match status {
+        Some(status) => Some(status),
+        None => earlier,
+    }
+}
+
+/// What became of them once a further one isn't sent, by a sender that ended with this status where one was run.
+pub fn not_sent(status: Option<i32>, outcome: Outcome) -> Outcome
+    ensures { result ≡ not_sent status outcome }
+{
+    match outcome {
+        Outcome::Fine => Outcome::NotSent { status },
+        Outcome::NotSent { status: earlier } => Outcome::NotSent {
+            status: or_earlier(status, earlier),
+        },
+        Outcome::Refused => Outcome::Refused,
+    }
+}
+
+/// How a run ends that nothing else ends.
+pub fn status_of(outcome: Outcome) -> Status
+    ensures status { result ≡ status_of outcome }
+    ensures line_end { IsLineEnd result }
+    ensures end { IsEnd result }
+{
+    match outcome {
+        Outcome::Fine => Status::Done,
+        Outcome::NotSent { status } => Status::NotSent { status },
+        Outcome::Refused => Status::Refused,
+    }
+}

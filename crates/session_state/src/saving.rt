@@ -1,0 +1,195 @@
+// Changes of files that a command asks for, as one commit.
+ghost use Rattle.std.specs.Prelude.{◌≡◌, ◌++◌, None, IfOk, IfErr};
+ghost use Rattle.mail_text.specs.Lines.{with_feed};
+ghost use Rattle.host_port.specs.Calls.{NeverFall};
+ghost use Rattle.host_port.specs.Ran.{Ran};
+ghost use Rattle.session_play.specs.Play.{Play, Goes};
+ghost use Rattle.command_desk.specs.Faults.{changed_at};
+ghost use Rattle.session_state.specs.declared.state.SessionState.{SessionState};
+ghost use Rattle.session_state.specs.States.{IsState};
+ghost use Rattle.session_state.specs.Saving.{name_fault, names_fault, is_changed, after_commit, saved};
+ghost use Rattle.session_state.specs.Follows.{Follows};
+ghost use Rattle.session_play.specs.Cuts.{IsLoadCut};
+ghost use Rattle.session_state.specs.Answers.{after_asks, in_play, stop_of, LineCaused, EndsByAsk};
+
+use crate::{Asked, RunError, SessionState, Status};
+use folder_change::{Change, change_name};
+use folder_commit::is_file_name;
+use host_port::Host;
+use itoa::Buffer;
+use mail_text::{Memory, Text};
+use mailx_vars::is_short_name;
+use session_play::{Committed, Stop, change};
+use std::alloc::Global;
+
+/// A word and what is wrong with it, as a line.
+pub fn line_of(alloc: Global, word: &[u8], fault: &[u8]) -> Result<Text, Memory>
+    ensures { IfOk result (λ line. line ≡ with_feed (word.now ++ fault.now)) }
+{
+    let mut line = Text::copy(alloc, word)?;
+    line.push(fault)?;
+    line.push(b"\n")?;
+    Ok(line)
+}
+
+/// What is wrong with a name, for a file that a commit of this actor is to change.
+pub fn name_fault(alloc: Global, actor: &[u8], name: &[u8]) -> Result<Option<Text>, Memory>
+    ensures { IfOk result (λ fault. fault ≡ name_fault actor.now name.now) }
+{
+    if !is_short_name(name) {
+        Ok(Some(line_of(alloc, name, b": bad name")?))
+    } else if !is_file_name(actor, name) {
+        Ok(Some(line_of(alloc, name, b": reserved name")?))
+    } else {
+        Ok(None)
+    }
+}
+
+/// The line of the first of these changes whose file's name is at fault.
+pub fn names_fault(alloc: Global, actor: &[u8], changes: &[Change]) -> Result<Option<Text>, Memory>
+    ensures { IfOk result (λ fault. fault ≡ names_fault actor.now changes.now) }
+{
+    for change in changes {
+        if let Some(line) = name_fault(alloc, actor, change_name(change))? {
+            return Ok(Some(line));
+        }
+    }
+    Ok(None)
+}
+
+// The line of a file that isn't as it was loaded, from this message on.
+fn changed_line(alloc: Global, name: &[u8], at: u64) -> Result<Text, Memory>
+    ensures { IfOk result (λ line. line ≡ changed_at name.now at) }
+{
+    let mut buffer = Buffer::new();
+    let mut line = Text::copy(alloc, name)?;
+    line.push(b": changed at message ")?;
+    line.push(buffer.format(at).as_bytes())?;
+    line.push(b"\n")?;
+    Ok(line)
+}
+
+// Whether one of the changes is of this file.
+fn is_changed(changes: &[Change], file: &[u8]) -> bool
+    ensures { result ≡ is_changed changes.now file.now }
+{
+    changes.iter().any(|change| change_name(change) == file)
+}
+
+// What is too large: a file that is changed, or the record or a staged file.
+fn too_large(alloc: Global, changes: &[Change], name: &[u8], length: u64) -> Result<Asked, Memory>
+    ensures means { (s : SessionState) → IfOk result
+        (λ asked. after_asks s asked ≡ after_commit s changes.now (Committed.TooLarge name.now length)) }
+    ensures end { IfOk result EndsByAsk }
+{
+    if is_changed(changes, name) {
+        let line = line_of(alloc, name, b": too large")?;
+        Ok(Asked::Refused { line })
+    } else {
+        Ok(Asked::Ended(Status::BadRecord))
+    }
+}
+
+/// Refuses by a word and what is wrong with it.
+pub fn refused(alloc: Global, word: &[u8], fault: &[u8]) -> Result<Asked, Memory>
+    ensures { IfOk result (λ asked. asked ≡ Asked.Refused (with_feed (word.now ++ fault.now))) }
+{
+    let line = line_of(alloc, word, fault)?;
+    Ok(Asked::Refused { line })
+}
+
+fn changed(alloc: Global, name: &[u8], at: u64) -> Result<Asked, Memory>
+    ensures { IfOk result (λ asked. asked ≡ Asked.Refused (changed_at name.now at)) }
+{
+    let line = changed_line(alloc, name, at)?;
+    Ok(Asked::Refused { line })
+}
+
+// What the answer to a commit of these changes leaves.
+fn after_commit(alloc: Global, changes: &[Change], answer: Committed) -> Result<Asked, Memory>
+    ensures means { (s : SessionState) → IfOk result (λ asked. after_asks s asked ≡ after_commit s changes.now answer) }
+    ensures end { IfOk result EndsByAsk }
+{
+    match answer {
+        Committed::Done => Ok(Asked::On),
+        Committed::Busy { name } => refused(alloc, name.bytes(), b": busy"),
+        Committed::NotARecord => Ok(Asked::Ended(Status::BadRecord)),
+        Committed::Changed { name, at } => changed(alloc, name.bytes(), at),
+        Committed::TooLarge { name, length } => too_large(alloc, changes, name.bytes(), length),
+        Committed::TooManyNames { .. } => refused(alloc, b"too many names", b""),
+    }
+}
+
+// The error that a cut of a commit is.
+fn error_of(cause: Stop) -> RunError
+    requires { IsLoadCut cause }
+    ensures { stop_of result ≡ cause }
+{
+    match cause {
+        Stop::Disk => RunError::Disk,
+        Stop::Output => RunError::Output,
+        Stop::Input | Stop::TooMuch | Stop::Memory => RunError::Memory,
+    }
+}
+
+// What a commit of these changes leaves, or the error that cuts the run off.
+fn followed(
+    alloc: Global,
+    changes: &[Change],
+    answer: Result<Committed, Stop>,
+) -> Result<Asked, RunError>
+    requires { IfErr answer IsLoadCut }
+    ensures follows { (s : SessionState) → Follows s changes.now answer result }
+    ensures end { IfOk result EndsByAsk }
+{
+    match answer {
+        Ok(answer) => match after_commit(alloc, changes, answer) {
+            Ok(asked) => Ok(asked),
+            Err(Memory) => Err(RunError::Memory),
+        },
+        Err(cause) => Err(error_of(cause)),
+    }
+}
+
+/// Commits changes of files whose names were tested.
+pub fn commit<H: Host>(
+    alloc: Global,
+    state: &SessionState,
+    host: &mut H,
+    changes: &[Change],
+) -> Result<Asked, RunError>
+    requires state { IsState state.now }
+    requires names { names_fault state.now.actor changes.now ≡ None }
+    ensures ran { Ran H.world host.old host.new
+        (λ es. Goes (saved state.now changes.now None) es (in_play (after_asks state.now) result)) }
+    ensures fall { NeverFall (H.world.counts host.old) (H.world.counts host.new) }
+    ensures end { IfOk result EndsByAsk }
+    ensures cause { LineCaused (H.world.counts host.old) (H.world.counts host.new) result }
+{
+    let folder = Some(&state.desk.folder.folder);
+    let actor = state.actor.bytes();
+    let answer = change(alloc, host, actor, state.token, changes, folder);
+    followed(alloc, changes, answer)
+}
+
+/// Commits changes, unless the name of a file is at fault.
+pub fn save<H: Host>(
+    alloc: Global,
+    state: &SessionState,
+    host: &mut H,
+    changes: &[Change],
+) -> Result<Asked, RunError>
+    requires { IsState state.now }
+    ensures ran { Ran H.world host.old host.new
+        (λ es. Goes (saved state.now changes.now (names_fault state.now.actor changes.now)) es
+        (in_play (after_asks state.now) result)) }
+    ensures fall { NeverFall (H.world.counts host.old) (H.world.counts host.new) }
+    ensures end { IfOk result EndsByAsk }
+    ensures cause { LineCaused (H.world.counts host.old) (H.world.counts host.new) result }
+{
+    match names_fault(alloc, state.actor.bytes(), changes) {
+        Ok(Some(line)) => Ok(Asked::Refused { line }),
+        Ok(None) => commit(alloc, state, host, changes),
+        Err(Memory) => Err(RunError::Memory),
+    }
+}
