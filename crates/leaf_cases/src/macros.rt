@@ -1,7 +1,7 @@
 // Cases of macros.
 use crate::case::words;
 use case_blocks::{Answer, cut};
-use mail_text::{Memory, Text};
+use mail_text::{Memory, Text, read_number};
 use mailx_macros::{MacroError, Macros};
 
 /// What each step of the field answers, with `;` behind it, then whether a definition is under way, and the macros that
@@ -55,8 +55,19 @@ fn put_inside(macros: &mut Macros, word: &str, line: &[u8], out: &mut Answer) {
             macros.abandon();
             out.put(b"ok");
         }
+        "lines" => put_done(fill(macros, read_number(line).unwrap_or(0)), out),
         _ => out.put_bad(),
     }
+}
+
+// Puts so many empty lines at the end of the definition that is under way.
+fn fill(macros: &mut Macros, count: u64) -> Result<(), MacroError> {
+    for _ in 0..count {
+        if macros.open() {
+            macros.line(b"")?;
+        }
+    }
+    Ok(())
 }
 
 fn put_done(done: Result<(), MacroError>, out: &mut Answer) {
