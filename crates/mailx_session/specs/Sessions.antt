@@ -2,7 +2,7 @@
 use Rattle.std.specs.Prelude.{◌≡◌}
 use Rattle.std.specs.declared.result.Result.{Result}
 use Rattle.std.specs.declared.result.Result.TheVariants.{Ok, Err}
-use Rattle.session_play.specs.Play.{Play, Next, Go, bind}
+use Rattle.session_play.specs.Play.{Play, Next, bind}
 use Rattle.session_play.specs.Steps.{in_order, refused, concluded}
 use Rattle.command_desk.specs.declared.steps.Steps.{Steps}
 use Rattle.command_desk.specs.Answers.{OrFault}

@@ -3,7 +3,7 @@ use Rattle.std.specs.Prelude.{◌≡◌, Bool, true, false}
 use Rattle.std.specs.declared.result.Result.{Result}
 use Rattle.std.specs.declared.result.Result.TheVariants.{Ok, Err}
 use Rattle.session_play.specs.Play.{Play, Ret, Ask, Say}
-use Rattle.session_play.specs.Steps.{After, On, Over, Refused, Ended}
+use Rattle.session_play.specs.Steps.{After, On, Ended}
 use Rattle.command_desk.specs.declared.steps.Ask as asked_of
 use Rattle.command_desk.specs.declared.steps.Ask.TheVariants as asks
 use Rattle.command_desk.specs.declared.steps.Refusal.{Refusal}
