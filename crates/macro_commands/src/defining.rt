@@ -48,7 +48,7 @@ fn define_braced(alloc: Global, desk: &Desk, name: &[u8], brace: &[u8]) -> Resul
 }
 
 /// `define NAME {`: the definition of a macro is begun, whose lines are those that follow. Refused are other words, a
-/// name that is defined, and one macro more than 1,000.
+/// definition while another is under way, a name that is defined, and one macro more than 1,000.
 pub fn define(alloc: Global, desk: &Desk, words: &[Text]) -> Result<Steps, Refusal>
     ensures means { Means result (define desk.now words.now) }
     ensures within { IsWithin desk.now result }

@@ -76,12 +76,17 @@ one-part true true = refl
 one-part true false = refl
 one-part false h = refl
 
+never-both : (live h : Bool) → ((live && h) && (live && not h)) ≡ false
+never-both true true = refl
+never-both true false = refl
+never-both false h = refl
+
 pub else-is-the-other : ElseIsTheOther
 else-is-the-other test mode terminal list inside other is turned =
     let o = with-opened (test_of test mode terminal) list inside is in
     let first : is_live inside ≡ (is_live list && o.holds) = ap is_live o.is ∙ live-push list _ in
     let second : is_live other ≡ (is_live list && not o.holds) = ap is_live (else-is list inside other o.holds o.is turned) ∙ live-push list _ in
-    one-part (is_live list) o.holds ∙ sym (λ j. first j || second j)
+    (one-part (is_live list) o.holds ∙ sym (λ j. first j || second j), (λ j. first j && second j) ∙ never-both (is_live list) o.holds)
 
 pub dead-inside : DeadInside
 dead-inside test mode terminal list inside dead is =
