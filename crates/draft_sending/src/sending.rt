@@ -586,6 +586,8 @@ pub fn quit_draft<H: Host>(
     requires { IsState state.old }
     ensures ran { Ran H.world host.old host.new
         (λ es. Goes (quit_draft state.old) es (in_play (next_of state.new) result)) }
+    ensures keeps { KeepsButDraft state.old state.new }
+    ensures over { state.new.draft ≡ None }
     ensures state { IsState state.new }
     ensures done { IfOk result EndsByLine }
     ensures cause { LineCaused (H.world.counts host.old) (H.world.counts host.new) result }

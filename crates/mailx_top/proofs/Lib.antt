@@ -7,6 +7,7 @@ pub mod LineLemmas
 pub mod LeavingLemmas
 pub mod OpeningLemmas
 pub mod OrderLemmas
+pub mod QuitLemmas
 pub mod RunLemmas
 pub mod StartupLemmas
 pub mod RoundLemmas

@@ -8,6 +8,7 @@ pub mod Runs
 pub mod Ends
 pub mod Usage
 pub mod Openings
+pub mod Quits
 pub mod Starts
 pub mod Unreadable
 pub mod Crash

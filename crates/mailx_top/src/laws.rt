@@ -1,5 +1,6 @@
 ghost use Rattle.mailx_top.specs.Appended.{RunsKeepAppended};
 ghost use Rattle.mailx_top.specs.Fitting.{RunsFit};
+ghost use Rattle.mailx_top.specs.Quits.{QuitsKeepAppended};
 
 /// In a run that is safe each accepted commit has its decision. Where it rewrites a file of which it has no other
 /// change, what others appended meanwhile follows the rewritten messages, from the decision on, at each moment and at
@@ -13,4 +14,11 @@ pub fn appended_follows()
 /// the commit was made for.
 pub fn decided_fit()
     ensures { RunsFit }
+{}
+
+/// Where a commit of a run that is safe leaves a folder, what others appended to the messages that were read follows
+/// those that stay, from the decision on, at each moment and at each disk that a stop leaves, until the file is changed
+/// again; mbox is another file.
+pub fn quits_keep_appended()
+    ensures { QuitsKeepAppended }
 {}

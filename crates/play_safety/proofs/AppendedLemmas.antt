@@ -196,6 +196,19 @@ module _ (actor : List ℕ) (token : ℕ) where
       ∙ after-alone before settled (Rewrite n list keep) c.base n (sym (ahead.same_files n)) in
       subst (IsRewritten c.base list (settled n)) (sym is) (rewritten-so settled n list c.base keep proper)
 
+  -- a file of which the commit has no change is as it was
+  pub others-left : {R : Type 0} (d : Disk) (es : List Event) (commits : Commits) (out : Result R Stop) → IsCrashSafe actor token d es commits out
+      → (front behind : List Event) (e : Event) (now : Disk) (c : Commit) (n : List ℕ)
+      → IsLeft d es (front ++ e ∷ behind) now → Decides actor token d commits front e c → LeaveAlone actor token n (host.after (disk d front) e) behind
+      → All (λ change. n ≢ name_of change) c.changes → settled_files actor now n ≡ settled_files actor (disk d front) n
+  others-left d es commits out safe front behind e now c n left decides alone others =
+      let f = front-of d es front behind e now left in
+      let start = settled_files actor d in
+      let due = left-due d es commits out (front ++ e ∷ behind) now safe left in
+      let ahead = safe.moments front f.0 f.1 in
+      let before = run_files actor token d (queue commits) start front in
+      due.same_files n ∙ made d start commits front behind e c n decides alone ∙ apply-other c.changes c.base before n others ∙ sym (ahead.same_files n)
+
   -- ---- each accepted commit has its decision
   abbrev Found : Disk → List Event → ℕ → Type 0
   Found d es k = (front : List Event) × (e : Event) × (rest : List Event) × (es ≡ front ++ e ∷ rest) × (decisions any d 0 front ≡ k) × (is_decision any e (disk d front) ≡ true)

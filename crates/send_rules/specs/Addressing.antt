@@ -15,9 +15,13 @@ recipient_limit = 10000
 abbrev pub few : List (List ℕ) → Option (List (List ℕ))
 few names = if nat_lt recipient_limit (length names) then None else Some names
 
--- the names that names stand for by the aliases; none where they are too many
+-- the names that names stand for by the aliases
+abbrev pub names_of : Desk → List (List ℕ) → List (List ℕ)
+names_of desk names = expansion desk.aliases desk.own (is_set desk.vars (codes "metoo")) names
+
+-- these, or none where they are too many
 abbrev pub stands_for : Desk → List (List ℕ) → Option (List (List ℕ))
-stands_for desk names = few (expansion desk.aliases desk.own (is_set desk.vars (codes "metoo")) names)
+stands_for desk names = few (names_of desk names)
 
 -- where none are too many: To stands for the first names, Cc shows those that the second add to these, and the message goes to the third
 abbrev pub all_of : Option (List (List ℕ)) → Option (List (List ℕ)) → Option (List (List ℕ)) → Option Recipients

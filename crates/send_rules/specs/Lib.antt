@@ -1,3 +1,4 @@
 pub mod Addressing
+pub mod AddressingLaws
 pub mod Recording
 pub mod Lines

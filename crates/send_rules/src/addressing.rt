@@ -1,6 +1,5 @@
 // Whom a draft goes to.
 ghost use Rattle.std.specs.Prelude.{◌≡◌, ◌++◌, drop, IfOk};
-ghost use Rattle.alias_groups.specs.Expansion.{expansion};
 ghost use Rattle.send_rules.specs.Addressing.{addressed, addressees, all_of, few, stands_for};
 
 use alias_groups::ExpandError;

@@ -1,10 +1,10 @@
 -- How mail is sent.
-use Rattle.std.specs.Prelude.{◌≡◌, ℕ, pos, false, List, [], ◌∷◌, Option, Some, None, codes, if◌then◌else◌}
+use Rattle.std.specs.Prelude.{◌≡◌, ◌≤◌, ℕ, pos, false, List, [], ◌∷◌, Option, Some, None, length, codes, if◌then◌else◌}
 use Rattle.std.specs.Ordering.{int_eq}
 use Rattle.std.specs.declared.result.Result.{Result}
 use Rattle.std.specs.declared.result.Result.TheVariants.{Ok, Err}
 use Rattle.host_port.specs.declared.event.ChildAnswer.{ChildAnswer}
-use Rattle.host_port.specs.Calls.{Counts, Rose}
+use Rattle.host_port.specs.Calls.{Counts, Rose, output_limit}
 use Rattle.session_play.specs.declared.stop.Stop.{Stop}
 use Rattle.session_play.specs.declared.stop.Stop.TheVariants as stop
 use Rattle.mailx_vars.specs.Settings.{Settings, value_of}
@@ -55,3 +55,9 @@ as_played (Err e) = Ok (Err e)
 abbrev pub SendCause : Counts → Counts → Result (List ℕ) SendError → Type 0
 SendCause old new (Err error.Child) = Rose old.children new.children
 SendCause old new result = Unit {0}
+
+-- an output that is handed on, or that comes with a refusal, is within the limit of a child's
+abbrev pub IsBounded : Result (List ℕ) SendError → Type 0
+IsBounded (Ok output) = length output ≤ output_limit
+IsBounded (Err (error.Refused status output)) = length output ≤ output_limit
+IsBounded (Err e) = Unit {0}

@@ -1,9 +1,8 @@
-ghost use Rattle.std.specs.Prelude.{◌≡◌, ◌≤◌, ◌⊎◌, ◌∷◌, Err, None, length, codes, IfOk, IfErr, MatchOption};
-ghost use Rattle.host_port.specs.Calls.{Rose, output_limit};
+ghost use Rattle.std.specs.Prelude.{◌≡◌, ◌⊎◌, Err, None, IfOk, IfErr, MatchOption};
 ghost use Rattle.host_port.specs.Ran.{Ran};
 ghost use Rattle.session_play.specs.Play.{Play, Ask, Ret, Child, Goes};
 ghost use Rattle.sender_port.specs.Names.{names_fault};
-ghost use Rattle.sender_port.specs.Sending.{program_of, sender_args, sent, as_played, refused_names, IsOfSender, SendCause};
+ghost use Rattle.sender_port.specs.Sending.{program_of, sender_args, sent, as_played, refused_names, IsOfSender, IsBounded, SendCause};
 
 use crate::{SendError, names_fault};
 use host_port::{ChildAnswer, Host};
@@ -67,7 +66,7 @@ pub fn send<H: Host>(
         (λ es. Goes (Ask (Child (program_of vars.now) (sender_args names.now) message.now)
         (λ answer. Ret (sent answer))) es (as_played result)) }
     ensures cause { SendCause (H.world.counts host.old) (H.world.counts host.new) result }
-    ensures bound { IfOk result (λ output. length output ≤ output_limit) }
+    ensures bound { IsBounded result }
 {
     match names_fault(alloc, names) {
         Ok(None) => {}

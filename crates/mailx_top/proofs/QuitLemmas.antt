@@ -1,0 +1,118 @@
+-- When a folder is left, its file has one change, to texts that can be read back, or none.
+use Rattle.std.proofs.Common.{◌≡◌, ◌≢◌, ◌⊎◌, inl, inr, ℕ, Bool, true, false, ◌==◌, List, [], ◌∷◌, ◌++◌, Option, Some, map, length, sym, ap, subst, refl, ◌∙◌}
+use Rattle.std.specs.Prelude.{filter, codes, All, if◌then◌else◌}
+use Rattle.std.specs.List.{zip}
+use Rattle.std.proofs.lemmas.Bool.{cases_Bool, cond-true, cond-false}
+use Rattle.std.proofs.lemmas.List.{append-nil}
+use Rattle.std.proofs.lemmas.List.Elements.{All-nil, All-cons, All-head, All-tail, All-filter, All-map}
+use Rattle.host_port.specs.Disk.{disk}
+use Rattle.mbox_scan.specs.Mailbox.{IsProper, texts_of}
+use Rattle.mbox_scan.proofs.MailboxLemmas.{texts_of-proper}
+use Rattle.message_state.specs.declared.mark.Mark.{Mark}
+use Rattle.message_state.proofs.ProperLemmas.{stamped-proper}
+use Rattle.mailx_vars.specs.Settings.{Settings, is_set}
+use Rattle.folder_change.specs.declared.change.Change.{Change}
+use Rattle.folder_change.specs.declared.change.Change.TheVariants.{Rewrite}
+use Rattle.folder_change.specs.Changes.{name_of}
+use Rattle.folder_change.specs.ListLaws.{list_of_file}
+use Rattle.commit_machine.specs.Due.{settled_files}
+use Rattle.session_play.specs.Committing.{Commit}
+use Rattle.play_safety.specs.Appended.{IsOnlyOne, IsRewritten}
+use Rattle.play_safety.proofs.AppendedLemmas.{others-left, rewrites-followed}
+use Rattle.quit_rules.specs.declared.open.Open.{Open}
+use Rattle.quit_rules.specs.Fates.{fate_of, is_staying, rules_of}
+use Rattle.quit_rules.specs.Plans.{Message, boxed, mbox_change, mbox_changes, messages_of, quit_changes, same_texts, stamped_text, staying}
+use Rattle.quit_rules.proofs.PlanLemmas.{true-same}
+use Rattle.mailx_top.specs.Quits.{QuitsKeepAppended}
+use Rattle.mailx_top.specs.Meaning.{actor_in}
+
+-- ---- the texts that stay are proper
+stamped-all : (texts : List (List ℕ)) (marks : List Mark) → All IsProper texts → All (λ (m : Message). IsProper (stamped_text m)) (zip texts marks)
+stamped-all [] marks proper = All-nil (λ (m : Message). IsProper (stamped_text m))
+stamped-all (t ∷ ts) [] proper = All-nil (λ (m : Message). IsProper (stamped_text m))
+stamped-all (t ∷ ts) (m ∷ ms) proper =
+    All-cons (λ (m : Message). IsProper (stamped_text m)) (t, m) (zip ts ms)
+    (stamped-proper t m (All-head IsProper t ts proper)) (stamped-all ts ms (All-tail IsProper t ts proper))
+
+pub staying-proper : (folder : Open) (vars : Settings) → All IsProper (texts_of folder.folder) → All IsProper (staying folder vars)
+staying-proper folder vars proper =
+    All-map IsProper stamped_text (filter (λ (m : Message). is_staying (fate_of (rules_of folder vars) m.1.state)) (messages_of folder))
+    (All-filter (λ (m : Message). is_staying (fate_of (rules_of folder vars) m.1.state)) (λ (m : Message). IsProper (stamped_text m)) (messages_of folder)
+    (stamped-all (texts_of folder.folder) folder.marks proper))
+
+-- ---- the folder's file has one change
+other-file : (n mbox : List ℕ) (texts : List (List ℕ)) (append : Bool) → n ≢ mbox → n ≢ name_of (mbox_change mbox texts append)
+other-file n mbox texts true apart = apart
+other-file n mbox texts false apart = apart
+
+mbox-apart : (n mbox : List ℕ) (texts : List (List ℕ)) (vars : Settings) → n ≢ mbox → All (λ (other : Change). n ≢ name_of other) (mbox_changes texts vars mbox)
+mbox-apart n mbox texts vars apart = go (length texts == 0)
+  where
+    append : Bool
+    append = is_set vars (codes "append")
+
+    go : (b : Bool) → All (λ (other : Change). n ≢ name_of other) (if b then [] else mbox_change mbox texts append ∷ [])
+    go true = All-nil (λ (other : Change). n ≢ name_of other)
+    go false =
+        All-cons (λ (other : Change). n ≢ name_of other) (mbox_change mbox texts append) [] (other-file n mbox texts append apart)
+        (All-nil (λ (other : Change). n ≢ name_of other))
+
+pub folder-once : (folder : Open) (vars : Settings) (mbox : List ℕ) → same_texts (staying folder vars) (texts_of folder.folder) ≡ false → folder.name ≢ mbox
+    → IsOnlyOne (Rewrite folder.name (staying folder vars) (is_set vars (codes "keep"))) (quit_changes folder vars mbox)
+folder-once folder vars mbox rewrites apart = record {
+  front = mbox_changes (boxed folder vars) vars mbox;
+  rest = [];
+  is = ap (λ (cs : List Change). mbox_changes (boxed folder vars) vars mbox ++ cs) (cond-false _ _ _ rewrites);
+  others = (mbox-apart folder.name mbox (boxed folder vars) vars apart, All-nil (λ (other : Change). folder.name ≢ name_of other));
+}
+
+-- a file that stays, to which nothing changes
+left-as-is : (base list : List (List ℕ)) (before now : Option (List ℕ)) → list ≡ base → now ≡ before → IsRewritten base list before now
+left-as-is base list before now same is = record {
+  follows = λ appended listed. ap list_of_file is ∙ listed ∙ ap (λ (l : List (List ℕ)). Some (l ++ appended)) (sym same);
+  stays = λ other. is;
+}
+
+pub quits-keep : QuitsKeepAppended
+quits-keep start env status d es safe front behind e now c s left decides alone leaves = go (cases_Bool (same_texts list base))
+  where
+    folder : Open
+    folder = s.desk.folder
+
+    vars : Settings
+    vars = s.desk.vars
+
+    mbox : List ℕ
+    mbox = s.desk.places.mbox
+
+    base : List (List ℕ)
+    base = texts_of folder.folder
+
+    list : List (List ℕ)
+    list = staying folder vars
+
+    keep : Bool
+    keep = is_set vars (codes "keep")
+
+    changes : c.changes ≡ quit_changes folder vars mbox
+    changes = ap (λ (c : Commit). c.changes) leaves.commit
+
+    for_base : c.base ≡ base
+    for_base = ap (λ (c : Commit). c.base) leaves.commit
+
+    none-here : same_texts list base ≡ true → All (λ (other : Change). folder.name ≢ name_of other) c.changes
+    none-here same =
+        let mine : List Change = mbox_changes (boxed folder vars) vars mbox in
+        let whole : c.changes ≡ mine = changes ∙ ap (λ (cs : List Change). mine ++ cs) (cond-true _ _ _ same) ∙ append-nil mine in
+        subst (All (λ (other : Change). folder.name ≢ name_of other)) (sym whole) (mbox-apart folder.name mbox (boxed folder vars) vars leaves.apart)
+
+    go : (same_texts list base ≡ true) ⊎ (same_texts list base ≡ false)
+        → IsRewritten base list (settled_files (actor_in env) (disk d front) folder.name) (settled_files (actor_in env) now folder.name)
+    go (inl same) =
+        left-as-is base list _ _ (sym (true-same list base same))
+        (others-left (actor_in env) env.token d es safe.commits safe.out safe.safe front behind e now c folder.name left decides alone (none-here same))
+    go (inr other) =
+        let one = subst (IsOnlyOne (Rewrite folder.name list keep)) (sym changes) (folder-once folder vars mbox other leaves.apart) in
+        let proper = staying-proper folder vars (texts_of-proper folder.folder leaves.read) in
+        subst (λ (b : List (List ℕ)). IsRewritten b list (settled_files (actor_in env) (disk d front) folder.name) (settled_files (actor_in env) now folder.name)) for_base
+        (rewrites-followed (actor_in env) env.token d es safe.commits safe.out safe.safe front behind e now c folder.name list keep left decides alone one proper)

@@ -1,0 +1,37 @@
+-- What others append meanwhile follows the messages that stay when a folder is left.
+use Rattle.std.specs.Prelude.{◌≡◌, ◌≢◌, ℕ, true, List, ◌∷◌, ◌++◌}
+use Rattle.std.specs.declared.option.Option.{Option}
+use Rattle.host_port.specs.declared.event.Event.{Event}
+use Rattle.host_port.specs.Disk.{Disk, disk, after}
+use Rattle.mbox_scan.specs.Mailbox.{is_mailbox, texts_of}
+use Rattle.commit_machine.specs.Due.{settled_files}
+use Rattle.session_play.specs.Committing.{Commit}
+use Rattle.play_safety.specs.Appended.{Decides, IsLeft, IsRewritten, LeaveAlone}
+use Rattle.quit_rules.specs.Plans.{staying}
+use Rattle.session_state.specs.declared.state.SessionState.{SessionState}
+use Rattle.session_state.specs.declared.status.Status.{Status}
+use Rattle.session_state.specs.Saving.{commit_of}
+use Rattle.mailx_top.specs.declared.environment.Environment.{Environment}
+use Rattle.mailx_top.specs.Words.{Start}
+use Rattle.mailx_top.specs.Leavings.{left_changes}
+use Rattle.mailx_top.specs.Meaning.{actor_in}
+use Rattle.mailx_top.specs.Crash.{IsSafe}
+
+-- The commit leaves the folder that is open in this state: the bytes that were read are a mailbox, the changes are those of a quit, and mbox is
+-- another file.
+pub record LeavesFolder (s : SessionState) (c : Commit) : Type 0 where
+  pub read : is_mailbox s.desk.folder.folder ≡ true
+  pub commit : c ≡ commit_of s (left_changes s)
+  pub apart : s.desk.folder.name ≢ s.desk.places.mbox
+
+-- A commit of a run leaves a folder. From its decision on, at each moment and at each disk that a stop leaves, until the next decision or the next
+-- change of the file by others, what others had appended to the messages that were read follows those that stay.
+abbrev pub QuitsKeepAppended : Type 0
+QuitsKeepAppended = (start : Option Start) (env : Environment) (status : Status) (d : Disk) (es : List Event) (safe : IsSafe start env status d es)
+    (front behind : List Event) (e : Event) (now : Disk) (c : Commit) (s : SessionState)
+    → IsLeft d es (front ++ e ∷ behind) now
+    → Decides (actor_in env) env.token d safe.commits front e c
+    → LeaveAlone (actor_in env) env.token s.desk.folder.name (after (disk d front) e) behind
+    → LeavesFolder s c
+    → IsRewritten (texts_of s.desk.folder.folder) (staying s.desk.folder s.desk.vars)
+    (settled_files (actor_in env) (disk d front) s.desk.folder.name) (settled_files (actor_in env) now s.desk.folder.name)
