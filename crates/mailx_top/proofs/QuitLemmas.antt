@@ -1,5 +1,5 @@
 -- When a folder is left, its file has one change, to texts that can be read back, or none.
-use Rattle.std.proofs.Common.{◌≡◌, ◌≢◌, ◌⊎◌, inl, inr, ℕ, Bool, true, false, ◌==◌, List, [], ◌∷◌, ◌++◌, Option, Some, map, length, sym, ap, subst, refl, ◌∙◌}
+use Rattle.std.proofs.Common.{◌≡◌, ◌≢◌, ◌⊎◌, inl, inr, ℕ, Bool, true, false, ◌==◌, List, [], ◌∷◌, ◌++◌, Option, Some, length, sym, ap, subst, ◌∙◌}
 use Rattle.std.specs.Prelude.{filter, codes, All, if◌then◌else◌}
 use Rattle.std.specs.List.{zip}
 use Rattle.std.proofs.lemmas.Bool.{cases_Bool, cond-true, cond-false}
@@ -109,7 +109,7 @@ quits-keep start env status d es safe front behind e now c s left decides alone 
     go : (same_texts list base ≡ true) ⊎ (same_texts list base ≡ false)
         → IsRewritten base list (settled_files (actor_in env) (disk d front) folder.name) (settled_files (actor_in env) now folder.name)
     go (inl same) =
-        left-as-is base list _ _ (sym (true-same list base same))
+        left-as-is base list _ _ (true-same list base same)
         (others-left (actor_in env) env.token d es safe.commits safe.out safe.safe front behind e now c folder.name left decides alone (none-here same))
     go (inr other) =
         let one = subst (IsOnlyOne (Rewrite folder.name list keep)) (sym changes) (folder-once folder vars mbox other leaves.apart) in
