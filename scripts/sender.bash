@@ -28,7 +28,7 @@ words=(-s hi bob@y)
 input='yo\n'
 rc=
 how=
-variables=(HOME=. LOGNAME=u TZ=UTC0)
+variables=(HOME=. LOGNAME=u TZ=UTC0 MAILX_WAIT=0)
 files=()
 
 # anew: a home folder with a start-up file that names the sender, and nothing that was sent
@@ -98,7 +98,7 @@ faulted() {
   anew
   same "$1" "$(printf %b "$2"; echo "status 5")" "$(printf %b "$input" | mailx "${words[@]}")"
   same "$1: the sender" "$3" "$(given)"
-  (cd home && env -i PATH="$PATH" HOME=. LOGNAME=u MAIL=none "$program" -e)
+  (cd home && env -i PATH="$PATH" HOME=. LOGNAME=u MAIL=none MAILX_WAIT=0 "$program" -e)
   same "$1: what is left" "" "$(cd home && find . -type f ! -name .mailx.right ! -name .mailrc)"
 }
 

@@ -50,7 +50,7 @@ dead_reply name = reply name (codes "Dead") 1
 
 -- one change is committed
 abbrev pub saved_one : SessionState → Change → Play (After SessionState Status)
-saved_one s c = saved s (c ∷ []) (names_fault s.actor (c ∷ []))
+saved_one s c = saved s (c ∷ []) (names_fault s (c ∷ []))
 
 -- what follows the commit of a dead letter: it is said, or the line that refuses it, and then the text is dropped
 abbrev pub buried : SessionState → List ℕ → After SessionState Status → Play (Next SessionState Status)

@@ -104,7 +104,7 @@ fn save_one<H: Host>(
 {
     let mut changes = Items::new(alloc);
     match changes.push(change) {
-        Ok(()) => save(alloc, state, host, changes.items()),
+        Ok(()) => save(alloc, state, host, changes),
         Err(_) => Err(RunError::Memory),
     }
 }
@@ -186,7 +186,7 @@ fn keep<H: Host>(
     }
 }
 
-// The same of a draft that the sender didn't take, or that wasn't given to it: with its status where there is one.
+// Keeps a draft that wasn't sent; `status` is the sender's, if it ran.
 fn keep_unsent<H: Host>(
     alloc: Global,
     state: &mut SessionState,
@@ -208,7 +208,7 @@ fn keep_unsent<H: Host>(
     keep(alloc, state, host, letter, line)
 }
 
-// The same of a draft whose record is refused.
+// Keeps a draft that could not be recorded.
 fn keep_unrecorded<H: Host>(
     alloc: Global,
     state: &mut SessionState,

@@ -6,6 +6,7 @@ use std::alloc::Global;
 use std::fs::exists;
 use std::rt::HostRuntime;
 use std::test::Fail;
+use std::time::Duration;
 
 /// The most bytes of an output that are kept.
 const LIMIT: usize = 16_777_216;
@@ -114,9 +115,9 @@ const SMALL: [Trial; 7] = [
         output: "a 'b\" c|$(echo x)|`id`| blank |line\nfeed|-n|--|*|\\||$0|;|é|",
     },
     Trial {
-        words: &["stat", "-c", "%a", "small $(x) 'y"],
+        words: &["stat", "-c", "%a %h", "-"],
         status: 0,
-        output: "600\n",
+        output: "600 0\n",
     },
 ];
 
@@ -124,7 +125,7 @@ const SMALL: [Trial; 7] = [
 fn children_are_handed_words_and_input(rt: HostRuntime) -> Result<(), Fail> {
     let alloc = rt.alloc();
     let scratch = "small $(x) 'y";
-    let mut host = RealHost::new(rt, alloc, scratch.as_bytes())?;
+    let mut host = RealHost::new(rt, alloc, scratch.as_bytes(), Duration::ZERO)?;
     assert_eq!(rt;
         held(alloc, &mut host, &SMALL, b"to be read\n"),
         SMALL.len()
@@ -151,7 +152,7 @@ fn measured(
 #[test]
 fn a_child_may_leave_a_long_input(rt: HostRuntime) -> Result<(), Fail> {
     let alloc = rt.alloc();
-    let mut host = RealHost::new(rt, alloc, b"left")?;
+    let mut host = RealHost::new(rt, alloc, b"left", Duration::ZERO)?;
     let got = measured(alloc, &mut host, &["/bin/sh", "-c", "exit 4"], LIMIT)?;
     assert!(rt; got == (4, 0, false));
     assert!(rt; !exists(&rt, "left")?);
@@ -161,7 +162,7 @@ fn a_child_may_leave_a_long_input(rt: HostRuntime) -> Result<(), Fail> {
 #[test]
 fn a_long_output_is_cut(rt: HostRuntime) -> Result<(), Fail> {
     let alloc = rt.alloc();
-    let mut host = RealHost::new(rt, alloc, b"long")?;
+    let mut host = RealHost::new(rt, alloc, b"long", Duration::ZERO)?;
     let words = ["head", "-c", "20000000", "/dev/zero"];
     let got = measured(alloc, &mut host, &words, 0)?;
     assert!(rt; got == (0, LIMIT, true));
@@ -171,7 +172,7 @@ fn a_long_output_is_cut(rt: HostRuntime) -> Result<(), Fail> {
 #[test]
 fn an_input_comes_back(rt: HostRuntime) -> Result<(), Fail> {
     let alloc = rt.alloc();
-    let mut host = RealHost::new(rt, alloc, b"back")?;
+    let mut host = RealHost::new(rt, alloc, b"back", Duration::ZERO)?;
     let whole = measured(alloc, &mut host, &["cat"], LIMIT)?;
     assert!(rt; whole == (0, LIMIT, false));
     let longer = measured(alloc, &mut host, &["cat"], LIMIT + 1)?;
@@ -198,21 +199,22 @@ fn fails(alloc: Global, host: &mut RealHost<HostRuntime>, program: &[u8], arg: &
 #[test]
 fn what_cannot_be_passed_fails(rt: HostRuntime) -> Result<(), Fail> {
     let alloc = rt.alloc();
-    let mut host = RealHost::new(rt, alloc, b"unpassed")?;
+    let mut host = RealHost::new(rt, alloc, b"unpassed", Duration::ZERO)?;
     assert!(rt; fails(alloc, &mut host, b"echo", b"\xff"));
     assert!(rt; fails(alloc, &mut host, b"ech\xff", b"a"));
     assert!(rt; fails(alloc, &mut host, b"echo", b"a\0b"));
     assert_eq!(rt; host.children, 3);
     assert!(rt; !exists(&rt, "unpassed")?);
-    let mut nowhere = RealHost::new(rt, alloc, b"none/scratch")?;
-    assert!(rt; fails(alloc, &mut nowhere, b"echo", b"a"));
+    let mut nowhere = RealHost::new(rt, alloc, b"none/scratch", Duration::ZERO)?;
+    let beside = measured(alloc, &mut nowhere, &["cat"], 5)?;
+    assert!(rt; beside == (0, 5, false));
     Ok(())
 }
 
 #[test]
 fn the_time_is_the_system_s(rt: HostRuntime) -> Result<(), Fail> {
     let alloc = rt.alloc();
-    let mut host = RealHost::new(rt, alloc, b"time")?;
+    let mut host = RealHost::new(rt, alloc, b"time", Duration::ZERO)?;
     let seconds = match run(alloc, &mut host, &["date", "+%s"], b"") {
         Ok(answer) => read_number(answer.output.bytes().trim_ascii_end()).unwrap_or(0),
         Err(_) => 0,

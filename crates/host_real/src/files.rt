@@ -1,60 +1,16 @@
 // Whole files, each written, renamed and removed durably: what was done is there after the machine stops.
-ghost use Rattle.std.specs.Prelude.{◌≡◌, IfOk};
-ghost use Rattle.host_port.specs.Calls.{FitsLoad};
-
-use host_port::LoadAnswer;
-use mail_text::Text;
-use std::alloc::{AllocError, Global};
-use std::fs::{File, Files, OpenFile, OpenOptions, exists};
-use std::io::{Error, ErrorKind, Read, Write};
-use std::os::unix::fs::OpenOptionsExt;
-
-/// The most bytes of a file that a load takes.
-pub const LOAD_LIMIT: u64 = 268_435_456;
+use crate::kinds::{is_absence, is_closed_folder, is_empty_place, is_out_of_reach, look, user};
+use crate::paths::{Place, folder_of};
+use crate::reasons::FileError;
+use std::fs::{File, Files, Metadata, OpenFile, OpenOptions, Permissions};
+use std::io::{Error, ErrorKind, Write};
+use std::os::unix::fs::{MetadataExt, OpenOptionsExt, PermissionsExt, fchown};
 
 /// The permissions of each file that is made here: its user alone may read and write it, whatever the umask.
 pub const PRIVATE: u32 = 0o600;
 
-/// Why a file was not read or changed.
-#[derive(Drop, Debug)]
-pub enum FileError {
-    Failed,
-    TooLarge { length: u64 },
-    Memory,
-}
-
-impl From<Error> for FileError {
-    fn from(error: Error) -> Self {
-        if error.kind() == ErrorKind::OutOfMemory {
-            FileError::Memory
-        } else {
-            FileError::Failed
-        }
-    }
-}
-
-impl From<AllocError> for FileError {
-    fn from(_: AllocError) -> Self {
-        FileError::Memory
-    }
-}
-
-/// A name as the library takes it. A name that isn't UTF-8 can't be given to the system.
-pub fn path_of(name: &[u8]) -> Result<&str, FileError> {
-    match str::from_utf8(name) {
-        Ok(path) => Ok(path),
-        Err(_) => Err(FileError::Failed),
-    }
-}
-
-// The folder that a name stands in.
-fn folder_of(path: &str) -> &str {
-    match path.rsplit_once('/') {
-        None => ".",
-        Some(("", _)) => "/",
-        Some((folder, _)) => folder,
-    }
-}
+/// The bits of a file's mode that say who may do what with it.
+const MODE_BITS: u32 = 0o7777;
 
 // Waits until the names in the folder of a path have reached the device.
 fn sync_folder<R: Files>(rt: &R, path: &str) -> Result<(), Error> {
@@ -62,49 +18,47 @@ fn sync_folder<R: Files>(rt: &R, path: &str) -> Result<(), Error> {
     folder.sync_all()
 }
 
-// The bytes of an open file.
-fn read_open<F: Read + OpenFile + Drop>(alloc: Global, file: F) -> Result<Vec<u8>, FileError> {
-    let length = file.metadata()?.len();
-    if length > LOAD_LIMIT {
-        return Err(FileError::TooLarge { length });
-    }
-    let mut bytes = Vec::with_capacity(alloc, length as usize + 1)?;
-    file.take(LOAD_LIMIT + 1).read_to_end(&mut bytes)?;
-    Ok(bytes)
-}
-
-/// The bytes of a file, or None where it is absent.
-pub fn read_file<R: Files>(rt: &R, alloc: Global, path: &str) -> Result<Option<Text>, FileError>
-    ensures { IfOk result FitsLoad }
-{
-    let file = match File::open(rt, path) {
-        Ok(file) => file,
-        Err(error) if error.kind() == ErrorKind::NotFound => return Ok(None),
-        Err(error) => return Err(FileError::from(error)),
-    };
-    let bytes = read_open(alloc, file)?;
-    let length = bytes.len() as u64;
-    if length > LOAD_LIMIT {
-        return Err(FileError::TooLarge { length });
-    }
-    Ok(Some(Text::of(bytes)))
-}
-
-/// Makes a private file, open for writing. What stood there is taken away first and not written over: it may be
-/// another's, be open to others, or have another name too, as a lock that a stopped run has linked already.
+/// Makes a private file, open for reading and writing. What stood there is taken away first and not written over: it
+/// may be another's, be open to others, or have another name too, as a lock that a stopped run has linked already.
 pub fn create_private<R: Files>(rt: &R, path: &str) -> Result<R::File, Error> {
     let _ = rt.remove_file(path);
     OpenOptions::new()
+        .read(true)
         .write(true)
         .create_new(true)
         .mode(PRIVATE)
         .open(rt, path)
 }
 
-/// Writes a whole private file and waits until it, and its name, have reached the device.
-pub fn write_file<R: Files>(rt: &R, path: &str, bytes: &[u8]) -> Result<(), FileError> {
+// Gives a file the owner, the group and the mode of another.
+fn give(file: &File, of: &Metadata) -> Result<(), Error> {
+    fchown(file, Some(of.uid()), Some(of.gid()))?;
+    file.set_permissions(Permissions::from_mode(of.mode() & MODE_BITS))
+}
+
+// What the system's administrator finds where a staged file is to go, if it is another user's: that user's it stays.
+fn anothers<R: Files>(rt: &R, place: &Place) -> Result<Option<Metadata>, Error> {
+    match place {
+        Place::Staged { file, .. } if user() == 0 => {
+            Ok(look(rt, file.as_str())?.filter(|found| found.is_file() && found.uid() != 0))
+        }
+        _ => Ok(None),
+    }
+}
+
+/// Writes a whole private file and waits until it, and its name, have reached the device. It is private to its user,
+/// or is as the file of another user that it is to replace.
+pub fn write_file<R: Files<File = File>>(
+    rt: &R,
+    place: &Place,
+    bytes: &[u8],
+) -> Result<(), FileError> {
+    let path = place.path();
     let mut file = create_private(rt, path)?;
     file.write_all(bytes)?;
+    if let Some(found) = anothers(rt, place)? {
+        give(&file, &found)?;
+    }
     file.sync_all()?;
     Ok(sync_folder(rt, path)?)
 }
@@ -147,15 +101,12 @@ fn linked<R: Files, F: Write + OpenFile>(
 
 /// Gives a file another name, in the place of what stood there. False where the file is absent.
 pub fn rename_file<R: Files>(rt: &R, from: &str, to: &str) -> Result<bool, FileError> {
-    match rt.rename(from, to) {
-        Ok(()) => {}
-        Err(error) if error.kind() == ErrorKind::NotFound => {
-            if exists(rt, from)? {
-                return Err(FileError::Failed);
-            }
-            return Ok(false);
-        }
-        Err(error) => return Err(FileError::from(error)),
+    if let Err(error) = rt.rename(from, to) {
+        return if is_empty_place(rt, from) {
+            Ok(false)
+        } else {
+            Err(FileError::from(error))
+        };
     }
     sync_folder(rt, to)?;
     if folder_of(from) != folder_of(to) {
@@ -164,15 +115,35 @@ pub fn rename_file<R: Files>(rt: &R, from: &str, to: &str) -> Result<bool, FileE
     Ok(true)
 }
 
+// Whether an error of making the names in a folder last says that no file of ours was ever there: the folder can't be
+// opened, or nothing in it lasts, as in that of the system's processes.
+fn keeps_nothing(error: &Error) -> bool {
+    is_closed_folder(error) || error.kind() == ErrorKind::InvalidInput
+}
+
+// Makes it last that a file is absent.
+fn sync_absence<R: Files>(rt: &R, path: &str) -> Result<(), FileError> {
+    match sync_folder(rt, path) {
+        Err(error) if !keeps_nothing(&error) => Err(FileError::from(error)),
+        _ => Ok(()),
+    }
+}
+
+// Whether a file that could not be removed isn't there: a look shows it, or no file of ours can be there.
+fn is_gone<R: Files>(rt: &R, place: &Place, error: &Error) -> bool {
+    let path = place.path();
+    is_absence(error)
+        || (is_closed_folder(error) && is_empty_place(rt, path))
+        || (place.is_made_here() && is_out_of_reach(rt, path))
+}
+
 /// Takes a file away. Where it is absent, its absence is made to last.
-pub fn remove_file<R: Files>(rt: &R, path: &str) -> Result<(), FileError> {
+pub fn remove_file<R: Files>(rt: &R, place: &Place) -> Result<(), FileError> {
+    let path = place.path();
     match rt.remove_file(path) {
         Ok(()) => Ok(sync_folder(rt, path)?),
-        Err(error) if error.kind() == ErrorKind::NotFound => match sync_folder(rt, path) {
-            Ok(()) => Ok(()),
-            Err(error) if error.kind() == ErrorKind::NotFound => Ok(()),
-            Err(error) => Err(FileError::from(error)),
-        },
+        Err(error) if error.kind() == ErrorKind::NotFound => sync_absence(rt, path),
+        Err(error) if is_gone(rt, place, &error) => Ok(()),
         Err(error) => Err(FileError::from(error)),
     }
 }

@@ -5,10 +5,18 @@
 #[cfg(test)]
 mod child_tests;
 mod children;
+mod disk;
 mod files;
+mod kinds;
 mod locks;
+mod paths;
+mod reading;
 mod real;
+mod reasons;
+mod rights;
+mod streams;
 #[cfg(test)]
 mod tests;
+mod waiting;
 
 pub use real::RealHost;

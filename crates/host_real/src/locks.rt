@@ -1,77 +1,248 @@
-// Locks and rights made of files. The lock on F is the file F.lock, which holds its owner's token; the right of F
-// is the system's lock on the open file F, which ends with its holder.
-ghost use Rattle.std.specs.Prelude.{◌≡◌, IfOk};
-ghost use Rattle.host_port.specs.Calls.{FitsLoad};
+// Locks made of files. The lock on F is the file F.lock, which holds its owner's token.
+use crate::files::{remove_file, write_new};
+use crate::kinds::{
+    Stamp, is_absence, is_empty_place, is_out_of_reach, look, may_be_replaced, stamp_at,
+};
+use crate::paths::{Place, beside_path, is_token, lock_path, staged_path, token_text};
+use crate::reasons::FileError;
+use crate::waiting::Patience;
+use std::alloc::Global;
+use std::fs::{File, Files};
+use std::io::{Error, ErrorKind, Read};
+use std::time::{Clock, Duration};
 
-use crate::files::{FileError, PRIVATE, path_of, read_file, remove_file, write_new};
-use host_port::LoadAnswer;
-use std::alloc::{AllocError, Global};
-use std::fs::{File, Files, OpenOptions, TryLockError, exists};
-use std::os::unix::fs::OpenOptionsExt;
+/// The shortest pause, in microseconds, between two looks at a lock.
+const PAUSE: u64 = 20_000;
 
-fn lock_path(alloc: Global, path: &str) -> Result<String, AllocError> {
-    format!(in alloc; "{path}.lock")
+/// More bytes than a lock of ours has.
+const LOCK_ROOM: u64 = 17;
+
+/// Who has locked a file.
+#[derive(Clone, Copy, PartialEq, Eq)]
+pub enum Hold {
+    Free,
+    Own,
+    Other,
 }
 
-fn token_text(alloc: Global, token: u64) -> Result<String, AllocError> {
-    format!(in alloc; "{token:016x}")
+/// A lock that this host has put, and what stood at the file's place then.
+#[derive(Drop)]
+struct Mark {
+    file: String,
+    digits: String,
+    found: Option<Stamp>,
 }
 
-/// What a load answers.
-pub fn look<R: Files>(rt: &R, alloc: Global, name: &[u8]) -> Result<LoadAnswer, FileError>
-    ensures { IfOk result (λ a. FitsLoad a.bytes) }
-{
-    let path = path_of(name)?;
-    let lock = lock_path(alloc, path)?;
-    let held = exists(rt, lock.as_str())?;
-    let bytes = read_file(rt, alloc, path)?;
-    Ok(LoadAnswer { bytes, held })
+/// The locks that this host has put.
+#[derive(Drop)]
+pub struct Marks {
+    marks: Vec<Mark>,
 }
 
-// The name under which a lock is written before it is linked into place. No mailbox has such a name.
-fn beside_path(alloc: Global, path: &str, token: u64) -> Result<String, AllocError> {
-    format!(in alloc; "{path}.lock.mx{token:016x}")
-}
-
-/// Puts a lock on a name. False where one stands.
-pub fn lock<R: Files>(rt: &R, alloc: Global, name: &[u8], token: u64) -> Result<bool, FileError> {
-    let path = path_of(name)?;
-    let lock = lock_path(alloc, path)?;
-    let beside = beside_path(alloc, path, token)?;
-    let text = token_text(alloc, token)?;
-    write_new(rt, lock.as_str(), beside.as_str(), text.as_bytes())
-}
-
-/// Takes the lock on a name away where it holds this token, and what a stopped run has left of the making of that lock.
-pub fn unlock<R: Files>(rt: &R, alloc: Global, name: &[u8], token: u64) -> Result<(), FileError> {
-    let path = path_of(name)?;
-    let lock = lock_path(alloc, path)?;
-    let beside = beside_path(alloc, path, token)?;
-    let text = token_text(alloc, token)?;
-    let _ = rt.remove_file(beside.as_str());
-    match read_file(rt, alloc, lock.as_str())? {
-        None => Ok(()),
-        Some(owner) => {
-            if owner.bytes() != text.as_bytes() {
-                return Ok(());
-            }
-            remove_file(rt, lock.as_str())
+impl Marks {
+    pub fn new(alloc: Global) -> Marks {
+        Marks {
+            marks: Vec::new(alloc),
         }
     }
+
+    fn find(&self, file: &str, digits: &str) -> Option<&Mark> {
+        let is_of = |mark: &&Mark| mark.file.as_str() == file && mark.digits.as_str() == digits;
+        self.marks.iter().find(is_of)
+    }
+
+    fn has_token(&self, digits: &str) -> bool {
+        self.marks.iter().any(|mark| mark.digits.as_str() == digits)
+    }
+
+    fn forget(&mut self, file: &str) {
+        self.marks.retain(|mark| mark.file.as_str() != file);
+    }
+
+    fn put(&mut self, file: String, digits: String, found: Option<Stamp>) -> Result<(), FileError> {
+        self.forget(file.as_str());
+        Ok(
+            self.marks.push(Mark {
+                file,
+                digits,
+                found,
+            })?,
+        )
+    }
 }
 
-/// The open file of a right that is taken, or None where another has it.
-pub fn seize<R: Files<File = File>>(rt: &R, name: &[u8]) -> Result<Option<File>, FileError> {
-    let path = path_of(name)?;
-    let file = OpenOptions::new()
-        .read(true)
-        .write(true)
-        .create(true)
-        .mode(PRIVATE)
-        .open(rt, path)?;
-    match file.try_lock() {
-        Ok(()) => Ok(Some(file)),
-        Err(TryLockError::WouldBlock) => Ok(None),
-        Err(TryLockError::Error(error)) => Err(FileError::from(error)),
+/// Whether a lock stands: anything that has its name. Where none can stand, there is none.
+pub fn is_held<R: Files>(rt: &R, lock: &str) -> Result<bool, FileError> {
+    match look(rt, lock) {
+        Ok(found) => Ok(found.is_some()),
+        Err(_) if is_out_of_reach(rt, lock) => Ok(false),
+        Err(error) => Err(FileError::from(error)),
     }
+}
+
+// What a lock that can be opened holds, as far as it may be a token.
+fn read_lock<R: Files>(rt: &R, alloc: Global, lock: &str) -> Result<Vec<u8>, Error> {
+    let mut bytes = Vec::new(alloc);
+    let mut file = File::open(rt, lock)?;
+    (&mut file).take(LOCK_ROOM).read_to_end(&mut bytes)?;
+    Ok(bytes)
+}
+
+// The token of a lock, as its digits: none where no lock stands, where it may not be read, or where it holds no token.
+fn owner_of<R: Files>(rt: &R, alloc: Global, lock: &str) -> Result<Option<String>, FileError> {
+    match look(rt, lock)? {
+        Some(found) if found.is_file() => {}
+        _ => return Ok(None),
+    }
+    let bytes = match read_lock(rt, alloc, lock) {
+        Ok(bytes) => bytes,
+        Err(error) if is_absence(&error) || error.kind() == ErrorKind::PermissionDenied => {
+            return Ok(None);
+        }
+        Err(error) => return Err(FileError::from(error)),
+    };
+    match str::from_utf8(bytes.as_slice()) {
+        Ok(digits) if is_token(digits) => Ok(Some(String::from_str(alloc, digits)?)),
+        _ => Ok(None),
+    }
+}
+
+/// Who has put a lock.
+pub fn hold_of<R: Files>(
+    rt: &R,
+    alloc: Global,
+    marks: &Marks,
+    lock: &str,
+) -> Result<Hold, FileError> {
+    if !is_held(rt, lock)? {
+        return Ok(Hold::Free);
+    }
+    match owner_of(rt, alloc, lock)? {
+        Some(digits) if marks.has_token(digits.as_str()) => Ok(Hold::Own),
+        _ => Ok(Hold::Other),
+    }
+}
+
+// Puts a lock where none stands. False where one stands.
+fn put_lock<R: Files>(
+    rt: &R,
+    alloc: Global,
+    path: &str,
+    lock: &str,
+    token: u64,
+) -> Result<bool, FileError> {
+    may_be_replaced(rt, path)?;
+    if is_held(rt, lock)? {
+        return Ok(false);
+    }
+    let beside = beside_path(alloc, path, token)?;
+    let digits = token_text(alloc, token)?;
+    write_new(rt, lock, beside.as_str(), digits.as_bytes())
+}
+
+/// Puts a lock on a file that may be replaced. False where one stands: another's is waited for.
+pub fn lock<R: Files + Clock>(
+    rt: &R,
+    alloc: Global,
+    marks: &mut Marks,
+    path: &str,
+    token: u64,
+    wait: Duration,
+) -> Result<bool, FileError> {
+    let lock = lock_path(alloc, path)?;
+    let lock = lock.as_str();
+    let patience = Patience::new(rt, wait, PAUSE);
+    for _ in 0..u64::MAX {
+        if put_lock(rt, alloc, path, lock, token)? {
+            let digits = token_text(alloc, token)?;
+            marks.put(String::from_str(alloc, path)?, digits, stamp_at(rt, path)?)?;
+            return Ok(true);
+        }
+        if hold_of(rt, alloc, marks, lock)? == Hold::Own || !patience.again(rt) {
+            return Ok(false);
+        }
+    }
+    Ok(false)
+}
+
+// Takes a lock file away. It may be gone already.
+fn remove_lock<R: Files>(rt: &R, lock: String) -> Result<(), FileError> {
+    remove_file(rt, &Place::File(lock))
+}
+
+/// Takes the lock on a file away where it holds this token, and what a stopped run has left of the making of that
+/// lock.
+pub fn unlock<R: Files>(
+    rt: &R,
+    alloc: Global,
+    marks: &mut Marks,
+    path: &str,
+    token: u64,
+) -> Result<(), FileError> {
+    let lock = lock_path(alloc, path)?;
+    let _ = rt.remove_file(beside_path(alloc, path, token)?.as_str());
+    if !is_held(rt, lock.as_str())? {
+        return Ok(());
+    }
+    let digits = token_text(alloc, token)?;
+    match owner_of(rt, alloc, lock.as_str())? {
+        Some(owner) if owner.as_str() == digits.as_str() => {
+            remove_lock(rt, lock)?;
+            marks.forget(path);
+            Ok(())
+        }
+        _ => Ok(()),
+    }
+}
+
+// Whether a file is as it was when its lock was put: this host has seen it then. Of a lock that another run has put
+// it is known that the file may not have changed later than the lock.
+fn is_untouched(now: Option<Stamp>, mark: Option<&Mark>, lock: &Stamp) -> bool {
+    match (mark, now) {
+        (Some(mark), _) => mark.found == now,
+        (None, Some(now)) => !now.is_later(lock),
+        (None, None) => true,
+    }
+}
+
+/// Refuses to replace or remove a file whose lock with this token was broken, or that was changed under it.
+pub fn refuse_broken<R: Files>(
+    rt: &R,
+    alloc: Global,
+    marks: &Marks,
+    file: &str,
+    digits: &str,
+) -> Result<(), FileError> {
+    let lock = lock_path(alloc, file)?;
+    let Some(standing) = stamp_at(rt, lock.as_str())? else {
+        return Err(FileError::LockGone);
+    };
+    match owner_of(rt, alloc, lock.as_str())? {
+        Some(owner) if owner.as_str() == digits => {}
+        _ => return Err(FileError::LockGone),
+    }
+    let now = stamp_at(rt, file)?;
+    if is_untouched(now, marks.find(file, digits), &standing) {
+        Ok(())
+    } else {
+        Err(FileError::Changed)
+    }
+}
+
+/// Refuses to remove a file that isn't locked by a run which has staged its removal, or that was changed meanwhile.
+pub fn refuse_unlocked<R: Files>(
+    rt: &R,
+    alloc: Global,
+    marks: &Marks,
+    file: &str,
+) -> Result<(), FileError> {
+    let lock = lock_path(alloc, file)?;
+    let Some(digits) = owner_of(rt, alloc, lock.as_str())? else {
+        return Err(FileError::LockGone);
+    };
+    let staged = staged_path(alloc, file, digits.as_str())?;
+    if is_empty_place(rt, staged.as_str()) {
+        return Err(FileError::LockGone);
+    }
+    refuse_broken(rt, alloc, marks, file, digits.as_str())
 }

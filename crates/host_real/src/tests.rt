@@ -8,6 +8,7 @@ use std::alloc::Global;
 use std::fs::Files;
 use std::rt::HostRuntime;
 use std::test::Fail;
+use std::time::{Clock, Duration};
 
 /// No child runs here.
 const SCRATCH: &[u8] = b"scratch";
@@ -28,6 +29,18 @@ enum Name {
     Second,
     Deep,
     Moved,
+    BoxStaged,
+    LetterStaged,
+    UnderFile,
+    NotText,
+    OwnSpelled,
+    Folder,
+    Pointed,
+    PointedLock,
+    Link,
+    LinkStaged,
+    LinkLock,
+    Waited,
 }
 
 /// A call on the disk.
@@ -52,8 +65,8 @@ fn path(name: Name) -> &'static [u8]
         Name::Box => b"box",
         Name::BoxLock => b"box.lock",
         Name::New => b"new",
-        Name::Right => b"right",
-        Name::Claim => b"claim",
+        Name::Right => b"me.right",
+        Name::Claim => b"claim.right",
         Name::InNoFolder => b"none/box",
         Name::Letter => b"letter",
         Name::LetterLock => b"letter.lock",
@@ -62,6 +75,18 @@ fn path(name: Name) -> &'static [u8]
         Name::Second => b"second",
         Name::Deep => b"deep/letter",
         Name::Moved => b"moved",
+        Name::BoxStaged => b"box.mx00000000000000ab",
+        Name::LetterStaged => b"letter.mx00000000000000ab",
+        Name::UnderFile => b"box/x",
+        Name::NotText => b"caf\xe9",
+        Name::OwnSpelled => b"./me.commit",
+        Name::Folder => b"folder",
+        Name::Pointed => b"pointed",
+        Name::PointedLock => b"pointed.lock",
+        Name::Link => b"link",
+        Name::LinkStaged => b"link.mx00000000000000ab",
+        Name::LinkLock => b"link.lock",
+        Name::Waited => b"waited",
     }
 }
 
@@ -147,12 +172,27 @@ const OF_ANOTHER: [Call; 4] = [
     Call::Seize(Name::Right),
 ];
 
-const LATER: [Call; 11] = [
+// Where nothing can stand nothing does, and no lock can be put; the own three files are met under another spelling.
+const LATER: [Call; 25] = [
     Call::Unlock(Name::Box, 0xab),
     Call::Load(Name::Box),
+    Call::Erase(Name::UnderFile),
+    Call::Publish(Name::UnderFile, Name::Box),
+    Call::Lock(Name::UnderFile, 1),
+    Call::Unlock(Name::UnderFile, 1),
+    Call::Erase(Name::NotText),
+    Call::Publish(Name::NotText, Name::Box),
+    Call::Lock(Name::NotText, 1),
+    Call::Unlock(Name::NotText, 1),
+    Call::Lock(Name::OwnSpelled, 1),
     Call::Release(Name::Right),
     Call::Erase(Name::Box),
+    Call::Lock(Name::Box, 0xab),
+    Call::Stage(Name::BoxStaged),
     Call::Erase(Name::Box),
+    Call::Erase(Name::Box),
+    Call::Erase(Name::BoxStaged),
+    Call::Unlock(Name::Box, 0xab),
     Call::Load(Name::Box),
     Call::Stage(Name::InNoFolder),
     Call::Publish(Name::InNoFolder, Name::Box),
@@ -164,17 +204,17 @@ const LATER: [Call; 11] = [
 #[test]
 fn the_machine_keeps_files_locks_and_rights(rt: HostRuntime) -> Result<(), Fail> {
     let alloc = rt.alloc();
-    let mut host = RealHost::new(rt, alloc, SCRATCH)?;
+    let mut host = RealHost::new(rt, alloc, SCRATCH, Duration::ZERO)?;
     let own = answers(alloc, &mut host, &OWN)?;
     assert_eq!(rt; own.bytes(), b".ynmythyy".as_slice());
     {
-        let mut another = RealHost::new(rt, alloc, SCRATCH)?;
+        let mut another = RealHost::new(rt, alloc, SCRATCH, Duration::ZERO)?;
         let of_another = answers(alloc, &mut another, &OF_ANOTHER)?;
         assert_eq!(rt; of_another.bytes(), b"n.hn".as_slice());
     }
     let later = answers(alloc, &mut host, &LATER)?;
-    assert_eq!(rt; later.bytes(), b".m...a!n!..".as_slice());
-    assert_eq!(rt; host.disks, 2);
+    assert_eq!(rt; later.bytes(), b".m.n!..n!.!.!y.....a!n!..".as_slice());
+    assert_eq!(rt; host.disks, 6);
     Ok(())
 }
 
@@ -182,11 +222,11 @@ fn the_machine_keeps_files_locks_and_rights(rt: HostRuntime) -> Result<(), Fail>
 fn a_right_ends_with_its_holder(rt: HostRuntime) -> Result<(), Fail> {
     let alloc = rt.alloc();
     {
-        let mut another = RealHost::new(rt, alloc, SCRATCH)?;
+        let mut another = RealHost::new(rt, alloc, SCRATCH, Duration::ZERO)?;
         let got = answers(alloc, &mut another, &[Call::Seize(Name::Claim)])?;
         assert_eq!(rt; got.bytes(), b"y".as_slice());
     }
-    let mut host = RealHost::new(rt, alloc, SCRATCH)?;
+    let mut host = RealHost::new(rt, alloc, SCRATCH, Duration::ZERO)?;
     let calls = [
         Call::Stage(Name::Claim),
         Call::Seize(Name::Claim),
@@ -200,7 +240,7 @@ fn a_right_ends_with_its_holder(rt: HostRuntime) -> Result<(), Fail> {
 
 // A shorter file over a longer one, an empty one, a target in no folder; a lock of other contents, an empty one,
 // and what a stopped lock has left.
-const ODD: [Call; 22] = [
+const ODD: [Call; 21] = [
     Call::StageLong(Name::Letter),
     Call::Stage(Name::Letter),
     Call::Load(Name::Letter),
@@ -222,15 +262,49 @@ const ODD: [Call; 22] = [
     Call::Unlock(Name::Letter, 0xab),
     Call::Load(Name::LetterBeside),
     Call::Load(Name::LetterLock),
+];
+
+// A lock that another took away, one that another put in its place, and a file that was changed under its lock: what
+// was staged doesn't take the file's place.
+const BROKEN: [Call; 13] = [
+    Call::Lock(Name::Letter, 0xab),
+    Call::Stage(Name::LetterStaged),
+    Call::Erase(Name::LetterLock),
+    Call::Publish(Name::LetterStaged, Name::Letter),
+    Call::Lock(Name::Letter, 8),
+    Call::Publish(Name::LetterStaged, Name::Letter),
+    Call::Unlock(Name::Letter, 8),
+    Call::Lock(Name::Letter, 0xab),
+    Call::StageEmpty(Name::Letter),
+    Call::Publish(Name::LetterStaged, Name::Letter),
     Call::Erase(Name::Letter),
+    Call::Unlock(Name::Letter, 0xab),
+    Call::Load(Name::Letter),
+];
+
+// Another host, which hasn't put the lock, ends what was begun.
+const BEGUN: [Call; 1] = [Call::Lock(Name::Letter, 0xab)];
+
+const ENDED: [Call; 3] = [
+    Call::Publish(Name::LetterStaged, Name::Letter),
+    Call::Unlock(Name::Letter, 0xab),
+    Call::Load(Name::Letter),
 ];
 
 #[test]
 fn odd_files_and_locks(rt: HostRuntime) -> Result<(), Fail> {
     let alloc = rt.alloc();
-    let mut host = RealHost::new(rt, alloc, SCRATCH)?;
-    let got = answers(alloc, &mut host, &ODD)?;
-    assert_eq!(rt; got.bytes(), b"..m.e!..h..h..yta..aa.".as_slice());
+    let mut host = RealHost::new(rt, alloc, SCRATCH, Duration::ZERO)?;
+    let odd = answers(alloc, &mut host, &ODD)?;
+    assert_eq!(rt; odd.bytes(), b"..m.e!..h..h..yta..aa".as_slice());
+    let broken = answers(alloc, &mut host, &BROKEN)?;
+    assert_eq!(rt; broken.bytes(), b"y..!y!.y.!!.e".as_slice());
+    let begun = answers(alloc, &mut host, &BEGUN)?;
+    assert_eq!(rt; begun.bytes(), b"y".as_slice());
+    let mut another = RealHost::new(rt, alloc, SCRATCH, Duration::ZERO)?;
+    let ended = answers(alloc, &mut another, &ENDED)?;
+    assert_eq!(rt; ended.bytes(), b"y.m".as_slice());
+    assert!(rt; rt.remove_file("letter").is_ok());
     Ok(())
 }
 
@@ -249,8 +323,6 @@ const BOTH: [Call; 2] = [Call::Seize(Name::First), Call::Seize(Name::Second)];
 
 const GIVE_UP: [Call; 2] = [Call::Release(Name::Box), Call::Release(Name::Second)];
 
-const ERASE_BOTH: [Call; 2] = [Call::Erase(Name::First), Call::Erase(Name::Second)];
-
 // Whether one host has both rights and then gives up the second alone, as the answers to another tell.
 fn gives_up_one(
     alloc: Global,
@@ -259,32 +331,74 @@ fn gives_up_one(
 ) -> Result<bool, Memory> {
     let taken = gives(alloc, host, &BOTH, b"yy")? && gives(alloc, another, &BOTH, b"nn")?;
     let given = gives(alloc, host, &GIVE_UP, b"..")? && gives(alloc, another, &BOTH, b"ny")?;
-    Ok(taken && given && gives(alloc, another, &ERASE_BOTH, b"..")?)
+    Ok(taken && given)
 }
 
 #[test]
 fn one_of_two_rights_is_given_up(rt: HostRuntime) -> Result<(), Fail> {
     let alloc = rt.alloc();
-    let mut host = RealHost::new(rt, alloc, SCRATCH)?;
-    let mut another = RealHost::new(rt, alloc, SCRATCH)?;
+    let mut host = RealHost::new(rt, alloc, SCRATCH, Duration::ZERO)?;
+    let mut another = RealHost::new(rt, alloc, SCRATCH, Duration::ZERO)?;
     assert!(rt; gives_up_one(alloc, &mut host, &mut another)?);
+    assert!(rt; rt.remove_file("first").is_ok() && rt.remove_file("second").is_ok());
     Ok(())
 }
 
-const ACROSS: [Call; 5] = [
+const ACROSS: [Call; 4] = [
     Call::Stage(Name::Deep),
     Call::Publish(Name::Deep, Name::Moved),
     Call::Load(Name::Deep),
     Call::Load(Name::Moved),
-    Call::Erase(Name::Moved),
 ];
 
 #[test]
 fn a_file_moves_to_another_folder(rt: HostRuntime) -> Result<(), Fail> {
     let alloc = rt.alloc();
     let made = rt.create_dir("deep").is_ok();
-    let mut host = RealHost::new(rt, alloc, SCRATCH)?;
-    let moved = gives(alloc, &mut host, &ACROSS, b".yam.")?;
+    let mut host = RealHost::new(rt, alloc, SCRATCH, Duration::ZERO)?;
+    let moved = gives(alloc, &mut host, &ACROSS, b".yam")?;
     assert!(rt; made && moved && rt.remove_dir("deep").is_ok());
+    assert!(rt; rt.remove_file("moved").is_ok());
+    Ok(())
+}
+
+// A folder isn't replaced. What a link stands for is staged, locked and replaced, and the link stays.
+const KINDS: [Call; 11] = [
+    Call::Lock(Name::Folder, 0xab),
+    Call::Load(Name::Folder),
+    Call::StageEmpty(Name::Pointed),
+    Call::Load(Name::Link),
+    Call::Lock(Name::Link, 0xab),
+    Call::Load(Name::PointedLock),
+    Call::Load(Name::LinkLock),
+    Call::Stage(Name::LinkStaged),
+    Call::Publish(Name::LinkStaged, Name::Link),
+    Call::Unlock(Name::Link, 0xab),
+    Call::Load(Name::Pointed),
+];
+
+#[test]
+fn folders_and_links(rt: HostRuntime) -> Result<(), Fail> {
+    let alloc = rt.alloc();
+    let made = rt.create_dir("folder").is_ok() && rt.symlink("pointed", "link").is_ok();
+    let mut host = RealHost::new(rt, alloc, SCRATCH, Duration::ZERO)?;
+    let held = gives(alloc, &mut host, &KINDS, b"!!.eyta.y.m")?;
+    assert!(rt; made && rt.symlink_metadata("link")?.is_symlink());
+    let cleared = rt.remove_file("link").is_ok() && rt.remove_file("pointed").is_ok();
+    assert!(rt; held && cleared && rt.remove_dir("folder").is_ok());
+    Ok(())
+}
+
+#[test]
+fn another_is_waited_for(rt: HostRuntime) -> Result<(), Fail> {
+    let alloc = rt.alloc();
+    let mut host = RealHost::new(rt, alloc, SCRATCH, Duration::ZERO)?;
+    let taken = gives(alloc, &mut host, &[Call::Seize(Name::Waited)], b"y")?;
+    let begin = rt.monotonic()?;
+    let mut another = RealHost::new(rt, alloc, SCRATCH, Duration::from_millis(60))?;
+    let refused = gives(alloc, &mut another, &[Call::Seize(Name::Waited)], b"n")?;
+    let waited = rt.monotonic()?.saturating_sub(begin);
+    assert!(rt; taken && refused && waited >= Duration::from_millis(60));
+    assert!(rt; rt.remove_file("waited").is_ok());
     Ok(())
 }

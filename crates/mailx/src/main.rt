@@ -22,10 +22,12 @@ fn start(rt: HostRuntime) -> Result<u8, Memory> {
     let scratch = outside::scratch_name(alloc, &pairs, token)?;
     let env = Environment {
         pairs: Items::of(pairs),
+        folder: outside::working_folder(&rt, alloc)?,
         terminal: outside::is_terminal(&rt, alloc)?,
         token,
     };
-    let mut host = RealHost::new(rt, alloc, scratch.bytes())?;
+    let wait = outside::waiting_time(&rt, alloc)?;
+    let mut host = RealHost::new(rt, alloc, scratch.bytes(), wait)?;
     Ok(run(alloc, &words, &env, &mut host).number())
 }
 

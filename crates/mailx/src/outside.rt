@@ -1,17 +1,26 @@
-// What the program is handed: the words of its command line, the variables of its environment, and its input, which may
-// be a terminal; and the name of the file that the input of its children stands in.
-use mail_text::{Memory, Text};
+// What the program is handed: the words of its command line, the variables of its environment, and its input, which
+// may be a terminal; and the name of the file that the input of its children stands in.
+use mail_text::{Memory, Text, read_number};
 use std::alloc::Global;
 use std::env::FillError;
 use std::io;
 use std::io::ErrorKind;
 use std::process::{Command, ExitStatus, Processes};
 use std::rt::Env;
+use std::time::Duration;
 
 /// The variables that a run looks at.
 const NAMES: [&str; 10] = [
     "HOME", "LOGNAME", "MAIL", "MAILRC", "MBOX", "DEAD", "LISTER", "SHELL", "TZ", "COLUMNS",
 ];
+
+/// The variable that says for how many seconds others are waited for, the most that it may say, and what counts where
+/// it says nothing, or something else.
+const WAIT: &str = "MAILX_WAIT";
+
+const LONGEST_WAIT: u64 = 3600;
+
+const USUAL_WAIT: u64 = 10;
 
 /// The room that a text is given, and the longest that a system hands over.
 const ROOMS: [usize; 2] = [4096, 131_072];
@@ -63,6 +72,27 @@ pub fn variables<E: Env>(env: &E, alloc: Global) -> Result<Vec<(Text, Text)>, Me
     Ok(pairs)
 }
 
+/// How long others that have a right or a lock are waited for.
+pub fn waiting_time<E: Env>(env: &E, alloc: Global) -> Result<Duration, Memory> {
+    let said = match read(env, alloc, Ask::Variable(WAIT))? {
+        Some(value) => read_number(value.bytes()),
+        None => None,
+    };
+    Ok(Duration::from_secs(match said {
+        Some(seconds) if seconds <= LONGEST_WAIT => seconds,
+        _ => USUAL_WAIT,
+    }))
+}
+
+/// The name of the working folder; empty where the system can't tell it, as where the folder was removed.
+pub fn working_folder<E: Env>(env: &E, alloc: Global) -> Result<Text, Memory> {
+    let mut buf = vec![in alloc; 0u8; ROOMS[0]]?;
+    match env.current_dir(&mut buf) {
+        Ok(n) => Text::copy(alloc, &buf[..n.min(buf.len())]),
+        Err(_) => Ok(Text::new(alloc)),
+    }
+}
+
 // How a shell ends that tests whether its input, which is the program's own, is a terminal.
 fn test_input<P: Processes>(processes: &P, alloc: Global) -> io::Result<ExitStatus> {
     let mut command = Command::new(alloc, "/bin/sh")?;
@@ -90,8 +120,8 @@ fn home(pairs: &[(Text, Text)]) -> &[u8] {
     b""
 }
 
-/// The name of the file that the input of children stands in: `.mailx.in.` and the token's 16 hexadecimal digits, in the
-/// home folder.
+/// The name of the file that the input of children stands in: `.mailx.in.` and the token's 16 hexadecimal digits, in
+/// the home folder.
 pub fn scratch_name(alloc: Global, pairs: &[(Text, Text)], token: u64) -> Result<Text, Memory> {
     let mut name = Text::copy(alloc, home(pairs))?;
     let last = format!(in alloc; "/.mailx.in.{token:016x}")?;

@@ -35,6 +35,7 @@ use Rattle.read_commands.specs.declared.origin.Origin.TheVariants as origin
 use Rattle.read_commands.specs.Origins.{commanded}
 use Rattle.session_state.specs.declared.state.SessionState.{SessionState}
 use Rattle.session_state.specs.declared.status.Status.{Status}
+use Rattle.session_state.specs.Placing.{placed}
 use Rattle.session_state.specs.States.{with_draft, with_count, without_draft}
 use Rattle.mailx_session.specs.Sessions.{carried_out}
 use Rattle.session_asks.specs.Running.{by_shell, not_run}
@@ -84,7 +85,7 @@ given s (Some m) answer = took_answer s (answer_step m answer)
 abbrev pub answered : SessionState → Answer → Play (Next SessionState Status)
 answered s answer = given s s.draft answer
 
--- what follows the load of a file of this name for the draft; a lock on it is no matter
+-- what follows the load of a file that is said by this name, for the draft; a lock on it is no matter
 abbrev pub after_fetch : SessionState → List ℕ → Option Found → Play (Next SessionState Status)
 after_fetch s name None = refused s (cannot_be_read name)
 after_fetch s name (Some (found.TooLarge n)) = refused s (too_large name)
@@ -93,7 +94,8 @@ after_fetch s name (Some (found.Bytes (Some text) held)) = answered s (answer.Lo
 
 -- the file of this name is loaded for the draft, where it can be a file's
 abbrev pub fetched_named : SessionState → List ℕ → Play (Next SessionState Status)
-fetched_named s name = if is_short_name name then Ask (Try name) (after_fetch s name) else refused s (bad_name name)
+fetched_named s name =
+    if is_short_name (placed s.here name) then Ask (Try (placed s.here name)) (after_fetch s name) else refused s (bad_name name)
 
 -- the same, where a word stands for a name
 abbrev pub fetched : SessionState → OrFault (List ℕ) → Play (Next SessionState Status)

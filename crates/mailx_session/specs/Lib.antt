@@ -4,3 +4,4 @@ pub mod Taking
 pub mod Leaving
 pub mod Rounds
 pub mod Startup
+pub mod Safe

@@ -17,6 +17,7 @@ use Rattle.session_state.specs.declared.kinds.FrameKind.TheVariants as kind
 use Rattle.session_state.specs.declared.state.SessionState.{SessionState}
 use Rattle.session_state.specs.declared.status.Status.{Status}
 use Rattle.session_state.specs.Pending.{frame_of}
+use Rattle.session_state.specs.Placing.{placed}
 use Rattle.session_state.specs.States.{with_frames}
 use Rattle.mailx_session.specs.Rounds.{WaitingGo}
 
@@ -24,7 +25,7 @@ use Rattle.mailx_session.specs.Rounds.{WaitingGo}
 abbrev pub with_startup : SessionState → List ℕ → SessionState
 with_startup s text = with_frames s (s.frames ++ frame_of Startup kind.Startup (length s.desk.conditions) text ∷ [])
 
--- what follows the load of a start-up file of this name: its lines wait, an absent one is passed over, and else what is
+-- what follows the load of a start-up file that is said by this name: its lines wait, an absent one is passed over, and else what is
 -- wrong is said; a lock on it is no matter
 abbrev pub after_startup : SessionState → List ℕ → Option Found → Play (Next SessionState Status)
 after_startup s name None = refused s (cannot_be_read name)
@@ -34,7 +35,7 @@ after_startup s name (Some (found.Bytes (Some text) held)) = Ret (Go (with_start
 
 -- a start-up file of this name is loaded, where the name can be a file's
 abbrev pub startup_play : SessionState → List ℕ → Play (Next SessionState Status)
-startup_play s name = if is_short_name name then Ask (Try name) (after_startup s name) else refused s (bad_name name)
+startup_play s name = if is_short_name (placed s.here name) then Ask (Try (placed s.here name)) (after_startup s name) else refused s (bad_name name)
 
 -- A start-up file is loaded, and then its lines are carried out.
 pub data StartupGoes (s : SessionState) (name : List ℕ) : List Event → Result (Next SessionState Status) Stop → Type 0 where

@@ -11,6 +11,7 @@ ghost use Rattle.session_state.specs.declared.status.Status.{Status};
 ghost use Rattle.session_asks.specs.Beginning.{view_as};
 ghost use Rattle.mailx_session.specs.Drafting.{answered, after_child, after_fetch, commanded_within, draft_play, fetched, fetched_named, needed, put, run_for, tilde, told, written};
 ghost use Rattle.mailx_session.specs.Taking.{AwaitsAll, IsAwaited, IsEscapeFault, SaysFault, TookAnswer, TookLine};
+ghost use Rattle.session_state.specs.Placing.{placed};
 ghost use Rattle.session_state.specs.States.{IsState};
 ghost use Rattle.mailx_session.specs.Sessions.{carried_out};
 ghost use Rattle.session_state.specs.Answers.{in_play, next_of, LineCaused, EndsByLine};
@@ -29,7 +30,7 @@ use message_list::ListError;
 use read_commands::{Ask as Wanted, Desk, Origin, Refusal, Steps};
 use session_asks::{by_shell, view_as};
 use session_play::{Found, try_load};
-use session_state::{Flow, RunError, SessionState, line_of, refuse, say};
+use session_state::{Flow, RunError, SessionState, line_of, placed, refuse, say};
 use std::alloc::Global;
 
 // An escape as its faults name it, and what is wrong with it, as a line.
@@ -178,26 +179,51 @@ fn after_fetch<H: Host>(
     }
 }
 
-// Loads a file for the draft, whose name can be one.
+// Loads a file for the draft that is said by this name.
 fn fetch_named<H: Host>(
     alloc: Global,
     state: &mut SessionState,
     host: &mut H,
     name: &[u8],
+    file: &[u8],
 ) -> Result<Flow, RunError>
     requires state { IsState state.old }
-    requires name { is_short_name name.now ≡ true }
+    requires file { is_short_name file.now ≡ true }
     requires awaited { (bytes : List ℕ) → IsAwaited state.old.draft (Answer.Loaded bytes) }
     ensures ran { Ran H.world host.old host.new
-        (λ es. Goes (Ask (Try name.now) (after_fetch state.old name.now)) es
+        (λ es. Goes (Ask (Try file.now) (after_fetch state.old name.now)) es
         (in_play (next_of state.new) result)) }
     ensures go { IfOk result (λ flow. flow ≡ Flow.Go) }
     ensures state { IsState state.new }
     ensures cause { LineCaused (H.world.counts host.old) (H.world.counts host.new) result }
 {
-    match try_load(alloc, host, name) {
+    match try_load(alloc, host, file) {
         Ok(found) => after_fetch(alloc, state, host, name, found),
         Err(_) => Err(RunError::Memory),
+    }
+}
+
+// Loads a file for the draft, the one that its name stands for, or says what is wrong with its name.
+fn fetch_placed<H: Host>(
+    alloc: Global,
+    state: &mut SessionState,
+    host: &mut H,
+    name: &[u8],
+    file: &[u8],
+) -> Result<Flow, RunError>
+    requires state { IsState state.old }
+    requires file { file.now ≡ placed state.old.here name.now }
+    requires awaited { (bytes : List ℕ) → IsAwaited state.old.draft (Answer.Loaded bytes) }
+    ensures ran { Ran H.world host.old host.new
+        (λ es. Goes (fetched_named state.old name.now) es (in_play (next_of state.new) result)) }
+    ensures go { IfOk result (λ flow. flow ≡ Flow.Go) }
+    ensures state { IsState state.new }
+    ensures cause { LineCaused (H.world.counts host.old) (H.world.counts host.new) result }
+{
+    if is_short_name(file) {
+        fetch_named(alloc, state, host, name, file)
+    } else {
+        say_fault(alloc, state, host, name, b": bad name")
     }
 }
 
@@ -216,14 +242,13 @@ fn fetch<H: Host>(
     ensures state { IsState state.new }
     ensures cause { LineCaused (H.world.counts host.old) (H.world.counts host.new) result }
 {
-    if is_short_name(name) {
-        fetch_named(alloc, state, host, name)
-    } else {
-        say_fault(alloc, state, host, name, b": bad name")
+    match placed(alloc, state.here.bytes(), name) {
+        Ok(file) => fetch_placed(alloc, state, host, name, file.bytes()),
+        Err(Memory) => Err(RunError::Memory),
     }
 }
 
-// The same of the file that a word stands for.
+// Loads the file that a word stands for, for the draft.
 fn fetch_word<H: Host>(
     alloc: Global,
     state: &mut SessionState,
@@ -246,7 +271,7 @@ fn fetch_word<H: Host>(
     }
 }
 
-// The same of the dead letter.
+// Loads the file of dead letters for the draft.
 fn fetch_dead<H: Host>(
     alloc: Global,
     state: &mut SessionState,
@@ -347,7 +372,7 @@ fn put_named<H: Host>(
     }
 }
 
-// The same of the file that a word stands for.
+// Puts bytes at the end of the file that a word stands for.
 fn put<H: Host>(
     alloc: Global,
     state: &mut SessionState,

@@ -34,7 +34,7 @@ fn end_and_go_on<H: Host>(
     }
 }
 
-// The same. The state is at rest then, unless another draft is open.
+// Ends the draft and carries out the lines that wait. The state is at rest then, unless another draft is open.
 fn end_one<H: Host>(alloc: Global, state: &mut SessionState, host: &mut H) -> Result<Flow, RunError>
     requires { IsSession state.old }
     ensures ran { Ran H.world host.old host.new

@@ -14,7 +14,7 @@ ghost use Rattle.session_state.specs.Bringing.{brings};
 ghost use Rattle.mailx_session.specs.Leaving.{left_by, leaving};
 
 use host_port::Host;
-use mail_text::{Memory, Text};
+use mail_text::{Items, Memory, Text};
 use read_commands::{Ask as Wanted, quit};
 use session_asks::do_asks;
 use session_state::{Asked, RunError, SessionState, Status, say, status_of};
@@ -53,12 +53,12 @@ fn leave_by<H: Host>(
     alloc: Global,
     state: &mut SessionState,
     host: &mut H,
-    asks: &[Wanted],
+    asks: Items<Wanted>,
 ) -> Result<Status, RunError>
     requires { IsState state.old }
     ensures ran { Ran H.world host.old host.new
-        (λ es. Goes (bind (in_order asked state.old asks.now) left_by) es (in_play (λ (e : Status). e) result)) }
-    ensures quiet { list_any brings asks.now ≡ false → state.new ≡ state.old }
+        (λ es. Goes (bind (in_order asked state.old asks) left_by) es (in_play (λ (e : Status). e) result)) }
+    ensures quiet { list_any brings asks ≡ false → state.new ≡ state.old }
     ensures end { IfOk result IsEnd }
     ensures cause { LineCaused (H.world.counts host.old) (H.world.counts host.new) result }
 {
@@ -81,7 +81,7 @@ pub(crate) fn leave<H: Host>(
     ensures cause { LineCaused (H.world.counts host.old) (H.world.counts host.new) result }
 {
     match quit(alloc, &state.desk) {
-        Ok(steps) => leave_by(alloc, state, host, steps.asks.items()),
+        Ok(steps) => leave_by(alloc, state, host, steps.asks),
         Err(Memory) => Err(RunError::Memory),
     }
 }

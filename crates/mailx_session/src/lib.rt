@@ -12,5 +12,6 @@ mod startup;
 pub use session::Session;
 pub use session_asks::actor_of;
 pub use session_state::{
-    Flow, Frame, FrameKind, Frames, Outcome, RunError, SessionState, Status, WaitingLine,
+    Flow, Frame, FrameKind, Frames, Outcome, RunError, SessionState, Status, WaitingLine, front_of,
+    placed,
 };

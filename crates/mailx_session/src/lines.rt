@@ -70,7 +70,7 @@ pub(crate) fn carry_out<H: Host>(
 {
     let Steps { asks, effects } = steps;
     let depth = state.frames.depth();
-    match do_asks(alloc, state, host, asks.items()) {
+    match do_asks(alloc, state, host, asks) {
         Ok(Asked::On) => match settle(state, depth, effects) {
             Ok(()) => Ok(Flow::Go),
             Err(error) => Err(error),

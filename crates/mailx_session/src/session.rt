@@ -10,9 +10,10 @@ ghost use Rattle.session_asks.specs.Beginning.{composing, with_new_draft};
 ghost use Rattle.session_state.specs.States.{IsState, IsSession, is_drafting, rested};
 ghost use Rattle.mailx_session.specs.Leaving.{leaving};
 ghost use Rattle.mailx_session.specs.Rounds.{FinishGo, LineGoes};
+ghost use Rattle.mailx_session.specs.Safe.{Composing, Typed, Starting, Finishing, Leaving, IsSafeCall};
 ghost use Rattle.mailx_session.specs.Startup.{StartupGoes};
 ghost use Rattle.session_state.specs.Statuses.{IsEnd};
-ghost use Rattle.session_play.specs.Play.{Play, Goes};
+ghost use Rattle.session_play.specs.Play.{Play, Go, Goes, Last};
 ghost use Rattle.session_state.specs.Bringing.{brings_lines};
 ghost use Rattle.session_state.specs.Answers.{next_of, in_play, LineCaused, EndsByLine};
 ghost use Rattle.mailx_session.specs.Sessions.{StaysAtEnd};
@@ -35,6 +36,11 @@ use std::alloc::Global;
 use std::marker::Model;
 
 /// A session between two lines of the input. Contracts see it as its state, which is valid.
+///
+/// The calls over a host have a clause `safe`: wherever the call stops, what recovery would make of the files is what the
+/// commits accepted so far give. Its premise is that the disk just before the call is sound and carries nothing of the
+/// session's token, and that others do only what is lawful during the call. So is the disk that a run begins on; and
+/// wherever the session goes on the clause says it of the disk before the next call.
 #[derive(Drop)]
 pub struct Session {
     state: SessionState,
@@ -54,9 +60,11 @@ impl Model for Session {
 
 impl Session {
     /// A session with an empty folder and the variables that are set at the start, in a run of this mode and token;
-    /// `by_recipient` is the flag `-F`. HOME and LOGNAME are set in the environment.
+    /// `by_recipient` is the flag `-F`, and `folder` the working folder, empty if it isn't known. HOME and LOGNAME are set
+    /// in the environment.
     pub fn new(
         alloc: Global,
+        folder: &[u8],
         pairs: &[(Text, Text)],
         mode: Mode,
         terminal: bool,
@@ -64,11 +72,11 @@ impl Session {
         token: u64,
     ) -> Result<Session, Memory>
         requires { knows_user pairs.now ≡ true }
-        ensures { IfOk result (λ session. session ≡ first_state pairs.now mode terminal by_recipient token) }
+        ensures { IfOk result (λ session. session ≡ first_state folder.now pairs.now mode terminal by_recipient token) }
     {
         match Places::read(alloc, pairs)? {
             Some(places) => Ok(Session {
-                state: first_state(alloc, places, mode, terminal, by_recipient, token)?,
+                state: first_state(alloc, folder, places, mode, terminal, by_recipient, token)?,
                 alloc,
             }),
             None => Err(Memory),
@@ -80,7 +88,7 @@ impl Session {
         ensures ok { OnOk result (Opens self.old name folder self.new) }
         ensures err { OnErr result (self.new ≡ self.old) }
     {
-        let opening = opening_of(self.alloc, &self.state.desk, name, folder)?;
+        let opening = opening_of(self.alloc, &self.state, name, folder)?;
         put_folder(
             &mut self.state.desk,
             opening.size,
@@ -96,7 +104,11 @@ impl Session {
             (λ es. Goes (composing self.old draft.now) es (in_play (λ u. self.new) result)) }
         ensures begun { OnOk result (self.new ≡ with_new_draft self.old draft.now) }
         ensures cause { LineCaused (H.world.counts host.old) (H.world.counts host.new) result }
+        ensures safe { IsSafeCall H.world host.old host.new self.old (Composing self.old draft.now)
+            (in_play (λ u. Go self.new) result) }
     {
+        // the clause `safe` speaks of a token of 64 bits
+        let _token = self.state.token;
         let begun = compose(self.alloc, &mut self.state, host, draft);
         rest(self.alloc, &mut self.state);
         begun
@@ -134,7 +146,10 @@ impl Session {
         ensures after { IsSession self.new }
         ensures done { IfOk result EndsByLine }
         ensures cause { LineCaused (H.world.counts host.old) (H.world.counts host.new) result }
+        ensures safe { IsSafeCall H.world host.old host.new self.old (Starting self.old name.now)
+            (in_play (next_of self.new) result) }
     {
+        let _token = self.state.token;
         let result = startup_file(self.alloc, &mut self.state, host, name);
         rest(self.alloc, &mut self.state);
         result
@@ -165,7 +180,10 @@ impl Session {
             → brings_lines (commanded Origin.Input self.old.desk line.now) ≡ false
             → OnErr result (self.new ≡ self.old) }
         ensures cause { LineCaused (H.world.counts host.old) (H.world.counts host.new) result }
+        ensures safe { IsSafeCall H.world host.old host.new self.old (Typed self.old line.now)
+            (in_play (next_of self.new) result) }
     {
+        let _token = self.state.token;
         let result = input_line(self.alloc, &mut self.state, host, line);
         rest(self.alloc, &mut self.state);
         result
@@ -179,7 +197,10 @@ impl Session {
         ensures over { result ≡ Ok Flow.Go → is_drafting self.new ≡ false }
         ensures done { IfOk result EndsByLine }
         ensures cause { LineCaused (H.world.counts host.old) (H.world.counts host.new) result }
+        ensures safe { IsSafeCall H.world host.old host.new self.old (Finishing self.old)
+            (in_play (next_of self.new) result) }
     {
+        let _token = self.state.token;
         finish(self.alloc, &mut self.state, host)
     }
 
@@ -192,7 +213,10 @@ impl Session {
         ensures stays { self.new ≡ self.old }
         ensures end { IfOk result IsEnd }
         ensures cause { LineCaused (H.world.counts host.old) (H.world.counts host.new) result }
+        ensures safe { IsSafeCall H.world host.old host.new self.old (Leaving self.old)
+            (in_play (λ (e : Status). Last e) result) }
     {
+        let _token = self.state.token;
         leave(self.alloc, &mut self.state, host)
     }
 }

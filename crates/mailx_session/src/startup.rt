@@ -5,6 +5,7 @@ ghost use Rattle.host_port.specs.Ran.{Ran};
 ghost use Rattle.session_play.specs.Play.{Play, Ask, Try, Goes};
 ghost use Rattle.session_play.specs.Steps.{refused};
 ghost use Rattle.mailx_vars.specs.Names.{is_short_name};
+ghost use Rattle.session_state.specs.Placing.{placed};
 ghost use Rattle.session_state.specs.States.{IsState, IsSession, rested};
 ghost use Rattle.mailx_session.specs.Startup.{with_startup, after_startup, startup_play, StartupGoes};
 ghost use Rattle.session_state.specs.Answers.{in_play, next_of, LineCaused, EndsByLine};
@@ -15,7 +16,7 @@ use mail_text::{Memory, Text};
 use mailx_vars::is_short_name;
 use read_commands::Origin;
 use session_play::{Found, try_load};
-use session_state::{Flow, Frame, FrameKind, RunError, SessionState, line_of, refuse};
+use session_state::{Flow, Frame, FrameKind, RunError, SessionState, line_of, placed, refuse};
 use std::alloc::Global;
 
 /// Says a word and what is wrong with it.
@@ -81,25 +82,49 @@ fn after_load<H: Host>(
     }
 }
 
-// Loads a start-up file whose name can be one.
+// Loads a start-up file that is said by this name.
 fn load_named<H: Host>(
     alloc: Global,
     state: &mut SessionState,
     host: &mut H,
     name: &[u8],
+    file: &[u8],
 ) -> Result<Flow, RunError>
     requires session { IsSession state.old }
-    requires name { is_short_name name.now ≡ true }
+    requires file { is_short_name file.now ≡ true }
     ensures ran { Ran H.world host.old host.new
-        (λ es. Goes (Ask (Try name.now) (after_startup state.old name.now)) es
+        (λ es. Goes (Ask (Try file.now) (after_startup state.old name.now)) es
         (in_play (next_of state.new) result)) }
     ensures go { IfOk result (λ flow. flow ≡ Flow.Go) }
     ensures state { IsState state.new }
     ensures cause { LineCaused (H.world.counts host.old) (H.world.counts host.new) result }
 {
-    match try_load(alloc, host, name) {
+    match try_load(alloc, host, file) {
         Ok(found) => after_load(alloc, state, host, name, found),
         Err(_) => Err(RunError::Memory),
+    }
+}
+
+// Loads a start-up file, the one that its name stands for, or says what is wrong with its name.
+fn load_placed<H: Host>(
+    alloc: Global,
+    state: &mut SessionState,
+    host: &mut H,
+    name: &[u8],
+    file: &[u8],
+) -> Result<Flow, RunError>
+    requires session { IsSession state.old }
+    requires file { file.now ≡ placed state.old.here name.now }
+    ensures ran { Ran H.world host.old host.new
+        (λ es. Goes (startup_play state.old name.now) es (in_play (next_of state.new) result)) }
+    ensures go { IfOk result (λ flow. flow ≡ Flow.Go) }
+    ensures state { IsState state.new }
+    ensures cause { LineCaused (H.world.counts host.old) (H.world.counts host.new) result }
+{
+    if is_short_name(file) {
+        load_named(alloc, state, host, name, file)
+    } else {
+        say_fault(alloc, state, host, name, b": bad name")
     }
 }
 
@@ -117,10 +142,9 @@ fn load_file<H: Host>(
     ensures state { IsState state.new }
     ensures cause { LineCaused (H.world.counts host.old) (H.world.counts host.new) result }
 {
-    if is_short_name(name) {
-        load_named(alloc, state, host, name)
-    } else {
-        say_fault(alloc, state, host, name, b": bad name")
+    match placed(alloc, state.here.bytes(), name) {
+        Ok(file) => load_placed(alloc, state, host, name, file.bytes()),
+        Err(Memory) => Err(RunError::Memory),
     }
 }
 

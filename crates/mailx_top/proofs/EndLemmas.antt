@@ -18,6 +18,7 @@ use Rattle.mailx_vars.specs.declared.environment.Places.{Places}
 use Rattle.mailx_vars.specs.Environment.{Pairs, knows_user, places_in, places_of}
 use Rattle.mailx_top.specs.declared.environment.Environment.{Environment}
 use Rattle.mailx_top.specs.Meaning.{actor_in, first_of, pairs_for, next_state, after_recovery}
+use Rattle.session_state.specs.Placing.{actor_for, front_of}
 use Rattle.session_state.specs.declared.state.SessionState.{SessionState}
 use Rattle.session_play.specs.Input.{Input}
 use Rattle.session_play.specs.Cuts.{IsLoadCut}
@@ -105,7 +106,7 @@ named-short env (Some start) s named = (tt, λ bad. tt)
 pub actor-same : (env : Environment) (start : Start) → (first_of env (Some start)).actor ≡ actor_in env
 actor-same env start = go start.user
   where
-    go : (user : Option (List ℕ)) → (first_state (pairs_for user env.pairs) (mode_with start.sends) env.terminal start.by_recipient env.token).actor ≡ actor_in env
+    go : (user : Option (List ℕ)) → (first_state env.folder (pairs_for user env.pairs) (mode_with start.sends) env.terminal start.by_recipient env.token).actor ≡ actor_in env
     go None = refl
     go (Some user) = refl
 
@@ -114,8 +115,8 @@ pub user-known : (user : List ℕ) (pairs : Pairs) → knows_user (pairs_for (So
 user-known user pairs = refl
 
 -- the actor of a run whose places are read
-pub actor-read : (env : Environment) (places : Places) → Some places ≡ places_of env.pairs → places.home ++ codes "/.mailx" ≡ actor_in env
-actor-read env places is = ap (λ (p : Places). p.home ++ codes "/.mailx") (go (knows_user env.pairs) is)
+pub actor-read : (env : Environment) (places : Places) → Some places ≡ places_of env.pairs → actor_for (front_of env.folder) places.home ≡ actor_in env
+actor-read env places is = ap (λ (p : Places). actor_for (front_of env.folder) p.home) (go (knows_user env.pairs) is)
   where
     go : (b : Bool) → Some places ≡ (if b then Some (places_in env.pairs) else None) → places ≡ places_in env.pairs
     go true same = cc same

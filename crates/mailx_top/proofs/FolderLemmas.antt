@@ -11,6 +11,7 @@ use Rattle.mbox_scan.specs.declared.error.ScanError.{ScanError}
 use Rattle.mbox_scan.specs.declared.error.ScanError.TheVariants as scan
 use Rattle.mbox_scan.specs.Mailbox.{list_of, is_mailbox, texts_of, starts, pieces, message_limit}
 use Rattle.mail_text.specs.Lines.{with_feed}
+use Rattle.session_state.specs.Placing.{placed}
 use Rattle.session_state.specs.declared.status.Status.TheVariants as status
 use Rattle.mailx_top.specs.Words.{Start, is_silent}
 use Rattle.host_port.specs.declared.event.Event.{Event}
@@ -75,7 +76,7 @@ with-unheld s start name bytes b is = ap (unheld s start name bytes) is
 pub with-large : (s : SessionState) (start : Start) (name : List ℕ) (f : Found) (n : ℕ) → f ≡ found.TooLarge n → loaded s start name f ≡ ends_with start (with_feed (name ++ codes ": too large")) status.NoFolder
 with-large s start name f n is = ap (loaded s start name) is
 
-pub with-bad-name : (s : SessionState) (start : Start) (name : List ℕ) → is_short_name name ≡ false → with_name s start name ≡ ends_with start (with_feed (name ++ codes ": bad name")) status.NoFolder
+pub with-bad-name : (s : SessionState) (start : Start) (name : List ℕ) → is_short_name (placed s.here name) ≡ false → with_name s start name ≡ ends_with start (with_feed (name ++ codes ": bad name")) status.NoFolder
 with-bad-name s start name bad = cond-false _ _ _ bad
 
 -- a draft begins in the folder's place, which has no bad name then
@@ -83,14 +84,14 @@ pub begins-draft : (s : SessionState) (start : Start) (o : Options) → start.se
 begins-draft s start o is = ap (λ (sends : Option Options). starting_with sends s start) is
 
 pub no-bad-name : {A : Type 0} (s : SessionState) (start : Start) (o : Options) → start.sends ≡ Some o → OpensBadly (Opening (Some start) s) → A
-no-bad-name s start o is bad = absurd (subst (λ (sends : Option Options). IsBadlyNamed sends (folder_name s start)) is bad)
+no-bad-name s start o is bad = absurd (subst (λ (sends : Option Options). IsBadlyNamed sends s.here (folder_name s start)) is bad)
 
 -- or the folder is opened
 pub begins-folder : (s : SessionState) (start : Start) → start.sends ≡ None → opening (Some start) s ≡ starting s start
 begins-folder s start is = ap (λ (sends : Option Options). starting_with sends s start) is
 
-pub its-bad-name : (s : SessionState) (start : Start) → start.sends ≡ None → OpensBadly (Opening (Some start) s) → IsNoName (folder_name s start)
-its-bad-name s start is bad = subst (λ (sends : Option Options). IsBadlyNamed sends (folder_name s start)) is bad
+pub its-bad-name : (s : SessionState) (start : Start) → start.sends ≡ None → OpensBadly (Opening (Some start) s) → IsNoName s.here (folder_name s start)
+its-bad-name s start is bad = subst (λ (sends : Option Options). IsBadlyNamed sends s.here (folder_name s start)) is bad
 
 -- what is done by what the folder's word stands for
 pub with-word : (s : SessionState) (start : Start) (name : OrFault (List ℕ)) → folder_name s start ≡ name → starting s start ≡ with_name_or_fault s start name

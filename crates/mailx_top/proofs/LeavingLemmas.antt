@@ -11,12 +11,13 @@ use Rattle.session_play.specs.declared.changing.Committed.{Committed}
 use Rattle.session_play.specs.declared.changing.Committed.TheVariants as committed
 use Rattle.session_play.specs.Input.{Input}
 use Rattle.session_play.specs.Acts.{AllActs, AllEnds, Threads, may_load}
-use Rattle.session_play.specs.Play.{Play, Ret, Ask, Next, Go, Last, Goes, bind}
+use Rattle.session_play.specs.Play.{Play, Ret, Next, Go, Last, Goes, bind}
 use Rattle.session_play.specs.Steps.{After, On, Over, Refused, Ended, onward, in_order}
 use Rattle.session_play.proofs.ShapeLemmas.{bind-acts, bind-threads, goes-ends}
 use Rattle.command_desk.specs.declared.steps.Ask as asked_of
 use Rattle.command_desk.specs.declared.steps.Ask.TheVariants as asks
 use Rattle.folder_commands.specs.Leaving.{said, left_reply, quit}
+use Rattle.session_state.specs.Placing.{placed_changes}
 use Rattle.session_state.specs.declared.state.SessionState.{SessionState}
 use Rattle.session_state.specs.declared.status.Status.{Status}
 use Rattle.session_state.specs.declared.status.Status.TheVariants as status
@@ -51,11 +52,6 @@ left-threads i (Ended e) j same = same
 pub leaving-threads : (s : SessionState) (i : Input) → Threads (Keeps i) i (leaving s)
 leaving-threads s i =
     bind-threads {A = After SessionState Status} {B = Status} (Keeps i) (Keeps i) (in_order asked s (quit s.desk).asks) left_by i (asks-threads s (quit s.desk).asks i) (left-threads i)
-
--- each play ends somehow
-pub any-ends : {R : Type 0} (p : Play R) → AllEnds (λ (r : R). Unit {0}) p
-any-ends (Ret r) = tt
-any-ends (Ask act go) = λ a. any-ends (go a)
 
 -- the ends of a session by its last quit and its drafts: it is refused, or done, which stands for one that wasn't sent and for a record that can't
 -- be read too
@@ -116,24 +112,24 @@ large-ends true line s rest = λ u. refl
 large-ends false line s rest = inr refl
 
 answered-ends : (s : SessionState) (changes : List Change) (text : List ℕ) (a : Committed)
-    → AllEnds (EndsAt s.outcome (refuses changes a)) (after_change s changes (said text ++ asks.Exit ∷ []) a)
+    → AllEnds (EndsAt s.outcome (refuses (placed_changes s.here changes) a)) (after_change s changes (said text ++ asks.Exit ∷ []) a)
 answered-ends s changes text committed.Done = done-ends (length text == 0) s text
 answered-ends s changes text (committed.Busy name) = λ u. refl
 answered-ends s changes text committed.NotARecord = inr refl
 answered-ends s changes text (committed.Changed name at) = λ u. refl
-answered-ends s changes text (committed.TooLarge name length) = large-ends (is_changed changes name) _ s (said text ++ asks.Exit ∷ [])
+answered-ends s changes text (committed.TooLarge name length) = large-ends (is_changed (placed_changes s.here changes) name) _ s (said text ++ asks.Exit ∷ [])
 answered-ends s changes text (committed.TooManyNames count) = λ u. refl
 
 quit-ends : (s : SessionState) (changes : List Change) (text : List ℕ) (fault : Option (List ℕ)) (es : List Event) (r : Status)
     (goes : Goes (quit_of s changes (said text ++ asks.Exit ∷ []) fault) es (Ok (Last r)))
-    → EndsByQuit s.outcome (is_some fault || option_map_or (refuses changes) (first_answer (quit_of s changes (said text ++ asks.Exit ∷ []) fault) es (Ok (Last r)) goes) false) r
+    → EndsByQuit s.outcome (is_some fault || option_map_or (refuses (placed_changes s.here changes)) (first_answer (quit_of s changes (said text ++ asks.Exit ∷ []) fault) es (Ok (Last r)) goes) false) r
 quit-ends s changes text (Some line) es r goes =
     goes-ends (EndsAt s.outcome true) (quit_of s changes (said text ++ asks.Exit ∷ []) (Some line)) es (Last r) (λ u. refl) goes
 quit-ends s changes text None es r (inl (a, front, rest, is, did, goes)) =
-    goes-ends (EndsAt s.outcome (refuses changes a)) (after_change s changes (said text ++ asks.Exit ∷ []) a) rest (Last r) (answered-ends s changes text a) goes
+    goes-ends (EndsAt s.outcome (refuses (placed_changes s.here changes) a)) (after_change s changes (said text ++ asks.Exit ∷ []) a) rest (Last r) (answered-ends s changes text a) goes
 quit-ends s changes text None es r (inr (cause, other, part)) = absurd (cc other)
 
 -- the end of a run whose last round left the folder
 pub last-ends : (s : SessionState) (es : List Event) (r : Status) (goes : Goes (last_round s) es (Ok (Last r)))
     → EndsByQuit s.outcome (is_quit_refused s (first_answer (last_round s) es (Ok (Last r)) goes)) r
-last-ends s es r goes = quit-ends s (left_changes s) (left_reply s.desk) (names_fault s.actor (left_changes s)) es r goes
+last-ends s es r goes = quit-ends s (left_changes s) (left_reply s.desk) (names_fault s (left_changes s)) es r goes

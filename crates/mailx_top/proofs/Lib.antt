@@ -1,5 +1,4 @@
-pub mod CrashLemmas
-pub mod DraftLemmas
+pub mod SafeLemmas
 pub mod EndLemmas
 pub mod FileLemmas
 pub mod FolderLemmas

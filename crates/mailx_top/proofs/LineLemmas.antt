@@ -3,10 +3,11 @@ use Rattle.std.proofs.Common.{◌≡◌, ◌⊎◌, ℕ, Bool, true, false, List
 use Rattle.std.specs.declared.result.Result.TheVariants.{Ok, Err}
 use Rattle.session_play.specs.Input.{Input}
 use Rattle.session_play.specs.Acts.{AllActs, AllEnds, Threads, may_load}
-use Rattle.session_play.specs.Play.{Play, Next, Go, Last, bind}
+use Rattle.session_play.specs.Play.{Play, Next, Go, Last}
 use Rattle.session_play.specs.Steps.{After, On, Over, Refused, Ended, onward, in_order, concluded}
 use Rattle.session_play.proofs.ShapeLemmas.{bind-acts, bind-ends, bind-threads}
 use Rattle.mailx_top.proofs.OrderLemmas.{Keeps, order-acts, order-threads}
+use Rattle.session_state.specs.Placing.{placed_changes}
 use Rattle.session_state.specs.declared.state.SessionState.{SessionState}
 use Rattle.command_desk.specs.declared.effects.Effects.{Effects}
 use Rattle.command_desk.specs.declared.steps.Ask as asked_of
@@ -42,12 +43,13 @@ use Rattle.session_state.specs.States.{settled, with_count, command_limit}
 use Rattle.session_asks.specs.Asks.{asked}
 use Rattle.mailx_session.specs.Sessions.{carried_out}
 use Rattle.command_desk.specs.Effects.{moved}
-use Rattle.session_asks.specs.Beginning.{view_in, with_new_draft, subject_asked, begun, at_message, placed, file_fault, beginning}
+use Rattle.session_asks.specs.Beginning.{view_in, begun, at_message, placed, file_fault, beginning}
 use Rattle.draft_sending.specs.Sending.{saved_one, ended_draft}
 use Rattle.session_state.specs.Outcomes.{status_of}
 use Rattle.session_state.specs.declared.outcome.Outcome.{Outcome}
 use Rattle.session_asks.specs.Running.{after_run}
-use Rattle.mailx_top.proofs.DraftLemmas.{Line-play, IsPassed, typed-passes, ended-passes}
+use Rattle.mailx_session.proofs.CommitLemmas.{begins}
+use Rattle.mailx_session.proofs.PassedLemmas.{Line-play, IsPassed, typed-passes, ended-passes}
 use Rattle.mailx_session.specs.Rounds.{line_play, typed_play, dropped_play, counted_play, is_idle, outside_play, waiting_play}
 
 abbrev pub After-line : Type 0
@@ -99,7 +101,7 @@ commit-ends s changes committed.Done = refl
 commit-ends s changes (committed.Busy name) = tt
 commit-ends s changes committed.NotARecord = refl
 commit-ends s changes (committed.Changed name at) = tt
-commit-ends s changes (committed.TooLarge name length) = large-ends s.outcome (is_changed changes name) (too_large name)
+commit-ends s changes (committed.TooLarge name length) = large-ends s.outcome (is_changed (placed_changes s.here changes) name) (too_large _)
 commit-ends s changes (committed.TooManyNames count) = tt
 
 saved-ends : (s : SessionState) (changes : List Change) (fault : Option (List ℕ)) → AllEnds (IsSaved s.outcome) (saved s changes fault)
@@ -138,7 +140,7 @@ announced-acts reply desk (Ended e) = tt
 
 switched-acts : (s : SessionState) (name : List ℕ) (changes : List Change) (reply : List ℕ) (f : OrFault (List ℕ)) → AllActs (may_load false) (switched_to s name changes reply f)
 switched-acts s name changes reply (Err line) = tt
-switched-acts s name changes reply (Ok bytes) = (refl, λ rows. (refl, λ a. announced-acts reply (switched s.desk name bytes rows) (after_commit s changes a)))
+switched-acts s name changes reply (Ok bytes) = (refl, λ rows. (refl, λ a. announced-acts reply (switched s name bytes rows) (after_commit s changes a)))
 
 switches-acts : (s : SessionState) (name : List ℕ) (changes : List Change) (reply : List ℕ) (fault : Option (List ℕ)) → AllActs (may_load false) (switches s name changes reply fault)
 switches-acts s name changes reply (Some line) = tt
@@ -153,7 +155,7 @@ announced-ends o reply desk (Ended e) d = d
 switched-ends : (s : SessionState) (name : List ℕ) (changes : List Change) (reply : List ℕ) (f : OrFault (List ℕ)) → AllEnds (IsDone s.outcome) (switched_to s name changes reply f)
 switched-ends s name changes reply (Err line) = tt
 switched-ends s name changes reply (Ok bytes) = λ rows a.
-    announced-ends s.outcome reply (switched s.desk name bytes rows) (after_commit s changes a) (saved-done s.outcome (after_commit s changes a) (commit-ends s changes a))
+    announced-ends s.outcome reply (switched s name bytes rows) (after_commit s changes a) (saved-done s.outcome (after_commit s changes a) (commit-ends s changes a))
 
 switches-ends : (s : SessionState) (name : List ℕ) (changes : List Change) (reply : List ℕ) (fault : Option (List ℕ)) → AllEnds (IsDone s.outcome) (switches s name changes reply fault)
 switches-ends s name changes reply (Some line) = tt
@@ -167,7 +169,7 @@ announced-threads reply desk (Ended e) i = refl
 
 switched-threads : (s : SessionState) (name : List ℕ) (changes : List Change) (reply : List ℕ) (f : OrFault (List ℕ)) (i : Input) → Threads (Keeps i) i (switched_to s name changes reply f)
 switched-threads s name changes reply (Err line) i = refl
-switched-threads s name changes reply (Ok bytes) i = (tt, λ rows. (tt, λ a. announced-threads reply (switched s.desk name bytes rows) (after_commit s changes a) i))
+switched-threads s name changes reply (Ok bytes) i = (tt, λ rows. (tt, λ a. announced-threads reply (switched s name bytes rows) (after_commit s changes a) i))
 
 switches-threads : (s : SessionState) (name : List ℕ) (changes : List Change) (reply : List ℕ) (fault : Option (List ℕ)) (i : Input) → Threads (Keeps i) i (switches s name changes reply fault)
 switches-threads s name changes reply (Some line) i = refl
@@ -178,9 +180,6 @@ called-ends true t = refl
 called-ends false t = tt
 
 -- a draft that begins, and the question for its subject
-abbrev pub begins : Bool → SessionState → Draft → Play After-line
-begins b s draft = bind (subject_asked b) (λ u. Ret (Over (with_new_draft s draft)))
-
 begun-acts : (b : Bool) (s : SessionState) (draft : Draft) → AllActs (may_load false) (begins b s draft)
 begun-acts true s draft = (refl, λ u. tt)
 begun-acts false s draft = tt
@@ -251,32 +250,32 @@ run-threads s (Some child) i = (tt, λ u. refl)
 -- one ask
 ask-acts : (s : SessionState) (ask : asked_of.Ask) → AllActs (may_load false) (asked s ask)
 ask-acts s (asks.Say bytes) = (refl, λ u. tt)
-ask-acts s (asks.Commit changes) = saved-acts s changes (names_fault s.actor changes)
-ask-acts s (asks.Source name) = sourced-acts s name (source_fault s.frames name)
+ask-acts s (asks.Commit changes) = saved-acts s changes (names_fault s changes)
+ask-acts s (asks.Source name) = sourced-acts s name (source_fault s name)
 ask-acts s (asks.Lines text) = tt
-ask-acts s (asks.Open name changes reply) = switches-acts s name changes reply (open_fault s.actor name changes)
-ask-acts s (asks.Draft draft file current) = beginning-acts s draft file current (file_fault s.actor file)
+ask-acts s (asks.Open name changes reply) = switches-acts s name changes reply (open_fault s name changes)
+ask-acts s (asks.Draft draft file current) = beginning-acts s draft file current (file_fault s file)
 ask-acts s (asks.Child command input) = (refl, λ a. run-acts s a)
 ask-acts s asks.Exit = tt
 
 ask-ends : (s : SessionState) (ask : asked_of.Ask) → AllEnds (IsDone s.outcome) (asked s ask)
 ask-ends s (asks.Say bytes) = λ u. refl
 ask-ends s (asks.Commit changes) =
-    all-ends (IsSaved s.outcome) (IsDone s.outcome) (saved-done s.outcome) (saved s changes (names_fault s.actor changes)) (saved-ends s changes (names_fault s.actor changes))
-ask-ends s (asks.Source name) = sourced-ends s name (source_fault s.frames name)
+    all-ends (IsSaved s.outcome) (IsDone s.outcome) (saved-done s.outcome) (saved s changes (names_fault s changes)) (saved-ends s changes (names_fault s changes))
+ask-ends s (asks.Source name) = sourced-ends s name (source_fault s name)
 ask-ends s (asks.Lines text) = called-ends (nat_lt (calls s.frames) call_limit) (with_lines kinds.Call s text)
-ask-ends s (asks.Open name changes reply) = switches-ends s name changes reply (open_fault s.actor name changes)
-ask-ends s (asks.Draft draft file current) = beginning-ends s draft file current (file_fault s.actor file)
+ask-ends s (asks.Open name changes reply) = switches-ends s name changes reply (open_fault s name changes)
+ask-ends s (asks.Draft draft file current) = beginning-ends s draft file current (file_fault s file)
 ask-ends s (asks.Child command input) = λ a. run-ends s a
 ask-ends s asks.Exit = inl refl
 
 ask-threads : (s : SessionState) (ask : asked_of.Ask) (i : Input) → Threads (Keeps i) i (asked s ask)
 ask-threads s (asks.Say bytes) i = (tt, λ u. refl)
-ask-threads s (asks.Commit changes) i = saved-threads s changes (names_fault s.actor changes) i
-ask-threads s (asks.Source name) i = sourced-threads s name (source_fault s.frames name) i
+ask-threads s (asks.Commit changes) i = saved-threads s changes (names_fault s changes) i
+ask-threads s (asks.Source name) i = sourced-threads s name (source_fault s name) i
 ask-threads s (asks.Lines text) i = refl
-ask-threads s (asks.Open name changes reply) i = switches-threads s name changes reply (open_fault s.actor name changes) i
-ask-threads s (asks.Draft draft file current) i = beginning-threads s draft file current i (file_fault s.actor file)
+ask-threads s (asks.Open name changes reply) i = switches-threads s name changes reply (open_fault s name changes) i
+ask-threads s (asks.Draft draft file current) i = beginning-threads s draft file current i (file_fault s file)
 ask-threads s (asks.Child command input) i = (tt, λ a. run-threads s a i)
 ask-threads s asks.Exit i = refl
 
@@ -352,7 +351,7 @@ draft-acts = record {
   runs = λ program args input go all. (refl, all);
   times = λ tz go all. (refl, all);
   files = λ s c go q on over refused ended.
-      bind-acts (may_load false) (saved_one s c) go (saved-acts s (c ∷ []) (names_fault s.actor (c ∷ []))) (file-acts go on over refused ended);
+      bind-acts (may_load false) (saved_one s c) go (saved-acts s (c ∷ []) (names_fault s (c ∷ []))) (file-acts go on over refused ended);
   carries = λ s m q. carried-acts s m;
   drafts = λ s draft q. tt;
   counts = λ s n q. tt;
@@ -380,7 +379,7 @@ draft-ends o = record {
   runs = λ program args input go all. all;
   times = λ tz go all. all;
   files = λ s c go q on over refused ended.
-      bind-ends (IsSaved s.outcome) (EndsByLine o) (saved_one s c) go (saved-ends s (c ∷ []) (names_fault s.actor (c ∷ []))) (file-ends s.outcome go on over refused ended);
+      bind-ends (IsSaved s.outcome) (EndsByLine o) (saved_one s c) go (saved-ends s (c ∷ []) (names_fault s (c ∷ []))) (file-ends s.outcome go on over refused ended);
   carries = λ s m q. subst (λ (o : Outcome). AllEnds (EndsByLine o) (carried_out s m)) q (carried-ends s m);
   drafts = λ s draft q. q;
   counts = λ s n q. q;
@@ -409,7 +408,7 @@ draft-threads i = record {
   times = λ tz go all. (tt, all);
   files = λ s c go q on over refused ended.
       bind-threads (λ (a : After-line) (j : Input). j ≡ i) (λ (n : Next SessionState Status) (j : Input). j ≡ i) (saved_one s c) go i
-      (saved-threads s (c ∷ []) (names_fault s.actor (c ∷ [])) i) (file-threads go on over refused ended);
+      (saved-threads s (c ∷ []) (names_fault s (c ∷ [])) i) (file-threads go on over refused ended);
   carries = λ s m q. carried-threads s i m;
   drafts = λ s draft q. tt;
   counts = λ s n q. tt;

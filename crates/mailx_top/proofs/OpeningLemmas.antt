@@ -20,6 +20,7 @@ use Rattle.mail_text.specs.Lines.{with_feed}
 use Rattle.mailx_vars.specs.Names.{is_short_name}
 use Rattle.command_desk.specs.declared.desk.Desk.{Desk}
 use Rattle.command_desk.specs.Answers.{OrFault}
+use Rattle.session_state.specs.Placing.{placed}
 use Rattle.session_state.specs.declared.state.SessionState.{SessionState}
 use Rattle.session_state.specs.declared.status.Status.{Status}
 use Rattle.session_state.specs.declared.status.Status.TheVariants as status
@@ -41,7 +42,8 @@ use Rattle.session_play.proofs.ShapeLemmas.{came-same, goes-ends, bind-ends}
 use Rattle.mailx_session.specs.Leaving.{leaving}
 use Rattle.session_state.specs.declared.outcome.Outcome.{Outcome}
 use Rattle.mailx_top.specs.Leavings.{first_answer, is_quit_refused, is_refused_before, is_refused_at, refused_at_end}
-use Rattle.mailx_top.proofs.LeavingLemmas.{any-ends, end_at, opened_end, quit-end, last-ends}
+use Rattle.mailx_session.proofs.CommitLemmas.{any-ends}
+use Rattle.mailx_top.proofs.LeavingLemmas.{end_at, opened_end, quit-end, last-ends}
 use Rattle.mailx_top.proofs.LineLemmas.{EndsBy, EndsByLine, typed-ends, waiting-ends, ended-ends}
 use Rattle.command_words.specs.declared.options.Options.{Options}
 use Rattle.mailx_top.proofs.RoundLemmas.{loaded-acts, sent, asks_in, begun_in, sent-acts}
@@ -421,15 +423,15 @@ continues-blind named b p es out all goes = record {
   mail = continues-unseen (saw_no_mail named) b p es out all goes;
 }
 
-explained-found : (Bad : Type 0) (s : SessionState) (start : Start) (name : List ℕ) (es : List Event) (b : Bool) (out : Result Status Stop) → (Bad → ⊥) → AfterLoad b name (loaded s start name) es out
+explained-found : (Bad : Type 0) (s : SessionState) (start : Start) (name file : List ℕ) (es : List Event) (b : Bool) (out : Result Status Stop) → (Bad → ⊥) → AfterLoad b file (loaded s start name) es out
     → IsOpeningExplained Bad (Some start) out es b
-explained-found Bad s start name es b out good (inr (cause, is)) = explained-cut Bad (Some start) es b out cause is
-explained-found Bad s start name es b out good (inl (f, rest, is, goes)) =
+explained-found Bad s start name file es b out good (inr (cause, is)) = explained-cut Bad (Some start) es b out cause is
+explained-found Bad s start name file es b out good (inl (f, rest, is, goes)) =
     let p = loaded s start name f in
     let u = continues-blind start.named b p rest out (loaded-acts s start name f) goes in
     let E : List Event → Type 0 = λ es. IsOpeningExplained Bad (Some start) out es b in
     let e = end_of start.named f in
-    subst E (sym is) (explained-as Bad (Some start) _ b out e (matches-found Bad start name rest f good u) (continues-with b e p rest out (loaded-ends s start name f) goes))
+    subst E (sym is) (explained-as Bad (Some start) _ b out e (matches-found Bad start file rest f good u) (continues-with b e p rest out (loaded-ends s start name f) goes))
 
 explained-said : (Bad : Type 0) (start : Option Start) (text : List ℕ) (e : Status) (es : List Event) (b : Bool) (out : Result Status Stop) → opened_end e ≡ e → Continues b (says_and_ends text e) es out
     → (LoadsNone (is_named start) es → Matches Bad start es e) → IsOpeningExplained Bad start out es b
@@ -462,27 +464,27 @@ explained-sent b t start es at_end out goes =
     explained-as ⊥ (Some start) es at_end out status.Done (matches-sent start es u) (continues-with at_end status.Done (sent b t) es out (sent-ends b t) goes)
 
 explained-folder : (start : Start) (s : SessionState) (es : List Event) (at_end : Bool) (out : Result Status Stop) → Continues at_end (starting s start) es out
-    → IsOpeningExplained (IsNoName (folder_name s start)) (Some start) out es at_end
+    → IsOpeningExplained (IsNoName s.here (folder_name s start)) (Some start) out es at_end
 explained-folder start s es at_end out goes = word (folder_name s start) refl goes
   where
     Bad : Type 0
-    Bad = IsNoName (folder_name s start)
+    Bad = IsNoName s.here (folder_name s start)
 
     said : (line : List ℕ) → Bad → Continues at_end (ends_with start line status.NoFolder) es out → IsOpeningExplained Bad (Some start) out es at_end
     said line bad goes = explained-said Bad (Some start) (heard start line) status.NoFolder es at_end out refl goes (λ u. matches-bad Bad start es bad u)
 
-    named : (name : List ℕ) → folder_name s start ≡ Ok name → (b : Bool) → is_short_name name ≡ b
-        → Continues at_end (if b then Ask (Read name) (loaded s start name) else ends_with start (with_feed (name ++ codes ": bad name")) status.NoFolder) es out → IsOpeningExplained Bad (Some start) out es at_end
+    named : (name : List ℕ) → folder_name s start ≡ Ok name → (b : Bool) → is_short_name (placed s.here name) ≡ b
+        → Continues at_end (if b then Ask (Read (placed s.here name)) (loaded s start name) else ends_with start (with_feed (name ++ codes ": bad name")) status.NoFolder) es out → IsOpeningExplained Bad (Some start) out es at_end
     named name word true short goes =
-        explained-found Bad s start name es at_end out (λ bad. no-end _ (subst IsNoName word bad) short) (after-load at_end name (loaded s start name) es out goes)
-    named name word false bad goes = said (with_feed (name ++ codes ": bad name")) (subst IsNoName (sym word) bad) goes
+        explained-found Bad s start name (placed s.here name) es at_end out (λ bad. no-end _ (subst (IsNoName s.here) word bad) short) (after-load at_end (placed s.here name) (loaded s start name) es out goes)
+    named name word false bad goes = said (with_feed (name ++ codes ": bad name")) (subst (IsNoName s.here) (sym word) bad) goes
 
     word : (name : OrFault (List ℕ)) → folder_name s start ≡ name → Continues at_end (with_name_or_fault s start name) es out → IsOpeningExplained Bad (Some start) out es at_end
-    word (Ok name) is goes = named name is (is_short_name name) refl goes
-    word (Err line) is goes = said line (subst IsNoName (sym is) tt) goes
+    word (Ok name) is goes = named name is (is_short_name (placed s.here name)) refl goes
+    word (Err line) is goes = said line (subst (IsNoName s.here) (sym is) tt) goes
 
 explained-starting : (sends : Option Options) (start : Start) (s : SessionState) (es : List Event) (at_end : Bool) (out : Result Status Stop) → Continues at_end (starting_with sends s start) es out
-    → IsOpeningExplained (IsBadlyNamed sends (folder_name s start)) (Some start) out es at_end
+    → IsOpeningExplained (IsBadlyNamed sends s.here (folder_name s start)) (Some start) out es at_end
 explained-starting (Some o) start s es at_end out goes = explained-sent (asks_in s o) (begun_in s o) start es at_end out goes
 explained-starting None start s es at_end out goes = explained-folder start s es at_end out goes
 
@@ -497,9 +499,9 @@ next-of e (Ret (Last r)) ends = tt
 next-of e (Ask act go) ends = λ a. next-of e (go a) (ends a)
 
 named-next : (s : SessionState) (start : Start) (name : OrFault (List ℕ)) → AllEnds ReadsNext (with_name_or_fault s start name)
-named-next s start (Ok name) = go (is_short_name name)
+named-next s start (Ok name) = go (is_short_name (placed s.here name))
   where
-    go : (b : Bool) → AllEnds ReadsNext (if b then Ask (Read name) (loaded s start name) else ends_with start (with_feed (name ++ codes ": bad name")) status.NoFolder)
+    go : (b : Bool) → AllEnds ReadsNext (if b then Ask (Read (placed s.here name)) (loaded s start name) else ends_with start (with_feed (name ++ codes ": bad name")) status.NoFolder)
     go true = λ f. next-of (end_of start.named f) (loaded s start name f) (loaded-ends s start name f)
     go false = λ u. tt
 named-next s start (Err line) = λ u. tt

@@ -3,7 +3,7 @@ use Rattle.std.proofs.Common.{◌≡◌, ◌≢◌, ◌⊎◌, inl, inr, ℕ, Bo
 use Rattle.std.specs.Prelude.{filter, codes, All, if◌then◌else◌}
 use Rattle.std.specs.List.{zip}
 use Rattle.std.proofs.lemmas.Bool.{cases_Bool, cond-true, cond-false}
-use Rattle.std.proofs.lemmas.List.{append-nil}
+use Rattle.std.proofs.lemmas.List.{append-nil, map-append}
 use Rattle.std.proofs.lemmas.List.Elements.{All-nil, All-cons, All-head, All-tail, All-filter, All-map}
 use Rattle.host_port.specs.Disk.{disk}
 use Rattle.mbox_scan.specs.Mailbox.{IsProper, texts_of}
@@ -23,6 +23,7 @@ use Rattle.quit_rules.specs.declared.open.Open.{Open}
 use Rattle.quit_rules.specs.Fates.{fate_of, is_staying, rules_of}
 use Rattle.quit_rules.specs.Plans.{Message, boxed, mbox_change, mbox_changes, messages_of, quit_changes, same_texts, stamped_text, staying}
 use Rattle.quit_rules.proofs.PlanLemmas.{true-same}
+use Rattle.session_state.specs.Placing.{placed, placed_change, placed_changes}
 use Rattle.mailx_top.specs.Quits.{QuitsKeepAppended}
 use Rattle.mailx_top.specs.Meaning.{actor_in}
 
@@ -41,29 +42,33 @@ staying-proper folder vars proper =
     (stamped-all (texts_of folder.folder) folder.marks proper))
 
 -- ---- the folder's file has one change
-other-file : (n mbox : List ℕ) (texts : List (List ℕ)) (append : Bool) → n ≢ mbox → n ≢ name_of (mbox_change mbox texts append)
-other-file n mbox texts true apart = apart
-other-file n mbox texts false apart = apart
+other-file : (here n mbox : List ℕ) (texts : List (List ℕ)) (append : Bool) → n ≢ placed here mbox → n ≢ name_of (placed_change here (mbox_change mbox texts append))
+other-file here n mbox texts true apart = apart
+other-file here n mbox texts false apart = apart
 
-mbox-apart : (n mbox : List ℕ) (texts : List (List ℕ)) (vars : Settings) → n ≢ mbox → All (λ (other : Change). n ≢ name_of other) (mbox_changes texts vars mbox)
-mbox-apart n mbox texts vars apart = go (length texts == 0)
+mbox-apart : (here n mbox : List ℕ) (texts : List (List ℕ)) (vars : Settings) → n ≢ placed here mbox
+    → All (λ (other : Change). n ≢ name_of other) (placed_changes here (mbox_changes texts vars mbox))
+mbox-apart here n mbox texts vars apart = go (length texts == 0)
   where
     append : Bool
     append = is_set vars (codes "append")
 
-    go : (b : Bool) → All (λ (other : Change). n ≢ name_of other) (if b then [] else mbox_change mbox texts append ∷ [])
+    go : (b : Bool) → All (λ (other : Change). n ≢ name_of other) (placed_changes here (if b then [] else mbox_change mbox texts append ∷ []))
     go true = All-nil (λ (other : Change). n ≢ name_of other)
     go false =
-        All-cons (λ (other : Change). n ≢ name_of other) (mbox_change mbox texts append) [] (other-file n mbox texts append apart)
+        All-cons (λ (other : Change). n ≢ name_of other) (placed_change here (mbox_change mbox texts append)) [] (other-file here n mbox texts append apart)
         (All-nil (λ (other : Change). n ≢ name_of other))
 
-pub folder-once : (folder : Open) (vars : Settings) (mbox : List ℕ) → same_texts (staying folder vars) (texts_of folder.folder) ≡ false → folder.name ≢ mbox
-    → IsOnlyOne (Rewrite folder.name (staying folder vars) (is_set vars (codes "keep"))) (quit_changes folder vars mbox)
-folder-once folder vars mbox rewrites apart = record {
-  front = mbox_changes (boxed folder vars) vars mbox;
+pub folder-once : (here : List ℕ) (folder : Open) (vars : Settings) (mbox : List ℕ) → same_texts (staying folder vars) (texts_of folder.folder) ≡ false
+    → placed here folder.name ≢ placed here mbox
+    → IsOnlyOne (Rewrite (placed here folder.name) (staying folder vars) (is_set vars (codes "keep"))) (placed_changes here (quit_changes folder vars mbox))
+folder-once here folder vars mbox rewrites apart = record {
+  front = placed_changes here (mbox_changes (boxed folder vars) vars mbox);
   rest = [];
-  is = ap (λ (cs : List Change). mbox_changes (boxed folder vars) vars mbox ++ cs) (cond-false _ _ _ rewrites);
-  others = (mbox-apart folder.name mbox (boxed folder vars) vars apart, All-nil (λ (other : Change). folder.name ≢ name_of other));
+  is =
+      map-append (placed_change here) (mbox_changes (boxed folder vars) vars mbox) _
+      ∙ ap (λ (cs : List Change). placed_changes here (mbox_changes (boxed folder vars) vars mbox) ++ placed_changes here cs) (cond-false _ _ _ rewrites);
+  others = (mbox-apart here (placed here folder.name) mbox (boxed folder vars) vars apart, All-nil (λ (other : Change). placed here folder.name ≢ name_of other));
 }
 
 -- a file that stays, to which nothing changes
@@ -85,6 +90,9 @@ quits-keep start env status d es safe front behind e now c s left decides alone 
     mbox : List ℕ
     mbox = s.desk.places.mbox
 
+    file : List ℕ
+    file = placed s.here folder.name
+
     base : List (List ℕ)
     base = texts_of folder.folder
 
@@ -94,25 +102,26 @@ quits-keep start env status d es safe front behind e now c s left decides alone 
     keep : Bool
     keep = is_set vars (codes "keep")
 
-    changes : c.changes ≡ quit_changes folder vars mbox
+    changes : c.changes ≡ placed_changes s.here (quit_changes folder vars mbox)
     changes = ap (λ (c : Commit). c.changes) leaves.commit
 
     for_base : c.base ≡ base
     for_base = ap (λ (c : Commit). c.base) leaves.commit
 
-    none-here : same_texts list base ≡ true → All (λ (other : Change). folder.name ≢ name_of other) c.changes
+    none-here : same_texts list base ≡ true → All (λ (other : Change). file ≢ name_of other) c.changes
     none-here same =
         let mine : List Change = mbox_changes (boxed folder vars) vars mbox in
-        let whole : c.changes ≡ mine = changes ∙ ap (λ (cs : List Change). mine ++ cs) (cond-true _ _ _ same) ∙ append-nil mine in
-        subst (All (λ (other : Change). folder.name ≢ name_of other)) (sym whole) (mbox-apart folder.name mbox (boxed folder vars) vars leaves.apart)
+        let whole : c.changes ≡ placed_changes s.here mine =
+        changes ∙ ap (λ (cs : List Change). placed_changes s.here (mine ++ cs)) (cond-true _ _ _ same) ∙ ap (placed_changes s.here) (append-nil mine) in
+        subst (All (λ (other : Change). file ≢ name_of other)) (sym whole) (mbox-apart s.here file mbox (boxed folder vars) vars leaves.apart)
 
     go : (same_texts list base ≡ true) ⊎ (same_texts list base ≡ false)
-        → IsRewritten base list (settled_files (actor_in env) (disk d front) folder.name) (settled_files (actor_in env) now folder.name)
+        → IsRewritten base list (settled_files (actor_in env) (disk d front) file) (settled_files (actor_in env) now file)
     go (inl same) =
         left-as-is base list _ _ (true-same list base same)
-        (others-left (actor_in env) env.token d es safe.commits safe.out safe.safe front behind e now c folder.name left decides alone (none-here same))
+        (others-left (actor_in env) env.token d es safe.commits safe.out safe.safe front behind e now c file left decides alone (none-here same))
     go (inr other) =
-        let one = subst (IsOnlyOne (Rewrite folder.name list keep)) (sym changes) (folder-once folder vars mbox other leaves.apart) in
+        let one = subst (IsOnlyOne (Rewrite file list keep)) (sym changes) (folder-once s.here folder vars mbox other leaves.apart) in
         let proper = staying-proper folder vars (texts_of-proper folder.folder leaves.read) in
-        subst (λ (b : List (List ℕ)). IsRewritten b list (settled_files (actor_in env) (disk d front) folder.name) (settled_files (actor_in env) now folder.name)) for_base
-        (rewrites-followed (actor_in env) env.token d es safe.commits safe.out safe.safe front behind e now c folder.name list keep left decides alone one proper)
+        subst (λ (b : List (List ℕ)). IsRewritten b list (settled_files (actor_in env) (disk d front) file) (settled_files (actor_in env) now file)) for_base
+        (rewrites-followed (actor_in env) env.token d es safe.commits safe.out safe.safe front behind e now c file list keep left decides alone one proper)

@@ -41,6 +41,7 @@ use Rattle.command_desk.specs.declared.steps.Steps.{Steps}
 use Rattle.command_desk.specs.Answers.{OrFault}
 use Rattle.command_desk.specs.Faults.{too_large, calls_too_deep, bad_name}
 use Rattle.read_commands.specs.Origins.{commanded, is_defining}
+use Rattle.session_state.specs.Placing.{placed as file_of, placed_changes}
 use Rattle.session_state.specs.declared.frames.WaitingLine.{WaitingLine}
 use Rattle.session_state.specs.declared.state.SessionState.{SessionState}
 use Rattle.session_state.specs.declared.status.Status.{Status}
@@ -75,14 +76,14 @@ use Rattle.mailx_top.specs.Starts.{is_bad_record}
 use Rattle.mailx_top.specs.Unreadable.{is_unreadable, met_unreadable, some_unreadable, some_unreadable_in, IsRecordExplained}
 use Rattle.command_words.specs.declared.options.Options.{Options}
 use Rattle.mailx_top.proofs.RoundLemmas.{sent, asks_in, begun_in}
-use Rattle.mailx_top.proofs.CrashLemmas.{StateOf, round-commits, round-of}
-use Rattle.mailx_top.proofs.LineLemmas.{begins}
+use Rattle.mailx_top.proofs.SafeLemmas.{StateOf, round-commits, round-of}
+use Rattle.mailx_session.proofs.CommitLemmas.{begins}
 use Rattle.session_state.specs.declared.outcome.Outcome.{Outcome}
 use Rattle.session_state.specs.declared.outcome.Outcome.TheVariants as outcome
 use Rattle.session_state.specs.Outcomes.{status_of}
 use Rattle.draft_sending.specs.Sending.{saved_one}
 use Rattle.mailx_top.specs.Leavings.{is_for_record}
-use Rattle.mailx_top.proofs.DraftLemmas.{IsPassed, Line-play, typed-passes, ended-passes}
+use Rattle.mailx_session.proofs.PassedLemmas.{IsPassed, Line-play, typed-passes, ended-passes}
 
 -- the answer to a commit of these changes is that the record can't be read
 abbrev answers_unreadable : List Change → Committed → Bool
@@ -209,12 +210,12 @@ large-tells : (b : Bool) (line : List ℕ) → after_ends (if b then Refused lin
 large-tells true line = refl
 large-tells false line = refl
 
-commit-tells : (s : SessionState) (changes : List Change) (a : Committed) → after_ends (after_commit s changes a) ≡ (answers_unreadable changes a || false)
+commit-tells : (s : SessionState) (changes : List Change) (a : Committed) → after_ends (after_commit s changes a) ≡ (answers_unreadable (placed_changes s.here changes) a || false)
 commit-tells s changes committed.Done = refl
 commit-tells s changes (committed.Busy name) = refl
 commit-tells s changes committed.NotARecord = refl
 commit-tells s changes (committed.Changed name at) = refl
-commit-tells s changes (committed.TooLarge name n) = large-tells (is_changed changes name) (too_large name)
+commit-tells s changes (committed.TooLarge name n) = large-tells (is_changed (placed_changes s.here changes) name) (too_large _)
 commit-tells s changes (committed.TooManyNames count) = refl
 
 saved-tells : (s : SessionState) (changes : List Change) (fault : Option (List ℕ)) → Tells after_ends false (saved s changes fault)
@@ -240,7 +241,7 @@ announced-tells reply desk (Ended e) = refl
 switched-tells : (s : SessionState) (name : List ℕ) (changes : List Change) (reply : List ℕ) (f : OrFault (List ℕ)) → Tells after_ends false (switched_to s name changes reply f)
 switched-tells s name changes reply (Err line) = refl
 switched-tells s name changes reply (Ok bytes) = λ rows.
-    let desk = switched s.desk name bytes rows in
+    let desk = switched s name bytes rows in
     bind-tells after_ends after_ends false (saved s changes None) (announced reply desk) (saved-tells s changes None) (announced-tells reply desk)
 
 switches-tells : (s : SessionState) (name : List ℕ) (changes : List Change) (reply : List ℕ) (fault : Option (List ℕ)) → Tells after_ends false (switches s name changes reply fault)
@@ -278,11 +279,11 @@ run-tells s (Some child) = λ u. refl
 
 ask-tells : (s : SessionState) (ask : asked_of.Ask) → Tells after_ends false (asked s ask)
 ask-tells s (asks.Say bytes) = λ u. refl
-ask-tells s (asks.Commit changes) = saved-tells s changes (names_fault s.actor changes)
-ask-tells s (asks.Source name) = sourced-tells s name (source_fault s.frames name)
+ask-tells s (asks.Commit changes) = saved-tells s changes (names_fault s changes)
+ask-tells s (asks.Source name) = sourced-tells s name (source_fault s name)
 ask-tells s (asks.Lines text) = called-tells (nat_lt (calls s.frames) call_limit) (with_lines kinds.Call s text)
-ask-tells s (asks.Open name changes reply) = switches-tells s name changes reply (open_fault s.actor name changes)
-ask-tells s (asks.Draft draft file current) = beginning-tells s draft file current (file_fault s.actor file)
+ask-tells s (asks.Open name changes reply) = switches-tells s name changes reply (open_fault s name changes)
+ask-tells s (asks.Draft draft file current) = beginning-tells s draft file current (file_fault s file)
 ask-tells s (asks.Child command input) = λ a. run-tells s a
 ask-tells s asks.Exit = outcome-tells s.outcome
 
@@ -345,7 +346,7 @@ draft-tells = record {
   runs = λ program args input go all. all;
   times = λ tz go all. all;
   files = λ s c go q on over refused ended.
-      bind-tells after_ends next_ends false (saved_one s c) go (saved-tells s (c ∷ []) (names_fault s.actor (c ∷ []))) (change-tells go on over refused ended);
+      bind-tells after_ends next_ends false (saved_one s c) go (saved-tells s (c ∷ []) (names_fault s (c ∷ []))) (change-tells go on over refused ended);
   carries = λ s m q. carried-tells s m;
   drafts = λ s draft q. tt;
   counts = λ s n q. tt;
@@ -434,7 +435,7 @@ loaded-tells s start name (found.Bytes bytes false) = unheld-tells s start name 
 loaded-tells s start name (found.TooLarge n) = λ u. refl
 
 named-tells : (s : SessionState) (start : Start) (name : OrFault (List ℕ)) → Tells next_ends false (with_name_or_fault s start name)
-named-tells s start (Ok name) = either-tells (is_short_name name) _ _ (λ f. loaded-tells s start name f) (λ u. refl)
+named-tells s start (Ok name) = either-tells (is_short_name (file_of s.here name)) _ _ (λ f. loaded-tells s start name f) (λ u. refl)
 named-tells s start (Err line) = λ u. refl
 
 sent-tells : (b : Bool) (t : SessionState) → Tells next_ends false (sent b t)
@@ -462,7 +463,7 @@ startup-tells s name (Some (found.TooLarge n)) = λ u. refl
 startup-tells s name (Some (found.Bytes None held)) = refl
 startup-tells s name (Some (found.Bytes (Some text) held)) = refl
 
-load-startup-tells : (b : Bool) (s : SessionState) (name : List ℕ) → Tells next_ends false (if b then Ask (Try name) (after_startup s name) else refused s (bad_name name))
+load-startup-tells : (b : Bool) (s : SessionState) (name : List ℕ) → Tells next_ends false (if b then Ask (Try (file_of s.here name)) (after_startup s name) else refused s (bad_name name))
 load-startup-tells true s name = λ f. startup-tells s name f
 load-startup-tells false s name = λ u. refl
 
@@ -472,7 +473,7 @@ with-files-tells start names (Last e) = refl
 
 next-file-tells : (start : Start) (s : SessionState) (names : List (List ℕ)) → Tells next_ends false (next_file start s names)
 next-file-tells start s [] = refl
-next-file-tells start s (name ∷ names) = bind-tells next_ends next_ends false (startup_play s name) (with_files start names) (load-startup-tells (is_short_name name) s name) (with-files-tells start names)
+next-file-tells start s (name ∷ names) = bind-tells next_ends next_ends false (startup_play s name) (with_files start names) (load-startup-tells (is_short_name (file_of s.here name)) s name) (with-files-tells start names)
 
 file-tells : (start : Start) (s : SessionState) (names : List (List ℕ)) (next : Option (WaitingLine × List Pending)) → Tells next_ends false (file_round start s names next)
 file-tells start s names None = next-file-tells start (rested s) names

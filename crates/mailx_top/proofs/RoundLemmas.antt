@@ -16,6 +16,7 @@ use Rattle.mailx_vars.specs.Names.{is_short_name}
 use Rattle.std.specs.declared.result.Result.TheVariants.{Ok, Err}
 use Rattle.command_desk.specs.declared.desk.Desk.{Desk}
 use Rattle.command_desk.specs.Answers.{OrFault}
+use Rattle.session_state.specs.Placing.{placed}
 use Rattle.session_state.specs.declared.state.SessionState.{SessionState}
 use Rattle.session_state.specs.declared.status.Status.{Status}
 use Rattle.session_asks.specs.Openings.{with_opened}
@@ -71,7 +72,7 @@ threads-loaded s start name (found.Bytes bytes false) = threads-unheld s start n
 threads-loaded s start name (found.TooLarge n) = (tt, λ u. tt)
 
 threads-named : (s : SessionState) (start : Start) (name : OrFault (List ℕ)) → On no_input (with_name_or_fault s start name)
-threads-named s start (Ok name) = both (is_short_name name) _ _ no_input (tt, threads-loaded s start name) (tt, λ u. tt)
+threads-named s start (Ok name) = both (is_short_name (placed s.here name)) _ _ no_input (tt, threads-loaded s start name) (tt, λ u. tt)
 threads-named s start (Err line) = (tt, λ u. tt)
 
 -- a draft that begins, after the question for its subject where that is asked for
@@ -196,7 +197,7 @@ loaded-acts s start name (found.TooLarge n) = (refl, λ u. tt)
 
 named-acts : (s : SessionState) (start : Start) (name : OrFault (List ℕ)) → AllActs (may_load true) (with_name_or_fault s start name)
 named-acts s start (Ok name) =
-    either (may_load true) (is_short_name name) _ _ (refl, λ f. loads-less true (loaded s start name f) (loaded-acts s start name f)) (refl, λ u. tt)
+    either (may_load true) (is_short_name (placed s.here name)) _ _ (refl, λ f. loads-less true (loaded s start name f) (loaded-acts s start name f)) (refl, λ u. tt)
 named-acts s start (Err line) = (refl, λ u. tt)
 
 pub sent-acts : (b : Bool) (t : SessionState) → AllActs loads_nothing (sent b t)

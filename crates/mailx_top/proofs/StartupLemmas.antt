@@ -13,6 +13,7 @@ use Rattle.session_play.specs.Steps.{refused}
 use Rattle.session_play.proofs.ShapeLemmas.{bind-acts, bind-ends, bind-threads}
 use Rattle.mailx_vars.specs.Names.{is_short_name}
 use Rattle.command_desk.specs.Faults.{bad_name}
+use Rattle.session_state.specs.Placing.{placed}
 use Rattle.session_state.specs.declared.frames.WaitingLine.{WaitingLine}
 use Rattle.session_state.specs.declared.state.SessionState.{SessionState}
 use Rattle.session_state.specs.declared.status.Status.{Status}
@@ -32,7 +33,7 @@ after-acts s name (Some (found.TooLarge n)) = (refl, λ u. tt)
 after-acts s name (Some (found.Bytes None held)) = tt
 after-acts s name (Some (found.Bytes (Some text) held)) = tt
 
-named-acts : (b : Bool) (s : SessionState) (name : List ℕ) → AllActs (may_load false) (if b then Ask (Try name) (after_startup s name) else refused s (bad_name name))
+named-acts : (b : Bool) (s : SessionState) (name : List ℕ) → AllActs (may_load false) (if b then Ask (Try (placed s.here name)) (after_startup s name) else refused s (bad_name name))
 named-acts true s name = (refl, λ f. after-acts s name f)
 named-acts false s name = (refl, λ u. tt)
 
@@ -42,7 +43,7 @@ after-ends o s name (Some (found.TooLarge n)) = λ u. tt
 after-ends o s name (Some (found.Bytes None held)) = tt
 after-ends o s name (Some (found.Bytes (Some text) held)) = tt
 
-named-ends : (o : Outcome) (b : Bool) (s : SessionState) (name : List ℕ) → AllEnds (EndsByLine o) (if b then Ask (Try name) (after_startup s name) else refused s (bad_name name))
+named-ends : (o : Outcome) (b : Bool) (s : SessionState) (name : List ℕ) → AllEnds (EndsByLine o) (if b then Ask (Try (placed s.here name)) (after_startup s name) else refused s (bad_name name))
 named-ends o true s name = λ f. after-ends o s name f
 named-ends o false s name = λ u. tt
 
@@ -55,7 +56,7 @@ after-threads s name i (Some (found.TooLarge n)) = (tt, λ u. refl)
 after-threads s name i (Some (found.Bytes None held)) = refl
 after-threads s name i (Some (found.Bytes (Some text) held)) = refl
 
-named-threads : (b : Bool) (s : SessionState) (name : List ℕ) (i : Input) → Threads (KeepsInput i) i (if b then Ask (Try name) (after_startup s name) else refused s (bad_name name))
+named-threads : (b : Bool) (s : SessionState) (name : List ℕ) (i : Input) → Threads (KeepsInput i) i (if b then Ask (Try (placed s.here name)) (after_startup s name) else refused s (bad_name name))
 named-threads true s name i = (tt, λ f. after-threads s name i f)
 named-threads false s name i = (tt, λ u. refl)
 
@@ -66,7 +67,7 @@ with-acts start names (Last e) = tt
 
 next-acts : (start : Start) (s : SessionState) (names : List (List ℕ)) → AllActs (may_load false) (next_file start s names)
 next-acts start s [] = tt
-next-acts start s (name ∷ names) = bind-acts (may_load false) (startup_play s name) (with_files start names) (named-acts (is_short_name name) s name) (with-acts start names)
+next-acts start s (name ∷ names) = bind-acts (may_load false) (startup_play s name) (with_files start names) (named-acts (is_short_name (placed s.here name)) s name) (with-acts start names)
 
 pub file-acts : (start : Start) (s : SessionState) (names : List (List ℕ)) (next : Option (WaitingLine × List Pending)) → AllActs (may_load false) (file_round start s names next)
 file-acts start s names None = next-acts start (rested s) names
@@ -84,7 +85,7 @@ with-threads start names (Last e) j same = tt
 next-threads : (start : Start) (s : SessionState) (names : List (List ℕ)) → On (next_file start s names)
 next-threads start s [] = refl
 next-threads start s (name ∷ names) =
-    bind-threads (KeepsInput no_input) (NextFrom input_of) (startup_play s name) (with_files start names) no_input (named-threads (is_short_name name) s name no_input) (with-threads start names)
+    bind-threads (KeepsInput no_input) (NextFrom input_of) (startup_play s name) (with_files start names) no_input (named-threads (is_short_name (placed s.here name)) s name no_input) (with-threads start names)
 
 pub file-threads : (start : Start) (s : SessionState) (names : List (List ℕ)) (next : Option (WaitingLine × List Pending)) → On (file_round start s names next)
 file-threads start s names None = next-threads start (rested s) names
@@ -110,7 +111,7 @@ with-ends o start names (Last e) by_line = by_line
 next-ends : (o : Outcome) (start : Start) (s : SessionState) (names : List (List ℕ)) → AllEnds (LeavesBefore o start) (next_file start s names)
 next-ends o start s [] = refl
 next-ends o start s (name ∷ names) =
-    bind-ends (EndsByLine o) (LeavesBefore o start) (startup_play s name) (with_files start names) (named-ends o (is_short_name name) s name) (with-ends o start names)
+    bind-ends (EndsByLine o) (LeavesBefore o start) (startup_play s name) (with_files start names) (named-ends o (is_short_name (placed s.here name)) s name) (with-ends o start names)
 
 pub file-ends : (start : Start) (s : SessionState) (names : List (List ℕ)) (next : Option (WaitingLine × List Pending)) → AllEnds (LeavesBefore s.outcome start) (file_round start s names next)
 file-ends start s names None = next-ends s.outcome start (rested s) names

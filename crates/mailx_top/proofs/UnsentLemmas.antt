@@ -19,6 +19,7 @@ use Rattle.session_play.specs.Play.{Ask, Read, Next, Go, Last, Goes, Loop, again
 use Rattle.session_play.proofs.ShapeLemmas.{goes-ends}
 use Rattle.command_words.specs.declared.options.Options.{Options}
 use Rattle.command_desk.specs.Answers.{OrFault}
+use Rattle.session_state.specs.Placing.{placed}
 use Rattle.session_state.specs.declared.outcome.Outcome.{Outcome}
 use Rattle.session_state.specs.declared.outcome.Outcome.TheVariants as outcome
 use Rattle.session_state.specs.declared.state.SessionState.{SessionState}
@@ -101,12 +102,12 @@ loaded-other s start name (found.Bytes bytes false) = unheld-other s start name 
 loaded-other s start name (found.TooLarge n) = λ u. tt
 
 named-other : (b : Bool) (s : SessionState) (start : Start) (name : List ℕ)
-    → AllEnds IsOther (if b then Ask (Read name) (loaded s start name) else ends_with start (with_feed (name ++ codes ": bad name")) status.NoFolder)
+    → AllEnds IsOther (if b then Ask (Read (placed s.here name)) (loaded s start name) else ends_with start (with_feed (name ++ codes ": bad name")) status.NoFolder)
 named-other true s start name = λ f. loaded-other s start name f
 named-other false s start name = λ u. tt
 
 word-other : (s : SessionState) (start : Start) (name : OrFault (List ℕ)) → AllEnds IsOther (with_name_or_fault s start name)
-word-other s start (Ok name) = named-other (is_short_name name) s start name
+word-other s start (Ok name) = named-other (is_short_name (placed s.here name)) s start name
 word-other s start (Err line) = λ u. tt
 
 begun-other : (b : Bool) (t : SessionState) → AllEnds IsOther (sent b t)

@@ -18,6 +18,7 @@ use Rattle.session_state.specs.declared.outcome.Outcome.{Outcome}
 use Rattle.session_state.specs.declared.outcome.Outcome.TheVariants as outcome
 use Rattle.session_state.specs.declared.status.Status.{Status}
 use Rattle.session_state.specs.declared.status.Status.TheVariants as status
+use Rattle.session_state.specs.Placing.{placed_changes}
 use Rattle.session_state.specs.Saving.{names_fault, is_changed}
 use Rattle.mailx_top.specs.Meaning.{RunState, Recovering, Preparing, Opening, Reading, Finishing, Leaving}
 
@@ -48,7 +49,8 @@ left_changes s = quit_changes s.desk.folder s.desk.vars s.desk.places.mbox
 
 -- a quit is refused, for the name of a file or by what its commit was answered
 abbrev pub is_quit_refused : SessionState → Option Committed → Bool
-is_quit_refused s answer = is_some (names_fault s.actor (left_changes s)) || option_map_or (refuses (left_changes s)) answer false
+is_quit_refused s answer =
+    is_some (names_fault s (left_changes s)) || option_map_or (refuses (placed_changes s.here (left_changes s))) answer false
 
 -- the record or the dead letter of a draft was refused
 abbrev pub is_draft_refused : Outcome → Bool

@@ -14,3 +14,4 @@ pub mod Unreadable
 pub mod Crash
 pub mod Appended
 pub mod Fitting
+pub mod Replies

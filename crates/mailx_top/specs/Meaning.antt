@@ -30,6 +30,7 @@ use Rattle.session_state.specs.declared.status.Status.TheVariants as status
 use Rattle.session_asks.specs.Openings.{first_state, with_opened, greeting}
 use Rattle.session_state.specs.declared.frames.WaitingLine.{WaitingLine}
 use Rattle.session_state.specs.Waits.{Pending}
+use Rattle.session_state.specs.Placing.{placed}
 use Rattle.session_state.specs.States.{is_drafting, next_waiting, resumed, rested}
 use Rattle.draft_sending.specs.Sending.{ended_draft}
 use Rattle.session_asks.specs.Beginning.{composing}
@@ -168,16 +169,16 @@ unheld s start name bytes true = ends_with start (with_feed (codes "No mail for 
 unheld s start name None false = ends_with start (with_feed (name ++ codes ": no such file")) status.NoFolder
 unheld s start name (Some bytes) false = with_list s start name bytes (list_of bytes)
 
--- what follows the load of the folder of this name
+-- what follows the load of the folder that is said by this name
 abbrev pub loaded : SessionState → Start → List ℕ → Found → Play (Next RunState Status)
 loaded s start name (found.Bytes bytes true) = ends_with start (with_feed (name ++ codes ": busy")) status.Refused
 loaded s start name (found.Bytes bytes false) = unheld s start name bytes (is_no_mail start.named bytes)
 loaded s start name (found.TooLarge n) = ends_with start (with_feed (name ++ codes ": too large")) status.NoFolder
 
--- the folder of this name is loaded, where it can be a file's
+-- the folder that is said by this name is loaded, where the name can be a file's
 abbrev pub with_name : SessionState → Start → List ℕ → Play (Next RunState Status)
 with_name s start name =
-    if is_short_name name then Ask (Read name) (loaded s start name)
+    if is_short_name (placed s.here name) then Ask (Read (placed s.here name)) (loaded s start name)
     else ends_with start (with_feed (name ++ codes ": bad name")) status.NoFolder
 
 -- the same, where the word stands for a name
@@ -204,8 +205,8 @@ pairs_for (Some user) pairs = (codes "MAIL", codes "/var/mail/" ++ user) ∷ pai
 
 -- the state of a session that begins in an environment, whose words ask for this start or for none
 abbrev pub first_of : Environment → Option Start → SessionState
-first_of env None = first_state env.pairs Receive env.terminal false env.token
-first_of env (Some start) = first_state (pairs_for start.user env.pairs) (mode_with start.sends) env.terminal start.by_recipient env.token
+first_of env None = first_state env.folder env.pairs Receive env.terminal false env.token
+first_of env (Some start) = first_state env.folder (pairs_for start.user env.pairs) (mode_with start.sends) env.terminal start.by_recipient env.token
 
 -- the actor of a run's commits
 abbrev pub actor_in : Environment → List ℕ

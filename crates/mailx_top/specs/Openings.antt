@@ -54,7 +54,7 @@ OpensNoMail start es = some_load_saw (saw_no_mail (is_named start)) es ≡ true
 
 -- a folder is to be opened whose word stands for no name in this state, or for one that can't be a file's
 abbrev pub OpensBadly : RunState → Type 0
-OpensBadly (Opening (Some start) s) = IsBadlyNamed start.sends (folder_name s start)
+OpensBadly (Opening (Some start) s) = IsBadlyNamed start.sends s.here (folder_name s start)
 OpensBadly x = ⊥
 
 -- it is so in some round of a loop

@@ -10,6 +10,7 @@ use Rattle.play_safety.specs.Appended.{Decides, IsLeft, IsRewritten, LeaveAlone}
 use Rattle.quit_rules.specs.Plans.{staying}
 use Rattle.session_state.specs.declared.state.SessionState.{SessionState}
 use Rattle.session_state.specs.declared.status.Status.{Status}
+use Rattle.session_state.specs.Placing.{placed}
 use Rattle.session_state.specs.Saving.{commit_of}
 use Rattle.mailx_top.specs.declared.environment.Environment.{Environment}
 use Rattle.mailx_top.specs.Words.{Start}
@@ -17,12 +18,16 @@ use Rattle.mailx_top.specs.Leavings.{left_changes}
 use Rattle.mailx_top.specs.Meaning.{actor_in}
 use Rattle.mailx_top.specs.Crash.{IsSafe}
 
+-- the file of the folder that is open in this state
+abbrev pub folder_file : SessionState → List ℕ
+folder_file s = placed s.here s.desk.folder.name
+
 -- The commit leaves the folder that is open in this state: the bytes that were read are a mailbox, the changes are those of a quit, and mbox is
 -- another file.
 pub record LeavesFolder (s : SessionState) (c : Commit) : Type 0 where
   pub read : is_mailbox s.desk.folder.folder ≡ true
   pub commit : c ≡ commit_of s (left_changes s)
-  pub apart : s.desk.folder.name ≢ s.desk.places.mbox
+  pub apart : folder_file s ≢ placed s.here s.desk.places.mbox
 
 -- A commit of a run leaves a folder. From its decision on, at each moment and at each disk that a stop leaves, until the next decision or the next
 -- change of the file by others, what others had appended to the messages that were read follows those that stay.
@@ -31,7 +36,7 @@ QuitsKeepAppended = (start : Option Start) (env : Environment) (status : Status)
     (front behind : List Event) (e : Event) (now : Disk) (c : Commit) (s : SessionState)
     → IsLeft d es (front ++ e ∷ behind) now
     → Decides (actor_in env) env.token d safe.commits front e c
-    → LeaveAlone (actor_in env) env.token s.desk.folder.name (after (disk d front) e) behind
+    → LeaveAlone (actor_in env) env.token (folder_file s) (after (disk d front) e) behind
     → LeavesFolder s c
     → IsRewritten (texts_of s.desk.folder.folder) (staying s.desk.folder s.desk.vars)
-    (settled_files (actor_in env) (disk d front) s.desk.folder.name) (settled_files (actor_in env) now s.desk.folder.name)
+    (settled_files (actor_in env) (disk d front) (folder_file s)) (settled_files (actor_in env) now (folder_file s))

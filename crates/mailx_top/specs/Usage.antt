@@ -9,6 +9,7 @@ use Rattle.session_play.specs.declared.stop.Stop.TheVariants as stop
 use Rattle.mailx_vars.specs.Names.{is_short_name}
 use Rattle.session_state.specs.declared.status.Status.{Status}
 use Rattle.session_state.specs.declared.status.Status.TheVariants as status
+use Rattle.session_state.specs.Placing.{placed}
 use Rattle.session_state.specs.Statuses.{IsEnd}
 use Rattle.command_desk.specs.Answers.{OrFault}
 use Rattle.command_words.specs.declared.options.Options.{Options}
@@ -34,19 +35,19 @@ EndsOrOpens wanted (Ok (Some s)) = s ≡ wanted
 EndsOrOpens wanted (Err cause) = IsSayCut cause
 
 -- a word stands for no name, or for one that can't be a file's
-abbrev pub IsNoName : OrFault (List ℕ) → Type 0
-IsNoName (Ok name) = is_short_name name ≡ false
-IsNoName (Err line) = Unit {0}
+abbrev pub IsNoName : List ℕ → OrFault (List ℕ) → Type 0
+IsNoName here (Ok name) = is_short_name (placed here name) ≡ false
+IsNoName here (Err line) = Unit {0}
 
 -- a folder is to be opened, and its word is such
-abbrev pub IsBadlyNamed : Option Options → OrFault (List ℕ) → Type 0
-IsBadlyNamed (Some o) name = ⊥
-IsBadlyNamed None name = IsNoName name
+abbrev pub IsBadlyNamed : Option Options → List ℕ → OrFault (List ℕ) → Type 0
+IsBadlyNamed (Some o) here name = ⊥
+IsBadlyNamed None here name = IsNoName here name
 
 -- so is the folder's that is to be opened, and no start-up file can set variables that it stands on
 abbrev pub IsBadName : Environment → Option Start → Type 0
 IsBadName env None = ⊥
-IsBadName env (Some start) = (is_silent start.manner ≡ true) × IsBadlyNamed start.sends (folder_name (first_of env (Some start)) start)
+IsBadName env (Some start) = let s = first_of env (Some start) in (is_silent start.manner ≡ true) × IsBadlyNamed start.sends s.here (folder_name s start)
 
 -- the recovery at the start is cut off by a fault of the disk, or for want of memory; so is the line that it may say, where the output fails
 abbrev pub IsStartCut : Stop → Type 0

@@ -1,6 +1,7 @@
 ghost use Rattle.mailx_top.specs.Appended.{RunsKeepAppended};
 ghost use Rattle.mailx_top.specs.Fitting.{RunsFit};
 ghost use Rattle.mailx_top.specs.Quits.{QuitsKeepAppended};
+ghost use Rattle.mailx_top.specs.Replies.{RunsReplyAfter};
 
 /// In a run that is safe each accepted commit has its decision. Where it rewrites a file of which it has no other
 /// change, what others appended meanwhile follows the rewritten messages, from the decision on, at each moment and at
@@ -21,4 +22,10 @@ pub fn decided_fit()
 /// again; mbox is another file.
 pub fn quits_keep_appended()
     ensures { QuitsKeepAppended }
+{}
+
+/// In a run that is safe, where a commit is answered as done, each output that follows stands after its decision: no
+/// byte of a reply is said before the commit that it tells of is decided.
+pub fn replies_follow()
+    ensures { RunsReplyAfter }
 {}

@@ -7,6 +7,7 @@ ghost use Rattle.session_play.specs.Input.{no_input};
 ghost use Rattle.session_play.specs.Play.{Play, Ask, Ret, Say, Read, Goes, Loop, Caused};
 ghost use Rattle.mailx_vars.specs.Names.{is_short_name};
 ghost use Rattle.session_state.specs.declared.state.SessionState.{SessionState};
+ghost use Rattle.session_state.specs.Placing.{placed};
 ghost use Rattle.session_asks.specs.Openings.{Opens};
 ghost use Rattle.mailx_top.specs.declared.environment.Environment.{Environment};
 ghost use Rattle.mailx_top.specs.Meaning.{starting, with_name, folder_name, loaded, unheld, is_no_mail, reader, with_list, begun, greeted, all_rows, heard, ends_with, round, Opening, opening, next_state};
@@ -20,7 +21,7 @@ use crate::words::{Asked, Manner};
 use command_desk::{Refusal, expanded};
 use host_port::Host;
 use mail_text::{Memory, Text};
-use mailx_session::{Session, Status};
+use mailx_session::{Session, Status, placed};
 use mailx_vars::is_short_name;
 use mbox_scan::{Folder, ScanError};
 use message_show::page;
@@ -369,18 +370,43 @@ fn load_and_open<H: Host>(
     host: &mut H,
     start: Asked<'_>,
     name: &[u8],
+    file: &[u8],
     session: &mut Session,
 ) -> Result<Option<Status>, Stop>
-    requires { is_short_name name.now ≡ true }
+    requires { is_short_name file.now ≡ true }
     ensures ran { Ran H.world host.old host.new
-        (λ es. Goes (Ask (Read name.now) (loaded session.old (start_from start.entry) name.now))
+        (λ es. Goes (Ask (Read file.now) (loaded session.old (start_from start.entry) name.now))
         es (next_state session.new no_input result)) }
     ensures cause { Caused (H.world.counts host.old) (H.world.counts host.new) result }
     ensures plain { IfOk result (λ end. IfSome end (λ e. IsEnd e)) }
 {
-    match load(alloc, host, name) {
+    match load(alloc, host, file) {
         Ok(found) => open_found(alloc, host, start, name, found, session),
         Err(cause) => Err(cause),
+    }
+}
+
+// Opens the folder of a name, the file that it stands for, or says why not.
+fn open_placed<H: Host>(
+    alloc: Global,
+    host: &mut H,
+    start: Asked<'_>,
+    name: &[u8],
+    file: &[u8],
+    session: &mut Session,
+) -> Result<Option<Status>, Stop>
+    requires { file.now ≡ placed session.old.here name.now }
+    ensures ran { Ran H.world host.old host.new
+        (λ es. Goes (with_name session.old (start_from start.entry) name.now) es
+        (next_state session.new no_input result)) }
+    ensures cause { Caused (H.world.counts host.old) (H.world.counts host.new) result }
+    ensures plain { IfOk result (λ end. IfSome end (λ e. IsEnd e)) }
+    ensures bad_name { is_short_name file.now ≡ false → EndsOrOpens Status.NoFolder result }
+{
+    if is_short_name(file) {
+        load_and_open(alloc, host, start, name, file, session)
+    } else {
+        end_at_file(alloc, host, start, name, b": bad name", Status::NoFolder)
     }
 }
 
@@ -397,12 +423,12 @@ fn open_name<H: Host>(
         (next_state session.new no_input result)) }
     ensures cause { Caused (H.world.counts host.old) (H.world.counts host.new) result }
     ensures plain { IfOk result (λ end. IfSome end (λ e. IsEnd e)) }
-    ensures bad_name { is_short_name name.now ≡ false → EndsOrOpens Status.NoFolder result }
+    ensures bad_name { is_short_name (placed session.old.here name.now) ≡ false
+        → EndsOrOpens Status.NoFolder result }
 {
-    if is_short_name(name) {
-        load_and_open(alloc, host, start, name, session)
-    } else {
-        end_at_file(alloc, host, start, name, b": bad name", Status::NoFolder)
+    match placed(alloc, session.state().here.bytes(), name) {
+        Ok(file) => open_placed(alloc, host, start, name, file.bytes(), session),
+        Err(Memory) => Err(Stop::Memory),
     }
 }
 
@@ -417,7 +443,7 @@ fn open<H: Host>(
         (λ es. Goes (starting session.old (start_from start.entry)) es (next_state session.new no_input result)) }
     ensures cause { Caused (H.world.counts host.old) (H.world.counts host.new) result }
     ensures plain { IfOk result (λ end. IfSome end (λ e. IsEnd e)) }
-    ensures bad_name { IsNoName (folder_name session.old (start_from start.entry))
+    ensures bad_name { IsNoName session.old.here (folder_name session.old (start_from start.entry))
         → EndsOrOpens Status.NoFolder result }
 {
     match expanded(alloc, session.desk(), start.word) {

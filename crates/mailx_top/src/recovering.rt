@@ -55,7 +55,7 @@ fn recover_first<H: Host>(
     }
 }
 
-/// The same, unless a draft is to be sent: then nothing is recovered.
+/// Recovers what a stopped commit has left, unless a draft is to be sent: then nothing is recovered.
 pub(crate) fn recover_unless_sending<H: Host>(
     alloc: Global,
     host: &mut H,

@@ -88,7 +88,7 @@ fn read_both<H: Host>(
     }
 }
 
-// The same, unless the system's file is passed over.
+// Reads the start-up files: the system's, unless it is passed over, and the user's.
 fn read_named<H: Host>(
     host: &mut H,
     session: &mut Session,

@@ -29,7 +29,7 @@ use crate::words::{Asked, asked_by, may_say, start_of, wanted};
 use commit_machine::record_name;
 use host_port::Host;
 use mail_text::{Items, Memory, Text};
-use mailx_session::{Session, Status, actor_of};
+use mailx_session::{Session, Status, actor_of, front_of};
 use mailx_vars::Places;
 use session_play::Stop;
 use std::alloc::Global;
@@ -75,7 +75,7 @@ fn read_session<H: Host>(
     }
 }
 
-// The same; where it is to be silent no start-up file is read.
+// A session from its start to its end. A silent one reads no start-up file.
 fn prepare_session<H: Host>(
     alloc: Global,
     host: &mut H,
@@ -148,11 +148,13 @@ fn first_session(alloc: Global, env: &Environment, start: Asked<'_>) -> Result<S
 {
     let mode = mode_with(start.sends);
     let by_recipient = start.by_recipient;
+    let folder = env.folder.bytes();
     match start.user {
         Some(user) => {
             let pairs = pairs_of_user(alloc, env.pairs.items(), user)?;
             Session::new(
                 alloc,
+                folder,
                 pairs.items(),
                 mode,
                 env.terminal,
@@ -162,6 +164,7 @@ fn first_session(alloc: Global, env: &Environment, start: Asked<'_>) -> Result<S
         }
         None => Session::new(
             alloc,
+            folder,
             env.pairs.items(),
             mode,
             env.terminal,
@@ -224,13 +227,14 @@ fn not_a_record(alloc: Global, actor: &[u8]) -> Result<Text, Memory>
     Ok(line)
 }
 
-// The same of the actor of a run.
+// The line of the run's own record, if it can't be read.
 fn record_line(alloc: Global, env: &Environment) -> Result<Text, Memory>
     ensures { IfOk result (λ line. line ≡ not_a_record (actor_in env.now)) }
 {
     match Places::read(alloc, env.pairs.items())? {
         Some(places) => {
-            let actor = actor_of(alloc, places.home.bytes())?;
+            let here = front_of(alloc, env.folder.bytes())?;
+            let actor = actor_of(alloc, here.bytes(), places.home.bytes())?;
             not_a_record(alloc, actor.bytes())
         }
         None => Err(Memory),

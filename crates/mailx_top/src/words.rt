@@ -115,7 +115,7 @@ fn start_with(options: &Options) -> Asked<'_>
     }
 }
 
-// The same, where a draft is begun.
+// How to start where a draft is begun.
 fn send_with(options: &Options) -> Asked<'_>
     ensures { start_from result ≡ record (start_with options.now) { sends = Some options.now } }
 {

@@ -5,3 +5,4 @@ pub mod LawLemmas
 pub mod DecidedLemmas
 pub mod AppendedLemmas
 pub mod FitLemmas
+pub mod ReplyLemmas

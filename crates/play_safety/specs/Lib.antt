@@ -2,3 +2,4 @@ pub mod Passes
 pub mod Safe
 pub mod Appended
 pub mod Fitting
+pub mod Replies

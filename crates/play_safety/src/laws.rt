@@ -1,5 +1,6 @@
 ghost use Rattle.play_safety.specs.Appended.{AppendedFollows};
 ghost use Rattle.play_safety.specs.Fitting.{DecidedFit};
+ghost use Rattle.play_safety.specs.Replies.{PlaysReplyAfter};
 ghost use Rattle.play_safety.specs.Safe.{PlaysAreSafe, TracesAreRead, DoneIsDecided};
 
 /// The trace of a play whose commits and recoveries are all of one actor and one token, from a disk that is sound and
@@ -17,6 +18,12 @@ pub fn traces_are_read()
 /// Each commit of a play that is answered as done is decided in its own stretch of events, which holds no output.
 pub fn done_is_decided()
     ensures { DoneIsDecided }
+{}
+
+/// Where a commit of a play is answered as done, each output that follows, in its own stretch of events and in all later
+/// ones, stands after its decision: no byte of a reply is said before the commit that it tells of is decided.
+pub fn replies_follow()
+    ensures { PlaysReplyAfter }
 {}
 
 /// In a crash safe run each accepted commit has its decision. Where it rewrites a file of which it has no other change,

@@ -3,4 +3,6 @@
 
 mod laws;
 
-pub use laws::{appended_follows, decided_fit, done_is_decided, plays_are_safe, traces_are_read};
+pub use laws::{
+    appended_follows, decided_fit, done_is_decided, plays_are_safe, replies_follow, traces_are_read,
+};

@@ -1,7 +1,7 @@
 -- What is asked for, by the kind of ask.
-use Rattle.std.proofs.Common.{◌≡◌, Option, ℕ, List, refl, ap, arith, subst}
+use Rattle.std.proofs.Common.{◌≡◌, Option, ℕ, List, [], ◌∷◌, refl, sym, ap, arith, subst, inl, append_assoc, append-nil}
 use Rattle.host_port.specs.Calls.{Counts, NeverFall, Rose}
-use Rattle.std.specs.Prelude.{◌≤◌, ◌<◌, true, false, ◌++◌, length, get_or}
+use Rattle.std.specs.Prelude.{◌≤◌, true, false, ◌++◌, length}
 use Rattle.std.specs.declared.result.Result.{Result}
 use Rattle.std.specs.declared.result.Result.TheVariants.{Ok, Err}
 use Rattle.session_state.specs.declared.error.RunError.{RunError}
@@ -10,9 +10,10 @@ use Rattle.session_state.specs.declared.answers.Asked.{Asked}
 use Rattle.session_state.specs.declared.answers.Asked.TheVariants as answered
 use Rattle.host_port.specs.declared.event.Event.{Event}
 use Rattle.session_play.specs.declared.stop.Stop.{Stop}
-use Rattle.session_play.specs.Play.{Ret, Ask, Say, Goes}
-use Rattle.session_play.specs.Steps.{After, On, Ended, in_order}
-use Rattle.session_play.proofs.LeadLemmas.{LeftAt, asked-over, asked-refused, asked-ended, asked-cut}
+use Rattle.session_play.specs.Play.{Play, Ret, Ask, Say, Goes}
+use Rattle.session_play.specs.Steps.{After, On, Over, Refused, Ended, onward, in_order}
+use Rattle.session_play.proofs.LeadLemmas.{Leads}
+use Rattle.session_play.proofs.PlayLemmas.{goes-then, goes-cut, goes-as}
 use Rattle.session_state.specs.declared.state.SessionState.{SessionState}
 use Rattle.session_state.specs.declared.status.Status.{Status}
 use Rattle.command_desk.specs.declared.steps.Ask as asked_of
@@ -35,19 +36,19 @@ use Rattle.session_state.specs.Answers.{after_asks, in_play, stop_of, LineCaused
 pub asked-say : (s : SessionState) (ask : asked_of.Ask) (bytes : List ℕ) → ask ≡ asks.Say bytes → asked s ask ≡ Ask (Say bytes) (λ _. Ret (On s))
 asked-say s ask bytes is = ap (asked s) is
 
-pub asked-commit : (s : SessionState) (ask : asked_of.Ask) (changes : List Change) → ask ≡ asks.Commit changes → asked s ask ≡ saved s changes (names_fault s.actor changes)
+pub asked-commit : (s : SessionState) (ask : asked_of.Ask) (changes : List Change) → ask ≡ asks.Commit changes → asked s ask ≡ saved s changes (names_fault s changes)
 asked-commit s ask changes is = ap (asked s) is
 
-pub asked-source : (s : SessionState) (ask : asked_of.Ask) (name : List ℕ) → ask ≡ asks.Source name → asked s ask ≡ sourced s name (source_fault s.frames name)
+pub asked-source : (s : SessionState) (ask : asked_of.Ask) (name : List ℕ) → ask ≡ asks.Source name → asked s ask ≡ sourced s name (source_fault s name)
 asked-source s ask name is = ap (asked s) is
 
 pub asked-lines : (s : SessionState) (ask : asked_of.Ask) (text : List ℕ) → ask ≡ asks.Lines text → asked s ask ≡ Ret (called s text)
 asked-lines s ask text is = ap (asked s) is
 
-pub asked-open : (s : SessionState) (ask : asked_of.Ask) (name : List ℕ) (changes : List Change) (reply : List ℕ) → ask ≡ asks.Open name changes reply → asked s ask ≡ switches s name changes reply (open_fault s.actor name changes)
+pub asked-open : (s : SessionState) (ask : asked_of.Ask) (name : List ℕ) (changes : List Change) (reply : List ℕ) → ask ≡ asks.Open name changes reply → asked s ask ≡ switches s name changes reply (open_fault s name changes)
 asked-open s ask name changes reply is = ap (asked s) is
 
-pub asked-draft : (s : SessionState) (ask : asked_of.Ask) (draft : Draft) (file : Option (List ℕ)) (current : Option ℕ) → ask ≡ asks.Draft draft file current → asked s ask ≡ beginning s draft file current (file_fault s.actor file)
+pub asked-draft : (s : SessionState) (ask : asked_of.Ask) (draft : Draft) (file : Option (List ℕ)) (current : Option ℕ) → ask ≡ asks.Draft draft file current → asked s ask ≡ beginning s draft file current (file_fault s file)
 asked-draft s ask draft file current is = ap (asked s) is
 
 pub asked-child : (s : SessionState) (ask : asked_of.Ask) (command input : List ℕ) → ask ≡ asks.Child command input → asked s ask ≡ run_asked s command input
@@ -91,11 +92,42 @@ done-on (Ok (answered.Refused line)) done = absurd (cc done)
 done-on (Ok (answered.Ended e)) done = absurd (cc done)
 done-on (Err e) done = absurd (cc done)
 
+-- what is left of asks in order, where these are still to be done
+abbrev pub LeftOf : SessionState → List asked_of.Ask → SessionState → List asked_of.Ask → List Event → Type 0
+LeftOf first asks s rest es = Leads (in_order asked first asks) (in_order asked s rest) es
+
+-- one of them was done
+pub left-on : (first s t : SessionState) (l left rest : List asked_of.Ask) (a : asked_of.Ask) → left ≡ a ∷ rest
+    → (es fs : List Event) → LeftOf first l s left es → Goes (asked s a) fs (Ok (On t)) → LeftOf first l t rest (es ++ fs)
+left-on first s t l left rest a is es fs leads did gs out g =
+    let here : LeftOf first l s (a ∷ rest) es = subst (λ (asks : List asked_of.Ask). LeftOf first l s asks es) is leads in
+    subst (λ (all : List Event). Goes (in_order asked first l) all out) (sym (append_assoc es fs gs))
+    (here (fs ++ gs) out (goes-then (asked s a) (onward (λ (u : SessionState). in_order asked u rest)) (On t) out fs gs did g))
+
+-- all of them were
+pub left-all : (first s : SessionState) (l left : List asked_of.Ask) → left ≡ [] → (es : List Event) → LeftOf first l s left es → Goes (in_order asked first l) es (Ok (On s))
+left-all first s l left is es leads =
+    let here : LeftOf first l s [] es = subst (λ (asks : List asked_of.Ask). LeftOf first l s asks es) is leads in
+    subst (λ (all : List Event). Goes (in_order asked first l) all (Ok (On s))) (append-nil es) (here [] (Ok (On s)) (refl, inl refl))
+
 -- what one of the asks leaves is what all of them leave, unless all was done
-pub asked-off : (first s t : SessionState) (r : Result Asked RunError) (l : List asked_of.Ask) (i : ℕ) (d a : asked_of.Ask) → i < length l → get_or l i d ≡ a → all_done r ≡ false
-    → (es fs : List Event) → LeftAt asked first l i s es → Goes (asked s a) fs (in_play (after_asks t) r) → Goes (in_order asked first l) (es ++ fs) (in_play (after_asks t) r)
-asked-off first s t (Ok answered.On) l i d a within is off = absurd (cc off)
-asked-off first s t (Ok answered.Over) l i d a within is off = asked-over asked first s t l i d a within is
-asked-off first s t (Ok (answered.Refused line)) l i d a within is off = asked-refused asked first s line l i d a within is
-asked-off first s t (Ok (answered.Ended e)) l i d a within is off = asked-ended asked first s e l i d a within is
-asked-off first s t (Err e) l i d a within is off = asked-cut asked first s (stop_of e) l i d a within is
+pub left-off : (first s t : SessionState) (r : Result Asked RunError) (l left rest : List asked_of.Ask) (a : asked_of.Ask) → left ≡ a ∷ rest → all_done r ≡ false
+    → (es fs : List Event) → LeftOf first l s left es → Goes (asked s a) fs (in_play (after_asks t) r) → Goes (in_order asked first l) (es ++ fs) (in_play (after_asks t) r)
+left-off first s t r l left rest a is off es fs leads did = here fs (in_play (after_asks t) r) (go r off did)
+  where
+    follows : After SessionState Status → Play (After SessionState Status)
+    follows = onward (λ (u : SessionState). in_order asked u rest)
+
+    here : LeftOf first l s (a ∷ rest) es
+    here = subst (λ (asks : List asked_of.Ask). LeftOf first l s asks es) is leads
+
+    go : (r : Result Asked RunError) → all_done r ≡ false → Goes (asked s a) fs (in_play (after_asks t) r) → Goes (in_order asked s (a ∷ rest)) fs (in_play (after_asks t) r)
+    go (Ok answered.On) off did = absurd (cc off)
+    go (Ok answered.Over) off did = goes-as (asked s a) follows (Over t) (Over t) fs refl did
+    go (Ok (answered.Refused line)) off did = goes-as (asked s a) follows (Refused line) (Refused line) fs refl did
+    go (Ok (answered.Ended e)) off did = goes-as (asked s a) follows (Ended e) (Ended e) fs refl did
+    go (Err e) off did = goes-cut (asked s a) follows (stop_of e) fs did
+
+pub nothing-left : {X : Type 0} (l : List X) → length l ≡ 0 → l ≡ []
+nothing-left [] none = refl
+nothing-left (x ∷ xs) none = absurd (omega arith)

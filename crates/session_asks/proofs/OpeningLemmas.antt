@@ -18,6 +18,7 @@ use Rattle.command_desk.specs.declared.desk.Desk.{Desk}
 use Rattle.command_desk.specs.Desks.{IsDesk, AreRowsButMarks}
 use Rattle.quit_rules.specs.declared.open.Open.{Open}
 use Rattle.session_asks.specs.declared.opening.Opening.{Opening}
+use Rattle.session_state.specs.declared.state.SessionState.{SessionState}
 use Rattle.session_asks.specs.Openings.{desk_with, is_system, with_folder, with_page, plain, first_current, opened, IsOpening}
 
 -- a row more
@@ -62,8 +63,8 @@ pub paged-desk : (desk : Desk) → IsDesk desk → IsDesk (with_page desk)
 paged-desk desk d = record { shown = d.shown; rows = d.rows; marks = d.marks; width = d.width }
 
 -- what is to be put on the desk for a folder opens it
-pub laid-is : (desk : Desk) (name bytes : List ℕ) (o : Opening) (is : IsOpening desk name bytes o) → with_page (with_folder desk o.folder o.shown) ≡ opened desk name bytes is.rows
+pub laid-is : (s : SessionState) (name bytes : List ℕ) (o : Opening) (is : IsOpening s name bytes o) → with_page (with_folder s.desk o.folder o.shown) ≡ opened s name bytes is.rows
 unfolding opened
-laid-is desk name bytes o is =
-    ap (λ (f : Open). with_page (with_folder desk f o.shown)) is.folder
-    ∙ ap (λ (s : Shown). with_page (with_folder desk (record { name = name; system = is_system desk.places name; folder = bytes; marks = map (λ (row : Row). row.mark) is.rows }) s)) is.shown
+laid-is s name bytes o is =
+    ap (λ (f : Open). with_page (with_folder s.desk f o.shown)) is.folder
+    ∙ ap (λ (shown : Shown). with_page (with_folder s.desk (record { name = name; system = is_system s name; folder = bytes; marks = map (λ (row : Row). row.mark) is.rows }) shown)) is.shown

@@ -1,11 +1,10 @@
 -- Lines that a command brings.
-use Rattle.std.proofs.Common.{◌≡◌, ◌+◌, ◌-◌, ◌*◌, ◌^◌, ◌<◌, ◌≤◌, ℕ, Bool, true, false, cond, List, [], ◌∷◌, ◌++◌, length, take, refl, sym, ◌∙◌, ap, subst, inl, arith, ⊎_elim, append_assoc}
-use Rattle.std.specs.Prelude.{get_or, nat_lt, codes, IfOk, IfErr, if◌then◌else◌}
+use Rattle.std.proofs.Common.{◌≡◌, ◌+◌, ◌-◌, ◌*◌, ◌^◌, ◌<◌, ◌≤◌, ℕ, Bool, true, false, cond, List, [], ◌∷◌, ◌++◌, length, take, refl, sym, ◌∙◌, ap, subst, inl, arith, append_assoc}
+use Rattle.std.specs.Prelude.{◌||◌, nat_lt, codes, IfOk, IfErr, if◌then◌else◌}
 use Rattle.std.specs.Str.{bytes_eq}
 use Rattle.std.specs.List.{list_any}
-use Rattle.std.proofs.lemmas.Bool.{cases_Bool, cond-true}
+use Rattle.std.proofs.lemmas.Bool.{cond-true, ltb-true}
 use Rattle.std.proofs.lemmas.List.{append-nil, take_at}
-use Rattle.std.proofs.lemmas.List.Folds.{list_any_at}
 use Rattle.std.proofs.lemmas.List.Sums.{sum_by-append}
 use Rattle.std.specs.declared.option.Option.{Option}
 use Rattle.std.specs.declared.option.Option.TheVariants.{Some, None}
@@ -39,6 +38,7 @@ use Rattle.session_state.specs.declared.status.Status.{Status}
 use Rattle.session_state.specs.declared.state.SessionState.{SessionState}
 use Rattle.session_state.specs.Waits.{Pending}
 use Rattle.session_state.specs.Pending.{frame_of, lines_left}
+use Rattle.session_state.specs.Placing.{placed}
 use Rattle.session_state.specs.States.{IsState, with_desk, with_draft, with_file, with_frames, resumed, OnlyFrames, KeepsOthers}
 use Rattle.session_state.specs.Bringing.{is_source, is_call, sources, calls, source_limit, origin_at, with_lines, brings, brings_lines, room, weight, HasPlace, OnlyBrings}
 use Rattle.session_asks.specs.Sourcing.{source_fault}
@@ -179,10 +179,13 @@ brings-lines by s text few small = record {
   room = room-lines by s.frames (origin_at s.frames) (length s.desk.conditions) text few small;
 }
 
--- an ask of some that bring nothing brings nothing
-pub quiet-at : (asks : List asked_of.Ask) (i : ℕ) (d a : asked_of.Ask) → list_any brings asks ≡ false → i < length asks → get_or asks i d ≡ a → brings a ≡ false
-quiet-at asks i d a none within is =
-    ⊎_elim (λ yes. absurd (cc (list_any_at brings asks i d within (ap brings is ∙ yes), none))) (λ no. no) (cases_Bool (brings a))
+-- the first of some asks that bring nothing brings nothing, and neither do those behind it
+pub quiet-parts : (a : asked_of.Ask) (asks : List asked_of.Ask) → list_any brings (a ∷ asks) ≡ false → (brings a ≡ false) × (list_any brings asks ≡ false)
+quiet-parts a asks none = go (brings a) none
+  where
+    go : (b : Bool) → (b || list_any brings asks) ≡ false → (b ≡ false) × (list_any brings asks ≡ false)
+    go true h = absurd (cc h)
+    go false h = (refl, h)
 
 -- what answers leave where not all was done
 pub after-same : (s t : SessionState) (r : Result Asked RunError) → is_on r ≡ false → in_play (after_asks s) r ≡ in_play (after_asks t) r
@@ -224,11 +227,20 @@ pub weight_dropped : (s t : SessionState) → t ≡ resumed s [] → weight t �
 weight_dropped s t is = subst (λ (u : SessionState). weight u ≤ weight s) (sym is) (weight-fewer s [] (omega arith))
 
 -- a file that may be loaded has a file's name
-pub source-name : (frames : List Pending) (name : List ℕ) → source_fault frames name ≡ None → is_short_name name ≡ true
-source-name frames name plain = go (is_short_name name) (nat_lt (sources frames) source_limit) plain
+pub source-name : (s : SessionState) (name : List ℕ) → source_fault s name ≡ None → is_short_name (placed s.here name) ≡ true
+source-name s name plain = go (is_short_name (placed s.here name)) (nat_lt (sources s.frames) source_limit) plain
   where
     go : (short few : Bool) → (if short then (if few then None else Some sources_too_deep) else Some (bad_name name)) ≡ None → short ≡ true
     go true few h = refl
+    go false few h = absurd (cc h)
+
+-- and one more may be open
+pub source-few : (s : SessionState) (name : List ℕ) → source_fault s name ≡ None → sources s.frames < source_limit
+source-few s name plain = ltb-true (sources s.frames) source_limit (go (is_short_name (placed s.here name)) (nat_lt (sources s.frames) source_limit) plain)
+  where
+    go : (short few : Bool) → (if short then (if few then None else Some sources_too_deep) else Some (bad_name name)) ≡ None → few ≡ true
+    go true true h = refl
+    go true false h = absurd (cc h)
     go false few h = absurd (cc h)
 
 -- and so do no lines, with the count as it was

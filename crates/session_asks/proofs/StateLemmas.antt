@@ -1,16 +1,15 @@
 -- The state that a session begins with is valid.
-use Rattle.std.proofs.Common.{◌≡◌, ◌≤◌, ℕ, Bool, true, List, ◌++◌, codes, refl, ap, ◌∙◌, arith, length-append}
-use Rattle.std.specs.Prelude.{◌==◌, not}
+use Rattle.std.proofs.Common.{◌≡◌, ◌≤◌, ℕ, Bool, true, List, codes, refl, ap, ◌∙◌}
 use Rattle.std.specs.declared.option.Option.TheVariants.{Some}
 use Rattle.std.proofs.lemmas.Bool.{and_parts, cond-true}
-use Rattle.std.proofs.lemmas.List.Folds.{list_all-append}
 use Rattle.mailx_vars.specs.declared.environment.Places.{Places}
 use Rattle.mailx_vars.specs.Environment.{Pairs, knows_user, places_in, places_of, variable}
 use Rattle.mailx_vars.specs.Names.{is_short_name}
 use Rattle.rc_conditionals.specs.declared.conditions.Mode.{Mode}
-use Rattle.session_state.specs.States.{IsActor, IsSession}
+use Rattle.session_state.specs.Placing.{front_of}
+use Rattle.session_state.specs.States.{IsSession}
 use Rattle.session_asks.specs.Openings.{state_with}
-use Rattle.session_state.proofs.NameLemmas.{short-name}
+use Rattle.session_state.proofs.ActorLemmas.{actor-is, front-clear}
 use Rattle.session_asks.proofs.OpeningLemmas.{empty-desk}
 
 -- the name of a home folder that is known can be used
@@ -20,15 +19,10 @@ home-short pairs places is known =
     let same : places ≡ places_in pairs = cc found in
     ap (λ (p : Places). is_short_name p.home) same ∙ (and_parts (is_short_name (variable pairs (codes "HOME"))) _ known).0
 
--- the name of the actor of a home folder whose name can be used
-actor-is : (home : List ℕ) → is_short_name home ≡ true → IsActor (home ++ codes "/.mailx")
-actor-is home short =
-    let is = short-name home short in
-    record {
-      short = let h = is.short in omega (arith, length-append home (codes "/.mailx"));
-      no_zero = list_all-append (λ b. not (b == 0)) home (codes "/.mailx") ∙ rw is.no_zero refl;
-    }
-
-pub first-valid : (places : Places) (mode : Mode) (terminal by_recipient : Bool) (token : ℕ) → 2 ≤ places.width → is_short_name places.home ≡ true
-    → IsSession (state_with places mode terminal by_recipient token)
-first-valid places mode terminal by_recipient token wide home = record { state = record { desk = empty-desk places mode terminal wide; actor = actor-is places.home home }; frames = λ o. refl; count = λ o. refl }
+pub first-valid : (folder : List ℕ) (places : Places) (mode : Mode) (terminal by_recipient : Bool) (token : ℕ) → 2 ≤ places.width → is_short_name places.home ≡ true
+    → IsSession (state_with folder places mode terminal by_recipient token)
+first-valid folder places mode terminal by_recipient token wide home = record {
+  state = record { desk = empty-desk places mode terminal wide; actor = actor-is (front_of folder) places.home (front-clear folder) home };
+  frames = λ o. refl;
+  count = λ o. refl;
+}

@@ -25,14 +25,16 @@ use Rattle.session_asks.specs.Asks.{all_done, IsRefusedSo}
 use Rattle.session_asks.specs.declared.opening.Opening.{Opening}
 use Rattle.session_state.specs.declared.state.SessionState.{SessionState}
 use Rattle.session_state.specs.declared.status.Status.{Status}
+use Rattle.session_state.specs.Placing.{placed}
 use Rattle.session_state.specs.Saving.{names_fault, saved}
 use Rattle.session_asks.specs.Openings.{opened, IsOpening}
 use Rattle.session_asks.specs.Switching.{open_fault, switched, laid_as, announced, switching, switched_to}
 use Rattle.session_asks.proofs.OpeningLemmas.{laid-is}
 
 -- where nothing stands in the way of a load, neither the name nor those of the changes are at fault
-pub open-fault-none : (actor name : List ℕ) (changes : List Change) → open_fault actor name changes ≡ None → (is_short_name name ≡ true) × (names_fault actor changes ≡ None)
-open-fault-none actor name changes plain = go (is_short_name name) (names_fault actor changes) plain
+pub open-fault-none : (s : SessionState) (name : List ℕ) (changes : List Change) → open_fault s name changes ≡ None
+    → (is_short_name (placed s.here name) ≡ true) × (names_fault s changes ≡ None)
+open-fault-none s name changes plain = go (is_short_name (placed s.here name)) (names_fault s changes) plain
   where
     go : (short : Bool) (fault : Option (List ℕ)) → (if short then fault else Some (bad_name name)) ≡ None → (short ≡ true) × (fault ≡ None)
     go true fault h = (refl, h)
@@ -48,11 +50,11 @@ announced-off s changes reply desk (Ok (answered.Ended e)) off es went = goes-as
 announced-off s changes reply desk (Err e) off es went = goes-cut (saved s changes None) (announced reply desk) (stop_of e) es went
 
 -- the desk with what is to be put on it is the one that is opened
-laid-switched : (desk : Desk) (name bytes : List ℕ) (o : Opening) (previous : List ℕ) (is : IsOpening desk name bytes o) → previous ≡ desk.folder.name
-    → laid_as desk o previous ≡ switched desk name bytes is.rows
-laid-switched desk name bytes o previous is same =
-    ap (λ (d : Desk). record d { previous = previous }) (laid-is desk name bytes o is)
-    ∙ ap (λ (p : List ℕ). record (opened desk name bytes is.rows) { previous = p }) same
+laid-switched : (s : SessionState) (name bytes : List ℕ) (o : Opening) (previous : List ℕ) (is : IsOpening s name bytes o) → previous ≡ s.desk.folder.name
+    → laid_as s.desk o previous ≡ switched s name bytes is.rows
+laid-switched s name bytes o previous is same =
+    ap (λ (d : Desk). record d { previous = previous }) (laid-is s name bytes o is)
+    ∙ ap (λ (p : List ℕ). record (opened s name bytes is.rows) { previous = p }) same
 
 -- a load that refuses the command
 pub refused-switched : (s : SessionState) (name : List ℕ) (changes : List Change) (reply : List ℕ) (f : OrFault (List ℕ)) (r : Refusal) (result : Result Asked RunError) (t : SessionState)
@@ -67,8 +69,8 @@ refused-switched s name changes reply f refusal.Memory result t is so =
 
 -- once the rows are known it goes on with that desk
 pub know-switched : (s : SessionState) (name bytes : List ℕ) (changes : List Change) (reply : List ℕ) (o : Opening) (previous : List ℕ) (out : Result (After SessionState Status) Stop)
-    → IsOpening s.desk name bytes o → previous ≡ s.desk.folder.name
+    → IsOpening s name bytes o → previous ≡ s.desk.folder.name
     → (es : List Event) → Goes (switching s changes reply (laid_as s.desk o previous)) es out → Goes (switched_to s name changes reply (Ok bytes)) es out
 know-switched s name bytes changes reply o previous out is same es went =
     let G : Desk → Type 0 = λ d. Goes (switching s changes reply d) es out in
-    inl (is.rows, [], es, refl, (refl, is.are), subst G (laid-switched s.desk name bytes o previous is same) went)
+    inl (is.rows, [], es, refl, (refl, is.are), subst G (laid-switched s name bytes o previous is same) went)

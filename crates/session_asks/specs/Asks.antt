@@ -26,11 +26,11 @@ use Rattle.session_asks.specs.Switching.{open_fault, switches}
 -- what is asked for, and what its answer leaves
 abbrev pub asked : SessionState → asked_of.Ask → Play (After SessionState Status)
 asked s (asks.Say bytes) = Ask (Say bytes) (λ _. Ret (On s))
-asked s (asks.Commit changes) = saved s changes (names_fault s.actor changes)
-asked s (asks.Source name) = sourced s name (source_fault s.frames name)
+asked s (asks.Commit changes) = saved s changes (names_fault s changes)
+asked s (asks.Source name) = sourced s name (source_fault s name)
 asked s (asks.Lines text) = Ret (called s text)
-asked s (asks.Open name changes reply) = switches s name changes reply (open_fault s.actor name changes)
-asked s (asks.Draft draft file current) = beginning s draft file current (file_fault s.actor file)
+asked s (asks.Open name changes reply) = switches s name changes reply (open_fault s name changes)
+asked s (asks.Draft draft file current) = beginning s draft file current (file_fault s file)
 asked s (asks.Child command input) = run_asked s command input
 asked s asks.Exit = Ret (Ended (status_of s.outcome))
 

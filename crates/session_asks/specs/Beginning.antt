@@ -69,9 +69,9 @@ placed file current (Refused line) = Ret (Refused line)
 placed file current (Ended e) = Ret (Ended e)
 
 -- the line of what is wrong with the file that a draft is recorded in, where it has one of its own
-abbrev pub file_fault : List ℕ → Option (List ℕ) → Option (List ℕ)
-file_fault actor None = None
-file_fault actor (Some name) = name_fault actor name
+abbrev pub file_fault : SessionState → Option (List ℕ) → Option (List ℕ)
+file_fault s None = None
+file_fault s (Some name) = name_fault s name
 
 -- a draft that a command asks for begins, unless something is wrong with its file
 abbrev pub beginning : SessionState → Draft → Option (List ℕ) → Option ℕ → Option (List ℕ) → Play (After SessionState Status)

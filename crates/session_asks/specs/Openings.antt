@@ -21,6 +21,7 @@ use Rattle.folder_commands.specs.Opening.{is_in, opening_line}
 use Rattle.session_asks.specs.declared.opening.Opening.{Opening}
 use Rattle.session_state.specs.declared.state.SessionState.{SessionState}
 use Rattle.session_state.specs.declared.outcome.Outcome.TheVariants.{Fine}
+use Rattle.session_state.specs.Placing.{actor_for, front_of, placed}
 use Rattle.session_state.specs.States.{with_desk}
 
 -- a desk without messages and without a previous file, with the variables that are set at the start; the user's own name is that of the
@@ -43,11 +44,12 @@ desk_with places mode terminal = record {
   places = places;
 }
 
--- the state before a folder is opened, in a run of this token: the name of the actor is `.mailx` in the home folder
-abbrev pub state_with : Places → Mode → Bool → Bool → ℕ → SessionState
-state_with places mode terminal by_recipient token = record {
+-- the state before a folder is opened, in a run of this token and from this working folder
+abbrev pub state_with : List ℕ → Places → Mode → Bool → Bool → ℕ → SessionState
+state_with folder places mode terminal by_recipient token = record {
   desk = desk_with places mode terminal;
-  actor = places.home ++ codes "/.mailx";
+  here = front_of folder;
+  actor = actor_for (front_of folder) places.home;
   token = token;
   terminal = terminal;
   by_recipient = by_recipient;
@@ -58,8 +60,8 @@ state_with places mode terminal by_recipient token = record {
   outcome = Fine;
 }
 
-abbrev pub first_state : Pairs → Mode → Bool → Bool → ℕ → SessionState
-first_state pairs mode terminal by_recipient token = state_with (places_in pairs) mode terminal by_recipient token
+abbrev pub first_state : List ℕ → Pairs → Mode → Bool → Bool → ℕ → SessionState
+first_state folder pairs mode terminal by_recipient token = state_with folder (places_in pairs) mode terminal by_recipient token
 
 -- the number of the message at a place from 0, or what stands in its stead
 abbrev pub number_or : ℕ → Option ℕ → ℕ
@@ -87,32 +89,32 @@ with_page desk = record desk { page = page_at desk (page_size desk) }
 abbrev pub plain : List Row → Shown
 plain rows = record { rows = rows; order = range_with_len 1 (length rows); depth = replicate (length rows) 0; current = first_current rows }
 
--- the file of this name is the system mailbox; where mbox has that name too it counts as another folder, so that nothing is moved within one file
-abbrev pub is_system : Places → List ℕ → Bool
-is_system places name = bytes_eq name places.mail && not (bytes_eq name places.mbox)
+-- the file of this name is the system mailbox; where mbox is that file too it counts as another folder, so that nothing is moved within one file
+abbrev pub is_system : SessionState → List ℕ → Bool
+is_system s name = bytes_eq name s.desk.places.mail && not (bytes_eq (placed s.here name) (placed s.here s.desk.places.mbox))
 
 -- the desk with another folder, whose messages are shown so
 abbrev pub with_folder : Desk → Open → Shown → Desk
 with_folder desk folder shown = record desk { folder = folder; shown = shown; fresh = true }
 
 -- a folder of these bytes is opened, with the rows of its texts, in order of number
-unfoldable pub opened : Desk → List ℕ → List ℕ → List Row → Desk
-opened desk name bytes rows = with_page (with_folder desk (record { name = name; system = is_system desk.places name; folder = bytes; marks = map (λ row. row.mark) rows }) (plain rows))
+unfoldable pub opened : SessionState → List ℕ → List ℕ → List Row → Desk
+opened s name bytes rows = with_page (with_folder s.desk (record { name = name; system = is_system s name; folder = bytes; marks = map (λ row. row.mark) rows }) (plain rows))
 
 -- the state once a folder was opened on its desk
 abbrev pub with_opened : SessionState → List ℕ → List ℕ → List Row → SessionState
-with_opened s name bytes rows = with_desk s (opened s.desk name bytes rows)
+with_opened s name bytes rows = with_desk s (opened s name bytes rows)
 
--- What is to be put on the desk for a folder of these bytes and this name: its messages in order of number, by the rows of its texts, and how many
+-- What is to be put on the desk of a state for a folder of these bytes and this name: its messages in order of number, by the rows of its texts, and how many
 -- a page has.
-pub record IsOpening (desk : Desk) (name bytes : List ℕ) (opening : Opening) : Type 0 where
+pub record IsOpening (s : SessionState) (name bytes : List ℕ) (opening : Opening) : Type 0 where
   pub rows : List Row
   pub are : AreRows (texts_of bytes) rows
-  pub size : IsKnownSize (page_size desk) opening.size
+  pub size : IsKnownSize (page_size s.desk) opening.size
   pub some : IfSome opening.size (λ n. 0 < n)
-  pub folder : opening.folder ≡ record { name = name; system = is_system desk.places name; folder = bytes; marks = map (λ row. row.mark) rows }
+  pub folder : opening.folder ≡ record { name = name; system = is_system s name; folder = bytes; marks = map (λ row. row.mark) rows }
   pub shown : opening.shown ≡ plain rows
-  pub valid : IsDesk (with_folder desk opening.folder opening.shown)
+  pub valid : IsDesk (with_folder s.desk opening.folder opening.shown)
 
 -- a folder was opened
 abbrev pub Opens : SessionState → List ℕ → List ℕ → SessionState → Type 0

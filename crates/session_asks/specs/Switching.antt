@@ -23,12 +23,13 @@ use Rattle.session_asks.specs.declared.switching.Laid.{Laid}
 use Rattle.session_state.specs.declared.state.SessionState.{SessionState}
 use Rattle.session_state.specs.declared.status.Status.{Status}
 use Rattle.session_state.specs.States.{with_desk}
+use Rattle.session_state.specs.Placing.{placed}
 use Rattle.session_state.specs.Saving.{names_fault, saved}
 use Rattle.session_asks.specs.Openings.{opened, with_folder, with_page, page_or_none}
 
 -- the line of what stands in the way of a load: what is wrong with the name of the file, or else with that of one that is changed
-abbrev pub open_fault : List ℕ → List ℕ → List Change → Option (List ℕ)
-open_fault actor name changes = if is_short_name name then names_fault actor changes else Some (bad_name name)
+abbrev pub open_fault : SessionState → List ℕ → List Change → Option (List ℕ)
+open_fault s name changes = if is_short_name (placed s.here name) then names_fault s changes else Some (bad_name name)
 
 -- the bytes that are opened, by what the load of the file of this name found, or the line that refuses it; a held one is refused first
 abbrev pub loaded_folder : Desk → List Change → List ℕ → Option Found → OrFault (List ℕ)
@@ -38,8 +39,8 @@ loaded_folder desk changes name (Some (found.Bytes file true)) = Err (busy name)
 loaded_folder desk changes name (Some (found.Bytes file false)) = made_folder changes (texts_of desk.folder.folder) name file
 
 -- the desk with a folder of these bytes in place of its own, of which it is the previous file then
-abbrev pub switched : Desk → List ℕ → List ℕ → List Row → Desk
-switched desk name bytes rows = record (opened desk name bytes rows) { previous = desk.folder.name }
+abbrev pub switched : SessionState → List ℕ → List ℕ → List Row → Desk
+switched s name bytes rows = record (opened s name bytes rows) { previous = s.desk.folder.name }
 
 -- the same of what is to be put on the desk
 abbrev pub laid_as : Desk → Opening → List ℕ → Desk
@@ -63,13 +64,13 @@ switching s changes reply desk = bind (saved s changes None) (announced reply de
 -- what follows the load: the rows of the texts are known, or the load refuses the command
 abbrev pub switched_to : SessionState → List ℕ → List Change → List ℕ → OrFault (List ℕ) → Play (After SessionState Status)
 switched_to s name changes reply (Err line) = Ret (Refused line)
-switched_to s name changes reply (Ok bytes) = Ask (Know (texts_of bytes)) (λ rows. switching s changes reply (switched s.desk name bytes rows))
+switched_to s name changes reply (Ok bytes) = Ask (Know (texts_of bytes)) (λ rows. switching s changes reply (switched s name bytes rows))
 
 -- The file of this name is loaded, unless something stands in the way; the changes are committed, whose outcome is what is opened where they
 -- are of that file; the folder is opened.
 abbrev pub switches : SessionState → List ℕ → List Change → List ℕ → Option (List ℕ) → Play (After SessionState Status)
 switches s name changes reply (Some line) = Ret (Refused line)
-switches s name changes reply None = Ask (Try name) (λ f. switched_to s name changes reply (loaded_folder s.desk changes name f))
+switches s name changes reply None = Ask (Try (placed s.here name)) (λ f. switched_to s name changes reply (loaded_folder s.desk changes name f))
 
 -- the desk with such parts of a folder
 abbrev pub with_laid : Desk → Laid → Desk

@@ -17,7 +17,7 @@ use crate::running::run_asked;
 use crate::sourcing::source;
 use crate::switching::switch;
 use host_port::Host;
-use mail_text::Text;
+use mail_text::Items;
 use read_commands::Ask as Wanted;
 use session_state::{Asked, RunError, SessionState, Status, save, say_line, status_of};
 use std::alloc::Global;
@@ -28,34 +28,34 @@ fn do_ask<H: Host>(
     alloc: Global,
     state: &mut SessionState,
     host: &mut H,
-    ask: &Wanted,
+    ask: Wanted,
 ) -> Result<Asked, RunError>
     requires { IsState state.old }
     ensures ran { Ran H.world host.old host.new
-        (λ es. Goes (asked state.old ask.now) es (in_play (after_asks state.new) result)) }
+        (λ es. Goes (asked state.old ask) es (in_play (after_asks state.new) result)) }
     ensures fall { NeverFall (H.world.counts host.old) (H.world.counts host.new) }
     ensures brings { OnlyBrings state.old state.new }
     ensures valid { IsState state.new }
     ensures desk { KeepsDesk state.old state.new result }
-    ensures quiet { brings ask.now ≡ false → state.new ≡ state.old }
+    ensures quiet { brings ask ≡ false → state.new ≡ state.old }
     ensures done { IfOk result EndsByAsk }
     ensures cause { LineCaused (H.world.counts host.old) (H.world.counts host.new) result }
 {
     match ask {
-        Wanted::Say(bytes) => say_line(host, bytes),
-        Wanted::Commit { changes } => save(alloc, state, host, changes.items()),
+        Wanted::Say(bytes) => say_line(host, &bytes),
+        Wanted::Commit { changes } => save(alloc, state, host, changes),
         Wanted::Source { name } => source(alloc, state, host, name.bytes()),
-        Wanted::Lines { text } => call(alloc, state, text),
+        Wanted::Lines { text } => call(alloc, state, &text),
         Wanted::Open {
             name,
             changes,
             reply,
-        } => switch(alloc, state, host, name.bytes(), changes.items(), reply),
+        } => switch(alloc, state, host, name.bytes(), changes, &reply),
         Wanted::Draft {
             draft,
             file,
             current,
-        } => begin_recorded(alloc, state, host, draft, file, *current),
+        } => begin_recorded(alloc, state, host, &draft, &file, current),
         Wanted::Child { command, input } => {
             run_asked(alloc, state, host, command.bytes(), input.bytes())
         }
@@ -76,20 +76,20 @@ fn ask_all<H: Host>(
     alloc: Global,
     state: &mut SessionState,
     host: &mut H,
-    asks: &[Wanted],
+    asks: Items<Wanted>,
 ) -> Result<Asked, RunError>
     requires { IsState state.old }
     ensures ran { Ran H.world host.old host.new
-        (λ es. Goes (in_order asked state.old asks.now) es (in_play (after_asks state.new) result)) }
+        (λ es. Goes (in_order asked state.old asks) es (in_play (after_asks state.new) result)) }
     ensures fall { NeverFall (H.world.counts host.old) (H.world.counts host.new) }
     ensures brings { OnlyBrings state.old state.new }
     ensures valid { IsState state.new }
     ensures desk { KeepsDesk state.old state.new result }
-    ensures quiet { list_any brings asks.now ≡ false → state.new ≡ state.old }
+    ensures quiet { list_any brings asks ≡ false → state.new ≡ state.old }
     ensures done { IfOk result EndsByAsk }
     ensures cause { LineCaused (H.world.counts host.old) (H.world.counts host.new) result }
 {
-    for ask in asks {
+    for ask in asks.into_vec() {
         let asked = do_ask(alloc, state, host, ask);
         if !all_done(&asked) {
             return asked;
@@ -111,16 +111,16 @@ pub fn do_asks<H: Host>(
     alloc: Global,
     state: &mut SessionState,
     host: &mut H,
-    asks: &[Wanted],
+    asks: Items<Wanted>,
 ) -> Result<Asked, RunError>
     requires { IsState state.old }
     ensures ran { Ran H.world host.old host.new
-        (λ es. Goes (in_order asked state.old asks.now) es (in_play (after_asks state.new) result)) }
+        (λ es. Goes (in_order asked state.old asks) es (in_play (after_asks state.new) result)) }
     ensures fall { NeverFall (H.world.counts host.old) (H.world.counts host.new) }
     ensures brings { OnlyBrings state.old state.new }
     ensures valid { IsState state.new }
     ensures desk { KeepsDesk state.old state.new result }
-    ensures quiet { list_any brings asks.now ≡ false → state.new ≡ state.old }
+    ensures quiet { list_any brings asks ≡ false → state.new ≡ state.old }
     ensures stays { StaysUnlessOn state.old state.new result }
     ensures done { IfOk result EndsByAsk }
     ensures cause { LineCaused (H.world.counts host.old) (H.world.counts host.new) result }

@@ -142,7 +142,7 @@ fn move_within(alloc: Global, state: &mut SessionState, n: u32)
     }
 }
 
-// The same, where one is to be.
+// Makes a message current, if one is given.
 fn move_to(alloc: Global, state: &mut SessionState, current: Option<u32>)
     requires { IsState state.old }
     ensures moved { state.new ≡ at_message state.old current }
@@ -154,11 +154,15 @@ fn move_to(alloc: Global, state: &mut SessionState, current: Option<u32>)
 }
 
 // What is wrong with the file of a draft.
-fn file_fault(alloc: Global, actor: &[u8], file: &Option<Text>) -> Result<Option<Text>, Memory>
-    ensures { IfOk result (λ line. line ≡ file_fault actor.now file.now) }
+fn file_fault(
+    alloc: Global,
+    state: &SessionState,
+    file: &Option<Text>,
+) -> Result<Option<Text>, Memory>
+    ensures { IfOk result (λ line. line ≡ file_fault state.now file.now) }
 {
     match file {
-        Some(name) => name_fault(alloc, actor, name.bytes()),
+        Some(name) => name_fault(alloc, state, name.bytes()),
         None => Ok(None),
     }
 }
@@ -218,7 +222,7 @@ pub(crate) fn begin_recorded<H: Host>(
 ) -> Result<Asked, RunError>
     requires { IsState state.old }
     ensures ran { Ran H.world host.old host.new
-        (λ es. Goes (beginning state.old draft.now file.now current (file_fault state.old.actor file.now)) es
+        (λ es. Goes (beginning state.old draft.now file.now current (file_fault state.old file.now)) es
         (in_play (after_asks state.new) result)) }
     ensures fall { NeverFall (H.world.counts host.old) (H.world.counts host.new) }
     ensures brings { OnlyBrings state.old state.new }
@@ -227,7 +231,7 @@ pub(crate) fn begin_recorded<H: Host>(
     ensures end { IfOk result EndsByAsk }
     ensures cause { LineCaused (H.world.counts host.old) (H.world.counts host.new) result }
 {
-    match file_fault(alloc, state.actor.bytes(), file) {
+    match file_fault(alloc, state, file) {
         Ok(Some(line)) => Ok(Asked::Refused { line }),
         Ok(None) => begin_placed(alloc, state, host, draft, file, current),
         Err(Memory) => Err(RunError::Memory),

@@ -28,7 +28,7 @@ fn call_lines(alloc: Global, state: &mut SessionState, text: &Text) -> Result<As
     }
 }
 
-/// The same, where want of memory ends the run.
+/// Brings the lines of a macro; running out of memory ends the run.
 pub(crate) fn call(alloc: Global, state: &mut SessionState, text: &Text) -> Result<Asked, RunError>
     ensures means { IfOk result (λ asked. after_asks state.new asked ≡ called state.old text.now) }
     ensures memory { IfErr result (λ e. e ≡ RunError.Memory) }

@@ -7,6 +7,7 @@ ghost use Rattle.mbox_scan.specs.Mailbox.{texts_of, message_limit};
 ghost use Rattle.session_play.specs.Knowing.{AreRows};
 ghost use Rattle.message_state.specs.declared.row.Row.{Row};
 ghost use Rattle.folder_commands.specs.Opening.{is_in};
+ghost use Rattle.session_state.specs.Placing.{actor_for};
 ghost use Rattle.session_asks.specs.Openings.{is_system, first_current, desk_with, state_with, IsKnownSize, IsOpening, plain, with_folder, with_page, page_at};
 ghost use Rattle.command_desk.specs.Desks.{IsDesk};
 
@@ -19,8 +20,11 @@ use message_show::FieldSets;
 use message_state::{Mark, Order, Row, RowList, Shown, State, row_of};
 use rc_conditionals::{Conditions, Mode};
 use read_commands::{Desk, Open, Refusal, page_of, page_size};
-use session_state::{Frames, Outcome, SessionState};
+use session_state::{Frames, Outcome, SessionState, front_of, placed};
 use std::alloc::Global;
+
+/// The most bytes of the name of an actor.
+const ACTOR_LIMIT: usize = 4_021;
 
 /// What is to be put on the desk for a folder.
 #[derive(Drop)]
@@ -33,12 +37,15 @@ pub struct Opening {
     pub shown: Shown,
 }
 
-/// Whether the file of this name is the system mailbox. Where mbox has that name too it counts as another folder, so
+/// Whether the file of this name is the system mailbox. Where mbox is that file too it counts as another folder, so
 /// that nothing is moved within one file.
-pub(crate) fn is_system(places: &Places, name: &[u8]) -> bool
-    ensures { result ≡ is_system places.now name.now }
+fn is_system(alloc: Global, state: &SessionState, name: &[u8]) -> Result<bool, Memory>
+    ensures { IfOk result (λ system. system ≡ is_system state.now name.now) }
 {
-    name == places.mail.bytes() && name != places.mbox.bytes()
+    let places = &state.desk.places;
+    let file = placed(alloc, state.here.bytes(), name)?;
+    let mbox = placed(alloc, state.here.bytes(), places.mbox.bytes())?;
+    Ok(name == places.mail.bytes() && file.bytes() != mbox.bytes())
 }
 
 // The folder without messages.
@@ -89,30 +96,38 @@ fn first_desk(alloc: Global, places: Places, mode: Mode, terminal: bool) -> Resu
     })
 }
 
-/// The name of the actor of a home folder.
-pub fn actor_of(alloc: Global, home: &[u8]) -> Result<Text, Memory>
-    ensures { IfOk result (λ actor. actor ≡ home.now ++ codes "/.mailx") }
+/// The name of the actor of a home folder, in a run where this stands in front of names.
+pub fn actor_of(alloc: Global, here: &[u8], home: &[u8]) -> Result<Text, Memory>
+    ensures { IfOk result (λ actor. actor ≡ actor_for here.now home.now) }
 {
-    let mut actor = Text::copy(alloc, home)?;
-    actor.push(b"/.mailx")?;
-    Ok(actor)
+    let mut own = Text::copy(alloc, home)?;
+    own.push(b"/.mailx")?;
+    let actor = placed(alloc, here, own.bytes())?;
+    if actor.bytes().len() <= ACTOR_LIMIT {
+        Ok(actor)
+    } else {
+        Ok(own)
+    }
 }
 
-/// The state before a folder is opened.
+/// The state before a folder is opened, in a run from this working folder.
 pub fn first_state(
     alloc: Global,
+    folder: &[u8],
     places: Places,
     mode: Mode,
     terminal: bool,
     by_recipient: bool,
     token: u64,
 ) -> Result<SessionState, Memory>
-    ensures { IfOk result (λ state. state ≡ state_with places mode terminal by_recipient token) }
+    ensures { IfOk result (λ state. state ≡ state_with folder.now places mode terminal by_recipient token) }
 {
-    let actor = actor_of(alloc, places.home.bytes())?;
+    let here = front_of(alloc, folder)?;
+    let actor = actor_of(alloc, here.bytes(), places.home.bytes())?;
     let desk = first_desk(alloc, places, mode, terminal)?;
     Ok(SessionState {
         desk,
+        here,
         actor,
         token,
         terminal,
@@ -210,16 +225,21 @@ pub(crate) fn plain_view(alloc: Global, rows: Items<Row>) -> Result<Shown, Memor
     })
 }
 
-/// What is to be put on a desk for a folder that was loaded from the file of this name.
-pub fn opening_of(alloc: Global, desk: &Desk, name: Text, folder: Folder) -> Result<Opening, Memory>
-    requires { IsDesk desk.now }
-    ensures { IfOk result (IsOpening desk.now name folder) }
+/// What is to be put on the desk for a folder that was loaded from the file of this name.
+pub fn opening_of(
+    alloc: Global,
+    state: &SessionState,
+    name: Text,
+    folder: Folder,
+) -> Result<Opening, Memory>
+    requires { IsDesk state.now.desk }
+    ensures { IfOk result (IsOpening state.now name folder) }
 {
-    let size = known_page_size(alloc, desk)?;
+    let size = known_page_size(alloc, &state.desk)?;
     let rows = rows_of(alloc, &folder)?;
     let marks = marks_of(alloc, rows.items())?;
     let shown = plain_view(alloc, rows)?;
-    let system = is_system(&desk.places, name.bytes());
+    let system = is_system(alloc, state, name.bytes())?;
     let folder = Open {
         name,
         system,

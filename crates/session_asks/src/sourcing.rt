@@ -1,9 +1,10 @@
 // A file whose lines a command brings.
-ghost use Rattle.std.specs.Prelude.{◌≡◌, ◌<◌, None, IfOk};
+ghost use Rattle.std.specs.Prelude.{◌≡◌, ◌<◌, true, None, IfOk};
 ghost use Rattle.host_port.specs.Calls.{NeverFall};
 ghost use Rattle.host_port.specs.Ran.{Ran};
-ghost use Rattle.session_play.specs.Play.{Play, Goes};
+ghost use Rattle.session_play.specs.Play.{Play, Ask, Ret, Try, Goes};
 ghost use Rattle.session_state.specs.Bringing.{source_limit, sources, OnlyBrings};
+ghost use Rattle.mailx_vars.specs.Names.{is_short_name};
 ghost use Rattle.session_asks.specs.Sourcing.{source_fault, sourced, after_load};
 ghost use Rattle.session_state.specs.States.{OnlyFrames};
 ghost use Rattle.session_state.specs.Answers.{after_asks, in_play, LineCaused, EndsByAsk};
@@ -13,19 +14,20 @@ use host_port::Host;
 use mail_text::{Memory, Text};
 use mailx_vars::is_short_name;
 use session_play::{Found, try_load};
-use session_state::{Asked, FrameKind, Frames, RunError, SessionState, line_of, refused};
+use session_state::{Asked, FrameKind, RunError, SessionState, line_of, placed, refused};
 use std::alloc::Global;
 
 /// The most sourced files that are open at once.
 const SOURCE_LIMIT: usize = 16;
 
 // What stands in the way of a load: what is wrong with the name, or too many open files.
-fn source_fault(alloc: Global, frames: &Frames, name: &[u8]) -> Result<Option<Text>, Memory>
-    ensures { IfOk result (λ fault. fault ≡ source_fault frames.now name.now) }
+fn source_fault(alloc: Global, state: &SessionState, name: &[u8]) -> Result<Option<Text>, Memory>
+    ensures { IfOk result (λ fault. fault ≡ source_fault state.now name.now) }
 {
-    if !is_short_name(name) {
+    let file = placed(alloc, state.here.bytes(), name)?;
+    if !is_short_name(file.bytes()) {
         Ok(Some(line_of(alloc, name, b": bad name")?))
-    } else if frames.sources() >= SOURCE_LIMIT {
+    } else if state.frames.sources() >= SOURCE_LIMIT {
         Ok(Some(line_of(alloc, b"sources nest too deep", b"")?))
     } else {
         Ok(None)
@@ -58,6 +60,34 @@ fn after_load(
     }
 }
 
+// Loads a file that is said by this name, and brings its lines.
+fn load_file<H: Host>(
+    alloc: Global,
+    state: &mut SessionState,
+    host: &mut H,
+    name: &[u8],
+    file: &[u8],
+) -> Result<Asked, RunError>
+    requires file { is_short_name file.now ≡ true }
+    requires few { sources state.old.frames < source_limit }
+    ensures ran { Ran H.world host.old host.new
+        (λ es. Goes (Ask (Try file.now) (λ a. Ret (after_load state.old name.now a))) es
+        (in_play (after_asks state.new) result)) }
+    ensures fall { NeverFall (H.world.counts host.old) (H.world.counts host.new) }
+    ensures brings { OnlyBrings state.old state.new }
+    ensures desk { OnlyFrames state.old state.new }
+    ensures end { IfOk result EndsByAsk }
+    ensures cause { LineCaused (H.world.counts host.old) (H.world.counts host.new) result }
+{
+    match try_load(alloc, host, file) {
+        Ok(found) => match after_load(alloc, state, name, found) {
+            Ok(asked) => Ok(asked),
+            Err(Memory) => Err(RunError::Memory),
+        },
+        Err(_) => Err(RunError::Memory),
+    }
+}
+
 // Loads a file whose name was tested, and brings its lines.
 fn load_lines<H: Host>(
     alloc: Global,
@@ -65,7 +95,7 @@ fn load_lines<H: Host>(
     host: &mut H,
     name: &[u8],
 ) -> Result<Asked, RunError>
-    requires { source_fault state.old.frames name.now ≡ None }
+    requires { source_fault state.old name.now ≡ None }
     ensures ran { Ran H.world host.old host.new
         (λ es. Goes (sourced state.old name.now None) es (in_play (after_asks state.new) result)) }
     ensures fall { NeverFall (H.world.counts host.old) (H.world.counts host.new) }
@@ -74,12 +104,9 @@ fn load_lines<H: Host>(
     ensures end { IfOk result EndsByAsk }
     ensures cause { LineCaused (H.world.counts host.old) (H.world.counts host.new) result }
 {
-    match try_load(alloc, host, name) {
-        Ok(found) => match after_load(alloc, state, name, found) {
-            Ok(asked) => Ok(asked),
-            Err(Memory) => Err(RunError::Memory),
-        },
-        Err(_) => Err(RunError::Memory),
+    match placed(alloc, state.here.bytes(), name) {
+        Ok(file) => load_file(alloc, state, host, name, file.bytes()),
+        Err(Memory) => Err(RunError::Memory),
     }
 }
 
@@ -91,7 +118,7 @@ pub(crate) fn source<H: Host>(
     name: &[u8],
 ) -> Result<Asked, RunError>
     ensures ran { Ran H.world host.old host.new
-        (λ es. Goes (sourced state.old name.now (source_fault state.old.frames name.now)) es
+        (λ es. Goes (sourced state.old name.now (source_fault state.old name.now)) es
         (in_play (after_asks state.new) result)) }
     ensures fall { NeverFall (H.world.counts host.old) (H.world.counts host.new) }
     ensures brings { OnlyBrings state.old state.new }
@@ -99,7 +126,7 @@ pub(crate) fn source<H: Host>(
     ensures end { IfOk result EndsByAsk }
     ensures cause { LineCaused (H.world.counts host.old) (H.world.counts host.new) result }
 {
-    match source_fault(alloc, &state.frames, name) {
+    match source_fault(alloc, state, name) {
         Ok(Some(line)) => Ok(Asked::Refused { line }),
         Ok(None) => load_lines(alloc, state, host, name),
         Err(Memory) => Err(RunError::Memory),

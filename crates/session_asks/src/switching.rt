@@ -1,13 +1,14 @@
 // Another file, which is opened in place of the folder.
-ghost use Rattle.std.specs.Prelude.{◌≡◌, ◌++◌, ◌<◌, None, Ok, IfOk, IfSome};
+ghost use Rattle.std.specs.Prelude.{◌≡◌, ◌++◌, ◌<◌, true, None, Ok, IfOk, IfSome};
 ghost use Rattle.host_port.specs.Calls.{Counts, NeverFall};
 ghost use Rattle.host_port.specs.Ran.{Ran};
-ghost use Rattle.session_play.specs.Play.{Play, Ask, Ret, Say, Goes};
+ghost use Rattle.session_play.specs.Play.{Play, Ask, Ret, Say, Try, Goes};
 ghost use Rattle.session_play.specs.Steps.{On};
 ghost use Rattle.command_desk.specs.Answers.{Means};
 ghost use Rattle.command_desk.specs.Desks.{IsDesk};
 ghost use Rattle.show_commands.specs.Paging.{page_size};
 ghost use Rattle.session_state.specs.States.{IsState};
+ghost use Rattle.mailx_vars.specs.Names.{is_short_name};
 ghost use Rattle.session_state.specs.Saving.{names_fault};
 ghost use Rattle.session_asks.specs.Openings.{IsKnownSize, IsOpening, with_folder};
 ghost use Rattle.session_state.specs.Bringing.{OnlyBrings};
@@ -22,13 +23,13 @@ use command_desk::{Refusal, fault};
 use folder_change::Change;
 use folder_commands::made_folder;
 use host_port::Host;
-use mail_text::{Memory, Text};
+use mail_text::{Items, Memory, Text};
 use mailx_vars::is_short_name;
 use mbox_scan::Folder;
 use message_state::Shown;
 use read_commands::{Desk, Open};
 use session_play::{Found, try_load};
-use session_state::{Asked, RunError, SessionState, commit, line_of, names_fault, say};
+use session_state::{Asked, RunError, SessionState, commit, line_of, names_fault, placed, say};
 use std::alloc::Global;
 use std::mem;
 
@@ -45,14 +46,15 @@ pub(crate) struct Laid {
 // What stands in the way of a load: what is wrong with the name of the file, or else with that of one that is changed.
 fn open_fault(
     alloc: Global,
-    actor: &[u8],
+    state: &SessionState,
     name: &[u8],
     changes: &[Change],
 ) -> Result<Option<Text>, Memory>
-    ensures { IfOk result (λ fault. fault ≡ open_fault actor.now name.now changes.now) }
+    ensures { IfOk result (λ fault. fault ≡ open_fault state.now name.now changes.now) }
 {
-    if is_short_name(name) {
-        names_fault(alloc, actor, changes)
+    let file = placed(alloc, state.here.bytes(), name)?;
+    if is_short_name(file.bytes()) {
+        names_fault(alloc, state, changes)
     } else {
         Ok(Some(line_of(alloc, name, b": bad name")?))
     }
@@ -180,18 +182,18 @@ fn leave_for<H: Host>(
     alloc: Global,
     state: &mut SessionState,
     host: &mut H,
-    changes: &[Change],
+    changes: Items<Change>,
     reply: &Text,
     opening: Opening,
     previous: Text,
 ) -> Result<Asked, RunError>
     requires state { IsState state.old }
-    requires names { names_fault state.old.actor changes.now ≡ None }
+    requires names { names_fault state.old changes ≡ None }
     requires size { IsKnownSize (page_size state.old.desk) opening.size }
     requires some { IfSome opening.size (λ n. 0 < n) }
     requires desk { IsDesk (with_folder state.old.desk opening.folder opening.shown) }
     ensures ran { let desk = laid_as state.old.desk opening previous in Ran H.world host.old host.new
-        (λ es. Goes (switching state.old changes.now reply.now desk) es (in_play (after_asks state.new) result)) }
+        (λ es. Goes (switching state.old changes reply.now desk) es (in_play (after_asks state.new) result)) }
     ensures brings { OnlyBrings state.old state.new }
     ensures valid { IsState state.new }
     ensures desk { KeepsDesk state.old state.new result }
@@ -209,16 +211,17 @@ fn leave_for<H: Host>(
 // What is to be put on the desk for a folder of this name, and the name of the one on the desk.
 fn opening_named(
     alloc: Global,
-    desk: &Desk,
+    state: &SessionState,
     name: &[u8],
     folder: Folder,
 ) -> Result<(Opening, Text), Memory>
-    requires { IsDesk desk.now }
-    ensures { IfOk result (λ both. IsOpening desk.now name.now folder both.0 × (both.1 ≡ desk.now.folder.name)) }
+    requires { IsDesk state.now.desk }
+    ensures { IfOk result
+        (λ both. IsOpening state.now name.now folder both.0 × (both.1 ≡ state.now.desk.folder.name)) }
 {
-    let previous = Text::copy(alloc, desk.folder.name.bytes())?;
+    let previous = Text::copy(alloc, state.desk.folder.name.bytes())?;
     let name = Text::copy(alloc, name)?;
-    let opening = opening_of(alloc, desk, name, folder)?;
+    let opening = opening_of(alloc, state, name, folder)?;
     Ok((opening, previous))
 }
 
@@ -228,14 +231,14 @@ fn switch_to<H: Host>(
     state: &mut SessionState,
     host: &mut H,
     name: &[u8],
-    changes: &[Change],
+    changes: Items<Change>,
     reply: &Text,
     folder: Folder,
 ) -> Result<Asked, RunError>
     requires state { IsState state.old }
-    requires names { names_fault state.old.actor changes.now ≡ None }
+    requires names { names_fault state.old changes ≡ None }
     ensures ran { Ran H.world host.old host.new
-        (λ es. Goes (switched_to state.old name.now changes.now reply.now (Ok folder)) es
+        (λ es. Goes (switched_to state.old name.now changes reply.now (Ok folder)) es
         (in_play (after_asks state.new) result)) }
     ensures brings { OnlyBrings state.old state.new }
     ensures valid { IsState state.new }
@@ -243,7 +246,7 @@ fn switch_to<H: Host>(
     ensures end { IfOk result EndsByAsk }
     ensures cause { LineCaused (H.world.counts host.old) (H.world.counts host.new) result }
 {
-    match opening_named(alloc, &state.desk, name, folder) {
+    match opening_named(alloc, state, name, folder) {
         Ok((opening, previous)) => {
             leave_for(alloc, state, host, changes, reply, opening, previous)
         }
@@ -269,15 +272,15 @@ fn switch_found<H: Host>(
     state: &mut SessionState,
     host: &mut H,
     name: &[u8],
-    changes: &[Change],
+    changes: Items<Change>,
     reply: &Text,
     found: Option<Found>,
 ) -> Result<Asked, RunError>
     requires state { IsState state.old }
-    requires names { names_fault state.old.actor changes.now ≡ None }
+    requires names { names_fault state.old changes ≡ None }
     ensures ran { Ran H.world host.old host.new (λ es.
-        Goes (switched_to state.old name.now changes.now reply.now
-        (loaded_folder state.old.desk changes.now name.now found))
+        Goes (switched_to state.old name.now changes reply.now
+        (loaded_folder state.old.desk changes name.now found))
         es (in_play (after_asks state.new) result)) }
     ensures brings { OnlyBrings state.old state.new }
     ensures valid { IsState state.new }
@@ -285,9 +288,37 @@ fn switch_found<H: Host>(
     ensures end { IfOk result EndsByAsk }
     ensures cause { LineCaused (H.world.counts host.old) (H.world.counts host.new) result }
 {
-    match loaded_folder(alloc, &state.desk, changes, name, found) {
+    match loaded_folder(alloc, &state.desk, changes.items(), name, found) {
         Ok(folder) => switch_to(alloc, state, host, name, changes, reply, folder),
         Err(refusal) => refused_by(refusal),
+    }
+}
+
+// Loads a file that is said by this name, and opens it once the changes were committed, whose names were tested.
+fn load_file<H: Host>(
+    alloc: Global,
+    state: &mut SessionState,
+    host: &mut H,
+    name: &[u8],
+    file: &[u8],
+    changes: Items<Change>,
+    reply: &Text,
+) -> Result<Asked, RunError>
+    requires state { IsState state.old }
+    requires file { is_short_name file.now ≡ true }
+    requires names { names_fault state.old changes ≡ None }
+    ensures ran { Ran H.world host.old host.new (λ es. Goes (Ask (Try file.now) (λ f.
+        switched_to state.old name.now changes reply.now (loaded_folder state.old.desk changes name.now f)))
+        es (in_play (after_asks state.new) result)) }
+    ensures brings { OnlyBrings state.old state.new }
+    ensures valid { IsState state.new }
+    ensures desk { KeepsDesk state.old state.new result }
+    ensures end { IfOk result EndsByAsk }
+    ensures cause { LineCaused (H.world.counts host.old) (H.world.counts host.new) result }
+{
+    match try_load(alloc, host, file) {
+        Ok(found) => switch_found(alloc, state, host, name, changes, reply, found),
+        Err(_) => Err(RunError::Memory),
     }
 }
 
@@ -297,12 +328,12 @@ fn load_and_switch<H: Host>(
     state: &mut SessionState,
     host: &mut H,
     name: &[u8],
-    changes: &[Change],
+    changes: Items<Change>,
     reply: &Text,
 ) -> Result<Asked, RunError>
     requires state { IsState state.old }
-    requires names { open_fault state.old.actor name.now changes.now ≡ None }
-    ensures ran { Ran H.world host.old host.new (λ es. Goes (switches state.old name.now changes.now reply.now None)
+    requires names { open_fault state.old name.now changes ≡ None }
+    ensures ran { Ran H.world host.old host.new (λ es. Goes (switches state.old name.now changes reply.now None)
         es (in_play (after_asks state.new) result)) }
     ensures brings { OnlyBrings state.old state.new }
     ensures valid { IsState state.new }
@@ -310,9 +341,9 @@ fn load_and_switch<H: Host>(
     ensures end { IfOk result EndsByAsk }
     ensures cause { LineCaused (H.world.counts host.old) (H.world.counts host.new) result }
 {
-    match try_load(alloc, host, name) {
-        Ok(found) => switch_found(alloc, state, host, name, changes, reply, found),
-        Err(_) => Err(RunError::Memory),
+    match placed(alloc, state.here.bytes(), name) {
+        Ok(file) => load_file(alloc, state, host, name, file.bytes(), changes, reply),
+        Err(Memory) => Err(RunError::Memory),
     }
 }
 
@@ -323,12 +354,12 @@ pub(crate) fn switch<H: Host>(
     state: &mut SessionState,
     host: &mut H,
     name: &[u8],
-    changes: &[Change],
+    changes: Items<Change>,
     reply: &Text,
 ) -> Result<Asked, RunError>
     requires { IsState state.old }
-    ensures ran { let fault = open_fault state.old.actor name.now changes.now in Ran H.world host.old host.new
-        (λ es. Goes (switches state.old name.now changes.now reply.now fault) es
+    ensures ran { let fault = open_fault state.old name.now changes in Ran H.world host.old host.new
+        (λ es. Goes (switches state.old name.now changes reply.now fault) es
         (in_play (after_asks state.new) result)) }
     ensures fall { NeverFall (H.world.counts host.old) (H.world.counts host.new) }
     ensures brings { OnlyBrings state.old state.new }
@@ -337,7 +368,7 @@ pub(crate) fn switch<H: Host>(
     ensures end { IfOk result EndsByAsk }
     ensures cause { LineCaused (H.world.counts host.old) (H.world.counts host.new) result }
 {
-    match open_fault(alloc, state.actor.bytes(), name, changes) {
+    match open_fault(alloc, state, name, changes.items()) {
         Ok(Some(line)) => Ok(Asked::Refused { line }),
         Ok(None) => load_and_switch(alloc, state, host, name, changes, reply),
         Err(Memory) => Err(RunError::Memory),

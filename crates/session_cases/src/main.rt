@@ -7,6 +7,7 @@
 //! |---|---|
 //! | `words WORD..` | the words of the command line, each between blanks |
 //! | `env NAME=VALUE` | a variable of the environment |
+//! | `folder NAME` | the working folder; without it that isn't known |
 //! | `terminal` | the input is a terminal |
 //! | `token N` | the word that no other run has; without it 1 |
 //! | `children` | what each child that ran was given is printed |

@@ -6,7 +6,9 @@ use mail_text::{Items, Memory, Text};
 use mailx_top::{Environment, run};
 
 /// The heads of lines that say something of a run.
-const HEADS: [&str; 5] = ["words ", "env ", "terminal", "token ", "children"];
+const HEADS: [&str; 6] = [
+    "words ", "env ", "folder ", "terminal", "token ", "children",
+];
 
 fn words(case: Case<'_>, out: &mut Answer) -> Items<Text> {
     let mut words = Items::new(out.alloc());
@@ -36,6 +38,7 @@ fn environment(case: Case<'_>, out: &mut Answer) -> Environment {
     put_pairs(case.always, &mut pairs, out);
     Environment {
         pairs,
+        folder: out.decoded(value(case, "folder ").unwrap_or("")),
         terminal: value(case, "terminal").is_some(),
         token: number(value(case, "token ").unwrap_or("1")),
     }

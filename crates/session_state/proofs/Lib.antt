@@ -1,4 +1,6 @@
+pub mod ActorLemmas
 pub mod NameLemmas
 pub mod PendingLemmas
+pub mod PlacingLemmas
 pub mod RestLemmas
 pub mod SavingLemmas

@@ -1,10 +1,11 @@
 -- A commit that a command asks for carries out its play.
-use Rattle.std.proofs.Common.{List, [], refl, sym, ap, subst, inl, inr, None}
+use Rattle.std.proofs.Common.{ℕ, List, [], map, refl, sym, ap, subst, inl, inr, None}
 use Rattle.std.specs.declared.result.Result.{Result}
 use Rattle.std.specs.declared.result.Result.TheVariants.{Ok, Err}
 use Rattle.host_port.specs.declared.event.Event.{Event}
 use Rattle.host_port.specs.Calls.{Counts}
 use Rattle.folder_change.specs.declared.change.Change.{Change}
+use Rattle.folder_change.specs.Changes.{name_of}
 use Rattle.session_play.specs.declared.changing.Committed.{Committed}
 use Rattle.session_play.specs.declared.stop.Stop.{Stop}
 use Rattle.session_play.specs.declared.stop.Stop.TheVariants as stop
@@ -16,10 +17,11 @@ use Rattle.session_state.specs.declared.error.RunError.{RunError}
 use Rattle.session_state.specs.declared.error.RunError.TheVariants as error
 use Rattle.session_state.specs.declared.state.SessionState.{SessionState}
 use Rattle.session_state.specs.Follows.{Follows}
+use Rattle.session_state.specs.Placing.{placed_changes}
 use Rattle.session_state.specs.Saving.{commit_of, after_commit, saved}
 use Rattle.session_state.specs.Answers.{after_asks, in_play, LineCaused}
 
-pub commit-follows : (s : SessionState) (changes : List Change) (answer : Result Committed Stop) (r : Result Asked RunError) → Follows s changes answer r → (es : List Event)
+pub commit-follows : (s : SessionState) (changes : List Change) (answer : Result Committed Stop) (r : Result Asked RunError) → Follows s (map name_of changes) (placed_changes s.here changes) answer r → (es : List Event)
     → Goes {R = Committed} (Ask (Changes (commit_of s changes)) Ret) es answer → Goes (saved s changes None) es (in_play (after_asks s) r)
 commit-follows s changes (Ok a) (Ok asked) f es goes =
     let Next = after_commit s changes a in
@@ -35,10 +37,10 @@ commit-follows s changes (Err cause) (Err e) f es goes =
     let P : Stop → Type 0 = λ c. Goes (saved s changes None) es (Err c) in
     subst P (sym f) (goes-cut (Ask (Changes (commit_of s changes)) Ret) (λ a. Ret (after_commit s changes a)) cause es goes)
 
-pub commit-caused : (s : SessionState) (changes : List Change) (old new : Counts) (answer : Result Committed Stop) (r : Result Asked RunError) → Follows s changes answer r → Caused old new answer → LineCaused old new r
-commit-caused s changes old new answer (Ok asked) f caused = tt
-commit-caused s changes old new answer (Err error.Memory) f caused = tt
-commit-caused s changes old new (Ok a) (Err error.Output) never caused = absurd never
-commit-caused s changes old new (Ok a) (Err error.Disk) never caused = absurd never
-commit-caused s changes old new (Err cause) (Err error.Output) f caused = subst (λ (c : Stop). Caused {T = Committed} old new (Err c)) (sym f) caused
-commit-caused s changes old new (Err cause) (Err error.Disk) f caused = subst (λ (c : Stop). Caused {T = Committed} old new (Err c)) (sym f) caused
+pub commit-caused : (s : SessionState) (names : List (List ℕ)) (changes : List Change) (old new : Counts) (answer : Result Committed Stop) (r : Result Asked RunError) → Follows s names changes answer r → Caused old new answer → LineCaused old new r
+commit-caused s names changes old new answer (Ok asked) f caused = tt
+commit-caused s names changes old new answer (Err error.Memory) f caused = tt
+commit-caused s names changes old new (Ok a) (Err error.Output) never caused = absurd never
+commit-caused s names changes old new (Ok a) (Err error.Disk) never caused = absurd never
+commit-caused s names changes old new (Err cause) (Err error.Output) f caused = subst (λ (c : Stop). Caused {T = Committed} old new (Err c)) (sym f) caused
+commit-caused s names changes old new (Err cause) (Err error.Disk) f caused = subst (λ (c : Stop). Caused {T = Committed} old new (Err c)) (sym f) caused

@@ -3,6 +3,7 @@ pub mod Waits
 pub mod Pending
 pub mod States
 pub mod Answers
+pub mod Placing
 pub mod Saving
 pub mod Bringing
 pub mod Outcomes

@@ -1,23 +1,27 @@
 // Changes of files that a command asks for, as one commit.
-ghost use Rattle.std.specs.Prelude.{◌≡◌, ◌++◌, None, IfOk, IfErr};
+ghost use Rattle.std.specs.Prelude.{◌≡◌, ◌++◌, List, map, None, IfOk, IfErr};
 ghost use Rattle.mail_text.specs.Lines.{with_feed};
 ghost use Rattle.host_port.specs.Calls.{NeverFall};
 ghost use Rattle.host_port.specs.Ran.{Ran};
 ghost use Rattle.session_play.specs.Play.{Play, Goes};
-ghost use Rattle.command_desk.specs.Faults.{changed_at};
+ghost use Rattle.command_desk.specs.Faults.{busy, changed_at};
+ghost use Rattle.folder_change.specs.Changes.{name_of};
+ghost use Rattle.folder_commit.specs.Plans.{AreFiles};
+ghost use Rattle.session_state.specs.Placing.{placed_changes, said_as};
 ghost use Rattle.session_state.specs.declared.state.SessionState.{SessionState};
 ghost use Rattle.session_state.specs.States.{IsState};
-ghost use Rattle.session_state.specs.Saving.{name_fault, names_fault, is_changed, after_commit, saved};
+ghost use Rattle.session_state.specs.Saving.{name_fault, names_fault, is_changed, after_placed, saved};
 ghost use Rattle.session_state.specs.Follows.{Follows};
 ghost use Rattle.session_play.specs.Cuts.{IsLoadCut};
 ghost use Rattle.session_state.specs.Answers.{after_asks, in_play, stop_of, LineCaused, EndsByAsk};
 
+use crate::placing::{Targets, place, placed, said_as};
 use crate::{Asked, RunError, SessionState, Status};
 use folder_change::{Change, change_name};
 use folder_commit::is_file_name;
 use host_port::Host;
 use itoa::Buffer;
-use mail_text::{Memory, Text};
+use mail_text::{Items, Memory, Text};
 use mailx_vars::is_short_name;
 use session_play::{Committed, Stop, change};
 use std::alloc::Global;
@@ -32,13 +36,14 @@ pub fn line_of(alloc: Global, word: &[u8], fault: &[u8]) -> Result<Text, Memory>
     Ok(line)
 }
 
-/// What is wrong with a name, for a file that a commit of this actor is to change.
-pub fn name_fault(alloc: Global, actor: &[u8], name: &[u8]) -> Result<Option<Text>, Memory>
-    ensures { IfOk result (λ fault. fault ≡ name_fault actor.now name.now) }
+/// What is wrong with a name, for a file that a commit is to change.
+pub fn name_fault(alloc: Global, state: &SessionState, name: &[u8]) -> Result<Option<Text>, Memory>
+    ensures { IfOk result (λ fault. fault ≡ name_fault state.now name.now) }
 {
-    if !is_short_name(name) {
+    let file = placed(alloc, state.here.bytes(), name)?;
+    if !is_short_name(file.bytes()) {
         Ok(Some(line_of(alloc, name, b": bad name")?))
-    } else if !is_file_name(actor, name) {
+    } else if !is_file_name(state.actor.bytes(), file.bytes()) {
         Ok(Some(line_of(alloc, name, b": reserved name")?))
     } else {
         Ok(None)
@@ -46,11 +51,15 @@ pub fn name_fault(alloc: Global, actor: &[u8], name: &[u8]) -> Result<Option<Tex
 }
 
 /// The line of the first of these changes whose file's name is at fault.
-pub fn names_fault(alloc: Global, actor: &[u8], changes: &[Change]) -> Result<Option<Text>, Memory>
-    ensures { IfOk result (λ fault. fault ≡ names_fault actor.now changes.now) }
+pub fn names_fault(
+    alloc: Global,
+    state: &SessionState,
+    changes: &[Change],
+) -> Result<Option<Text>, Memory>
+    ensures { IfOk result (λ fault. fault ≡ names_fault state.now changes.now) }
 {
     for change in changes {
-        if let Some(line) = name_fault(alloc, actor, change_name(change))? {
+        if let Some(line) = name_fault(alloc, state, change_name(change))? {
             return Ok(Some(line));
         }
     }
@@ -77,14 +86,20 @@ fn is_changed(changes: &[Change], file: &[u8]) -> bool
 }
 
 // What is too large: a file that is changed, or the record or a staged file.
-fn too_large(alloc: Global, changes: &[Change], name: &[u8], length: u64) -> Result<Asked, Memory>
-    ensures means { (s : SessionState) → IfOk result
-        (λ asked. after_asks s asked ≡ after_commit s changes.now (Committed.TooLarge name.now length)) }
+fn too_large(
+    alloc: Global,
+    state: &SessionState,
+    targets: &Targets,
+    file: Text,
+    length: u64,
+) -> Result<Asked, Memory>
+    ensures means { IfOk result (λ asked. after_asks state.now asked
+        ≡ after_placed state.now targets.now.names targets.now.changes (Committed.TooLarge file length)) }
     ensures end { IfOk result EndsByAsk }
 {
-    if is_changed(changes, name) {
-        let line = line_of(alloc, name, b": too large")?;
-        Ok(Asked::Refused { line })
+    if is_changed(targets.changes.items(), file.bytes()) {
+        let name = said_as(alloc, state.here.bytes(), targets.names.items(), file)?;
+        refused(alloc, name.bytes(), b": too large")
     } else {
         Ok(Asked::Ended(Status::BadRecord))
     }
@@ -98,24 +113,42 @@ pub fn refused(alloc: Global, word: &[u8], fault: &[u8]) -> Result<Asked, Memory
     Ok(Asked::Refused { line })
 }
 
-fn changed(alloc: Global, name: &[u8], at: u64) -> Result<Asked, Memory>
-    ensures { IfOk result (λ asked. asked ≡ Asked.Refused (changed_at name.now at)) }
+// Refuses by a file that is busy.
+fn busy(alloc: Global, here: &[u8], names: &[Text], file: Text) -> Result<Asked, Memory>
+    ensures { IfOk result (λ asked. asked ≡ Asked.Refused (busy (said_as here.now names.now file))) }
 {
-    let line = changed_line(alloc, name, at)?;
+    let name = said_as(alloc, here, names, file)?;
+    refused(alloc, name.bytes(), b": busy")
+}
+
+// Refuses by a file that has changed, from this message on.
+fn changed(alloc: Global, here: &[u8], names: &[Text], file: Text, at: u64) -> Result<Asked, Memory>
+    ensures { IfOk result (λ asked. asked ≡ Asked.Refused (changed_at (said_as here.now names.now file) at)) }
+{
+    let name = said_as(alloc, here, names, file)?;
+    let line = changed_line(alloc, name.bytes(), at)?;
     Ok(Asked::Refused { line })
 }
 
 // What the answer to a commit of these changes leaves.
-fn after_commit(alloc: Global, changes: &[Change], answer: Committed) -> Result<Asked, Memory>
-    ensures means { (s : SessionState) → IfOk result (λ asked. after_asks s asked ≡ after_commit s changes.now answer) }
+fn after_commit(
+    alloc: Global,
+    state: &SessionState,
+    targets: &Targets,
+    answer: Committed,
+) -> Result<Asked, Memory>
+    ensures means { IfOk result (λ asked. after_asks state.now asked
+        ≡ after_placed state.now targets.now.names targets.now.changes answer) }
     ensures end { IfOk result EndsByAsk }
 {
+    let here = state.here.bytes();
+    let names = targets.names.items();
     match answer {
         Committed::Done => Ok(Asked::On),
-        Committed::Busy { name } => refused(alloc, name.bytes(), b": busy"),
+        Committed::Busy { name } => busy(alloc, here, names, name),
         Committed::NotARecord => Ok(Asked::Ended(Status::BadRecord)),
-        Committed::Changed { name, at } => changed(alloc, name.bytes(), at),
-        Committed::TooLarge { name, length } => too_large(alloc, changes, name.bytes(), length),
+        Committed::Changed { name, at } => changed(alloc, here, names, name, at),
+        Committed::TooLarge { name, length } => too_large(alloc, state, targets, name, length),
         Committed::TooManyNames { .. } => refused(alloc, b"too many names", b""),
     }
 }
@@ -135,15 +168,16 @@ fn error_of(cause: Stop) -> RunError
 // What a commit of these changes leaves, or the error that cuts the run off.
 fn followed(
     alloc: Global,
-    changes: &[Change],
+    state: &SessionState,
+    targets: &Targets,
     answer: Result<Committed, Stop>,
 ) -> Result<Asked, RunError>
     requires { IfErr answer IsLoadCut }
-    ensures follows { (s : SessionState) → Follows s changes.now answer result }
+    ensures follows { Follows state.now targets.now.names targets.now.changes answer result }
     ensures end { IfOk result EndsByAsk }
 {
     match answer {
-        Ok(answer) => match after_commit(alloc, changes, answer) {
+        Ok(answer) => match after_commit(alloc, state, targets, answer) {
             Ok(asked) => Ok(asked),
             Err(Memory) => Err(RunError::Memory),
         },
@@ -151,25 +185,54 @@ fn followed(
     }
 }
 
-/// Commits changes of files whose names were tested.
-pub fn commit<H: Host>(
+// Commits changes of these files.
+fn commit_placed<H: Host>(
     alloc: Global,
     state: &SessionState,
     host: &mut H,
-    changes: &[Change],
+    targets: &Targets,
 ) -> Result<Asked, RunError>
     requires state { IsState state.now }
-    requires names { names_fault state.now.actor changes.now ≡ None }
-    ensures ran { Ran H.world host.old host.new
-        (λ es. Goes (saved state.now changes.now None) es (in_play (after_asks state.now) result)) }
+    requires files { AreFiles state.now.actor targets.now.changes }
+    ensures ran { (changes : List Change) → targets.now.names ≡ map name_of changes
+        → targets.now.changes ≡ placed_changes state.now.here changes → Ran H.world host.old host.new
+        (λ es. Goes (saved state.now changes None) es (in_play (after_asks state.now) result)) }
     ensures fall { NeverFall (H.world.counts host.old) (H.world.counts host.new) }
     ensures end { IfOk result EndsByAsk }
     ensures cause { LineCaused (H.world.counts host.old) (H.world.counts host.new) result }
 {
     let folder = Some(&state.desk.folder.folder);
     let actor = state.actor.bytes();
-    let answer = change(alloc, host, actor, state.token, changes, folder);
-    followed(alloc, changes, answer)
+    let answer = change(
+        alloc,
+        host,
+        actor,
+        state.token,
+        targets.changes.items(),
+        folder,
+    );
+    followed(alloc, state, targets, answer)
+}
+
+/// Commits changes of files whose names were tested.
+pub fn commit<H: Host>(
+    alloc: Global,
+    state: &SessionState,
+    host: &mut H,
+    changes: Items<Change>,
+) -> Result<Asked, RunError>
+    requires state { IsState state.now }
+    requires names { names_fault state.now changes ≡ None }
+    ensures ran { Ran H.world host.old host.new
+        (λ es. Goes (saved state.now changes None) es (in_play (after_asks state.now) result)) }
+    ensures fall { NeverFall (H.world.counts host.old) (H.world.counts host.new) }
+    ensures end { IfOk result EndsByAsk }
+    ensures cause { LineCaused (H.world.counts host.old) (H.world.counts host.new) result }
+{
+    match place(alloc, state.here.bytes(), changes) {
+        Ok(targets) => commit_placed(alloc, state, host, &targets),
+        Err(Memory) => Err(RunError::Memory),
+    }
 }
 
 /// Commits changes, unless the name of a file is at fault.
@@ -177,17 +240,17 @@ pub fn save<H: Host>(
     alloc: Global,
     state: &SessionState,
     host: &mut H,
-    changes: &[Change],
+    changes: Items<Change>,
 ) -> Result<Asked, RunError>
     requires { IsState state.now }
     ensures ran { Ran H.world host.old host.new
-        (λ es. Goes (saved state.now changes.now (names_fault state.now.actor changes.now)) es
+        (λ es. Goes (saved state.now changes (names_fault state.now changes)) es
         (in_play (after_asks state.now) result)) }
     ensures fall { NeverFall (H.world.counts host.old) (H.world.counts host.new) }
     ensures end { IfOk result EndsByAsk }
     ensures cause { LineCaused (H.world.counts host.old) (H.world.counts host.new) result }
 {
-    match names_fault(alloc, state.actor.bytes(), changes) {
+    match names_fault(alloc, state, changes.items()) {
         Ok(Some(line)) => Ok(Asked::Refused { line }),
         Ok(None) => commit(alloc, state, host, changes),
         Err(Memory) => Err(RunError::Memory),

@@ -15,7 +15,11 @@ use std::alloc::Global;
 pub struct SessionState {
     /// What commands show and change.
     pub desk: Desk,
-    /// What the names of the run's record of commits and of its right begin with: `.mailx` in the home folder.
+    /// What stands in front of a name without a leading `/`, where it goes to the host: the working folder and a `/`, or
+    /// nothing where that isn't known.
+    pub here: Text,
+    /// What the names of the run's record of commits and of its right begin with: `.mailx` in the home folder, as the host
+    /// is told it.
     pub actor: Text,
     /// A word that no other run has.
     pub token: u64,

@@ -35,22 +35,22 @@ returns-in-Ok-clause-ran g c =
     let effects = c.args.steps.effects in
     rw c.in-Ok.ensures.ok
     (Ran-map (λ es went. goes-as (in_order asked s c.args.steps.asks) (concluded s (λ (t : SessionState). settled t effects)) (On t) (Go (settled t effects)) es refl went)
-    (rw (c.items.ensures, c.in-Ok-On.field-0-is) at c.in-Ok-On.ensures.ran))
+    (rw c.in-Ok-On.field-0-is at c.in-Ok-On.ensures.ran))
 
-pub returns-in-Ok-On-clause-ran : goal.returns-in-Ok-On-clause-ran
-returns-in-Ok-On-clause-ran g c =
+pub returns-in-Err-settle-clause-ran : goal.returns-in-Err-settle-clause-ran
+returns-in-Err-settle-clause-ran g c =
     let s = c.args.state.now in
     let t = c.do_asks.new.state in
     rw c.in-Err-settle.ensures.err
     (Ran-map (λ es went. goes-short (in_order asked s c.args.steps.asks) (concluded s (λ (t : SessionState). settled t c.args.steps.effects)) (On t) es went)
-    (rw (c.items.ensures, c.in-Ok-On.field-0-is) at c.in-Ok-On.ensures.ran))
+    (rw c.in-Ok-On.field-0-is at c.in-Ok-On.ensures.ran))
 
 pub returns-in-Ok-Over-clause-ran : goal.returns-in-Ok-Over-clause-ran
 returns-in-Ok-Over-clause-ran g c =
     let s = c.args.state.now in
     let t = c.do_asks.new.state in
     Ran-map (λ es went. goes-as (in_order asked s c.args.steps.asks) (concluded s (λ (t : SessionState). settled t c.args.steps.effects)) (Over t) (Go t) es refl went)
-    (rw (c.items.ensures, c.in-Ok-Over.field-0-is) at c.in-Ok-Over.ensures.ran)
+    (rw c.in-Ok-Over.field-0-is at c.in-Ok-Over.ensures.ran)
 
 pub returns-in-Ok-Refused-clause-ran : goal.returns-in-Ok-Refused-clause-ran
 returns-in-Ok-Refused-clause-ran g c =
@@ -63,16 +63,16 @@ returns-in-Ok-Refused-clause-ran g c =
     (λ es fs went says.
     goes-then (in_order asked s c.args.steps.asks) (concluded s (λ (t : SessionState). settled t c.args.steps.effects)) (Refused line) out es fs went
     (subst (λ (u : SessionState). Goes (refused u line) fs out) same says))
-    (rw (c.items.ensures, c.in-Ok-Refused.field-0-is) at c.in-Ok-Refused.ensures.ran) c.refuse.ensures.ran
+    (rw c.in-Ok-Refused.field-0-is at c.in-Ok-Refused.ensures.ran) c.refuse.ensures.ran
 
 pub returns-in-Ok-Ended-clause-ran : goal.returns-in-Ok-Ended-clause-ran
 returns-in-Ok-Ended-clause-ran g c =
     let s = c.args.state.now in
     Ran-map (λ es went. goes-as (in_order asked s c.args.steps.asks) (concluded s (λ (t : SessionState). settled t c.args.steps.effects)) (Ended c.in-Ok-Ended.status) (Last c.in-Ok-Ended.status) es refl went)
-    (rw (c.items.ensures, c.in-Ok-Ended.field-0-is) at c.in-Ok-Ended.ensures.ran)
+    (rw c.in-Ok-Ended.field-0-is at c.in-Ok-Ended.ensures.ran)
 
-pub returns-clause-ran : goal.returns-clause-ran
-returns-clause-ran g c =
+pub returns-in-Err-clause-ran : goal.returns-in-Err-clause-ran
+returns-in-Err-clause-ran g c =
     let s = c.args.state.now in
     Ran-map (goes-cut (in_order asked s c.args.steps.asks) (concluded s (λ (t : SessionState). settled t c.args.steps.effects)) _)
-    (rw c.items.ensures at c.in-Err.ensures.ran)
+    c.in-Err.ensures.ran

@@ -6,7 +6,7 @@ use Rattle.play_safety.specs.Fitting.{RewritesFit}
 use Rattle.play_safety.proofs.FitLemmas.{run-fits}
 use Rattle.mailx_top.specs.Words.{may_say, start_of}
 use Rattle.mailx_top.specs.Meaning.{Recovering, round, actor_in}
-use Rattle.mailx_top.proofs.CrashLemmas.{StateOf, round-commits, round-of, ending-looks}
+use Rattle.mailx_top.proofs.SafeLemmas.{StateOf, round-commits, round-of, ending-looks}
 use Rattle.mailx_top.proofs.laws.decided_fit.Goals as goal
 
 pub returns : goal.returns

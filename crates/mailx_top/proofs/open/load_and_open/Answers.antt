@@ -7,10 +7,10 @@ use Rattle.session_state.proofs.NameLemmas.{file-name}
 use Rattle.mailx_top.proofs.open.load_and_open.Goals as goal
 
 pub load-requires : goal.load-requires
-load-requires g c = file-name c.args.name.now c.requires
+load-requires g c = file-name c.args.file.now c.requires
 
 pub returns-in-Ok-clause-ran : goal.returns-in-Ok-clause-ran
-returns-in-Ok-clause-ran g c = Ran-then (goes-then (Ask (Read c.args.name.now) Ret) (loaded c.args.session.now (start_from c.args.start) c.args.name.now) _ _) c.in-Ok.ensures.ran c.open_found.ensures.ran
+returns-in-Ok-clause-ran g c = Ran-then (goes-then (Ask (Read c.args.file.now) Ret) (loaded c.args.session.now (start_from c.args.start) c.args.name.now) _ _) c.in-Ok.ensures.ran c.open_found.ensures.ran
 
 pub returns-in-Err-clause-ran : goal.returns-in-Err-clause-ran
-returns-in-Err-clause-ran g c = Ran-map (goes-cut (Ask (Read c.args.name.now) Ret) (loaded c.args.session.now (start_from c.args.start) c.args.name.now) _) c.in-Err.ensures.ran
+returns-in-Err-clause-ran g c = Ran-map (goes-cut (Ask (Read c.args.file.now) Ret) (loaded c.args.session.now (start_from c.args.start) c.args.name.now) _) c.in-Err.ensures.ran

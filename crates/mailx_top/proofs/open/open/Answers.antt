@@ -15,3 +15,7 @@ returns-in-Err-Fault-clause-ran g c =
 
 pub returns-in-Err-Memory-clause-ran : goal.returns-in-Err-Memory-clause-ran
 returns-in-Err-Memory-clause-ran g c = Ran-none (at-memory (starting c.args.session.now (start_from c.args.start)))
+
+pub returns-in-Ok-clause-bad_name : goal.returns-in-Ok-clause-bad_name
+returns-in-Ok-clause-bad_name g c = λ bad.
+    (rw c.bytes.ensures at c.open_name.ensures.bad_name) (rw (rw c.desk.ensures.desk at c.in-Ok.ensures) at bad)

@@ -21,7 +21,7 @@ returns-in-Done-clause-ran g c = λ env. rw c.in-Done.is (Ran-none (refl, inl re
 pub returns-in-Busy-clause-ran : goal.returns-in-Busy-clause-ran
 returns-in-Busy-clause-ran g c = λ env.
     let start = start_from c.args.start in
-    let s : SessionState = first_of (record { pairs = []; terminal = false; token = 0 }) None in
+    let s : SessionState = first_of (record { pairs = []; folder = []; terminal = false; token = 0 }) None in
     let line = with_feed (c.in-Busy.name ++ codes ": busy") in
     rw c.in-Busy.is
     (Ran-map (λ es goes. subst (λ (out : Result (Next RunState Status) Stop). Goes (ends_with start line status.Refused) es out) (said-next s no_input env start c.end_at_file.result c.end_at_file.ensures.ends) goes)

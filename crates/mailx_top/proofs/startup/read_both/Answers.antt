@@ -10,7 +10,7 @@ use Rattle.mailx_top.proofs.WaitingLemmas.{leads-then}
 use Rattle.mailx_top.proofs.startup.read_both.Goals as goal
 
 any-env : Environment
-any-env = record { pairs = []; terminal = false; token = 0 }
+any-env = record { pairs = []; folder = []; terminal = false; token = 0 }
 
 any-start : Start
 any-start = record { word = []; named = false; user = None; no_system_file = false; by_recipient = false; manner = Silent; sends = None }

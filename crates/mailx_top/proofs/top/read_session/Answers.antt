@@ -6,7 +6,7 @@ use Rattle.mailx_top.proofs.EndLemmas.{caused-since}
 use Rattle.mailx_top.proofs.top.read_session.Goals as goal
 
 any-env : Environment
-any-env = record { pairs = []; terminal = false; token = 0 }
+any-env = record { pairs = []; folder = []; terminal = false; token = 0 }
 
 pub returns-in-Ok-None-clause-ran : goal.returns-in-Ok-None-clause-ran
 returns-in-Ok-None-clause-ran g c = λ env.

@@ -12,7 +12,7 @@ use Rattle.mailx_top.specs.Usage.{IsBadName}
 use Rattle.mailx_top.specs.Wants.{may_start}
 use Rattle.mailx_top.specs.Words.{Start, asked, start_by, start_of}
 use Rattle.mailx_top.proofs.EndLemmas.{cut-said, cut-unless-idle, only-usage, bad-ended, bad-cut}
-use Rattle.mailx_top.proofs.CrashLemmas.{safely}
+use Rattle.mailx_top.proofs.SafeLemmas.{safely}
 use Rattle.mailx_top.proofs.RunLemmas.{run-of}
 use Rattle.mailx_top.proofs.top.run.Goals as goal
 

@@ -2,18 +2,17 @@ use Rattle.std.specs.Prelude.{◌≡◌, false}
 use Rattle.std.specs.List.{list_any}
 use Rattle.host_port.specs.Calls.{NeverFall}
 use Rattle.host_port.specs.Ran.{Ran}
-use Rattle.session_play.proofs.LeadLemmas.{LeftAt}
 use Rattle.session_state.specs.Bringing.{brings, OnlyBrings}
 use Rattle.session_state.specs.States.{IsState, OnlyFrames}
-use Rattle.session_asks.specs.Asks.{asked}
+use Rattle.session_asks.proofs.AskLemmas.{LeftOf}
 use Rattle.session_asks.proofs.asks.ask_all.Given as goal
 
 abbrev pub invariant-loop-ask : goal.invariant-loop-ask
 invariant-loop-ask g l = record {
   state : IsState l.state;
   fall : NeverFall (g.H.Host.world.counts l.fn.host) (g.H.Host.world.counts l.host);
-  ran : Ran g.H.Host.world l.fn.host l.host (LeftAt asked l.fn.state l.asks l.ask-index l.state);
+  ran : Ran g.H.Host.world l.fn.host l.host (LeftOf l.fn.state l.fn.asks l.state l.ask-iterator.rest.items);
   brought : OnlyBrings l.fn.state l.state;
   desk : OnlyFrames l.fn.state l.state;
-  quiet : list_any brings l.asks ≡ false → l.state ≡ l.fn.state;
+  quiet : list_any brings l.fn.asks ≡ false → (list_any brings l.ask-iterator.rest.items ≡ false) × (l.state ≡ l.fn.state);
 }

@@ -5,13 +5,13 @@ use Rattle.session_asks.proofs.SourcingLemmas.{kept-valid, keeps-desk, called-go
 use Rattle.session_asks.proofs.asks.do_ask.Goals as goal
 
 pub returns-in-Say-clause-ran : goal.returns-in-Say-clause-ran
-returns-in-Say-clause-ran g c = rw (asked-say c.args.state.now c.args.ask.now _ c.in-Say.is) (c.say_line.ensures.ran c.args.state.now)
+returns-in-Say-clause-ran g c = rw (asked-say c.args.state.now c.args.ask _ c.in-Say.is) (c.say_line.ensures.ran c.args.state.now)
 
 pub returns-in-Commit-clause-ran : goal.returns-in-Commit-clause-ran
-returns-in-Commit-clause-ran g c = rw (asked-commit c.args.state.now c.args.ask.now _ c.in-Commit.is) (rw c.items.ensures at c.save.ensures.ran)
+returns-in-Commit-clause-ran g c = rw (asked-commit c.args.state.now c.args.ask _ c.in-Commit.is) c.save.ensures.ran
 
 pub returns-in-Source-clause-ran : goal.returns-in-Source-clause-ran
-returns-in-Source-clause-ran g c = rw (asked-source c.args.state.now c.args.ask.now _ c.in-Source.is) (rw c.bytes.ensures at c.source.ensures.ran)
+returns-in-Source-clause-ran g c = rw (asked-source c.args.state.now c.args.ask _ c.in-Source.is) (rw c.bytes-in-Source.ensures at c.source.ensures.ran)
 
 pub returns-in-Source-clause-valid : goal.returns-in-Source-clause-valid
 returns-in-Source-clause-valid g c = kept-valid c.args.state.now c.source.new.state c.requires c.source.ensures.brings c.source.ensures.desk
@@ -21,7 +21,7 @@ returns-in-Source-clause-desk g c = keeps-desk c.args.state.now c.source.new.sta
 
 pub returns-in-Lines-clause-ran : goal.returns-in-Lines-clause-ran
 returns-in-Lines-clause-ran g c =
-    rw (asked-lines c.args.state.now c.args.ask.now _ c.in-Lines.is)
+    rw (asked-lines c.args.state.now c.args.ask _ c.in-Lines.is)
     (Ran-none (called-goes c.args.state.now c.call.new.state _ c.call.result c.call.ensures.means c.call.ensures.memory))
 
 pub returns-in-Lines-clause-valid : goal.returns-in-Lines-clause-valid
@@ -34,13 +34,13 @@ pub returns-in-Lines-clause-cause : goal.returns-in-Lines-clause-cause
 returns-in-Lines-clause-cause g c = called-caused (g.H.Host.world.counts c.args.host.now) (g.H.Host.world.counts c.args.host.now) c.call.result c.call.ensures.memory
 
 pub returns-in-Open-clause-ran : goal.returns-in-Open-clause-ran
-returns-in-Open-clause-ran g c = rw (asked-open c.args.state.now c.args.ask.now _ _ _ c.in-Open.is) (rw (c.bytes-in-Open.ensures, c.items-in-Open.ensures) at c.switch.ensures.ran)
+returns-in-Open-clause-ran g c = rw (asked-open c.args.state.now c.args.ask _ _ _ c.in-Open.is) (rw c.bytes-in-Open.ensures at c.switch.ensures.ran)
 
 pub returns-in-Draft-clause-ran : goal.returns-in-Draft-clause-ran
-returns-in-Draft-clause-ran g c = rw (asked-draft c.args.state.now c.args.ask.now _ _ _ c.in-Draft.is) c.begin_recorded.ensures.ran
+returns-in-Draft-clause-ran g c = rw (asked-draft c.args.state.now c.args.ask _ _ _ c.in-Draft.is) c.begin_recorded.ensures.ran
 
 pub returns-in-Child-clause-ran : goal.returns-in-Child-clause-ran
-returns-in-Child-clause-ran g c = rw (asked-child c.args.state.now c.args.ask.now c.in-Child.command c.in-Child.input c.in-Child.is) (Ran-map (run-asked-as c.args.state.now _ _ _ _ _ c.bytes-in-Child.ensures c.bytes-in-Child-2.ensures) c.run_asked.ensures.ran)
+returns-in-Child-clause-ran g c = rw (asked-child c.args.state.now c.args.ask c.in-Child.command c.in-Child.input c.in-Child.is) (Ran-map (run-asked-as c.args.state.now _ _ _ _ _ c.bytes-in-Child.ensures c.bytes-in-Child-2.ensures) c.run_asked.ensures.ran)
 
 pub returns-in-Exit-clause-ran : goal.returns-in-Exit-clause-ran
-returns-in-Exit-clause-ran g c = rw (asked-exit c.args.state.now c.args.ask.now c.in-Exit.is) (rw c.status_of.ensures.status (Ran-none (refl, inl refl)))
+returns-in-Exit-clause-ran g c = rw (asked-exit c.args.state.now c.args.ask c.in-Exit.is) (rw c.status_of.ensures.status (Ran-none (refl, inl refl)))

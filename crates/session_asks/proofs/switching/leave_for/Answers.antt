@@ -15,13 +15,13 @@ returns-then-all_done-clause-ran g c =
     let s = c.args.state.now in
     let desk = laid_as s.desk c.args.opening c.args.previous in
     let on = done-on c.commit-asked.result (cc (c.all_done.ensures, c.if-all_done.true)) in
-    Ran-then (goes-then (saved s c.args.changes.now None) (announced c.args.reply.now desk) (On s) _) (rw on at c.commit-asked.ensures.ran) c.announce.ensures.ran
+    Ran-then (goes-then (saved s c.args.changes None) (announced c.args.reply.now desk) (On s) _) (rw on at c.commit-asked.ensures.ran) c.announce.ensures.ran
 
 pub returns-else-all_done-clause-ran : goal.returns-else-all_done-clause-ran
 returns-else-all_done-clause-ran g c =
     let s = c.args.state.now in
     let desk = laid_as s.desk c.args.opening c.args.previous in
-    Ran-map (announced-off s c.args.changes.now c.args.reply.now desk c.commit-asked.result (cc (c.all_done.ensures, c.if-all_done.false))) c.commit-asked.ensures.ran
+    Ran-map (announced-off s c.args.changes c.args.reply.now desk c.commit-asked.result (cc (c.all_done.ensures, c.if-all_done.false))) c.commit-asked.ensures.ran
 
 pub returns-else-all_done-clause-desk : goal.returns-else-all_done-clause-desk
 returns-else-all_done-clause-desk g c = same-desk c.args.state.now c.args.state.now c.commit-asked.result refl

@@ -1,30 +1,19 @@
-use Rattle.host_port.proofs.RanLemmas.{Ran-then, Ran-map}
-use Rattle.std.proofs.Common.{Option}
-use Rattle.session_play.specs.declared.act.Found.{Found}
-use Rattle.session_play.specs.Play.{Ask, Ret, Try}
-use Rattle.session_play.proofs.PlayLemmas.{goes-then, goes-cut}
-use Rattle.session_asks.specs.Switching.{switched_to, loaded_folder}
-use Rattle.session_state.proofs.NameLemmas.{file-name}
+use Rattle.host_port.proofs.RanLemmas.{Ran-none}
+use Rattle.std.specs.declared.option.Option.TheVariants.{None}
+use Rattle.session_play.proofs.PlayLemmas.{at-memory}
+use Rattle.session_asks.specs.Switching.{switches}
 use Rattle.session_asks.proofs.SwitchingLemmas.{open-fault-none}
 use Rattle.session_asks.proofs.switching.load_and_switch.Goals as goal
 
-pub try_load-requires : goal.try_load-requires
-try_load-requires g c = file-name c.args.name.now (open-fault-none c.args.state.now.actor c.args.name.now c.args.changes.now c.requires.names).0
+pub load_file-requires-clause-file : goal.load_file-requires-clause-file
+load_file-requires-clause-file g c =
+    rw (c.bytes-in-Ok.ensures, c.in-Ok.ensures, c.bytes.ensures) (open-fault-none c.args.state.now c.args.name.now c.args.changes c.requires.names).0
 
-pub switch_found-requires-clause-names : goal.switch_found-requires-clause-names
-switch_found-requires-clause-names g c = (open-fault-none c.args.state.now.actor c.args.name.now c.args.changes.now c.requires.names).1
+pub load_file-requires-clause-names : goal.load_file-requires-clause-names
+load_file-requires-clause-names g c = (open-fault-none c.args.state.now c.args.name.now c.args.changes c.requires.names).1
 
 pub returns-in-Ok-clause-ran : goal.returns-in-Ok-clause-ran
-returns-in-Ok-clause-ran g c =
-    let s = c.args.state.now in
-    Ran-then
-    (goes-then (Ask (Try c.args.name.now) Ret) (λ (f : Option Found). switched_to s c.args.name.now c.args.changes.now c.args.reply.now (loaded_folder s.desk c.args.changes.now c.args.name.now f)) _ _)
-    c.in-Ok.ensures.ran c.switch_found.ensures.ran
+returns-in-Ok-clause-ran g c = rw (c.bytes-in-Ok.ensures, c.in-Ok.ensures, c.bytes.ensures) at c.load_file.ensures.ran
 
 pub returns-in-Err-clause-ran : goal.returns-in-Err-clause-ran
-returns-in-Err-clause-ran g c =
-    let s = c.args.state.now in
-    rw c.in-Err.ensures.only_memory at
-    (Ran-map
-    (goes-cut (Ask (Try c.args.name.now) Ret) (λ (f : Option Found). switched_to s c.args.name.now c.args.changes.now c.args.reply.now (loaded_folder s.desk c.args.changes.now c.args.name.now f)) _)
-    c.in-Err.ensures.ran)
+returns-in-Err-clause-ran g c = Ran-none (at-memory (switches c.args.state.now c.args.name.now c.args.changes c.args.reply.now None))

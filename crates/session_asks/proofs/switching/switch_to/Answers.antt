@@ -16,7 +16,7 @@ leave_for-requires-clause-desk g c = c.in-Ok.ensures.0.valid
 
 pub returns-in-Ok-clause-ran : goal.returns-in-Ok-clause-ran
 returns-in-Ok-clause-ran g c =
-    Ran-map (know-switched c.args.state.now c.args.name.now c.args.folder c.args.changes.now c.args.reply.now _ _ _ c.in-Ok.ensures.0 c.in-Ok.ensures.1) c.leave_for.ensures.ran
+    Ran-map (know-switched c.args.state.now c.args.name.now c.args.folder c.args.changes c.args.reply.now _ _ _ c.in-Ok.ensures.0 c.in-Ok.ensures.1) c.leave_for.ensures.ran
 
 pub returns-in-Err-clause-ran : goal.returns-in-Err-clause-ran
-returns-in-Err-clause-ran g c = Ran-none (at-memory (switched_to c.args.state.now c.args.name.now c.args.changes.now c.args.reply.now (Ok c.args.folder)))
+returns-in-Err-clause-ran g c = Ran-none (at-memory (switched_to c.args.state.now c.args.name.now c.args.changes c.args.reply.now (Ok c.args.folder)))

@@ -1,14 +1,17 @@
-use Rattle.host_port.proofs.RanLemmas.{Ran-map}
+use Rattle.std.proofs.Common.{None, List, ℕ, ap, ◌∙◌}
+use Rattle.host_port.proofs.RanLemmas.{Ran-none}
+use Rattle.session_play.proofs.PlayLemmas.{at-memory}
+use Rattle.session_state.specs.Placing.{placed_changes}
+use Rattle.session_state.specs.Saving.{saved}
 use Rattle.session_state.proofs.NameLemmas.{named-files}
-use Rattle.session_state.proofs.SavingLemmas.{commit-follows, commit-caused}
 use Rattle.session_state.proofs.saving.commit.Goals as goal
 
-pub change-answer-requires-clause-files : goal.change-answer-requires-clause-files
-change-answer-requires-clause-files g c = rw c.bytes-actor.ensures (named-files c.args.state.now.actor c.args.changes.now c.requires.names)
+pub commit_placed-requires-clause-files : goal.commit_placed-requires-clause-files
+commit_placed-requires-clause-files g c = rw (c.in-Ok.ensures.changes, c.bytes.ensures) (named-files c.args.state.now c.args.changes c.requires.names)
 
-pub returns-clause-ran : goal.returns-clause-ran
-returns-clause-ran g c =
-    Ran-map (commit-follows c.args.state.now c.args.changes.now c.change-answer.result c.followed.result (c.followed.ensures.follows c.args.state.now)) (rw c.bytes-actor.ensures at c.change-answer.ensures.ran)
+pub returns-in-Ok-clause-ran : goal.returns-in-Ok-clause-ran
+returns-in-Ok-clause-ran g c =
+    c.commit_placed.ensures.ran c.args.changes c.in-Ok.ensures.names (c.in-Ok.ensures.changes ∙ ap (λ (h : List ℕ). placed_changes h c.args.changes) c.bytes.ensures)
 
-pub returns-clause-cause : goal.returns-clause-cause
-returns-clause-cause g c = commit-caused c.args.state.now _ (g.H.Host.world.counts c.args.host.now) (g.H.Host.world.counts c.change-answer.new.host) c.change-answer.result c.followed.result (c.followed.ensures.follows c.args.state.now) c.change-answer.ensures.cause
+pub returns-in-Err-clause-ran : goal.returns-in-Err-clause-ran
+returns-in-Err-clause-ran g c = Ran-none (at-memory (saved c.args.state.now c.args.changes None))

@@ -1,4 +1,6 @@
+use Rattle.std.proofs.Common.{◌<◌, ◌^◌, arith}
 use Rattle.session_state.proofs.RestLemmas.{rested-same}
+use Rattle.mailx_session.proofs.SafeLemmas.{end-safe}
 use Rattle.mailx_session.proofs.session.Session.end.Goals as goal
 
 pub returns-clause-ran : goal.returns-clause-ran
@@ -6,3 +8,8 @@ returns-clause-ran g c = rw c.self.view_is at c.leave.ensures.ran
 
 pub returns-clause-idle : goal.returns-clause-idle
 returns-clause-idle g c = rw c.self.view_is at (rested-same c.self.inside.state c.self.invariant)
+
+pub returns-clause-safe : goal.returns-clause-safe
+returns-clause-safe g c =
+    let fits : c.self.inside.state.token < 2 ^ 64 = omega arith in
+    rw c.self.view_is at (end-safe g.H.Host.world c.args.host.now c.leave.new.host c.self.inside.state fits c.leave.result c.leave.ensures.ran)

@@ -38,6 +38,7 @@ use Rattle.command_desk.specs.FileNames.{expanded}
 use Rattle.command_desk.specs.Faults.{bad_name}
 use Rattle.read_commands.specs.declared.origin.Origin.TheVariants as origin
 use Rattle.read_commands.specs.Origins.{commanded}
+use Rattle.session_state.specs.Placing.{placed}
 use Rattle.session_state.specs.declared.state.SessionState.{SessionState}
 use Rattle.session_state.specs.declared.status.Status.{Status}
 use Rattle.session_state.specs.declared.outcome.Outcome.{Outcome}
@@ -114,12 +115,12 @@ module _ (P : Line-play → Type 0) (Q R : SessionState → Type 0) (is : IsPass
   fetch-passes s name (Some (found.Bytes None held)) q = tells-on _ s q
   fetch-passes s name (Some (found.Bytes (Some text) held)) q = answered-passes s (answer.Loaded text) q
 
-  named-passes : (b : Bool) (s : SessionState) (name : List ℕ) → Q s → P (if b then Ask (Try name) (after_fetch s name) else refused s (bad_name name))
-  named-passes true s name q = is.loads name (after_fetch s name) (λ f. fetch-passes s name f q)
+  named-passes : (b : Bool) (s : SessionState) (name : List ℕ) → Q s → P (if b then Ask (Try (placed s.here name)) (after_fetch s name) else refused s (bad_name name))
+  named-passes true s name q = is.loads (placed s.here name) (after_fetch s name) (λ f. fetch-passes s name f q)
   named-passes false s name q = tells-on (bad_name name) s q
 
   fetched-passes : (s : SessionState) (name : OrFault (List ℕ)) → Q s → P (fetched s name)
-  fetched-passes s (Ok name) q = named-passes (is_short_name name) s name q
+  fetched-passes s (Ok name) q = named-passes (is_short_name (placed s.here name)) s name q
   fetched-passes s (Err line) q = tells-on line s q
 
   child-passes : (s : SessionState) (a : Option ChildAnswer) → Q s → P (after_child s a)

@@ -1,0 +1,177 @@
+// What stands at a path: whether anything can, what it is, whose it is, and whether it changed.
+use crate::paths::{folder_of, last_part, own_paths};
+use crate::reasons::FileError;
+use std::alloc::Global;
+use std::fs::{Files, Metadata};
+use std::io::{Error, ErrorKind};
+use std::os::unix::fs::MetadataExt;
+
+/// The mode bits of a folder in which each may make files and none may remove those of another.
+const SHARED_FOLDER: u32 = 0o1002;
+
+/// A file as it was at a moment: which one it is, its length, and when its contents and what is known of it changed.
+#[derive(Clone, Copy, PartialEq)]
+pub struct Stamp {
+    device: u64,
+    inode: u64,
+    length: u64,
+    modified: i64,
+    modified_nanos: i64,
+    changed: i64,
+    changed_nanos: i64,
+}
+
+impl Stamp {
+    pub fn of(found: &Metadata) -> Stamp {
+        Stamp {
+            device: found.dev(),
+            inode: found.ino(),
+            length: found.len(),
+            modified: found.mtime(),
+            modified_nanos: found.mtime_nsec(),
+            changed: found.ctime(),
+            changed_nanos: found.ctime_nsec(),
+        }
+    }
+
+    /// Whether the file changed later than the other one.
+    pub fn is_later(&self, other: &Stamp) -> bool {
+        self.changed > other.changed
+            || (self.changed == other.changed && self.changed_nanos > other.changed_nanos)
+    }
+
+    /// Whether it is the same file, changed or not.
+    pub fn is_file_of(&self, other: &Stamp) -> bool {
+        self.device == other.device && self.inode == other.inode
+    }
+}
+
+/// The user whose files the run may change.
+pub fn user() -> u32 {
+    libc::geteuid()
+}
+
+/// Whether an error says that nothing stands at the path, since nothing is there or none can be.
+pub fn is_absence(error: &Error) -> bool {
+    let kind = error.kind();
+    kind == ErrorKind::NotFound
+        || kind == ErrorKind::NotADirectory
+        || kind == ErrorKind::InvalidFilename
+        || kind == ErrorKind::FilesystemLoop
+}
+
+/// Whether an error says that nothing can be made in a folder: it isn't there, or may not be written.
+pub fn is_closed_folder(error: &Error) -> bool {
+    let kind = error.kind();
+    is_absence(error)
+        || kind == ErrorKind::PermissionDenied
+        || kind == ErrorKind::ReadOnlyFilesystem
+}
+
+/// What stands at a path, a link itself and not what it stands for.
+pub fn look<R: Files>(rt: &R, path: &str) -> Result<Option<Metadata>, Error> {
+    match rt.symlink_metadata(path) {
+        Ok(found) => Ok(Some(found)),
+        Err(error) if is_absence(&error) => Ok(None),
+        Err(error) => Err(error),
+    }
+}
+
+/// The same, as it is at this moment.
+pub fn stamp_at<R: Files>(rt: &R, path: &str) -> Result<Option<Stamp>, Error> {
+    Ok(look(rt, path)?.map(|found| Stamp::of(&found)))
+}
+
+/// Whether a look at the path shows that nothing stands there.
+pub fn is_empty_place<R: Files>(rt: &R, path: &str) -> bool {
+    match look(rt, path) {
+        Ok(found) => found.is_none(),
+        Err(_) => false,
+    }
+}
+
+// The nearest folder around a path that can be looked at is another user's.
+fn stands_behind_another<R: Files>(rt: &R, path: &str) -> bool {
+    let mut folder = folder_of(path);
+    for _ in 0..path.len() {
+        match rt.metadata(folder) {
+            Ok(found) => return found.uid() != user(),
+            Err(error) if error.kind() == ErrorKind::PermissionDenied => folder = folder_of(folder),
+            Err(_) => return false,
+        }
+    }
+    false
+}
+
+/// Whether a path is out of reach behind a folder of another user, so that no file there is ours.
+pub fn is_out_of_reach<R: Files>(rt: &R, path: &str) -> bool {
+    match rt.symlink_metadata(path) {
+        Err(error) if error.kind() == ErrorKind::PermissionDenied => stands_behind_another(
+            rt, path,
+        ),
+        _ => false,
+    }
+}
+
+/// Whether a link is another user's, in a folder where each may put one.
+pub fn is_anothers_link<R: Files>(rt: &R, path: &str, link: &Metadata) -> bool {
+    match rt.metadata(folder_of(path)) {
+        Ok(folder) => folder.mode() & SHARED_FOLDER == SHARED_FOLDER && link.uid() != user(),
+        Err(_) => false,
+    }
+}
+
+/// Whether a link is one of the system's own, in the folder of its processes.
+pub fn is_systems_link<R: Files>(rt: &R, link: &Metadata) -> bool {
+    match rt.symlink_metadata("/proc/self") {
+        Ok(found) => found.dev() == link.dev(),
+        Err(_) => false,
+    }
+}
+
+/// Whether what stands at a path may be replaced or removed: nothing, or a regular file of this user. The system's
+/// administrator may replace the file of any user.
+pub fn may_be_replaced<R: Files>(rt: &R, path: &str) -> Result<(), FileError> {
+    match look(rt, path)? {
+        None => Ok(()),
+        Some(found) => {
+            if !found.is_file() {
+                Err(FileError::NotRegular)
+            } else if user() != 0 && found.uid() != user() {
+                Err(FileError::NotOwn)
+            } else {
+                Ok(())
+            }
+        }
+    }
+}
+
+// Whether two paths lead to one file that is there.
+fn is_one_file<R: Files>(rt: &R, one: &str, other: &str) -> bool {
+    match (rt.metadata(one), rt.metadata(other)) {
+        (Ok(one), Ok(other)) => Stamp::of(&one).is_file_of(&Stamp::of(&other)),
+        _ => false,
+    }
+}
+
+/// Refuses a path that stands for one of the own three files of an actor, however it is spelled.
+pub fn refuse_own<R: Files>(
+    rt: &R,
+    alloc: Global,
+    actor: Option<&String>,
+    path: &str,
+) -> Result<(), FileError> {
+    let Some(actor) = actor else {
+        return Ok(());
+    };
+    let own_paths = own_paths(alloc, actor.as_str())?;
+    for own in own_paths.iter() {
+        let own = own.as_str();
+        let is_same_name = last_part(path) == last_part(own)
+            && is_one_file(rt, folder_of(path), folder_of(own));
+        if is_same_name || is_one_file(rt, path, own) {
+            return Err(FileError::OwnFile);
+        }
+    }
+    Ok(())
+}

@@ -1,0 +1,114 @@
+// Why a call failed, in words for the standard error.
+use mail_text::Memory;
+use std::alloc::{AllocError, AllocFailed, Global};
+use std::io::{Eprint, Error, ErrorKind};
+
+/// Why a file was not read or changed.
+#[derive(Drop, Debug)]
+pub enum FileError {
+    /// What the system answered.
+    System(Error),
+    /// The input of a program could not be written.
+    Input(Error),
+    /// What stands there is a folder, a device, a pipe, a socket, or a link where no link may be.
+    NotRegular,
+    /// It is a link that another user has put where each may put one, and isn't followed.
+    AnothersLink,
+    /// The file is another user's.
+    NotOwn,
+    /// The lock, by which a file may be replaced or removed, isn't there any more.
+    LockGone,
+    /// The file was changed by another who didn't heed the lock.
+    Changed,
+    /// The name stands for one of the run's own three files.
+    OwnFile,
+    /// The name isn't UTF-8, so it can't be given to the system.
+    NotText,
+    /// The file has more bytes than a load takes.
+    TooLarge { length: u64 },
+    Memory,
+}
+
+impl From<Error> for FileError {
+    fn from(error: Error) -> Self {
+        if error.kind() == ErrorKind::OutOfMemory {
+            FileError::Memory
+        } else {
+            FileError::System(error)
+        }
+    }
+}
+
+impl From<AllocError> for FileError {
+    fn from(_: AllocError) -> Self {
+        FileError::Memory
+    }
+}
+
+impl<T: Drop> From<AllocFailed<T>> for FileError {
+    fn from(_: AllocFailed<T>) -> Self {
+        FileError::Memory
+    }
+}
+
+impl From<Memory> for FileError {
+    fn from(_: Memory) -> Self {
+        FileError::Memory
+    }
+}
+
+// The system's words for an error, without its number.
+fn words_of(alloc: Global, error: &Error) -> Result<String, AllocError> {
+    let words = format!(in alloc; "{error}")?;
+    match words.as_str().split_once(" (os error ") {
+        Some((front, _)) => String::from_str(alloc, front),
+        None => Ok(words),
+    }
+}
+
+fn reason_of(alloc: Global, error: &FileError) -> Result<String, AllocError> {
+    let words = match error {
+        FileError::System(error) => return words_of(alloc, error),
+        FileError::Input(error) => {
+            let words = words_of(alloc, error)?;
+            return format!(in alloc; "its input can't be written: {words}");
+        }
+        FileError::NotRegular | FileError::AnothersLink => "not a regular file",
+        FileError::NotOwn => "belongs to another user",
+        FileError::LockGone => "the lock is gone",
+        FileError::Changed => "changed while it was locked",
+        FileError::OwnFile => "one of mailx's own files",
+        FileError::NotText => "not UTF-8",
+        FileError::TooLarge { .. } => "too large",
+        FileError::Memory => "out of memory",
+    };
+    String::from_str(alloc, words)
+}
+
+// A name as it may be shown on a terminal: a question mark for each byte or character that controls it, or isn't
+// UTF-8.
+fn shown(alloc: Global, name: &[u8]) -> Result<String, AllocError> {
+    let mut text = String::new(alloc);
+    match str::from_utf8(name) {
+        Ok(name) => {
+            for c in name.chars() {
+                text.push(if c.is_control() { '?' } else { c })?;
+            }
+        }
+        Err(_) => {
+            for byte in name {
+                let is_shown = byte.is_ascii_graphic() || *byte == b' ';
+                text.push(if is_shown { char::from(*byte) } else { '?' })?;
+            }
+        }
+    }
+    Ok(text)
+}
+
+/// Says why a call failed: the name of what it was about, and the reason. Where memory is short, or the standard error
+/// takes nothing, nothing is said.
+pub fn tell<R: Eprint>(rt: &R, alloc: Global, name: &[u8], error: &FileError) {
+    if let (Ok(name), Ok(reason)) = (shown(alloc, name), reason_of(alloc, error)) {
+        let _ = rt.eprintln(format_args!("mailx: {name}: {reason}"));
+    }
+}

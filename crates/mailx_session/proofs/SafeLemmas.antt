@@ -1,0 +1,362 @@
+-- The calls of a session are crash safe.
+use Rattle.std.proofs.Common.{◌≡◌, ◌<◌, ◌^◌, ℕ, Bool, true, false, List, [], ◌++◌, refl, sym, ◌∙◌, ap, subst, inl, append_assoc}
+use Rattle.std.proofs.lemmas.Bool.{cond-true, cond-false}
+use Rattle.std.proofs.lemmas.List.{append-nil}
+use Rattle.std.specs.Prelude.{if◌then◌else◌}
+use Rattle.std.specs.declared.option.Option.{Option}
+use Rattle.std.specs.declared.option.Option.TheVariants.{Some, None}
+use Rattle.std.specs.declared.result.Result.{Result}
+use Rattle.std.specs.declared.result.Result.TheVariants.{Ok, Err}
+use Rattle.host_port.specs.declared.event.Event.{Event}
+use Rattle.host_port.specs.Calls.{World}
+use Rattle.host_port.specs.Disk.{Disk, disk}
+use Rattle.host_port.specs.Own.{own}
+use Rattle.host_port.specs.Ran.{Honest, Ran}
+use Rattle.host_port.proofs.RanLemmas.{Ran-since}
+use Rattle.folder_commit.specs.Safe.{MayCommit}
+use Rattle.session_play.specs.declared.stop.Stop.{Stop}
+use Rattle.session_play.specs.Acts.{AllEnds}
+use Rattle.session_play.specs.Play.{Play, Ret, Goes, Next, Go, Last, Loop, again, last, cut, bind}
+use Rattle.session_play.proofs.PlayLemmas.{at-memory, goes-cut, goes-as}
+use Rattle.session_play.proofs.ShapeLemmas.{bind-ends, goes-ends}
+use Rattle.play_safety.specs.Safe.{IsBy, EachCommit, NextKeeps, MayRun, IsCalm, IsCrashSafe}
+use Rattle.play_safety.proofs.LawLemmas.{read-loop, run-safe}
+use Rattle.play_safety.proofs.DecidedLemmas.{run-decided}
+use Rattle.read_commands.specs.Origins.{is_defining}
+use Rattle.compose_tilde.specs.declared.machine.Machine.{Machine}
+use Rattle.session_state.specs.declared.error.RunError.{RunError}
+use Rattle.session_state.specs.declared.frames.WaitingLine.{WaitingLine}
+use Rattle.session_state.specs.declared.state.SessionState.{SessionState}
+use Rattle.session_state.specs.declared.status.Status.{Status}
+use Rattle.session_state.specs.Answers.{in_play}
+use Rattle.session_state.specs.Pending.{taken}
+use Rattle.session_state.specs.Waits.{Pending}
+use Rattle.session_state.specs.States.{is_drafting, next_waiting, with_draft, resumed, at_rest, rested}
+use Rattle.draft_text.specs.declared.draft.Draft.{Draft}
+use Rattle.draft_text.specs.Texts.{flattened}
+use Rattle.compose_tilde.specs.Answering.{new_machine}
+use Rattle.compose_tilde.specs.Lines.{asks_subject}
+use Rattle.session_asks.specs.Beginning.{view_in, with_new_draft, subject_asked, composing}
+use Rattle.draft_sending.specs.Sending.{ended_draft}
+use Rattle.mailx_session.specs.Leaving.{leaving}
+use Rattle.mailx_session.specs.Rounds.{typed_play, waiting_play, WaitingGo, none, more, ended, short, LineGoes, typed, cut_short, DraftEnds, told, told_last, untold, FinishGo, finished, onward, left, lost}
+use Rattle.mailx_session.specs.Rounds as rounds
+use Rattle.mailx_session.specs.Startup.{startup_play, StartupGoes, begun, unread}
+use Rattle.mailx_session.specs.Safe.{Turn, Composing, Typed, Starting, Waiting, Finishing, Leaving, TurnPlay, on_to, waiting_turn, finishing_turn, turn_play, IsStepSafe, IsSafeCall}
+use Rattle.mailx_session.proofs.CommitLemmas.{IsOf, NextOf, bind-commits, any-ends, typed-commits, typed-of, waiting-commits, waiting-of, ended-commits, ended-of, rested-of, leaving-commits, startup-play-commits, startup-play-of}
+
+abbrev pub Ends : Type 0
+Ends = Result (Next SessionState Status) Stop
+
+-- ---- the meaning of a call, turn by turn
+
+-- a play with what it leads to
+turned : (p : Play (Next SessionState Status)) (turn : SessionState → Turn) (x : TurnPlay) → x ≡ bind p (on_to turn) → (t : SessionState) (es : List Event) → Goes p es (Ok (Go t)) → Goes x es (Ok (Go (turn t)))
+turned p turn x is t es goes = subst (λ (q : TurnPlay). Goes q es (Ok (Go (turn t)))) (sym is) (goes-as p (on_to turn) (Go t) (Go (turn t)) es refl goes)
+
+turned-last : (p : Play (Next SessionState Status)) (turn : SessionState → Turn) (x : TurnPlay) → x ≡ bind p (on_to turn) → (e : Status) (es : List Event) → Goes p es (Ok (Last e)) → Goes x es (Ok (Last (Last e)))
+turned-last p turn x is e es goes = subst (λ (q : TurnPlay). Goes q es (Ok (Last (Last e)))) (sym is) (goes-as p (on_to turn) (Last e) (Last (Last e)) es refl goes)
+
+turned-cut : (p : Play (Next SessionState Status)) (turn : SessionState → Turn) (x : TurnPlay) → x ≡ bind p (on_to turn) → (cause : Stop) (es : List Event) → Goes p es (Err cause) → Goes x es (Err cause)
+turned-cut p turn x is cause es goes = subst (λ (q : TurnPlay). Goes q es (Err cause)) (sym is) (goes-cut p (on_to turn) cause es goes)
+
+waiting-loop : {s : SessionState} {es : List Event} {out : Ends} → WaitingGo s es out → Loop turn_play (Waiting s) es out
+waiting-loop {s = s} (none none_left) =
+    last (subst (λ (q : TurnPlay). Goes q [] (Ok (Last (Go (rested s))))) (sym (ap (waiting_turn s) none_left)) (refl, inl refl))
+waiting-loop {s = s} (more {t = t} line frames front rest is_next is goes later) =
+    again front rest is (turned (waiting_play (resumed s frames) line) Waiting (turn_play (Waiting s)) (ap (waiting_turn s) is_next) t front goes) (waiting-loop later)
+waiting-loop {s = s} {es = es} (ended {e = e} line frames is_next goes) =
+    last (turned-last (waiting_play (resumed s frames) line) Waiting (turn_play (Waiting s)) (ap (waiting_turn s) is_next) e es goes)
+waiting-loop {s = s} {es = es} (rounds.cut {cause = cause} line frames is_next goes) =
+    cut (turned-cut (waiting_play (resumed s frames) line) Waiting (turn_play (Waiting s)) (ap (waiting_turn s) is_next) cause es goes)
+waiting-loop {s = s} short = cut (at-memory (turn_play (Waiting s)))
+
+line-loop : (s : SessionState) (line : List ℕ) {es : List Event} {out : Ends} → LineGoes s line es out → Loop turn_play (Typed s line) es out
+line-loop s line (typed {t = t} front rest is goes waits) = again front rest is (turned (typed_play s line) Waiting (turn_play (Typed s line)) refl t front goes) (waiting-loop waits)
+line-loop s line {es = es} (rounds.last {e = e} goes) = last (turned-last (typed_play s line) Waiting (turn_play (Typed s line)) refl e es goes)
+line-loop s line {es = es} (cut_short {cause = cause} goes) = cut (turned-cut (typed_play s line) Waiting (turn_play (Typed s line)) refl cause es goes)
+
+startup-loop : (s : SessionState) (name : List ℕ) {es : List Event} {out : Ends} → StartupGoes s name es out → Loop turn_play (Starting s name) es out
+startup-loop s name (begun {t = t} front rest is goes waits) = again front rest is (turned (startup_play s name) Waiting (turn_play (Starting s name)) refl t front goes) (waiting-loop waits)
+startup-loop s name {es = es} (unread {cause = cause} goes) = cut (turned-cut (startup_play s name) Waiting (turn_play (Starting s name)) refl cause es goes)
+
+composing-loop : {A : Type 0} (s t : SessionState) (draft : Draft) (r : Result A RunError) (es : List Event) → Goes (composing s draft) es (in_play (λ (a : A). t) r) → Loop turn_play (Composing s draft) es (in_play (λ (a : A). Go t) r)
+composing-loop s t draft (Ok a) es goes = last (goes-as (composing s draft) (λ t. Ret (Last (Go t))) t (Last (Go t)) es refl goes)
+composing-loop s t draft (Err e) es goes = cut (goes-cut (composing s draft) (λ t. Ret (Last (Go t))) _ es goes)
+
+leaving-loop : (s : SessionState) (r : Result Status RunError) (es : List Event) → Goes (leaving s) es (in_play (λ (e : Status). e) r) → Loop turn_play (Leaving s) es (in_play (λ (e : Status). Last e) r)
+leaving-loop s (Ok e) es goes = last (goes-as (leaving s) (λ e. Ret (Last (Last e))) e (Last (Last e)) es refl goes)
+leaving-loop s (Err e) es goes = cut (goes-cut (leaving s) (λ e. Ret (Last (Last e))) _ es goes)
+
+-- ---- the end of the input
+
+-- where a call leads at the end of the input
+abbrev LeadsOn : SessionState → List Event → Ends → Type 0
+LeadsOn s es (Ok (Go t)) = (rest : List Event) (out : Ends) → Loop turn_play (Finishing t) rest out → Loop turn_play (Finishing s) (es ++ rest) out
+LeadsOn s es (Ok (Last e)) = Loop turn_play (Finishing s) es (Ok (Last e))
+LeadsOn s es (Err cause) = Loop turn_play (Finishing s) es (Err cause)
+
+leads-more : (s t : SessionState) (front rest es : List Event) (out : Ends) → es ≡ front ++ rest → Goes (turn_play (Finishing s)) front (Ok (Go (Finishing t))) → LeadsOn t rest out → LeadsOn s es out
+leads-more s t front rest es (Ok (Go u)) is goes leads = λ later end loop.
+    again front (rest ++ later) (ap (λ (l : List Event). l ++ later) is ∙ append_assoc front rest later) goes (leads later end loop)
+leads-more s t front rest es (Ok (Last e)) is goes loop = again front rest is goes loop
+leads-more s t front rest es (Err cause) is goes loop = again front rest is goes loop
+
+same-turn : (x y : Turn) → turn_play x ≡ turn_play y → {es : List Event} {out : Ends} → Loop turn_play y es out → Loop turn_play x es out
+same-turn x y same (again {y = z} front rest is goes later) = again front rest is (subst (λ (p : TurnPlay). Goes p front (Ok (Go z))) (sym same) goes) later
+same-turn x y same {es = es} (last {r = r} goes) = last (subst (λ (p : TurnPlay). Goes p es (Ok (Last r))) (sym same) goes)
+same-turn x y same {es = es} (cut {cause = cause} goes) = cut (subst (λ (p : TurnPlay). Goes p es (Err cause)) (sym same) goes)
+
+-- where no line waits, the state is as good as one at rest
+rested-as : (s : SessionState) (draft : Option Machine) → next_waiting (with_draft s draft) ≡ None → turn_play (Finishing (with_draft s draft)) ≡ turn_play (Finishing (rested (with_draft s draft)))
+rested-as s (Some m) none_left = refl
+rested-as s None none_left = ap (finishing_turn (with_draft s None)) none_left
+
+rested-turn : (s : SessionState) → next_waiting s ≡ None → turn_play (Finishing s) ≡ turn_play (Finishing (rested s))
+rested-turn s none_left = rested-as s s.draft none_left
+
+waiting-leads : {s : SessionState} {es : List Event} {out : Ends} → WaitingGo s es out → LeadsOn s es out
+waiting-leads {s = s} (none none_left) = λ rest out loop. same-turn (Finishing s) (Finishing (rested s)) (rested-turn s none_left) loop
+waiting-leads {s = s} {es = es} {out = out} (more {t = t} line frames front rest is_next is goes later) =
+    leads-more s t front rest es out is (turned (waiting_play (resumed s frames) line) Finishing (turn_play (Finishing s)) (ap (finishing_turn s) is_next) t front goes) (waiting-leads later)
+waiting-leads {s = s} {es = es} (ended {e = e} line frames is_next goes) =
+    last (turned-last (waiting_play (resumed s frames) line) Finishing (turn_play (Finishing s)) (ap (finishing_turn s) is_next) e es goes)
+waiting-leads {s = s} {es = es} (rounds.cut {cause = cause} line frames is_next goes) =
+    cut (turned-cut (waiting_play (resumed s frames) line) Finishing (turn_play (Finishing s)) (ap (finishing_turn s) is_next) cause es goes)
+waiting-leads {s = s} short = cut (at-memory (turn_play (Finishing s)))
+
+-- a draft that is open ends
+draft-turn : (s : SessionState) → is_drafting s ≡ true → turn_play (Finishing s) ≡ bind (ended_draft s) (on_to Finishing)
+draft-turn s drafting = ap (finishing_turn s) (cond-true _ _ _ drafting) ∙ cond-true _ _ _ drafting
+
+draft-leads : (s : SessionState) {es : List Event} {out : Ends} → is_drafting s ≡ true → DraftEnds s es out → LeadsOn s es out
+draft-leads s {es = es} {out = out} drafting (told {t = t} front rest is goes waits) =
+    leads-more s t front rest es out is (turned (ended_draft s) Finishing (turn_play (Finishing s)) (draft-turn s drafting) t front goes) (waiting-leads waits)
+draft-leads s {es = es} drafting (told_last {e = e} goes) = last (turned-last (ended_draft s) Finishing (turn_play (Finishing s)) (draft-turn s drafting) e es goes)
+draft-leads s {es = es} drafting (untold {cause = cause} goes) = cut (turned-cut (ended_draft s) Finishing (turn_play (Finishing s)) (draft-turn s drafting) cause es goes)
+
+-- a state at rest stays at rest
+rested-twice-as : (s : SessionState) (draft : Option Machine) → rested (rested (with_draft s draft)) ≡ rested (with_draft s draft)
+rested-twice-as s (Some m) = refl
+rested-twice-as s None = refl
+
+abbrev AreAtRest : Ends → Type 0
+AreAtRest (Ok (Go t)) = rested t ≡ t
+AreAtRest (Ok (Last e)) = Unit {0}
+AreAtRest (Err cause) = Unit {0}
+
+waiting-rests : {s : SessionState} {es : List Event} {out : Ends} → WaitingGo s es out → AreAtRest out
+waiting-rests {s = s} (none none_left) = rested-twice-as s s.draft
+waiting-rests (more line frames front rest is_next is goes later) = waiting-rests later
+waiting-rests (ended line frames is_next goes) = tt
+waiting-rests (rounds.cut line frames is_next goes) = tt
+waiting-rests short = tt
+
+draft-rests : {s : SessionState} {es : List Event} {out : Ends} → DraftEnds s es out → AreAtRest out
+draft-rests (told front rest is goes waits) = waiting-rests waits
+draft-rests (told_last goes) = tt
+draft-rests (untold goes) = tt
+
+-- where no draft is open, in a state at rest, no line waits
+idle-waits : (s : SessionState) → is_drafting s ≡ false → rested s ≡ s → next_waiting s ≡ None
+idle-waits s free same = cond-false _ _ _ free ∙ ap taken (sym (ap (λ (t : SessionState). t.frames) (sym (cond-false (is_drafting s) s (at_rest s) free) ∙ same)))
+
+over-turn : (s : SessionState) → is_drafting s ≡ false → rested s ≡ s → turn_play (Finishing s) ≡ Ret (Last (Go s))
+over-turn s free same =
+    let to : SessionState → TurnPlay = λ t. Ret (Last (Go t)) in
+    ap (finishing_turn s) (idle-waits s free same) ∙ (cond-false _ _ _ free ∙ ap to same)
+
+finish-loop : {s : SessionState} {es : List Event} {out : Ends} → rested s ≡ s → FinishGo s es out → Loop turn_play (Finishing s) es out
+finish-loop {s = s} same (finished free) = last (subst (λ (q : TurnPlay). Goes q [] (Ok (Last (Go s)))) (sym (over-turn s free same)) (refl, inl refl))
+finish-loop {s = s} {es = es} {out = out} same (onward {t = t} front rest drafting is first later) =
+    subst (λ (l : List Event). Loop turn_play (Finishing s) l out) (sym is) (draft-leads s drafting first rest out (finish-loop (draft-rests first) later))
+finish-loop {s = s} same (left drafting goes) = draft-leads s drafting goes
+finish-loop {s = s} same (lost drafting goes) = draft-leads s drafting goes
+
+-- ---- each commit of a call is one of the state's actor and token
+
+module _ (actor : List ℕ) (token : ℕ) where
+  abbrev TurnOf : Turn → Type 0
+  TurnOf (Composing s draft) = IsOf actor token s
+  TurnOf (Typed s line) = IsOf actor token s
+  TurnOf (Starting s name) = IsOf actor token s
+  TurnOf (Waiting s) = IsOf actor token s
+  TurnOf (Finishing s) = IsOf actor token s
+  TurnOf (Leaving s) = IsOf actor token s
+
+  on-commits : (turn : SessionState → Turn) (n : Next SessionState Status) → NextOf actor token n → EachCommit (IsBy actor token) (on_to turn n)
+  on-commits turn (Go s) of = tt
+  on-commits turn (Last e) of = tt
+
+  on-of : (turn : SessionState → Turn) → ((s : SessionState) → IsOf actor token s → TurnOf (turn s)) → (n : Next SessionState Status) → NextOf actor token n → AllEnds (NextKeeps TurnOf) (on_to turn n)
+  on-of turn to (Go s) of = to s of
+  on-of turn to (Last e) of = tt
+
+  then-commits : (p : Play (Next SessionState Status)) (turn : SessionState → Turn) → EachCommit (IsBy actor token) p → AllEnds (NextOf actor token) p → EachCommit (IsBy actor token) (bind p (on_to turn))
+  then-commits p turn each ends = bind-commits (IsBy actor token) (NextOf actor token) p (on_to turn) each ends (on-commits turn)
+
+  then-of : (p : Play (Next SessionState Status)) (turn : SessionState → Turn) → ((s : SessionState) → IsOf actor token s → TurnOf (turn s)) → AllEnds (NextOf actor token) p → AllEnds (NextKeeps TurnOf) (bind p (on_to turn))
+  then-of p turn to ends = bind-ends (NextOf actor token) (NextKeeps TurnOf) p (on_to turn) ends (on-of turn to)
+
+  waits-commits : (s : SessionState) (turn : SessionState → Turn) (line : WaitingLine) (frames : List Pending) → IsOf actor token s → EachCommit (IsBy actor token) (bind (waiting_play (resumed s frames) line) (on_to turn))
+  waits-commits s turn line frames of =
+      let t = resumed s frames in
+      then-commits (waiting_play t line) turn (waiting-commits actor token (is_defining t.desk) t line of) (waiting-of actor token (is_defining t.desk) t line of)
+
+  waits-of : (s : SessionState) (line : WaitingLine) (frames : List Pending) → IsOf actor token s → AllEnds (NextOf actor token) (waiting_play (resumed s frames) line)
+  waits-of s line frames of = let t = resumed s frames in waiting-of actor token (is_defining t.desk) t line of
+
+  waiting-turn-commits : (s : SessionState) (next : Option (WaitingLine × List Pending)) → IsOf actor token s → EachCommit (IsBy actor token) (waiting_turn s next)
+  waiting-turn-commits s None of = tt
+  waiting-turn-commits s (Some p) of = waits-commits s Waiting p.0 p.1 of
+
+  waiting-turn-of : (s : SessionState) (next : Option (WaitingLine × List Pending)) → IsOf actor token s → AllEnds (NextKeeps TurnOf) (waiting_turn s next)
+  waiting-turn-of s None of = tt
+  waiting-turn-of s (Some p) of = then-of (waiting_play (resumed s p.1) p.0) Waiting (λ t of. of) (waits-of s p.0 p.1 of)
+
+  ends-commits : (b : Bool) (s : SessionState) → IsOf actor token s → EachCommit (IsBy actor token) (if b then bind (ended_draft s) (on_to Finishing) else Ret (Last (Go (rested s))))
+  ends-commits true s of = then-commits (ended_draft s) Finishing (ended-commits actor token s of) (ended-of actor token s of)
+  ends-commits false s of = tt
+
+  ends-of : (b : Bool) (s : SessionState) → IsOf actor token s → AllEnds (NextKeeps TurnOf) (if b then bind (ended_draft s) (on_to Finishing) else Ret (Last (Go (rested s))))
+  ends-of true s of = then-of (ended_draft s) Finishing (λ t of. of) (ended-of actor token s of)
+  ends-of false s of = tt
+
+  finishing-turn-commits : (s : SessionState) (next : Option (WaitingLine × List Pending)) → IsOf actor token s → EachCommit (IsBy actor token) (finishing_turn s next)
+  finishing-turn-commits s None of = ends-commits (is_drafting s) s of
+  finishing-turn-commits s (Some p) of = waits-commits s Finishing p.0 p.1 of
+
+  finishing-turn-of : (s : SessionState) (next : Option (WaitingLine × List Pending)) → IsOf actor token s → AllEnds (NextKeeps TurnOf) (finishing_turn s next)
+  finishing-turn-of s None of = ends-of (is_drafting s) s of
+  finishing-turn-of s (Some p) of = then-of (waiting_play (resumed s p.1) p.0) Finishing (λ t of. of) (waits-of s p.0 p.1 of)
+
+  -- the draft of send mode
+  subject-commits : (b : Bool) → EachCommit (IsBy actor token) (subject_asked b)
+  subject-commits true = (tt, λ u. tt)
+  subject-commits false = tt
+
+  composing-commits : (b : Bool) (t : SessionState) → EachCommit (IsBy actor token) (bind (subject_asked b) (λ u. Ret t))
+  composing-commits b t = bind-commits (IsBy actor token) (λ (u : Unit {0}). Unit {0}) (subject_asked b) (λ u. Ret t) (subject-commits b) (any-ends (subject_asked b)) (λ u done. tt)
+
+  composing-of : (b : Bool) (t : SessionState) → IsOf actor token t → AllEnds (IsOf actor token) (bind (subject_asked b) (λ u. Ret t))
+  composing-of b t of = bind-ends (λ (u : Unit {0}). Unit {0}) (IsOf actor token) (subject_asked b) (λ u. Ret t) (any-ends (subject_asked b)) (λ u done. of)
+
+  turn-commits : (x : Turn) → TurnOf x → EachCommit (IsBy actor token) (turn_play x)
+  turn-commits (Composing s draft) of =
+      let b = asks_subject (new_machine (flattened draft)) (view_in s) in
+      bind-commits (IsBy actor token) (IsOf actor token) (composing s draft) (λ t. Ret (Last (Go t))) (composing-commits b (with_new_draft s draft)) (composing-of b (with_new_draft s draft) of) (λ t done. tt)
+  turn-commits (Typed s line) of = then-commits (typed_play s line) Waiting (typed-commits actor token s line of) (typed-of actor token s line of)
+  turn-commits (Starting s name) of =
+      then-commits (startup_play s name) Waiting (startup-play-commits actor token s name) (startup-play-of actor token s name of)
+  turn-commits (Waiting s) of = waiting-turn-commits s (next_waiting s) of
+  turn-commits (Finishing s) of = finishing-turn-commits s (next_waiting s) of
+  turn-commits (Leaving s) of =
+      bind-commits (IsBy actor token) (λ (e : Status). Unit {0}) (leaving s) (λ e. Ret (Last (Last e))) (leaving-commits actor token s of) (any-ends (leaving s)) (λ e t. tt)
+
+  turn-of : (x : Turn) → TurnOf x → AllEnds (NextKeeps TurnOf) (turn_play x)
+  turn-of (Composing s draft) of =
+      let b = asks_subject (new_machine (flattened draft)) (view_in s) in
+      bind-ends (IsOf actor token) (NextKeeps TurnOf) (composing s draft) (λ t. Ret (Last (Go t))) (composing-of b (with_new_draft s draft) of) (λ t done. tt)
+  turn-of (Typed s line) of = then-of (typed_play s line) Waiting (λ t of. of) (typed-of actor token s line of)
+  turn-of (Starting s name) of = then-of (startup_play s name) Waiting (λ t of. of) (startup-play-of actor token s name of)
+  turn-of (Waiting s) of = waiting-turn-of s (next_waiting s) of
+  turn-of (Finishing s) of = finishing-turn-of s (next_waiting s) of
+  turn-of (Leaving s) of = bind-ends (λ (e : Status). Unit {0}) (NextKeeps TurnOf) (leaving s) (λ e. Ret (Last (Last e))) (any-ends (leaving s)) (λ e t. tt)
+
+  -- so is the state with which a call goes on
+  abbrev GoesOnOf : Ends → Type 0
+  GoesOnOf (Ok n) = NextOf actor token n
+  GoesOnOf (Err cause) = Unit {0}
+
+  waiting-goes-on : {s : SessionState} {es : List Event} {out : Ends} → IsOf actor token s → WaitingGo s es out → GoesOnOf out
+  waiting-goes-on {s = s} of (none none_left) = rested-of actor token s of
+  waiting-goes-on {s = s} of (more {t = t} line frames front rest is_next is goes later) =
+      waiting-goes-on (goes-ends (NextOf actor token) (waiting_play (resumed s frames) line) front (Go t) (waits-of s line frames of) goes) later
+  waiting-goes-on of (ended line frames is_next goes) = tt
+  waiting-goes-on of (rounds.cut line frames is_next goes) = tt
+  waiting-goes-on of short = tt
+
+  line-goes-on : (s : SessionState) (line : List ℕ) {es : List Event} {out : Ends} → IsOf actor token s → LineGoes s line es out → GoesOnOf out
+  line-goes-on s line of (typed {t = t} front rest is goes waits) = waiting-goes-on (goes-ends (NextOf actor token) (typed_play s line) front (Go t) (typed-of actor token s line of) goes) waits
+  line-goes-on s line of (rounds.last goes) = tt
+  line-goes-on s line of (cut_short goes) = tt
+
+  startup-goes-on : (s : SessionState) (name : List ℕ) {es : List Event} {out : Ends} → IsOf actor token s → StartupGoes s name es out → GoesOnOf out
+  startup-goes-on s name of (begun {t = t} front rest is goes waits) =
+      waiting-goes-on (goes-ends (NextOf actor token) (startup_play s name) front (Go t) (startup-play-of actor token s name of) goes) waits
+  startup-goes-on s name of (unread goes) = tt
+
+  draft-goes-on : (s : SessionState) {es : List Event} {out : Ends} → IsOf actor token s → DraftEnds s es out → GoesOnOf out
+  draft-goes-on s of (told {t = t} front rest is goes waits) = waiting-goes-on (goes-ends (NextOf actor token) (ended_draft s) front (Go t) (ended-of actor token s of) goes) waits
+  draft-goes-on s of (told_last goes) = tt
+  draft-goes-on s of (untold goes) = tt
+
+  finish-goes-on : {s : SessionState} {es : List Event} {out : Ends} → IsOf actor token s → FinishGo s es out → GoesOnOf out
+  finish-goes-on of (finished free) = of
+  finish-goes-on {s = s} of (onward front rest drafting is first later) = finish-goes-on (draft-goes-on s of first) later
+  finish-goes-on of (left drafting goes) = tt
+  finish-goes-on of (lost drafting goes) = tt
+
+  composing-goes-on : {A : Type 0} (s t : SessionState) (draft : Draft) (r : Result A RunError) (es : List Event) → IsOf actor token s → Goes (composing s draft) es (in_play (λ (a : A). t) r) → GoesOnOf (in_play (λ (a : A). Go t) r)
+  composing-goes-on s t draft (Ok a) es of goes =
+      goes-ends (IsOf actor token) (composing s draft) es t (composing-of (asks_subject (new_machine (flattened draft)) (view_in s)) (with_new_draft s draft) of) goes
+  composing-goes-on s t draft (Err e) es of goes = tt
+
+  -- the next call may commit too
+  may-again : (t : SessionState) (d : Disk) (later : List Event) → IsOf actor token t → MayCommit actor token d later → MayCommit t.actor t.token d later
+  may-again t d later of may =
+      subst (λ (a : List ℕ). MayCommit a t.token d later) (sym of.0) (subst (λ (n : ℕ). MayCommit actor n d later) (sym of.1) may)
+
+  turn-safe : (x : Turn) (d : Disk) (es : List Event) (out : Ends) → token < 2 ^ 64 → TurnOf x → Honest d es → MayCommit actor token d es → Loop turn_play x (own es) out → GoesOnOf out
+      → IsStepSafe actor token x d es out
+  turn-safe x d es out fits of honest may loop goes_on =
+      let read = read-loop turn_play d es refl loop in
+      let run : MayRun actor token d es = record { fits = fits; fresh = may.fresh; sound = may.sound; honest = honest; lawful = may.lawful } in
+      let whole : MayRun actor token d (es ++ []) = subst (MayRun actor token d) (sym (append-nil es)) run in
+      let C : List Event → Type 0 = λ l. IsCrashSafe actor token d l read.0 out in
+      let safe : IsCrashSafe actor token d es read.0 out = subst C (append-nil es) (run-safe turn_play x actor token d es [] read.0 out TurnOf turn-commits turn-of of whole read.1 tt) in
+      record {
+        commits = read.0;
+        plays = read.1;
+        safe = safe;
+        answered = run-decided turn_play x actor token d es [] read.0 out TurnOf turn-commits turn-of of whole read.1;
+        next = λ t is later lawful.
+            may-again t (disk d es) later (subst GoesOnOf is goes_on) (record {
+              fresh = safe.nothing_left (subst (λ (o : Ends). IsCalm o) (sym is) tt);
+              sound = (safe.moments es [] (sym (append-nil es))).sound;
+              lawful = lawful;
+            });
+      }
+
+-- ---- the calls
+
+module _ {H : Type 0} (w : World H) (old new : H) (s : SessionState) (fits : s.token < 2 ^ 64) where
+  pub line-safe : (line : List ℕ) (out : Ends) → Ran w old new (λ es. LineGoes s line es out) → IsSafeCall w old new s (Typed s line) out
+  line-safe line out ran = λ before es at to may.
+      let r = Ran-since before es ran at to in
+      turn-safe s.actor s.token (Typed s line) _ es out fits (refl, refl) r.0 may (line-loop s line r.1) (line-goes-on s.actor s.token s line (refl, refl) r.1)
+
+  pub startup-safe : (name : List ℕ) (out : Ends) → Ran w old new (λ es. StartupGoes s name es out) → IsSafeCall w old new s (Starting s name) out
+  startup-safe name out ran = λ before es at to may.
+      let r = Ran-since before es ran at to in
+      turn-safe s.actor s.token (Starting s name) _ es out fits (refl, refl) r.0 may (startup-loop s name r.1) (startup-goes-on s.actor s.token s name (refl, refl) r.1)
+
+  pub finish-safe : (out : Ends) → rested s ≡ s → Ran w old new (λ es. FinishGo s es out) → IsSafeCall w old new s (Finishing s) out
+  finish-safe out same ran = λ before es at to may.
+      let r = Ran-since before es ran at to in
+      turn-safe s.actor s.token (Finishing s) _ es out fits (refl, refl) r.0 may (finish-loop same r.1) (finish-goes-on s.actor s.token (refl, refl) r.1)
+
+  pub compose-safe : {A : Type 0} (t : SessionState) (draft : Draft) (result : Result A RunError) → Ran w old new (λ es. Goes (composing s draft) es (in_play (λ (a : A). t) result))
+      → IsSafeCall w old new s (Composing s draft) (in_play (λ (a : A). Go t) result)
+  compose-safe t draft result ran = λ before es at to may.
+      let r = Ran-since before es ran at to in
+      turn-safe s.actor s.token (Composing s draft) _ es _ fits (refl, refl) r.0 may (composing-loop s t draft result (own es) r.1) (composing-goes-on s.actor s.token s t draft result (own es) (refl, refl) r.1)
+
+  left-on : (r : Result Status RunError) → GoesOnOf s.actor s.token (in_play (λ (e : Status). Last e) r)
+  left-on (Ok e) = tt
+  left-on (Err e) = tt
+
+  pub end-safe : (result : Result Status RunError) → Ran w old new (λ es. Goes (leaving s) es (in_play (λ (e : Status). e) result)) → IsSafeCall w old new s (Leaving s) (in_play (λ (e : Status). Last e) result)
+  end-safe result ran = λ before es at to may.
+      let r = Ran-since before es ran at to in
+      turn-safe s.actor s.token (Leaving s) _ es _ fits (refl, refl) r.0 may (leaving-loop s result (own es) r.1) (left-on result)
