@@ -5,7 +5,7 @@ use Rattle.alias_groups.specs.Groups.{Group}
 use Rattle.alias_groups.specs.Names.{with_names}
 use Rattle.alias_groups.specs.Walk.{nothing, walk}
 
--- the names that are left out where an alias leads to them: the own names, each once, and none with `metoo`
+-- the names that are left out if an alias leads to them: the own names, each once, and none with `metoo`
 abbrev pub dropped_names : Own → Bool → List (List ℕ)
 dropped_names own metoo = if metoo then [] else with_names [] (own.user ∷ own.alternates)
 

@@ -10,7 +10,7 @@ use Rattle.alias_groups.specs.declared.error.AliasError.TheVariants.{TooMany}
 abbrev pub Group : Type 0
 Group = List ℕ × List (List ℕ)
 
--- the members of an alias, where the name is one
+-- the members of an alias, if the name is one
 abbrev pub members_of : List Group → List ℕ → Option (List (List ℕ))
 members_of groups name = lookup (bytes_eq name) groups
 

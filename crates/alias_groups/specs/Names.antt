@@ -7,7 +7,7 @@ use Rattle.mail_text.specs.Ascii.{same_ascii}
 abbrev pub has_name : List (List ℕ) → List ℕ → Bool
 has_name names name = list_any (same_ascii name) names
 
--- the names with one more last, where it isn't among them yet
+-- the names with one more last, if it isn't among them yet
 abbrev pub with_name : List (List ℕ) → List ℕ → List (List ℕ)
 with_name names name = if has_name names name then names else names ++ name ∷ []
 

@@ -1,11 +1,11 @@
--- Aliases that are changed where nothing is in the way, and those that are removed together.
+-- Aliases that are changed if nothing is in the way, and those that are removed together.
 use Rattle.std.specs.Prelude.{ℕ, not, List, [], map, filter, is_none, if◌then◌else◌}
 use Rattle.std.specs.Borrow.{Bor}
 use Rattle.std.specs.List.{fold}
 use Rattle.alias_groups.specs.Groups.{Group, define_refusal, with_members}
 use Rattle.alias_groups.specs.Walk.{is_among, with_alias}
 
--- once an alias has more members; where they are refused all stays
+-- once an alias has more members; if they are refused all stays
 abbrev pub given : List Group → List ℕ → List (List ℕ) → List Group
 given groups name to = if is_none (define_refusal groups to) then with_members groups name to else groups
 

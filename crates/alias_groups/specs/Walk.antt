@@ -24,7 +24,7 @@ abbrev pub named : List (List ℕ) → List (List ℕ) → List ℕ → Walked �
 named dropped opened name w =
     if is_within opened && has_name dropped name then w else record w { added = with_name w.added name }
 
--- the names with one more last, where it isn't among them yet
+-- the names with one more last, if it isn't among them yet
 abbrev pub with_alias : List (List ℕ) → List ℕ → List (List ℕ)
 with_alias names name = if is_among names name then names else names ++ name ∷ []
 

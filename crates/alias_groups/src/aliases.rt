@@ -70,7 +70,7 @@ fn append_at(
     }
 }
 
-// Puts members at the end of the list of an alias, which goes last where it is new.
+// Puts members at the end of the list of an alias, which goes last if it is new.
 fn append(
     alloc: Global,
     groups: &mut IndexMap<Vec<u8>, Vec<Text>>,
@@ -91,7 +91,7 @@ fn append(
     }
 }
 
-// Takes an alias out, and says how many members it had; none where it wasn't defined.
+// Takes an alias out, and says how many members it had; none if it wasn't defined.
 fn take_out(groups: &mut IndexMap<Vec<u8>, Vec<Text>>, name: &[u8]) -> Option<usize>
     ensures said { is_some result ≡ is_alias (groups_in groups.old.entries) name.now }
     ensures groups { groups_in groups.new.entries ≡ without (groups_in groups.old.entries) name.now }
@@ -117,7 +117,7 @@ impl Aliases {
     }
 
     /// Puts members at the end of the list of an alias. One that is defined keeps its place, a new one goes last.
-    /// `TooMany` comes exactly where all aliases together would have more than 100,000 members. After an error all is
+    /// `TooMany` comes exactly if all aliases together would have more than 100,000 members. After an error all is
     /// as before.
     pub fn define(&mut self, name: &[u8], to: &[Text]) -> Result<(), AliasError>
         ensures refused { MatchOption (define_refusal self.old to.now)
@@ -145,8 +145,8 @@ impl Aliases {
         }
     }
 
-    /// Puts members at the end of the list of an alias, as `define` does, where `refuses` doesn't refuse them. After
-    /// want of memory all is as before.
+    /// Puts members at the end of the list of an alias, as `define` does, if `refuses` doesn't refuse them. If
+    /// memory runs out, all is as before.
     pub fn give(&mut self, name: &[u8], to: &[Text]) -> Result<(), Memory>
         ensures ok { OnOk result (self.new ≡ given self.old name.now to.now) }
         ensures err { OnErr result (self.new ≡ self.old) }
@@ -173,7 +173,7 @@ impl Aliases {
     }
 
     /// Removes the aliases of these names, in time that grows with the aliases and the names. One that isn't defined is
-    /// passed over. After want of memory all is as before.
+    /// passed over. If memory runs out, all is as before.
     pub fn remove_all(&mut self, names: &[Text]) -> Result<(), Memory>
         ensures ok { OnOk result (self.new ≡ without_these self.old names.now) }
         ensures err { OnErr result (self.new ≡ self.old) }
@@ -184,7 +184,7 @@ impl Aliases {
         Ok(())
     }
 
-    /// The members of an alias; none exactly where the name isn't defined. It takes no memory.
+    /// The members of an alias; none exactly if the name isn't defined. It takes no memory.
     pub fn members(&self, name: &[u8]) -> Option<&[Text]>
         ensures { option_map (λ members. members.now) result ≡ members_of self.now name.now }
     {
@@ -230,7 +230,7 @@ impl Aliases {
     /// alias is added; an alias that is met for the first time is walked through; one that is met inside its own walk
     /// is added as a name; one whose walk is over adds nothing. Names of aliases are compared byte for byte. No name
     /// is added twice, ASCII case ignored. Without `metoo` a name of `own` that is reached through an alias is left
-    /// out. `TooMany` comes exactly where there would be more than 10,000 names.
+    /// out. `TooMany` comes exactly if there would be more than 10,000 names.
     pub fn expand(&self, names: &[Text], own: &Own, metoo: bool) -> Result<Vec<Text>, ExpandError>
         ensures names { IfOk result (λ all. all.items ≡ expansion self.now own.now metoo names.now) }
         ensures few { IfOk result (λ all. length all.items ≤ 10000) }

@@ -7,7 +7,7 @@ pub enum AliasError {
     /// All aliases together would have more than 100,000 members.
     #[error("too many aliases")]
     TooMany,
-    /// Want of memory.
+    /// Memory ran out.
     #[error("out of memory")]
     Memory,
 }
@@ -29,7 +29,7 @@ pub enum ExpandError {
     /// There are more than 10,000 names.
     #[error("too many recipients")]
     TooMany,
-    /// Want of memory.
+    /// Memory ran out.
     #[error("out of memory")]
     Memory,
 }

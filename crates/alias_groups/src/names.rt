@@ -87,7 +87,7 @@ impl Names {
         Ok(())
     }
 
-    /// Puts each of these names at the end, if it isn't there. After want of memory some may have been put.
+    /// Puts each of these names at the end, if it isn't there. If memory runs out, some may have been put.
     pub fn put_all(&mut self, names: &[Text]) -> Result<(), Memory>
         ensures { OnOk result (self.new ≡ with_names self.old names.now) }
     {

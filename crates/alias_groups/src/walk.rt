@@ -144,8 +144,8 @@ impl<'a> Walk<'a> {
         }
     }
 
-    // Meets the next name, or ends the walk of an alias where its list is done. It gives the list to go on with, and
-    // none where all is done.
+    // Meets the next name, or ends the walk of an alias when its list is done. It gives the list to go on with, and
+    // none if all is done.
     fn step(
         &mut self,
         aliases: &'a Aliases,

@@ -10,7 +10,7 @@ use Rattle.command_desk.specs.Effects.{unchanged}
 use Rattle.command_desk.specs.Faults.{no_folder}
 use Rattle.child_commands.specs.Running.{runs}
 
--- a byte as it stands between quotes: a quote ends them, stands behind a backslash, and begins them anew
+-- a byte as it stands between quotes: a quote ends them, stands after a backslash, and begins them anew
 abbrev pub quoted_byte : ℕ → List ℕ
 quoted_byte b = if b == 39 then codes "'\\''" else b ∷ []
 
@@ -22,7 +22,7 @@ quoted bytes = codes "'" ++ flat_map quoted_byte bytes ++ codes "'"
 abbrev pub listing : Desk → List ℕ → List ℕ
 listing desk value = desk.places.lister ++ codes " " ++ quoted (folder_at desk.places.home value)
 
--- `folders`: the folder of the variable `folder` is listed, where that is set, and not to nothing
+-- `folders`: the folder of the variable `folder` is listed, if that is set, and not to nothing
 abbrev pub folders : Desk → OrFault Steps
 folders desk =
     if length (folder_value desk.vars) == 0 then Err no_folder

@@ -25,7 +25,7 @@ abbrev pub into_command : Desk → List (List ℕ) → List ℕ → OrFault Step
 into_command desk list command =
     next (chosen Live desk list) (λ ns. runs command (flat_map (text_line desk) ns) (marked desk Look ns))
 
--- the command is the value of a variable, where that is set; it is given the current message
+-- the command is the value of a variable, if that is set; it is given the current message
 abbrev pub into_value : List ℕ → Desk → Option (List ℕ) → OrFault Steps
 into_value name desk (Some command) = into_command desk [] command
 into_value name desk None = Err (bad_arguments name)
@@ -34,7 +34,7 @@ into_value name desk None = Err (bad_arguments name)
 abbrev pub into_variable : List ℕ → Desk → OrFault Steps
 into_variable name desk = into_value name desk (value_of desk.vars (codes "cmd"))
 
--- `pipe` and `|`, by their names: a list and a command behind it; without a word the variable `cmd` is the command
+-- `pipe` and `|`, by their names: a list and a command after it; without a word the variable `cmd` is the command
 abbrev pub pipe : List ℕ → Desk → List (List ℕ) → OrFault Steps
 pipe name desk words =
     if length words == 0 then into_variable name desk

@@ -60,8 +60,8 @@ fn into_variable(alloc: Global, name: &[u8], desk: &Desk) -> Result<Steps, Refus
     }
 }
 
-/// `pipe` and `|`, by the name of the one that is given: the last word is the command, or where there is no word the
-/// variable `cmd`. It is given the texts of the selected messages, each with a line feed behind it; then they are looked
+/// `pipe` and `|`, by the name of the one that is given: the last word is the command, or if there is no word the
+/// variable `cmd`. It is given the texts of the selected messages, each with a line feed after it; then they are looked
 /// at, and the last of them is current. Refused is first the lack of a command, and then what `chosen` refuses.
 pub fn pipe(alloc: Global, name: &[u8], desk: &Desk, words: &[Text]) -> Result<Steps, Refusal>
     requires { IsDesk desk.now }

@@ -18,36 +18,36 @@ abbrev pub next : {A B : Type 0} → OrFault A → (A → OrFault B) → OrFault
 next (Ok a) k = k a
 next (Err line) k = Err line
 
--- where something is found that is at fault its line refuses the command
+-- if something is found that is at fault its line refuses the command
 abbrev pub unless : {A : Type 0} → Option (List ℕ) → (List ℕ → List ℕ) → OrFault A → OrFault A
 unless (Some word) line r = Err (line word)
 unless None line r = r
 
--- bytes are said, and this is changed
+-- bytes are printed, and this is changed
 abbrev pub says : List ℕ → Effects → OrFault Steps
 says bytes effects = Ok (record { asks = Say bytes ∷ []; effects = effects })
 
--- this is changed, and nothing is said
+-- this is changed, and nothing is printed
 abbrev pub quietly : Effects → OrFault Steps
 quietly effects = Ok (record { asks = []; effects = effects })
 
--- an answer is the one that is meant, or want of memory
+-- an answer is the one that is meant, or memory ran out
 abbrev pub Means : {A : Type 0} → Result A Refusal → OrFault A → Type 0
 Means (Ok a) meant = meant ≡ Ok a
 Means (Err (Fault line)) meant = meant ≡ Err line
 Means (Err Memory) meant = Unit {0}
 
--- a refusal is by this line, or for want of memory
+-- a refusal is by this line, or memory ran out
 abbrev pub IsRefusal : Refusal → List ℕ → Type 0
 IsRefusal (Fault line) meant = line ≡ meant
 IsRefusal Memory meant = Unit {0}
 
--- what is meant is refused by this line, or memory was wanted
+-- what is meant is refused by this line, or memory ran out
 abbrev pub IsRefused : {A : Type 0} → Refusal → OrFault A → Type 0
 IsRefused (Fault line) meant = meant ≡ Err line
 IsRefused Memory meant = Unit {0}
 
--- a refusal is by the line that was found, or for want of memory
+-- a refusal is by the line that was found, or memory ran out
 abbrev pub IsRefusedBy : Refusal → Option (List ℕ) → Type 0
 IsRefusedBy (Fault line) found = found ≡ Some line
 IsRefusedBy Memory found = Unit {0}

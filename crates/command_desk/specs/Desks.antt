@@ -31,6 +31,6 @@ message_text desk n = unwrap_or (slice_get (texts_of desk.folder.folder) (n - 1)
 abbrev pub IsMessageOf : Shown → ℕ → Type 0
 IsMessageOf shown n = (1 ≤ n) × (n ≤ length shown.rows)
 
--- where a command's steps make a message current, it is one, or none
+-- if a command's steps make a message current, it is one, or none
 abbrev pub IsWithin : {E : Type 0} → Desk → Result Steps E → Type 0
 IsWithin desk result = IfOk result (λ steps. IfSome steps.effects.current (λ n. n ≤ length desk.shown.rows))

@@ -60,7 +60,7 @@ unchanged = record { marks = []; current = None; fresh = None; page = None; sett
 abbrev pub renames : Naming → Effects
 renames change = record unchanged { naming = Some change }
 
--- message n becomes current; it is unwritten, where another was current before
+-- message n becomes current; it is unwritten, if another was current before
 abbrev pub moved : Desk → ℕ → Effects
 moved desk n = record unchanged { current = Some n; fresh = if n == desk.shown.current then None else Some true }
 
@@ -76,7 +76,7 @@ marking act n = record { row = n - 1; act = act }
 abbrev pub markings : Act → List ℕ → List Marking
 markings act numbers = map (marking act) numbers
 
--- an act is done on these, and the last of them is current; it is unwritten, where another was current before
+-- an act is done on these, and the last of them is current; it is unwritten, if another was current before
 abbrev pub marked : Desk → Act → List ℕ → Effects
 marked desk act ns = record (moved desk (last_message ns)) { marks = markings act ns }
 

@@ -26,7 +26,7 @@ name_or_fault (Err e) = Err (name_fault e)
 abbrev pub expanded : Desk → List ℕ → OrFault (List ℕ)
 expanded desk word = name_or_fault (expansion desk.places desk.vars desk.previous word)
 
--- the bare address of the author of message n, numbered from 1; empty where there is none
+-- the bare address of the author of message n, numbered from 1; empty if there is none
 abbrev pub author_of : Desk → ℕ → List ℕ
 author_of desk n = option_map_or (λ row. row.texts.author) (slice_get desk.shown.rows (n - 1)) []
 

@@ -28,11 +28,11 @@ sets_after (Some (naming.Ignore names)) sets = record sets { ignored = with_name
 sets_after (Some (naming.Retain names)) sets = record sets { retained = with_names sets.retained names }
 sets_after other sets = sets
 
--- the macros once a definition is begun; where it is refused all stays
+-- the macros once a definition is begun; if it is refused all stays
 abbrev pub begun_unless_refused : Definitions → List ℕ → Definitions
 begun_unless_refused macros name = if is_some (begin_refusal macros name) then macros else begun macros name
 
--- the macros once the definition that is under way has a line more; where it is refused, or none is under way, all
+-- the macros once the definition that is under way has a line more; if it is refused, or none is under way, all
 -- stays
 abbrev pub with_line_unless_refused : Definitions → List ℕ → Definitions
 with_line_unless_refused macros line =
@@ -55,7 +55,7 @@ macros_after (Some naming.End) macros = ended macros
 macros_after (Some (naming.Undef names)) macros = without_these macros names
 macros_after other macros = macros
 
--- the desk after a change of names, where there is one
+-- the desk after a change of names, if there is one
 abbrev pub renamed : Desk → Option Naming → Desk
 renamed desk change = record desk {
   aliases = aliases_after change desk.aliases;

@@ -14,7 +14,7 @@ use rc_conditionals::{Conditions, Mode};
 pub struct Desk {
     /// The open folder.
     pub folder: Open,
-    /// The name of the file that was open before it; empty where none was.
+    /// The name of the file that was open before it; empty if none was.
     pub previous: Text,
     /// Its messages as they are shown.
     pub shown: Shown,
@@ -34,7 +34,7 @@ pub struct Desk {
     pub mode: Mode,
     /// Whether the input is a terminal, which the condition `t` asks for.
     pub terminal: bool,
-    /// The page that was said last, from 0.
+    /// The page that was printed last, from 0.
     pub page: usize,
     /// Whether the current message is unwritten: it wasn't printed since it became current.
     pub fresh: bool,

@@ -32,7 +32,7 @@ pub struct Effects {
     pub current: Option<u32>,
     /// Whether it is unwritten.
     pub fresh: Option<bool>,
-    /// The page that was said last.
+    /// The page that was printed last.
     pub page: Option<usize>,
     /// Changes of variables, in order.
     pub settings: Items<Setting>,
@@ -64,7 +64,7 @@ fn change_all(vars: &mut Vars, settings: Items<Setting>)
     }
 }
 
-// Puts other conditions in the place of these, where there are such.
+// Puts other conditions in the place of these, if there are such.
 fn turn(conditions: &mut Conditions, turned: Option<Conditions>)
     ensures { conditions.new ≡ unwrap_or turned conditions.old }
 {
@@ -96,7 +96,7 @@ impl Desk {
     }
 
     /// Carries out the changes of a command once what it asked for was done, in as much time as there are changes.
-    /// It takes no memory where no names are changed; after want of memory all is as before.
+    /// It takes no memory if no names are changed; if memory runs out, all is as before.
     pub fn settle(&mut self, effects: Effects) -> Result<(), Memory>
         requires before { IsDesk self.old }
         requires after { IsDesk (effect self.old effects) }
@@ -145,7 +145,7 @@ pub fn renames(alloc: Global, naming: Naming) -> Effects
     }
 }
 
-/// Message n becomes current; it is unwritten, where another was current before.
+/// Message n becomes current; it is unwritten, if another was current before.
 pub fn moved(alloc: Global, desk: &Desk, n: u32) -> Effects
     ensures { result ≡ moved desk.now n }
 {
@@ -193,7 +193,7 @@ pub fn markings(alloc: Global, act: Act, numbers: &[u32]) -> Result<Items<Markin
     Ok(marks)
 }
 
-/// An act on each of these messages, of which the last becomes current; it is unwritten, where another was current
+/// An act on each of these messages, of which the last becomes current; it is unwritten, if another was current
 /// before.
 pub fn marked(alloc: Global, desk: &Desk, act: Act, numbers: &[u32]) -> Result<Effects, Memory>
     requires desk { IsDesk desk.now }

@@ -7,7 +7,8 @@ use crate::Refusal;
 use mail_text::{Memory, Text};
 use std::alloc::Global;
 
-fn line_of(alloc: Global, word: &[u8], fault: &[u8]) -> Result<Text, Memory>
+/// A word and what is wrong with it, as a line. It fails only if memory runs out.
+pub fn line_of(alloc: Global, word: &[u8], fault: &[u8]) -> Result<Text, Memory>
     ensures { IfOk result (λ line. line ≡ with_feed (word.now ++ fault.now)) }
 {
     let mut line = Text::copy(alloc, word)?;

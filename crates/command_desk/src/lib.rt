@@ -17,7 +17,7 @@ pub use effects::{
     Effects, Marking, act_on, marked, marked_and_written, markings, moved, renames, unchanged,
     written,
 };
-pub use faults::fault;
+pub use faults::{fault, line_of};
 pub use file_names::{expanded, named_after, named_plainly};
 pub use lists::{as_lines, copies, put_lines};
 pub use messages::{message, printed, put_heading, put_printed};

@@ -11,7 +11,7 @@ use mailx_macros::{MacroError, Macros};
 /// and of macros.
 #[derive(Drop)]
 pub enum Naming {
-    /// An alias has more members; where they are refused all stays.
+    /// An alias has more members; if they are refused all stays.
     Alias { name: Text, members: Items<Text> },
     /// The aliases of these names are removed.
     Unalias { names: Items<Text> },
@@ -21,17 +21,17 @@ pub enum Naming {
     Ignore { names: Items<Text> },
     /// Fields of these names are retained, beside those that were.
     Retain { names: Items<Text> },
-    /// A definition of a macro is begun; where it is refused all stays.
+    /// A definition of a macro is begun; if it is refused all stays.
     Begin { name: Text },
-    /// The definition that is under way takes a line; where it is refused, or none is under way, all stays.
+    /// The definition that is under way takes a line; if it is refused, or none is under way, all stays.
     Line { line: Text },
-    /// The definition that is under way has ended, where one is.
+    /// The definition that is under way has ended, if one is.
     End,
     /// The macros of these names are removed; a name that isn't defined is passed over.
     Undef { names: Items<Text> },
 }
 
-// Begins a definition, where that isn't refused.
+// Begins a definition, if that isn't refused.
 fn begin(macros: &mut Macros, name: &[u8]) -> Result<(), Memory>
     ensures ok { OnOk result (macros.new ≡ begun_unless_refused macros.old name.now) }
     ensures err { OnErr result (macros.new ≡ macros.old) }
@@ -43,7 +43,7 @@ fn begin(macros: &mut Macros, name: &[u8]) -> Result<(), Memory>
     }
 }
 
-// Puts a line at the end of the definition that is under way, where that isn't refused.
+// Puts a line at the end of the definition that is under way, if that isn't refused.
 fn put_line(macros: &mut Macros, line: &[u8]) -> Result<(), Memory>
     ensures ok { OnOk result (macros.new ≡ with_line_unless_refused macros.old line.now) }
     ensures err { OnErr result (macros.new ≡ macros.old) }
@@ -58,7 +58,7 @@ fn put_line(macros: &mut Macros, line: &[u8]) -> Result<(), Memory>
     }
 }
 
-// Ends the definition that is under way, where one is.
+// Ends the definition that is under way, if one is.
 #[tactic(auto, using(crate::proofs::MacroLemmas::ended_none))]
 fn end(macros: &mut Macros)
     ensures { macros.new ≡ ended macros.old }
@@ -78,7 +78,7 @@ fn undef_all(macros: &mut Macros, names: &[Text])
 }
 
 impl Desk {
-    // Changes names. After want of memory all is as before.
+    // Changes names. If memory runs out, all is as before.
     fn take_naming(&mut self, naming: Naming) -> Result<(), Memory>
         ensures ok { OnOk result (self.new ≡ renamed self.old (Some naming)) }
         ensures err { OnErr result (self.new ≡ self.old) }
@@ -105,7 +105,7 @@ impl Desk {
         }
     }
 
-    // Changes names, where they are changed. After want of memory all is as before.
+    // Changes names, if they are changed. If memory runs out, all is as before.
     pub(crate) fn rename(&mut self, naming: Option<Naming>) -> Result<(), Memory>
         ensures ok { OnOk result (self.new ≡ renamed self.old naming) }
         ensures err { OnErr result (self.new ≡ self.old) }

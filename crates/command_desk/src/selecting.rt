@@ -8,7 +8,7 @@ ghost use Rattle.command_desk.specs.Selecting.{chosen, single, list_words, last_
 use crate::faults::fault;
 use crate::{Desk, Refusal};
 use mail_text::{Items, Memory, Text};
-use message_list::{ListError, Purpose, read_list, select};
+use message_list::{ListError, Purpose};
 use std::alloc::Global;
 use std::marker::Model;
 
@@ -36,12 +36,8 @@ pub fn chosen(
     ensures some { IfOk result (λ ns. 0 < length ns) }
     ensures messages { IfOk result (λ ns. All (IsMessageOf desk.now.shown) ns) }
 {
-    let list = match read_list(alloc, words) {
-        Ok(list) => list,
-        Err(error) => return Err(list_refusal(alloc, error)),
-    };
-    match select(alloc, &list, &desk.shown, purpose) {
-        Ok(numbers) => Ok(Items::of(numbers)),
+    match message_list::chosen(alloc, words, &desk.shown, purpose) {
+        Ok(numbers) => Ok(numbers),
         Err(error) => Err(list_refusal(alloc, error)),
     }
 }
@@ -82,10 +78,10 @@ pub fn last_message(numbers: &[u32]) -> u32
     numbers[numbers.len() - 1]
 }
 
-// So many messages are looked through one by one.
+// The most messages that are looked through one by one.
 const FEW: usize = 16;
 
-/// Messages, and where they are more than a few a flag for each number, which says whether it is one of them. Contracts
+/// Messages, and if they are more than a few a flag for each number, which says whether it is one of them. Contracts
 /// see them as the list of the messages.
 #[derive(Drop)]
 pub struct Among<'a> {
@@ -118,7 +114,7 @@ fn flags_of(alloc: Global, numbers: &[u32], count: usize) -> Result<Vec<bool>, M
     Ok(flags)
 }
 
-// The flag of a number, false where there is none.
+// The flag of a number, false if there is none.
 fn flag_of(flags: &[bool], n: usize) -> bool
     ensures { result ≡ flag_of flags.now n }
 {
@@ -129,7 +125,7 @@ fn flag_of(flags: &[bool], n: usize) -> bool
 }
 
 impl<'a> Among<'a> {
-    /// The messages of a list, where there are so many messages in all.
+    /// The messages of a list, if there are `count` messages in all.
     pub fn of(alloc: Global, numbers: &'a [u32], count: usize) -> Result<Among<'a>, Memory>
         requires few { count ≤ MOST_MESSAGES }
         requires within { All (λ n. n ≤ count) numbers.now }

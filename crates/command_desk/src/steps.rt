@@ -11,7 +11,7 @@ use thiserror::Error;
 /// What a command asks for.
 #[derive(Drop)]
 pub enum Ask {
-    /// These bytes are said.
+    /// These bytes are printed.
     Say(Text),
     /// These changes of files are committed at once. Their names may be some that no file can have.
     Commit {
@@ -26,22 +26,22 @@ pub enum Ask {
         text: Text,
     },
     /// The file of this name is opened in place of the folder, once these changes were committed, which leave that.
-    /// Then the reply and the new folder's opening line are said. The names may be some that no file can have.
+    /// Then the reply and the new folder's opening line are printed. The names may be some that no file can have.
     Open {
         name: Text,
         changes: Items<Change>,
         reply: Text,
     },
     /// A message is begun: the lines of the input that follow are those of this draft, until it is over. A line feed in
-    /// a part of it but the body stands for a space. Where a file is named the message is recorded in it: the name stands
-    /// for itself, and may be one that no file can have. Where a message is named it becomes current first.
+    /// a part of it but the body stands for a space. If a file is named the message is recorded in it: the name stands
+    /// for itself, and may be one that no file can have. If a message is named it becomes current first.
     Draft {
         draft: Draft,
         file: Option<Text>,
         current: Option<u32>,
     },
-    /// This command is run by the shell of the places with this input. Its output is said, and behind it `exit status N`
-    /// where its status isn't 0; one that can't be run refuses what follows.
+    /// This command is run by the shell of the places with this input. Its output is printed, and after it
+    /// `exit status N` if its status isn't 0; one that can't be run refuses what follows.
     Child {
         command: Text,
         input: Text,
@@ -65,7 +65,7 @@ pub enum Refusal {
     /// It is refused by this line, which ends in a line feed.
     #[error("{line}")]
     Fault { line: Text },
-    /// Want of memory.
+    /// Memory ran out.
     #[error("out of memory")]
     Memory,
 }
@@ -92,7 +92,7 @@ impl From<AllocError> for Refusal {
     }
 }
 
-/// Bytes are said, and this is changed.
+/// Bytes are printed, and this is changed.
 pub fn says(alloc: Global, bytes: Text, effects: Effects) -> Result<Steps, Refusal>
     ensures means { Means result (says bytes effects) }
     ensures effects { IfOk result (λ steps. steps.effects ≡ effects) }
@@ -102,7 +102,7 @@ pub fn says(alloc: Global, bytes: Text, effects: Effects) -> Result<Steps, Refus
     Ok(Steps { asks, effects })
 }
 
-/// This is changed, and nothing is said.
+/// This is changed, and nothing is printed.
 pub fn quietly(alloc: Global, effects: Effects) -> Steps
     ensures { quietly effects ≡ Ok result }
 {

@@ -41,7 +41,7 @@ gives-more b names name bytes is =
     ap (λ (pieces : List (List ℕ)). names ++ some_of (in_front name pieces)) (cond-false (parts_names b) ([] ∷ pieces_of bytes) (onto_first b (pieces_of bytes)) is)
     ∙ ap (λ (pieces : List (List ℕ)). names ++ some_of pieces) (front-more b name (pieces_of bytes))
 
--- behind the last byte the name is over
+-- after the last byte the name is over
 pub gives-last : (names : List (List ℕ)) (name : List ℕ) → gives names name [] ≡ names ++ kept name
 unfolding some_of pieces_of
 gives-last names name =

@@ -10,7 +10,7 @@ use Rattle.command_words.specs.Words.{mailx, reads}
 use Rattle.command_words.specs.declared.options.Options.{Options}
 use Rattle.command_words.specs.declared.reading.Wanted.{Wanted}
 
--- a mode with its options, where they go together
+-- a mode with its options, if they go together
 abbrev pub wanted_by : Options → Option Wanted
 wanted_by o = option_map (λ mode. record { mode = mode; options = o }) (mode_of o)
 

@@ -8,7 +8,7 @@ pub enum WordsError {
     /// They are no command line.
     #[error("usage")]
     Usage,
-    /// Want of memory.
+    /// Memory ran out.
     #[error("out of memory")]
     Memory,
 }

@@ -10,9 +10,9 @@ const MOST_TRIES: u64 = 100_000;
 /// What the program is to do.
 #[derive(Clone, Copy, Debug, PartialEq, Eq)]
 pub enum Mode {
-    /// To try itself on so many messages, 1 to 100,000.
+    /// To try itself on `count` messages, 1 to 100,000.
     Try { count: u64 },
-    /// To say by its status whether there is mail.
+    /// To show by its status whether there is mail.
     Exists,
     /// To read a folder.
     Receive,
@@ -40,7 +40,7 @@ fn is_alone(options: &Options) -> bool
         && options.operands.items().is_empty()
 }
 
-// To try itself on so many messages.
+// To try itself on `count` messages.
 fn try_mode(count: &[u8]) -> Option<Mode>
     ensures { result ≡ try_mode count.now }
 {

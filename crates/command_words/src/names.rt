@@ -13,7 +13,7 @@ fn parts_names(byte: u8) -> bool
     is_blank(byte) || byte == b','
 }
 
-// Puts a name behind others, where it has bytes.
+// Puts a name after others, if it has bytes.
 fn keep(names: &mut Items<Text>, name: Text) -> Result<(), Memory>
     ensures { IfOk result (λ _. names.new ≡ names.old ++ kept name) }
 {

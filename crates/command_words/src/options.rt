@@ -14,11 +14,11 @@ use std::alloc::Global;
 pub struct Options {
     /// `-e`: whether there is mail is all that is asked.
     pub exists: bool,
-    /// `-H`: the summary lines of all messages are said.
+    /// `-H`: the summary lines of all messages are printed.
     pub headers: bool,
     /// `-i`, which has no effect.
     pub ignores: bool,
-    /// `-N`: nothing is said of the folder at the start.
+    /// `-N`: nothing is printed of the folder at the start.
     pub quiet: bool,
     /// `-n`: the system's start-up file isn't read.
     pub no_system_file: bool,

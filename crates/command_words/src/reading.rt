@@ -25,7 +25,7 @@ pub struct Wanted {
     pub options: Options,
 }
 
-// Whether a parse failed for want of memory.
+// Whether a parse failed because memory ran out.
 fn is_memory(e: &Error) -> bool
     ensures { IsTrue result ↔ (kind_of e.now ≡ ErrorKind.OutOfMemory) }
 {
@@ -62,11 +62,11 @@ fn parsed(alloc: Global, words: &[&str]) -> Result<Options, WordsError>
 
 /// What the words of the command line ask for; they leave the program's own name out. Flags are `-e -H -i -N -n -F
 /// -f`, options with a value `-u -s -b -c` and `--try`. Flags may be grouped; a value is the rest of its word or the
-/// next word, and `--try=N` is `--try N`; options may stand behind operands, and `--` ends them.
+/// next word, and `--try=N` is `--try N`; options may stand after operands, and `--` ends them.
 ///
-/// `Usage` comes exactly where a word isn't UTF-8, an option is unknown or given twice, a value is missing, a next
+/// `Usage` comes exactly if a word isn't UTF-8, an option is unknown or given twice, a value is missing, a next
 /// word as value begins with `-`, a word is `-` alone, a short option's value begins with `=` in its word, or an
-/// operand is empty; and where they don't go together: `--try`, with a number from 1 to 100,000 without a zero in
+/// operand is empty; and if they don't go together: `--try`, with a number from 1 to 100,000 without a zero in
 /// front, goes with nothing else; `-e` with `-i` and `-n` alone; `-f` with at most one operand, and without `-u -s -b
 /// -c`; without `-f`, operands go without `-H -N -u`, and `-s -b -c` with operands alone.
 pub fn read_words(alloc: Global, words: &[Text]) -> Result<Wanted, WordsError>

@@ -6,7 +6,7 @@ use crate::error::WordsError;
 use mail_text::Text;
 use std::alloc::Global;
 
-// The words as text. `Usage` comes where one isn't UTF-8.
+// The words as text. `Usage` comes if one isn't UTF-8.
 pub(crate) fn texts<'a>(alloc: Global, words: &'a [Text]) -> Result<Vec<&'a str>, WordsError>
     ensures texts { IfOk result (λ texts. map (λ text. text.now) texts.items ≡ words.now) }
     ensures utf8 { IfOk result (λ texts. list_all is_utf8 words.now ≡ true) }

@@ -153,7 +153,7 @@ module _ (plan : Plan) (old : Place) (q : IsPlace plan old) (safe : IsSafe plan)
       ))
       now is
 
-  -- a load that wants memory
+  -- a load that runs out of memory
   short-follows : (j : Job) (s : Step) (t : State) (hidden : Ending) (made : List Made) → IsPlan j plan → Fits n m s → Loads s → state_as j hidden made old.found old.files s ≡ t → StandsFor j (at_step old (short_at n s)) (wanted j t)
   short-follows j step.Looking t hidden made p f l is =
       record { hidden = NoMemory; wanted = inl refl; made = made; holds = tt; is = ap (wanted j) is }

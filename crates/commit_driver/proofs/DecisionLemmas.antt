@@ -15,7 +15,7 @@ use Rattle.commit_driver.specs.Judging.{Judges, TroubleFits}
 use Rattle.commit_driver.specs.Places.{files_of, decided_record}
 use Rattle.commit_driver.specs.Answers.{judged_at, TakesAll, Takes, WritesGo}
 
--- want of memory may stand for what the files were judged as
+-- running out of memory may stand for what the files were judged as
 judged-still : (changes : List Change) (base names : List (List ℕ)) (files made : List (Option (List ℕ))) (judged result : Result Unit Trouble) → (result ≡ judged) ⊎ (result ≡ Err trouble.Memory) → Judges changes base names files judged made → Judges changes base names files result made
 judged-still changes base names files made judged result (inl same) j = subst (λ (r : Result Unit Trouble). Judges changes base names files r made) (sym same) j
 judged-still changes base names files made judged result (inr short) j = subst (λ (r : Result Unit Trouble). Judges changes base names files r made) (sym short) (λ fs distinct seen. tt)

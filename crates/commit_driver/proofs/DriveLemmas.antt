@@ -34,7 +34,7 @@ use Rattle.commit_driver.specs.Places.{files_of, entries_of, call_in, end_as, be
 use Rattle.commit_driver.specs.Answers.{reply_as, is_long, is_settled, EndCaused, ThenCaused, Caused, ReplyCaused, IsAfter}
 use Rattle.commit_driver.specs.Drives.{AnswersSo, Performed, IsFor, is_past_limit, Drives}
 
--- want of memory in place of the next call
+-- memory runs out in place of the next call
 pub goes-refused : (j : Job) (s mid last : State) (es : List Event) → refused j mid ≡ last → Goes j s es mid → Goes j s es last
 goes-refused j s mid last [] p (inl q) = inr (ap (refused j) q ∙ p)
 goes-refused j s mid last [] p (inr q) = inr (sym (refused_twice j s) ∙ ap (refused j) q ∙ p)

@@ -165,7 +165,7 @@ pub judged-empty : (xs : List Change) (base : List (List ℕ)) (names : List (Li
 judged-empty [] base names seen short = judged-none base names seen
 judged-empty (x ∷ xs) base names seen short = absurd (omega (arith, short))
 
--- what is behind the first
+-- what is after the first
 abbrev pub rest_of : {A : Type 0} → List A → List A
 rest_of xs = take (length xs - 1) (drop 1 xs)
 

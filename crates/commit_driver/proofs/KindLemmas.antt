@@ -21,7 +21,7 @@ nth-Mem [] at l = absurd (omega (arith, l))
 nth-Mem (n ∷ ns) zero l = inl refl
 nth-Mem (n ∷ ns) (suc at) l = inr (nth-Mem ns at (omega (arith, l)))
 
--- a name behind the first is another
+-- a name after the first is another
 behind : (n m : List ℕ) (ns : List (List ℕ)) → has ns n ≡ false → Mem m ns → bytes_eq m n ≡ false
 behind n m ns h mem = same_false m n (λ e. let w : has ns n ≡ true = Mem_has ns n (subst (λ (z : List ℕ). Mem z ns) e mem) in absurd (cc))
 

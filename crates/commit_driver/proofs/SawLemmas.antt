@@ -54,7 +54,7 @@ use Rattle.commit_driver.proofs.NextLemmas.{names-long, files-long, edits-long}
 use Rattle.commit_driver.proofs.FitLemmas.{of-if, of-unlocking, of-staging}
 use Rattle.commit_driver.proofs.AnswerLemmas.{looked-none, holds-placing, holds-undoing, holds-tested, tested-same}
 
--- want of memory while a record that was found is closed
+-- memory runs out while a record that was found is closed
 refused-unlocking : (j : Job) (r : Record) (ls : List (List ℕ)) → refused j (unlocking r ls GoOn) ≡ machine.Releasing NoMemory
 refused-unlocking j r [] = refl
 refused-unlocking j r (l ∷ ls) = refl

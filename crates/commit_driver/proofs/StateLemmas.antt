@@ -17,7 +17,7 @@ use Rattle.commit_driver.specs.declared.step.Step.TheVariants.{Undoing, Unlockin
 use Rattle.commit_driver.specs.Steps.{Kinds, unlocking_at, undoing_at, place_at, placing_at, locking_at, staging_at}
 use Rattle.commit_driver.specs.Places.{nth, then_as, record_as, names_as, made_by, made_from, state_as}
 
--- what stands at a place of a list, and what is behind it
+-- what stands at a place of a list, and what is after it
 some-at : {A : Type 0} (xs : List A) (at : ℕ) → at < length xs → (x : A) × (drop at xs ≡ x ∷ drop (suc at) xs)
 some-at [] at l = absurd (omega (arith, l))
 some-at (x ∷ xs) zero l = (x, refl)

@@ -63,7 +63,7 @@ IsAnswer (Some c) r = ⊥
 abbrev pub mending_at : Record → Step
 mending_at r = if is_go r then placing_at (kinds_in r.entries []) 0 (length r.entries) GoOn else undoing_at 0 (length r.entries) (length r.entries) GoOn
 
--- the step once all of so many files are loaded and judged
+-- the step once all of n files are loaded and judged
 abbrev pub judged_at : ℕ → Result Unit Trouble → Step
 judged_at n (Ok u) = staging_at 0 n
 judged_at n (Err (trouble.Changed k message)) = unlocking_at 0 n (Answer (end.Changed k message))
@@ -94,7 +94,7 @@ abbrev pub Looks : Plan → Option (List ℕ) → Place → Place → Type 0
 Looks plan None old now = now ≡ at_step old (if plan.commits then step.Preparing else step.Clearing recovered.Nothing)
 Looks plan (Some bytes) old now = (result : Result Found End) × Finds bytes result × LooksAt result old now
 
--- The text of the decision is written where the files were judged so, unless memory is wanting.
+-- The text of the decision is written if the files were judged so, unless memory runs out.
 pub record WritesGo (plan : Plan) (judged : Result Unit Trouble) (old : Place) (result : Result Unit Trouble) (now : Place) : Type 0 where
   pub same : (result ≡ judged) ⊎ (result ≡ Err trouble.Memory)
   pub go : List ℕ
@@ -137,11 +137,11 @@ pub record IsCommitOf (j : Job) (changes : List Change) (base : List (List ℕ))
   pub edits_are : j.edits ≡ Some (edits_for changes base)
   pub refusal_is : (files : Files) → j.refusal files ≡ option_map cause_of (first_refusal changes base files)
 
--- the state is this one, or want of memory came in place of its next call
+-- the state is this one, or memory ran out in place of its next call
 abbrev pub Follows : Job → Place → State → Type 0
 Follows j place s = (t : State) × ((t ≡ s) ⊎ (t ≡ refused j s)) × StandsFor j place t
 
--- whether the end is settled, and isn't want of memory
+-- whether the end is settled, and isn't that memory ran out
 abbrev pub settled_end : End → Bool
 settled_end end.NoMemory = false
 settled_end e = true
@@ -166,7 +166,7 @@ abbrev pub is_long : Reply → Bool
 is_long (reply.Long n) = true
 is_long r = false
 
--- A fault is told only where the count of disk faults rose from one number to another, and too many bytes only past the limit.
+-- A fault is told only if the count of disk faults rose from one number to another, and too many bytes only past the limit.
 abbrev pub EndCaused : ℕ → ℕ → End → Type 0
 EndCaused before now (end.Failed p) = Rose before now
 EndCaused before now (end.RecordTooLarge n) = load_limit < n

@@ -34,8 +34,8 @@ abbrev pub is_past_limit : Event → Bool
 is_past_limit (Load name (seen.TooLarge length)) = true
 is_past_limit e = false
 
--- The events carry the machine of the job from its start to this end, where this record was found. Want of memory hides no load that met
--- too many bytes.
+-- The events carry the machine of the job from its start to this end, if this record was found. Running out of memory hides no load that
+-- met too many bytes.
 pub record Drives (j : Job) (found : Record) (es : List Event) (result : End) : Type 0 where
   pub hidden : Ending
   pub wanted : WantedAs (all_of j) hidden

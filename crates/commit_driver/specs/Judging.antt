@@ -19,7 +19,7 @@ abbrev pub excess_of : Option (List ℕ) → Option ℕ
 excess_of None = None
 excess_of (Some bytes) = if nat_le (length bytes) load_limit then None else Some (length bytes)
 
--- the number of a name among names; how many there are where it isn't among them
+-- the number of a name among names; how many there are if it isn't among them
 abbrev pub number_in : List (List ℕ) → List ℕ → ℕ
 number_in [] n = 0
 number_in (m ∷ ms) n = if bytes_eq n m then 0 else number_in ms n + 1
@@ -33,7 +33,7 @@ JudgesOne change base at files (Err (trouble.TooLarge k n)) now =
     (now ≡ files) × (k ≡ at) × ((file : Option (List ℕ)) × (outcome_of (get_or files at None) change base ≡ Ok file) × (excess_of file ≡ Some n))
 JudgesOne change base at files (Err trouble.Memory) now = now ≡ files
 
--- the files of these names after all changes, or why they can't be made, which want of memory may hide
+-- the files of these names after all changes, or why they can't be made, which running out of memory may hide
 abbrev pub JudgesSo : List Change → List (List ℕ) → List (List ℕ) → Files → Result Unit Trouble → List (Option (List ℕ)) → Type 0
 JudgesSo changes base names files (Ok u) now = (first_refusal changes base files ≡ None) × (now ≡ map (apply changes base files) names)
 JudgesSo changes base names files (Err (trouble.Changed k message)) now = first_refusal changes base files ≡ Some (ChangedAt (get_or names k []) message)
@@ -43,7 +43,7 @@ JudgesSo changes base names files (Err trouble.Memory) now = Unit {0}
 abbrev pub Judges : List Change → List (List ℕ) → List (List ℕ) → List (Option (List ℕ)) → Result Unit Trouble → List (Option (List ℕ)) → Type 0
 Judges changes base names seen result now = (files : Files) → AreDistinct names → seen ≡ map files names → JudgesSo changes base names files result now
 
--- the number of a file in a trouble is one of so many, and too many bytes are past the limit
+-- the number of a file in a trouble is one of n, from 0, and too many bytes are past the limit
 abbrev pub TroubleFits : ℕ → Result Unit Trouble → Type 0
 TroubleFits n (Err (trouble.Changed k message)) = k < n
 TroubleFits n (Err (trouble.TooLarge k long)) = (k < n) × (load_limit < long)

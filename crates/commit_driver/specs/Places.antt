@@ -36,7 +36,7 @@ use Rattle.commit_driver.specs.declared.place.Plan.{Plan}
 use Rattle.commit_driver.specs.declared.place.Place.{Place}
 use Rattle.commit_driver.specs.Steps.{Kinds, Fits}
 
--- a place before the first call, with room for so many files
+-- a place before the first call, with room for as many files as these
 abbrev pub begun : List (Option (List ℕ)) → Place
 begun files = record { step = step.Seizing; found = record { phase = Prepare; token = 0; entries = [] }; found_staged = []; files = files; go = [] }
 
@@ -115,7 +115,7 @@ found_as recovered.Nothing = jobs.Nothing
 found_as recovered.RolledBack = jobs.RolledBack
 found_as recovered.Finished = jobs.Finished
 
--- The machine's end that an end is, where this record was found. Want of memory may stand for another end, which it hides.
+-- The machine's end that an end is, if this record was found. Running out of memory may stand for another end, which it hides.
 abbrev pub end_as : Job → Ending → Record → End → Ending
 end_as j hidden found end.Done = jobs.Done
 end_as j hidden found (end.Recovered f) = jobs.Recovered (found_as f)
@@ -152,7 +152,7 @@ outcome_kind (Puts kind content) = kind
 abbrev pub outcome_content : Outcome → List ℕ
 outcome_content (Puts kind content) = content
 
--- what is made of edits where their files were loaded so
+-- what is made of edits if their files were loaded so
 abbrev pub made_by : Edit → Option (List ℕ) → Outcome → Made
 made_by e seen o = record { edit = e; seen = seen; kind = outcome_kind o; content = outcome_content o }
 
@@ -161,7 +161,7 @@ made_from [] files = []
 made_from (e ∷ es) [] = []
 made_from (e ∷ es) (file ∷ files) = made_by e file (e.by file) ∷ made_from es files
 
--- The state that a step stands for: in a job, with what want of memory hides, what was made of the files, the record that was found,
+-- The state that a step stands for: in a job, with what running out of memory hides, what was made of the files, the record that was found,
 -- and the files that were loaded.
 abbrev pub state_as : Job → Ending → List Made → Record → List (Option (List ℕ)) → Step → State
 state_as j hidden made found files step.Seizing = machine.Seizing
@@ -190,8 +190,8 @@ state_as j hidden made found files step.Checking = machine.Checking
 state_as j hidden made found files (step.Releasing e) = machine.Releasing (end_as j hidden found e)
 state_as j hidden made found files (step.Ended e) = machine.Ended (end_as j hidden found e)
 
--- What want of memory may hide, in a commit of files of these names. To read the record takes memory, and so does to judge the changes of a
--- file. A right or a lock that another has is seen without memory.
+-- What running out of memory may hide, in a commit of files of these names. To read the record takes memory, and so does to judge the
+-- changes of a file. A right or a lock that another has is seen without memory.
 abbrev pub MayHide : List (List ℕ) → jobs.Refusal → Type 0
 MayHide files (jobs.Busy n) = ⊥
 MayHide files jobs.NotARecord = Unit {0}

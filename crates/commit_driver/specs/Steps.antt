@@ -159,21 +159,21 @@ abbrev pub faulted_at : Step → Step
 faulted_at Committing = Checking
 faulted_at s = Releasing (Failed (passed_at s))
 
--- after a load that met so many bytes, where there are n files
+-- after a load that met `length` bytes, if there are n files
 abbrev pub long_at : ℕ → Step → ℕ → Step
 long_at n Looking length = Releasing (RecordTooLarge length)
 long_at n (Testing at) length = Releasing (StagedTooLarge at length)
 long_at n (Loading at) length = unlocking_at 0 n (Answer (TooLarge at length))
 long_at n s length = Releasing (Failed (passed_at s))
 
--- after a load that wants memory
+-- after a load that ran out of memory
 abbrev pub short_at : ℕ → Step → Step
 short_at n Looking = Releasing NoMemory
 short_at n (Testing at) = Releasing NoMemory
 short_at n (Loading at) = unlocking_at 0 n (Answer NoMemory)
 short_at n s = Releasing (Failed (passed_at s))
 
--- after a look for the staged file of a removal, where m entries were found
+-- after a look for the staged file of a removal, if m entries were found
 abbrev pub tested_at : Kinds → ℕ → ℕ → Bool → Step
 tested_at kinds m at true = Removing at GoOn
 tested_at kinds m at false = placing_at kinds (at + 1) m GoOn
@@ -183,7 +183,7 @@ abbrev pub closed_at : Bool → Then → Step
 closed_at decided GoOn = Clearing (if decided then recovered.Finished else recovered.RolledBack)
 closed_at decided (Answer e) = Releasing e
 
--- After a call that went so: in a commit or not, of n files, where a record of m entries was found that was decided or wasn't.
+-- After a call that went so: in a commit or not, of n files, if a record of m entries was found that was decided or wasn't.
 abbrev pub went_at : Kinds → Bool → ℕ → ℕ → Bool → Step → Bool → Step
 went_at kinds commits n m decided Seizing true = Looking
 went_at kinds commits n m decided Seizing false = Ended RightBusy

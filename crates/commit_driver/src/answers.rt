@@ -29,9 +29,9 @@ pub enum Reply {
     Went(bool),
     /// This file was loaded.
     Saw(Option<Text>),
-    /// A file of so many bytes is too large to load.
+    /// A file of this number of bytes is too large to load.
     Long(u64),
-    /// A load wants memory.
+    /// A load ran out of memory.
     Short,
     /// The call failed.
     Fault,
@@ -87,7 +87,7 @@ fn is_decided(value: &Record) -> bool
     }
 }
 
-// How many names there are to do: of so many files, or of so many entries that were found.
+// How many names there are to do: of `files` files, or of `entries` entries that were found.
 fn count(files: usize, entries: usize, then: Then) -> usize
     ensures { result ≡ count_at files entries then }
 {
@@ -145,7 +145,7 @@ fn placing(place: &Place, at: usize, then: Then) -> Step
     }
 }
 
-// The first step for the entry behind this one.
+// The first step for the entry after this one.
 fn placing_next(place: &Place, at: usize, then: Then) -> Step
     requires { at < count_at (length place.now.files) (entries_of place.now) then }
     ensures { result ≡ placing_at (kinds_of place.now) (at + 1)
@@ -243,7 +243,7 @@ fn short(files: usize, step: Step) -> Step
     }
 }
 
-// After a call that went so, in a commit or not, of so many files.
+// The step after a call that is answered `did`, in a commit or not, of `files` files.
 fn went(commits: bool, files: usize, place: &Place, did: bool) -> Step
     requires fits { Fits files (entries_of place.now) place.now.step }
     requires files { files ≡ length place.now.files }
@@ -273,8 +273,8 @@ fn went(commits: bool, files: usize, place: &Place, did: bool) -> Step
     }
 }
 
-// The staged names of entries, in order.
-fn staged_names(alloc: Global, token: u64, entries: &[Entry]) -> Result<Items<Text>, Memory>
+/// The staged names of entries, in order. It fails only if memory runs out.
+pub fn staged_names(alloc: Global, token: u64, entries: &[Entry]) -> Result<Items<Text>, Memory>
     ensures { IfOk result (λ s. s ≡ map (λ e. staged_name token e.name) entries.now) }
 {
     let mut staged = Items::new(alloc);
@@ -292,7 +292,7 @@ pub struct Found {
     pub staged: Items<Text>,
 }
 
-// Reads the record that stands, and makes the staged names of its entries; or the end that follows where that can't be
+// Reads the record that stands, and makes the staged names of its entries; or the end that follows if that can't be
 // done.
 fn read_found(alloc: Global, bytes: &[u8]) -> Result<Found, End>
     ensures { Finds bytes.now result }

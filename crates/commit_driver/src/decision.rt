@@ -7,7 +7,7 @@ use commit_record::{Entry, EntryKind, Phase, Record, write};
 use mail_text::{Items, Memory, Text};
 use std::alloc::Global;
 
-/// What becomes of a file that is to be so: where it is to be absent, it is removed.
+/// What becomes of a file that is to be so: if it is to be absent, it is removed.
 pub fn file_kind(file: &Option<Text>) -> EntryKind
     ensures { result ≡ file_kind file.now }
 {

@@ -19,9 +19,9 @@ const MOST_BYTES: usize = 268_435_456;
 pub enum Trouble {
     /// The file has changed at this message.
     Changed { file: usize, at: u64 },
-    /// The file would have so many bytes.
+    /// The file would have `length` bytes.
     TooLarge { file: usize, length: u64 },
-    /// Want of memory.
+    /// Memory ran out.
     Memory,
 }
 
@@ -51,7 +51,7 @@ fn excess(file: &Option<Text>) -> Option<u64>
     }
 }
 
-// The number of the entry of this name; where there is none, how many there are.
+// The number of the entry of this name; if there is none, how many there are.
 fn number_of(entries: &[Entry], name: &[u8]) -> usize
     ensures number { result ≡ number_in (map (λ e. e.name) entries.now) name.now }
     ensures bound { result ≤ length entries.now }

@@ -11,7 +11,7 @@ mod next;
 mod place;
 mod step;
 
-pub use answers::{Reply, after};
+pub use answers::{Reply, after, staged_names};
 pub use driving::{drive, perform};
 pub use next::{Call, Name, named, next_call};
 pub use place::{Place, Plan};

@@ -42,7 +42,7 @@ pub enum Call {
     Lock(usize),
     /// The lock of a file of the plan is taken away.
     Unlock(usize),
-    /// The same of an entry's file.
+    /// The lock of an entry's file is taken away.
     UnlockFound(usize),
     Seize,
     Release,

@@ -31,7 +31,7 @@ pub struct Plan {
 pub struct Place {
     /// What is next.
     pub step: Step,
-    /// The record that was found, with no entry where none was.
+    /// The record that was found, with no entry if none was.
     pub found: Record,
     /// The staged names of its entries.
     pub found_staged: Items<Text>,

@@ -35,17 +35,17 @@ pub enum End {
     Busy(usize),
     /// What stands as the record is none.
     NotARecord,
-    /// The record has so many bytes.
+    /// The record has this number of bytes.
     RecordTooLarge(u64),
-    /// The staged file of this entry of the record that was found has so many bytes.
+    /// The staged file of this entry of the record that was found has this number of bytes.
     StagedTooLarge(usize, u64),
-    /// This file has or would have so many bytes.
+    /// This file has or would have this number of bytes.
     TooLarge(usize, u64),
     /// This file has changed at this message.
     Changed(usize, u64),
     /// A call failed.
     Failed(Passed),
-    /// Want of memory.
+    /// Memory ran out.
     NoMemory,
 }
 
@@ -66,7 +66,7 @@ pub enum Step {
     Seizing,
     /// The record that stands is loaded.
     Looking,
-    /// A staged file of this entry is taken away, up to so many; so many locks follow.
+    /// A staged file of this entry is taken away, up to the second number; as many locks as the third follow.
     Undoing(usize, usize, usize, Then),
     /// The staged file of this entry is put in place.
     Placing(usize, Then),
@@ -76,7 +76,7 @@ pub enum Step {
     Removing(usize, Then),
     /// Then its staged file is.
     Discarding(usize, Then),
-    /// The lock of this entry is taken away, up to so many.
+    /// The lock of this entry is taken away, up to the second number.
     Unlocking(usize, usize, Then),
     /// The record is taken away.
     Erasing(Then),

@@ -38,7 +38,7 @@ same_lock None None = true
 same_lock (Some a) (Some b) = a == b
 same_lock a b = false
 
--- a step of others puts the new content where it changes the settled one
+-- a step of others puts the new content if it changes the settled one
 abbrev pub renewed : {A : Type 0} → (Option A → Option A → Bool) → Option A → Option A → Option A → Option A
 renewed same old new value = if same old new then value else new
 

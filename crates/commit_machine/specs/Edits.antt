@@ -36,7 +36,7 @@ abbrev pub cause_of : ChangeRefusal → Refusal
 cause_of (ChangedAt name at) = Changed name at
 cause_of (TooLong name length) = TooLarge name length
 
--- The commit of changes. It is refused where a change, in order, can't be made on the files that were loaded.
+-- The commit of changes. It is refused if a change, in order, can't be made on the files that were loaded.
 abbrev pub job_for : List ℕ → ℕ → List Change → List (List ℕ) → Job
 job_for actor token changes base = record {
   actor = actor;

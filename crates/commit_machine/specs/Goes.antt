@@ -46,7 +46,7 @@ abbrev pub IsNext : Option Call → Event → Type 0
 IsNext None e = ⊥
 IsNext (Some c) e = IsOf c e
 
--- The events carry the machine from a state to another. Want of memory may be met in place of any call.
+-- The events carry the machine from a state to another. Memory may run out in place of any call.
 abbrev pub Goes : Job → State → List Event → State → Type 0
 Goes j s [] last = (s ≡ last) ⊎ (refused j s ≡ last)
 Goes j s (e ∷ es) last = (now : State) × ((now ≡ s) ⊎ (now ≡ refused j s)) × IsNext (next j now) e × Goes j (after_reply j now (reply e)) es last

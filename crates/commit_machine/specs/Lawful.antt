@@ -29,7 +29,7 @@ HasRight actor d = d.rights (right_name actor) ≡ Some Own
 abbrev pub IsGuarded : List ℕ → ℕ → Disk → ℕ → Type 0
 IsGuarded actor token d u = (u ≡ token) ⊎ ((r : Record) × (standing actor d ≡ Some r) × (r.token ≡ u))
 
--- A file may be written or removed where its lock has no guarded token and it is no staged name of such a token. A record name
+-- A file may be written or removed if its lock has no guarded token and it is no staged name of such a token. A record name
 -- may be touched only while the run hasn't the right and no record stands, and no record of the run's token may come.
 pub record IsLawfulWrite (actor : List ℕ) (token : ℕ) (d : Disk) (n : List ℕ) (c : Option (List ℕ)) : Type 0 where
   pub unlocked : (u : ℕ) → IsGuarded actor token d u → d.locks n ≢ Some u

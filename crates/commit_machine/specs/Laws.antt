@@ -102,7 +102,7 @@ RecoverySettles = (j : Job) (d : Disk) (es : List Event) (found : Found) (n : Li
     → (settled_files j.actor (disk d (es ++ Release (right_name j.actor) ∷ [])) n ≡ (disk d (es ++ Release (right_name j.actor) ∷ [])).files n)
     × (settled_locks j.actor (disk d (es ++ Release (right_name j.actor) ∷ [])) n ≡ (disk d (es ++ Release (right_name j.actor) ∷ [])).locks n)
 
--- how many decisions events hold, after so many
+-- n, and one more for each decision that events hold
 abbrev pub decisions : Job → Disk → ℕ → List Event → ℕ
 decisions j d n [] = n
 decisions j d n (e ∷ es) = decisions j (after d e) (if is_decision j e d then suc n else n) es
@@ -114,7 +114,7 @@ TellsDecisions (Failed After) n = n ≡ 1
 TellsDecisions (Failed Unknown) n = (n ≡ 0) ⊎ (n ≡ 1)
 TellsDecisions e n = n ≡ 0
 
--- A run that ends as done was decided once; one that is refused, meets want of memory or recovers was never decided; and one that fails says
+-- A run that ends as done was decided once; one that is refused, runs out of memory or recovers was never decided; and one that fails says
 -- whether it was, or that it doesn't know.
 abbrev pub DecisionsAreTold : Type 0
 DecisionsAreTold = (j : Job) (d : Disk) (es : List Event) (end : Ending) → IsRun j d es (Ended end) → TellsDecisions end (decisions j d 0 es)

@@ -21,8 +21,8 @@ pub data State : Type 0 where
   -- a record, the name that is next, the names after it, and the names to unlock then
   Undoing : Record → List ℕ → List (List ℕ) → List (List ℕ) → Then → State
   Placing : Record → List ℕ → List (List ℕ) → List (List ℕ) → Then → State
-  -- The same of a file that is removed. Where the record was found, its staged file is looked for first; then the file is taken away, and
-  -- then its staged file.
+  -- A record, the name of a file that is removed, the names after it, and the names to unlock then. If the record was found, the staged
+  -- file is looked for first; then the file is taken away, and then its staged file.
   Testing : Record → List ℕ → List (List ℕ) → List (List ℕ) → State
   Removing : Record → List ℕ → List (List ℕ) → List (List ℕ) → Then → State
   Discarding : Record → List ℕ → List (List ℕ) → List (List ℕ) → Then → State
@@ -179,7 +179,7 @@ passed_at (Ended e) = passed_ending e
 passed_at Checking = Unknown
 passed_at s = Before
 
--- after a failed call nothing more is done but the release; where the decision was in flight, the record is looked at first
+-- after a failed call nothing more is done but the release; if the decision was in flight, the record is looked at first
 abbrev pub faulted : State → State
 faulted (Committing done) = Checking
 faulted s = Releasing (Failed (passed_at s))
@@ -192,7 +192,7 @@ is_own_go j (Some r) = is_go r && (r.token == j.token)
 unfoldable pub go_front : ℕ → List ℕ
 go_front token = line (codes "mailx-commit 1") ++ line (codes "phase " ++ phase_word Go) ++ line (codes "token " ++ token_digits token)
 
--- the decision was passed where what was loaded as the record begins with these lines
+-- the decision was passed if what was loaded as the record begins with these lines
 abbrev pub passed_by : Job → Option (List ℕ) → Passed
 passed_by j None = Before
 passed_by j (Some bytes) = if starts_with nat_eq bytes (go_front j.token) then After else Before
@@ -233,7 +233,7 @@ went_on j (Committing done) false = Releasing (Refused NotARecord)
 went_on j (Releasing why) b = Ended why
 went_on j s b = Releasing (Failed (passed_at s))
 
--- Want of memory in place of the next call: the clean-up. A clean-up that has begun takes no memory, nor does what follows a decision.
+-- Memory runs out in place of the next call: the clean-up. A clean-up that has begun takes no memory, nor does what follows a decision.
 abbrev pub refused : Job → State → State
 refused j Seizing = Ended NoMemory
 refused j Looking = Releasing NoMemory
@@ -254,7 +254,7 @@ refused j (Deciding done) = refusing j (all_of j) (all_of j) NoMemory
 refused j (Committing done) = refusing j (all_of j) (all_of j) NoMemory
 refused j s = s
 
--- a load that wants memory: that of a decision in flight counts as a failed one
+-- a load that runs out of memory: that of a decision in flight counts as a failed one
 abbrev pub wanted : Job → State → State
 wanted j Checking = Releasing (Failed Unknown)
 wanted j s = refused j s

@@ -9,7 +9,7 @@ use Rattle.folder_change.specs.Apply.{Files, outcome_on, after}
 pub data ChangeRefusal : Type 0 where
   -- the file has changed at the message of this number
   ChangedAt : List ℕ → ℕ → ChangeRefusal
-  -- the file would have so many bytes
+  -- the file would have this number of bytes
   TooLong : List ℕ → ℕ → ChangeRefusal
 
 -- why this outcome can't be had for the file of this name; None: it can

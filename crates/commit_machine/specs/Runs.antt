@@ -23,7 +23,7 @@ use Rattle.commit_machine.specs.Laws.{IsRun, IsSettledAs, in_flight}
 use Rattle.commit_machine.specs.Restraints.{is_failed, may_act}
 use Rattle.commit_machine.specs.EventRows.{is_disk}
 
--- the files due after one more event, where a decision makes this of them
+-- the files due after one more event, if a decision makes this of them
 abbrev pub made_then : (Files → Files) → Job → Event → Disk → Files → Files
 made_then make j (Foreign f) d files n = renewed same_file (settled_files j.actor d n) (settled_files j.actor (after_step d f) n) (files n)
 made_then make j e d files n = if is_decision j e d then make files n else files n
@@ -32,7 +32,7 @@ abbrev pub made_after : (Files → Files) → Job → Disk → Files → List Ev
 made_after make j d files [] = files
 made_after make j d files (e ∷ es) = made_after make j (after d e) (made_then make j e d files) es
 
--- the files and locks that are due after events from a disk, where a decision makes this of the files
+-- the files and locks that are due after events from a disk, if a decision makes this of the files
 abbrev pub IsDueAs : (Files → Files) → Job → Disk → List Event → Disk → Type 0
 IsDueAs make j d es now = IsSettledAs j.actor now (made_after make j d (settled_files j.actor d) es) (locks_after j d (settled_locks j.actor d) es)
 
@@ -69,7 +69,7 @@ pub record RunsSafely (make : Files → Files) (j : Job) (d : Disk) (es : List E
   pub locked_out : (front rest : List Event) (n : List ℕ) (t : ℕ) → es ≡ front ++ Lock n t false false ∷ rest → IsOthers j.token ((disk d front).locks n)
   pub only_disk : (e : Event) → Mem e (own es) → is_disk e ≡ true
 
--- a run that ended is safe, where this is what the job's edits make of the files
+-- a run that ended is safe, if this is what the job's edits make of the files
 abbrev pub RunsAreSafe : Type 0
 RunsAreSafe = (make : Files → Files) (j : Job) (d : Disk) (es : List Event) (end : Ending)
     → ((files : Files) (n : List ℕ) → applied (edits_of j) files n ≡ make files n)

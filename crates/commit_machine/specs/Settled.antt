@@ -23,13 +23,13 @@ abbrev pub hides : List ℕ → Option Record → List ℕ → Bool
 hides actor None name = is_record_name actor name
 hides actor (Some r) name = is_record_name actor name || is_staged_of r name
 
--- a file with its staged file put in place, where that one stands; for a removal that takes the file away
+-- a file with its staged file put in place, if that one stands; for a removal that takes the file away
 abbrev pub put_in : EntryKind → Option (List ℕ) → Option (List ℕ) → Option (List ℕ)
 put_in kind file None = file
 put_in Replace file (Some bytes) = Some bytes
 put_in Remove file (Some bytes) = None
 
--- where the commit was decided, each staged file is put in place
+-- if the commit was decided, each staged file is put in place
 abbrev pub placed : Option Record → Files → List ℕ → Option (List ℕ)
 placed None files name = files name
 placed (Some r) files name = if is_go r && has (names_of r) name then put_in (kind_of r name) (files name) (files (staged_name r.token name)) else files name
@@ -59,7 +59,7 @@ abbrev pub Mem : {A : Type 0} → A → List A → Type 0
 Mem x [] = ⊥
 Mem x (y ∷ ys) = (x ≡ y) ⊎ Mem x ys
 
--- Where the record says that the commit was decided, none of its names is a record name of the actor, and each staged file that
+-- If the record says that the commit was decided, none of its names is a record name of the actor, and each staged file that
 -- stands has its lock.
 pub record IsSoundAt (actor : List ℕ) (files : Files) (locks : Locks) : Type 0 where
   pub plain : (r : Record) (n : List ℕ) → record_in (files (record_name actor)) ≡ Some r → is_go r ≡ true → Mem n (names_of r) → is_record_name actor n ≡ false

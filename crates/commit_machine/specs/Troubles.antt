@@ -12,7 +12,7 @@ use Rattle.commit_machine.specs.Machine.{Seizing, Ended}
 use Rattle.commit_machine.specs.Goes.{Goes}
 use Rattle.commit_machine.specs.Worked.{home, out, one_file, record_for, commit_of_one}
 
--- the commit of one file may end so, where its events are these
+-- the commit of one file may end so, if its events are these
 abbrev pub MayEnd : List Event → Ending → Type 0
 MayEnd es end = Goes one_file Seizing es (Ended end)
 
@@ -32,7 +32,7 @@ file_too_long = take 5 commit_of_one ++ Load out (seen.TooLarge 5) ∷ clean_up
 abbrev pub no_memory : List Event
 no_memory = take 5 commit_of_one ++ Load out seen.Memory ∷ clean_up
 
--- memory is wanting where the file would be staged
+-- memory runs out where the file would be staged
 abbrev pub no_memory_to_stage : List Event
 no_memory_to_stage = take 6 commit_of_one ++ clean_up
 
@@ -52,7 +52,7 @@ failed_staging = take 6 commit_of_one ++ Stage (staged_name 1 out) (Some (codes 
 abbrev pub failed_unknown : List Event
 failed_unknown = take 8 commit_of_one ++ Publish (new_name home) (record_name home) true true ∷ Load (record_name home) seen.Failed ∷ release
 
--- the decision fails, and the look at the record wants memory
+-- the decision fails, and the look at the record runs out of memory
 abbrev pub no_memory_to_look : List Event
 no_memory_to_look = take 8 commit_of_one ++ Publish (new_name home) (record_name home) true true ∷ Load (record_name home) seen.Memory ∷ release
 

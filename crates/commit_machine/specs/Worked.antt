@@ -31,7 +31,7 @@ carried d (ToUnlock n t) = carried_out d (Unlock n t true false)
 carried d (ToSeize n) = carried_out d (Seize n true false)
 carried d (ToRelease n) = Release n
 
--- the machine's events from a state, where each call is carried out: at most so many
+-- the machine's events from a state, if each call is carried out: at most this number of them
 abbrev pub alone : ℕ → Job → State → Disk → List Event
 alone zero j s d = []
 alone (suc k) j s d = elim (next j s) [ None ↦ [] | Some c ↦ carried d c ∷ alone k j (after_reply j s (reply (carried d c))) (after d (carried d c)) ]
@@ -134,7 +134,7 @@ commit_of_two =
     ∷ Release (right_name home)
     ∷ []
 
--- a recovery where no record stands has four
+-- a recovery has four if no record stands
 abbrev pub recovery_of_none : List Event
 recovery_of_none =
     Seize (right_name home) true false
@@ -167,11 +167,11 @@ commit_of_removal =
     ∷ Release (right_name home)
     ∷ []
 
--- the disk that it leaves where it stops before the event of this number, from 0
+-- the disk that it leaves if it stops before the event of this number, from 0
 abbrev pub removal_stopped_at : ℕ → Disk
 removal_stopped_at n = disk out_stands (take n commit_of_removal)
 
--- what follows where a decided record of the two files is carried out
+-- what follows if a decided record of the two files is carried out
 abbrev pub closing_of_removal : List Event
 closing_of_removal =
     Unlock mbox 1 true false
@@ -181,7 +181,7 @@ closing_of_removal =
     ∷ Release (right_name home)
     ∷ []
 
--- a recovery removes the file where its staged one stands
+-- a recovery removes the file if its staged one stands
 abbrev pub recovery_of_removal : List Event
 recovery_of_removal =
     Seize (right_name home) true false
@@ -192,7 +192,7 @@ recovery_of_removal =
     ∷ Erase (staged_name 1 out) true false
     ∷ closing_of_removal
 
--- and leaves it alone where that is gone
+-- and leaves it alone if that is gone
 abbrev pub recovery_of_removed : List Event
 recovery_of_removed =
     Seize (right_name home) true false
@@ -201,7 +201,7 @@ recovery_of_removed =
     ∷ Load (staged_name 1 out) (Bytes None false)
     ∷ closing_of_removal
 
--- the disk that a commit of two files leaves where it stops before the event of this number, from 0
+-- the disk that a commit of two files leaves if it stops before the event of this number, from 0
 abbrev pub stopped_at : ℕ → Disk
 stopped_at n = disk nothing (take n commit_of_two)
 

@@ -22,7 +22,8 @@ pub fn stretches_join()
     ensures { StretchesJoin }
 {}
 
-/// The same of each disk that is left where the run stops before or inside an event.
+/// What `crash_safe` tells of the disk holds too of each disk that is left if the run stops before or
+/// inside an event.
 pub fn stop_safe()
     ensures { StopSafe }
 {}
@@ -52,7 +53,7 @@ pub fn recovery_settles()
     ensures { RecoverySettles }
 {}
 
-/// A job that ends as done was decided once, in its events; one that is refused, wants memory or
+/// A job that ends as done was decided once, in its events; one that is refused, runs out of memory or
 /// recovers was never decided. One that failed says whether it was, or that it doesn't know.
 pub fn decisions_are_told()
     ensures { DecisionsAreTold }
@@ -68,7 +69,7 @@ pub fn nothing_after_a_fault()
     ensures { NothingAfterAFault }
 {}
 
-/// A job is decided only where it isn't refused, judged on its files as they are due just before the
+/// A job is decided only if it isn't refused, judged on its files as they are due just before the
 /// decision.
 pub fn no_refused_is_decided()
     ensures { NoRefusedIsDecided }
@@ -79,21 +80,21 @@ pub fn edits_are_changes()
     ensures { EditsAreChanges }
 {}
 
-/// The events that the machine makes where each call is carried out are a run's.
+/// The events that the machine makes if each call is carried out are a run's.
 pub fn alone_goes()
     ensures { AloneGoes }
 {}
 
 /// A commit of one file has thirteen events, the ninth the decision, and one of two files eighteen.
 /// A recovery carries out a record that was decided, and undoes one that wasn't. A commit does the same
-/// first where a record stands; where it finds its second file busy, it undoes what it did. Others may
+/// first if a record stands; if it finds its second file busy, it undoes what it did. Others may
 /// work meanwhile: there is a run among lawful steps.
 pub fn worked_runs()
     ensures { WorkedRuns }
 {}
 
-/// How a commit of one file may end where the record or the file is too long, where memory is wanting, and
-/// where a call fails before its decision, at it and behind it.
+/// How a commit of one file may end if the record or the file is too long, if memory runs out, and if a
+/// call fails before its decision, at it and after it.
 pub fn troubled_runs()
     ensures { TroubledRuns }
 {}
@@ -109,12 +110,12 @@ pub fn row_moments()
     ensures { RowMoments }
 {}
 
-/// And on each disk that is left where the run stops before or inside an event of that job.
+/// And on each disk that is left if the run stops before or inside an event of that job.
 pub fn row_stops()
     ensures { RowStops }
 {}
 
-/// And where it stops between jobs.
+/// And if it stops between jobs.
 pub fn row_stops_between()
     ensures { RowStopsBetween }
 {}

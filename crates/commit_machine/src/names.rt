@@ -60,7 +60,7 @@ pub fn staged_name(alloc: Global, token: u64, name: &[u8]) -> Result<Text, Memor
     Ok(text)
 }
 
-// Whether this is what a record's name has behind the actor's.
+// Whether this is what a record's name has after the actor's.
 fn is_record_end(end: &[u8]) -> bool
     ensures { result ≡ (bytes_eq end.now (codes ".commit") || bytes_eq end.now (codes ".commit.new")) }
 {

@@ -14,7 +14,7 @@ as_read : (a b c d e nl p t n m : List ℕ)
     ≡ ((a ++ nl) ++ b) ++ ((p ++ nl) ++ (c ++ (t ++ ((nl ++ d) ++ (n ++ (nl ++ (m ++ (e ++ nl))))))))
 as_read a b c d e nl p t n m = simp append_assoc
 
--- piece behind piece
+-- piece after piece
 pub written-pieces : (r : Record)
     → ((((((((codes "mailx-commit 1\nphase " ++ phase_word r.phase) ++ codes "\ntoken ") ++ token_digits r.token) ++ codes "\nentries ") ++ decimal (length r.entries)) ++ codes "\n") ++ flat_map entry_line r.entries) ++ codes "end\n")
     ≡ written r

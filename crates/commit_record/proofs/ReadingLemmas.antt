@@ -211,7 +211,7 @@ found-is bytes found value r some is w = let e : record_at bytes ≡ Some r = re
 pub found-some : (bytes : List ℕ) (found : Option Record) (r : Record) → found ≡ None → found ≡ record_at bytes → IsWritten bytes r → ⊥
 found-some bytes found r none is w = let e : record_at bytes ≡ Some r = record_at-written bytes r w in cc
 
--- a record that was checked comes back, but for want of memory
+-- a record that was checked comes back, unless memory ran out
 pub checked-back : (bytes : List ℕ) (value : Record) (result : Result Record RecordError) → IfOk result (λ r. (r ≡ value) × IsWritten bytes value)
     → (result ≡ Err NotARecord → IsWritten bytes value → ⊥) → IsWritten bytes value → (result ≡ Ok value) ⊎ (result ≡ Err Memory)
 checked-back bytes value (Ok r) ok refused w = inl (ap (λ (x : Record). Ok x) ok.0)

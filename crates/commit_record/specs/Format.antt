@@ -12,7 +12,7 @@ use Rattle.commit_record.specs.declared.record.EntryKind.TheVariants.{Replace, R
 use Rattle.commit_record.specs.declared.record.Entry.{Entry}
 use Rattle.commit_record.specs.declared.record.Record.{Record}
 
--- a text and the line feed behind it
+-- a text and the line feed after it
 abbrev pub line : List ℕ → List ℕ
 line text = text ++ 10 ∷ []
 

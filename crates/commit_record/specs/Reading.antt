@@ -43,15 +43,15 @@ or_else (Some x) other = Some x
 unfoldable pub phase_at : List ℕ → Option (Phase × List ℕ)
 phase_at bytes = or_else (with_value Prepare (after (codes "prepare\n") bytes)) (with_value Go (after (codes "go\n") bytes))
 
--- the word of a kind and the space behind it
+-- the word of a kind and the space after it
 unfoldable pub kind_at : List ℕ → Option (EntryKind × List ℕ)
 kind_at bytes = or_else (with_value Replace (after (codes "replace ") bytes)) (with_value Remove (after (codes "remove ") bytes))
 
--- so many bytes, and a line feed
+-- n bytes, and a line feed
 unfoldable pub name_at : ℕ → List ℕ → Option (List ℕ × List ℕ)
 name_at n bytes = if nat_lt (length bytes) n then None else with_value (take n bytes) (after (codes "\n") (drop n bytes))
 
--- a number, a space, so many bytes, and a line feed
+-- a number, a space, that number of bytes, and a line feed
 unfoldable pub counted_name_at : List ℕ → Option (List ℕ × List ℕ)
 counted_name_at bytes = option_and_then (λ n. option_and_then (name_at n.0) (after (codes " ") n.1)) (number_at bytes)
 
@@ -59,20 +59,20 @@ counted_name_at bytes = option_and_then (λ n. option_and_then (name_at n.0) (af
 unfoldable pub entry_at : List ℕ → Option (Entry × List ℕ)
 entry_at bytes = option_and_then (λ k. option_map (λ n. (record { kind = k.0; name = n.0 }, n.1)) (counted_name_at k.1)) (kind_at bytes)
 
--- the entries of so many lines, behind these entries
+-- the entries of a given number of lines, after these entries
 unfoldable pub entries_at : ℕ → List Entry → List ℕ → Option (List Entry)
 entries_at zero entries bytes = Some entries
 entries_at (suc n) entries bytes = option_and_then (λ e. entries_at n (entries ++ e.0 ∷ []) e.1) (entry_at bytes)
 
--- a number, and the line feed behind it
+-- a number, and the line feed after it
 unfoldable pub count_at : List ℕ → Option (ℕ × List ℕ)
 count_at bytes = option_and_then (λ n. with_value n.0 (after (codes "\n") n.1)) (number_at bytes)
 
--- the number of entries, behind this phase and this token
+-- the number of entries, after this phase and this token
 unfoldable pub counted_head : Phase → ℕ → List ℕ → Option (Head × List ℕ)
 counted_head phase token bytes = option_and_then (λ b. option_map (λ n. (record { phase = phase; token = token; count = n.0 }, n.1)) (count_at b)) (after (codes "\nentries ") bytes)
 
--- the token, and the number of entries, behind this phase
+-- the token, and the number of entries, after this phase
 unfoldable pub token_head : Phase → List ℕ → Option (Head × List ℕ)
 token_head phase bytes = option_and_then (λ b. option_and_then (λ t. counted_head phase t.0 t.1) (token_at b)) (after (codes "token ") bytes)
 

@@ -7,7 +7,7 @@ pub enum RecordError {
     /// The bytes aren't the text of a valid record.
     #[error("not a record")]
     NotARecord,
-    /// Want of memory.
+    /// Memory ran out.
     #[error("out of memory")]
     Memory,
 }

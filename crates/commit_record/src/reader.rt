@@ -87,7 +87,7 @@ fn phase_at(bytes: &[u8]) -> Option<(Phase, &[u8])>
     }
 }
 
-// The word of a kind and the space behind it.
+// The word of a kind and the space after it.
 #[tactic(auto, unfolding(crate::specs::Reading::kind_at))]
 fn kind_at(bytes: &[u8]) -> Option<(EntryKind, &[u8])>
     ensures { option_map (λ p. (p.0, p.1.now)) result ≡ kind_at bytes.now }
@@ -101,7 +101,7 @@ fn kind_at(bytes: &[u8]) -> Option<(EntryKind, &[u8])>
     }
 }
 
-// So many bytes, and a line feed.
+// `length` bytes, and a line feed.
 #[tactic(auto, unfolding(crate::specs::Reading::name_at))]
 fn name_at(length: u64, bytes: &[u8]) -> Option<(&[u8], &[u8])>
     ensures { option_map (λ p. (p.0.now, p.1.now)) result ≡ name_at length bytes.now }
@@ -116,7 +116,7 @@ fn name_at(length: u64, bytes: &[u8]) -> Option<(&[u8], &[u8])>
     }
 }
 
-// What an entry's line says behind its kind.
+// What an entry's line says after its kind.
 #[tactic(auto, unfolding(crate::specs::Reading::counted_name_at))]
 fn counted_name_at(bytes: &[u8]) -> Option<(&[u8], &[u8])>
     ensures { option_map (λ p. (p.0.now, p.1.now)) result ≡ counted_name_at bytes.now }
@@ -136,7 +136,7 @@ fn entry_at(bytes: &[u8]) -> Option<(EntryKind, &[u8], &[u8])>
     Some((kind, name, rest))
 }
 
-// The entries of so many lines.
+// The entries of `count` lines.
 fn entries_at(alloc: Global, count: u64, bytes: &[u8]) -> Result<Option<Items<Entry>>, Memory>
     ensures { IfOk result (λ found. found ≡ entries_at count [] bytes.now) }
 {
@@ -155,7 +155,7 @@ fn entries_at(alloc: Global, count: u64, bytes: &[u8]) -> Result<Option<Items<En
     Ok(Some(entries))
 }
 
-// A number, and the line feed behind it.
+// A number, and the line feed after it.
 #[tactic(auto, unfolding(crate::specs::Reading::count_at))]
 fn count_at(bytes: &[u8]) -> Option<(u64, &[u8])>
     ensures { option_map (λ p. (p.0, p.1.now)) result ≡ count_at bytes.now }
@@ -165,7 +165,7 @@ fn count_at(bytes: &[u8]) -> Option<(u64, &[u8])>
     Some((count, rest))
 }
 
-// The number of entries, behind this phase and this token.
+// The number of entries, after this phase and this token.
 #[tactic(auto, unfolding(crate::specs::Reading::counted_head))]
 fn counted_head(phase: Phase, token: u64, bytes: &[u8]) -> Option<(Head, &[u8])>
     ensures { option_map (λ p. (p.0, p.1.now)) result ≡ counted_head phase token bytes.now }
@@ -182,7 +182,7 @@ fn counted_head(phase: Phase, token: u64, bytes: &[u8]) -> Option<(Head, &[u8])>
     ))
 }
 
-// The token and the number of entries, behind this phase.
+// The token and the number of entries, after this phase.
 #[tactic(auto, unfolding(crate::specs::Reading::token_head))]
 fn token_head(phase: Phase, bytes: &[u8]) -> Option<(Head, &[u8])>
     ensures { option_map (λ p. (p.0, p.1.now)) result ≡ token_head phase bytes.now }
@@ -260,8 +260,8 @@ fn checked(alloc: Global, value: Record, bytes: &[u8]) -> Result<Record, RecordE
     }
 }
 
-/// The record that bytes are the text of. `NotARecord` comes exactly where they are the text of no valid record, so
-/// also where a byte stands behind the last line, a number has a leading zero, or a digit of the token is upper
+/// The record that bytes are the text of. `NotARecord` comes exactly if they are the text of no valid record, so
+/// also if a byte stands after the last line, a number has a leading zero, or a digit of the token is upper
 /// case.
 pub fn read(alloc: Global, bytes: &[u8]) -> Result<Record, RecordError>
     ensures ok { IfOk result (λ r. IsWritten bytes.now r) }

@@ -14,7 +14,7 @@ pub enum Phase {
 pub enum EntryKind {
     /// The staged file takes its place.
     Replace,
-    /// It is taken away where its staged file stands.
+    /// It is taken away if its staged file stands.
     Remove,
 }
 

@@ -26,7 +26,7 @@ plain-line None line is = refl
 plain-line (Some mark) [] is = refl
 plain-line (Some mark) (b ∷ rest) is = cond-false _ _ _ is
 
--- a line that is read as these bytes is put behind the body
+-- a line that is read as these bytes is put at the end of the body
 put-line : (m : Machine) (line bytes : List ℕ) (view : View) → TakesBody m view → is_end view.vars line ≡ false → reading_of (escape_byte view.vars) line ≡ plain bytes
     → line_step m line view ≡ Ok (with_bytes m (with_feed bytes), need.More)
 unfolding line_step

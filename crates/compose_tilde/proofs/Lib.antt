@@ -1,5 +1,4 @@
 pub mod BlankLemmas
-pub mod ChosenLemmas
 pub mod FlatLemmas
 pub mod BodyLemmas
 pub mod WaitLemmas

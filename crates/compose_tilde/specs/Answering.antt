@@ -38,25 +38,25 @@ new_machine draft = record { draft = draft; taken = false; waits = None; header 
 abbrev pub is_zero : ℤ → Bool
 is_zero status = int_eq status (pos 0)
 
--- what is said of a command's status: nothing of 0
+-- what is printed of a command's status: nothing of 0
 abbrev pub status_line : ℤ → List ℕ
 status_line status = if is_zero status then [] else with_feed (codes "exit status " ++ signed_decimal status)
 
--- what is said of a command that was run: its output, as far as it was kept, and its status
+-- what is printed of a command that was run: its output, as far as it was kept, and its status
 abbrev pub said_of : ChildAnswer → List ℕ
 said_of child = child.output ++ status_line child.status
 
--- what is needed once a command has ended: what there is to be said of its status is said
+-- what is needed once a command has ended: what there is to be printed of its status is printed
 abbrev pub told : ℤ → Need
 told status = if is_zero status then need.More else need.Say (status_line status)
 
--- the body takes the output of a command, where it wasn't cut
+-- the body takes the output of a command, if it wasn't cut
 abbrev pub take_output : Machine → ChildAnswer → Step
 take_output m child =
     if child.cut then Err error.TooMuch
     else Ok (record m { draft = appended m.draft child.output }, told child.status)
 
--- the output replaces the body where the status is 0 and the output wasn't cut
+-- the output replaces the body if the status is 0 and the output wasn't cut
 abbrev pub filter : Machine → ChildAnswer → Step
 filter m child =
     if is_zero child.status then (if child.cut then Err error.TooMuch else goes_on m (with_body m.draft child.output))
@@ -74,7 +74,7 @@ answered wait other m = Ok (m, need.More)
 abbrev pub idle : Machine → Machine
 idle m = record m { waits = None }
 
--- what an answer comes to, where one is waited for
+-- what an answer comes to, if one is waited for
 abbrev pub awaited_step : Option Wait → Answer → Machine → Step
 awaited_step None given m = Ok (m, need.More)
 awaited_step (Some wait) given m = answered wait given m

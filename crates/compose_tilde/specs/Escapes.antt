@@ -1,4 +1,4 @@
--- The escapes: the letter of each, what it stands for, and what may stand behind the letter.
+-- The escapes: the letter of each, what it stands for, and what may stand after the letter.
 use Rattle.std.specs.Prelude.{ℕ, ◌==◌, List, [], ◌∷◌, Option}
 use Rattle.std.specs.List.{find, flat_map}
 use Rattle.std.specs.Option.{option_map}
@@ -51,7 +51,7 @@ escape_of letter = option_map (λ r. r.escape) (find (λ r. r.letter == letter) 
 abbrev pub letter_lines : List ℕ
 letter_lines = flat_map (λ r. r.letter ∷ 10 ∷ []) escapes
 
--- what may stand behind the letter of an escape
+-- what may stand after the letter of an escape
 abbrev pub takes : Escape → Behind
 takes Shell = behind.Argument
 takes Command = behind.Argument

@@ -44,7 +44,7 @@ pub record TakesBody (m : Machine) (view : View) : Type 0 where
 abbrev pub with_bytes : Machine → List ℕ → Machine
 with_bytes m bytes = record m { draft = appended m.draft bytes; taken = true }
 
--- a line of the body is put behind it with a line feed, and nothing else of the draft changes
+-- a line of the body is put at its end with a line feed, and nothing else of the draft changes
 abbrev pub BodyTakesLine : Type 0
 BodyTakesLine = (m : Machine) (line : List ℕ) (view : View) → TakesBody m view → IsBodyLine view.vars line
     → line_step m line view ≡ Ok (with_bytes m (with_feed line), More)
@@ -58,12 +58,12 @@ after_step m (Err e) = m
 abbrev pub after_lines : View → Machine → List (List ℕ) → Machine
 after_lines view m lines = fold (λ m line. after_step m (line_step m line view)) m lines
 
--- lines of the body, one after the other, are just what is put behind it
+-- lines of the body, one after the other, are just what is put at its end
 abbrev pub BodyIsLines : Type 0
 BodyIsLines = (m : Machine) (lines : List (List ℕ)) (view : View) → TakesBody m view → All (IsBodyLine view.vars) lines
     → (after_lines view m lines).draft ≡ appended m.draft (flat_map with_feed lines)
 
--- a line that begins with the escape byte twice is put behind the body without the first of them
+-- a line that begins with the escape byte twice is put at the end of the body without the first of them
 abbrev pub TwiceIsOnce : Type 0
 TwiceIsOnce = (m : Machine) (mark : ℕ) (rest : List ℕ) (view : View) → TakesBody m view → escape_byte view.vars ≡ Some mark
     → line_step m (mark ∷ mark ∷ rest) view ≡ Ok (with_bytes m (with_feed (mark ∷ rest)), More)
@@ -73,7 +73,7 @@ abbrev pub IsFlatStep : Step → Type 0
 IsFlatStep (Ok (after, need)) = HasFlatParts after.draft
 IsFlatStep (Err e) = Unit {0}
 
--- where there was none, none comes, by lines and by answers
+-- if there was none, none comes, by lines and by answers
 abbrev pub LinesStayFlat : Type 0
 LinesStayFlat = (m : Machine) (line : List ℕ) (view : View) → HasFlatParts m.draft → IsFlatStep (line_step m line view)
 
@@ -103,7 +103,7 @@ abbrev pub IsWaitingStep : Step → Type 0
 IsWaitingStep (Ok (after, need)) = IsWaiting after.waits need
 IsWaitingStep (Err e) = Unit {0}
 
--- and after each line, where nothing was waited for
+-- and after each line, if nothing was waited for
 abbrev pub LinesAsk : Type 0
 LinesAsk = (m : Machine) (line : List ℕ) (view : View) → m.waits ≡ None → IsWaitingStep (line_step m line view)
 

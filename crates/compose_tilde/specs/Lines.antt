@@ -50,7 +50,7 @@ abbrev pub next_value : Machine → Part → Option Draft → Step
 next_value m part None = Err (error.BadArguments 104)
 next_value m part (Some draft) = ask_for (record m { draft = draft }) (part_after part)
 
--- a line where `~h` asks for no value: the subject, where that is asked for, or a line of the draft
+-- a line if `~h` asks for no value: the subject, if that is asked for, or a line of the draft
 abbrev pub subject_or_line : Machine → List ℕ → View → Step
 subject_or_line m line view =
     if asks_subject m view then goes_on m (with_subject m.draft line) else draft_line m line view
@@ -60,7 +60,7 @@ abbrev pub begun : Step → Step
 begun (Ok (m, need)) = Ok (record m { taken = true }, need)
 begun (Err e) = Err e
 
--- a line where `~h` asks for this value, if it asks for one
+-- a line if `~h` asks for this value, if it asks for one
 abbrev pub asked_line : Option Part → Machine → List ℕ → View → Step
 asked_line (Some part) m line view = next_value m part (put_value m.draft part line)
 asked_line None m line view = begun (subject_or_line m line view)

@@ -8,6 +8,8 @@ use Rattle.mail_text.specs.Lines.{with_feed}
 use Rattle.mailx_vars.specs.Settings.{Settings, value_of}
 use Rattle.message_list.specs.declared.list.ListError.{ListError}
 use Rattle.message_list.specs.declared.list.ListError.TheVariants as list
+use Rattle.message_list.specs.declared.list.Purpose.TheVariants.{Live}
+use Rattle.message_list.specs.Choosing.{chosen}
 use Rattle.rc_conditionals.specs.declared.conditions.Mode.{Mode}
 use Rattle.rc_conditionals.specs.declared.conditions.Mode.TheVariants.{Send, Receive}
 use Rattle.compose_tilde.specs.declared.machine.Machine.{Machine}
@@ -23,12 +25,12 @@ use Rattle.compose_tilde.specs.declared.escape.Escape.{Escape}
 use Rattle.compose_tilde.specs.declared.escape.Escape.TheVariants.{End, Shell, Command, Letters, Sign, LongSign, Value, Add, Subject, Header, Dead, Read, Forward, Quote, Print, Quit, Exit, Write, Pipe}
 use Rattle.compose_tilde.specs.Escapes.{letter_lines}
 use Rattle.compose_tilde.specs.declared.reading.Given.{Given}
-use Rattle.compose_tilde.specs.Views.{View, chosen}
+use Rattle.compose_tilde.specs.Views.{View}
 use Rattle.compose_tilde.specs.Values.{with_more, with_subject, appended, field_name, printed}
 use Rattle.compose_tilde.specs.Quoting.{all_forwarded, all_quoted}
 use Rattle.compose_tilde.specs.Steps.{Step, goes_on, says, asks}
 
--- the bytes that a variable stands for: its value and a line feed; nothing where it is unset
+-- the bytes that a variable stands for: its value and a line feed; nothing if it is unset
 abbrev pub value_bytes : Option (List ℕ) → List ℕ
 value_bytes None = []
 value_bytes (Some value) = with_feed value
@@ -42,7 +44,7 @@ abbrev pub command : Machine → Mode → List ℕ → Step
 command m Send line = Err error.NotSending
 command m Receive line = asks m wait.Carried (need.Command line)
 
--- what is said to ask for a value
+-- what is printed to ask for a value
 abbrev pub prompt : Option Part → Need
 prompt None = need.More
 prompt (Some value) = need.Say (field_name value ++ codes ": ")
@@ -51,7 +53,7 @@ prompt (Some value) = need.Say (field_name value ++ codes ": ")
 abbrev pub ask_for : Machine → Option Part → Step
 ask_for m value = Ok (record m { header = value }, prompt value)
 
--- a file, or a command behind `!`
+-- a file, or a command after `!`
 abbrev pub source : Machine → List ℕ → Step
 source m whole =
     if starts_with nat_eq whole (codes "!") then asks m wait.Taken (need.Child (drop 1 whole) [])
@@ -76,15 +78,15 @@ meaning Subject m given view = goes_on m (with_subject m.draft given.whole)
 meaning Header m given view = ask_for m (Some (part.Names To))
 meaning Dead m given view = asks m wait.File need.Dead
 meaning Read m given view = source m given.whole
-meaning (Forward how) m given view = take_messages m (all_forwarded view how) (chosen view.shown given.words)
-meaning (Quote how) m given view = take_messages m (all_quoted view how) (chosen view.shown given.words)
+meaning (Forward how) m given view = take_messages m (all_forwarded view how) (chosen Live view.shown given.words)
+meaning (Quote how) m given view = take_messages m (all_quoted view how) (chosen Live view.shown given.words)
 meaning Print m given view = says m (printed m.draft)
 meaning Quit m given view = Ok (m, need.Quit)
 meaning Exit m given view = Ok (m, need.Drop)
 meaning Write m given view = asks m wait.Carried (need.Put given.whole m.draft.body)
 meaning Pipe m given view = asks m wait.Filtered (need.Child given.whole m.draft.body)
 
--- the error of words that select no messages, or want of memory
+-- the error of words that select no messages, or that memory ran out
 abbrev pub IsListError : ListError → ComposeError → Type 0
 IsListError (list.Syntax word) e = e ≡ error.List (list.Syntax word)
 IsListError (list.NoSuch word) e = e ≡ error.List (list.NoSuch word)

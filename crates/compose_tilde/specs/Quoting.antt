@@ -23,7 +23,7 @@ indented front text = flat_map (λ line. front ++ with_feed line) (lines_of text
 abbrev pub quoted : View → How → ℕ → List ℕ
 quoted view how n = indented (indent view.vars) (forwarded view how n)
 
--- messages, one behind the other
+-- messages, one after the other
 abbrev pub all_forwarded : View → How → List ℕ → List ℕ
 all_forwarded view how ns = flat_map (forwarded view how) ns
 

@@ -1,4 +1,4 @@
--- What a line of a draft is: bytes for the body, or an escape with what stands behind its letter.
+-- What a line of a draft is: bytes for the body, or an escape with what stands after its letter.
 use Rattle.std.specs.Prelude.{ℕ, Bool, ◌&&◌, ◌||◌, ◌==◌, List, [], ◌∷◌, length, Option, Some, None, slice_get, codes, if◌then◌else◌}
 use Rattle.std.specs.Option.{option_map, option_and_then}
 use Rattle.std.specs.Str.{bytes_eq}
@@ -9,7 +9,7 @@ use Rattle.compose_tilde.specs.declared.reading.Given.{Given}
 use Rattle.compose_tilde.specs.declared.escape.Behind.{Behind}
 use Rattle.compose_tilde.specs.declared.escape.Behind.TheVariants as behind
 
--- the byte that begins an escape: the first of the variable `escape`; none where that is empty or unset
+-- the byte that begins an escape: the first of the variable `escape`; none if that is empty or unset
 abbrev pub escape_byte : Settings → Option ℕ
 escape_byte vars = option_and_then (λ value. slice_get value 0) (value_of vars (codes "escape"))
 
@@ -19,7 +19,7 @@ pub data Written : Type 0 where
   alone : Written
   escaped : ℕ → List ℕ → Written
 
--- what stands behind the escape byte: nothing, the byte again, which stands for itself, or a letter and the rest
+-- what stands after the escape byte: nothing, the byte again, which stands for itself, or a letter and the rest
 abbrev pub behind_mark : ℕ → List ℕ → Written
 behind_mark mark [] = alone
 behind_mark mark (letter ∷ rest) = if letter == mark then plain (letter ∷ rest) else escaped letter rest
@@ -44,12 +44,12 @@ is_empty bytes = length bytes == 0
 abbrev pub as_is : List ℕ → Given
 as_is bytes = record { whole = bytes; words = [] }
 
--- the argument cut into words, where each quote is closed
+-- the argument cut into words, if each quote is closed
 abbrev pub cut : List ℕ → Option Given
 cut bytes = option_map (λ words. record { whole = bytes; words = words }) (words_of bytes)
 
--- what an escape is given that takes this: none where an argument is missing, where one stands that it doesn't take,
--- where `!` has no command behind it, and where a quote isn't closed
+-- what an escape is given that takes this: none if an argument is missing, if one stands that it doesn't take, if `!`
+-- has no command after it, and if a quote isn't closed
 abbrev pub given_for : Behind → List ℕ → Option Given
 given_for behind.Nothing bytes = if is_empty bytes then Some (as_is bytes) else None
 given_for behind.Anything bytes = Some (as_is bytes)

@@ -18,7 +18,7 @@ Step = Result (Machine × Need) ComposeError
 abbrev pub goes_on : Machine → Draft → Step
 goes_on m draft = Ok (record m { draft = draft }, More)
 
--- these bytes are said, and the machine stays
+-- these bytes are printed, and the machine stays
 abbrev pub says : Machine → List ℕ → Step
 says m bytes = Ok (m, Say bytes)
 
@@ -26,7 +26,7 @@ says m bytes = Ok (m, Say bytes)
 abbrev pub asks : Machine → Wait → Need → Step
 asks m wait need = Ok (record m { waits = Some wait }, need)
 
--- an answer is the step that is meant, or want of memory
+-- an answer is the step that is meant, or memory ran out
 abbrev pub Means : Result Need ComposeError → Machine → Step → Type 0
 Means (Ok need) after meant = meant ≡ Ok (after, need)
 Means (Err (Unknown letter)) after meant = meant ≡ Err (Unknown letter)

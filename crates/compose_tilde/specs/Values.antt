@@ -29,7 +29,7 @@ with_names draft To names = record draft { to = map flat names }
 with_names draft Cc names = record draft { cc = map flat names }
 with_names draft Bcc names = record draft { bcc = map flat names }
 
--- the draft with these names behind those of a list
+-- the draft with these names after those of a list
 abbrev pub with_more : Draft → Names → List (List ℕ) → Draft
 with_more draft To names = record draft { to = draft.to ++ map flat names }
 with_more draft Cc names = record draft { cc = draft.cc ++ map flat names }
@@ -42,7 +42,7 @@ with_subject draft bytes = record draft { subject = flat bytes }
 abbrev pub with_body : Draft → List ℕ → Draft
 with_body draft bytes = record draft { body = bytes }
 
--- the draft with these bytes behind its body
+-- the draft with these bytes at the end of its body
 abbrev pub appended : Draft → List ℕ → Draft
 appended draft bytes = with_body draft (draft.body ++ bytes)
 
@@ -53,14 +53,14 @@ field_name part.Subject = codes "Subject"
 field_name (part.Names Cc) = codes "Cc"
 field_name (part.Names Bcc) = codes "Bcc"
 
--- the value that `~h` asks for behind this one, if there is one
+-- the value that `~h` asks for after this one, if there is one
 abbrev pub part_after : Part → Option Part
 part_after (part.Names To) = Some part.Subject
 part_after part.Subject = Some (part.Names Cc)
 part_after (part.Names Cc) = Some (part.Names Bcc)
 part_after (part.Names Bcc) = None
 
--- the draft once the line stands for the value: the whole line, or its words, where each quote is closed
+-- the draft once the line stands for the value: the whole line, or its words, if each quote is closed
 abbrev pub replaced : Draft → Part → List ℕ → Option Draft
 replaced draft part.Subject line = Some (with_subject draft line)
 replaced draft (part.Names names) line = option_map (with_names draft names) (words_of line)
@@ -69,7 +69,7 @@ replaced draft (part.Names names) line = option_map (with_names draft names) (wo
 abbrev pub put_value : Draft → Part → List ℕ → Option Draft
 put_value draft part line = if length line == 0 then Some draft else replaced draft part line
 
--- a value of a draft as it is said, on a line with its name; an empty one isn't said
+-- a value of a draft as it is printed, on a line with its name; an empty one isn't printed
 abbrev pub value_line : Part → List ℕ → List ℕ
 value_line part value = if length value == 0 then [] else with_feed (field_name part ++ codes ": " ++ value)
 
@@ -77,7 +77,7 @@ value_line part value = if length value == 0 then [] else with_feed (field_name 
 abbrev pub names_line : Names → List (List ℕ) → List ℕ
 names_line names values = value_line (part.Names names) (joined (codes ", ") values)
 
--- a draft as `~p` says it: names and subject, an empty line, and the body
+-- a draft as `~p` prints it: names and subject, an empty line, and the body
 abbrev pub printed : Draft → List ℕ
 printed draft =
     names_line To draft.to

@@ -31,7 +31,7 @@ fn is_zero(status: i32) -> bool
     status == 0
 }
 
-// Puts what is said of a command's status.
+// Puts what is printed of a command's status.
 fn put_status(out: &mut Text, status: i32) -> Result<(), Memory>
     ensures { OnOk result (out.new ≡ out.old ++ status_line status) }
 {
@@ -44,7 +44,7 @@ fn put_status(out: &mut Text, status: i32) -> Result<(), Memory>
     out.push(b"\n")
 }
 
-// What is said of a command's status.
+// What is printed of a command's status.
 fn status_line(alloc: Global, status: i32) -> Result<Text, Memory>
     ensures { IfOk result (λ t. t ≡ status_line status) }
 {
@@ -53,7 +53,7 @@ fn status_line(alloc: Global, status: i32) -> Result<Text, Memory>
     Ok(out)
 }
 
-// What is needed once a command has ended: what there is to be said of its status is said.
+// What is needed once a command has ended: what there is to be printed of its status is printed.
 fn told(alloc: Global, status: i32) -> Result<Need, Memory>
     ensures { IfOk result (λ need. need ≡ told status) }
 {
@@ -64,7 +64,7 @@ fn told(alloc: Global, status: i32) -> Result<Need, Memory>
     }
 }
 
-/// What is said of a command that was run: its output, as far as it was kept, and behind it `exit status N` where its
+/// What is printed of a command that was run: its output, as far as it was kept, and after it `exit status N` if its
 /// status isn't 0.
 pub fn said_of(child: ChildAnswer) -> Result<Text, Memory>
     ensures { IfOk result (λ t. t ≡ said_of child) }
@@ -79,14 +79,14 @@ pub fn said_of(child: ChildAnswer) -> Result<Text, Memory>
     Ok(out)
 }
 
-// The output of a command is said.
+// The output of a command is printed.
 fn say_output(child: ChildAnswer) -> Result<Need, Memory>
     ensures { IfOk result (λ need. need ≡ Need.Say (said_of child)) }
 {
     Ok(Need::Say(said_of(child)?))
 }
 
-// The body takes the output of a command, where it wasn't cut.
+// The body takes the output of a command, if it wasn't cut.
 fn take_output(
     alloc: Global,
     machine: &mut Machine,
@@ -112,7 +112,7 @@ fn put_body(machine: &mut Machine, bytes: Text) -> Result<Need, ComposeError>
     Ok(Need::More)
 }
 
-// The output replaces the body where the status is 0 and the output wasn't cut.
+// The output replaces the body if the status is 0 and the output wasn't cut.
 fn filter(alloc: Global, machine: &mut Machine, child: ChildAnswer) -> Result<Need, ComposeError>
     ensures means { Means result machine.new (filter machine.old child) }
     ensures stays { OnErr result (machine.new ≡ machine.old) }

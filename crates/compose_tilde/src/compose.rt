@@ -94,8 +94,8 @@ impl Compose {
         }
     }
 
-    /// Whether the next line is the subject, so that `Subject: ` is to be said first: no line was taken yet, `~h` asks
-    /// for no value, the input is a terminal, `asksub` is set, and the draft has no subject.
+    /// Whether the next line is the subject, so that `Subject: ` is to be printed first: no line was taken yet, `~h`
+    /// asks for no value, the input is a terminal, `asksub` is set, and the draft has no subject.
     pub fn asks_subject(&self, view: &ComposeView<'_>) -> bool
         ensures { result ≡ asks_subject self.now (view_of view.now) }
     {
@@ -104,10 +104,10 @@ impl Compose {
 
     /// Takes a line, which is without its line feed: the value that `~h` asks for, the subject that the terminal is
     /// asked for, the end of the draft, an escape (POSIX mailx, "Command Escapes in mailx"), or a line of the body. It
-    /// answers what is needed next. `Unknown` comes exactly where the letter of an escape stands for none,
-    /// `BadArguments` exactly where the escape doesn't take what stands behind its letter, or a quote isn't closed,
-    /// `NotSending` exactly at a command of a session in send mode, and `List` exactly where the words of an escape
-    /// select no messages. After an error, which want of memory may be, the machine is as before.
+    /// answers what is needed next. `Unknown` comes exactly when the letter of an escape stands for none,
+    /// `BadArguments` exactly when the escape doesn't take what stands after its letter, or a quote isn't closed,
+    /// `NotSending` exactly at a command of a session in send mode, and `List` exactly when the words of an escape
+    /// select no messages. After an error, which may be that memory ran out, the machine is as before.
     pub fn line(&mut self, line: &[u8], view: &ComposeView<'_>) -> Result<Need, ComposeError>
         requires idle { self.old.waits ≡ None }
         requires valid { IsView (view_of view.now) }
@@ -119,8 +119,9 @@ impl Compose {
     }
 
     /// Takes the answer to what was needed, which ends the waiting, and answers what is needed next. `TooMuch` comes
-    /// exactly where the body was to take the output of a command, and the output was cut; of a command that filters
-    /// the body that is so where its status is 0. After an error, which want of memory may be, the draft is as before.
+    /// exactly when the body was to take the output of a command, and the output was cut; of a command that filters
+    /// the body that is so if its status is 0. After an error, which may be that memory ran out, the draft is as
+    /// before.
     pub fn answer(&mut self, answer: Answer, _view: &ComposeView<'_>) -> Result<Need, ComposeError>
         requires { is_waited_for self.old.waits answer ≡ true }
         ensures means { Means result self.new (answer_step self.old answer) }

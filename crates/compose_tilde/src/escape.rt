@@ -11,11 +11,11 @@ use message_show::How;
 pub enum Escape {
     /// `.`: the draft ends.
     End,
-    /// `!`: a command is run, and its output is said.
+    /// `!`: a command is run, and its output is printed.
     Shell,
     /// `:` and `_`: a command of the session is carried out.
     Command,
-    /// `?`: the letters of all escapes are said.
+    /// `?`: the letters of all escapes are printed.
     Letters,
     /// `a`: the body takes the value of the variable `sign`.
     Sign,
@@ -35,9 +35,9 @@ pub enum Escape {
     Read,
     /// `f` and `F`: the body takes messages as they are printed.
     Forward(How),
-    /// `m` and `M`: the same, each line behind the value of the variable `indentprefix`.
+    /// `m` and `M`: the body takes messages as they are printed, each line after the value of `indentprefix`.
     Quote(How),
-    /// `p`: the draft is said.
+    /// `p`: the draft is printed.
     Print,
     /// `q`: the draft is dropped, and saved first.
     Quit,
@@ -49,7 +49,7 @@ pub enum Escape {
     Pipe,
 }
 
-/// What may stand behind the letter of an escape.
+/// What may stand after the letter of an escape.
 #[derive(Clone, Copy, Debug, PartialEq, Eq)]
 pub enum Behind {
     /// Nothing.
@@ -129,7 +129,7 @@ pub(crate) fn escape_of(letter: u8) -> Option<Escape>
     }
 }
 
-// What may stand behind the letter of an escape.
+// What may stand after the letter of an escape.
 pub(crate) fn takes(escape: Escape) -> Behind
     ensures { result ≡ takes escape }
 {

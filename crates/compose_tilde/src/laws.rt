@@ -5,9 +5,9 @@ pub fn each_letter_stands_for_one_escape()
     ensures { LettersAscend }
 {}
 
-/// Laws of lines that don't end the draft and begin with no escape byte, where neither `~h` nor the terminal asks for a
-/// value: such a line is put behind the body with a line feed, and no other part of the draft changes; and what such
-/// lines put behind it, one after the other, are just these lines. One that begins with the escape byte twice is put
+/// Laws of lines that don't end the draft and begin with no escape byte, when neither `~h` nor the terminal asks for a
+/// value: such a line is put at the end of the body with a line feed, and no other part of the draft changes; and what
+/// such lines put there, one after the other, are just these lines. One that begins with the escape byte twice is put
 /// there without the first of them.
 pub fn lines_make_the_body()
     ensures one { BodyTakesLine }
@@ -15,7 +15,7 @@ pub fn lines_make_the_body()
     ensures twice { TwiceIsOnce }
 {}
 
-/// Laws: where no part of a draft but its body holds a line feed, none does after a line, and none after an answer; and
+/// Laws: if no part of a draft but its body holds a line feed, none does after a line, and none after an answer; and
 /// an answer changes no part of the draft but its body.
 pub fn no_part_but_the_body_holds_a_line_feed()
     ensures lines { LinesStayFlat }

@@ -105,7 +105,7 @@ fn draft_line(
     written_line(alloc, machine, reading_of(mark, line), view)
 }
 
-// The value that `~h` asked for is set to a line, which isn't empty. False where a quote in it isn't closed.
+// The value that `~h` asked for is set to a line, which isn't empty. False if a quote in it isn't closed.
 fn replace(alloc: Global, draft: &mut Draft, part: Part, line: &[u8]) -> Result<bool, Memory>
     ensures put { IfOk result (λ put. replaced draft.old part line.now ≡ (if put then Some draft.new else None)) }
     ensures stays { IfOk result (λ put. put ≡ false → draft.new ≡ draft.old) }
@@ -129,7 +129,7 @@ fn replace(alloc: Global, draft: &mut Draft, part: Part, line: &[u8]) -> Result<
     }
 }
 
-// The same of any line. An empty one leaves the value.
+// The value that `~h` asked for is set to a line; an empty one leaves it. False if a quote in the line isn't closed.
 fn put_value(alloc: Global, draft: &mut Draft, part: Part, line: &[u8]) -> Result<bool, Memory>
     ensures put { IfOk result (λ put. put_value draft.old part line.now ≡ (if put then Some draft.new else None)) }
     ensures stays { IfOk result (λ put. put ≡ false → draft.new ≡ draft.old) }
@@ -142,7 +142,7 @@ fn put_value(alloc: Global, draft: &mut Draft, part: Part, line: &[u8]) -> Resul
     }
 }
 
-// A line where `~h` asks for a value.
+// A line if `~h` asks for a value.
 fn value_line(
     alloc: Global,
     machine: &mut Machine,
@@ -164,7 +164,7 @@ fn value_line(
     }
 }
 
-// A line where `~h` asks for no value: the subject, where that is asked for, or a line of the draft.
+// A line if `~h` asks for no value: the subject, if that is asked for, or a line of the draft.
 fn subject_or_line(
     alloc: Global,
     machine: &mut Machine,
@@ -182,7 +182,7 @@ fn subject_or_line(
     }
 }
 
-// The same, after which the machine has taken a line, unless it was refused.
+// A line if `~h` asks for no value, after which the machine has taken a line, unless it was refused.
 fn next_line(
     alloc: Global,
     machine: &mut Machine,

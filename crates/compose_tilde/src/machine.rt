@@ -25,7 +25,7 @@ pub enum Part {
 pub enum Wait {
     /// The bytes of a file, which the body takes.
     File,
-    /// A command's output, which is said.
+    /// A command's output, which is printed.
     Said,
     /// A command's output, which the body takes.
     Taken,

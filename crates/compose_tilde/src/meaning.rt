@@ -1,7 +1,9 @@
 // What each escape comes to.
 ghost use Rattle.std.specs.Prelude.{◌≡◌, ◌++◌, Some, None, Ok, Err, IfOk, OnErr, codes};
 ghost use Rattle.draft_text.specs.Texts.{joined};
-ghost use Rattle.compose_tilde.specs.Views.{view_of, IsView, chosen};
+ghost use Rattle.message_list.specs.declared.list.Purpose.TheVariants.{Live};
+ghost use Rattle.message_list.specs.Choosing.{chosen};
+ghost use Rattle.compose_tilde.specs.Views.{view_of, IsView};
 ghost use Rattle.compose_tilde.specs.Values.{with_more, with_subject, appended, printed};
 ghost use Rattle.compose_tilde.specs.Quoting.{all_forwarded, all_quoted};
 ghost use Rattle.compose_tilde.specs.Escapes.{letter_lines};
@@ -10,7 +12,7 @@ ghost use Rattle.compose_tilde.specs.Meanings.{sign, command, ask_for, source, t
 
 use crate::escape::Escape;
 use crate::machine::{Machine, Names, Part, Wait};
-use crate::messages::{all_forwarded, all_quoted, chosen};
+use crate::messages::{all_forwarded, all_quoted};
 use crate::need::{ComposeError, Need};
 use crate::reading::Given;
 use crate::saying::{letter_lines, printed, prompt};
@@ -18,7 +20,7 @@ use crate::values::{add_names, append, append_line, set_subject};
 use crate::view::ComposeView;
 use mail_text::{Memory, Text};
 use mailx_vars::Vars;
-use message_list::ListError;
+use message_list::{ListError, Purpose, chosen};
 use message_show::How;
 use rc_conditionals::Mode;
 use std::alloc::Global;
@@ -71,7 +73,7 @@ fn command(machine: &mut Machine, mode: Mode, line: Text) -> Result<Need, Compos
     }
 }
 
-// The letters of all escapes are said.
+// The letters of all escapes are printed.
 fn letters(alloc: Global, machine: &mut Machine) -> Result<Need, ComposeError>
     ensures means { Means result machine.new (says machine.old letter_lines) }
     ensures stays { OnErr result (machine.new ≡ machine.old) }
@@ -80,7 +82,7 @@ fn letters(alloc: Global, machine: &mut Machine) -> Result<Need, ComposeError>
     Ok(Need::Say(out))
 }
 
-// The draft is said.
+// The draft is printed.
 fn print(alloc: Global, machine: &mut Machine) -> Result<Need, ComposeError>
     ensures means { Means result machine.new (says machine.old (printed machine.old.draft)) }
     ensures stays { OnErr result (machine.new ≡ machine.old) }
@@ -154,7 +156,7 @@ fn header(alloc: Global, machine: &mut Machine) -> Result<Need, ComposeError>
     Ok(need)
 }
 
-// A file, or a command behind `!`.
+// A file, or a command after `!`.
 fn source(alloc: Global, machine: &mut Machine, whole: Text) -> Result<Need, ComposeError>
     ensures means { Means result machine.new (source machine.old whole) }
     ensures stays { OnErr result (machine.new ≡ machine.old) }
@@ -188,10 +190,10 @@ fn forward(
 ) -> Result<Need, ComposeError>
     requires { IsView (view_of view.now) }
     ensures means { Means result machine.new
-        (take_messages machine.old (all_forwarded (view_of view.now) how) (chosen view.now.shown.now words.now)) }
+        (take_messages machine.old (all_forwarded (view_of view.now) how) (chosen Live view.now.shown.now words.now)) }
     ensures stays { OnErr result (machine.new ≡ machine.old) }
 {
-    match chosen(alloc, view.shown, words) {
+    match chosen(alloc, words, view.shown, Purpose::Live) {
         Ok(numbers) => {
             let text = all_forwarded(alloc, view, how, numbers.items())?;
             take(machine, text.bytes())
@@ -200,7 +202,7 @@ fn forward(
     }
 }
 
-// The same, each line behind `indentprefix`.
+// The body takes messages as they are printed, each line after the value of `indentprefix`.
 fn quote(
     alloc: Global,
     machine: &mut Machine,
@@ -210,10 +212,10 @@ fn quote(
 ) -> Result<Need, ComposeError>
     requires { IsView (view_of view.now) }
     ensures means { Means result machine.new
-        (take_messages machine.old (all_quoted (view_of view.now) how) (chosen view.now.shown.now words.now)) }
+        (take_messages machine.old (all_quoted (view_of view.now) how) (chosen Live view.now.shown.now words.now)) }
     ensures stays { OnErr result (machine.new ≡ machine.old) }
 {
-    match chosen(alloc, view.shown, words) {
+    match chosen(alloc, words, view.shown, Purpose::Live) {
         Ok(numbers) => {
             let text = all_quoted(alloc, view, how, numbers.items())?;
             take(machine, text.bytes())

@@ -3,34 +3,16 @@ ghost use Rattle.std.specs.Prelude.{◌≡◌, ◌≤◌, ◌<◌, ◌-◌, ◌+
 ghost use Rattle.std.specs.List.{flat_map};
 ghost use Rattle.mail_text.specs.Lines.{with_feed};
 ghost use Rattle.message_show.specs.ShownText.{shown_text};
-ghost use Rattle.message_state.specs.ShownRows.{IsShown};
-ghost use Rattle.compose_tilde.specs.Views.{view_of, IsView, IsMessage, IsChosen, chosen, message_text, texts};
+ghost use Rattle.message_list.specs.Choosing.{IsMessage};
+ghost use Rattle.compose_tilde.specs.Views.{view_of, IsView, message_text, texts};
 ghost use Rattle.compose_tilde.specs.Quoting.{forwarded, indent, indented, quoted, all_forwarded, all_quoted};
 
 use crate::need::ComposeError;
 use crate::view::ComposeView;
-use mail_text::{Items, Memory, Text, lines};
+use mail_text::{Memory, Text, lines};
 use mailx_vars::Vars;
-use message_list::{ListError, Purpose, read_list, select};
 use message_show::{How, shown_text};
-use message_state::Shown;
 use std::alloc::Global;
-
-// The live messages that the words select.
-pub(crate) fn chosen(alloc: Global, shown: &Shown, words: &[Text]) -> Result<Items<u32>, ListError>
-    requires { IsShown shown.now }
-    ensures chosen { IsChosen result (chosen shown.now words.now) }
-    ensures messages { IfOk result (λ ns. All (IsMessage shown.now) ns) }
-{
-    let list = match read_list(alloc, words) {
-        Ok(list) => list,
-        Err(error) => return Err(error),
-    };
-    match select(alloc, &list, shown, Purpose::Live) {
-        Ok(numbers) => Ok(Items::of(numbers)),
-        Err(error) => Err(error),
-    }
-}
 
 // Puts a message as it is printed, without the line of its number.
 fn put_forwarded(
@@ -93,7 +75,7 @@ fn put_quoted(
     put_indented(out, indent(view.vars), shown.bytes())
 }
 
-// Messages as they are printed, one behind the other.
+// Messages as they are printed, one after the other.
 pub(crate) fn all_forwarded(
     alloc: Global,
     view: &ComposeView<'_>,
@@ -111,7 +93,7 @@ pub(crate) fn all_forwarded(
     Ok(out)
 }
 
-// The same of messages whose lines are quoted.
+// Messages whose lines are quoted, one after the other.
 pub(crate) fn all_quoted(
     alloc: Global,
     view: &ComposeView<'_>,

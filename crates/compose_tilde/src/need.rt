@@ -8,7 +8,7 @@ use thiserror::Error;
 pub enum Need {
     /// The next line.
     More,
-    /// These bytes are said, and then comes the next line.
+    /// These bytes are printed, and then comes the next line.
     Say(Text),
     /// The file of this name, as it is written, is loaded. `Answer::Loaded` answers it.
     Load(Text),
@@ -22,7 +22,7 @@ pub enum Need {
     Put { name: Text, bytes: Text },
     /// The draft is done.
     Done,
-    /// The draft is dropped, and its body goes to the dead letter first where it isn't empty.
+    /// The draft is dropped, and its body goes to the dead letter first if it isn't empty.
     Quit,
     /// The draft is dropped.
     Drop,
@@ -42,10 +42,10 @@ pub enum Answer {
 /// Why a line of a draft, or an answer, is refused.
 #[derive(Debug, Drop, Error)]
 pub enum ComposeError {
-    /// The letter stands for no escape; none where the escape byte stands alone.
+    /// The letter stands for no escape; none if the escape byte stands alone.
     #[error("unknown escape")]
     Unknown { letter: Option<u8> },
-    /// The escape of this letter doesn't take what stands behind it.
+    /// The escape of this letter doesn't take what stands after it.
     #[error("bad arguments")]
     BadArguments { letter: u8 },
     /// A command of a session, in send mode.
@@ -57,7 +57,7 @@ pub enum ComposeError {
     /// The words select no messages.
     #[error("{0}")]
     List(ListError),
-    /// Want of memory.
+    /// Memory ran out.
     #[error("out of memory")]
     Memory,
 }

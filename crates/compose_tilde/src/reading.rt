@@ -22,7 +22,7 @@ pub(crate) enum Written<'a> {
     Escaped(u8, &'a [u8]),
 }
 
-/// The argument of an escape, whole and cut into words, where it takes words.
+/// The argument of an escape, whole and cut into words, if it takes words.
 #[derive(Drop)]
 pub struct Given {
     /// The argument.
@@ -41,7 +41,7 @@ pub(crate) fn escape_byte(vars: &Vars) -> Option<u8>
     }
 }
 
-// What stands behind the escape byte.
+// What stands after the escape byte.
 fn behind_mark(mark: u8, rest: &[u8]) -> Written<'_>
     ensures { written_of result ≡ behind_mark mark rest.now }
 {
@@ -125,7 +125,7 @@ fn as_is(alloc: Global, bytes: &[u8]) -> Result<Option<Given>, Memory>
     }))
 }
 
-// The argument cut into words, where each quote is closed.
+// The argument cut into words, if each quote is closed.
 fn cut(alloc: Global, bytes: &[u8]) -> Result<Option<Given>, Memory>
     ensures { IfOk result (λ found. found ≡ cut bytes.now) }
 {

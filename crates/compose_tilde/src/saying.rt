@@ -1,4 +1,4 @@
-// What is said of a draft.
+// What is printed of a draft.
 ghost use Rattle.std.specs.Prelude.{◌≡◌, ◌++◌, IfOk, OnOk};
 ghost use Rattle.draft_text.specs.Texts.{joined};
 ghost use Rattle.compose_tilde.specs.Escapes.{letter_lines};
@@ -35,7 +35,7 @@ fn field_name(part: Part) -> &'static [u8]
     }
 }
 
-// The value that `~h` asks for behind this one, if there is one.
+// The value that `~h` asks for after this one, if there is one.
 pub(crate) fn part_after(part: Part) -> Option<Part>
     ensures { result ≡ part_after part }
 {
@@ -74,7 +74,7 @@ fn put_value_line(out: &mut Text, part: Part, value: &[u8]) -> Result<(), Memory
     out.push(b"\n")
 }
 
-// The same of a list of names.
+// Puts a list of names on a line with its name. An empty one isn't put.
 fn put_names_line(
     alloc: Global,
     out: &mut Text,
@@ -87,7 +87,7 @@ fn put_names_line(
     put_value_line(out, Part::Names(names), value.bytes())
 }
 
-// A draft as `~p` says it.
+// A draft as `~p` prints it.
 pub(crate) fn printed(alloc: Global, draft: &Draft) -> Result<Text, Memory>
     ensures { IfOk result (λ t. t ≡ printed draft.now) }
 {

@@ -27,7 +27,7 @@ fn flat(alloc: Global, bytes: &[u8]) -> Result<Text, Memory>
     Ok(Text::of(value))
 }
 
-// The same of each of these.
+// Each of these words with a space for each line feed.
 fn flat_all(alloc: Global, words: &[Text]) -> Result<Vec<Text>, Memory>
     ensures { IfOk result (λ all. all.items ≡ map flat words.now) }
 {
@@ -38,7 +38,7 @@ fn flat_all(alloc: Global, words: &[Text]) -> Result<Vec<Text>, Memory>
     Ok(all)
 }
 
-// Puts texts at the end, where there is room for them.
+// Puts texts at the end, if there is room for them.
 fn put_all(list: &mut Vec<Text>, more: Vec<Text>)
     requires { vec_len list.old + vec_len more ≤ vec_capacity list.old }
     ensures { list.new.items ≡ list.old.items ++ more.items }
@@ -62,7 +62,7 @@ fn push_all(list: &mut Vec<Text>, more: Vec<Text>) -> Result<(), Memory>
     }
 }
 
-// The same with names of a draft.
+// Puts words, each with a space for each line feed, at the end of names of a draft, all or none.
 fn push_names(alloc: Global, names: &mut Items<Text>, words: &[Text]) -> Result<(), Memory>
     ensures ok { OnOk result (names.new ≡ names.old ++ map flat words.now) }
     ensures err { OnErr result (names.new ≡ names.old) }

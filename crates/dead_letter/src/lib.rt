@@ -22,7 +22,7 @@ fn added_to(alloc: Global, text: &[u8], name: &[u8]) -> Result<Change, Memory>
     })
 }
 
-// The name of the file that a message is recorded in, where it is recorded.
+// The name of the file that a message is recorded in, if it is recorded.
 fn record_file<'a>(first: &'a [u8], named: bool, vars: &'a Vars) -> Option<&'a [u8]>
     ensures { option_map (λ name. name.now) result ≡ record_file first.now named vars.now }
 {
@@ -33,8 +33,8 @@ fn record_file<'a>(first: &'a [u8], named: bool, vars: &'a Vars) -> Option<&'a [
     }
 }
 
-/// The change that puts a message into its record: the file `first` where `named`, else the file that the variable
-/// `record` names, as it stands there, be it to nothing. None exactly where that variable is asked and unset.
+/// The change that puts a message into its record: the file `first` if `named`, else the file that the variable
+/// `record` names, as it stands there, be it to nothing. None exactly if that variable is asked and unset.
 pub fn record_change(
     alloc: Global,
     text: &[u8],
@@ -50,7 +50,7 @@ pub fn record_change(
     }
 }
 
-/// The change that puts a message that wasn't sent into the dead letter, the file `dead`. None exactly where the
+/// The change that puts a message that wasn't sent into the dead letter, the file `dead`. None exactly if the
 /// variable `save` is unset.
 pub fn dead_change(
     alloc: Global,

@@ -28,7 +28,7 @@ draft_to desk names = record {
   body = [];
 }
 
--- this draft is asked for, which is recorded in this file where there is one, and before which this message becomes current where there is one
+-- this draft is asked for, which is recorded in this file if there is one, and before which this message becomes current if there is one
 abbrev pub drafting : Draft → Option (List ℕ) → Option ℕ → Steps
 drafting draft file current = record { asks = asks.Draft draft file current ∷ []; effects = unchanged }
 

@@ -23,7 +23,7 @@ use Rattle.draft_commands.specs.Mailing.{writer, drafting}
 abbrev pub from_writer : Desk → Draft → Draft
 from_writer desk draft = record draft { from = writer desk }
 
--- a draft that answers a message, where somebody is answered
+-- a draft that answers a message, if somebody is answered
 abbrev pub or_no_author : Option Draft → OrFault Draft
 or_no_author (Some draft) = Ok draft
 or_no_author None = Err no_author
@@ -49,7 +49,7 @@ abbrev pub answer_all : Desk → List ℕ → OrFault Draft
 answer_all desk ns =
     next (all_answered desk ns) (λ to. next (answer_one how.Authors desk (slice_index ns 0)) (λ draft. Ok (record draft { to = to })))
 
--- the file in which the message is recorded, where it is: that of the author of message n
+-- the file in which the message is recorded, if it is: that of the author of message n
 abbrev pub recorded_in : Bool → Desk → ℕ → OrFault (Option (List ℕ))
 recorded_in false desk n = Ok None
 recorded_in true desk n = next (named_after (author_of desk n)) (λ name. Ok (Some name))
@@ -73,11 +73,11 @@ answer_messages recorded desk words = next (chosen Live desk words) (λ ns. next
 abbrev pub is_flipped : Desk → Bool
 is_flipped desk = is_set desk.vars (codes "flipr")
 
--- `reply`, `respond`, of which one was given; where the kinds have changed places as `Reply`
+-- `reply`, `respond`, of which one was given; if the kinds have changed places as `Reply`
 abbrev pub reply : List ℕ → Desk → List (List ℕ) → OrFault Steps
 reply name desk words = if is_flipped desk then answer_messages false desk words else answer_message false name desk words
 
--- `Reply`, `Respond`, of which one was given; where the kinds have changed places as `reply`
+-- `Reply`, `Respond`, of which one was given; if the kinds have changed places as `reply`
 abbrev pub reply_authors : List ℕ → Desk → List (List ℕ) → OrFault Steps
 reply_authors name desk words = if is_flipped desk then answer_message false name desk words else answer_messages false desk words
 

@@ -9,7 +9,7 @@ use draft_text::Draft;
 use mail_text::{Items, Memory, Text};
 use std::alloc::Global;
 
-/// Who writes messages: the value of the variable `from`, and nothing where it is unset.
+/// Who writes messages: the value of the variable `from`, and nothing if it is unset.
 pub fn writer(alloc: Global, desk: &Desk) -> Result<Text, Memory>
     ensures { IfOk result (λ t. t ≡ writer desk.now) }
 {
@@ -35,8 +35,8 @@ fn draft_to(alloc: Global, desk: &Desk, names: &[Text]) -> Result<Draft, Memory>
     })
 }
 
-/// This draft is asked for, which is recorded in this file where there is one, and before which this message becomes
-/// current where there is one.
+/// This draft is asked for, which is recorded in this file if there is one, and before which this message becomes
+/// current if there is one.
 pub(crate) fn drafting(
     alloc: Global,
     draft: Draft,

@@ -79,7 +79,7 @@ fn answer_all(alloc: Global, desk: &Desk, numbers: &[u32]) -> Result<Draft, Refu
     })
 }
 
-// The file in which the message is recorded, where it is: that of the author of message n.
+// The file in which the message is recorded, if it is: that of the author of message n.
 fn recorded_in(alloc: Global, recorded: bool, desk: &Desk, n: u32) -> Result<Option<Text>, Refusal>
     ensures { Means result (recorded_in recorded desk.now n) }
 {
@@ -159,9 +159,9 @@ fn is_flipped(desk: &Desk) -> bool
 }
 
 /// `reply`, `respond`, of which `name` is the one that was given: one message is answered, as `reply_to` says, to all,
-/// from the value of the variable `from`; own names stay in where the variable `metoo` is set. Where `flipr` is set it
-/// does what `reply_authors` does. Refused are what `chosen` refuses, more than one message, and one where nobody is
-/// answered.
+/// from the value of the variable `from`; own names stay in if the variable `metoo` is set. If `flipr` is set it
+/// does what `reply_authors` does. Refused are what `chosen` refuses, more than one message, and one that has
+/// nobody to answer.
 pub fn reply(alloc: Global, name: &[u8], desk: &Desk, words: &[Text]) -> Result<Steps, Refusal>
     requires { IsDesk desk.now }
     ensures means { Means result (reply name.now desk.now words.now) }
@@ -175,7 +175,7 @@ pub fn reply(alloc: Global, name: &[u8], desk: &Desk, words: &[Text]) -> Result<
 }
 
 /// `Reply`, `Respond`, of which `name` is the one that was given: messages are answered to those who are answered in
-/// each, and to nobody else; the subject and the ids answer the first. Where `flipr` is set it does what `reply` does.
+/// each, and to nobody else; the subject and the ids answer the first. If `flipr` is set it does what `reply` does.
 /// Refused are what `chosen` refuses, and messages in one of which nobody is answered.
 pub fn reply_authors(
     alloc: Global,

@@ -14,7 +14,7 @@ pub record IsQuiet (l : List ℕ) : Type 0 where
   pub apart : HasNoFeed l
   pub other : starts_with nat_eq l from_mark ≡ false
 
--- an occurrence behind a byte
+-- an occurrence after a byte
 next : (b : ℕ) (hay needle : List ℕ) (k : ℕ) → OccursAt (b ∷ hay) needle (suc k) → OccursAt hay needle k
 next b hay needle k there =
     let fits = there.fits in
@@ -46,7 +46,7 @@ no-third (m ∷ ms) all there =
     (λ long. false≢true (sym all.0.other ∙ OccursAt-starts_with m from_mark 0 (OccursAt-left_back m later from_mark 0 (omega arith) at)))
     (cases_lt (length m) 5)
 
--- nor does one of them behind an empty line
+-- nor does one of them after an empty line
 no-second : (ls : List (List ℕ)) → AllByRecursion IsQuiet ls → OccursAt (flat_map with_feed ls) (10 ∷ from_mark) 0 → ⊥
 no-second [] all there = let fits = there.fits in omega arith
 no-second ([] ∷ ms) all there = no-third ms all.1 (tail 10 10 (flat_map with_feed ms) from_mark there)

@@ -57,7 +57,7 @@ author-is text row is =
 abbrev pub Names : Type 0
 Names = List (List ℕ)
 
--- names are put behind those that there are
+-- names are put after those that there are
 record Grows (names more : Names) : Type 0 where
   rest : Names
   whole : more ≡ names ++ rest
@@ -91,7 +91,7 @@ others-length dropped names others =
     let grows = others-grow dropped names others in
     omega (arith, ap (λ (ns : Names). length ns) grows.whole, length-append names grows.rest)
 
--- what they add stands behind them
+-- what they add stands after them
 pub others-whole : (dropped names others : Names) → names ++ drop (length names) (with_others dropped names others) ≡ with_others dropped names others
 others-whole dropped names others =
     let grows = others-grow dropped names others in

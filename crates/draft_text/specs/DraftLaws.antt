@@ -41,13 +41,13 @@ StoredReadsBack = (draft : Draft) (user : List ℕ) (m : Moment)
     → IsPrintable m → HasFlatParts draft → HasNoFeed user
     → HasDraft (mbox_text draft user m) (opening_line user m) (draft_fields draft m) (trimmed (quoted draft.body))
 
--- its From line tells the user, where that is a word, and what the moment's clock shows
+-- its From line tells the user, if that is a word, and what the moment's clock shows
 abbrev pub OpeningIsRead : Type 0
 OpeningIsRead = (user : List ℕ) (m : Moment) → IsPrintable m → IsWord user
     → (sender_of (drop 5 (opening_line user m)) ≡ user)
     × (arrival_of (drop 5 (opening_line user m)) ≡ Some (as_shown m))
 
--- the message that is sent has the same fields and the draft's body, behind any line
+-- the message that is sent has the same fields and the draft's body, after any line
 abbrev pub SentReadsBack : Type 0
 SentReadsBack = (draft : Draft) (line : List ℕ) (m : Moment)
     → IsPrintable m → HasFlatParts draft → HasNoFeed line

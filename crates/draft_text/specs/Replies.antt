@@ -28,16 +28,16 @@ bare_addresses name text = map (λ a. a.spec) (addresses_of (value_or_empty (fie
 abbrev pub author_of : List ℕ → List ℕ
 author_of text = unwrap_or (slice_get (bare_addresses (codes "From") text) 0) (sender_of (after_from text))
 
--- a text alone, where it has a byte
+-- a text alone, if it has a byte
 abbrev pub unless_empty : List ℕ → List (List ℕ)
 unless_empty [] = []
 unless_empty (b ∷ bs) = (b ∷ bs) ∷ []
 
--- names where there are any, else others
+-- names if there are any, else others
 abbrev pub or_else : List (List ℕ) → List (List ℕ) → List (List ℕ)
 or_else names others = if length names == 0 then others else names
 
--- those to whom an answer goes: the addresses of `Reply-To`, where there are any, else the author; nobody where there is neither
+-- those to whom an answer goes: the addresses of `Reply-To`, if there are any, else the author; nobody if there is neither
 abbrev pub answered : List ℕ → List (List ℕ)
 answered text = or_else (bare_addresses (codes "Reply-To") text) (unless_empty (author_of text))
 
@@ -99,12 +99,12 @@ draft_of row to cc = record {
   body = [];
 }
 
--- that draft, where there is somebody to answer; without `metoo` the user's own names are dropped
+-- that draft, if there is somebody to answer; without `metoo` the user's own names are dropped
 abbrev pub reply : ReplyHow → Own → Bool → List ℕ → Option Draft
 reply how own metoo text =
     if length (answered text) == 0 then None else Some (answer how (dropped_names own metoo) text)
 
--- an answer is the draft that is meant, or that there is none, or want of memory
+-- an answer is the draft that is meant, or that there is none, or that memory ran out
 abbrev pub IsReply : Option Draft → Result Draft ReplyError → Type 0
 IsReply meant (Ok draft) = meant ≡ Some draft
 IsReply meant (Err NoAuthor) = meant ≡ None

@@ -8,12 +8,12 @@ use Rattle.mail_dates.specs.Printed.{date_text, from_date_text}
 use Rattle.mbox_scan.specs.Mailbox.{from_mark, trimmed}
 use Rattle.draft_text.specs.declared.draft.Draft.{Draft}
 
--- texts with a separator between them: the first, and each later one behind the separator
+-- texts with a separator between them: the first, and each later one after the separator
 abbrev pub joined : List ℕ → List (List ℕ) → List ℕ
 joined separator [] = []
 joined separator (t ∷ later) = t ++ flat_map (λ u. separator ++ u) later
 
--- the field of this name whose value stands behind a space
+-- the field of this name whose value stands after a space
 abbrev pub spaced_field : List ℕ → List ℕ → Field
 spaced_field name value = record { name = name; value = 32 ∷ value }
 
@@ -21,7 +21,7 @@ spaced_field name value = record { name = name; value = 32 ∷ value }
 abbrev pub filled : List ℕ → List ℕ → List Field
 filled name value = if length value == 0 then [] else spaced_field name value ∷ []
 
--- the values of a draft's fields in the order in which they are written, each behind its field's name (RFC 5322, 3.6)
+-- the values of a draft's fields in the order in which they are written, each after its field's name (RFC 5322, 3.6)
 abbrev pub draft_values : Draft → Moment → List (List ℕ × List ℕ)
 draft_values draft m =
     (codes "Date", date_text m)
@@ -45,11 +45,11 @@ draft_fields draft m = all_filled (draft_values draft m)
 abbrev pub field_lines : List Field → List ℕ
 field_lines fields = flat_map (λ f. with_feed (field_bytes f)) fields
 
--- what the sender gets: the fields, an empty line, and the body, which ends in a line feed where it has bytes
+-- what the sender gets: the fields, an empty line, and the body, which ends in a line feed if it has bytes
 unfoldable pub message_text : Draft → Moment → List ℕ
 message_text draft m = field_lines (draft_fields draft m) ++ 10 ∷ fed draft.body
 
--- what stands in a mailbox before a line of a body: `>` where the line begins with `From `
+-- what stands in a mailbox before a line of a body: `>` if the line begins with `From `
 abbrev pub quote : List ℕ → List ℕ
 quote line = if starts_with nat_eq line from_mark then codes ">" else []
 

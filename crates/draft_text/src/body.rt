@@ -1,11 +1,10 @@
-ghost use Rattle.std.specs.Prelude.{◌≡◌, ◌≤◌, ◌++◌, length, take, OnOk};
+ghost use Rattle.std.specs.Prelude.{◌≡◌, ◌++◌, OnOk};
 ghost use Rattle.mail_text.specs.Lines.{with_feed, fed};
-ghost use Rattle.mbox_scan.specs.Mailbox.{trimmed};
 ghost use Rattle.draft_text.specs.Texts.{quote, quoted_line, quoted};
 
 use mail_text::{Memory, lines};
 
-// The line feed that a body lacks at its end: nothing where it has one, or has no bytes.
+// The line feed that a body lacks at its end: nothing if it has one, or has no bytes.
 fn missing_feed(body: &[u8]) -> &'static [u8]
     ensures { fed body.now ≡ body.now ++ result.now }
 {
@@ -15,7 +14,7 @@ fn missing_feed(body: &[u8]) -> &'static [u8]
     }
 }
 
-// Puts a body at the end, with a line feed behind it where it has bytes and lacks one.
+// Puts a body at the end, with a line feed after it if it has bytes and lacks one.
 pub(crate) fn push_fed(text: &mut Vec<u8>, body: &[u8]) -> Result<(), Memory>
     ensures { OnOk result (text.new.items ≡ text.old.items ++ fed body.now) }
 {
@@ -53,16 +52,4 @@ pub(crate) fn push_quoted(text: &mut Vec<u8>, body: &[u8]) -> Result<(), Memory>
         push_line(text, line)?;
     }
     Ok(())
-}
-
-// How many bytes are left without the line feeds at the end.
-pub(crate) fn trimmed_len(text: &[u8]) -> usize
-    ensures cut { take result text.now ≡ trimmed text.now }
-    ensures bound { result ≤ length text.now }
-{
-    let mut n = text.len();
-    while n > 0 && text[n - 1] == b'\n' {
-        n -= 1;
-    }
-    n
 }

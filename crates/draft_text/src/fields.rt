@@ -9,7 +9,7 @@ use mail_dates::{Moment, print_date};
 use mail_text::{Memory, Text};
 use std::alloc::Global;
 
-// Puts texts at the end, each behind the separator.
+// Puts texts at the end, each after the separator.
 fn push_behind(text: &mut Text, separator: &[u8], later: &[Text]) -> Result<(), Memory>
     ensures { OnOk result (text.new ≡ text.old ++ flat_map (λ t. separator.now ++ t) later.now) }
 {
@@ -20,7 +20,7 @@ fn push_behind(text: &mut Text, separator: &[u8], later: &[Text]) -> Result<(), 
     Ok(())
 }
 
-/// Texts with the separator between them. Only want of memory can fail.
+/// Texts with the separator between them. Fails only if memory runs out.
 pub fn joined(alloc: Global, separator: &[u8], texts: &[Text]) -> Result<Text, Memory>
     ensures { IfOk result (λ t. t ≡ joined separator.now texts.now) }
 {
@@ -48,7 +48,7 @@ fn push_field(text: &mut Vec<u8>, name: &[u8], value: &[u8]) -> Result<(), Memor
     Ok(())
 }
 
-// The same of a value that is a list of texts.
+// Puts a field at the end whose value is a list of texts. An empty list makes no field.
 fn push_list(
     alloc: Global,
     text: &mut Vec<u8>,
@@ -63,7 +63,7 @@ fn push_list(
     push_field(text, name, value.bytes())
 }
 
-// The same of the date.
+// Puts the field of the date on a line of its own at the end.
 fn push_date(alloc: Global, text: &mut Vec<u8>, m: Moment) -> Result<(), Memory>
     requires { IsPrintable m }
     ensures { OnOk result

@@ -2,7 +2,7 @@ ghost use Rattle.draft_text.specs.DraftLaws.{StoredIsProper, StoredReadsBack, Op
 ghost use Rattle.draft_text.specs.Addresses.{EachIsWhatIsRead};
 ghost use Rattle.draft_text.specs.ReplyLaws.{EachOnce, AnsweredStay, OwnAreLeftOut};
 
-/// A law: where no part of a draft but its body holds a line feed, and the user's name holds none, its text can be put
+/// A law: if no part of a draft but its body holds a line feed, and the user's name holds none, its text can be put
 /// into a mailbox and read back as one message.
 pub fn a_draft_can_be_put_into_a_mailbox()
     ensures { StoredIsProper }
@@ -14,25 +14,25 @@ pub fn a_stored_draft_reads_back()
     ensures { StoredReadsBack }
 {}
 
-/// A law: that From line, read behind its first word, tells the user, where that is a word, and what the moment's clock
+/// A law: that From line, read after its first word, tells the user, if that is a word, and what the moment's clock
 /// shows.
 pub fn an_opening_line_reads_back()
     ensures { OpeningIsRead }
 {}
 
-/// A law: what is read of the message that is sent, behind any first line, is the fields of the draft in order and no
+/// A law: what is read of the message that is sent, after any first line, is the fields of the draft in order and no
 /// other line, and the body with a line feed at its end.
 pub fn a_sent_draft_reads_back()
     ensures { SentReadsBack }
 {}
 
 /// A law: a text with the fields of a draft has each of them under its name, with its value but for blanks at the ends,
-/// and none where the draft has nothing to put there.
+/// and none if the draft has nothing to put there.
 pub fn each_field_is_found()
     ensures { FieldsAreFound }
 {}
 
-/// A law: where no line of a body begins with `From `, it is stored as it is, but for line feeds at its end.
+/// A law: if no line of a body begins with `From `, it is stored as it is, but for line feeds at its end.
 pub fn plain_bodies_are_stored_as_they_are()
     ensures { PlainIsStored }
 {}
@@ -42,13 +42,13 @@ pub fn a_draft_of_flat_parts_stays()
     ensures { FlatIsKept }
 {}
 
-/// A law: the addresses of a value are the list that it reads as, and none where a piece of it is bad.
+/// A law: the addresses of a value are the list that it reads as, and none if a piece of it is bad.
 pub fn addresses_are_what_is_read()
     ensures { EachIsWhatIsRead }
 {}
 
 /// Laws of answers: no address stands twice in one, ASCII case ignored; it goes to all who are answered; and an own name
-/// that is to be dropped is in it only where it is answered.
+/// that is to be dropped is in it only if it is answered.
 pub fn answers_go_to_each_once()
     ensures once { EachOnce }
     ensures answered { AnsweredStay }

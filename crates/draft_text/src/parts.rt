@@ -14,7 +14,7 @@ fn flat_byte(byte: u8) -> u8
     if byte == b'\n' { b' ' } else { byte }
 }
 
-/// The bytes with a space for each line feed. Only want of memory can fail.
+/// The bytes with a space for each line feed. Fails only if memory runs out.
 pub fn flat(alloc: Global, bytes: &[u8]) -> Result<Text, Memory>
     ensures { IfOk result (λ t. t ≡ flat bytes.now) }
 {
@@ -25,7 +25,7 @@ pub fn flat(alloc: Global, bytes: &[u8]) -> Result<Text, Memory>
     Ok(Text::of(text))
 }
 
-// The same of each text of a list.
+// Each text of a list with a space for each line feed.
 fn all_flat(alloc: Global, texts: &[Text]) -> Result<Items<Text>, Memory>
     ensures { IfOk result (λ items. items ≡ map flat texts.now) }
 {
@@ -36,7 +36,7 @@ fn all_flat(alloc: Global, texts: &[Text]) -> Result<Items<Text>, Memory>
     Ok(items)
 }
 
-// The same of two texts.
+// Two texts with a space for each line feed.
 fn both(alloc: Global, first: &[u8], second: &[u8]) -> Result<(Text, Text), Memory>
     ensures { IfOk result (λ made. made ≡ (flat first.now, flat second.now)) }
 {
@@ -45,7 +45,7 @@ fn both(alloc: Global, first: &[u8], second: &[u8]) -> Result<(Text, Text), Memo
     Ok((first, second))
 }
 
-// The same of two lists of texts.
+// Two lists of texts with a space for each line feed.
 fn both_lists(
     alloc: Global,
     first: &[Text],
@@ -60,7 +60,7 @@ fn both_lists(
 
 /// The draft with a space for each line feed of its parts but the body, which stays as it is: so none of those parts
 /// holds a line feed, and the texts of the draft read back, by `a_stored_draft_reads_back` and
-/// `a_sent_draft_reads_back`. Only want of memory can fail.
+/// `a_sent_draft_reads_back`. Fails only if memory runs out.
 pub fn flattened(alloc: Global, draft: &Draft) -> Result<Draft, Memory>
     ensures draft { IfOk result (λ d. d ≡ flattened draft.now) }
     ensures parts { IfOk result (λ d. HasFlatParts d) }

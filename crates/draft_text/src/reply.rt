@@ -32,7 +32,7 @@ pub enum ReplyError {
     /// It has no author, and no addresses in `Reply-To`.
     #[error("no author")]
     NoAuthor,
-    /// Want of memory.
+    /// Memory ran out.
     #[error("out of memory")]
     Memory,
 }
@@ -89,7 +89,7 @@ fn bare_addresses(alloc: Global, header: &Header<'_>, name: &[u8]) -> Result<Ite
     specs_of(alloc, &list)
 }
 
-// A text alone at the end of texts, where it has a byte.
+// A text alone at the end of texts, if it has a byte.
 fn push_unless_empty(alloc: Global, text: &[u8], texts: &mut Items<Text>) -> Result<(), Memory>
     ensures { OnOk result (texts.new ≡ texts.old ++ unless_empty text.now) }
 {
@@ -99,7 +99,7 @@ fn push_unless_empty(alloc: Global, text: &[u8], texts: &mut Items<Text>) -> Res
     texts.push(Text::copy(alloc, text)?)
 }
 
-// Names where there are any, else this author, if there is one.
+// Names if there are any, else this author, if there is one.
 fn or_author(alloc: Global, names: Items<Text>, author: &[u8]) -> Result<Items<Text>, Memory>
     ensures { IfOk result (λ all. all ≡ or_else names (unless_empty author.now)) }
 {
@@ -120,8 +120,8 @@ fn answered_of(alloc: Global, header: &Header<'_>, row: &Row) -> Result<Items<Te
     or_author(alloc, names, row.texts.author())
 }
 
-/// Those to whom an answer to a message goes: the addresses of `Reply-To` (RFC 5322, section 3.6.2), where that reads
-/// and has one, else the author, if there is one. Addresses stand without their names. Only want of memory can fail.
+/// Those to whom an answer to a message goes: the addresses of `Reply-To` (RFC 5322, section 3.6.2), if that reads
+/// and has one, else the author, if there is one. Addresses stand without their names. Fails only if memory runs out.
 pub fn answered(alloc: Global, text: &[u8]) -> Result<Items<Text>, Memory>
     ensures { IfOk result (λ names. names ≡ answered text.now) }
 {
@@ -140,7 +140,7 @@ fn put_other(names: &mut Names, dropped: &Names, name: &[u8]) -> Result<(), Memo
     names.put(name)
 }
 
-// The same for names in turn.
+// Puts each of these names in turn at the end, if it isn't there, unless it is to be dropped.
 fn put_others(names: &mut Names, dropped: &Names, others: &[Text]) -> Result<(), Memory>
     ensures { OnOk result (names.new ≡ with_others dropped.now names.old others.now) }
 {
@@ -150,7 +150,7 @@ fn put_others(names: &mut Names, dropped: &Names, others: &[Text]) -> Result<(),
     Ok(())
 }
 
-// The first names, so many, and those after them.
+// The first `count` names, and those after them.
 fn cut_names(names: Names, count: usize) -> Result<(Items<Text>, Items<Text>), Memory>
     requires { count ≤ length names }
     ensures { IfOk result (λ parts. (parts.0 ≡ take count names) × (parts.1 ≡ drop count names)) }
@@ -258,7 +258,7 @@ fn draft_of(alloc: Global, row: &Row, to: Items<Text>, cc: Items<Text>) -> Resul
 /// both, at its first place, ASCII case ignored. Without `metoo` the user's own names are left out, but for who is
 /// answered. The subject has `Re: ` in front, unless it begins with it, ASCII case ignored; the message's own id is the
 /// one that is answered, and stands last among the ids that are followed. Nothing else is written. `NoAuthor` comes
-/// exactly where nobody is answered.
+/// exactly when nobody is answered.
 pub fn reply_to(
     alloc: Global,
     text: &[u8],

@@ -4,16 +4,17 @@ ghost use Rattle.mail_dates.specs.Clock.{IsPrintable};
 ghost use Rattle.draft_text.specs.Texts.{opening_line, message_text, mbox_text};
 
 use crate::Draft;
-use crate::body::{push_fed, push_quoted, trimmed_len};
+use crate::body::{push_fed, push_quoted};
 use crate::fields::push_fields;
 use mail_dates::{Moment, print_from_date};
 use mail_text::{Memory, Text};
+use mbox_scan::trimmed_len;
 use std::alloc::Global;
 
 /// The message that the sender gets (RFC 5322, section 2.1): the fields of the draft, with the moment as its date, an
-/// empty line, and the body, with a line feed at its end where it has bytes and lacks one. Who gets a copy of which the
+/// empty line, and the body, with a line feed at its end if it has bytes and lacks one. Who gets a copy of which the
 /// text says nothing isn't in it. No part but the body is to hold a line feed: then the fields and the body read back,
-/// by `a_sent_draft_reads_back`. Only want of memory can fail.
+/// by `a_sent_draft_reads_back`. Fails only if memory runs out.
 pub fn message_text(alloc: Global, draft: &Draft, m: Moment) -> Result<Text, Memory>
     requires { IsPrintable m }
     ensures { IfOk result (λ t. t ≡ message_text draft.now m) }
@@ -39,10 +40,10 @@ fn push_opening(alloc: Global, text: &mut Vec<u8>, user: &[u8], m: Moment) -> Re
     Ok(())
 }
 
-/// The text of the draft in a mailbox: a From line of the user and the moment, and behind it the message, with `>`
+/// The text of the draft in a mailbox: a From line of the user and the moment, and after it the message, with `>`
 /// before each line of its body that begins with `From `, and with no line feeds at its end. Neither the user's name
 /// nor a part but the body is to hold a line feed: then the text can be put into a mailbox and read back, by
-/// `a_draft_can_be_put_into_a_mailbox` and `a_stored_draft_reads_back`. Only want of memory can fail.
+/// `a_draft_can_be_put_into_a_mailbox` and `a_stored_draft_reads_back`. Fails only if memory runs out.
 pub fn mbox_text(alloc: Global, draft: &Draft, user: &[u8], m: Moment) -> Result<Text, Memory>
     requires { IsPrintable m }
     ensures { IfOk result (λ t. t ≡ mbox_text draft.now user.now m) }

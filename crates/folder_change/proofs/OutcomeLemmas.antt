@@ -50,7 +50,7 @@ ok-same r o p e h = subst (λ (x : Result (Option (List ℕ)) ℕ). IfOk r (λ f
 pub err-same : (r : Result (Option (List ℕ)) ChangeError) (o p : Result (Option (List ℕ)) ℕ) → o ≡ p → IfErr r (λ error. Explains error p) → IfErr r (λ error. Explains error o)
 err-same r o p e h = subst (λ (x : Result (Option (List ℕ)) ℕ). IfErr r (λ error. Explains error x)) (sym e) h
 
--- want of memory where there is an outcome
+-- memory ran out, and there is an outcome
 pub memory-explains : (r : Result (Option (List ℕ)) ChangeError) (o : Result (Option (List ℕ)) ℕ) (file : Option (List ℕ)) → (y : ChangeError) × (r ≡ Err y) × (y ≡ Memory) → o ≡ Ok file
     → IfErr r (λ e. Explains e o)
 memory-explains r o file p e =

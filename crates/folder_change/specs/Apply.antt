@@ -5,7 +5,7 @@ use Rattle.folder_change.specs.declared.change.Change.{Change}
 use Rattle.folder_change.specs.Changes.{name_of}
 use Rattle.folder_change.specs.Outcomes.{outcome_of}
 
--- each name's bytes, None where there is no such file
+-- each name's bytes, None if there is no such file
 abbrev pub Files : Type 0
 Files = List ℕ → Option (List ℕ)
 

@@ -28,7 +28,7 @@ FrontPrepends = (current : Option (List ℕ)) (name : List ℕ) (old texts base 
     → list_of_file current ≡ Some old → All IsProper texts
     → list_after (outcome_of current (Front name texts) base) ≡ Some (texts ++ old)
 
--- what others added after the base stays, behind the new texts
+-- what others added after the base stays, after the new texts
 abbrev pub RewriteKeepsTheRest : Type 0
 RewriteKeepsTheRest = (current : Option (List ℕ)) (name : List ℕ) (list base rest : List (List ℕ)) (keep : Bool)
     → list_of_file current ≡ Some (base ++ rest) → All IsProper list
@@ -40,7 +40,7 @@ pub record IsFirstDifference (base now : List (List ℕ)) (k : ℕ) : Type 0 whe
   pub same : take k now ≡ take k base
   pub other : slice_get now k ≢ slice_get base k
 
--- a Rewrite of a mailbox has a file where the list begins with the base, and then it is this one;
+-- a Rewrite of a mailbox has a file if the list begins with the base, and then it is this one;
 -- else it has changed, at the number of the first text of the base that differs, from 1
 abbrev pub RewriteByTheBase : Type 0
 RewriteByTheBase = (current : Option (List ℕ)) (name : List ℕ) (now list base : List (List ℕ)) (keep : Bool)

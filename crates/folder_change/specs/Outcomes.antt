@@ -1,4 +1,4 @@
--- What a change makes of a file. A file is its bytes, None where it is absent.
+-- What a change makes of a file. A file is its bytes, None if it is absent.
 use Rattle.std.specs.Prelude.{◌≡◌, false, ℕ, ◌+◌, Bool, ◌&&◌, ◌||◌, ◌==◌, nat_eq, not, List, [], ◌∷◌, ◌++◌, Option, Some, None, Result, Ok, Err, IsOk, length, drop, if◌then◌else◌}
 use Rattle.std.specs.List.{starts_with, ends_with, common_prefix_len}
 use Rattle.std.specs.Str.{bytes_eq}
@@ -13,7 +13,7 @@ abbrev pub bytes_of : Option (List ℕ) → List ℕ
 bytes_of None = []
 bytes_of (Some b) = b
 
--- the texts of the folder that a change is made for; where there is none, no texts
+-- the texts of the folder that a change is made for; if there is none, no texts
 abbrev pub base_list : Option (List ℕ) → List (List ℕ)
 base_list None = []
 base_list (Some b) = texts_of b
@@ -24,7 +24,7 @@ missing_feeds b =
     if length b == 0 || ends_with nat_eq b two_feeds then []
     else if ends_with nat_eq b (10 ∷ []) then 10 ∷ [] else two_feeds
 
--- a file with these bytes; where there are none, it stands only if it is kept
+-- a file with these bytes; if there are none, it stands only if it is kept
 abbrev pub file_of : List ℕ → Bool → Option (List ℕ)
 file_of b keep = if length b == 0 && not keep then None else Some b
 
@@ -33,19 +33,19 @@ pub record DiffersAt (base now : List (List ℕ)) (k : ℕ) : Type 0 where
   pub other : starts_with bytes_eq now base ≡ false
   pub same : common_prefix_len bytes_eq base now ≡ k
 
--- the texts `list` in place of the base at the front of the current ones. Where these don't begin
+-- the texts `list` in place of the base at the front of the current ones. If these don't begin
 -- with the base, the number, from 1, of the first text of the base that they lack or have otherwise
 unfoldable pub rewritten : List (List ℕ) → List (List ℕ) → Bool → List (List ℕ) → Result (Option (List ℕ)) ℕ
 rewritten now list keep base =
     if starts_with bytes_eq now base then Ok (file_of (join list ++ join (drop (length base) now)) keep)
     else Err (common_prefix_len bytes_eq base now + 1)
 
--- the same where the current bytes may have no list: they differ from the first message on
+-- the texts `list` in place of the base, if the current bytes may have no list: they differ from the first message on
 unfoldable pub rewrite_of : Option (List (List ℕ)) → List (List ℕ) → Bool → List (List ℕ) → Result (Option (List ℕ)) ℕ
 rewrite_of None list keep base = Err 1
 rewrite_of (Some now) list keep base = rewritten now list keep base
 
--- why there is no file: it has changed, at this number; or memory is wanting, which hides no change
+-- why there is no file: it has changed, at this number; or memory ran out, which hides no change
 abbrev pub Explains : ChangeError → Result (Option (List ℕ)) ℕ → Type 0
 Explains (Changed at) outcome = outcome ≡ Err at
 Explains Memory outcome = IsOk outcome

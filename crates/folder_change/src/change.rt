@@ -7,7 +7,7 @@ use mail_text::{Items, Text};
 #[derive(Drop)]
 pub enum Change {
     /// The texts of `list` take the place of those of a folder, and what was added to the file
-    /// after these stays. A file that is empty then stands where `keep`, and else is removed.
+    /// after these stays. A file that is empty then stands if `keep`, and else is removed.
     Rewrite {
         name: Text,
         list: Items<Text>,

@@ -9,7 +9,7 @@ pub enum ChangeError {
     /// mailbox.
     #[error("changed at message {at}")]
     Changed { at: u64 },
-    /// Want of memory.
+    /// Memory ran out.
     #[error("out of memory")]
     Memory,
 }

@@ -15,7 +15,7 @@ pub fn rewrite_keeps_the_rest()
     ensures { RewriteKeepsTheRest }
 {}
 
-/// A Rewrite of a mailbox has a file exactly where the list begins with the base, and else the
+/// A Rewrite of a mailbox has a file exactly if the list begins with the base, and else the
 /// number of the first message that differs.
 pub fn rewrite_by_the_base()
     ensures { RewriteByTheBase }

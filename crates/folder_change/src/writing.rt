@@ -50,7 +50,7 @@ fn push_rest(file: &mut Text, texts: &mut Texts<'_>) -> Result<(), Memory>
     Ok(())
 }
 
-/// Takes the texts of a folder from the front of the texts. None where they begin with these; else
+/// Takes the texts of a folder from the front of the texts. None if they begin with these; else
 /// how many of them stand before the first that the texts lack or have otherwise.
 fn first_difference(texts: &mut Texts<'_>, base: &Folder) -> Option<usize>
     ensures same { result ≡ None → texts.old ≡ texts_of base.now ++ texts.new }
@@ -70,7 +70,7 @@ fn first_difference(texts: &mut Texts<'_>, base: &Folder) -> Option<usize>
     None
 }
 
-/// The file of texts and then those that are left: None where there are none and it isn't kept.
+/// The file of texts and then those that are left: None if there are none and it isn't kept.
 fn rewritten_file(
     alloc: Global,
     list: &[Text],
@@ -148,9 +148,9 @@ fn current_bytes<'a>(current: Option<&'a [u8]>) -> &'a [u8]
     current.unwrap_or(b"")
 }
 
-/// What a change makes of a file: its bytes, or None where it is absent afterwards. `current` is
-/// the file's bytes, None where it is absent; `base` is the folder that a Rewrite was made for.
-/// `Changed` only for a Rewrite, where the file's messages don't begin with those of the folder.
+/// What a change makes of a file: its bytes, or None if it is absent afterwards. `current` is
+/// the file's bytes, None if it is absent; `base` is the folder that a Rewrite was made for.
+/// `Changed` only for a Rewrite, if the file's messages don't begin with those of the folder.
 pub fn outcome(
     alloc: Global,
     current: Option<&[u8]>,

@@ -32,18 +32,18 @@ made (c ∷ cs) base name file =
     if bytes_eq (name_of c) name then onto (outcome_of file c base) (made cs base name)
     else made cs base name file
 
--- an answer is what is made, or want of memory
+-- an answer is what is made, or memory ran out
 abbrev pub Makes : Made → Result (Option (List ℕ)) ChangeError → Type 0
 Makes meant (Ok file) = meant ≡ Ok file
 Makes meant (Err (error.Changed at)) = meant ≡ Err at
 Makes meant (Err error.Memory) = Unit {0}
 
--- bytes with this list are opened, where they have one, of not too many messages
+-- bytes with this list are opened, if they have one, of not too many messages
 abbrev pub listed : List ℕ → List ℕ → Option (List (List ℕ)) → OrFault (List ℕ)
 listed name bytes None = Err (not_a_mailbox name)
 listed name bytes (Some texts) = if nat_lt message_limit (length texts) then Err (too_many_messages name) else Ok bytes
 
--- the bytes that are opened, where a file of this name may have them
+-- the bytes that are opened, if a file of this name may have them
 abbrev pub openable : List ℕ → List ℕ → OrFault (List ℕ)
 openable name bytes = if nat_lt load_limit (length bytes) then Err (too_large name) else listed name bytes (list_of bytes)
 

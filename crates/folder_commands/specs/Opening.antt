@@ -27,7 +27,7 @@ abbrev pub opening_line : Desk → List ℕ
 opening_line desk = with_feed (codes "\"" ++ desk.folder.name ++ codes "\": " ++ decimal (length desk.shown.rows) ++ codes " messages, "
     ++ decimal (count_by (is_in New) desk.shown.rows) ++ codes " new, " ++ decimal (count_by (is_in Unread) desk.shown.rows) ++ codes " unread")
 
--- the file of this name is opened once the changes of a quit were committed, of which is said what a quit says
+-- the file of this name is opened once the changes of a quit were committed, of which is printed what a quit prints
 abbrev pub opens : Desk → List ℕ → Steps
 opens desk name = record {
   asks = asks.Open name (quit_changes desk.folder desk.vars desk.places.mbox) (left_reply desk) ∷ [];

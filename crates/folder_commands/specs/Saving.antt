@@ -19,7 +19,7 @@ use Rattle.command_desk.specs.Selecting.{chosen, list_words, last_word}
 use Rattle.folder_commands.specs.declared.wanted.Filing.{Filing}
 use Rattle.command_desk.specs.FileNames.{expanded, author_of, named_after}
 
--- what is said once so many messages were put into the file of this name
+-- what is printed once `count` messages were put into the file of this name
 abbrev pub reply : List ℕ → List ℕ → ℕ → List ℕ
 reply name done count = with_feed (codes "\"" ++ name ++ codes "\" [" ++ done ++ codes "] " ++ decimal count)
 
@@ -35,7 +35,7 @@ adding act desk ns name = record {
   effects = marked desk act ns;
 }
 
--- the bodies of these are put behind a file, and then they are saved
+-- the bodies of these are put at the end of a file, and then they are saved
 abbrev pub writing : Desk → List ℕ → List ℕ → Filing
 writing desk ns name = record {
   change = AddRaw name (flat_map (body_line desk) ns);
@@ -51,7 +51,7 @@ into_named act desk list word = next (chosen Live desk list) (λ ns. next (expan
 abbrev pub into_mbox : Act → Desk → OrFault Filing
 into_mbox act desk = next (chosen Live desk []) (λ ns. Ok (adding act desk ns desk.places.mbox))
 
--- A list and a file behind it; a single word is the file, and without a word it is mbox.
+-- A list and a file after it; a single word is the file, and without a word it is mbox.
 abbrev pub into_file : Act → Desk → List (List ℕ) → OrFault Filing
 into_file act desk words = if length words == 0 then into_mbox act desk else into_named act desk (list_words words) (last_word words)
 
@@ -76,14 +76,14 @@ save desk words = into_file Save desk words
 abbrev pub save_by_author : Desk → List (List ℕ) → OrFault Filing
 save_by_author desk words = by_author Save desk words
 
--- the bodies of the selected messages are put behind the file that a word names
+-- the bodies of the selected messages are put at the end of the file that a word names
 abbrev pub write_to : Desk → List (List ℕ) → List ℕ → OrFault Filing
 write_to desk list word = next (chosen Live desk list) (λ ns. next (expanded desk word) (λ name. Ok (writing desk ns name)))
 
--- `write`: a list and a file behind it, which can't be left out
+-- `write`: a list and a file after it, which can't be left out
 abbrev pub write : Desk → List (List ℕ) → OrFault Filing
 write desk words = if length words == 0 then Err (bad_arguments (codes "write")) else write_to desk (list_words words) (last_word words)
 
--- where an answer makes a message current, it is one, or none
+-- if an answer makes a message current, it is one, or none
 abbrev pub IsFilingWithin : {E : Type 0} → Desk → Result Filing E → Type 0
 IsFilingWithin desk result = IfOk result (λ filing. IfSome filing.effects.current (λ n. n ≤ length desk.shown.rows))

@@ -9,7 +9,7 @@ use mail_text::{Items, Memory, Text};
 use quit_rules::{boxed, kept, quit_changes};
 use std::alloc::Global;
 
-// Puts the line of what became of so many messages, where there are any.
+// Puts the line of what became of `count` messages, if there are any.
 fn put_count(
     alloc: Global,
     out: &mut Text,
@@ -26,7 +26,7 @@ fn put_count(
     out.push(line.bytes())
 }
 
-/// What is said once the folder was left.
+/// What is printed once the folder was left.
 pub(crate) fn left_reply(alloc: Global, desk: &Desk) -> Result<Text, Memory>
     requires { IsDesk desk.now }
     ensures { IfOk result (λ reply. reply ≡ left_reply desk.now) }
@@ -39,7 +39,7 @@ pub(crate) fn left_reply(alloc: Global, desk: &Desk) -> Result<Text, Memory>
     Ok(out)
 }
 
-// Asks for bytes to be said, where there are any.
+// Asks for bytes to be printed, if there are any.
 fn ask_said(asks: &mut Items<Ask>, text: Text) -> Result<(), Memory>
     ensures { OnOk result (asks.new ≡ asks.old ++ said text) }
 {
@@ -49,8 +49,8 @@ fn ask_said(asks: &mut Items<Ask>, text: Text) -> Result<(), Memory>
     asks.push(Ask::Say(text))
 }
 
-/// `quit`, and the end of the input: the folder is left. What `quit_changes` gives for it is committed; then it is said
-/// how many messages went to mbox and how many stay, each where there are any; then the run ends.
+/// `quit`, and the end of the input: the folder is left. What `quit_changes` gives for it is committed; then it is
+/// printed how many messages went to mbox and how many stay, each if there are any; then the run ends.
 pub fn quit(alloc: Global, desk: &Desk) -> Result<Steps, Memory>
     requires { IsDesk desk.now }
     ensures steps { IfOk result (λ steps. steps ≡ quit desk.now) }

@@ -140,7 +140,7 @@ fn is_other(file: &Option<Text>) -> bool
 }
 
 /// The folder that is opened of the file of this name once the changes were made, which are those of a folder that is
-/// left, `base`; `file` is the file before them, None where it is absent. Else the line that says why it can't be
+/// left, `base`; `file` is the file before them, None if it is absent. Else the line that says why it can't be
 /// opened then: the file is no mailbox, it is absent and stays so, it has changed, or what is made of it is no mailbox,
 /// or past a limit.
 pub fn made_folder(

@@ -57,7 +57,7 @@ fn opens(alloc: Global, desk: &Desk, name: Text) -> Result<Steps, Memory>
     })
 }
 
-// The same for the file that a word stands for.
+// The file that a word stands for is opened once the folder was left.
 fn open_word(alloc: Global, command: &[u8], desk: &Desk, word: &[u8]) -> Result<Steps, Refusal>
     requires { IsDesk desk.now }
     ensures means { Means result (file command.now desk.now (word.now ∷ [])) }
@@ -67,7 +67,7 @@ fn open_word(alloc: Global, command: &[u8], desk: &Desk, word: &[u8]) -> Result<
     Ok(opens(alloc, desk, name)?)
 }
 
-/// `file`, `folder`, of which `command` is the one that was given: without a word the opening line is said; with one
+/// `file`, `folder`, of which `command` is the one that was given: without a word the opening line is printed; with one
 /// the folder is left as by `quit`, and the file that the word stands for is opened. Refused are more words, and a word
 /// that stands for no file.
 pub fn file(alloc: Global, command: &[u8], desk: &Desk, words: &[Text]) -> Result<Steps, Refusal>

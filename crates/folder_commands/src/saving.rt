@@ -18,7 +18,7 @@ use message_list::Purpose;
 use message_state::Act;
 use std::alloc::Global;
 
-/// What is said once so many messages were put into the file of this name.
+/// What is printed once `count` messages were put into the file of this name.
 pub fn reply(alloc: Global, name: &[u8], done: &[u8], count: usize) -> Result<Text, Memory>
     ensures { IfOk result (λ line. line ≡ reply name.now done.now count) }
 {
@@ -95,7 +95,7 @@ fn adding(
     })
 }
 
-// Puts the bodies of messages behind a file, and then they are saved.
+// Puts the bodies of messages at the end of a file, and then they are saved.
 fn writing(alloc: Global, desk: &Desk, numbers: &[u32], name: Text) -> Result<Filing, Memory>
     requires desk { IsDesk desk.now }
     requires some { 0 < length numbers.now }
@@ -141,7 +141,7 @@ fn into_mbox(alloc: Global, act: Act, desk: &Desk) -> Result<Filing, Refusal>
     Ok(adding(alloc, act, desk, numbers.items(), name)?)
 }
 
-// A list and a file behind it; a single word is the file, and without a word it is mbox.
+// A list and a file after it; a single word is the file, and without a word it is mbox.
 fn into_file(alloc: Global, act: Act, desk: &Desk, words: &[Text]) -> Result<Filing, Refusal>
     requires { IsDesk desk.now }
     ensures means { Means result (into_file act desk.now words.now) }
@@ -165,8 +165,8 @@ fn by_author(alloc: Global, act: Act, desk: &Desk, words: &[Text]) -> Result<Fil
     Ok(adding(alloc, act, desk, numbers.items(), name)?)
 }
 
-/// `copy`: the selected messages are added to a file, the last word's, or to mbox where there is no word; then they are
-/// looked at. Refused are, in this order: what `chosen` refuses, `#` where there is no previous file, and `+` where no
+/// `copy`: the selected messages are added to a file, the last word's, or to mbox if there is no word; then they are
+/// looked at. Refused are, in this order: what `chosen` refuses, `#` if there is no previous file, and `+` if no
 /// folder is set.
 pub fn copy(alloc: Global, desk: &Desk, words: &[Text]) -> Result<Filing, Refusal>
     requires { IsDesk desk.now }
@@ -177,7 +177,7 @@ pub fn copy(alloc: Global, desk: &Desk, words: &[Text]) -> Result<Filing, Refusa
 }
 
 /// `Copy`: adds the messages of a list to the file that is named after the author of the first of them. Refused are,
-/// behind what `chosen` refuses, the lack of an author, and a name that is empty or holds `/`.
+/// after what `chosen` refuses, the lack of an author, and a name that is empty or holds `/`.
 pub fn copy_by_author(alloc: Global, desk: &Desk, words: &[Text]) -> Result<Filing, Refusal>
     requires { IsDesk desk.now }
     ensures means { Means result (copy_by_author desk.now words.now) }
@@ -204,7 +204,7 @@ pub fn save_by_author(alloc: Global, desk: &Desk, words: &[Text]) -> Result<Fili
     by_author(alloc, Act::Save, desk, words)
 }
 
-// Puts the bodies of the selected messages behind the file that a word names.
+// Puts the bodies of the selected messages at the end of the file that a word names.
 fn write_to(alloc: Global, desk: &Desk, list: &[Text], word: &[u8]) -> Result<Filing, Refusal>
     requires { IsDesk desk.now }
     ensures means { Means result (write_to desk.now list.now word.now) }
@@ -215,8 +215,8 @@ fn write_to(alloc: Global, desk: &Desk, list: &[Text], word: &[u8]) -> Result<Fi
     Ok(writing(alloc, desk, numbers.items(), name)?)
 }
 
-/// `write`: the bodies of the selected messages, each with a line feed, are put behind the file of the last word; then
-/// they are marked as saved. Refused is first a line without a word, and then as in `copy`.
+/// `write`: the bodies of the selected messages, each with a line feed, are put at the end of the file of the last
+/// word; then they are marked as saved. Refused is first a line without a word, and then as in `copy`.
 pub fn write(alloc: Global, desk: &Desk, words: &[Text]) -> Result<Filing, Refusal>
     requires { IsDesk desk.now }
     ensures means { Means result (write desk.now words.now) }

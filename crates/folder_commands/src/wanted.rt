@@ -7,7 +7,7 @@ use mail_text::Text;
 pub struct Filing {
     /// The change of the file. Its name may be one that no file can have.
     pub change: Change,
-    /// What is said then.
+    /// What is printed then.
     pub reply: Text,
     /// What is changed then.
     pub effects: Effects,

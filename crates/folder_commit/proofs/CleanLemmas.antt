@@ -111,7 +111,7 @@ EndsLong (Refused (TooLarge n k)) = Unit {0}
 EndsLong (Failed p) = Unit {0}
 EndsLong a = ⊥
 
--- the states behind such a load
+-- the states after such a load
 abbrev pub BehindLong : State → Type 0
 BehindLong (Undoing r n ns ls (Answer a)) = EndsLong a
 BehindLong (Unlocking r n ns (Answer a)) = EndsLong a

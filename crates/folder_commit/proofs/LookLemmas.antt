@@ -115,7 +115,7 @@ module _ (j : Job) where
   as-looks (Ended a) h es end goes = known a h ∙ sym (ap look_failed (over a es end goes))
   as-looks s h es end goes = refl
 
-  -- want of memory
+  -- memory runs out
   refused-looks : (s : State) → Clean s → (es : List Event) (end : Ending) → Goes j (refused j s) es (Ended end) → unknown_from s es ≡ unknown_from (refused j s) es
   refused-looks Checking h es end goes = refl
   refused-looks (Releasing a) h es end goes = refl

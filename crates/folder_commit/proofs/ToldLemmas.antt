@@ -113,7 +113,7 @@ module _ (j : Job) where
   good_loaded : (done : List Made) (e : Edit) (left : List Edit) (c : Option (List ℕ)) (o : Outcome) → Good (loaded j done e left c o)
   good_loaded done e left c (Puts kind content) = good_loading _ left
 
-  -- want of memory is no failure
+  -- running out of memory is no failure
   abbrev pub AsBad : State → State → Type 0
   AsBad s t = Clean t × (is_bad t ≡ is_bad s)
 

@@ -354,7 +354,7 @@ module _ (actor : List ℕ) (token : ℕ) (first : Edit) (more : List Edit) (ref
   walks (Releasing a) e is h = subst (Walks (Releasing a)) (sym (release-is (right_name actor) e is)) (λ es k. (tt, refl))
   walks (Ended a) e is h = absurd is
 
-  -- a clean-up is told of as want of memory, wherever it begins
+  -- a clean-up is told of as running out of memory, wherever it begins
   quiet-decision : (es : List Event) → AllQuiet es → by_decision actor es ≡ NoMemory
   quiet-decision [] q = refl
   quiet-decision (event.Erase m d f ∷ es) q = quiet-decision es q.1
@@ -385,7 +385,7 @@ module _ (actor : List ℕ) (token : ℕ) (first : Edit) (more : List Edit) (ref
   quiet-right [] q = refl
   quiet-right (e ∷ es) q = refl
 
-  -- want of memory in place of a call: the end by the events is that of the clean-up
+  -- memory runs out in place of a call: the end by the events is that of the clean-up
   abbrev Wants : State → Type 0
   Wants s = (es : List Event) (end : Ending) → Goes job (refused job s) es (Ended end) → Shape s es → Ends_so (refused job s) es (end_from s es)
 

@@ -15,7 +15,7 @@ use Rattle.folder_commit.specs.declared.error.CommitError.{CommitError}
 use Rattle.folder_commit.specs.declared.error.CommitError.TheVariants as error
 use Rattle.folder_commit.specs.Ends.{Commits, AreNamed}
 
--- too many files are named: there is no event, and want of memory alone hides it
+-- too many files are named: there is no event, and running out of memory alone hides it
 abbrev pub IsTooMany : ℕ → List Event → Result Unit CommitError → Type 0
 IsTooMany count es result = (es ≡ []) × ((result ≡ Err (error.TooManyNames count)) ⊎ (result ≡ Err error.Memory))
 
@@ -32,7 +32,7 @@ abbrev pub IsNamed : List ℕ → List Change → Result Unit CommitError → Ty
 IsNamed actor [] result = result ≡ Ok tt
 IsNamed actor (c ∷ cs) result = AreNamed actor (first_names (c ∷ cs)) result
 
--- the answer where a commit of this plan ends so; it isn't a recovery
+-- the answer if a commit of this plan ends so; it isn't a recovery
 abbrev pub answer_of : End → Plan → Place → Result Unit CommitError
 answer_of end.Done plan place = Ok tt
 answer_of end.RightBusy plan place = Err (error.Busy plan.right)

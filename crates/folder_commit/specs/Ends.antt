@@ -35,7 +35,7 @@ AnswersAs files (Err (error.Disk passed)) end = FailedAs passed end
 AnswersAs files (Err error.Memory) end = WantedAs files end
 AnswersAs files (Err (error.TooManyNames count)) end = ⊥
 
--- want of memory hides no load that met too many bytes
+-- running out of memory hides no load that met too many bytes
 abbrev pub AnswersWithin : List Event → Result Unit CommitError → Type 0
 AnswersWithin es (Err error.Memory) = list_any is_past_limit es ≡ false
 AnswersWithin es result = Unit {0}
@@ -47,7 +47,7 @@ pub record Commits (j : Job) (es : List Event) (result : Result Unit CommitError
   pub within : AnswersWithin es result
   pub goes : Goes j Seizing es (Ended end)
 
--- the disk is told only where its count rose, and too many bytes only past the limit
+-- the disk is told only if its count rose, and too many bytes only past the limit
 abbrev pub CommitCause : Counts → Counts → Result Unit CommitError → Type 0
 CommitCause before now (Err (error.Disk passed)) = Rose before.disks now.disks
 CommitCause before now (Err (error.TooLarge name length)) = load_limit < length

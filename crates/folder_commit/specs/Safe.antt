@@ -27,7 +27,7 @@ pub record MayCommit (actor : List ℕ) (token : ℕ) (d : Disk) (es : List Even
   pub sound : IsSound actor d
   pub lawful : OthersAreLawful actor token d es
 
--- how often a commit was decided where a call failed
+-- how often a commit was decided when a call failed
 abbrev pub PassedSo : Passed → ℕ → Type 0
 PassedSo Before n = n ≡ 0
 PassedSo After n = n ≡ 1
@@ -45,7 +45,7 @@ MetNoFault (Err (error.Disk passed)) = ⊥
 MetNoFault result = Unit {0}
 
 -- A commit is a safe run, whose decision makes all its changes, in order, of the files as they are due then. The answer says whether there was a decision, and at a decision all changes can
--- be made on the files as they are due just before it. Where no call failed, nothing of the token is left in the end. Busy says whose right or lock
+-- be made on the files as they are due just before it. If no call failed, nothing of the token is left in the end. Busy says whose right or lock
 -- another had.
 pub record CommitsSafely (j : Job) (changes : List Change) (base : List (List ℕ)) (d : Disk) (es : List Event) (result : Result Unit CommitError) : Type 0 where
   pub run : RunsSafely (apply changes base) j d es
@@ -72,6 +72,6 @@ IsOkOrMemory (Ok u) = Unit {0}
 IsOkOrMemory (Err error.Memory) = Unit {0}
 IsOkOrMemory (Err why) = ⊥
 
--- where no count of faults rises and nothing hinders a commit, it is done, or memory was wanting
+-- if no count of faults rises and nothing hinders a commit, it is done, or memory ran out
 abbrev pub IsComplete : List ℕ → List Change → List (List ℕ) → List Event → Counts → Counts → Result Unit CommitError → Type 0
 IsComplete actor changes base es before now result = (Rose before.disks now.disks → ⊥) → IsUnhindered actor changes base es → IsOkOrMemory result

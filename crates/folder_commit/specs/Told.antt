@@ -48,8 +48,8 @@ by_load actor why (name ∷ left) (Load n (seen.Bytes c held) ∷ es) = by_load 
 by_load actor why (name ∷ left) (Load n (seen.TooLarge length) ∷ es) = Refused (TooLarge n length)
 by_load actor why (name ∷ left) es = NoMemory
 
--- Once the record that stands is read: it is done with, where a staged file may be too long to load or want memory; then the first record is
--- published, there is a lock for each name that is left, and then all are loaded.
+-- Once the record that stands is read: it is done with, while a staged file may be too long to load, or its load run out of memory; then the
+-- first record is published, there is a lock for each name that is left, and then all are loaded.
 abbrev pub by_lock : List ℕ → Option Refusal → List (List ℕ) → List (List ℕ) → List Event → Ending
 by_lock actor why names [] es = by_load actor why names es
 by_lock actor why names (name ∷ left) [] = NoMemory
@@ -91,7 +91,7 @@ abbrev pub is_fault : Result Unit CommitError → Bool
 is_fault (Err (error.Disk passed)) = true
 is_fault result = false
 
--- a call failed exactly where the answer says so
+-- a call failed exactly if the answer says so
 abbrev pub TellsFaults : List Event → Result Unit CommitError → Type 0
 TellsFaults es result = list_any is_failed es ≡ is_fault result
 
@@ -101,7 +101,7 @@ load_failed (Load n (seen.Bytes c held) ∷ es) = false
 load_failed (Load n s ∷ es) = true
 load_failed es = false
 
--- a publication failed, and so did the load that followed; no publication but the decision's is followed by a load where it fails
+-- a publication failed, and so did the load that followed; no publication but the decision's is followed by a load if it fails
 abbrev pub look_failed : List Event → Bool
 look_failed [] = false
 look_failed (Publish from to done true ∷ es) = load_failed es
@@ -112,11 +112,11 @@ abbrev pub is_unknown : Result Unit CommitError → Bool
 is_unknown (Err (error.Disk Unknown)) = true
 is_unknown result = false
 
--- it says so exactly where the publication of the decision failed, and so did the load that followed
+-- it says so exactly if the publication of the decision failed, and so did the load that followed
 abbrev pub TellsUnknown : List Event → Result Unit CommitError → Type 0
 TellsUnknown es result = look_failed es ≡ is_unknown result
 
--- Without a fault the answer is this end of a commit of files of these names, but for want of memory, which may hide that the record is none and
+-- Without a fault the answer is this end of a commit of files of these names, unless memory ran out, which may hide that the record is none and
 -- that the changes can't be made.
 abbrev pub TellsEnd : List (List ℕ) → Ending → Result Unit CommitError → Type 0
 TellsEnd files end (Ok u) = end ≡ Done

@@ -5,7 +5,7 @@ use thiserror::Error;
 /// Why a commit wasn't done.
 #[derive(Debug, Drop, Error)]
 pub enum CommitError {
-    /// The changes name so many files, more than one commit takes.
+    /// The changes name `count` files, more than one commit takes.
     #[error("too many names: {count}")]
     TooManyNames { count: u64 },
     /// Another has the right or the lock of this name.
@@ -17,13 +17,13 @@ pub enum CommitError {
     /// The file of this name has changed at this message.
     #[error("{name} has changed at message {at}")]
     Changed { name: Text, at: u64 },
-    /// The file of this name has or would have so many bytes.
+    /// The file of this name has or would have `length` bytes.
     #[error("{name} is too large: {length} bytes")]
     TooLarge { name: Text, length: u64 },
     /// A call on the disk failed.
     #[error("disk fault")]
     Disk { passed: Passed },
-    /// Want of memory.
+    /// Memory ran out.
     #[error("out of memory")]
     Memory,
 }

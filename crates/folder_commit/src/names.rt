@@ -10,7 +10,7 @@ use commit_record::is_lawful;
 /// The end of the name of a right.
 const RIGHT_END: &[u8] = b".right";
 
-// Whether this is what a right's name has behind the actor's.
+// Whether this is what a right's name has after the actor's.
 fn is_right_end(end: &[u8]) -> bool
     ensures { result ≡ bytes_eq end.now (codes ".right") }
 {

@@ -1,14 +1,13 @@
-// What is made before a commit begins, so that nothing that follows its decision wants memory.
-ghost use Rattle.std.specs.Prelude.{◌≡◌, ◌≤◌, true, length, map, IfOk, OnOk};
+// What is made before a commit begins, so that nothing that follows its decision runs out of memory.
+ghost use Rattle.std.specs.Prelude.{◌≡◌, ◌≤◌, true, length, IfOk, OnOk};
 ghost use Rattle.std.specs.List.{list_any};
 ghost use Rattle.std.specs.Str.{bytes_eq};
 ghost use Rattle.commit_machine.specs.Edits.{first_names};
-ghost use Rattle.commit_machine.specs.Names.{staged_name};
 ghost use Rattle.folder_commit.specs.Plans.{Plans, AreFiles, replaced, with_entry};
 
 use crate::CommitError;
-use commit_driver::Plan;
-use commit_machine::{new_name, record_name, right_name, staged_name};
+use commit_driver::{Plan, staged_names};
+use commit_machine::{new_name, record_name, right_name};
 use commit_record::{Entry, EntryKind, Phase, Record, write};
 use folder_change::{Change, change_name};
 use mail_text::{Items, Memory, Text};
@@ -49,19 +48,7 @@ fn entries_for(alloc: Global, changes: &[Change]) -> Result<Items<Entry>, Memory
     Ok(entries)
 }
 
-// The staged names of entries, in order.
-fn staged_names(alloc: Global, token: u64, entries: &[Entry]) -> Result<Items<Text>, Memory>
-    ensures { IfOk result (λ s. s ≡ map (λ e. staged_name token e.name) entries.now) }
-{
-    let mut staged = Items::new(alloc);
-    for entry in entries {
-        let name = staged_name(alloc, token, entry.name.bytes())?;
-        staged.push(name)?;
-    }
-    Ok(staged)
-}
-
-/// The plan of a commit of these changes: `TooManyNames` where they name more than 16 files.
+/// The plan of a commit of these changes: `TooManyNames` if they name more than 16 files.
 pub fn plan_for(
     alloc: Global,
     actor: &[u8],

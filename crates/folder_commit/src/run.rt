@@ -25,7 +25,7 @@ use mail_text::{Items, Memory, Text};
 use mbox_scan::Folder;
 use std::alloc::Global;
 
-// Room for so many files.
+// Room for `count` files.
 fn room(alloc: Global, count: usize) -> Result<Items<Option<Text>>, Memory>
     ensures { IfOk result (λ files. length files ≡ count) }
 {
@@ -143,11 +143,11 @@ fn whole<H: Host>(
 /// is a number that no other run has. `base` is the folder for which a rewrite among the changes was made. Without a
 /// change nothing is done.
 ///
-/// `TooManyNames` comes where the changes name more than 16 files; then nothing is done. `Busy` comes where another has
-/// the right or a file's lock, `Record` where what stands as the record is none, `Changed` where the file's messages
-/// don't begin with those of `base`, and `TooLarge` where a file that is loaded or would be staged is too large. A file
-/// that the changes leave absent is removed. Then, as where memory is wanting, nothing is changed and nothing of this
-/// commit is left. `Disk` comes where a call failed; then nothing more is done but that the right is given up, and
+/// `TooManyNames` comes if the changes name more than 16 files; then nothing is done. `Busy` comes if another has
+/// the right or a file's lock, `Record` if what stands as the record is none, `Changed` if the file's messages
+/// don't begin with those of `base`, and `TooLarge` if a file that is loaded or would be staged is too large. A file
+/// that the changes leave absent is removed. Then, as when memory runs out, nothing is changed and nothing of this
+/// commit is left. `Disk` comes if a call failed; then nothing more is done but that the right is given up, and
 /// `passed` says whether the commit was decided.
 pub fn commit<H: Host>(
     alloc: Global,

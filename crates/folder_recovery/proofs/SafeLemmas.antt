@@ -52,7 +52,7 @@ module _ (actor : List ℕ) (token : ℕ) (d : Disk) where
     lawful = may.lawful;
   }
 
-  -- the run up to its release, behind which nothing of its own comes
+  -- the run up to its release, after which nothing of its own comes
   run-to : (front rest : List Event) (e : Event) (end : Ending) → own rest ≡ [] → IsRun (recovery_for actor token) d (front ++ e ∷ rest) (Ended end) → IsRun (recovery_for actor token) d (front ++ e ∷ []) (Ended end)
   run-to front rest e end none run =
       let split : front ++ e ∷ rest ≡ (front ++ e ∷ []) ++ rest = sym (append_assoc front (e ∷ []) rest) in

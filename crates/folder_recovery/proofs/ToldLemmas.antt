@@ -24,7 +24,7 @@ use Rattle.folder_recovery.specs.declared.error.RecoverError.TheVariants as erro
 use Rattle.folder_recovery.specs.Recovering.{found, GoesTo, Recovers}
 use Rattle.folder_recovery.specs.Told.{unless_failed, unless_long, end_read, told_end, IsTold}
 
--- an end that is this one, or want of memory
+-- an end that is this one, or that memory ran out
 abbrev Is : Ending → Ending → Type 0
 Is x end = (end ≡ x) ⊎ (end ≡ NoMemory)
 
@@ -131,7 +131,7 @@ module _ (actor : List ℕ) (token : ℕ) where
   clearing-stays x f h done true = inr (Failed Before, refl, λ m. refl)
   clearing-stays x f h done false = inr (Recovered f, refl, λ m. h)
 
-  -- an event of the next call stays on the way, or it is a load that wants memory
+  -- an event of the next call stays on the way, or it is a load that runs out of memory
   abbrev Passes : Ending → State → Event → Type 0
   Passes x s e = Stays x s e ⊎ (after_reply job s (reply e) ≡ Releasing NoMemory)
 
@@ -148,7 +148,7 @@ module _ (actor : List ℕ) (token : ℕ) where
   stays x (Clearing f) e h is = let w = erase-is (new_name actor) e is in subst (Passes x (Clearing f)) (sym w.2) (inl (clearing-stays x f h w.0 w.1))
   stays x s e h is = absurd h
 
-  -- want of memory on the way
+  -- memory runs out on the way
   refuses : (x : Ending) (s : State) → Heads x s → refused job s ≡ Releasing NoMemory
   refuses x (Undoing r n ns ls GoOn) h = refl
   refuses x (Placing r n ns ls GoOn) h = refl

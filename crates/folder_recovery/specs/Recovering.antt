@@ -23,7 +23,7 @@ use Rattle.folder_recovery.specs.declared.error.RecoverError.TheVariants as erro
 abbrev pub found : Recovered → Found
 found f = found_as f
 
--- the disk is answered only where its count rose, and too many bytes only past the limit
+-- the disk is answered only if its count rose, and too many bytes only past the limit
 abbrev pub RecoverCause : Counts → Counts → Result Recovered RecoverError → Type 0
 RecoverCause before now (Err error.Disk) = Rose before.disks now.disks
 RecoverCause before now (Err (error.TooLarge name n)) = load_limit < n
@@ -37,7 +37,7 @@ GoesTo j es end = Goes j Seizing es (Ended end)
 abbrev pub IsLoadedBy : List ℕ → List ℕ → Type 0
 IsLoadedBy actor name = (name ≡ record_name actor) ⊎ ((token : ℕ) × (file : List ℕ) × (name ≡ staged_name token file))
 
--- What a recovery answers is how the machine ends. Want of memory may hide that the file is no record.
+-- What a recovery answers is how the machine ends. Running out of memory may hide that the file is no record.
 abbrev pub Recovers : Job → List Event → Result Recovered RecoverError → Type 0
 Recovers j es (Ok f) = GoesTo j es (jobs.Recovered (found f))
 Recovers j es (Err (error.Busy name)) = (name ≡ right_name j.actor) × GoesTo j es (Refused (jobs.Busy name))
@@ -58,7 +58,7 @@ recovery_plan actor = record {
   prepare = [];
 }
 
--- the answer where a recovery ends so; it has no files, and isn't decided
+-- the answer if a recovery ends so; it has no files, and isn't decided
 abbrev pub answer_of : End → Plan → Place → Result Recovered RecoverError
 answer_of (end.Recovered f) plan place = Ok f
 answer_of end.RightBusy plan place = Err (error.Busy plan.right)

@@ -17,7 +17,7 @@ use Rattle.commit_driver.specs.declared.step.Recovered.{Recovered}
 use Rattle.folder_recovery.specs.declared.error.RecoverError.{RecoverError}
 use Rattle.folder_recovery.specs.declared.error.RecoverError.TheVariants as error
 
--- From old to new the host was called so: where it is told, all events that were added, and the disk before them, are such.
+-- From old to new the host was called so: if it is told, all events that were added, and the disk before them, are such.
 abbrev pub WhereTold : {H : Type 0} → World H → H → H → (Disk → List Event → Type 0) → Type 0
 WhereTold w old new P = (before es : List Event) → w.told old ≡ Some before → w.told new ≡ Some (before ++ es) → P (disk (w.start old) before) es
 
@@ -37,7 +37,7 @@ pub record IsSettled (actor : List ℕ) (d : Disk) : Type 0 where
 
 -- A recovery is a safe run that decides nothing: at every moment, and at every image of a stop, the settled files and locks are those of the
 -- start but for what others did, and the disk is sound, so that it can be recovered again. When a recovery that is done gives up its right the disk
--- is settled. Busy is answered where another had the right.
+-- is settled. Busy is answered if another had the right.
 pub record RecoversSafely (actor : List ℕ) (token : ℕ) (d : Disk) (es : List Event) (result : Result Recovered RecoverError) : Type 0 where
   pub run : RunsSafely (λ files. files) (recovery_for actor token) d es
   pub ends : (front rest : List Event) (found : Recovered) → es ≡ front ++ Release (right_name actor) ∷ rest → own rest ≡ [] → result ≡ Ok found → IsSettled actor (disk d (front ++ Release (right_name actor) ∷ []))
@@ -49,6 +49,6 @@ IsOkOrMemory (Ok found) = Unit {0}
 IsOkOrMemory (Err error.Memory) = Unit {0}
 IsOkOrMemory (Err why) = ⊥
 
--- where no count of faults rises and nothing hinders a recovery, it is done, or memory was wanting
+-- if no count of faults rises and nothing hinders a recovery, it is done, or memory ran out
 abbrev pub IsComplete : List ℕ → List Event → Counts → Counts → Result Recovered RecoverError → Type 0
 IsComplete actor es before now result = (Rose before.disks now.disks → ⊥) → list_any (is_hindrance actor) es ≡ false → IsOkOrMemory result

@@ -39,7 +39,7 @@ end_seen actor (seen.Bytes c held) = end_found c
 end_seen actor (seen.TooLarge n) = Refused (TooLarge (record_name actor) n)
 end_seen actor s = NoMemory
 
--- the end where a staged file that was looked for behind that is too long to load
+-- this end, or the refusal if a staged file that was looked for after that is too long to load
 abbrev pub unless_long : List Event → Ending → Ending
 unless_long [] end = end
 unless_long (Load n (seen.TooLarge length) ∷ es) end = Refused (TooLarge n length)
@@ -54,7 +54,7 @@ end_by actor es = NoMemory
 abbrev pub told_end : List ℕ → List Event → Ending
 told_end actor es = unless_failed es (end_by actor es)
 
--- But for want of memory, the answer is as the own events give it.
+-- Unless memory ran out, the answer is as the own events give it.
 abbrev pub IsTold : List ℕ → List Event → Result Answer RecoverError → Type 0
 IsTold actor es (Ok f) = told_end actor es ≡ Recovered (found f)
 IsTold actor es (Err (error.Busy name)) = told_end actor es ≡ Refused (Busy name)

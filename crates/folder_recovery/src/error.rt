@@ -10,13 +10,13 @@ pub enum RecoverError {
     /// The file of the record is no record.
     #[error("not a record")]
     NotARecord,
-    /// The file of this name has so many bytes, more than a load takes.
+    /// The file of this name has `length` bytes, more than a load takes.
     #[error("{name} is too large: {length} bytes")]
     TooLarge { name: Text, length: u64 },
     /// A call on the disk failed.
     #[error("disk fault")]
     Disk,
-    /// Want of memory.
+    /// Memory ran out.
     #[error("out of memory")]
     Memory,
 }

@@ -1,4 +1,4 @@
-//! Recovery: a commit that was stopped is carried out, where it was decided, and else undone.
+//! Recovery: a commit that was stopped is carried out, if it was decided, and else undone.
 #![tactic(auto)]
 
 mod error;

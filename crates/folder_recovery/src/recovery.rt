@@ -91,8 +91,8 @@ fn run<H: Host>(alloc: Global, actor: &[u8], host: &mut H) -> Result<Recovered, 
 /// are put in place, its locks are taken away, and its record is erased. One that wasn't decided is undone. It takes
 /// the actor's right first and gives it up at the end.
 ///
-/// `Busy` comes where another has the right, `NotARecord` where what stands as the record is none, `TooLarge` where it,
-/// or the staged file of a removal, is too large to load, and `Disk` where a call failed; then nothing more is done but
+/// `Busy` comes if another has the right, `NotARecord` if what stands as the record is none, `TooLarge` if it,
+/// or the staged file of a removal, is too large to load, and `Disk` if a call failed; then nothing more is done but
 /// that the right is given up.
 pub fn recover<H: Host>(
     alloc: Global,

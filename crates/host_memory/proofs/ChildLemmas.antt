@@ -1,4 +1,4 @@
--- What is left of planned answers behind a place, and what is given of them.
+-- What is left of planned answers after a place, and what is given of them.
 use Rattle.std.proofs.Common.{◌≡◌, ap, sym, ℕ, List, [], ◌∷◌, ◌+◌, ◌<◌, ◌≤◌, drop, length, arith, subst, Some, IfSome}
 use Rattle.std.proofs.lemmas.List.{drop_more, length-take}
 use Rattle.std.specs.declared.option.Option.{Option}
@@ -6,7 +6,7 @@ use Rattle.host_port.specs.declared.event.ChildAnswer.{ChildAnswer}
 use Rattle.host_port.specs.Calls.{output_limit}
 use Rattle.host_memory.specs.Children.{next_given}
 
--- behind the next place stands what stands behind this one, but for its first
+-- after the next place stands what stands after this one, but for its first
 pub drop-next : (d : ChildAnswer) (xs : List ChildAnswer) (n : ℕ) → n < length xs → drop (n + 1) xs ≡ drop 1 (drop n xs)
 drop-next d xs n within = sym (ap (λ (l : List ChildAnswer). drop 1 l) (drop_more xs n d within))
 

@@ -35,12 +35,12 @@ shows-stop view now old start e part seen left same =
     let P : Disk → Type 0 = λ d. ShowsSame view (stopped d e part) in
     subst P (same-disk _ _ same) (record { files = λ q. seen.files q ∙ left.files q; locks = λ q. seen.locks q ∙ left.locks q })
 
--- the event at the place behind a list
+-- the event at the place after a list
 at-length : (before rest : List Event) (e d : Event) → get_or (before ++ e ∷ rest) (length before) d ≡ e
 at-length [] rest e d = refl
 at-length (b ∷ before) rest e d = at-length before rest e d
 
--- the events before the place behind a list
+-- the events before the place after a list
 take-length : (before rest : List Event) → take (length before) (before ++ rest) ≡ before
 take-length [] rest = refl
 take-length (b ∷ before) rest = ap (λ r. b ∷ r) (take-length before rest)

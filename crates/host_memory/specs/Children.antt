@@ -11,7 +11,7 @@ silence = record { status = pos 0; output = []; cut = false }
 abbrev pub given : ChildAnswer → ChildAnswer
 given a = record a { output = take output_limit a.output; cut = a.cut || nat_lt output_limit (length a.output) }
 
--- what the next child answers where these answers are left
+-- what the next child answers if these answers are left
 abbrev pub next_given : List ChildAnswer → ChildAnswer
 next_given [] = silence
 next_given (a ∷ rest) = given a

@@ -48,7 +48,7 @@ abbrev pub is_failed_load : Result LoadAnswer LoadError → Bool
 is_failed_load (Err error.Failed) = true
 is_failed_load r = false
 
--- whether a load answered want of memory
+-- whether a load answered that memory ran out
 abbrev pub wants_memory : Result LoadAnswer LoadError → Bool
 wants_memory (Err error.Memory) = true
 wants_memory r = false
@@ -58,7 +58,7 @@ abbrev pub is_failed_child : Result ChildAnswer ChildError → Bool
 is_failed_child (Err child_error.Failed) = true
 is_failed_child r = false
 
--- whether a child answered want of memory
+-- whether a child answered that memory ran out
 abbrev pub child_wants_memory : Result ChildAnswer ChildError → Bool
 child_wants_memory (Err child_error.Memory) = true
 child_wants_memory r = false
@@ -68,13 +68,14 @@ abbrev pub is_lost : MemHost → Bool
 is_lost m = is_none (host_told m)
 
 -- A call takes the next number. While the host tells its trace afterwards, it added the steps that the plan has before
--- this call and its own event, and it failed exactly where the plan names it.
+-- this call and its own event, and it failed exactly if the plan names it.
 pub record IsAsPlanned (old new : MemHost) (failed : Bool) : Type 0 where
   pub plan : new.plan ≡ old.plan
   pub calls : new.calls ≡ next_call old.calls
   pub told : (trace : List Event) → host_told new ≡ Some trace → (failed ≡ fails_next old) × (own : Event) × AddsOne old.tape.trace.items trace (steps_before old.plan.foreign (next_call old.calls)) own
 
--- The same of a call on the disk, whose own event is as the plan has it: carried out, or failing with this part done.
+-- A call on the disk takes the next number. While the host tells its trace afterwards, it added the steps that the plan
+-- has before this call and its own event, which is as the plan has it: carried out, or failing with this part done.
 pub record IsDoneAsPlanned (old new : MemHost) (whole : Event) (part : Option Part) (failed : Bool) : Type 0 where
   pub plan : new.plan ≡ old.plan
   pub calls : new.calls ≡ next_call old.calls
@@ -97,7 +98,7 @@ pub record TakesNothing (old new : MemHost) : Type 0 where
   pub input : input_left new ≡ input_left old
   pub answers : answers_left new ≡ answers_left old
 
--- the next bytes of the input, for which a buffer of so many bytes and one chunk have room
+-- the next bytes of the input, for which a buffer of `room` bytes and one chunk have room
 abbrev pub next_input : MemHost → ℕ → List ℕ
 next_input m room = take (min room m.plan.chunk) (input_left m)
 
@@ -109,7 +110,7 @@ pub record IsUncalled (input : List ℕ) (plan : Plan) (m : MemHost) : Type 0 wh
   pub answers_are : answers_left m ≡ plan.children
   pub counts : host_counts m ≡ record { ins = 0; outs = 0; disks = 0; children = 0 }
 
--- what goes out of an output: all of it, or where it fails what the plan says, all or nothing
+-- what goes out of an output: all of it, or if it fails what the plan says, all or nothing
 abbrev pub sent : Option Part → List ℕ → List ℕ
 sent None bytes = bytes
 sent (Some After) bytes = bytes
@@ -121,7 +122,7 @@ sent (Some (Bytes left)) bytes = []
 abbrev pub SaysAsPlanned : MemHost → MemHost → List ℕ → Bool → Type 0
 SaysAsPlanned old new bytes failed = (trace : List Event) → host_told new ≡ Some trace → AddsOne old.tape.trace.items trace (steps_before old.plan.foreign (next_call old.calls)) (Out (sent (next_part old) bytes) failed)
 
--- a count after a call: greater exactly where the call failed
+-- a count after a call: greater exactly if the call failed
 abbrev pub counted : Bool → ℕ → ℕ
 counted true n = next_call n
 counted false n = n

@@ -19,7 +19,7 @@ abbrev pub as_planned : Disk → Event → Option Part → Event
 as_planned d whole None = carried_out d whole
 as_planned d whole (Some part) = cut_short d whole part
 
--- what a call answers where it can answer false
+-- what a call answers if it can answer false
 abbrev pub answer_of : Event → Bool
 answer_of (Publish from to done failed) = done
 answer_of (Lock name token got failed) = got
@@ -31,7 +31,7 @@ abbrev pub Ended : Event → Result Bool DiskFault → Disk → Event → Type 0
 Ended whole (Ok answer) d e = (e ≡ carried_out d whole) × (answer ≡ answer_of e)
 Ended whole (Err fault) d e = IsCutShort d whole e
 
--- A trace with the steps of others and one call more, which is as the plan has it: it fails exactly where the plan has a
+-- A trace with the steps of others and one call more, which is as the plan has it: it fails exactly if the plan has a
 -- part for it.
 pub record AddsPlanned (start : Disk) (old new : List Event) (steps : List ForeignStep) (whole : Event) (part : Option Part) (failed : Bool) : Type 0 where
   pub fails : failed ≡ is_some part

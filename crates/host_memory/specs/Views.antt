@@ -16,7 +16,7 @@ abbrev pub lookup : {A : Type 0} → List (List ℕ × A) → List ℕ → Optio
 lookup [] q = None
 lookup (p ∷ ps) q = if bytes_eq q p.0 then Some p.1 else lookup ps q
 
--- the disk that the lists show, where nobody has a right
+-- the disk that the lists show, if nobody has a right
 abbrev pub disk_of : List (List ℕ × List ℕ) → List (List ℕ × ℕ) → Disk
 disk_of files locks = record { files = lookup files; locks = lookup locks; rights = λ q. None }
 
@@ -40,7 +40,7 @@ NamesOnce ps = IsDistinct bytes_eq (names_of ps)
 abbrev pub has_value : {A : Type 0} → List (List ℕ × Option A) → List ℕ → Bool
 has_value ps q = is_some (named ps q)
 
--- the name, where it has a value
+-- the name, if it has a value
 abbrev pub with_value : {A : Type 0} → List (List ℕ × Option A) → Option (List ℕ) → List (List ℕ)
 with_value ps name = filter (has_value ps) (option_to_list name)
 
@@ -53,7 +53,7 @@ abbrev pub steps_before : List (ℕ × ForeignStep) → ℕ → List ForeignStep
 steps_before [] call = []
 steps_before (p ∷ ps) call = if p.0 == call then p.1 ∷ steps_before ps call else steps_before ps call
 
--- what a plan says that the call of this number leaves when it fails, or None where it doesn't fail
+-- what a plan says that the call of this number leaves when it fails, or None if it doesn't fail
 abbrev pub part_at : List (ℕ × Part) → ℕ → Option Part
 part_at [] call = None
 part_at (p ∷ ps) call = if p.0 == call then Some p.1 else part_at ps call
@@ -73,11 +73,11 @@ abbrev pub or_else : {A : Type 0} → Option A → Option A → Option A
 or_else None second = second
 or_else (Some a) second = Some a
 
--- what is found for a name, where it is the one that is looked at
+-- what is found for a name, if it is the one that is looked at
 abbrev pub at_name : {A : Type 0} → Option (List ℕ) → List ℕ → Option A → Option A
 at_name None q found = None
 at_name (Some name) q found = if bytes_eq q name then found else None
 
--- what is found for a name, where it is among these
+-- what is found for a name, if it is among these
 abbrev pub among : {A : Type 0} → List (List ℕ) → List ℕ → Option A → Option A
 among names q found = if list_any (bytes_eq q) names then found else None

@@ -17,7 +17,7 @@ use std::alloc::Global;
 /// The most bytes of a file that a load takes.
 const LOAD_LIMIT: usize = 268_435_456;
 
-/// What a failing call of this number leaves, or None where it doesn't fail.
+/// What a failing call of this number leaves, or None if it doesn't fail.
 pub fn failing(plan: &[(u64, Part)], call: u64) -> Option<&Part>
     ensures { option_copied result ≡ part_at plan.now call }
 {

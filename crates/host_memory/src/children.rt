@@ -57,7 +57,7 @@ fn given(alloc: Global, planned: &ChildAnswer) -> Result<ChildAnswer, Memory>
     })
 }
 
-/// What the next child answers where so many of the planned answers are used up.
+/// What the next child answers if `used` of the planned answers are used up.
 pub fn next_given(
     alloc: Global,
     planned: &[ChildAnswer],
@@ -141,7 +141,7 @@ fn tell_failure(
     tell(alloc, plan, call, tape, event)
 }
 
-/// Tells of a child what the plan has for it, and gives its answer, or None where it could not be run.
+/// Tells of a child what the plan has for it, and gives its answer, or None if it could not be run.
 pub fn tell_child(
     alloc: Global,
     plan: &Plan,

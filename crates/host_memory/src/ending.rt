@@ -52,7 +52,7 @@ fn mark(done: &mut bool, failed: &mut bool, is_done: bool, is_failed: bool)
     *failed = is_failed;
 }
 
-/// Makes an event of a call what it is where the call is carried out on this disk.
+/// Makes an event of a call what it is if the call is carried out on this disk.
 pub fn carry_out(disk: &Standing, event: &mut Event)
     ensures { event.new ≡ carried_out (disk_now disk.now) event.old }
 {
@@ -171,7 +171,7 @@ pub fn settle(
     }
 }
 
-/// What a call answers where it can answer false.
+/// What a call answers if it can answer false.
 pub fn answer(event: &Event) -> bool
     ensures { result ≡ answer_of event.now }
 {

@@ -1,4 +1,4 @@
-// The disks that a run leaves where it stops inside an event.
+// The disks that a run leaves if it stops inside an event.
 ghost use Rattle.std.specs.Prelude.{◌≡◌, ◌+◌, ◌++◌, ◌∷◌, List, IfOk, OnOk, length};
 ghost use Rattle.host_port.specs.Disk.{disk};
 ghost use Rattle.host_port.specs.Ends.{stopped};

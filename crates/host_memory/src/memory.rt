@@ -28,7 +28,7 @@ use std::alloc::Global;
 
 /// A host in memory. It tells its trace until one of its calls is refused memory; from then on it is lost.
 ///
-/// Until it is lost a call that can fail is answered a fault exactly where its plan names the call's number, and the
+/// Until it is lost a call that can fail is answered a fault exactly if its plan names the call's number, and the
 /// steps of others stand where the plan has them.
 #[derive(Drop)]
 pub struct MemHost {

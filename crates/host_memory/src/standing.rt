@@ -71,7 +71,7 @@ pub fn rename(alloc: Global, files: &mut Named<Text>, from: &[u8], to: &[u8]) ->
     Ok(())
 }
 
-/// Carries out a step of another. After want of memory all is as before.
+/// Carries out a step of another. If memory runs out, all is as before.
 pub fn effect_of_step(alloc: Global, disk: &mut Standing, step: &ForeignStep) -> Result<(), Memory>
     ensures ok { OnOk result (SameDisk (disk_now disk.new) (after_step (disk_now disk.old) step.now)) }
     ensures err { OnErr result (disk.new ≡ disk.old) }
@@ -108,7 +108,7 @@ pub fn effect_of_step(alloc: Global, disk: &mut Standing, step: &ForeignStep) ->
     }
 }
 
-/// Carries out what an event says. After want of memory all is as before.
+/// Carries out what an event says. If memory runs out, all is as before.
 pub fn effect(alloc: Global, disk: &mut Standing, event: &Event) -> Result<(), Memory>
     ensures ok { OnOk result (SameDisk (disk_now disk.new) (after (disk_now disk.old) event.now)) }
     ensures err { OnErr result (disk.new ≡ disk.old) }

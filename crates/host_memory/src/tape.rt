@@ -23,7 +23,7 @@ pub struct Tape {
 }
 
 impl Tape {
-    /// Adds an event with its effect. After want of memory all is as before.
+    /// Adds an event with its effect. If memory runs out, all is as before.
     pub fn add(&mut self, alloc: Global, event: Event) -> Result<(), Memory>
         ensures ok { OnOk result (self.new.trace.items ≡ self.old.trace.items ++ event ∷ []) }
         ensures err { OnErr result (self.new.trace.items ≡ self.old.trace.items) }

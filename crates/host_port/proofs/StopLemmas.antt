@@ -52,7 +52,7 @@ stop-before d (event.Seize name got failed) = same (ended d)
 stop-before d (event.Release name) = record { files = λ q. refl; locks = λ q. refl; rights = given-up d.rights name }
 stop-before d (event.Foreign step) = same (ended d)
 
--- all of the event was done: the run stopped behind it
+-- all of the event was done: the run stopped after it
 pub stop-after : (d : Disk) (e : Event) → SameDisk (stopped d e After) (ended (after d (carried_out d e)))
 stop-after d (event.In bytes failed) = same (ended d)
 stop-after d (event.Out bytes failed) = same (ended d)

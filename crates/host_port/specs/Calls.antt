@@ -79,14 +79,14 @@ abbrev pub IsTooLarge : Option (List ℕ) → ℕ → Type 0
 IsTooLarge None n = ⊥
 IsTooLarge (Some bytes) n = (length bytes ≡ n) × (load_limit < n)
 
--- the event of a load of a name: what stands there, a failure, or want of memory
+-- the event of a load of a name: what stands there, a failure, or that memory ran out
 abbrev pub Loaded : List ℕ → Result LoadAnswer LoadError → Disk → Event → Type 0
 Loaded name (Ok a) d e = (e ≡ Load name (seen.Bytes a.bytes a.held)) × (a.bytes ≡ d.files name) × (a.held ≡ is_some (d.locks name))
 Loaded name (Err (error.TooLarge n)) d e = (e ≡ Load name (seen.TooLarge n)) × IsTooLarge (d.files name) n
 Loaded name (Err error.Failed) d e = e ≡ Load name seen.Failed
 Loaded name (Err error.Memory) d e = e ≡ Load name seen.Memory
 
--- a load answers Failed only where the disk's count rose, TooLarge only past the limit, and a file only within it
+-- a load answers Failed only if the disk's count rose, TooLarge only past the limit, and a file only within it
 abbrev pub LoadCause : ℕ → ℕ → Result LoadAnswer LoadError → Type 0
 LoadCause before now (Ok a) = FitsLoad a.bytes
 LoadCause before now (Err error.Failed) = Rose before now
@@ -98,7 +98,7 @@ abbrev pub Staged : List ℕ → List ℕ → Result Unit DiskFault → Disk →
 Staged name bytes (Ok u) d e = e ≡ Stage name (Some bytes) false
 Staged name bytes (Err fault) d e = IsCutShort d (Stage name (Some bytes) false) e
 
--- the event of a publication: true exactly where the file stood
+-- the event of a publication: true exactly if the file stood
 abbrev pub Published : List ℕ → List ℕ → Result Bool DiskFault → Disk → Event → Type 0
 Published from to (Ok done) d e = (e ≡ Publish from to done false) × (done ≡ is_some (d.files from))
 Published from to (Err fault) d e = IsCutShort d (Publish from to true false) e
@@ -108,17 +108,17 @@ abbrev pub Erased : List ℕ → Result Unit DiskFault → Disk → Event → Ty
 Erased name (Ok u) d e = e ≡ Erase name true false
 Erased name (Err fault) d e = IsCutShort d (Erase name true false) e
 
--- the event of a locking: true exactly where no lock stood
+-- the event of a locking: true exactly if no lock stood
 abbrev pub Locked : List ℕ → ℕ → Result Bool DiskFault → Disk → Event → Type 0
 Locked name token (Ok got) d e = (e ≡ Lock name token got false) × (got ≡ is_none (d.locks name))
 Locked name token (Err fault) d e = IsCutShort d (Lock name token true false) e
 
--- the event of an unlocking: done exactly where the lock's owner is the token
+-- the event of an unlocking: done exactly if the lock's owner is the token
 abbrev pub Unlocked : List ℕ → ℕ → Result Unit DiskFault → Disk → Event → Type 0
 Unlocked name token (Ok u) d e = e ≡ Unlock name token (is_owner token (d.locks name)) false
 Unlocked name token (Err fault) d e = IsCutShort d (Unlock name token true false) e
 
--- the event of a seizure: true exactly where no other had the right
+-- the event of a seizure: true exactly if no other had the right
 abbrev pub Seized : List ℕ → Result Bool DiskFault → Disk → Event → Type 0
 Seized name (Ok got) d e = (e ≡ Seize name got false) × (got ≡ is_open (d.rights name))
 Seized name (Err fault) d e = IsCutShort d (Seize name true false) e
@@ -131,13 +131,13 @@ Released name d e = e ≡ Release name
 abbrev pub output_limit : ℕ
 output_limit = 16777216
 
--- the event of a child that ran, that could not be run, or for which memory was wanting
+-- the event of a child that ran, that could not be run, or for which memory ran out
 abbrev pub ChildRan : List ℕ → List (List ℕ) → List ℕ → Result ChildAnswer ChildError → Disk → Event → Type 0
 ChildRan program args input (Ok a) d e = e ≡ Child program args input (Some a) false
 ChildRan program args input (Err child_error.Failed) d e = e ≡ Child program args input None true
 ChildRan program args input (Err child_error.Memory) d e = e ≡ Child program args input None false
 
--- a child answers Failed only where the count of children rose, and an output within the limit
+-- a child answers Failed only if the count of children rose, and an output within the limit
 abbrev pub ChildCause : ℕ → ℕ → Result ChildAnswer ChildError → Type 0
 ChildCause before now (Ok a) = length a.output ≤ output_limit
 ChildCause before now (Err child_error.Failed) = Rose before now

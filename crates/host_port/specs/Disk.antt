@@ -30,7 +30,7 @@ pub record SameDisk (left right : Disk) : Type 0 where
 abbrev pub with_at : {A : Type 0} → (List ℕ → Option A) → List ℕ → Option A → List ℕ → Option A
 with_at m name value q = if bytes_eq q name then value else m q
 
--- a lock is put where none stands
+-- a lock is put if none stands
 abbrev pub locked : Option ℕ → ℕ → Option ℕ
 locked None token = Some token
 locked (Some owner) token = Some owner
@@ -45,13 +45,13 @@ abbrev pub taken : Option Holder → Option Holder
 taken None = Some Other
 taken (Some holder) = Some holder
 
--- another gives up a right, which it has not where this run has it
+-- another gives up a right, which it has not if this run has it
 abbrev pub without_other : Option Holder → Option Holder
 without_other None = None
 without_other (Some Own) = Some Own
 without_other (Some Other) = None
 
--- this run gives up a right, which it has not where another has it
+-- this run gives up a right, which it has not if another has it
 abbrev pub without_own : Option Holder → Option Holder
 without_own None = None
 without_own (Some Own) = None

@@ -21,8 +21,8 @@ is_open None = true
 is_open (Some Own) = true
 is_open (Some Other) = false
 
--- The event of a call that is carried out on a disk. It is done exactly where the disk allows it: a rename where its
--- file stands, a lock where none stands, an unlock where the lock is the caller's, a seizure where no other has the right.
+-- The event of a call that is carried out on a disk. It is done exactly if the disk allows it: a rename if its
+-- file stands, a lock if none stands, an unlock if the lock is the caller's, a seizure if no other has the right.
 abbrev pub carried_out : Disk → Event → Event
 carried_out d (Stage name bytes failed) = Stage name bytes false
 carried_out d (Publish from to done failed) = Publish from to (is_some (d.files from)) false
@@ -45,7 +45,7 @@ left old whole (Bytes bytes) = Some bytes
 left old whole Nothing = None
 
 -- The failing form of an event, with the part of the call that was done. What is written whole may be left as any bytes
--- or as none; every other call is done or not, and done only where the disk allows it.
+-- or as none; every other call is done or not, and done only if the disk allows it.
 abbrev pub cut_short : Disk → Event → Part → Event
 cut_short d (Stage name bytes failed) part = Stage name (left (d.files name) bytes part) true
 cut_short d (Publish from to done failed) part = Publish from to (is_after part && is_some (d.files from)) true
@@ -63,7 +63,7 @@ IsCutShort d whole e = (part : Part) × (e ≡ cut_short d whole part)
 abbrev pub ended : Disk → Disk
 ended d = record d { rights = λ q. without_own (d.rights q) }
 
--- The disk that is left where the run stops inside an event: what a failing form of the event makes of the disk. A step
+-- The disk that is left when the run stops inside an event: what a failing form of the event makes of the disk. A step
 -- of another is done or not done.
 abbrev pub stopped : Disk → Event → Part → Disk
 stopped d (Foreign step) part = ended (if is_after part then after_step d step else d)

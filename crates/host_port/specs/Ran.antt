@@ -9,7 +9,7 @@ use Rattle.host_port.specs.Calls.{World, NeverFall, IsTooLarge}
 use Rattle.host_port.specs.Ends.{is_owner, is_open}
 use Rattle.host_port.specs.Own.{own}
 
--- a call was done exactly where the disk allows it, or where it failed only there
+-- a call was done exactly if the disk allows it, or if it failed only there
 abbrev pub AllowedBy : Bool → Bool → Bool → Type 0
 AllowedBy allowed done false = done ≡ allowed
 AllowedBy allowed done true = done ≡ true → allowed ≡ true
@@ -37,7 +37,7 @@ pub record Stretch (start : Disk) (before now : List Event) (P : List Event → 
   pub honest : Honest (disk start before) added
   pub own_ones : P (own added)
 
--- From old to new the host was called so: where it is told in the end, the own events are such.
+-- From old to new the host was called so: if it is told in the end, the own events are such.
 pub record Ran {H : Type 0} (w : World H) (old new : H) (P : List Event → Type 0) : Type 0 where
   pub start_is : w.start new ≡ w.start old
   pub never_fall : NeverFall (w.counts old) (w.counts new)

@@ -61,7 +61,7 @@ pub enum Event {
     Release {
         name: Text,
     },
-    /// A child ran to its end, or could not be run; without an answer and a fault memory was wanting.
+    /// A child ran to its end, or could not be run; without an answer and a fault, memory ran out.
     Child {
         program: Text,
         args: Items<Text>,
@@ -88,7 +88,7 @@ pub enum Seen {
     TooLarge { length: u64 },
     /// A fault of the disk.
     Failed,
-    /// Want of memory.
+    /// Memory ran out.
     Memory,
 }
 
@@ -99,7 +99,7 @@ pub enum ForeignStep {
     Write { name: Text, bytes: Text },
     /// The file is absent.
     Remove { name: Text },
-    /// A lock is put where none stands.
+    /// A lock is put if none stands.
     Lock { name: Text, token: u64 },
     /// A lock of this owner is taken away.
     Unlock { name: Text, token: u64 },
@@ -121,7 +121,7 @@ pub enum Holder {
 /// What a load answers.
 #[derive(Drop, Debug)]
 pub struct LoadAnswer {
-    /// The whole file, or None where it is absent.
+    /// The whole file, or None if it is absent.
     pub bytes: Option<Text>,
     /// Whether a lock on the name stood, whoever owns it.
     pub held: bool,
@@ -130,7 +130,7 @@ pub struct LoadAnswer {
 /// What a child answers.
 #[derive(Drop, Debug)]
 pub struct ChildAnswer {
-    /// The number with which it ended, or -1 where it gave none.
+    /// The number with which it ended, or -1 if it gave none.
     pub status: i32,
     /// What it wrote to its standard output, its first 16,777,216 bytes at most.
     pub output: Text,

@@ -45,7 +45,7 @@ pub enum ChildError {
 /// The outside. One call is one atomic step; the steps of other programs stand between the calls.
 ///
 /// While a host tells its trace, each call adds steps of others and then its own one event, and answers what the
-/// disk at that step gives. A fault is answered only where the count of its kind has risen in that call.
+/// disk at that step gives. A fault is answered only if the count of its kind has risen in that call.
 pub trait Host {
     /// The disk before the first event, each event so far, while the host tells them, and how often each kind of
     /// call has failed.
@@ -83,7 +83,7 @@ pub trait Host {
         ensures counts { NeverFall (world.counts self.old) (world.counts self.new) }
         ensures cause { OnErr result (Rose (world.counts self.old).disks (world.counts self.new).disks) };
 
-    /// Gives a file another name, where it takes the place of what stood there. False exactly where the file is absent,
+    /// Gives a file another name, where it takes the place of what stood there. False exactly if the file is absent,
     /// and then nothing changes.
     fn publish(&mut self, from: &[u8], to: &[u8]) -> Result<bool, DiskFault>
         requires source { IsFileName from.now }
@@ -101,7 +101,7 @@ pub trait Host {
         ensures counts { NeverFall (world.counts self.old) (world.counts self.new) }
         ensures cause { OnErr result (Rose (world.counts self.old).disks (world.counts self.new).disks) };
 
-    /// Puts a lock on a name. True where it now stands with this token, false exactly where a lock stood.
+    /// Puts a lock on a name. True if it now stands with this token, false exactly if a lock stood.
     fn lock(&mut self, name: &[u8], token: u64) -> Result<bool, DiskFault>
         requires { IsFileName name.now }
         ensures start { world.start self.new ≡ world.start self.old }
@@ -109,7 +109,7 @@ pub trait Host {
         ensures counts { NeverFall (world.counts self.old) (world.counts self.new) }
         ensures cause { OnErr result (Rose (world.counts self.old).disks (world.counts self.new).disks) };
 
-    /// Takes the lock on a name away where its owner is this token; else nothing changes.
+    /// Takes the lock on a name away if its owner is this token; else nothing changes.
     fn unlock(&mut self, name: &[u8], token: u64) -> Result<(), DiskFault>
         requires { IsFileName name.now }
         ensures start { world.start self.new ≡ world.start self.old }
@@ -117,7 +117,7 @@ pub trait Host {
         ensures counts { NeverFall (world.counts self.old) (world.counts self.new) }
         ensures cause { OnErr result (Rose (world.counts self.old).disks (world.counts self.new).disks) };
 
-    /// Takes the right of a name. True where the caller has it now, false exactly where another has it. It ends
+    /// Takes the right of a name. True if the caller has it now, false exactly if another has it. It ends
     /// when its holder stops.
     fn seize(&mut self, name: &[u8]) -> Result<bool, DiskFault>
         requires { IsFileName name.now }
@@ -126,7 +126,7 @@ pub trait Host {
         ensures counts { NeverFall (world.counts self.old) (world.counts self.new) }
         ensures cause { OnErr result (Rose (world.counts self.old).disks (world.counts self.new).disks) };
 
-    /// Gives the right of a name up. Where the caller doesn't have it, nothing changes. It never fails.
+    /// Gives the right of a name up. If the caller doesn't have it, nothing changes. It never fails.
     fn release(&mut self, name: &[u8])
         requires { IsFileName name.now }
         ensures start { world.start self.new ≡ world.start self.old }

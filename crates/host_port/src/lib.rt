@@ -21,7 +21,7 @@ pub fn others_alone()
     ensures { (start : Disk) (p : List Event) → OnlyLooks (own p) → disk start p ≡ disk start (of_others p) }
 {}
 
-/// A law: where the run stops before an event, the disk is as a stop inside the event leaves it that did nothing of it.
+/// A law: if the run stops before an event, the disk is as a stop inside the event leaves it that did nothing of it.
 pub fn stop_before_an_event()
     ensures { (d : Disk) (e : Event) → SameDisk (stopped d e Part.Before) (ended d) }
 {}

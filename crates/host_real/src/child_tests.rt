@@ -135,7 +135,7 @@ fn children_are_handed_words_and_input(rt: HostRuntime) -> Result<(), Fail> {
     Ok(())
 }
 
-// The status of a program that is handed so many bytes, how many of its bytes are kept, and whether it wrote more.
+// The status of a program that is handed `length` bytes, how many of its bytes are kept, and whether it wrote more.
 fn measured(
     alloc: Global,
     host: &mut RealHost<HostRuntime>,

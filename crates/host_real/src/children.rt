@@ -67,7 +67,7 @@ fn input_fault(error: Error) -> FileError {
     }
 }
 
-// The open file of an input. Where the folder of the scratch file has no room for it, or lets none be made, it is made
+// The open file of an input. If the folder of the scratch file has no room for it, or lets none be made, it is made
 // in that of the system's scratch files.
 fn open_input<R: Files<File = File>>(
     rt: &R,

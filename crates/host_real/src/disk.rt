@@ -49,7 +49,7 @@ impl Disk {
         place_of(rt, self.alloc, self.actor.as_ref(), name)
     }
 
-    // The place of a name, or None where no file can have it.
+    // The place of a name, or None if no file can have it.
     fn place_if_any<R: Files>(&self, rt: &R, name: &[u8]) -> Result<Option<Place>, FileError> {
         match self.place(rt, name) {
             Ok(place) => Ok(Some(place)),
@@ -80,7 +80,7 @@ impl Disk {
         write_file(rt, &place, bytes)
     }
 
-    /// Puts a staged file into its place, where the lock of that file stands and the file is as it was locked.
+    /// Puts a staged file into its place, if the lock of that file stands and the file is as it was locked.
     pub fn publish<R: Files>(&self, rt: &R, from: &[u8], to: &[u8]) -> Result<bool, FileError> {
         let Some(from) = self.place_if_any(rt, from)? else {
             return Ok(false);

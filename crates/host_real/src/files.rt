@@ -64,7 +64,7 @@ pub fn write_file<R: Files<File = File>>(
 }
 
 /// Makes a private file that isn't there yet, whole from its first moment: it is written under another name and then
-/// linked into place. False where one is there, and then nothing changes. The other name is taken away again.
+/// linked into place. False if one is there, and then nothing changes. The other name is taken away again.
 pub fn write_new<R: Files>(
     rt: &R,
     path: &str,
@@ -82,7 +82,7 @@ pub fn write_new<R: Files>(
     }
 }
 
-// Writes a new file, and gives it another name too. False where a file of that name is there.
+// Writes a new file, and gives it another name too. False if a file of that name is there.
 fn linked<R: Files, F: Write + OpenFile>(
     rt: &R,
     file: &mut F,
@@ -99,7 +99,7 @@ fn linked<R: Files, F: Write + OpenFile>(
     }
 }
 
-/// Gives a file another name, in the place of what stood there. False where the file is absent.
+/// Gives a file another name, in the place of what stood there. False if the file is absent.
 pub fn rename_file<R: Files>(rt: &R, from: &str, to: &str) -> Result<bool, FileError> {
     if let Err(error) = rt.rename(from, to) {
         return if is_empty_place(rt, from) {
@@ -137,7 +137,7 @@ fn is_gone<R: Files>(rt: &R, place: &Place, error: &Error) -> bool {
         || (place.is_made_here() && is_out_of_reach(rt, path))
 }
 
-/// Takes a file away. Where it is absent, its absence is made to last.
+/// Takes a file away. If it is absent, its absence is made to last.
 pub fn remove_file<R: Files>(rt: &R, place: &Place) -> Result<(), FileError> {
     let path = place.path();
     match rt.remove_file(path) {

@@ -77,7 +77,7 @@ pub fn look<R: Files>(rt: &R, path: &str) -> Result<Option<Metadata>, Error> {
     }
 }
 
-/// The same, as it is at this moment.
+/// The stamp of what stands at a path, as it is at this moment.
 pub fn stamp_at<R: Files>(rt: &R, path: &str) -> Result<Option<Stamp>, Error> {
     Ok(look(rt, path)?.map(|found| Stamp::of(&found)))
 }
@@ -103,7 +103,7 @@ fn stands_behind_another<R: Files>(rt: &R, path: &str) -> bool {
     false
 }
 
-/// Whether a path is out of reach behind a folder of another user, so that no file there is ours.
+/// Whether a path is out of reach inside a folder of another user, so that no file there is ours.
 pub fn is_out_of_reach<R: Files>(rt: &R, path: &str) -> bool {
     match rt.symlink_metadata(path) {
         Err(error) if error.kind() == ErrorKind::PermissionDenied => stands_behind_another(

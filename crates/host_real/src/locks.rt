@@ -71,7 +71,7 @@ impl Marks {
     }
 }
 
-/// Whether a lock stands: anything that has its name. Where none can stand, there is none.
+/// Whether a lock stands: anything that has its name. If none can stand, there is none.
 pub fn is_held<R: Files>(rt: &R, lock: &str) -> Result<bool, FileError> {
     match look(rt, lock) {
         Ok(found) => Ok(found.is_some()),
@@ -88,7 +88,7 @@ fn read_lock<R: Files>(rt: &R, alloc: Global, lock: &str) -> Result<Vec<u8>, Err
     Ok(bytes)
 }
 
-// The token of a lock, as its digits: none where no lock stands, where it may not be read, or where it holds no token.
+// The token of a lock, as its digits: none if no lock stands, if it may not be read, or if it holds no token.
 fn owner_of<R: Files>(rt: &R, alloc: Global, lock: &str) -> Result<Option<String>, FileError> {
     match look(rt, lock)? {
         Some(found) if found.is_file() => {}
@@ -123,7 +123,7 @@ pub fn hold_of<R: Files>(
     }
 }
 
-// Puts a lock where none stands. False where one stands.
+// Puts a lock if none stands. False if one stands.
 fn put_lock<R: Files>(
     rt: &R,
     alloc: Global,
@@ -140,7 +140,7 @@ fn put_lock<R: Files>(
     write_new(rt, lock, beside.as_str(), digits.as_bytes())
 }
 
-/// Puts a lock on a file that may be replaced. False where one stands: another's is waited for.
+/// Puts a lock on a file that may be replaced. False if one stands: another's is waited for.
 pub fn lock<R: Files + Clock>(
     rt: &R,
     alloc: Global,
@@ -170,7 +170,7 @@ fn remove_lock<R: Files>(rt: &R, lock: String) -> Result<(), FileError> {
     remove_file(rt, &Place::File(lock))
 }
 
-/// Takes the lock on a file away where it holds this token, and what a stopped run has left of the making of that
+/// Takes the lock on a file away if it holds this token, and what a stopped run has left of the making of that
 /// lock.
 pub fn unlock<R: Files>(
     rt: &R,

@@ -148,7 +148,7 @@ fn from_folder(alloc: Global, link: &str, target: &str) -> Result<String, AllocE
     format!(in alloc; "{folder}/{target}")
 }
 
-// What a symbolic link stands for, or None where the path is no link, or one of the system's own, which tells what a
+// What a symbolic link stands for, or None if the path is no link, or one of the system's own, which tells what a
 // process has open.
 fn target_of<R: Files>(rt: &R, alloc: Global, path: &str) -> Result<Option<String>, FileError> {
     let link = match rt.symlink_metadata(path) {
@@ -165,7 +165,7 @@ fn target_of<R: Files>(rt: &R, alloc: Global, path: &str) -> Result<Option<Strin
     Ok(Some(from_folder(alloc, path, text.as_str())?))
 }
 
-// The file that a name stands for: where its last part is a symbolic link, what the link stands for.
+// The file that a name stands for: if its last part is a symbolic link, what the link stands for.
 fn followed<R: Files>(rt: &R, alloc: Global, path: &str) -> Result<String, FileError> {
     let mut file = String::from_str(alloc, path)?;
     for _ in 0..MOST_LINKS {

@@ -70,8 +70,8 @@ fn read_found<R: Files>(
     })
 }
 
-// Whether an error of opening says that the file is absent. Of a file that only mailx makes it says so too where no
-// file can be, or where it is out of reach.
+// Whether an error of opening says that the file is absent. Of a file that only mailx makes it says so too if no
+// file can be, or if it is out of reach.
 fn says_absent<R: Files>(rt: &R, place: &Place, error: &Error) -> bool {
     if place.is_made_here() {
         is_absence(error) || is_out_of_reach(rt, place.path())
@@ -95,7 +95,7 @@ fn read_once<R: Files>(rt: &R, alloc: Global, place: &Place) -> Result<Reading, 
     }
 }
 
-// Reads a file whose lock is as it is told. Where the file changed meanwhile, or a lock was put, it is read again; if
+// Reads a file whose lock is as it is told. If the file changed meanwhile, or a lock was put, it is read again; if
 // it changed again it counts as held.
 fn read_held<R: Files>(
     rt: &R,
@@ -123,7 +123,7 @@ fn read_held<R: Files>(
     })
 }
 
-// Refuses what is no regular file, where a file is locked by this run or is one of its own.
+// Refuses what is no regular file, if a file is locked by this run or is one of its own.
 fn refuse_irregular<R: Files>(rt: &R, place: &Place, hold: Hold) -> Result<(), FileError> {
     if hold != Hold::Own && !place.is_made_here() {
         return Ok(());

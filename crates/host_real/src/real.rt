@@ -19,7 +19,7 @@ use std::process::Processes;
 use std::time::{Clock, Duration};
 
 /// The host of the real machine: its standard input and output, its files, the rights that it has, the programs that
-/// it runs, and its clock. It counts its faults, and says the reason of each on the standard error.
+/// it runs, and its clock. It counts its faults, and prints the reason of each on the standard error.
 #[derive(Drop)]
 pub struct RealHost<R: Input> {
     rt: R,
@@ -57,7 +57,7 @@ impl<R: Files<File = File> + Input + Print + Eprint + Processes + Clock + Drop> 
     }
 }
 
-// Counts a fault, and says its reason.
+// Counts a fault, and prints its reason.
 fn counted<R: Eprint, T: Drop>(
     rt: &R,
     alloc: Global,

@@ -105,8 +105,8 @@ fn shown(alloc: Global, name: &[u8]) -> Result<String, AllocError> {
     Ok(text)
 }
 
-/// Says why a call failed: the name of what it was about, and the reason. Where memory is short, or the standard error
-/// takes nothing, nothing is said.
+/// Prints why a call failed: the name of what it was about, and the reason. If memory is short, or the standard error
+/// takes nothing, nothing is printed.
 pub fn tell<R: Eprint>(rt: &R, alloc: Global, name: &[u8], error: &FileError) {
     if let (Ok(name), Ok(reason)) = (shown(alloc, name), reason_of(alloc, error)) {
         let _ = rt.eprintln(format_args!("mailx: {name}: {reason}"));

@@ -16,7 +16,7 @@ use std::time::{Clock, Duration};
 /// The shortest pause, in microseconds, between two tries to take a right. A run has its right for a short time.
 const PAUSE: u64 = 1000;
 
-/// A right that is had: its name, and its open file, or none where no file can be made there.
+/// A right that is had: its name, and its open file, or none if no file can be made there.
 #[derive(Drop)]
 struct Right {
     name: Text,
@@ -55,7 +55,7 @@ impl Rights {
         }
     }
 
-    /// Takes a right that isn't had yet. False where another has it, who is waited for.
+    /// Takes a right that isn't had yet. False if another has it, who is waited for.
     pub fn take<R: Files<File = File> + Clock>(
         &mut self,
         rt: &R,
@@ -76,7 +76,7 @@ impl Rights {
     }
 }
 
-// The open file of a right, which is made where it isn't there. None where it can't be made, since its folder isn't
+// The open file of a right, which is made if it isn't there. None if it can't be made, since its folder isn't
 // there or may not be written: then nobody has the right, and no record of a change can be put beside it.
 fn open_right<R: Files<File = File>>(rt: &R, path: &str) -> Result<Option<File>, FileError> {
     let opened = OpenOptions::new()
@@ -92,7 +92,7 @@ fn open_right<R: Files<File = File>>(rt: &R, path: &str) -> Result<Option<File>,
     }
 }
 
-// The open file of a right that may not be written, as on a disk that is only read; none where it isn't there.
+// The open file of a right that may not be written, as on a disk that is only read; none if it isn't there.
 fn open_standing<R: Files<File = File>>(
     rt: &R,
     path: &str,
@@ -105,7 +105,7 @@ fn open_standing<R: Files<File = File>>(
     }
 }
 
-// Takes the system's lock on an open file. False where another has it until the time is over.
+// Takes the system's lock on an open file. False if another has it until the time is over.
 fn is_taken<C: Clock>(clock: &C, file: &File, wait: Duration) -> Result<bool, FileError> {
     let patience = Patience::new(clock, wait, PAUSE);
     for _ in 0..u64::MAX {

@@ -1,4 +1,4 @@
-// The standard input and output, which are waited for where they don't block.
+// The standard input and output, which are waited for if they don't block.
 ghost use Rattle.std.specs.Prelude.{◌≤◌, length, IfOk};
 
 use std::io::{Error, ErrorKind, Read};
@@ -7,7 +7,7 @@ use std::time::{Clock, Duration};
 /// The pause, in milliseconds, between two tries.
 const PAUSE: u64 = 20;
 
-// Waits a while where a stream isn't ready, or a signal came. Any other error is handed back.
+// Waits a while if a stream isn't ready, or a signal came. Any other error is handed back.
 fn wait_for<C: Clock>(clock: &C, error: Error) -> Result<(), Error> {
     match error.kind() {
         ErrorKind::Interrupted => Ok(()),

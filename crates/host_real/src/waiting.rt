@@ -21,7 +21,7 @@ impl Patience {
         Patience { times, shortest }
     }
 
-    /// Waits a while. False where the time is over, or can't be told.
+    /// Waits a while. False if the time is over, or can't be told.
     pub fn again<C: Clock>(&self, clock: &C) -> bool {
         let (Some((begin, end)), Ok(now)) = (self.times, clock.monotonic()) else {
             return false;

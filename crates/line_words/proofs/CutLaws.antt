@@ -83,7 +83,7 @@ behind part bytes after is fits (inr o) = inr (record {
   unclosed = o.unclosed;
 })
 
--- bytes plainly, behind a backslash, and behind a quote and a run
+-- bytes plainly, after a backslash, and after a quote and a run
 record AllEnd (bs : List ℕ) : Type 0 where
   plainly : Ends bs
   behind_backslash : Ends (92 ∷ bs)

@@ -22,7 +22,7 @@ quote_is_no_blank b h = elim (or_cases _ _ h) [ inl e ↦ ap is_blank (eqb-true 
 abbrev pub words_in_runs : List (List Part) → Words
 words_in_runs runs = map (flat_map value_of) (filter has_parts runs)
 
--- the same where a word has begun, to which the first run belongs
+-- the words of runs of parts if a word has begun, to which the first run belongs
 abbrev pub begun_runs : List (List Part) → Words
 begun_runs [] = [] ∷ []
 begun_runs (run ∷ runs) = flat_map value_of run ∷ words_in_runs runs

@@ -1,4 +1,4 @@
--- Words that are written one behind the other are cut into these words again.
+-- Words that are written one after the other are cut into these words again.
 use Rattle.std.proofs.Common.{◌≡◌, ℕ, true, ◌==◌, List, [], ◌∷◌, ◌++◌, Option, Some, refl, sym, ap, ◌∙◌, inl, inr, append_assoc, append-nil}
 use Rattle.std.proofs.lemmas.Bool.{cond-true, cond-false, eq-eqb, and_parts, not-true}
 use Rattle.std.specs.Option.{option_map}

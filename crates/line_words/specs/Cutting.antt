@@ -28,7 +28,7 @@ step_of (Quoted quote) b = if b == quote then goes Word Pass else goes (Quoted q
 abbrev pub unquoted : ℕ → (Place → Option (List (List ℕ))) → Option (List (List ℕ))
 unquoted b later = if is_quote b then later (Quoted b) else (if b == 92 then later Escaped else option_map (onto_first b) (later Word))
 
--- the words that bytes give which begin at this place, the first of them the rest of the word in which they begin; none where a quote isn't closed
+-- the words that bytes give which begin at this place, the first of them the rest of the word in which they begin; none if a quote isn't closed
 unfoldable pub words_from : Place → List ℕ → Option (List (List ℕ))
 words_from Between [] = Some []
 words_from Word [] = Some ([] ∷ [])

@@ -32,11 +32,11 @@ NamesAscend = AllPairs (λ a b. slice_cmp nat_cmp a b ≡ Less) names
 abbrev pub WordsAreCut : Type 0
 WordsAreCut = (line : List ℕ) (words : List (List ℕ)) → (words_of line ≡ Some words) ↔ IsCut line words
 
--- a line has no words exactly where it can't be cut
+-- a line has no words exactly if it can't be cut
 abbrev pub UncutHasNone : Type 0
 UncutHasNone = (line : List ℕ) → (words_of line ≡ None) ↔ ((words : List (List ℕ)) → IsCut line words → ⊥)
 
--- a line has no words exactly where a quote in it isn't closed
+-- a line has no words exactly if a quote in it isn't closed
 abbrev pub OpenHasNone : Type 0
 OpenHasNone = (line : List ℕ) → (words_of line ≡ None) ↔ HasOpenQuote line
 
@@ -44,7 +44,7 @@ OpenHasNone = (line : List ℕ) → (words_of line ≡ None) ↔ HasOpenQuote li
 abbrev pub CutsAreOne : Type 0
 CutsAreOne = (line : List ℕ) (words others : List (List ℕ)) → IsCut line words → IsCut line others → words ≡ others
 
--- the text writes the word: as it is, where it is plain and not empty, or between two quotes that it lacks
+-- the text writes the word: as it is, if it is plain and not empty, or between two quotes that it lacks
 abbrev pub Writes : List ℕ → List ℕ → Type 0
 Writes text word =
     ((text ≡ word) × (word ≢ []) × (list_all is_plain word ≡ true))

@@ -23,7 +23,7 @@ text_of line = drop (prefix_len is_blank line) line
 abbrev pub is_mark : ℕ → Bool
 is_mark b = list_any (λ c. b == c) (codes "!|#=?")
 
--- how many bytes of a text the command word has: the first byte where it is a mark, else z+ or z- where the text begins so, else the letters at the front
+-- how many bytes of a text the command word has: the first byte if it is a mark, else z+ or z- if the text begins so, else the letters at the front
 abbrev pub word_length : List ℕ → ℕ
 word_length text =
     if list_any is_mark (take 1 text) then 1
@@ -81,7 +81,7 @@ pub record IsUnknown (line word : List ℕ) : Type 0 where
   pub some : word ≢ []
   pub names_none : command_of word ≡ None
 
--- a quote isn't closed behind a command that takes words
+-- a quote isn't closed after a command that takes words
 pub record IsOpen (line : List ℕ) : Type 0 where
   pub short : length line ≤ 65536
   pub named : Command
@@ -89,10 +89,10 @@ pub record IsOpen (line : List ℕ) : Type 0 where
   pub takes_words : takes_rest named ≡ false
   pub open_quote : words_of (after_word line) ≡ None
 
--- the answer is this one, or want of memory
+-- the answer is this one, or that memory ran out
 abbrev pub OrMemory : {T : Type 0} → Result T LineError → Result T LineError → Type 0
 OrMemory result answer = (result ≡ answer) ⊎ (result ≡ Err Memory)
 
--- the error comes exactly where this holds, want of memory aside
+-- the error comes exactly if this holds, unless memory ran out
 abbrev pub ComesWhere : {T : Type 0} → Result T LineError → LineError → Type 0 → Type 0
 ComesWhere result error P = (result ≡ Err error → P) × (P → OrMemory result (Err error))

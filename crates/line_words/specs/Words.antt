@@ -15,7 +15,7 @@ is_plain b = not (is_blank b || is_quote b || b == 92)
 abbrev pub lacks : ℕ → List ℕ → Bool
 lacks quote bytes = list_all (λ b. not (b == quote)) bytes
 
--- a part of a line: a blank, a plain byte, a byte behind a backslash, a backslash at the end, or a run between two quotes
+-- a part of a line: a blank, a plain byte, a byte after a backslash, a backslash at the end, or a run between two quotes
 pub data Part : Type 0 where
   blank : ℕ → Part
   plain : ℕ → Part
@@ -47,7 +47,7 @@ IsPart (escaped b) after = Unit {0}
 IsPart backslash after = after ≡ []
 IsPart (quoted quote run) after = (is_quote quote ≡ true) × (lacks quote run ≡ true)
 
--- the bytes are these parts, one behind the other, and then the rest
+-- the bytes are these parts, one after the other, and then the rest
 abbrev pub StandBefore : List ℕ → List Part → List ℕ → Type 0
 StandBefore bytes [] rest = bytes ≡ rest
 StandBefore bytes (part ∷ parts) rest = (after : List ℕ) × (bytes ≡ text_of part ++ after) × IsPart part after × StandBefore after parts rest
@@ -72,7 +72,7 @@ words_in parts = map (flat_map value_of) (filter has_parts (slice_split is_gap p
 abbrev pub IsCut : List ℕ → List (List ℕ) → Type 0
 IsCut line words = (parts : List Part) × AreParts line parts × (words ≡ words_in parts)
 
--- a quote stands at the front of the line or behind parts, and nothing closes it
+-- a quote stands at the front of the line or after parts, and nothing closes it
 pub record HasOpenQuote (line : List ℕ) : Type 0 where
   pub parts : List Part
   pub quote : ℕ
@@ -81,7 +81,7 @@ pub record HasOpenQuote (line : List ℕ) : Type 0 where
   pub is_one : is_quote quote ≡ true
   pub unclosed : lacks quote run ≡ true
 
--- the parts of bytes, none where a quote isn't closed; of bytes behind a backslash; of bytes behind a quote and a run
+-- the parts of bytes, none if a quote isn't closed; of bytes after a backslash; of bytes after a quote and a run
 unfoldable mutual
   pub parts_of : List ℕ → Option (List Part)
   parts_of [] = Some []
@@ -101,6 +101,6 @@ unfoldable mutual
       if b == quote then option_map (λ parts. quoted quote run ∷ parts) (parts_of bs)
       else quoted_parts quote (run ++ b ∷ []) bs
 
--- the words of a line; none where a quote isn't closed
+-- the words of a line; none if a quote isn't closed
 unfoldable pub words_of : List ℕ → Option (List (List ℕ))
 words_of line = option_map words_in (parts_of line)

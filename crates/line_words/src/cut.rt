@@ -15,7 +15,7 @@ pub(crate) enum Place {
     Between,
     /// In a word, outside quotes.
     Word,
-    /// Behind a backslash.
+    /// After a backslash.
     Escaped,
     /// Between two of these quotes.
     Quoted(u8),
@@ -68,7 +68,7 @@ fn step_of(place: Place, byte: u8) -> Step
 
 /// The words of a line: what blanks, spaces and tabs, separate, without its quotes. In a word `"` to `"` and `'` to `'`
 /// stand for the bytes inside; outside quotes a backslash takes the next byte, and at the line's end it stands for
-/// itself. `None` exactly where a quote isn't closed.
+/// itself. `None` exactly if a quote isn't closed.
 pub fn words_of(alloc: Global, bytes: &[u8]) -> Result<Option<Items<Text>>, Memory>
     ensures { IfOk result (λ words. words ≡ words_of bytes.now) }
 {

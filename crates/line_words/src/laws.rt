@@ -10,9 +10,9 @@ pub fn a_word_names_one_command()
     ensures names_ascend { NamesAscend }
 {}
 
-/// Laws of words: the words of a line are those into which it is cut, where it is parts, one behind the other: blanks,
-/// plain bytes, bytes behind a backslash, and runs between two quotes. A line has none exactly where it can't be cut,
-/// and exactly where a quote in it isn't closed. It is cut into one list of words at most.
+/// Laws of words: the words of a line are those into which it is cut, if it is parts, one after the other: blanks,
+/// plain bytes, bytes after a backslash, and runs between two quotes. A line has none exactly if it can't be cut,
+/// and exactly if a quote in it isn't closed. It is cut into one list of words at most.
 pub fn lines_are_cut_into_words()
     ensures cut { WordsAreCut }
     ensures uncut { UncutHasNone }
@@ -20,8 +20,8 @@ pub fn lines_are_cut_into_words()
     ensures one { CutsAreOne }
 {}
 
-/// A law: words that are written one behind the other, with a space between one and the next, are cut into these words
-/// again, where each is written as it is, if it is plain and not empty, or between quotes that it lacks.
+/// A law: words that are written one after the other, with a space between one and the next, are cut into these words
+/// again, if each is written as it is, when it is plain and not empty, or between quotes that it lacks.
 pub fn words_read_back()
     ensures { WordsReadBack }
 {}

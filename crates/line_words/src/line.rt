@@ -11,17 +11,17 @@ use mail_text::{Items, Memory, Text, is_blank};
 use std::alloc::Global;
 use thiserror::Error;
 
-/// A command line has so many bytes at most.
+/// A command line has at most this many bytes.
 const LONGEST: usize = 65_536;
 
 /// A line of a command.
 #[derive(Drop)]
 pub struct CommandLine {
-    /// The command that the word names; without a word `Next` where the line is empty, and otherwise `Print`.
+    /// The command that the word names; without a word `Next` if the line is empty, and otherwise `Print`.
     pub command: Command,
     /// The command word as it stands in the line, or empty.
     pub word: Text,
-    /// The words behind the command word, without their quotes.
+    /// The words after the command word, without their quotes.
     pub words: Items<Text>,
     /// What follows `!` or `#`, as it stands in the line; empty for other commands.
     pub rest: Text,
@@ -39,7 +39,7 @@ pub enum LineError {
     /// A quote isn't closed.
     #[error("open quote")]
     OpenQuote,
-    /// Want of memory.
+    /// Memory ran out.
     #[error("out of memory")]
     Memory,
 }
@@ -55,16 +55,16 @@ impl From<Memory> for LineError {
     }
 }
 
-/// Reads the line of a command: the command word and the words behind it, or for `!` and `#` the rest as it stands.
+/// Reads the line of a command: the command word and the words after it, or for `!` and `#` the rest as it stands.
 /// Blanks, which are spaces and tabs, are passed over at the front. The command word is the first byte if it is
-/// `!`, `|`, `#`, `=` or `?`, else `z+` or `z-` where the line begins so, else the longest run of ASCII letters. An
+/// `!`, `|`, `#`, `=` or `?`, else `z+` or `z-` if the line begins so, else the longest run of ASCII letters. An
 /// empty line is `next`, and one without a command word `print` with the line as words.
 ///
 /// Words are separated by blanks. In a word `"` to `"` and `'` to `'` stand for the bytes inside; outside quotes a
 /// backslash takes the next byte, and at the line's end it stands for itself.
 ///
-/// `TooLong` comes exactly where the line has more than 65,536 bytes, `Unknown` exactly where its command word
-/// names no command, `OpenQuote` exactly where a quote isn't closed behind a command that takes words. They are
+/// `TooLong` comes exactly if the line has more than 65,536 bytes, `Unknown` exactly if its command word
+/// names no command, `OpenQuote` exactly if a quote isn't closed after a command that takes words. They are
 /// looked for in this order.
 pub fn read_line(alloc: Global, line: &[u8]) -> Result<CommandLine, LineError>
     ensures reads { OrMemory result (reading line.now) }

@@ -17,7 +17,7 @@ use Rattle.command_desk.specs.Faults.{bad_arguments, no_such_macro}
 abbrev pub calling : List (List ℕ) → Steps
 calling lines = record { asks = asks.Lines (flat_map with_feed lines) ∷ []; effects = unchanged }
 
--- the lines of the macro of this name, where it is defined
+-- the lines of the macro of this name, if it is defined
 abbrev pub calling_or_fault : List ℕ → Option (List (List ℕ)) → OrFault Steps
 calling_or_fault name (Some lines) = Ok (calling lines)
 calling_or_fault name None = Err (no_such_macro name)

@@ -21,7 +21,7 @@ macro_fault name error.Taken = already_defined name
 macro_fault name error.TooMany = too_many_macros
 macro_fault name error.Memory = []
 
--- where it is refused its line is said
+-- if it is refused its line is printed
 abbrev pub or_macro_fault : List ℕ → Option MacroError → OrFault Steps → OrFault Steps
 or_macro_fault name (Some e) meant = Err (macro_fault name e)
 or_macro_fault name None meant = meant
@@ -30,7 +30,7 @@ or_macro_fault name None meant = meant
 abbrev pub define_named : Desk → List ℕ → OrFault Steps
 define_named desk name = or_macro_fault name (begin_refusal desk.macros name) (quietly (renames (naming.Begin name)))
 
--- the same, where the word behind the name is `{`
+-- a definition of this name is begun, if the word after the name is `{`, unless it is refused
 abbrev pub define_braced : Desk → List ℕ → List ℕ → OrFault Steps
 define_braced desk name brace =
     if bytes_eq brace (codes "{") then define_named desk name

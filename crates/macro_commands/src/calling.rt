@@ -23,7 +23,7 @@ fn calling(alloc: Global, lines: &[Text]) -> Result<Steps, Memory>
     })
 }
 
-// The lines of the macro of this name are asked for, where it is defined.
+// The lines of the macro of this name are asked for, if it is defined.
 fn call_named(alloc: Global, desk: &Desk, name: &[u8]) -> Result<Steps, Refusal>
     ensures means { Means result (call_named desk.now name.now) }
     ensures within { IsWithin desk.now result }

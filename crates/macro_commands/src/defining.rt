@@ -35,7 +35,7 @@ fn define_named(alloc: Global, desk: &Desk, name: &[u8]) -> Result<Steps, Refusa
     }
 }
 
-// The same, where the word behind the name is `{`.
+// A definition of this name is begun, if the word after the name is `{`, unless it is refused.
 fn define_braced(alloc: Global, desk: &Desk, name: &[u8], brace: &[u8]) -> Result<Steps, Refusal>
     ensures means { Means result (define_braced desk.now name.now brace.now) }
     ensures within { IsWithin desk.now result }

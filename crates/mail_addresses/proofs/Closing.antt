@@ -57,7 +57,7 @@ close-content (inner {inside} {bs} first rest) d i after =
     ∙ ap (λ k. close false k (n + 1) (bs ++ after)) (omega arith) ∙ close-content rest d (n + 1) after
     ∙ ap (λ k. close false d k after) (omega (arith, length-append inside (41 ∷ bs)))
 
--- bytes that close so many comments
+-- bytes that close a given number of comments
 Closes : ℕ → List ℕ → Type 0
 Closes zero bs = IsCommentContent bs
 Closes (suc d) bs = (front : List ℕ) × ((back : List ℕ) × (bs ≡ front ++ 41 ∷ back) × IsCommentContent front × Closes d back)

@@ -26,7 +26,7 @@ pub unescaped-pair : (b : ℕ) (bs : List ℕ) → unescaped false (92 ∷ b ∷
 unfolding unescaped
 unescaped-pair b bs = refl
 
--- a backslash with nothing behind it
+-- a backslash with nothing after it
 pub unescaped-last : unescaped false (92 ∷ []) ≡ unescaped false []
 unfolding unescaped
 unescaped-last = refl
@@ -41,7 +41,7 @@ unescaped-run [] rest plain = refl
 unescaped-run (b ∷ bs) rest plain =
     unescaped-byte b (bs ++ rest) (plain 0 (omega arith)) ∙ ap (λ (l : List ℕ). b ∷ l) (unescaped-run bs rest (λ k l e. plain (suc k) (omega arith) e))
 
--- a run and a byte behind a backslash are put
+-- a run and a byte after a backslash are put
 pub unescaped-step : (out more last run pair rest after whole : List ℕ) → more ≡ out ++ run → rest ≡ run ++ pair → ((k : ℕ) → k < length run → get_or run k 0 ≢ 92)
     → last ++ unescaped false after ≡ more ++ unescaped false pair → out ++ unescaped false rest ≡ whole → last ++ unescaped false after ≡ whole
 unescaped-step out more last run pair rest after whole put cut plain taken so_far =
@@ -51,7 +51,7 @@ unescaped-step out more last run pair rest after whole put cut plain taken so_fa
     ∙ ap (λ (l : List ℕ). out ++ l) (sym (ap (unescaped false) cut ∙ unescaped-run run pair plain))
     ∙ so_far
 
--- what a backslash takes, and what is left behind it
+-- what a backslash takes, and what is left after it
 pub taken-last : (pair after : List ℕ) → pair ≡ 92 ∷ after → length pair < 2 → unescaped false pair ≡ unescaped false []
 taken-last pair [] is short = ap (unescaped false) is ∙ unescaped-last
 taken-last pair (b ∷ bs) is short = absurd (omega (arith, ap (λ (l : List ℕ). length l) is))

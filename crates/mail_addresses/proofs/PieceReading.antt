@@ -130,6 +130,6 @@ reads_last value rest piece added here number so_far last gives =
       lists = lists_end Spells (pieces w.tokens) (pieces piece) piece added here last.one gives w.lists;
     }
 
--- what was put behind nothing is the list
+-- what was put at the end of an empty list is the list
 pub read_all : (value : List ℕ) (old items : List Address) → old ≡ [] → (added : List Address) × (items ≡ old ++ added) × Reads value added → Reads value items
 read_all value old items empty (added, put, reads) = subst (Reads value) (sym (put ∙ ap (λ (xs : List Address). xs ++ added) empty)) reads

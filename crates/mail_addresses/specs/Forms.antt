@@ -103,11 +103,11 @@ abbrev pub part_text : Lexeme → List ℕ
 part_text (quoted inside) = unescaped false inside
 part_text t = text_of t
 
--- a text, with a space before it where it stands apart
+-- a text, with a space before it if it stands apart
 abbrev pub spaced : Bool → List ℕ → List ℕ
 spaced apart text = if apart then 32 ∷ text else text
 
--- a name and its text: a part, or a part beside a name, or a part, blanks and a name, where the blanks stand for one space (3.2.5, phrase, with the dots of 4.1)
+-- a name and its text: a part, or a part beside a name, or a part, blanks that stand for one space and a name (3.2.5, phrase, with the dots of 4.1)
 pub data IsName : List Lexeme → List ℕ → Type 0 where
   one : {t : Lexeme} → is_part t ≡ true → IsName (t ∷ []) (part_text t)
   beside : {t : Lexeme} {ts : List Lexeme} {text : List ℕ} → is_part t ≡ true → IsName ts text → IsName (t ∷ ts) (part_text t ++ text)
@@ -144,6 +144,6 @@ IsNameAddress ts a = (front : List Lexeme) × ((back : List Lexeme) × (ts ≡ f
 abbrev pub IsMailbox : List Lexeme → Address → Type 0
 IsMailbox ts a = (GivesSpec ts a × (a.name ≡ [])) ⊎ IsNameAddress ts a
 
--- the value of which this holds, or none where it holds of none
+-- the value of which this holds, or none if it holds of none
 abbrev pub Finds : {A : Type 0} → (A → Type 0) → Option A → Type 0
 Finds P found = MatchOption found ((x : _) → P x → ⊥) P

@@ -91,7 +91,7 @@ pub record IsFault (value : List ℕ) (number : ℕ) : Type 0 where
   pub are_tokens : AreTokens value tokens
   pub first_bad : IsFirstBad (pieces tokens) number
 
--- the first address of a value's list; none where the list has none, or where a piece of the value is no address
+-- the first address of a value's list; none if the list has none, or if a piece of the value is no address
 abbrev pub IsFirstAddress : List ℕ → Option Address → Type 0
 IsFirstAddress value found =
     ((list : List Address) × Reads value list × (found ≡ slice_get list 0))

@@ -21,17 +21,17 @@ HasDots bytes after = (ts : List Lexeme) × AreFront bytes after ts × (is_dot_a
 abbrev pub HasSpec : List ℕ → ℕ → List ℕ → Type 0
 HasSpec bytes n after = (ts : List Lexeme) × AreFront bytes after ts × IsSpec ts n
 
--- a display name at the front, and a `<` and other bytes behind it
+-- a display name at the front, and a `<` and other bytes after it
 abbrev pub HasName : List ℕ → List ℕ → List ℕ → Type 0
 HasName bytes name back = (ts : List Lexeme) × AreFront bytes (60 ∷ back) ts × IsDisplayName ts name
 
--- blanks or nothing at the front, and a `<` and other bytes behind them
+-- blanks or nothing at the front, and a `<` and other bytes after them
 pub record HasGaps (bytes back : List ℕ) : Type 0 where
   pub gaps : List Lexeme
   pub front : AreFront bytes (60 ∷ back) gaps
   pub are_gaps : AreGaps gaps
 
--- words at the front, each a space from the next, with this text, and a `<` behind them
+-- words at the front, each a space from the next, with this text, and a `<` after them
 pub record HasWords (bytes text back : List ℕ) : Type 0 where
   pub words : List Lexeme
   pub gaps : List Lexeme

@@ -2,7 +2,7 @@
 use Rattle.std.specs.Prelude.{ℕ, zero, suc, ◌+◌, ◌-◌, Bool, true, false, ◌==◌, if◌then◌else◌, List, [], ◌∷◌, length, take, drop, Option, Some, None}
 use Rattle.mail_addresses.specs.Lexical.{Lexeme, blanks, comment, atom, quoted, literal, mark, unclosed, is_blank_byte, is_atom_byte}
 
--- the place of the parenthesis that closes a comment, after i bytes, after a backslash or not, and with so many further comments open
+-- the place of the parenthesis that closes a comment, after i bytes, after a backslash or not, and with `depth` further comments open
 unfoldable pub close : Bool → ℕ → ℕ → List ℕ → Option ℕ
 close escaped depth i [] = None
 close true depth i (b ∷ bs) = close false depth (i + 1) bs
@@ -49,7 +49,7 @@ unfoldable pub first_step : List ℕ → Step
 first_step [] = step (unclosed []) []
 first_step (b ∷ bs) = if b == 40 then enclosed comment (b ∷ bs) bs (close false 0 0 bs) else (if b == 34 then enclosed quoted (b ∷ bs) bs (unquote false 0 bs) else (if b == 91 then enclosed literal (b ∷ bs) bs (find_byte (λ c. c == 93) bs) else (if is_blank_byte b then run_step blanks is_blank_byte (b ∷ bs) else (if is_atom_byte b then run_step atom is_atom_byte (b ∷ bs) else step (mark b) bs))))
 
--- the tokens at the front, so many at most
+-- the tokens at the front, at most a given number
 unfoldable pub tokens_within : ℕ → List ℕ → List Lexeme
 tokens_within zero bs = []
 tokens_within (suc n) [] = []

@@ -22,7 +22,7 @@ pub enum AddressError {
     /// from 0; empty pieces count.
     #[error("piece {at} is neither an address nor a group")]
     Syntax { at: u64 },
-    /// Want of memory.
+    /// Memory ran out.
     #[error("out of memory")]
     Memory,
 }

@@ -21,3 +21,4 @@ pub use laws::{
     pieces_are_the_tokens, quoted_strings_end_at_a_quote, tokens_are_the_value,
 };
 pub use read::{first_address, read_list};
+pub use scan::quote_end;

@@ -33,7 +33,7 @@ pub(crate) fn display_name(alloc: Global, bytes: &[u8]) -> Result<Option<Text>, 
     Ok(Some(name))
 }
 
-/// Puts a part at the end, with a space before it where it stands apart.
+/// Puts a part at the end, with a space before it if it stands apart.
 fn push_next(token: &Token, apart: bool, name: &mut Text) -> Result<(), Memory>
     ensures { OnOk result (name.new ≡ name.old ++ spaced apart (part_text token.now)) }
 {

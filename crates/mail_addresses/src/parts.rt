@@ -131,7 +131,7 @@ pub(crate) fn split_at_gap(bytes: &[u8]) -> (&[u8], &[u8])
     (before(bytes, rest), rest)
 }
 
-/// How many bytes the bytes have, where they are a local part.
+/// How many bytes the bytes have, if they are a local part.
 fn whole_local(bytes: &[u8]) -> Option<usize>
     ensures { MatchOption result
         (is_local_part (tokens_in bytes.now) ≡ false)
@@ -144,7 +144,7 @@ fn whole_local(bytes: &[u8]) -> Option<usize>
     }
 }
 
-/// How many bytes the local part has, where the bytes are a spec.
+/// How many bytes the local part has, if the bytes are a spec.
 pub(crate) fn local_length(bytes: &[u8]) -> Option<usize>
     ensures { MatchOption result
         ((n : ℕ) → IsSpec (tokens_in bytes.now) n → ⊥)

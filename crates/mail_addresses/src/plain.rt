@@ -46,8 +46,8 @@ impl<'a> Plain<'a> {
     }
 }
 
-/// The one address of the value, where it is plain: a spec alone or behind a name, of atoms and dots, where the
-/// name is words with a space between or a quoted string without backslashes, and no blanks stand but behind the
+/// The one address of the value, if it is plain: a spec alone or after a name, of atoms and dots; the
+/// name is words with a space between or a quoted string without backslashes, and no blanks stand but after the
 /// name.
 pub(crate) fn plain_address(value: &[u8]) -> Option<Plain<'_>>
     ensures { IfSome result (λ a. Reads value.now (a ∷ [])) }
@@ -99,7 +99,7 @@ fn plain_angled(value: &[u8]) -> Option<Plain<'_>>
     }
 }
 
-// What stands behind this byte, where the bytes begin with it.
+// What stands after this byte, if the bytes begin with it.
 fn behind(byte: u8, bytes: &[u8]) -> Option<&[u8]>
     ensures { IfSome result (λ later. bytes.now ≡ byte ∷ later.now) }
 {
@@ -153,7 +153,7 @@ fn spec_front(bytes: &[u8]) -> Option<(usize, &[u8])>
     }
 }
 
-// The name at the front, and what follows the `<` behind it.
+// The name at the front, and what follows the `<` after it.
 fn name_front(bytes: &[u8]) -> Option<(&[u8], &[u8])>
     ensures { IfSome result (λ found. HasName bytes.now found.0.now found.1.now) }
 {
@@ -176,7 +176,7 @@ fn behind_bracket(bytes: &[u8]) -> Option<&[u8]>
     }
 }
 
-// The same for bytes behind a quote, where the name is what stands up to the next one, without backslashes.
+// The name after a quote, up to the next one and without backslashes, and what follows the `<` after it.
 fn quoted_front(bytes: &[u8]) -> Option<(&[u8], &[u8])>
     ensures { IfSome result (λ found. HasName (34 ∷ bytes.now) found.0.now found.1.now) }
 {
@@ -196,7 +196,7 @@ fn quoted_front(bytes: &[u8]) -> Option<(&[u8], &[u8])>
     }
 }
 
-// The same where the name is words, each a space from the next.
+// The name at the front, if it is words, each a space from the next, and what follows the `<` after it.
 fn words_front(bytes: &[u8]) -> Option<(&[u8], &[u8])>
     ensures { IfSome result (λ found. HasName bytes.now found.0.now found.1.now) }
 {

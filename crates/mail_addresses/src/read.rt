@@ -26,7 +26,7 @@ pub(crate) enum Keep {
 
 /// Reads a list of addresses (RFC 5322, section 3.4). The answer is what the value's pieces spell, in order: a
 /// piece is a spec, an optional name and a spec in angle brackets, or a group, which gives the addresses in it; an
-/// empty piece gives nothing. `Syntax` comes exactly where a piece is neither empty nor one of these. It takes time
+/// empty piece gives nothing. `Syntax` comes exactly if a piece is neither empty nor one of these. It takes time
 /// in proportion to the value's length, however deep its comments are.
 pub fn read_list(alloc: Global, value: &[u8]) -> Result<Vec<Address>, AddressError>
     ensures ok { IfOk result (λ list. Reads value.now list.items) }
@@ -46,8 +46,8 @@ pub fn read_list(alloc: Global, value: &[u8]) -> Result<Vec<Address>, AddressErr
     }
 }
 
-/// The first address of the list that a value gives; none where it gives no list, or an empty one. Only want of
-/// memory can fail. For a value that is one address as most are written it takes no memory.
+/// The first address of the list that a value gives; none if it gives no list, or an empty one. Fails only if
+/// memory runs out. For a value that is one address as most are written it takes no memory.
 pub fn first_address(alloc: Global, value: &[u8]) -> Result<Option<FoundAddress<'_>>, Memory>
     ensures { IfOk result (IsFirstAddress value.now) }
 {
@@ -63,7 +63,7 @@ pub fn first_address(alloc: Global, value: &[u8]) -> Result<Option<FoundAddress<
     }
 }
 
-/// The same, with texts of its own. No other address stands in memory.
+/// The first address of the list that a value gives, with texts of its own. No other address stands in memory.
 fn first_read(alloc: Global, value: &[u8]) -> Result<Option<Address>, Memory>
     ensures { IfOk result (IsFirstAddress value.now) }
 {

@@ -2,6 +2,7 @@ ghost use Rattle.std.specs.Prelude.{◌≡◌, ◌≢◌, ◌==◌, ◌≤◌, �
 ghost use Rattle.std.specs.List.{list_all, list_any};
 ghost use Rattle.mail_addresses.specs.Lexical.{is_blank_byte, is_special, is_atom_byte, begins, IsCommentContent, IsQuotedContent, IsLiteralContent, IsEnd, unclosed, text_of, IsToken};
 ghost use Rattle.mail_addresses.specs.Lexeme.{lexeme};
+ghost use Rattle.mail_addresses.specs.Tokens.{unquote};
 ghost use Rattle.mail_addresses.specs.Forms.{unescaped};
 
 use crate::token::{Kind, Token};
@@ -38,7 +39,7 @@ fn is_atom_byte(b: u8) -> bool
     }
 }
 
-/// The same for any byte.
+/// Whether atoms are made of this byte, which may be any.
 #[tactic(auto, unfolding(crate::specs::Lexical::is_special, crate::specs::Lexical::is_atom_byte))]
 fn is_rarer_atom_byte(b: u8) -> bool
     ensures { result ≡ is_atom_byte b }
@@ -85,9 +86,11 @@ fn comment_end(bytes: &[u8]) -> Option<usize>
     None
 }
 
-/// The place of the quote that closes a quoted string; its opening one stands before these bytes.
-pub(crate) fn quote_end(bytes: &[u8]) -> Option<usize>
-    ensures { IsEnd IsQuotedContent 34 bytes.now result }
+/// The place of the quote that closes a quoted string (RFC 5322, section 3.2.4), if one does; its opening one stands
+/// before these bytes. It takes no memory.
+pub fn quote_end(bytes: &[u8]) -> Option<usize>
+    ensures place { result ≡ unquote false 0 bytes.now }
+    ensures end { IsEnd IsQuotedContent 34 bytes.now result }
 {
     let mut escaped = false;
     for (i, b) in bytes.iter().enumerate() {
@@ -168,7 +171,7 @@ fn token_from<'a>(first: u8, bytes: &'a [u8], inside: &'a [u8]) -> (Token<'a>, &
     }
 }
 
-/// The first token and what follows it, where the first byte opens nothing.
+/// The first token and what follows it, if the first byte opens nothing.
 fn plain_token<'a>(first: u8, bytes: &'a [u8], after: &'a [u8]) -> (Token<'a>, &'a [u8])
     requires whole { bytes.now ≡ first ∷ after.now }
     requires no_comment { first ≢ 40 }

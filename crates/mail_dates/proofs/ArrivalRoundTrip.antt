@@ -21,7 +21,7 @@ use Rattle.mail_dates.proofs.WordLemmas.{in_word, words_of-word}
 use Rattle.mail_dates.proofs.PartLemmas.{IsRun, all_as, prefix_len-run}
 use Rattle.mail_dates.proofs.RoundTrip.{run_of_two, day_of_month_reads, time_reads, run_from_test, day_is_word, day_reads, month_is_word, month_reads, run_of_four, four_reads}
 
--- a word ends where a blank stands behind it
+-- a word ends where a blank stands after it
 word_then : (word rest : List ℕ) → IsWord word → in_word rest ≡ 0 → words_of (word ++ rest) ≡ word ∷ words_of rest
 word_then word rest h stops =
     let long = prefix_len-run (λ b. not (is_blank b)) word rest h.1 stops in
@@ -41,7 +41,7 @@ no_words = refl
 last_word : (word : List ℕ) → IsWord word → words_of word ≡ word ∷ []
 last_word word h = rw (append-nil word) at (word_then word [] h refl) ∙ ap (λ others. word ∷ others) no_words
 
--- the words of a From line, by the texts that it is made of; the day may stand behind a blank
+-- the words of a From line, by the texts that it is made of; the day may stand after a blank
 words_of_form : (sender name month day day_word clock year : List ℕ) → IsWord sender → IsWord name → IsWord month
     → ((rest : List ℕ) → words_of (day ++ 32 ∷ rest) ≡ day_word ∷ words_of rest) → IsWord clock → IsWord year
     → words_of (sender ++ codes " " ++ (name ++ codes " " ++ month ++ codes " " ++ day ++ codes " " ++ clock ++ codes " " ++ year)) ≡ sender ∷ name ∷ month ∷ day_word ∷ clock ∷ year ∷ []

@@ -7,11 +7,11 @@ use Rattle.mail_dates.specs.Values.{◌>>=◌, is_day_name, time_value, moment_o
 use Rattle.mail_dates.specs.DateFields.{written_date, zone_value, time, date, date_time}
 use Rattle.mail_dates.specs.Reading.{after_day_name, calendar_first, clock_end, clock_first, zone_last, colon_first}
 
--- the zone and the moment, behind the time
+-- the zone and the moment, after the time
 abbrev from_time : ℤ → ℕ × List Part → Option Moment
 from_time day read = zone_last read.1 >>= (λ offset. Some (moment_of day read.0 offset))
 
--- the time and what follows it, behind the day
+-- the time and what follows it, after the day
 abbrev from_day : ℤ × List Part → Option Moment
 from_day read = clock_first read.1 >>= from_time read.0
 

@@ -293,7 +293,7 @@ no_word text at h = word_first-none (text_parts text) (kind-at_part text at) (ki
 no_sign : (b : ℕ) (bs : List ℕ) → IsAtPart (b ∷ bs) → is_sign b ≡ false → signed_first (date_parts (b ∷ bs)) ≡ None
 no_sign b bs at h = signed_first-none (text_parts (b ∷ bs)) (kind-at_part (b ∷ bs) at) (not_signed b _ h (text_kind b bs at.2))
 
--- a sign with no digit behind it is no part of a date
+-- a sign with no digit after it is no part of a date
 sign_alone : (b : ℕ) (bs : List ℕ) → is_sign b ≡ true → prefix_len is_ascii_digit bs ≡ 0 → signed_first (date_parts (b ∷ bs)) ≡ None
 unfolding without_blanks
 sign_alone b bs h none = rw (text_parts-sign b bs h, sign_before-other b (text_parts bs) (kind-no_digit bs none)) refl
@@ -323,7 +323,7 @@ is_end : (text : List ℕ) → IsAtPart text → (text ≡ []) ⊎ (date_parts t
 is_end [] at = inl refl
 is_end (b ∷ bs) at = inr (some_part (text_parts (b ∷ bs)) (kind-at_part (b ∷ bs) at) (not_end b _ (text_kind b bs at.2)))
 
--- what the readers give at a text whose parts are those of `rest`, behind blanks and comments
+-- what the readers give at a text whose parts are those of `rest`, after blanks and comments
 pub number_read : (text rest front back : List ℕ) (n : ℕ) → date_parts text ≡ date_parts rest → n ≡ prefix_len is_ascii_digit rest → n ≢ 0
     → front ≡ take n rest → back ≡ drop n rest → Some (front, date_parts back) ≡ number_first (date_parts text)
 number_read text rest front back n same is some front_is back_is =

@@ -28,7 +28,7 @@ words_of-blanks (b ∷ bs) =
       | inr other ↦ let none : blanks (b ∷ bs) ≡ 0 = rw other refl in rw none refl
     ]
 
--- behind them no blank stands
+-- after the blanks at the front no blank stands
 blanks-behind : (text : List ℕ) → blanks (drop (blanks text) text) ≡ 0
 blanks-behind [] = refl
 blanks-behind (b ∷ bs) =
@@ -79,7 +79,7 @@ no_word_left (b ∷ bs) h k =
       | inr other ↦ absurd (let more : in_word (b ∷ bs) ≡ suc (in_word bs) = rw other (one_more (in_word bs)) in omega arith)
     ]
 
--- a reader of words finds the first word behind the blanks
+-- a reader of words finds the first word after the blanks
 pub word_read : (text rest front back : List ℕ) (n : ℕ) → rest ≡ drop (blanks text) text → n ≡ in_word rest → (n ≡ 0 → ⊥)
     → front ≡ take n rest → back ≡ drop n rest → words_of text ≡ front ∷ words_of back
 word_read text rest front back n is count some front_is back_is =

@@ -42,7 +42,7 @@ abbrev pub year_in : List (List ℕ) → Option ℕ
 year_in [] = None
 year_in (word ∷ words) = if is_zone word then year_first words else digits 4 word
 
--- the day number of a year, a month and a day, where each is given
+-- the day number of a year, a month and a day, if each is given
 unfoldable pub day_number_of : Option ℕ → Option ℕ → Option ℕ → Option ℤ
 day_number_of year month day = do
   y ← year
@@ -64,7 +64,7 @@ abbrev pub sender_first : List (List ℕ) → List ℕ
 sender_first [] = []
 sender_first (sender ∷ words) = sender
 
--- the date stands behind the sender
+-- the date stands after the sender
 abbrev pub arrival_behind : List (List ℕ) → Option Moment
 arrival_behind [] = None
 arrival_behind (sender ∷ words) = arrival words

@@ -3,7 +3,7 @@
 use Rattle.std.specs.Prelude.{ℕ, zero, suc, ◌||◌, ◌==◌, if◌then◌else◌, List, [], ◌∷◌}
 use Rattle.std.specs.Char.{is_ascii_digit, is_ascii_alphabetic}
 
--- where a byte of the text stands: outside comments, or in a comment that stands in so many others, there
+-- where a byte of the text stands: outside comments, or in a comment that stands in a given number of others, there
 -- also after a backslash, which takes the next byte
 pub data Place : Type 0 where
   Outside : Place

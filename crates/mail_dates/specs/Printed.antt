@@ -10,7 +10,7 @@ use Rattle.mail_dates.specs.Names.{day_name, month_name}
 abbrev pub two : ℕ → List ℕ
 two n = (48 + n / 10) ∷ (48 + n % 10) ∷ []
 
--- the same, with a space for a leading zero
+-- a number below 100 in two places, with a space for a leading zero
 abbrev pub two_places : ℕ → List ℕ
 two_places n = if nat_lt n 10 then 32 ∷ (48 + n) ∷ [] else two n
 
@@ -32,8 +32,8 @@ unfoldable pub calendar_form : ℕ → ℕ → ℕ → ℕ → List ℕ
 calendar_form weekday day month year =
     day_name weekday ++ codes ", " ++ two day ++ codes " " ++ month_name month ++ codes " " ++ four year
 
--- `Wed, 03 Jan 2024 00:00:00 +0000` (RFC 5322, section 3.3): the same with the seconds since midnight and
--- the offset's minutes to the east
+-- `Wed, 03 Jan 2024 00:00:00 +0000` (RFC 5322, section 3.3): the parts of `calendar_form`, the seconds since
+-- midnight and the offset's minutes to the east
 unfoldable pub date_form : ℕ → ℕ → ℕ → ℕ → ℕ → ℤ → List ℕ
 date_form weekday day month year seconds minutes =
     calendar_form weekday day month year ++ codes " " ++ clock_text seconds ++ codes " " ++ zone_text minutes

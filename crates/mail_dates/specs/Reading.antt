@@ -30,7 +30,7 @@ abbrev pub colon_first : List Part → Option (List Part)
 colon_first (Colon ∷ parts) = Some parts
 colon_first parts = None
 
--- the parts after a day's name and its comma, where the first part is a name with a comma
+-- the parts after a day's name and its comma, if the first part is a name with a comma
 abbrev pub after_day_name : List Part → Option (List Part)
 after_day_name (Word name ∷ Comma ∷ parts) = if is_day_name name then Some parts else None
 after_day_name parts = Some parts
@@ -60,7 +60,7 @@ clock_first parts = do
   minute ← number_first minutes
   clock_end hour.0 minute (colon_first minute.1)
 
--- the zone, where it is the only part
+-- the zone, if it is the only part
 abbrev pub zone_last : List Part → Option ℤ
 zone_last (zone ∷ []) = zone_value zone
 zone_last parts = None

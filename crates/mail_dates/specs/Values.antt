@@ -1,4 +1,4 @@
--- What the parts of a date say: RFC 5322, sections 3.3 and 4.3.
+-- What the parts of a date mean: RFC 5322, sections 3.3 and 4.3.
 use Rattle.std.specs.Prelude.{ℕ, ◌+◌, ◌-◌, ◌*◌, ◌/◌, ◌%◌, min, Bool, ◌&&◌, ◌==◌, nat_le, nat_lt, if◌then◌else◌, List, [], ◌∷◌, length, fold, codes, Option, None, Some, option_map, option_and_then, ℤ, pos, neg_ℤ, ◌+ℤ◌, ◌-ℤ◌, ◌*ℤ◌}
 use Rattle.std.specs.Char.{is_ascii_digit}
 use Rattle.std.specs.List.{list_all, list_any, position_from}
@@ -58,13 +58,13 @@ time_value hour minute second = do
   s ← digits 2 second
   if nat_lt h 24 && nat_lt m 60 && nat_le s 60 then Some (h * 3600 + m * 60 + min s 59) else None
 
--- the zones of North America that have a word, with the hours that they are behind UTC
+-- the zones of North America that have a word, with the hours that they are to the west of UTC
 abbrev pub zone_words : List (List ℕ × ℕ)
 zone_words =
     (codes "EST", 5) ∷ (codes "EDT", 4) ∷ (codes "CST", 6) ∷ (codes "CDT", 5)
     ∷ (codes "MST", 7) ∷ (codes "MDT", 6) ∷ (codes "PST", 8) ∷ (codes "PDT", 7) ∷ []
 
--- the hours that the first zone of that word is behind UTC; each other word counts as UTC
+-- the hours that the first zone of that word is to the west of UTC; each other word counts as UTC
 abbrev pub hours_behind : List (List ℕ × ℕ) → List ℕ → ℕ
 hours_behind [] word = 0
 hours_behind (zone ∷ zones) word = if bytes_eq zone.0 word then zone.1 else hours_behind zones word
@@ -88,7 +88,7 @@ zone_number_value sign text =
 abbrev pub moment_of : ℤ → ℕ → ℤ → Moment
 moment_of day time offset = record { seconds = day *ℤ pos 86_400 +ℤ pos time -ℤ offset; offset = offset }
 
--- the same, where each is given
+-- the moment of a day, a time and an offset, if each is given
 unfoldable pub moment_value : Option ℤ → Option ℕ → Option ℤ → Option Moment
 moment_value day time offset = do
   d ← day

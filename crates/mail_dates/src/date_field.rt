@@ -12,7 +12,7 @@ use crate::values::{
     zone_number_value, zone_word_value,
 };
 
-// The text after a day's name and its comma, or the whole text where it has no such beginning.
+// The text after a day's name and its comma, or the whole text if it has no such beginning.
 fn skip_day_name(text: &[u8]) -> Option<&[u8]>
     ensures { rest_view result ≡ after_day_name (date_parts text.now) }
 {
@@ -86,7 +86,7 @@ fn read_zone(text: &[u8]) -> Option<i32>
 }
 
 /// The moment of a `Date` field's value, such as `Tue, 5 Mar 2024 09:15:00 +0100` (RFC 5322, sections 3.3
-/// and 4.3). None where the value is no date, or the calendar has no such day, hour, minute or second.
+/// and 4.3). None if the value is no date, or the calendar has no such day, hour, minute or second.
 pub fn read_date(value: &[u8]) -> Option<Moment>
     ensures value { result ≡ date_of value.now }
     ensures years { IfSome result IsInYears }

@@ -14,7 +14,7 @@ use mail_text::is_blank;
 /// What a From line says: who sent the message, and when it came.
 #[derive(Clone, Copy, Debug)]
 pub struct FromLine<'a> {
-    /// The first word of the line, empty where it has none.
+    /// The first word of the line, empty if it has none.
     pub sender: &'a [u8],
     /// When the message came, if the line has a date. Its offset is 0.
     pub moment: Option<Moment>,
@@ -114,7 +114,7 @@ fn is_zone(word: &[u8]) -> bool
     !word.is_empty() && is_letters(word) || is_zone_number(word)
 }
 
-// The year at the front of a text, perhaps behind a zone.
+// The year at the front of a text, perhaps after a zone.
 fn year_in(text: &[u8]) -> Option<u16>
     ensures value { result ≡ year_in (words_of text.now) }
     ensures bound { IfSome result (λ n. n < 10_000) }
@@ -140,7 +140,7 @@ fn day_number(month: &[u8], day: &[u8], text: &[u8]) -> Option<i32>
     date_value(year, month, day)
 }
 
-// The moment of the words behind the sender.
+// The moment of the words after the sender.
 fn arrival(text: &[u8]) -> Option<Moment>
     ensures value { result ≡ arrival (words_of text.now) }
     ensures years { IfSome result IsInYears }
@@ -158,8 +158,8 @@ fn arrival(text: &[u8]) -> Option<Moment>
 }
 
 /// Reads the line after `From ` that begins a message: the sender, and the date in the form
-/// `Wed Jan  3 00:00:00 2024`, where the seconds may be left out and a zone may stand before the year.
-/// The zone isn't used: the time counts as that of UTC. There is no moment where the words are no date
+/// `Wed Jan  3 00:00:00 2024`; the seconds may be left out and a zone may stand before the year.
+/// The zone isn't used: the time counts as that of UTC. There is no moment if the words are no date
 /// or the calendar has no such day.
 pub fn read_from_line(line: &[u8]) -> FromLine<'_>
     ensures sender { result.sender.now ≡ sender_of line.now }

@@ -16,7 +16,7 @@ pub fn first_byte(text: &[u8]) -> Option<(u8, &[u8])>
     }
 }
 
-// The text after a comment, from behind the parenthesis that opens it.
+// The text after a comment, from after the parenthesis that opens it.
 #[tactic(auto, unfolding(crate::specs::Parts::without_comments))]
 fn after_comment(text: &[u8]) -> Option<&[u8]>
     ensures comment { MatchOption result (without_comments (Inside 0) text.now ≡ 40 ∷ [])
@@ -45,7 +45,7 @@ fn after_comment(text: &[u8]) -> Option<&[u8]>
     None
 }
 
-// The text from its first part on, behind blanks and comments; none where a comment isn't closed.
+// The text from its first part on, after blanks and comments; none if a comment isn't closed.
 fn at_part(text: &[u8]) -> Option<&[u8]>
     ensures { MatchOption result (date_parts text.now ≡ Other 40 ∷ [])
         (λ rest. (date_parts text.now ≡ date_parts rest.now) × IsAtPart rest.now) }

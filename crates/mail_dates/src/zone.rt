@@ -24,7 +24,7 @@ pub enum ZoneError {
     /// The text is no POSIX rule.
     #[error("not a time zone rule")]
     NotARule,
-    /// Want of memory.
+    /// Memory ran out.
     #[error("out of memory")]
     Memory,
 }

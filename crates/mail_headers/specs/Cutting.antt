@@ -7,7 +7,7 @@ use Rattle.mail_headers.specs.Field.{is_folded}
 use Rattle.mail_text.specs.Ascii.{is_blank}
 use Rattle.mail_headers.specs.Header.{Entry, field, other, entries_from, has_bytes}
 
--- the entry of some bytes, a field where a place of a colon is given
+-- the entry of some bytes, a field if a place of a colon is given
 abbrev pub entry_at : List ℕ → Option ℕ → Entry
 entry_at bs None = other bs
 entry_at bs (Some colon) = field (record { name = take colon bs; value = drop (colon + 1) bs })

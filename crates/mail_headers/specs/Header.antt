@@ -28,7 +28,7 @@ header_lines t = take_while has_bytes (drop 1 (lines_of t))
 abbrev pub has_two_feeds : List ℕ → Bool
 has_two_feeds bs = slice_index bs 0 == 10 && slice_index bs 1 == 10
 
--- the body: what follows the first empty line after the From line, where there is one
+-- the body: what follows the first empty line after the From line, if there is one
 unfoldable pub body_of : List ℕ → Option (List ℕ)
 body_of [] = None
 body_of (b ∷ bs) = if has_two_feeds (b ∷ bs) then Some (drop 1 bs) else body_of bs
@@ -48,7 +48,7 @@ abbrev pub field_in : Entry → Option Field
 field_in (field f) = Some f
 field_in (other l) = None
 
--- the entries of some lines. A line that begins a field is the field, with the folded lines right after it. `within` says
+-- the entries of some lines. A line that begins a field is the field, with the folded lines right after it. `within` means
 -- that the line before is of a field: a folded line is then part of that field, and no entry of its own. Any other line
 -- is an entry by itself.
 unfoldable pub entries_from : Bool → List (List ℕ) → List Entry

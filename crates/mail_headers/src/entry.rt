@@ -85,7 +85,7 @@ impl<'a> EntryRef<'a> {
     ghost use Rattle.mail_headers.specs.Header.{field, other, entry_bytes, field_in};
     ghost use Rattle.mail_headers.specs.Cutting.{IsFlat};
 
-    // The field of these bytes, with its colon at this place; `flat` where it is known to have no line feed.
+    // The field of these bytes, with its colon at this place; `flat` if it is known to have no line feed.
     pub(crate) fn of_field(bytes: &'a [u8], colon: usize, flat: bool) -> EntryRef<'a>
         requires within { colon < length bytes.now }
         requires colon { slice_index bytes.now colon ≡ 58 }

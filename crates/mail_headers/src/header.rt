@@ -82,7 +82,7 @@ impl<'a> Header<'a> {
         body_of(self.text).is_some()
     }
 
-    /// The body, what follows the first empty line after the From line; empty where there is none.
+    /// The body, what follows the first empty line after the From line; empty if there is none.
     pub fn body(&self) -> &'a [u8]
         ensures { result.now ≡ unwrap_or (body_of self.now) [] }
     {

@@ -7,7 +7,7 @@ use mail_text::{Memory, Text, is_blank, lines};
 use std::alloc::Global;
 use std::marker::Model;
 
-/// The unfolded value of a field: a part of the header where it has no line feed, else a text of its own. Contracts see
+/// The unfolded value of a field: a part of the header if it has no line feed, else a text of its own. Contracts see
 /// its bytes.
 #[derive(Drop)]
 pub struct UnfoldedValue<'a> {
@@ -37,7 +37,7 @@ impl<'a> UnfoldedValue<'a> {
 }
 
 /// The value of a field without its line feeds and without blanks, spaces and tabs, at either end (RFC 5322, section
-/// 2.2.3). It takes memory only where the field is folded. Only want of memory can fail.
+/// 2.2.3). It takes memory only if the field is folded. Fails only if memory runs out.
 pub fn unfold_value<'a>(alloc: Global, field: FieldRef<'a>) -> Result<UnfoldedValue<'a>, Memory>
     ensures { IfOk result (λ value. value ≡ unfolded field.entry) }
 {
@@ -56,7 +56,7 @@ pub fn unfold_value<'a>(alloc: Global, field: FieldRef<'a>) -> Result<UnfoldedVa
     }
 }
 
-/// The same value as `unfold_value` gives, as a text of its own. Only want of memory can fail.
+/// The value that `unfold_value` gives, as a text of its own. Fails only if memory runs out.
 pub fn unfolded(alloc: Global, field: FieldRef<'_>) -> Result<Text, Memory>
     ensures { IfOk result (λ text. text ≡ unfolded field.entry) }
 {

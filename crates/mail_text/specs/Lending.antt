@@ -10,7 +10,7 @@ module _ (T : RattleType) where
   abbrev pub LendsValue : MutBor (List T.Denot) → ℕ → MutBor T.Denot → Fml
   LendsValue xs k r = Lends (list.the_row T) T xs r (slice_set xs.now k)
 
-  -- the same of a list with room
+  -- r lends the value at place k of a list with room: what is last written through r ends up there, and the rest stays
   abbrev pub LendsRoomValue : MutBor (Room T.Denot) → ℕ → MutBor T.Denot → Fml
   LendsRoomValue xs k r = Lends (reserved.the_row T) T xs r (λ x. record xs.now { items = slice_set xs.now.items k x })
 

@@ -19,7 +19,7 @@ with_feed l = l ++ 10 ∷ []
 abbrev pub HasNoFeed : List ℕ → Type 0
 HasNoFeed l = All (λ b. b ≢ 10) l
 
--- the text with a line feed at its end, which is added where the text has bytes and lacks it
+-- the text with a line feed at its end, which is added if the text has bytes and lacks it
 unfoldable pub fed : List ℕ → List ℕ
 fed [] = []
 fed (b ∷ []) = if b == 10 then b ∷ [] else b ∷ 10 ∷ []

@@ -7,6 +7,6 @@ use Rattle.std.specs.Str.Parse.{digits_value}
 abbrev pub is_numeral : List ℕ → Bool
 is_numeral bs = nat_lt 0 (length bs) && all_ascii_digits bs
 
--- the number that the text writes in decimal digits, where it fits 64 bits
+-- the number that the text writes in decimal digits, if it fits 64 bits
 unfoldable pub number_of : List ℕ → Option ℕ
 number_of bs = if is_numeral bs && nat_lt (digits_value 10 bs) (2 ^ 64) then Some (digits_value 10 bs) else None

@@ -71,7 +71,7 @@ impl<T> Items<T> {
         self.list.into_vec()
     }
 
-    /// Puts a value at the end. After want of memory the list is as before, and the value is gone.
+    /// Puts a value at the end. If memory runs out, the list is as before, and the value is gone.
     pub fn push(&mut self, x: T) -> Result<(), Memory>
     where
         T: Drop,

@@ -31,7 +31,7 @@ pub fn lines(bytes: &[u8]) -> Lines<'_>
     Lines::of(bytes)
 }
 
-/// A law: the lines of any text, each with a line feed, make the text again, with a line feed at its end where it had
+/// A law: the lines of any text, each with a line feed, make the text again, with a line feed at its end if it had
 /// none; and no line has a line feed in it.
 pub fn lines_make_the_text()
     ensures whole { (text : List ℕ) → flat_map with_feed (lines_of text) ≡ fed text }

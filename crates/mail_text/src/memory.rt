@@ -3,7 +3,7 @@ ghost use Rattle.std.specs.Prelude.{⊤};
 use std::alloc::{AllocError, AllocFailed};
 use thiserror::Error;
 
-/// Want of memory: the one error of calls that do nothing else that can fail.
+/// Memory ran out: the one error of calls that do nothing else that can fail.
 #[derive(Clone, Copy, Debug, PartialEq, Eq, Error)]
 #[error("out of memory")]
 pub struct Memory;

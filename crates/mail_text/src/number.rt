@@ -1,8 +1,8 @@
 ghost use Rattle.std.specs.Prelude.{◌≡◌};
 ghost use Rattle.mail_text.specs.Number.{number_of};
 
-/// The number that one or more decimal digits write, leading zeros allowed. `None` where a byte is no digit, where
-/// there is none, or where the number needs more than 64 bits.
+/// The number that one or more decimal digits write, leading zeros allowed. `None` if a byte is no digit, if
+/// there is none, or if the number needs more than 64 bits.
 pub fn read_number(bytes: &[u8]) -> Option<u64>
     ensures { result ≡ number_of bytes.now }
 {

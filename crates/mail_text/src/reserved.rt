@@ -60,8 +60,8 @@ impl<T> Reserved<T> {
         &self.items
     }
 
-    /// Makes room for one more value at least, and takes no memory where there is such room. After want of memory
-    /// all is as before.
+    /// Makes room for one more value at least, and takes no memory if there is such room. If memory runs out, all
+    /// is as before.
     pub fn reserve(&mut self) -> Result<(), Memory>
         ensures items { self.new.items ≡ self.old.items }
         ensures room { self.old.spare ≤ self.new.spare }
@@ -73,7 +73,7 @@ impl<T> Reserved<T> {
         Ok(())
     }
 
-    /// Puts a value at the end, where there is room for it. It takes no memory.
+    /// Puts a value at the end, if there is room for it. It takes no memory.
     pub fn put(&mut self, x: T)
         requires { 0 < self.old.spare }
         ensures items { self.new.items ≡ self.old.items ++ x ∷ [] }
@@ -84,7 +84,7 @@ impl<T> Reserved<T> {
             Err(_) => unreachable!(),
         }
     }
-    /// Puts a value at the end, and makes room for it where there is none. After want of memory all is as before,
+    /// Puts a value at the end, and makes room for it if there is none. If memory runs out, all is as before,
     /// and the value is gone.
     pub fn push(&mut self, x: T) -> Result<(), Memory>
     where

@@ -44,7 +44,7 @@ impl Text {
         })
     }
 
-    /// Puts bytes at the end. After want of memory the text is as before.
+    /// Puts bytes at the end. If memory runs out, the text is as before.
     pub fn push(&mut self, bytes: &[u8]) -> Result<(), Memory>
         ensures ok { OnOk result (self.new ≡ self.old ++ bytes.now) }
         ensures err { OnErr result (self.new ≡ self.old) }

@@ -32,7 +32,7 @@ enum Ask<'a> {
     Variable(&'a str),
 }
 
-// A text of the environment, or None where there is none.
+// A text of the environment, or None if there is none.
 fn read<E: Env>(env: &E, alloc: Global, ask: Ask<'_>) -> Result<Option<Text>, Memory> {
     for room in ROOMS {
         let mut buf = vec![in alloc; 0u8; room]?;
@@ -84,7 +84,7 @@ pub fn waiting_time<E: Env>(env: &E, alloc: Global) -> Result<Duration, Memory> 
     }))
 }
 
-/// The name of the working folder; empty where the system can't tell it, as where the folder was removed.
+/// The name of the working folder; empty if the system can't tell it, as when the folder was removed.
 pub fn working_folder<E: Env>(env: &E, alloc: Global) -> Result<Text, Memory> {
     let mut buf = vec![in alloc; 0u8; ROOMS[0]]?;
     match env.current_dir(&mut buf) {
@@ -101,7 +101,7 @@ fn test_input<P: Processes>(processes: &P, alloc: Global) -> io::Result<ExitStat
     command.status(processes)
 }
 
-/// Whether the input is a terminal. It is none where the shell that tests it can't be run.
+/// Whether the input is a terminal. It is none if the shell that tests it can't be run.
 pub fn is_terminal<P: Processes>(processes: &P, alloc: Global) -> Result<bool, Memory> {
     match test_input(processes, alloc) {
         Ok(status) => Ok(status.success()),

@@ -155,7 +155,7 @@ are_without done name unfinished are = record {
   apart = without-is_apart done name unfinished are.apart;
 }
 
--- ---- the same, with the count of lines and the room
+-- ---- definitions, with the count of lines and the room
 pub keeps_none : (X : Type 0) (list : List Macro) → list ≡ [] → AreDefinitions list None × (0 ≡ line_count list None) × (false ≡ true → X)
 keeps_none X list none =
     subst (λ (l : List Macro). AreDefinitions l None × (0 ≡ line_count l None) × (false ≡ true → X)) (sym none)

@@ -21,7 +21,7 @@ pub record Definitions : Type 0 where
   pub done : List Macro
   pub unfinished : Option Macro
 
--- the lines of a macro, where the name is defined
+-- the lines of a macro, if the name is defined
 abbrev pub body_of : List Macro → List ℕ → Option (List (List ℕ))
 body_of macros name = lookup (bytes_eq name) macros
 

@@ -13,7 +13,7 @@ pub enum MacroError {
     /// 1,000 macros are defined, or all bodies together have 100,000 lines.
     #[error("too many macros")]
     TooMany,
-    /// Want of memory.
+    /// Memory ran out.
     #[error("out of memory")]
     Memory,
 }

@@ -62,7 +62,7 @@ fn body_in<'a>(list: &'a [(Text, Items<Text>)], name: &[u8]) -> Option<&'a [Text
     }
 }
 
-// Takes a macro out, and says how many lines it had; none where it wasn't defined.
+// Takes a macro out, and says how many lines it had; none if it wasn't defined.
 #[tactic(auto, using(crate::proofs::PlaceLemmas::out_none, crate::proofs::PlaceLemmas::found_none, crate::proofs::PlaceLemmas::place_within))]
 fn take_out(list: &mut Vec<(Text, Items<Text>)>, name: &[u8]) -> Option<usize>
     ensures said { is_some result ≡ is_defined list.old.items name.now }
@@ -133,8 +133,8 @@ impl Macros {
         self.unfinished.is_some()
     }
 
-    /// Why a definition can't be begun: `Nested` where one is under way; else `Taken` where a macro of the name is
-    /// defined; else `TooMany` where 1,000 are defined. It takes no memory.
+    /// Why a definition can't be begun: `Nested` if one is under way; else `Taken` if a macro of the name is
+    /// defined; else `TooMany` if 1,000 are defined. It takes no memory.
     pub fn refuses(&self, name: &[u8]) -> Option<MacroError>
         ensures { result ≡ begin_refusal self.now name.now }
     {
@@ -150,7 +150,7 @@ impl Macros {
         None
     }
 
-    /// Begins a definition without lines. After an error, which `refuses` foretells but for want of memory, all is as
+    /// Begins a definition without lines. After an error, which `refuses` foretells unless memory ran out, all is as
     /// before.
     pub fn begin(&mut self, name: &[u8]) -> Result<(), MacroError>
         ensures refused { MatchOption (begin_refusal self.old name.now)
@@ -177,8 +177,8 @@ impl Macros {
         Ok(())
     }
 
-    /// Why the definition that is under way takes no line: `Nested` where the line reads as the command `define` with
-    /// two words, the second of them `{`; else `TooMany` where all bodies together have 100,000 lines.
+    /// Why the definition that is under way takes no line: `Nested` if the line reads as the command `define` with
+    /// two words, the second of them `{`; else `TooMany` if all bodies together have 100,000 lines.
     pub fn refuses_line(&self, line: &[u8]) -> Result<Option<MacroError>, Memory>
         ensures { IfOk result (λ refusal. refusal ≡ line_refusal self.now line.now) }
     {
@@ -192,10 +192,10 @@ impl Macros {
         Ok(None)
     }
 
-    /// Puts a line at the end of the definition that is under way. `Nested` comes exactly where the line reads as the
-    /// command `define` with two words, the second of them `{`; else `TooMany` exactly where all bodies together,
-    /// this one's among them, have 100,000 lines. After an error, which `refuses_line` foretells but for want of
-    /// memory, all is as before.
+    /// Puts a line at the end of the definition that is under way. `Nested` comes exactly if the line reads as the
+    /// command `define` with two words, the second of them `{`; else `TooMany` exactly if all bodies together,
+    /// this one's among them, have 100,000 lines. After an error, which `refuses_line` foretells unless memory
+    /// ran out, all is as before.
     pub fn line(&mut self, line: &[u8]) -> Result<(), MacroError>
         requires { IsSome self.old.unfinished }
         ensures refused { MatchOption (line_refusal self.old line.now) (IfErr result (λ e. e ≡ MacroError.Memory))
@@ -258,7 +258,7 @@ impl Macros {
         }
     }
 
-    /// The lines of a macro; none exactly where the name isn't defined. It takes no memory.
+    /// The lines of a macro; none exactly if the name isn't defined. It takes no memory.
     pub fn body(&self, name: &[u8]) -> Option<&[Text]>
         ensures { option_map (λ lines. lines.now) result ≡ body_of self.now.done name.now }
     {

@@ -4,7 +4,7 @@ use Rattle.std.specs.Str.{bytes_eq}
 use Rattle.mailx_vars.specs.declared.settings.Setting.{Setting}
 use Rattle.mailx_vars.specs.Settings.{Settings, refusal, with_value, without}
 
--- the variables once one is given this value, or unset; where it can't be set they stay
+-- the variables once one is given this value, or unset; if it can't be set they stay
 abbrev pub with_or_without : Settings → List ℕ → Option (List ℕ) → Settings
 with_or_without vars name (Some value) = if is_none (refusal vars name) then with_value vars name value else vars
 with_or_without vars name None = without vars name

@@ -14,7 +14,7 @@ Pairs = List (List ℕ × List ℕ)
 abbrev pub variable : Pairs → List ℕ → List ℕ
 variable pairs name = unwrap_or (lookup (bytes_eq name) pairs) []
 
--- a text, or what stands in its place where it is empty
+-- a text, or what stands in its place if it is empty
 abbrev pub or_default : List ℕ → List ℕ → List ℕ
 or_default value default = if length value == 0 then default else value
 
@@ -65,6 +65,6 @@ places_in pairs =
       width = width_of (number_of (variable pairs (codes "COLUMNS")));
     }
 
--- the places, where home folder and user are known
+-- the places, if home folder and user are known
 abbrev pub places_of : Pairs → Option Places
 places_of pairs = if knows_user pairs then Some (places_in pairs) else None

@@ -47,6 +47,6 @@ expansion places vars previous name =
     else if bytes_eq name (codes "&") then Ok places.mbox
     else front_expansion places vars name
 
--- the answer is the one that is due, or want of memory
+-- the answer is the one that is due, or that memory ran out
 abbrev pub IsUnlessMemory : Result (List ℕ) NameError → Result (List ℕ) NameError → Type 0
 IsUnlessMemory answer due = (answer ≡ due) ⊎ (answer ≡ Err Memory)

@@ -13,7 +13,7 @@ use Rattle.mailx_vars.specs.declared.error.VarError.TheVariants.{BadName, TooMan
 abbrev pub Settings : Type 0
 Settings = List (List ℕ × List ℕ)
 
--- the value of a variable, where it is set
+-- the value of a variable, if it is set
 abbrev pub value_of : Settings → List ℕ → Option (List ℕ)
 value_of vars name = lookup (bytes_eq name) vars
 
@@ -21,7 +21,7 @@ value_of vars name = lookup (bytes_eq name) vars
 abbrev pub is_set : Settings → List ℕ → Bool
 is_set vars name = is_some (value_of vars name)
 
--- the number that a variable's value writes, where it is set and writes one
+-- the number that a variable's value writes, if it is set and writes one
 abbrev pub number_in : Settings → List ℕ → Option ℕ
 number_in vars name = option_and_then number_of (value_of vars name)
 

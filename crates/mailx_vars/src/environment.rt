@@ -14,7 +14,7 @@ const FEWEST_COLUMNS: u64 = 40;
 
 const MOST_COLUMNS: u64 = 1_000;
 
-/// The columns where the environment gives no number that counts.
+/// The columns if the environment gives no number that counts.
 const USUAL_COLUMNS: usize = 80;
 
 /// What a run takes from its environment: places of files, programs, and the width of the terminal.
@@ -38,7 +38,7 @@ pub struct Places {
     pub shell: Text,
     /// The time zone, TZ, or nothing.
     pub tz: Text,
-    /// The columns of the terminal: COLUMNS where it is a number from 40 to 1,000, else 80.
+    /// The columns of the terminal: COLUMNS if it is a number from 40 to 1,000, else 80.
     pub width: usize,
 }
 
@@ -59,14 +59,14 @@ fn variable<'a>(pairs: &'a [(Text, Text)], name: &[u8]) -> &'a [u8]
     }
 }
 
-// A copy of a value, or of what stands in its place where it is empty.
+// A copy of a value, or of what stands in its place if it is empty.
 fn or_default(alloc: Global, value: &[u8], default: &[u8]) -> Result<Text, Memory>
     ensures { IfOk result (λ t. t ≡ or_default value.now default.now) }
 {
     Text::copy(alloc, if value.is_empty() { default } else { value })
 }
 
-// A copy of a value, or where it is empty the two parts that stand in its place.
+// A copy of a value, or if it is empty the two parts that stand in its place.
 fn or_joined(alloc: Global, value: &[u8], front: &[u8], back: &[u8]) -> Result<Text, Memory>
     ensures { IfOk result (λ t. t ≡ or_default value.now (front.now ++ back.now)) }
 {
@@ -139,7 +139,7 @@ pub fn knows_user(pairs: &[(Text, Text)]) -> bool
 
 impl Places {
     /// The places that an environment names. Of several pairs of one name the first counts, and an empty value
-    /// counts as unset. None exactly where `knows_user` is false.
+    /// counts as unset. None exactly if `knows_user` is false.
     pub fn read(alloc: Global, pairs: &[(Text, Text)]) -> Result<Option<Places>, Memory>
         ensures places { IfOk result (λ found. found ≡ places_of pairs.now) }
         ensures width { IfOk result (λ found. IfSome found (λ places. (40 ≤ places.width) × (places.width ≤ 1000))) }

@@ -13,7 +13,7 @@ pub enum VarError {
     /// The name is new, and 1,000 variables are set.
     #[error("too many variables")]
     TooMany,
-    /// Want of memory.
+    /// Memory ran out.
     #[error("out of memory")]
     Memory,
 }
@@ -38,7 +38,7 @@ pub enum NameError {
     /// The name begins with `+`, and the variable `folder` is unset or empty.
     #[error("folder is not set")]
     NoFolder,
-    /// Want of memory.
+    /// Memory ran out.
     #[error("out of memory")]
     Memory,
 }

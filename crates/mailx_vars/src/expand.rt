@@ -65,8 +65,8 @@ fn expand_front(alloc: Global, name: &[u8], places: &Places, vars: &Vars) -> Res
 /// What a file name stands for: `%` the system mailbox, `%user` that user's file in `/var/mail`, `#` the previous
 /// file, `&` mbox, `+file` a file in the folder that the variable `folder` names, `~/file` a file in the home
 /// folder. Any other name stands for itself. A value of `folder` without a leading `/` is taken in the home folder.
-/// `NoPrevious` comes exactly for `#` where `previous` is empty, `NoFolder` exactly for a name that begins with `+`
-/// where `folder` is unset or empty.
+/// `NoPrevious` comes exactly for `#` if `previous` is empty, `NoFolder` exactly for a name that begins with `+`
+/// if `folder` is unset or empty.
 pub fn expand_name(
     alloc: Global,
     name: &[u8],

@@ -19,7 +19,7 @@ const VARIABLE_LIMIT: usize = 1_000;
 pub struct Setting {
     /// Its name.
     pub name: Text,
-    /// Its value, or none where it is unset.
+    /// Its value, or none if it is unset.
     pub value: Option<Text>,
 }
 
@@ -58,7 +58,7 @@ fn value_in<'a>(list: &'a [(Text, Text)], name: &[u8]) -> Option<&'a [u8]>
     }
 }
 
-// Puts a value under a name: in its place where the name is there, else at the end, where there is room.
+// Puts a value under a name: in its place if the name is there, else at the end, if there is room.
 #[tactic(auto, using(crate::proofs::PairLemmas::put_here, crate::proofs::PairLemmas::put_new, crate::proofs::PairLemmas::new_name, crate::proofs::PairLemmas::place_within))]
 fn put(list: &mut Vec<(Text, Text)>, name: Text, value: Text)
     requires { is_set list.old.items name ≡ false → length list.old.items < vec_capacity list.old }
@@ -151,8 +151,8 @@ impl Vars {
         Ok(Vars { list })
     }
 
-    /// Why a variable can't be set: `BadName` where the name is empty or holds `=` or a byte outside 33 to 126; else
-    /// `TooMany` where the name is new and 1,000 are set. It takes no memory.
+    /// Why a variable can't be set: `BadName` if the name is empty or holds `=` or a byte outside 33 to 126; else
+    /// `TooMany` if the name is new and 1,000 are set. It takes no memory.
     pub fn refuses(&self, name: &[u8]) -> Option<VarError>
         ensures { result ≡ refusal self.now name.now }
     {
@@ -165,7 +165,7 @@ impl Vars {
         None
     }
 
-    // Puts a value under a name that isn't refused: in its place where the name is there, else at the end.
+    // Puts a value under a name that isn't refused: in its place if the name is there, else at the end.
     #[tactic(auto, using(crate::proofs::PairLemmas::settings_put, crate::proofs::PairLemmas::room_for))]
     fn put(&mut self, name: Text, value: Text)
         requires { refusal self.old name ≡ None }
@@ -175,7 +175,7 @@ impl Vars {
     }
 
     /// Sets a variable. One that is set already keeps its place, a new one goes last. After an error, which `refuses`
-    /// foretells but for want of memory, the variables are as before.
+    /// foretells unless memory ran out, the variables are as before.
     pub fn set(&mut self, name: &[u8], value: &[u8]) -> Result<(), VarError>
         ensures refused { MatchOption (refusal self.old name.now) (IfErr result (λ e. e ≡ VarError.Memory))
             (λ e. result ≡ Err e) }
@@ -218,7 +218,7 @@ impl Vars {
         take_out(&mut self.list, name)
     }
 
-    /// The value of a variable; none where it is unset. It takes no memory.
+    /// The value of a variable; none if it is unset. It takes no memory.
     pub fn get(&self, name: &[u8]) -> Option<&[u8]>
         ensures { option_map (λ value. value.now) result ≡ value_of self.now name.now }
     {
@@ -264,7 +264,7 @@ impl Vars {
         }
     }
 
-    /// The number that a variable's value writes in decimal digits. `NotANumber` comes where the variable is unset, or
+    /// The number that a variable's value writes in decimal digits. `NotANumber` comes if the variable is unset, or
     /// `read_number` refuses its value.
     pub fn number(&self, name: &[u8]) -> Result<u64, VarError>
         ensures { MatchOption (number_in self.now name.now)

@@ -23,13 +23,13 @@ abbrev pub is_left : Shown → List ℕ → ℕ → Bool
 is_left shown ns n = in_base shown Live n && not (is_among ns n)
 
 -- the message that is current once these were deleted: the first live one after the last of them in the view, else the
--- last live one before it; none where no message is live
+-- last live one before it; none if no message is live
 abbrev pub after_deleting : Shown → List ℕ → Option ℕ
 after_deleting shown ns =
     let last = last_message ns in
     option_or (next_of shown Live last) (find (is_left shown ns) (before_message shown last))
 
--- these are deleted; where no message is live then, the current one stays
+-- these are deleted; if no message is live then, the current one stays
 abbrev pub deleted : Desk → List ℕ → Effects
 deleted desk ns =
     let current = unwrap_or (after_deleting desk.shown ns) desk.shown.current in

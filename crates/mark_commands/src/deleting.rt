@@ -65,7 +65,8 @@ fn last_left(
     }
 }
 
-// The same in the view by number, without a walk over deleted messages.
+// The last live message before this one in the view by number that isn't among those that are deleted now. It takes no
+// walk over deleted messages.
 fn left_by_number(shown: &Shown, among: &Among<'_>, last: u32) -> Option<u32>
     requires shown { IsShown shown.now }
     requires by_number { shown.now.order ≡ range_with_len 1 (length shown.now.order) }
@@ -83,7 +84,7 @@ fn left_by_number(shown: &Shown, among: &Among<'_>, last: u32) -> Option<u32>
     None
 }
 
-/// The message that is current once these were deleted, or None where no message is live.
+/// The message that is current once these were deleted, or None if no message is live.
 fn after_deleting(alloc: Global, shown: &Shown, numbers: &[u32]) -> Result<Option<u32>, Memory>
     requires shown { IsShown shown.now }
     requires some { 0 < length numbers.now }

@@ -45,12 +45,12 @@ join-more file front xs i d lt so_far =
     ∙ append_assoc front (join (take i xs)) (written x)
     ∙ ap (λ (l : List ℕ). front ++ l) (sym (ap join (take_more xs i d lt) ∙ join-append (take i xs) (x ∷ []) ∙ ap (λ (l : List ℕ). join (take i xs) ++ l) one))
 
--- the same of a walk that takes the texts off a list
+-- a walk that takes the texts off a list puts the next text at the end
 pub join-next : (file whole t : List ℕ) (old new : List (List ℕ)) → old ≡ t ∷ new → file ++ join old ≡ whole → (file ++ written t) ++ join new ≡ whole
 join-next file whole t old new e so_far =
     append_assoc file (written t) (join new) ∙ ap (λ (l : List ℕ). file ++ l) (sym (join-cons t new) ∙ ap join (sym e)) ∙ so_far
 
--- a mailbox behind texts that are written
+-- a mailbox after texts that are written
 pub is_mailbox-join : (l : List (List ℕ)) (b : List ℕ) → All IsProper l → is_mailbox b ≡ true → is_mailbox (join l ++ b) ≡ true
 is_mailbox-join [] b all m = ap (λ (x : List ℕ). is_mailbox (x ++ b)) join-nil ∙ m
 is_mailbox-join (t ∷ ts) b all m =

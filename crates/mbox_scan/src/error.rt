@@ -11,7 +11,7 @@ pub enum ScanError {
     /// More messages start than a folder may have.
     #[error("{count} messages are too many")]
     TooMany { count: u64 },
-    /// Want of memory.
+    /// Memory ran out.
     #[error("out of memory")]
     Memory,
 }

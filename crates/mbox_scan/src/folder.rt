@@ -62,8 +62,8 @@ impl Model for Folder {
 }
 
 impl Folder {
-    /// Opens the bytes of a mailbox. `NotAMailbox` where there are bytes and no message starts at
-    /// the first of them; else `TooMany`, with their number, where more than 1,000,000 messages
+    /// Opens the bytes of a mailbox. `NotAMailbox` if there are bytes and no message starts at
+    /// the first of them; else `TooMany`, with their number, if more than 1,000,000 messages
     /// start; or `Memory`.
     pub fn open(alloc: Global, bytes: Text) -> Result<Folder, ScanError>
         ensures ok { IfOk result (λ f. f ≡ bytes) }

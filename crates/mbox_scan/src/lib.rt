@@ -12,5 +12,5 @@ mod texts;
 pub use error::ScanError;
 pub use folder::{Folder, MOST_MESSAGES, MessageRef};
 pub use laws::{list_of_join, texts_are_proper};
-pub use scan::is_mailbox;
+pub use scan::{is_mailbox, trimmed_len};
 pub use texts::Texts;

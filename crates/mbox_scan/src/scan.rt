@@ -11,12 +11,12 @@ pub(crate) const BREAK: &[u8; 7] = b"\n\nFrom ";
 pub(crate) struct First {
     /// Where its text ends.
     pub end: usize,
-    /// Where the next message starts; where there is none, the length of the bytes.
+    /// Where the next message starts; if there is none, the length of the bytes.
     pub next: usize,
 }
 
 /// How many bytes are left without the line feeds at the end.
-fn trimmed_len(piece: &[u8]) -> usize
+pub fn trimmed_len(piece: &[u8]) -> usize
     ensures cut { take result piece.now ≡ trimmed piece.now }
     ensures bound { result ≤ length piece.now }
 {

@@ -36,7 +36,7 @@ impl<'a> Texts<'a> {
         }
     }
 
-    /// The next text, a slice of the bytes, or None where none is left.
+    /// The next text, a slice of the bytes, or None if none is left.
     pub fn next_text(&mut self) -> Option<&'a [u8]>
         ensures { MatchOption result ((self.old ≡ []) × (self.new ≡ []))
             (λ text. self.old ≡ text.now ∷ self.new) }

@@ -8,3 +8,4 @@ pub mod WordLemmas
 pub mod MarkLemmas
 pub mod SelectionLemmas
 pub mod ByNumberLemmas
+pub mod ChosenLemmas

@@ -4,3 +4,4 @@ pub mod Places
 pub mod Naming
 pub mod Selections
 pub mod Marking
+pub mod Choosing

@@ -78,14 +78,14 @@ pub record AreItems (words : List (List ℕ)) (items : List Item) : Type 0 where
   pub in_order : map (λ item. item.word) items ≡ words
   pub kinds : HaveKinds items
 
--- why words give no list: the first bad one, or want of memory
+-- why words give no list: the first bad one, or that memory ran out
 abbrev pub IsBadList : List (List ℕ) → ListError → Type 0
 IsBadList words (Syntax word) = first_bad words ≡ Some word
 IsBadList words (NoSuch word) = ⊥
 IsBadList words NoneMatch = ⊥
 IsBadList words Memory = Unit {0}
 
--- the refusal of a bad word, or want of memory
+-- the refusal of a bad word, or that memory ran out
 abbrev pub IsBadWord : List ℕ → ListError → Type 0
 IsBadWord bad (Syntax word) = word ≡ bad
 IsBadWord bad (NoSuch word) = ⊥

@@ -30,7 +30,7 @@ end_message shown purpose at.Current = Some shown.current
 end_message shown purpose at.First = first_of shown purpose
 end_message shown purpose at.Last = last_of shown purpose
 
--- the place of an end of a range in the view; none where it is no message of the view
+-- the place of an end of a range in the view; none if it is no message of the view
 abbrev pub end_place : Shown → Purpose → End → Option ℕ
 end_place shown purpose end = option_and_then (place_of shown) (end_message shown purpose end)
 
@@ -43,11 +43,11 @@ is_between a b p = false
 unfoldable pub holds : List ℕ → List ℕ → Bool
 holds string text = list_any (occurs_at text string) (range_with_len 0 (length text + 1))
 
--- the same, the case of ASCII letters aside
+-- the string stands at some place of the text, the case of ASCII letters aside
 abbrev pub holds_ascii : List ℕ → List ℕ → Bool
 holds_ascii string text = holds (str_to_ascii_lowercase string) (str_to_ascii_lowercase text)
 
--- the author is the word, or, where the word has no `@`, the author's local part is; the case of ASCII letters aside
+-- the author is the word, or, if the word has no `@`, the author's local part is; the case of ASCII letters aside
 abbrev pub is_author : List ℕ → List ℕ → Bool
 is_author word author = same_ascii author word || (not (list_any (λ b. b == 64) word) && same_ascii (local_part author) word)
 

@@ -31,15 +31,15 @@ in_base shown purpose n = row_passes (λ row. is_for purpose row.mark) shown n
 abbrev pub place_of : Shown → ℕ → Option ℕ
 place_of shown n = position (λ m. m == n) shown.order
 
--- the messages after message n in the view; none where it isn't there
+-- the messages after message n in the view; none if it isn't there
 abbrev pub after_message : Shown → ℕ → List ℕ
 after_message shown n = option_map_or (λ p. drop (p + 1) shown.order) (place_of shown n) []
 
--- the messages before message n in the view, the nearest first; none where it isn't there
+-- the messages before message n in the view, the nearest first; none if it isn't there
 abbrev pub before_message : Shown → ℕ → List ℕ
 before_message shown n = option_map_or (λ p. reverse (take p shown.order)) (place_of shown n) []
 
--- message n and those before it in the view, the nearest first; none where it isn't there
+-- message n and those before it in the view, the nearest first; none if it isn't there
 abbrev pub back_from : Shown → ℕ → List ℕ
 back_from shown n = option_map_or (λ p. reverse (take (p + 1) shown.order)) (place_of shown n) []
 

@@ -15,7 +15,7 @@ use Rattle.message_list.specs.Naming.{names}
 abbrev pub base_of : Shown → Purpose → List ℕ
 base_of shown purpose = filter (in_base shown purpose) shown.order
 
--- the current message where it is in the base set
+-- the current message if it is in the base set
 abbrev pub current_of : Shown → Purpose → Option ℕ
 current_of shown purpose = if in_base shown purpose shown.current then Some shown.current else None
 
@@ -42,21 +42,21 @@ finds shown purpose item = list_any (names shown purpose item) (base_of shown pu
 abbrev pub first_missing : Shown → Purpose → List Item → Option (List ℕ)
 first_missing shown purpose items = option_map (λ item. item.word) (find (λ item. not (finds shown purpose item)) items)
 
--- why a list selects nothing: the first word that names none; no words and no default message; want of memory
+-- why a list selects nothing: the first word that names none; no words and no default message; memory ran out
 abbrev pub IsUnmet : Shown → Purpose → List Item → ListError → Type 0
 IsUnmet shown purpose items (Syntax word) = ⊥
 IsUnmet shown purpose items (NoSuch word) = first_missing shown purpose items ≡ Some word
 IsUnmet shown purpose items NoneMatch = (items ≡ []) × (default_message shown purpose ≡ None)
 IsUnmet shown purpose items Memory = Unit {0}
 
--- why words select nothing: the first word that names none, or want of memory
+-- why words select nothing: the first word that names none, or that memory ran out
 abbrev pub IsMissing : Shown → Purpose → List Item → ListError → Type 0
 IsMissing shown purpose items (Syntax word) = ⊥
 IsMissing shown purpose items (NoSuch word) = first_missing shown purpose items ≡ Some word
 IsMissing shown purpose items NoneMatch = ⊥
 IsMissing shown purpose items Memory = Unit {0}
 
--- this word names none, or want of memory
+-- this word names none, or memory ran out
 abbrev pub IsNoSuch : List ℕ → ListError → Type 0
 IsNoSuch missing (Syntax word) = ⊥
 IsNoSuch missing (NoSuch word) = word ≡ missing

@@ -1,13 +1,14 @@
-ghost use Rattle.std.specs.Prelude.{◌≡◌, ◌≤◌, ◌+◌, ◌==◌, ◌∷◌, ◌++◌, [], ℕ, List, length, IfSome, false};
+ghost use Rattle.std.specs.Prelude.{◌≡◌, ◌==◌, ◌∷◌, ◌++◌, [], ℕ, List};
 ghost use Rattle.std.specs.List.{list_any};
 ghost use Rattle.mail_addresses.specs.Lexical.{IsQuotedContent};
-ghost use Rattle.message_list.specs.LocalParts.{closing_quote, before_at, local_part};
+ghost use Rattle.message_list.specs.LocalParts.{before_at, local_part};
 ghost use Rattle.message_list.specs.Naming.{is_author};
 
+use mail_addresses::quote_end;
 use mail_text::same_ascii;
 
-/// The local part of an author's bare address: the quoted string that it begins with, where that is closed, else
-/// the bytes before the first `@`, or all where there is none (RFC 5322, section 3.4.1). It takes no memory.
+/// The local part of an author's bare address: the quoted string that it begins with, if that is closed, else
+/// the bytes before the first `@`, or all if there is none (RFC 5322, section 3.4.1). It takes no memory.
 pub fn author_local_part(author: &[u8]) -> &[u8]
     ensures value { result.now ≡ local_part author.now }
     ensures quoted { (inside after : List ℕ) → IsQuotedContent inside → author.now ≡ 34 ∷ (inside ++ 34 ∷ after)
@@ -18,13 +19,13 @@ pub fn author_local_part(author: &[u8]) -> &[u8]
     local_part(author)
 }
 
-// The same by its definition.
+// The local part of an author's bare address, by its definition.
 fn local_part(author: &[u8]) -> &[u8]
     ensures { result.now ≡ local_part author.now }
 {
     match author {
         [] => author,
-        [b'"', inside @ ..] => match closing_quote(inside) {
+        [b'"', inside @ ..] => match quote_end(inside) {
             Some(end) => {
                 let (local, _) = author.split_at(end + 2);
                 local
@@ -35,25 +36,7 @@ fn local_part(author: &[u8]) -> &[u8]
     }
 }
 
-// The place of the quote that closes a quoted string; its opening one stands before these bytes.
-fn closing_quote(bytes: &[u8]) -> Option<usize>
-    ensures place { result ≡ closing_quote false 0 bytes.now }
-    ensures within { IfSome result (λ end. end + 1 ≤ length bytes.now) }
-{
-    let mut escaped = false;
-    for (i, b) in bytes.iter().enumerate() {
-        if escaped {
-            escaped = false;
-        } else if *b == b'\\' {
-            escaped = true;
-        } else if *b == b'"' {
-            return Some(i);
-        }
-    }
-    None
-}
-
-/// The bytes of a name before its first `@`, or all of them where there is none. It takes no memory.
+/// The bytes of a name before its first `@`, or all of them if there is none. It takes no memory.
 pub fn before_at(author: &[u8]) -> &[u8]
     ensures { result.now ≡ before_at author.now }
 {
@@ -67,7 +50,7 @@ pub fn before_at(author: &[u8]) -> &[u8]
     local
 }
 
-// Whether the author is the word, or, where the word has no `@`, the author's local part is.
+// Whether the author is the word, or, if the word has no `@`, the author's local part is.
 pub(crate) fn is_author(word: &[u8], author: &[u8]) -> bool
     ensures { result ≡ is_author word.now author.now }
 {

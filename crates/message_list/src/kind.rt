@@ -38,7 +38,7 @@ fn plain_kind(word: &[u8]) -> Kind
     }
 }
 
-// The kind of the letter behind a `:`, if it is one of the five and alone.
+// The kind of the letter after a `:`, if it is one of the five and alone.
 fn letter_of(text: &[u8]) -> Option<Kind>
     ensures { result ≡ letter_of text.now }
 {
@@ -95,7 +95,7 @@ fn end_of(text: &[u8]) -> Option<End>
     }
 }
 
-// What stands before the first `-` and after it: all and nothing where there is none.
+// What stands before the first `-` and after it: all and nothing if there is none.
 fn around_dash(word: &[u8]) -> (&[u8], &[u8])
     ensures before { result.0.now ≡ before_first is_dash word.now }
     ensures after { result.1.now ≡ after_first is_dash word.now }

@@ -2,6 +2,7 @@
 #![tactic(auto)]
 
 mod author;
+mod choosing;
 mod kind;
 mod list;
 mod read;
@@ -11,6 +12,7 @@ mod subject;
 mod view;
 
 pub use author::{author_local_part, before_at};
+pub use choosing::chosen;
 pub use list::{End, Item, Kind, ListError, ListSpec, Purpose};
 pub use read::read_list;
 pub use selection::select;

@@ -81,7 +81,7 @@ pub enum ListError {
     /// There is no word, and no message that stands for none.
     #[error("no applicable message")]
     NoneMatch,
-    /// Want of memory.
+    /// Memory ran out.
     #[error("out of memory")]
     Memory,
 }

@@ -16,10 +16,10 @@ use message_state::{Row, Shown, State};
 use std::alloc::Global;
 
 /// The messages that a list selects, in the order of the view and each once: those of the base set (that of
-/// `purpose`) that a word names. Without a word it is the default message alone: the current one where it is in the
+/// `purpose`) that a word names. Without a word it is the default message alone: the current one if it is in the
 /// base set; for `Purpose::Dead` the nearest deleted one at or before it in the view, else the first deleted one.
-/// `NoSuch` comes exactly where a word names no message of the base set, and has the first such word; `NoneMatch`
-/// exactly where there is no word and no default message. A list of one number or `.` is answered without a walk
+/// `NoSuch` comes exactly if a word names no message of the base set, and has the first such word; `NoneMatch`
+/// exactly if there is no word and no default message. A list of one number or `.` is answered without a walk
 /// over the view.
 pub fn select(
     alloc: Global,
@@ -146,7 +146,7 @@ fn select_message(
     }
 }
 
-// Message `k`, where it is one of the base set.
+// Message `k`, if it is one of the base set.
 fn message_in_base(shown: &Shown, purpose: Purpose, k: u64) -> Option<u32>
     requires { IsShown shown.now }
     ensures { MatchOption result
@@ -200,7 +200,7 @@ fn select_named(
     Ok(marked(alloc, order, &marks)?)
 }
 
-// So many places without a mark.
+// `count` places without a mark.
 fn unmarked(alloc: Global, count: usize) -> Result<Vec<bool>, Memory>
     ensures { IfOk result (λ marks. marks.items ≡ replicate count false) }
 {
@@ -225,7 +225,8 @@ fn mark(
     mark_span(alloc, item, shown, landmarks.purpose, span, marks)
 }
 
-// The same, where the places that the word reaches are those of a span.
+// Marks the places of the messages of the base set that an item's word names, and answers whether there is one. The
+// places that the word reaches are those of `span`.
 fn mark_span(
     alloc: Global,
     item: &Item,

@@ -32,7 +32,7 @@ pub fn first_live(shown: &Shown) -> Option<u32>
     first_of(shown, Purpose::Live)
 }
 
-/// The next message after message `k` in the view that isn't deleted. None also where `k` is no message. In a view
+/// The next message after message `k` in the view that isn't deleted. None also if `k` is no message. In a view
 /// by number it is found without a walk over deleted messages.
 pub fn next_live(shown: &Shown, k: u32) -> Option<u32>
     requires { IsShown shown.now }
@@ -45,7 +45,7 @@ pub fn next_live(shown: &Shown, k: u32) -> Option<u32>
     }
 }
 
-// The same in the view by number, without a walk over deleted messages.
+// The next message after message `k` that isn't deleted, in the view by number, without a walk over deleted messages.
 fn next_by_number(shown: &Shown, k: u32) -> Option<u32>
     requires shown { IsShown shown.now }
     requires by_number { shown.now.order ≡ range_with_len 1 (length shown.now.order) }
@@ -63,7 +63,7 @@ fn next_by_number(shown: &Shown, k: u32) -> Option<u32>
     }
 }
 
-/// The nearest message before message `k` in the view that isn't deleted. None also where `k` is no message.
+/// The nearest message before message `k` in the view that isn't deleted. None also if `k` is no message.
 pub fn previous_live(shown: &Shown, k: u32) -> Option<u32>
     requires { IsShown shown.now }
     ensures { result ≡ previous_of shown.now Live k }
@@ -177,7 +177,7 @@ pub(crate) fn previous_of(shown: &Shown, purpose: Purpose, k: u32) -> Option<u32
     }
 }
 
-// Message `k` where it is in the base set, else the nearest one before it.
+// Message `k` if it is in the base set, else the nearest one before it.
 pub(crate) fn at_or_before(shown: &Shown, purpose: Purpose, k: u32) -> Option<u32>
     requires { IsShown shown.now }
     ensures { result ≡ find (in_base shown.now purpose) (back_from shown.now k) }

@@ -12,7 +12,7 @@ pub record FieldNames : Type 0 where
 abbrev pub has_name : List (List ℕ) → List ℕ → Bool
 has_name names name = list_any (same_ascii name) names
 
--- the names with one more last, where it isn't among them yet
+-- the names with one more last, if it isn't among them yet
 abbrev pub with_name : List (List ℕ) → List ℕ → List (List ℕ)
 with_name names name = if has_name names name then names else names ++ name ∷ []
 
@@ -20,6 +20,6 @@ with_name names name = if has_name names name then names else names ++ name ∷ 
 abbrev pub with_names : List (List ℕ) → List (List ℕ) → List (List ℕ)
 with_names names others = fold with_name names others
 
--- a field of this name is kept: where any name is retained, exactly if it is; else exactly if it isn't ignored
+-- a field of this name is kept: if any name is retained, exactly if it is; else exactly if it isn't ignored
 abbrev pub keeps : FieldNames → List ℕ → Bool
 keeps sets name = if length sets.retained == 0 then not (has_name sets.ignored name) else has_name sets.retained name

@@ -25,6 +25,6 @@ shown_text t sets how = text_of (from_line t) (map entry_bytes (filter (is_shown
 abbrev pub top_text : List ℕ → FieldNames → ℕ → List ℕ
 top_text t sets count = flat_map with_feed (take count (lines_of (shown_text t sets Kept)))
 
--- with all fields the shown text is the text, where that ends in no line feed
+-- with all fields the shown text is the text, if that ends in no line feed
 abbrev pub AllIsWhole : Type 0
 AllIsWhole = (t : List ℕ) (sets : FieldNames) → EndsInNoFeed t → shown_text t sets All ≡ t

@@ -1,4 +1,4 @@
--- Summary lines: what a list of messages says of each.
+-- Summary lines: what a list of messages shows of each.
 use Rattle.std.specs.Prelude.{ℕ, ◌-◌, ◌*◌, min, ◌==◌, List, [], ◌++◌, length, take, drop, replicate, slice_get, slice_index, Option, Some, None, codes, if◌then◌else◌}
 use Rattle.std.specs.Fmt.{decimal}
 use Rattle.std.specs.List.{flat_map, position_or_len}
@@ -10,15 +10,15 @@ use Rattle.message_state.specs.declared.mark.State.TheVariants.{New, Unread, Rea
 use Rattle.message_state.specs.declared.row.Row.{Row}
 use Rattle.message_state.specs.declared.shown.Shown.{Shown}
 
--- so many spaces
+-- `n` spaces
 unfoldable pub spaces : ℕ → List ℕ
 spaces n = replicate n 32
 
--- a text at the left of so many places; a longer one as it is
+-- a text at the left of a given number of places; a longer one as it is
 abbrev pub left_in : ℕ → List ℕ → List ℕ
 left_in places text = text ++ spaces (places - length text)
 
--- a text at the right of so many places; a longer one as it is
+-- a text at the right of a given number of places; a longer one as it is
 abbrev pub right_in : ℕ → List ℕ → List ℕ
 right_in places text = spaces (places - length text) ++ text
 
@@ -53,12 +53,12 @@ columns current number depth row =
     ++ right_in 6 (decimal row.size) ++ codes " "
     ++ steps_column depth
 
--- the columns of a row and its subject, cut to the width less one; nothing where there is no row
+-- the columns of a row and its subject, cut to the width less one; nothing if there is no row
 abbrev pub summary_of : ℕ → ℕ → ℕ → Option Row → ℕ → List ℕ
 summary_of current number depth (Some row) width = take (width - 1) (columns current number depth row ++ row.texts.subject)
 summary_of current number depth None width = []
 
--- the same messages with another current one, or with none
+-- the shown messages with another current one, or with none
 abbrev pub with_current : Shown → ℕ → Shown
 with_current shown current = record shown { current = current }
 
@@ -78,6 +78,6 @@ summary shown k width = summary_of shown.current k (depth_of shown k) (slice_get
 abbrev pub summaries : Shown → List ℕ → ℕ → List ℕ
 summaries shown numbers width = flat_map (λ k. with_feed (summary shown k width)) numbers
 
--- the summary lines of so many places of the view from a place on, as far as there are any
+-- the summary lines of `lines` places of the view from a place on, as far as there are any
 abbrev pub page_text : Shown → ℕ → ℕ → ℕ → List ℕ
 page_text shown start lines width = summaries shown (take lines (drop start shown.order)) width

@@ -58,7 +58,7 @@ fn state_letter(state: State) -> &'static [u8]
     }
 }
 
-// Puts so many spaces at the end.
+// Puts `count` spaces at the end.
 #[tactic(auto, using(std::proofs::lemmas::Grind::common_steps, crate::proofs::SummaryLemmas::spaces_taken))]
 fn push_spaces(line: &mut Text, count: usize) -> Result<(), Memory>
     requires { count ≤ 20 }
@@ -67,7 +67,7 @@ fn push_spaces(line: &mut Text, count: usize) -> Result<(), Memory>
     line.push(&SPACES[..count])
 }
 
-// Puts a number at the end, right in so many places.
+// Puts a number at the end, at the right of `places` places.
 fn push_right(line: &mut Text, places: usize, number: u64) -> Result<(), Memory>
     requires { places ≤ 20 }
     ensures { OnOk result (line.new ≡ line.old ++ right_in places (decimal number)) }

@@ -34,7 +34,7 @@ impl FieldSets {
         }
     }
 
-    /// Leaves out the fields of these names, where none is retained. After want of memory all is as before.
+    /// Leaves out the fields of these names, if none is retained. If memory runs out, all is as before.
     pub fn ignore(&mut self, names: &[Text]) -> Result<(), Memory>
         ensures ok { OnOk result (self.new.ignored ≡ with_names self.old.ignored names.now) }
         ensures err { OnErr result (self.new.ignored ≡ self.old.ignored) }
@@ -43,7 +43,7 @@ impl FieldSets {
         self.ignored.add(names)
     }
 
-    /// Keeps the fields of these names, and of those named so before, alone. After want of memory all is as before.
+    /// Keeps the fields of these names, and of those named so before, alone. If memory runs out, all is as before.
     pub fn retain(&mut self, names: &[Text]) -> Result<(), Memory>
         ensures ok { OnOk result (self.new.retained ≡ with_names self.old.retained names.now) }
         ensures err { OnErr result (self.new.retained ≡ self.old.retained) }
@@ -52,7 +52,7 @@ impl FieldSets {
         self.retained.add(names)
     }
 
-    /// Whether a field of this name is kept: where any name is retained, exactly if this one is; else exactly if it
+    /// Whether a field of this name is kept: if any name is retained, exactly if this one is; else exactly if it
     /// isn't ignored. It takes no memory.
     pub fn keeps(&self, name: &[u8]) -> bool
         ensures { result ≡ keeps self.now name.now }

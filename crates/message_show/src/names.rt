@@ -8,7 +8,7 @@ use mail_text::{Memory, Text, same_ascii};
 use std::alloc::Global;
 use std::marker::Model;
 
-// A name of up to so many bytes is looked for in the index; a longer one would make a header's line longer than RFC
+// A name of up to this many bytes is looked for in the index; a longer one would make a header's line longer than RFC
 // 5322, section 2.1.1 allows, and is compared with each name.
 const LONGEST: usize = 998;
 
@@ -69,7 +69,7 @@ impl Names {
         }
     }
 
-    // Puts these names at the end, but for those that are there. After want of memory the names are as before.
+    // Puts these names at the end, but for those that are there. If memory runs out, the names are as before.
     pub(crate) fn add(&mut self, names: &[Text]) -> Result<(), Memory>
         ensures ok { OnOk result (self.new ≡ with_names self.old names.now) }
         ensures err { OnErr result (self.new ≡ self.old) }
@@ -84,7 +84,7 @@ impl Names {
         }
     }
 
-    // Puts these names at the end, but for those that are there. After want of memory some may have been put.
+    // Puts these names at the end, but for those that are there. If memory runs out, some may have been put.
     fn add_each(&mut self, names: &[Text]) -> Result<(), Memory>
         ensures ok { OnOk result (self.new ≡ with_names self.old names.now) }
         ensures err { OnErr result (take (length self.old) self.new ≡ self.old) }

@@ -11,7 +11,7 @@ use std::alloc::Global;
 /// The summary line of message `k`, without a line feed: the mark `>` of the current message, the letter of its
 /// state (N U R D P S M for New, Unread, Read, Deleted, Preserved, Saved and Mboxed), its number, its author, its
 /// date as a clock at the date's own offset shows it, its size, its depth and its subject, cut to `width - 1`
-/// bytes. Only want of memory can fail.
+/// bytes. Fails only if memory runs out.
 pub fn summary_line(alloc: Global, shown: &Shown, k: u32, width: usize) -> Result<Text, Memory>
     requires valid { IsShown shown.now }
     requires first { 1 ≤ k }
@@ -24,7 +24,7 @@ pub fn summary_line(alloc: Global, shown: &Shown, k: u32, width: usize) -> Resul
 }
 
 /// The summary lines of these messages in this order, each ended by one line feed. Numbers that stand in the order
-/// of the view are found in one walk over it. Only want of memory can fail.
+/// of the view are found in one walk over it. Fails only if memory runs out.
 pub fn summary_lines(
     alloc: Global,
     shown: &Shown,
@@ -46,7 +46,7 @@ pub fn summary_lines(
 }
 
 /// The summary lines of up to `lines` places of the view from place `start`, counted from 0, each ended by one line
-/// feed. Only want of memory can fail.
+/// feed. Fails only if memory runs out.
 pub fn page(
     alloc: Global,
     shown: &Shown,
@@ -61,7 +61,7 @@ pub fn page(
     page_with_current(alloc, shown, shown.current, start, lines, width)
 }
 
-/// The same with another current message, or none where `current` is 0.
+/// The summary lines that `page` gives, with another current message, or none if `current` is 0.
 pub fn page_with_current(
     alloc: Global,
     shown: &Shown,
@@ -126,7 +126,7 @@ fn summary_at(
     cut(alloc, line, row.texts.subject(), width - 1)
 }
 
-// The columns and the subject, cut to so many bytes.
+// The columns and the subject, cut to `most` bytes.
 fn cut(alloc: Global, columns: Text, subject: &[u8], most: usize) -> Result<Text, Memory>
     ensures { IfOk result (λ t. t ≡ take most (columns ++ subject.now)) }
 {
@@ -141,8 +141,8 @@ fn cut(alloc: Global, columns: Text, subject: &[u8], most: usize) -> Result<Text
     }
 }
 
-// The place of message `k` in the view. It is its place where no view is sorted, or stands after the place `from`,
-// or before.
+// The place of message `k` in the view: that of its number if no view is sorted, else one from the place
+// `from` on, or one before.
 fn place_of(shown: &Shown, k: u32, from: usize) -> usize
     requires valid { IsShown shown.now }
     requires first { 1 ≤ k }

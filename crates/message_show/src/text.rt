@@ -19,8 +19,8 @@ pub enum How {
 }
 
 /// The text of a message as it is shown: the From line, the lines of the header that are no field and the fields
-/// that are shown, in their order in the header, and, where there is a body, an empty line and the body. No line
-/// feed is put at its end. Only want of memory can fail.
+/// that are shown, in their order in the header, and, if there is a body, an empty line and the body. No line
+/// feed is put at its end. Fails only if memory runs out.
 pub fn shown_text(
     alloc: Global,
     m: &MessageRef<'_>,
@@ -42,7 +42,7 @@ pub fn shown_text(
 }
 
 /// The first `count` lines of what is shown of a message with its kept fields, each ended by one line feed; all
-/// lines where there are fewer. Only want of memory can fail.
+/// lines if there are fewer. Fails only if memory runs out.
 pub fn top(alloc: Global, m: &MessageRef<'_>, sets: &FieldSets, count: u64) -> Result<Text, Memory>
     ensures { IfOk result (λ t. t ≡ top_text m.now sets.now count) }
 {
@@ -75,7 +75,7 @@ fn is_kept(sets: &FieldSets, entry: &EntryRef<'_>) -> bool
     }
 }
 
-// Puts the body at the end, after an empty line, where there is one.
+// Puts the body at the end, after an empty line, if there is one.
 fn push_body(text: &mut Text, header: &Header<'_>) -> Result<(), Memory>
     ensures { OnOk result (text.new ≡ text.old ++ body_part (body_of header.now)) }
 {

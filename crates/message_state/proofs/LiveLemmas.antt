@@ -43,7 +43,7 @@ dead-again rows flags k row now dead looked within j flag = elim (cases_eq (j / 
       (dead j (sym (ap (λ (o : Option Bool). unwrap_or o false) (other-slot flags (k / block_size) (j / block_size) now ne)) ∙ flag))
 ]
 
--- the same where its block has no flag
+-- the blocks once the row at place k was given another mark, and its block has no flag
 pub dead-still : (rows : List Row) (flags : List Bool) (k : ℕ) (row : Row) → AreDead flags rows
     → (k / block_size < length flags → ⊥) → AreDead flags (slice_set rows k row)
 dead-still rows flags k row dead past j flag =

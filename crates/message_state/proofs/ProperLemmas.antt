@@ -163,7 +163,7 @@ untrimmed-from t last =
     trimmed-is t (length t) (record { within = omega arith; feeds = λ k low high. absurd (omega arith); last = last })
     ∙ take_all (length t) t (omega arith)
 
--- the last byte of what stands behind something
+-- the last byte of what stands after something
 last-behind : (front back : List ℕ) → 0 < length back → get_or (front ++ back) (length (front ++ back) - 1) 0 ≡ get_or back (length back - 1) 0
 last-behind front back some =
     let long = length-append front back in

@@ -1,4 +1,4 @@
--- Texts that are put one behind the other are cut apart again.
+-- Texts that are put one after the other are cut apart again.
 use Rattle.std.proofs.Common.{◌≡◌, ℕ, ◌-◌, List, ◌++◌, length, take, drop, ap, ◌∙◌, arith, append_assoc, length-append}
 use Rattle.std.specs.List.{slice_range}
 use Rattle.std.proofs.Math.Seq.{take-append_seam, drop-append_seam}
@@ -23,7 +23,7 @@ texts-same x y subject author shown to own =
     ∙ ap (λ (v : List ℕ). made y.subject y.author y.shown_author v x.own_id) to
     ∙ ap (λ (v : List ℕ). made y.subject y.author y.shown_author y.to v) own
 
--- each text is put behind those before it, and its end is noted
+-- each text is put after those before it, and its end is noted
 pub record ArePushed (s a n t o b1 b2 b3 b4 b5 : List ℕ) (i j k l : ℕ) : Type 0 where
   pub first : b1 ≡ s
   pub first_end : i ≡ length b1

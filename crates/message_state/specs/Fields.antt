@@ -6,16 +6,16 @@ use Rattle.mail_headers.specs.Field.{Field}
 use Rattle.mail_headers.specs.Header.{Entry, field, other, field_in, field_named}
 use Rattle.message_state.specs.declared.fields.RowFields.{RowFields}
 
--- the field, where it has this name
+-- the field, if it has this name
 abbrev pub if_named : List ℕ → Option Field → Option Field
 if_named name None = None
 if_named name (Some f) = if same_ascii f.name name then Some f else None
 
--- the field that was found before, else the entry where it is a field of this name
+-- the field that was found before, else the entry if it is a field of this name
 abbrev pub or_entry : List ℕ → Option Field → Entry → Option Field
 or_entry name found e = option_or found (if_named name (field_in e))
 
--- how many bytes the name of an entry has, 0 where it is no field
+-- how many bytes the name of an entry has, 0 if it is no field
 abbrev pub name_length : Entry → ℕ
 name_length (field f) = length f.name
 name_length (other line) = 0
@@ -31,7 +31,7 @@ pub record AreFieldsOf (t : List ℕ) (fields : RowFields) : Type 0 where
   pub references : fields.references ≡ field_named (codes "References") t
   pub reply : fields.reply ≡ field_named (codes "In-Reply-To") t
 
--- each is the field that was found before, else the entry where it has that field's name
+-- each is the field that was found before, else the entry if it has that field's name
 pub record AreWithEntry (old : RowFields) (e : Entry) (fields : RowFields) : Type 0 where
   pub status : fields.status ≡ or_entry (codes "Status") old.status e
   pub subject : fields.subject ≡ or_entry (codes "Subject") old.subject e

@@ -11,7 +11,7 @@ is_inside b = not (is_blank b || b == 60 || b == 62)
 abbrev pub inside_length : List ℕ → ℕ
 inside_length bs = prefix_len is_inside bs
 
--- the id that a `<` before these bytes begins, brackets and all, where a `>` ends it
+-- the id that a `<` before these bytes begins, brackets and all, if a `>` ends it
 abbrev pub id_behind : List ℕ → Option (List ℕ)
 id_behind bs = if slice_index bs (inside_length bs) == 62 then Some (60 ∷ take (inside_length bs) bs ++ 62 ∷ []) else None
 

@@ -16,7 +16,7 @@ is_live mark = not (place mark.state == place Deleted)
 abbrev pub live_at : List Row → ℕ → Bool
 live_at rows k = option_map_or (λ row. is_live row.mark) (slice_get rows k) false
 
--- the rows with another mark at place k, where there is such a row
+-- the rows with another mark at place k, if there is such a row
 abbrev pub marked : List Row → ℕ → Mark → List Row
 marked rows k mark = option_map_or (λ row. slice_set rows k (record row { mark = mark })) (slice_get rows k) rows
 
@@ -24,7 +24,7 @@ marked rows k mark = option_map_or (λ row. slice_set rows k (record row { mark 
 abbrev pub block_size : ℕ
 block_size = 1024
 
--- the flag of a block, false where there is none
+-- the flag of a block, false if there is none
 abbrev pub flag_at : List Bool → ℕ → Bool
 flag_at flags block = unwrap_or (slice_get flags block) false
 

@@ -1,4 +1,4 @@
--- The texts of a row, and how they stand one behind the other.
+-- The texts of a row, and how they stand one after the other.
 use Rattle.std.specs.Prelude.{ℕ, ◌≤◌, List, length, take, drop}
 use Rattle.std.specs.List.{slice_range}
 

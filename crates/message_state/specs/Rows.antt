@@ -13,7 +13,7 @@ use Rattle.message_state.specs.Status.{mark_of}
 use Rattle.message_state.specs.Ids.{ids_of, first_id}
 use Rattle.message_state.specs.RowTexts.{Texts}
 
--- the unfolded value of a field, empty where there is none
+-- the unfolded value of a field, empty if there is none
 abbrev pub value_or_empty : Option Field → List ℕ
 value_or_empty field = unwrap_or (option_map unfolded field) []
 
@@ -35,7 +35,7 @@ abbrev pub spec_or : List ℕ → Option Address → List ℕ
 spec_or other None = other
 spec_or other (Some a) = a.spec
 
--- the display name where it isn't empty, else the bare address
+-- the display name if it isn't empty, else the bare address
 abbrev pub display_name : Address → List ℕ
 display_name a = if length a.name == 0 then a.spec else a.name
 
@@ -64,7 +64,7 @@ moment_of t = option_or (date_in (field_named (codes "Date") t)) (arrival_of (af
 abbrev pub ids_named : List ℕ → List ℕ → List (List ℕ)
 ids_named name t = ids_of (value_or_empty (field_named name t))
 
--- the texts that a message's first fields `Subject`, `From`, `To` and `Message-ID` give, with its From line behind `From `: the
+-- the texts that a message's first fields `Subject`, `From`, `To` and `Message-ID` give, with its From line after `From `: the
 -- subject, the author, the addressee and the own id (RFC 5322, section 3.6.4)
 pub record AreTextsIn (title sender addressee message_id : Option Field) (line : List ℕ) (texts : Texts) : Type 0 where
   pub subject : texts.subject ≡ value_or_empty title

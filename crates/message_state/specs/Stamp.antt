@@ -38,11 +38,11 @@ stamped_header letters t = map entry_bytes (without_status (entries_of t)) ++ st
 abbrev pub with_letters : List ℕ → List ℕ → List ℕ
 with_letters letters t = text_of (from_line t) (stamped_header letters t) (body_of t)
 
--- what stands after the header: an empty line and the body, where there is one
+-- what stands after the header: an empty line and the body, if there is one
 abbrev pub body_part : Option (List ℕ) → List ℕ
 body_part body = if is_some body then 10 ∷ 10 ∷ unwrap_or body [] else []
 
--- the text with the mark stamped on it: the text where its first `Status` field has the letters of the mark, else the text
+-- the text with the mark stamped on it: the text if its first `Status` field has the letters of the mark, else the text
 -- without its `Status` fields and with one new one last in the header
 abbrev pub stamped : List ℕ → Mark → List ℕ
 stamped t mark = if has_letters (letters_of mark) (status_of t) then t else with_letters (letters_of mark) t

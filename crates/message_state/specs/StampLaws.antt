@@ -15,7 +15,7 @@ letters_in t = option_map unfolded (status_of t)
 abbrev pub StampReads : Type 0
 StampReads = (t : List ℕ) (m : Mark) → letters_in (stamped t m) ≡ Some (letters_of m)
 
--- the mark of a stamped text is seen exactly where the mark is, so that it has the same letters
+-- the mark of a stamped text is seen exactly if the mark is, so that it has the same letters
 abbrev pub StampMarks : Type 0
 StampMarks = (t : List ℕ) (m : Mark) → (mark_of (stamped t m)).seen ≡ m.seen
 

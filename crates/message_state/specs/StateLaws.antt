@@ -14,7 +14,7 @@ UndeleteReads = (m : Mark) → m.state ≡ Deleted → after m Undelete ≡ reco
 abbrev pub UndeleteKeeps : Type 0
 UndeleteKeeps = (m : Mark) → m.state ≢ Deleted → after m Undelete ≡ m
 
--- a message is deleted after an act only where it was, or where the act is Delete
+-- a message is deleted after an act only if it was, or if the act is Delete
 abbrev pub OnlyDeleteDeletes : Type 0
 OnlyDeleteDeletes = (m : Mark) (act : Act) → (after m act).state ≡ Deleted → (m.state ≡ Deleted) ⊎ (act ≡ Delete)
 

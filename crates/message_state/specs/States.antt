@@ -41,7 +41,7 @@ place Mboxed = 6
 abbrev pub changes : State → Act → Bool
 changes state act = not (place (state_after state act) == place state)
 
--- the message is then seen: by Look where it isn't deleted, and by Undelete, Mbox, Touch and Save where they change the state
+-- the message is then seen: by Look if it isn't deleted, and by Undelete, Mbox, Touch and Save if they change the state
 abbrev pub sees : State → Act → Bool
 sees state Look = not (place state == place Deleted)
 sees state Delete = false

@@ -37,7 +37,7 @@ pub(crate) fn row_fields<'a>(header: &Header<'a>) -> RowFields<'a>
     fields
 }
 
-// Takes an entry in, where it is the first field of one of these names. Names are told apart by their length first.
+// Takes an entry in, if it is the first field of one of these names. Names are told apart by their length first.
 fn take_entry<'a>(fields: &mut RowFields<'a>, entry: &EntryRef<'a>)
     ensures { AreWithEntry fields.old entry.now fields.new }
 {
@@ -58,7 +58,7 @@ fn take_entry<'a>(fields: &mut RowFields<'a>, entry: &EntryRef<'a>)
     }
 }
 
-// How many bytes the entry's name has, 0 where it is no field.
+// How many bytes the entry's name has, 0 if it is no field.
 fn name_length(entry: &EntryRef<'_>) -> usize
     ensures { result ≡ name_length entry.now }
 {
@@ -68,7 +68,7 @@ fn name_length(entry: &EntryRef<'_>) -> usize
     }
 }
 
-// Puts the entry into the place, where that is empty and the entry is a field of this name.
+// Puts the entry into the place, if that is empty and the entry is a field of this name.
 fn take_field<'a>(place: &mut Option<FieldRef<'a>>, entry: &EntryRef<'a>, name: &[u8])
     ensures { place.new ≡ or_entry name.now place.old entry.now }
 {

@@ -34,8 +34,8 @@ pub struct Row {
     pub size: u64,
 }
 
-/// What is known of a message of this text, which is read once. A value is taken as it is unfolded. Only want of
-/// memory can fail.
+/// What is known of a message of this text, which is read once. A value is taken as it is unfolded. Fails only if
+/// memory runs out.
 pub fn row_of(alloc: Global, text: &[u8]) -> Result<Row, Memory>
     ensures row { IfOk result (IsRow text.now) }
     ensures years { IfOk result (λ row. IfSome row.moment IsInYears) }
@@ -78,7 +78,7 @@ fn after_from(line: &[u8]) -> &[u8]
     }
 }
 
-// The texts of a row, from fields and from what the From line has behind `From `.
+// The texts of a row, from fields and from what the From line has after `From `.
 fn texts_of(
     alloc: Global,
     subject: Option<FieldRef<'_>>,
@@ -119,7 +119,7 @@ fn value_of<'a>(
     }
 }
 
-// The bytes of a value, none where there is no value.
+// The bytes of a value, none if there is no value.
 fn bytes_of<'v>(value: &'v Option<UnfoldedValue<'_>>) -> &'v [u8]
     ensures { result.now ≡ unwrap_or value.now [] }
 {
@@ -142,8 +142,8 @@ fn first_in<'v>(
     }
 }
 
-// The author's bare address and the name to be shown, for the first address of `From` and what the From line has behind
-// `From `, which is read only where there is no address.
+// The author's bare address and the name to be shown, for the first address of `From` and what the From line has after
+// `From `, which is read only if there is no address.
 fn author_of<'v>(found: &'v Option<FoundAddress<'_>>, line: &'v [u8]) -> (&'v [u8], &'v [u8])
     ensures author { result.0.now ≡ spec_or (sender_of line.now) found.now }
     ensures shown { result.1.now ≡ name_or (sender_of line.now) found.now }
@@ -157,7 +157,7 @@ fn author_of<'v>(found: &'v Option<FoundAddress<'_>>, line: &'v [u8]) -> (&'v [u
     }
 }
 
-// The name where it isn't empty, else the bare address.
+// The name if it isn't empty, else the bare address.
 fn name_or_spec<'v>(address: &'v FoundAddress<'_>) -> &'v [u8]
     ensures { result.now ≡ display_name address.now }
 {
@@ -179,7 +179,7 @@ fn spec_of<'v>(found: &'v Option<FoundAddress<'_>>) -> &'v [u8]
     }
 }
 
-// The date of a field where it reads, else the moment of the From line, which is read only then.
+// The date of a field if it reads, else the moment of the From line, which is read only then.
 fn moment_of(
     alloc: Global,
     date: Option<FieldRef<'_>>,

@@ -111,7 +111,7 @@ impl RowList {
         self.rows.items()
     }
 
-    /// Gives the row at place `k`, from 0, another mark. Nothing happens where there is no such row.
+    /// Gives the row at place `k`, from 0, another mark. Nothing happens if there is no such row.
     pub fn set_mark(&mut self, k: usize, mark: Mark)
         ensures { self.new ≡ marked self.old k mark }
     {
@@ -155,7 +155,7 @@ impl RowList {
     }
 }
 
-// The flag of a block, false where there is none.
+// The flag of a block, false if there is none.
 fn is_flagged(flags: &[bool], block: usize) -> bool
     ensures { result ≡ flag_at flags.now block }
 {

@@ -4,11 +4,11 @@ use mail_text::{Memory, Text};
 use std::alloc::Global;
 use std::marker::Model;
 
-/// The texts of a row, which stand one behind the other in one piece of memory. Contracts see each.
+/// The texts of a row, which stand one after the other in one piece of memory. Contracts see each.
 #[derive(Drop)]
 pub struct RowTexts {
     bytes: Text,
-    // where the first four end; the own id stands behind them
+    // where the first four end; the own id stands after them
     subject_end: usize,
     author_end: usize,
     shown_author_end: usize,
@@ -26,7 +26,7 @@ impl Model for RowTexts {
 }
 
 impl RowTexts {
-    /// These texts. Only want of memory can fail.
+    /// These texts. Fails only if memory runs out.
     pub(crate) fn of(
         alloc: Global,
         subject: &[u8],
@@ -102,7 +102,7 @@ impl RowTexts {
     }
 }
 
-// Puts a text at the end, and says where it ends.
+// Puts a text at the end, and gives the place at which it ends.
 fn pushed(text: &[u8], bytes: &mut Text) -> Result<usize, Memory>
     ensures bytes { OnOk result (bytes.new ≡ bytes.old ++ text.now) }
     ensures end { IfOk result (λ end. end ≡ length bytes.new) }

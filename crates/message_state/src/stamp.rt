@@ -7,9 +7,9 @@ use mail_headers::{EntryRef, FieldRef, Header, unfolded};
 use mail_text::{Memory, Text, same_ascii};
 use std::alloc::Global;
 
-/// The text of a message with the mark stamped on it: where the value of its first `Status` field is `RO` for a
+/// The text of a message with the mark stamped on it: if the value of its first `Status` field is `RO` for a
 /// message that was seen, and `O` for another, the text as it is; else the text without its `Status` fields, with a
-/// new one last in the header. Only want of memory can fail.
+/// new one last in the header. Fails only if memory runs out.
 pub fn stamped(alloc: Global, text: &[u8], mark: Mark) -> Result<Text, Memory>
     ensures { IfOk result (λ t. t ≡ stamped text.now mark) }
 {
@@ -69,7 +69,7 @@ fn with_letters(alloc: Global, letters: &[u8], header: &Header<'_>) -> Result<Te
     Ok(text)
 }
 
-// Puts the body at the end, after an empty line, where there is one.
+// Puts the body at the end, after an empty line, if there is one.
 fn push_body(text: &mut Text, header: &Header<'_>) -> Result<(), Memory>
     ensures { OnOk result (text.new ≡ text.old ++ body_part (body_of header.now)) }
 {

@@ -13,7 +13,7 @@ use Rattle.command_desk.specs.Answers.{OrFault, says, quietly}
 use Rattle.command_desk.specs.Effects.{renames, unchanged}
 use Rattle.command_desk.specs.Faults.{bad_arguments, too_many_aliases}
 
--- words, each behind a space
+-- words, each after a space
 abbrev pub spaced : List (List ℕ) → List ℕ
 spaced words = flat_map (λ word. 32 ∷ word) words
 
@@ -21,7 +21,7 @@ spaced words = flat_map (λ word. 32 ∷ word) words
 abbrev pub alias_line : Group → List ℕ
 alias_line group = with_feed ((codes "alias " ++ group.0) ++ spaced group.1)
 
--- the alias of this name as it is listed; nothing where the name isn't defined
+-- the alias of this name as it is listed; nothing if the name isn't defined
 abbrev pub listed : List Group → List ℕ → List ℕ
 listed groups name = option_map_or (λ members. alias_line (name, members)) (members_of groups name) []
 

@@ -12,7 +12,7 @@ use command_desk::{
 use mail_text::{Memory, Text};
 use std::alloc::Global;
 
-// Puts words, each behind a space.
+// Puts words, each after a space.
 fn put_spaced(out: &mut Text, words: &[Text]) -> Result<(), Memory>
     ensures { OnOk result (out.new ≡ out.old ++ spaced words.now) }
 {
@@ -55,7 +55,7 @@ fn all_listed(alloc: Global, aliases: &Aliases) -> Result<Text, Memory>
     Ok(out)
 }
 
-// The alias of this name as it is listed; nothing where the name isn't defined.
+// The alias of this name as it is listed; nothing if the name isn't defined.
 fn listed(alloc: Global, aliases: &Aliases, name: &[u8]) -> Result<Text, Memory>
     ensures { IfOk result (λ t. t ≡ listed aliases.now name.now) }
 {
@@ -82,7 +82,7 @@ fn given(alloc: Global, desk: &Desk, name: &[u8], members: &[Text]) -> Result<St
 }
 
 /// `alias`, `group`: without words all aliases are listed, in order of first definition; with one word that alias is,
-/// where it is defined; with more the first gets the others as further members. Members past 100,000 in all are
+/// if it is defined; with more the first gets the others as further members. Members past 100,000 in all are
 /// refused.
 pub fn alias(alloc: Global, desk: &Desk, words: &[Text]) -> Result<Steps, Refusal>
     requires { IsDesk desk.now }

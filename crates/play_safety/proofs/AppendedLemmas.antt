@@ -81,7 +81,7 @@ only-one change changes base files one =
     ∙ apply-other one.rest base (after mid change base) n one.others.1
     ∙ after-alone mid files change base n before
 
--- ---- the queue, and what is due behind a decision
+-- ---- the queue, and what is due after a decision
 module _ (actor : List ℕ) (token : ℕ) where
   abbrev any : Job
   any = first_job actor token []
@@ -132,7 +132,7 @@ module _ (actor : List ℕ) (token : ℕ) where
       let f : Commit → List Edit = λ c. edits_for c.changes c.base in
       ap (map f) order ∙ map-append f earlier (c ∷ later)
 
-  -- the files that are due behind the decision of a commit
+  -- the files that are due after the decision of a commit
   made : (d : Disk) (files : Files) (commits : Commits) (front behind : List Event) (e : Event) (c : Commit) (n : List ℕ) → Decides actor token d commits front e c
       → LeaveAlone actor token n (host.after (disk d front) e) behind
       → run_files actor token d (queue commits) files (front ++ e ∷ behind) n ≡ apply c.changes c.base (run_files actor token d (queue commits) files front) n

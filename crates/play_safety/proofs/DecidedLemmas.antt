@@ -92,7 +92,7 @@ pub done_is_decided : DoneIsDecided
 done_is_decided p actor token d es commits out each may passes =
     play-decided actor token may.fits p d es commits out [] (settled_files actor d) (settled_locks actor d) each (begins actor token d es may) may.honest may.lawful passes
 
--- rounds, with events behind them
+-- rounds, with events after them
 pub run-decided : {X R : Type 0} (round : X → Play (Next X R)) (x : X) (actor : List ℕ) (token : ℕ) (d : Disk) (front rest : List Event) (commits : Commits) (out : Result R Stop) (Keeps : X → Type 0)
     → ((y : X) → Keeps y → EachCommit (IsBy actor token) (round y)) → ((y : X) → Keeps y → AllEnds (NextKeeps Keeps) (round y)) → Keeps x
     → MayRun actor token d (front ++ rest) → (all : PassesAll round x d front commits out) → AllAnswersAreDecided all

@@ -328,7 +328,7 @@ module _ (actor : List ℕ) (token : ℕ) (fits : token < 2 ^ 64) where
     loop-fits {x = x} {d = d} {es = es} {commits = commits} files owners keeps s honest lawful (cut {cause = cause} goes) a b e at decides =
         play-fits (round x) d es commits (Err cause) files owners (each x keeps) s honest lawful goes a b e at decides
 
-    -- rounds, with events behind them that only look
+    -- rounds, with events after them that only look
     pub run-fits : (x : X) (d : Disk) (front rest : List Event) (commits : Commits) (out : Result R Stop) → Keeps x → MayRun actor token d (front ++ rest) → PassesAll round x d front commits out → OnlyLooks (own rest)
         → RewritesFit actor token d (front ++ rest) commits
     run-fits x d front rest commits out keeps may all looks a b e c n list keep at decides one =

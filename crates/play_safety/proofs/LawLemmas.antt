@@ -111,7 +111,7 @@ pub plays_are_safe : PlaysAreSafe
 plays_are_safe p actor token d es commits out each may passes =
     safe-of actor token d es may commits out (play-passed actor token may.fits p d es commits out [] (settled_files actor d) (settled_locks actor d) each (begins actor token d es may) may.honest may.lawful passes)
 
--- rounds, with events behind them that only look
+-- rounds, with events after them that only look
 pub run-safe : {X R : Type 0} (round : X → Play (Next X R)) (x : X) (actor : List ℕ) (token : ℕ) (d : Disk) (front rest : List Event) (commits : Commits) (out : Result R Stop) (Keeps : X → Type 0)
     → ((y : X) → Keeps y → EachCommit (IsBy actor token) (round y)) → ((y : X) → Keeps y → AllEnds (NextKeeps Keeps) (round y)) → Keeps x
     → MayRun actor token d (front ++ rest) → PassesAll round x d front commits out → OnlyLooks (own rest) → IsCrashSafe actor token d (front ++ rest) commits out

@@ -33,7 +33,7 @@ fronts (x ∷ xs) ys (y ∷ a) b is =
     let back : xs ++ ys ≡ a ++ b = cc in
     fronts-more x y xs ys a b here (fronts xs ys a b back)
 
--- an event of two parts stands in the first, or behind it
+-- an event of two parts stands in the first, or after it
 abbrev pub Stands-in : List Event → List Event → List Event → Event → List Event → Type 0
 Stands-in xs ys a e b = ((c : List Event) × (xs ≡ a ++ e ∷ c)) ⊎ ((c : List Event) × (a ≡ xs ++ c) × (ys ≡ c ++ e ∷ b))
 

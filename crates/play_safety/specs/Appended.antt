@@ -25,7 +25,7 @@ pub data IsLeft (d : Disk) (es l : List Event) (now : Disk) : Type 0 where
   at_stop : (front rest : List Event) (e : Event) (part : Part) → es ≡ front ++ e ∷ rest
       → l ≡ front ++ in_flight (disk d front) e part → now ≡ stopped (disk d front) e part → IsLeft d es l now
 
--- The event behind these is the decision of this commit: as many were passed as commits come before it.
+-- The event after these is the decision of this commit: as many were passed as commits come before it.
 pub record Decides (actor : List ℕ) (token : ℕ) (d : Disk) (commits : Commits) (front : List Event) (e : Event) (c : Commit) : Type 0 where
   pub earlier : List Commit
   pub later : List Commit

@@ -1,4 +1,4 @@
--- A commit that rewrites a file is decided only where the file begins with its base.
+-- A commit that rewrites a file is decided only if the file begins with its base.
 use Rattle.std.specs.Prelude.{◌≡◌, ℕ, Bool, List, ◌∷◌, ◌++◌, Some}
 use Rattle.std.specs.declared.result.Result.{Result}
 use Rattle.host_port.specs.declared.event.Event.{Event}
@@ -13,7 +13,7 @@ use Rattle.play_safety.specs.Passes.{Commits, Passes}
 use Rattle.play_safety.specs.Safe.{IsBy, EachCommit, MayRun}
 use Rattle.play_safety.specs.Appended.{Decides, IsOnlyOne}
 
--- A commit rewrites a file of which it has no other change. Where it is decided the file, as it is settled just before,
+-- A commit rewrites a file of which it has no other change. If it is decided the file, as it is settled just before,
 -- is the base and then what was appended.
 abbrev pub RewritesFit : List ℕ → ℕ → Disk → List Event → Commits → Type 0
 RewritesFit actor token d es commits =

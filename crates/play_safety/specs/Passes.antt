@@ -21,17 +21,17 @@ job_of c = job_for c.actor c.token c.changes c.base
 abbrev pub decided_in : Commit → Disk → List Event → ℕ
 decided_in c d es = decisions (job_of c) d 0 es
 
--- the commit that an act makes, where it is decided in the act's events; a recovery makes none
+-- the commit that an act makes, if it is decided in the act's events; a recovery makes none
 abbrev pub accepted_by : Act → Disk → List Event → List Commit
 accepted_by (Changes c) d es = if decided_in c d es == 0 then [] else c ∷ []
 accepted_by act d es = []
 
--- the commit that was under way where an act was cut off, and wasn't decided
+-- the commit that was under way when an act was cut off, and wasn't decided
 abbrev pub pending_by : Act → Disk → List Event → List Commit
 pending_by (Changes c) d es = if decided_in c d es == 0 then c ∷ [] else []
 pending_by act d es = []
 
--- what was accepted, in order, and what was under way and not decided where the play was cut off
+-- what was accepted, in order, and what was under way and not decided when the play was cut off
 pub record Commits : Type 0 where
   pub accepted : List Commit
   pub pending : List Commit

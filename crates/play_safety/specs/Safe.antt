@@ -67,7 +67,7 @@ pub record MayRun (actor : List ℕ) (token : ℕ) (d : Disk) (es : List Event) 
 abbrev pub queue_of : List Commit → List (List Edit)
 queue_of cs = map (λ c. edits_for c.changes c.base) cs
 
--- The edits of what was accepted. Behind them stand those of the commit that was under way where a fault cut the run off: only a decision that a
+-- The edits of what was accepted. After them stand those of the commit that was under way when a fault cut the run off: only a decision that a
 -- stop catches in flight can take them.
 abbrev pub queue : Commits → List (List Edit)
 queue commits = queue_of (commits.accepted ++ commits.pending)
@@ -78,8 +78,8 @@ IsCalm (Err stop.Disk) = ⊥
 IsCalm out = Unit {0}
 
 -- At every moment, and at every image of a stop, the settled files are those that the accepted commits, each from its decision on, and others
--- give, the settled locks are those of others, and the disk is sound. As many decisions were passed as commits are accepted. Where no fault of
--- the disk cut the run off nothing carries the token in the end, and where no record stands then, the files themselves are these.
+-- give, the settled locks are those of others, and the disk is sound. As many decisions were passed as commits are accepted. If no fault of
+-- the disk cut the run off nothing carries the token in the end, and if no record stands then, the files themselves are these.
 pub record IsCrashSafe {R : Type 0} (actor : List ℕ) (token : ℕ) (d : Disk) (es : List Event) (commits : Commits) (out : Result R Stop) : Type 0 where
   pub moments : (front rest : List Event) → es ≡ front ++ rest → IsRunDue actor token d (queue commits) front (disk d front)
   pub stops : (front rest : List Event) (e : Event) (part : Part) → es ≡ front ++ e ∷ rest
@@ -109,8 +109,8 @@ abbrev pub OfAnswer : (act : Act) → Answer act → Disk → List Event → Typ
 OfAnswer (Changes c) a d es = IsDecidedAs c a d es
 OfAnswer act a d es = Unit {0}
 
--- Each commit of a play that was answered as done is decided in its own stretch, which holds no output, so that whatever is said behind its answer
--- is said behind its decision; and one that was refused isn't decided in its stretch, so that it changes no settled file.
+-- Each commit of a play that was answered as done is decided in its own stretch, which holds no output, so that whatever is printed after its
+-- answer is printed after its decision; and one that was refused isn't decided in its stretch, so that it changes no settled file.
 abbrev pub AnswersAreDecided : {R : Type 0} (p : Play R) (d : Disk) (es : List Event) (commits : Commits) (out : Result R Stop) → Passes p d es commits out → Type 0
 AnswersAreDecided (Ret r) d es commits out passes = Unit {0}
 AnswersAreDecided (Ask act go) d es commits out (inl (answer, front, rest, later, is, did, commits_is, goes)) =

@@ -20,13 +20,13 @@ pub fn done_is_decided()
     ensures { DoneIsDecided }
 {}
 
-/// Where a commit of a play is answered as done, each output that follows, in its own stretch of events and in all later
-/// ones, stands after its decision: no byte of a reply is said before the commit that it tells of is decided.
+/// If a commit of a play is answered as done, each output that follows, in its own stretch of events and in all later
+/// ones, stands after its decision: no byte of a reply is printed before the commit that it tells of is decided.
 pub fn replies_follow()
     ensures { PlaysReplyAfter }
 {}
 
-/// In a crash safe run each accepted commit has its decision. Where it rewrites a file of which it has no other change,
+/// In a crash safe run each accepted commit has its decision. If it rewrites a file of which it has no other change,
 /// what others appended meanwhile follows the rewritten messages, from the decision on, at each moment and at each disk
 /// that a stop leaves, until the file is changed again; and a file that doesn't begin with the messages that the commit
 /// was made for stays as it is.
@@ -34,7 +34,7 @@ pub fn appended_follows()
     ensures { AppendedFollows }
 {}
 
-/// A commit of a play that rewrites a file of which it has no other change is decided only where the file begins with
+/// A commit of a play that rewrites a file of which it has no other change is decided only if the file begins with
 /// the messages that the commit was made for.
 pub fn decided_fit()
     ensures { DecidedFit }

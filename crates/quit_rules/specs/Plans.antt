@@ -52,11 +52,11 @@ same_texts a b = pointwise bytes_eq a b
 abbrev pub mbox_change : List ℕ → List (List ℕ) → Bool → Change
 mbox_change mbox texts append = if append then Add mbox texts else Front mbox texts
 
--- the change of mbox, where texts go there
+-- the change of mbox, if texts go there
 abbrev pub mbox_changes : List (List ℕ) → Settings → List ℕ → List Change
 mbox_changes texts vars mbox = if length texts == 0 then [] else mbox_change mbox texts (is_set vars (codes "append")) ∷ []
 
--- the change of the folder, where the texts that stay aren't those that it has
+-- the change of the folder, if the texts that stay aren't those that it has
 abbrev pub folder_changes : List (List ℕ) → Open → Settings → List Change
 folder_changes texts folder vars =
     if same_texts texts (texts_of folder.folder) then [] else Rewrite folder.name texts (is_set vars (codes "keep")) ∷ []

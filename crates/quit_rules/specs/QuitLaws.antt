@@ -40,7 +40,7 @@ pub record StaysAsItIs (folder : Open) (vars : Settings) (m : Message) : Type 0 
   pub stays : is_staying (fate_of (rules_of folder vars) m.1.state) ≡ true
   pub stamped : stamped_text m ≡ m.0
 
--- where each message stays as it is, nothing is changed
+-- if each message stays as it is, nothing is changed
 abbrev pub UnchangedIsLeft : Type 0
 UnchangedIsLeft = (folder : Open) (vars : Settings) (mbox : List ℕ) → IsOpen folder
     → All (StaysAsItIs folder vars) (messages_of folder) → quit_changes folder vars mbox ≡ []

@@ -68,8 +68,8 @@ fn front(alloc: Global, folder: &Open, count: usize) -> Result<Items<Text>, Memo
     Ok(texts)
 }
 
-// The texts of a folder that stay and that go to mbox. The first ones, so many, stay as they are, so that they
-// aren't read again.
+// The texts of a folder that stay and that go to mbox. The first `unchanged` ones stay as they are, so that
+// they aren't read again.
 fn parts_of(alloc: Global, folder: &Open, rules: Rules, unchanged: usize) -> Result<Parts, Memory>
     requires open { IsOpen folder.now }
     requires unchanged { unchanged ≡ unchanged_len rules (messages_of folder.now) }
@@ -101,7 +101,7 @@ fn mbox_change(name: Text, texts: Items<Text>, append: bool) -> Change
     }
 }
 
-// The changes of mbox: one where there are texts, else none.
+// The changes of mbox: one if there are texts, else none.
 fn mbox_changes(
     alloc: Global,
     texts: Items<Text>,
@@ -120,9 +120,9 @@ fn mbox_changes(
     Ok(changes)
 }
 
-/// What a quit changes, in this order: the stamped texts that go to mbox are put there, where there are any; then
-/// the folder is rewritten to the stamped texts that stay, where these aren't the texts that it has. The base of
-/// that Rewrite is `folder`. Where nothing has changed there is no change at all, and no text is copied.
+/// What a quit changes, in this order: the stamped texts that go to mbox are put there, if there are any; then
+/// the folder is rewritten to the stamped texts that stay, if these aren't the texts that it has. The base of
+/// that Rewrite is `folder`. If nothing has changed there is no change at all, and no text is copied.
 pub fn quit_changes(
     alloc: Global,
     folder: &Open,

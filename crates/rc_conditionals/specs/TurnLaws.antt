@@ -10,7 +10,7 @@ ClosedAsBefore = (test : List ℕ) (mode : Mode) (terminal : Bool) (list inside 
     → opened test mode terminal list ≡ Ok inside
     → (closed inside ≡ Ok list) × ((other : List Condition) → turned_else inside ≡ Ok other → closed other ≡ Ok list)
 
--- the line before an `if` is carried out exactly where one of its two parts is, and never both are
+-- the line before an `if` is carried out exactly if one of its two parts is, and never both are
 abbrev pub ElseIsTheOther : Type 0
 ElseIsTheOther = (test : List ℕ) (mode : Mode) (terminal : Bool) (list inside other : List Condition)
     → opened test mode terminal list ≡ Ok inside → turned_else inside ≡ Ok other

@@ -28,7 +28,7 @@ test_of test mode terminal =
     else if bytes_eq test (codes "t") then Some terminal
     else None
 
--- with one more condition, where its test is one and 16 aren't open
+-- with one more condition, if its test is one and 16 aren't open
 abbrev pub with_condition : Option Bool → List Condition → Result (List Condition) CondError
 with_condition None list = Err BadTest
 with_condition (Some holds) list =
@@ -46,7 +46,7 @@ outer list = take (length list - 1) list
 abbrev pub innermost : List Condition → Option Condition
 innermost list = slice_get list (length list - 1)
 
--- with the innermost condition turned round, where it has had no else
+-- with the innermost condition turned round, if it has had no else
 abbrev pub turned_round : Option Condition → List Condition → Result (List Condition) CondError
 turned_round None list = Err ElseWithoutIf
 turned_round (Some c) list =

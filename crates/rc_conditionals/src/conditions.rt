@@ -41,7 +41,7 @@ impl Model for Conditions {
     ghost view = { λ c. c.open.items };
 }
 
-// Whether the test of an `if` holds; None where it is no test.
+// Whether the test of an `if` holds; None if it is no test.
 fn test_of(test: &[u8], mode: Mode, terminal: bool) -> Option<bool>
     ensures { result ≡ test_of test.now mode terminal }
 {
@@ -63,7 +63,7 @@ impl Conditions {
         }
     }
 
-    /// The same conditions once more.
+    /// A copy of these conditions.
     pub fn copy(&self) -> Conditions
         ensures { result ≡ self.now }
     {
@@ -99,9 +99,9 @@ impl Conditions {
     }
 
     /// Carries out `if` with its test, `else` or `endif`, which `word` names. The tests are `s` for send mode, `r`
-    /// for receive mode and `t` for a terminal. `BadTest` comes where the test of an `if` is none of these, else
-    /// `TooDeep` where 16 conditions are open; `ElseWithoutIf` where none is open or the innermost has had its
-    /// else; `EndWithoutIf` where none is open. After an error all is as before.
+    /// for receive mode and `t` for a terminal. `BadTest` comes if the test of an `if` is none of these, else
+    /// `TooDeep` if 16 conditions are open; `ElseWithoutIf` if none is open or the innermost has had its
+    /// else; `EndWithoutIf` if none is open. After an error all is as before.
     pub fn turn(
         &mut self,
         word: &[u8],

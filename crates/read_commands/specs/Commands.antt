@@ -1,5 +1,5 @@
 -- What each command comes to.
-use Rattle.std.specs.Prelude.{ℕ, Bool, true, false, List, [], ◌∷◌, codes, unwrap_or, if◌then◌else◌}
+use Rattle.std.specs.Prelude.{ℕ, Bool, true, false, not, ◌&&◌, ◌==◌, List, [], ◌∷◌, length, codes, unwrap_or, if◌then◌else◌}
 use Rattle.std.specs.Str.{bytes_eq}
 use Rattle.std.specs.declared.result.Result.{Result}
 use Rattle.std.specs.declared.result.Result.TheVariants.{Ok, Err}
@@ -41,20 +41,11 @@ use Rattle.show_commands.specs.Telling.{from, size, number, echo, help}
 abbrev pub name_of : List ℕ → List ℕ
 name_of word = unwrap_or (whole_name word) (codes "print")
 
--- what a command without words comes to, which is spelled so
-abbrev pub without_words : List (List ℕ) → List ℕ → OrFault Steps → OrFault Steps
-without_words [] word meant = meant
-without_words (w ∷ ws) word meant = Err (bad_arguments (name_of word))
-
--- a command that takes no words
-abbrev pub alone : CommandLine → OrFault Steps → OrFault Steps
-alone line meant = without_words line.words line.word meant
-
 -- `exit`, `xit`
 abbrev pub exit : OrFault Steps
 exit = Ok (record { asks = asks.Exit ∷ []; effects = unchanged })
 
--- a change of a file is committed, and only once that was done the reply is said, and then the rest follows
+-- a change of a file is committed, and only once that was done the reply is printed, and then the rest follows
 abbrev pub steps_of : Filing → Steps
 steps_of filing = record { asks = asks.Commit (filing.change ∷ []) ∷ asks.Say filing.reply ∷ []; effects = filing.effects }
 
@@ -62,16 +53,16 @@ steps_of filing = record { asks = asks.Commit (filing.change ∷ []) ∷ asks.Sa
 abbrev pub filed : OrFault Filing → OrFault Steps
 filed meant = next meant (λ filing. Ok (steps_of filing))
 
--- the command of a line, on a desk, where it is built
+-- the command of a line, on a desk
 abbrev pub meaning_of : Command → CommandLine → Desk → OrFault Steps
 meaning_of command.Print line desk = print Kept desk line.words
 meaning_of command.PrintAll line desk = print All desk line.words
 meaning_of command.Top line desk = top desk line.words
 meaning_of command.From line desk = from desk line.words
 meaning_of command.Headers line desk = headers desk line.words
-meaning_of command.Scroll line desk = alone line (scroll desk (bytes_eq line.word (codes "z-")))
+meaning_of command.Scroll line desk = scroll desk (bytes_eq line.word (codes "z-"))
 meaning_of command.Next line desk = print_following desk line.words
-meaning_of command.Number line desk = alone line (number desk)
+meaning_of command.Number line desk = number desk
 meaning_of command.Echo line desk = echo desk line.words
 meaning_of command.Size line desk = size desk line.words
 meaning_of command.Delete line desk = delete desk line.words
@@ -92,8 +83,8 @@ meaning_of command.Retain line desk = retain desk line.words
 meaning_of command.Define line desk = define desk line.words
 meaning_of command.Call line desk = call desk line.words
 meaning_of command.Undef line desk = undef desk line.words
-meaning_of command.Defines line desk = alone line (defines desk)
-meaning_of command.Help line desk = alone line (help desk)
+meaning_of command.Defines line desk = defines desk
+meaning_of command.Help line desk = help desk
 meaning_of command.Comment line desk = quietly unchanged
 meaning_of command.Copy line desk = filed (copy desk line.words)
 meaning_of command.CopyByAuthor line desk = filed (copy_by_author desk line.words)
@@ -104,71 +95,42 @@ meaning_of command.File line desk = file (name_of line.word) desk line.words
 meaning_of command.Mail line desk = mail desk line.words
 meaning_of command.Shell line desk = shell line.rest
 meaning_of command.Pipe line desk = pipe (name_of line.word) desk line.words
-meaning_of command.Folders line desk = alone line (folders desk)
+meaning_of command.Folders line desk = folders desk
 meaning_of command.Reply line desk = reply (name_of line.word) desk line.words
 meaning_of command.ReplyAuthors line desk = reply_authors (name_of line.word) desk line.words
 meaning_of command.Followup line desk = followup desk line.words
 meaning_of command.FollowupAuthors line desk = followup_authors desk line.words
-meaning_of command.Quit line desk = alone line (Ok (quit desk))
-meaning_of command.Exit line desk = alone line exit
+meaning_of command.Quit line desk = Ok (quit desk)
+meaning_of command.Exit line desk = exit
 meaning_of other line desk = Err (not_built (name_of line.word))
 
--- the commands that are built
+-- all commands but these are built
 abbrev pub is_built : Command → Bool
-is_built command.Print = true
-is_built command.PrintAll = true
-is_built command.Top = true
-is_built command.From = true
-is_built command.Headers = true
-is_built command.Scroll = true
-is_built command.Next = true
-is_built command.Number = true
-is_built command.Echo = true
-is_built command.Size = true
-is_built command.Delete = true
-is_built command.DeleteAndPrint = true
-is_built command.Undelete = true
-is_built command.Hold = true
-is_built command.Mbox = true
-is_built command.Touch = true
-is_built command.Set = true
-is_built command.Unset = true
-is_built command.Source = true
-is_built command.Condition = true
-is_built command.Alias = true
-is_built command.Unalias = true
-is_built command.Alternates = true
-is_built command.Ignore = true
-is_built command.Retain = true
-is_built command.Define = true
-is_built command.Call = true
-is_built command.Undef = true
-is_built command.Defines = true
-is_built command.Help = true
-is_built command.Comment = true
-is_built command.Copy = true
-is_built command.CopyByAuthor = true
-is_built command.Save = true
-is_built command.SaveByAuthor = true
-is_built command.Write = true
-is_built command.File = true
-is_built command.Mail = true
-is_built command.Shell = true
-is_built command.Pipe = true
-is_built command.Folders = true
-is_built command.Reply = true
-is_built command.ReplyAuthors = true
-is_built command.Followup = true
-is_built command.FollowupAuthors = true
-is_built command.Quit = true
-is_built command.Exit = true
-is_built other = false
+is_built command.Newmail = false
+is_built command.Sort = false
+is_built command.Thread = false
+is_built other = true
 
--- what a line comes to: its command, where that is built
+-- the commands that take no words
+abbrev pub takes_no_words : Command → Bool
+takes_no_words command.Defines = true
+takes_no_words command.Exit = true
+takes_no_words command.Folders = true
+takes_no_words command.Help = true
+takes_no_words command.Number = true
+takes_no_words command.Quit = true
+takes_no_words command.Scroll = true
+takes_no_words other = false
+
+-- the command takes no words, and is given some
+abbrev pub has_words_too_many : CommandLine → Bool
+has_words_too_many line = takes_no_words line.command && not (length line.words == 0)
+
+-- what a line comes to: its command, unless that is given words that it doesn't take
 abbrev pub meaning : CommandLine → Desk → OrFault Steps
 meaning line desk =
-    if is_built line.command then meaning_of line.command line desk
-    else Err (not_built (name_of line.word))
+    if has_words_too_many line then Err (bad_arguments (name_of line.word))
+    else meaning_of line.command line desk
 
 -- the line of what is wrong with a line's form
 abbrev pub fault_of : LineError → List ℕ

@@ -1,18 +1,12 @@
 // What a line's command comes to.
-ghost use Rattle.std.specs.Prelude.{◌≡◌, true, [], Ok, IfOk, IfErr, OnOk, codes};
-ghost use Rattle.std.specs.Str.{bytes_eq};
+ghost use Rattle.std.specs.Prelude.{◌≡◌, IfOk};
 ghost use Rattle.line_words.specs.Line.{reading};
-ghost use Rattle.command_desk.specs.Answers.{OrFault, Means, IsRefused};
-ghost use Rattle.show_commands.specs.Paging.{scroll};
+ghost use Rattle.command_desk.specs.Answers.{OrFault, Means};
 ghost use Rattle.command_desk.specs.Desks.{IsDesk, IsWithin};
 ghost use Rattle.command_desk.specs.Effects.{effect};
-ghost use Rattle.child_commands.specs.Listing.{folders};
 ghost use Rattle.folder_commands.specs.Saving.{IsFilingWithin};
-ghost use Rattle.folder_commands.specs.Leaving.{quit};
 ghost use Rattle.folder_commands.specs.declared.wanted.Filing.{Filing};
-ghost use Rattle.read_commands.specs.Commands.{name_of, alone, exit, filed, steps_of, is_built, meaning, meaning_of, read_or_fault};
-ghost use Rattle.macro_commands.specs.Calling.{defines};
-ghost use Rattle.show_commands.specs.Telling.{number, help};
+ghost use Rattle.read_commands.specs.Commands.{name_of, exit, filed, steps_of, has_words_too_many, is_built, meaning, meaning_of, read_or_fault};
 
 use child_commands::{folders, pipe, shell};
 use command_desk::{Ask, Desk, Refusal, Steps, fault, quietly, unchanged};
@@ -51,82 +45,23 @@ fn exit(alloc: Global, desk: &Desk) -> Result<Steps, Refusal>
     })
 }
 
-// Refuses a line with words, for a command that takes none.
-fn no_words(alloc: Global, line: &CommandLine) -> Result<(), Refusal>
-    ensures ok { OnOk result (line.now.words ≡ []) }
-    ensures err { IfErr result (λ refusal. (meant : OrFault Steps) → IsRefused refusal (alone line.now meant)) }
+// Whether a command is given words and takes none.
+fn has_words_too_many(line: &CommandLine) -> bool
+    ensures { result ≡ has_words_too_many line.now }
 {
-    if line.words.items().is_empty() {
-        Ok(())
-    } else {
-        Err(fault(alloc, name_of(line.word.bytes()), b": bad arguments"))
+    match line.command {
+        Command::Defines
+        | Command::Exit
+        | Command::Folders
+        | Command::Help
+        | Command::Number
+        | Command::Quit
+        | Command::Scroll => !line.words.items().is_empty(),
+        _ => false,
     }
 }
 
-fn lone_number(alloc: Global, line: &CommandLine, desk: &Desk) -> Result<Steps, Refusal>
-    requires { IsDesk desk.now }
-    ensures means { Means result (alone line.now (number desk.now)) }
-    ensures within { IsWithin desk.now result }
-{
-    no_words(alloc, line)?;
-    number(alloc, desk)
-}
-
-fn lone_help(alloc: Global, line: &CommandLine, desk: &Desk) -> Result<Steps, Refusal>
-    requires { IsDesk desk.now }
-    ensures means { Means result (alone line.now (help desk.now)) }
-    ensures within { IsWithin desk.now result }
-{
-    no_words(alloc, line)?;
-    help(alloc, desk)
-}
-
-fn lone_defines(alloc: Global, line: &CommandLine, desk: &Desk) -> Result<Steps, Refusal>
-    requires { IsDesk desk.now }
-    ensures means { Means result (alone line.now (defines desk.now)) }
-    ensures within { IsWithin desk.now result }
-{
-    no_words(alloc, line)?;
-    defines(alloc, desk)
-}
-
-fn lone_folders(alloc: Global, line: &CommandLine, desk: &Desk) -> Result<Steps, Refusal>
-    requires { IsDesk desk.now }
-    ensures means { Means result (alone line.now (folders desk.now)) }
-    ensures within { IsWithin desk.now result }
-{
-    no_words(alloc, line)?;
-    folders(alloc, desk)
-}
-
-fn lone_exit(alloc: Global, line: &CommandLine, desk: &Desk) -> Result<Steps, Refusal>
-    requires { IsDesk desk.now }
-    ensures means { Means result (alone line.now exit) }
-    ensures within { IsWithin desk.now result }
-{
-    no_words(alloc, line)?;
-    exit(alloc, desk)
-}
-
-fn lone_quit(alloc: Global, line: &CommandLine, desk: &Desk) -> Result<Steps, Refusal>
-    requires { IsDesk desk.now }
-    ensures means { Means result (alone line.now (Ok (quit desk.now))) }
-    ensures within { IsWithin desk.now result }
-{
-    no_words(alloc, line)?;
-    Ok(quit(alloc, desk)?)
-}
-
-fn lone_scroll(alloc: Global, line: &CommandLine, desk: &Desk) -> Result<Steps, Refusal>
-    requires { IsDesk desk.now }
-    ensures means { Means result (alone line.now (scroll desk.now (bytes_eq line.now.word (codes "z-")))) }
-    ensures within { IsWithin desk.now result }
-{
-    no_words(alloc, line)?;
-    scroll(alloc, desk, line.word.bytes() == b"z-".as_slice())
-}
-
-// A change of a file is committed, and only once that was done the reply is said, and then the rest follows.
+// A change of a file is committed, and only once that was done the reply is printed, and then the rest follows.
 fn steps_of(alloc: Global, filing: Filing) -> Result<Steps, Memory>
     ensures { IfOk result (λ steps. steps ≡ steps_of filing) }
 {
@@ -156,25 +91,23 @@ fn filed(alloc: Global, desk: &Desk, filing: Result<Filing, Refusal>) -> Result<
 }
 
 /// What the command of a line asks for and what it changes, or the one line that refuses it. A refused command
-/// changes nothing. Nothing is said or done yet: the asks are carried out in order, and then `Desk::settle` carries
+/// changes nothing. Nothing is printed or done yet: the asks are carried out in order, and then `Desk::settle` carries
 /// out the changes.
 pub fn perform(alloc: Global, line: &CommandLine, desk: &Desk) -> Result<Steps, Refusal>
     requires { IsDesk desk.now }
     ensures means { Means result (meaning line.now desk.now) }
     ensures desk { IfOk result (λ steps. IsDesk (effect desk.now steps.effects)) }
 {
-    if is_built(line.command) {
-        carry_out(alloc, line, desk)
+    if has_words_too_many(line) {
+        Err(fault(alloc, name_of(line.word.bytes()), b": bad arguments"))
     } else {
-        Err(fault(alloc, name_of(line.word.bytes()), b": not built"))
+        carry_out(alloc, line, desk)
     }
 }
 
-// What the command of a line comes to, which is built; that the message which is current then is one is all that is
-// said of the desk.
+// What the command of a line comes to. Of the desk after it this promises only that its current message is one.
 fn carry_out(alloc: Global, line: &CommandLine, desk: &Desk) -> Result<Steps, Refusal>
     requires desk { IsDesk desk.now }
-    requires built { is_built line.now.command ≡ true }
     ensures means { Means result (meaning_of line.now.command line.now desk.now) }
     ensures within { IsWithin desk.now result }
 {
@@ -206,10 +139,10 @@ fn carry_out(alloc: Global, line: &CommandLine, desk: &Desk) -> Result<Steps, Re
         Command::Define => define(alloc, desk, words),
         Command::Call => call(alloc, desk, words),
         Command::Undef => undef(alloc, desk, words),
-        Command::Defines => lone_defines(alloc, line, desk),
+        Command::Defines => defines(alloc, desk),
         Command::Comment => Ok(quietly(alloc, unchanged(alloc))),
-        Command::Number => lone_number(alloc, line, desk),
-        Command::Help => lone_help(alloc, line, desk),
+        Command::Number => number(alloc, desk),
+        Command::Help => help(alloc, desk),
         Command::Copy => filed(alloc, desk, copy(alloc, desk, words)),
         Command::CopyByAuthor => filed(alloc, desk, copy_by_author(alloc, desk, words)),
         Command::Save => filed(alloc, desk, save(alloc, desk, words)),
@@ -219,15 +152,17 @@ fn carry_out(alloc: Global, line: &CommandLine, desk: &Desk) -> Result<Steps, Re
         Command::Mail => mail(alloc, desk, words),
         Command::Shell => shell(alloc, desk, line.rest.bytes()),
         Command::Pipe => pipe(alloc, name_of(line.word.bytes()), desk, words),
-        Command::Folders => lone_folders(alloc, line, desk),
+        Command::Folders => folders(alloc, desk),
         Command::Reply => reply(alloc, name_of(line.word.bytes()), desk, words),
         Command::ReplyAuthors => reply_authors(alloc, name_of(line.word.bytes()), desk, words),
         Command::Followup => followup(alloc, desk, words),
         Command::FollowupAuthors => followup_authors(alloc, desk, words),
-        Command::Quit => lone_quit(alloc, line, desk),
-        Command::Exit => lone_exit(alloc, line, desk),
-        Command::Scroll => lone_scroll(alloc, line, desk),
-        _ => unreachable!(),
+        Command::Quit => Ok(quit(alloc, desk)?),
+        Command::Exit => exit(alloc, desk),
+        Command::Scroll => scroll(alloc, desk, line.word.bytes() == b"z-".as_slice()),
+        Command::Newmail | Command::Sort | Command::Thread => {
+            Err(fault(alloc, name_of(line.word.bytes()), b": not built"))
+        }
     }
 }
 
@@ -235,56 +170,7 @@ fn carry_out(alloc: Global, line: &CommandLine, desk: &Desk) -> Result<Steps, Re
 pub(crate) fn is_built(command: Command) -> bool
     ensures { result ≡ is_built command }
 {
-    match command {
-        Command::Print
-        | Command::PrintAll
-        | Command::Top
-        | Command::From
-        | Command::Headers
-        | Command::Scroll
-        | Command::Next
-        | Command::Number
-        | Command::Echo
-        | Command::Size
-        | Command::Delete
-        | Command::DeleteAndPrint
-        | Command::Undelete
-        | Command::Hold
-        | Command::Mbox
-        | Command::Touch
-        | Command::Set
-        | Command::Unset
-        | Command::Source
-        | Command::Condition
-        | Command::Alias
-        | Command::Unalias
-        | Command::Alternates
-        | Command::Ignore
-        | Command::Retain
-        | Command::Define
-        | Command::Call
-        | Command::Undef
-        | Command::Defines
-        | Command::Help
-        | Command::Comment
-        | Command::Copy
-        | Command::CopyByAuthor
-        | Command::Save
-        | Command::SaveByAuthor
-        | Command::Write
-        | Command::File
-        | Command::Mail
-        | Command::Shell
-        | Command::Pipe
-        | Command::Folders
-        | Command::Reply
-        | Command::ReplyAuthors
-        | Command::Followup
-        | Command::FollowupAuthors
-        | Command::Quit
-        | Command::Exit => true,
-        _ => false,
-    }
+    !matches!(command, Command::Newmail | Command::Sort | Command::Thread)
 }
 
 /// Reads a line, or refuses it by its form.

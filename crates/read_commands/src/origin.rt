@@ -100,8 +100,8 @@ fn built(alloc: Global, line: &CommandLine) -> Result<(), Refusal>
     }
 }
 
-/// Reads a line from somewhere. It is refused by its form, then where its command isn't built, and else where it may
-/// not stand there: a start-up file holds settings, sets of fields, aliases, macros, conditions, `source`, `echo` and
+/// Reads a line from somewhere. It is refused by its form, then if its command isn't built, and else if it may not
+/// stand there: a start-up file holds settings, sets of fields, aliases, macros, conditions, `source`, `echo` and
 /// comments alone, and a draft can't leave itself.
 #[tactic(auto, using(command_desk::proofs::MeansLemmas::means_refused_by, command_desk::proofs::MeansLemmas::unless_none))]
 pub fn read_command(alloc: Global, origin: Origin, line: &[u8]) -> Result<CommandLine, Refusal>
@@ -146,7 +146,7 @@ fn perform_read(alloc: Global, origin: Origin, line: &[u8], desk: &Desk) -> Resu
     perform(alloc, &line, desk)
 }
 
-// What a line comes to where a definition is under way.
+// What a line comes to if a definition is under way.
 fn perform_defined(alloc: Global, line: &[u8], desk: &Desk) -> Result<Steps, Refusal>
     requires { IsDesk desk.now }
     ensures means { Means result (definition_line desk.now line.now) }
@@ -155,7 +155,7 @@ fn perform_defined(alloc: Global, line: &[u8], desk: &Desk) -> Result<Steps, Ref
     definition_line(alloc, desk, line)
 }
 
-// What a line comes to where no definition is under way.
+// What a line comes to if no definition is under way.
 fn perform_command(
     alloc: Global,
     origin: Origin,
@@ -180,7 +180,7 @@ pub fn is_defining(desk: &Desk) -> bool
     desk.macros.open()
 }
 
-/// What a line from somewhere comes to: where a definition is under way it is one of it; else nothing, where it is
+/// What a line from somewhere comes to: if a definition is under way it is one of it; else nothing, if it is
 /// passed over; else it is read first, and then its command is performed.
 pub fn perform_line(
     alloc: Global,

@@ -1,4 +1,4 @@
--- What a walk over aliases has added stays, and later names are met behind it.
+-- What a walk over aliases has added stays, and later names are met after it.
 use Rattle.std.proofs.Common.{◌≡◌, ℕ, zero, suc, List, [], ◌∷◌, ◌++◌, refl, sym, ap, ◌∙◌, true, false, Bool, append_assoc, length}
 use Rattle.std.specs.Prelude.{if◌then◌else◌, ◌&&◌}
 use Rattle.std.specs.declared.option.Option.{Option}
@@ -69,7 +69,7 @@ further-walk zero groups dropped opened names w = further-same w
 further-walk (suc depth) groups dropped opened names w =
     further-met_all (walk depth groups dropped) (further-walk depth groups dropped) groups dropped opened names w
 
--- names that follow others are met behind them
+-- names that follow others are met after them
 met-behind : (through : Through) (groups : List Group) (dropped opened names later : Names) (w : Walked)
     → met_all through groups dropped opened (names ++ later) w
     ≡ met_all through groups dropped opened later (met_all through groups dropped opened names w)

@@ -5,7 +5,7 @@ use Rattle.command_desk.specs.declared.desk.Desk.{Desk}
 use Rattle.send_rules.specs.declared.addressing.Recipients.{Recipients}
 use Rattle.send_rules.specs.Addressing.{addressees, names_of}
 
--- To shows what its names stand for, Cc what its names add behind that, and the names of Bcc add further recipients behind both
+-- To shows what its names stand for, Cc what its names add after that, and the names of Bcc add further recipients after both
 pub record IsInOrder (desk : Desk) (draft : Draft) (a : Recipients) : Type 0 where
   pub to : a.to ≡ names_of desk draft.to
   pub shown : a.to ++ a.cc ≡ names_of desk (draft.to ++ draft.cc)

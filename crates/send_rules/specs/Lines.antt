@@ -22,7 +22,7 @@ abbrev pub names_line : NamesFault → List ℕ
 names_line fault.NoRecipients = no_recipients
 names_line (fault.NotAnAddress name) = not_an_address name
 
--- the line that refuses names, where mail can't be sent to them
+-- the line that refuses names, if mail can't be sent to them
 abbrev pub names_refused : List (List ℕ) → Option (List ℕ)
 names_refused names = option_map names_line (names_fault names)
 

@@ -16,8 +16,8 @@ abbrev pub located : Desk → Option Change → OrFault (Option Change)
 located desk (Some (Add word texts)) = next (expanded desk word) (λ name. Ok (Some (Add name texts)))
 located desk other = Ok other
 
--- the change that records a text: into the file of this name where there is one, with `-F` into the one that is named after
--- the first recipient, what stands before its first `@` or the whole, and else into the file of the variable `record`, where that is set
+-- the change that records a text: into the file of this name if there is one, with `-F` into the one that is named after
+-- the first recipient, what stands before its first `@` or the whole, and else into the file of the variable `record`, if that is set
 abbrev pub recorded : Desk → List ℕ → Bool → Option (List ℕ) → List (List ℕ) → OrFault (Option Change)
 recorded desk text by_recipient (Some file) names = Ok (record_change text file true desk.vars)
 recorded desk text true None names =

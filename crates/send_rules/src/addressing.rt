@@ -19,7 +19,7 @@ pub struct Recipients {
     pub all: Items<Text>,
 }
 
-// The names that names stand for; None where they are more than 10,000.
+// The names that names stand for; None if they are more than 10,000.
 fn stands_for(alloc: Global, desk: &Desk, names: &[Text]) -> Result<Option<Items<Text>>, Memory>
     ensures { IfOk result (λ found. found ≡ stands_for desk.now names.now) }
 {
@@ -31,7 +31,7 @@ fn stands_for(alloc: Global, desk: &Desk, names: &[Text]) -> Result<Option<Items
     }
 }
 
-// Names, and more behind them.
+// Names, and more after them.
 fn with_more(alloc: Global, names: &[Text], more: &[Text]) -> Result<Items<Text>, Memory>
     ensures { IfOk result (λ all. all ≡ names.now ++ more.now) }
 {
@@ -41,7 +41,7 @@ fn with_more(alloc: Global, names: &[Text], more: &[Text]) -> Result<Items<Text>
     Ok(Items::of(all))
 }
 
-// What is left of names behind so many.
+// What is left of names after the first `count`.
 fn behind(names: &[Text], count: usize) -> &[Text]
     ensures { result.now ≡ drop count names.now }
 {
@@ -70,7 +70,7 @@ fn all_of(
 }
 
 /// Whom a draft goes to, once the aliases among its names are expanded: To, what Cc adds to that, and all that the
-/// message is sent to, those of Bcc too. None where one of these has more than 10,000 names.
+/// message is sent to, those of Bcc too. None if one of these has more than 10,000 names.
 pub fn addressees(alloc: Global, desk: &Desk, draft: &Draft) -> Result<Option<Recipients>, Memory>
     ensures { IfOk result (λ found. found ≡ addressees desk.now draft.now) }
 {

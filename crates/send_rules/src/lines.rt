@@ -52,7 +52,7 @@ fn names_line(alloc: Global, fault: NamesFault) -> Result<Text, Memory>
     }
 }
 
-/// The line that refuses names: `no recipients` where there is none, or the first that is no address. None where mail
+/// The line that refuses names: `no recipients` if there is none, or the first that is no address. None if mail
 /// can be sent to them.
 pub fn names_refused(alloc: Global, names: &[Text]) -> Result<Option<Text>, Memory>
     ensures { IfOk result (λ line. line ≡ names_refused names.now) }

@@ -46,7 +46,7 @@ fn by_first(
     Ok(record_change(alloc, text, file.bytes(), true, &desk.vars)?)
 }
 
-// The change that records a text in the file of the variable `record`, where that is set.
+// The change that records a text in the file of the variable `record`, if that is set.
 fn by_variable(alloc: Global, desk: &Desk, text: &[u8]) -> Result<Option<Change>, Refusal>
     ensures { Means result (recorded desk.now text.now false None []) }
 {
@@ -54,9 +54,9 @@ fn by_variable(alloc: Global, desk: &Desk, text: &[u8]) -> Result<Option<Change>
     located(alloc, desk, change)
 }
 
-/// The change that records a text: into the file of this name where there is one, with `by_recipient` (`-F`) into the
+/// The change that records a text: into the file of this name if there is one, with `by_recipient` (`-F`) into the
 /// one that is named after the first of the names, what stands in it before the first `@`, and else into the file of
-/// the variable `record`. None where that is unset. Refused is a name after a recipient that is empty or holds `/`
+/// the variable `record`. None if that is unset. Refused is a name after a recipient that is empty or holds `/`
 /// (`bad name`), and a value of `record` that stands for no file.
 pub fn recorded(
     alloc: Global,
@@ -75,7 +75,7 @@ pub fn recorded(
     }
 }
 
-/// The change that puts a text into the file of dead letters; None where the variable `save` is unset.
+/// The change that puts a text into the file of dead letters; None if the variable `save` is unset.
 pub fn dead(alloc: Global, desk: &Desk, text: &[u8]) -> Result<Option<Change>, Memory>
     ensures { IfOk result (λ change. change ≡ dead desk.now text.now) }
 {

@@ -38,20 +38,20 @@ abbrev pub refused_names : NamesFault → SendError
 refused_names fault.NoRecipients = error.NoRecipients
 refused_names (fault.NotAnAddress name) = error.NotAnAddress name
 
--- the error is of the sender, or want of memory, and not of the names; a refusal has another status than 0
+-- the error is of the sender, or that memory ran out, and not of the names; a refusal has another status than 0
 abbrev pub IsOfSender : SendError → Type 0
 IsOfSender (error.Refused status output) = int_eq status (pos 0) ≡ false
 IsOfSender error.Child = Unit {0}
 IsOfSender error.Memory = Unit {0}
 IsOfSender e = ⊥
 
--- what a call answered, as the end of a play: want of memory cuts the play off
+-- what a call answered, as the end of a play: running out of memory cuts the play off
 abbrev pub as_played : Result (List ℕ) SendError → Result (Result (List ℕ) SendError) Stop
 as_played (Ok output) = Ok (Ok output)
 as_played (Err error.Memory) = Err stop.Memory
 as_played (Err e) = Ok (Err e)
 
--- the sender could not be run only where the count of such faults rose
+-- the sender could not be run only if the count of such faults rose
 abbrev pub SendCause : Counts → Counts → Result (List ℕ) SendError → Type 0
 SendCause old new (Err error.Child) = Rose old.children new.children
 SendCause old new result = Unit {0}

@@ -32,7 +32,7 @@ fn first_bad(names: &[Text]) -> Option<&Text>
     names.iter().find(|name| !is_address(name.bytes()))
 }
 
-/// Why mail can't be sent to these names, where it can't: there is none, or the first bad one, which is empty, begins
+/// Why mail can't be sent to these names, if it can't: there is none, or the first bad one, which is empty, begins
 /// with `-`, or holds a byte below 33 or the byte 127.
 pub fn names_fault(alloc: Global, names: &[Text]) -> Result<Option<NamesFault>, Memory>
     ensures { IfOk result (λ fault. fault ≡ names_fault names.now) }
@@ -49,7 +49,7 @@ pub fn names_fault(alloc: Global, names: &[Text]) -> Result<Option<NamesFault>, 
     }
 }
 
-/// A law: where mail can be sent to names, none of them begins with `-`, so that the sender takes none for a flag; none
+/// A law: if mail can be sent to names, none of them begins with `-`, so that the sender takes none for a flag; none
 /// is empty, and none holds a blank, a line feed or a zero byte.
 pub fn names_are_plain()
     ensures { (names : List (List ℕ)) → names_fault names ≡ None → All IsPlainName names }

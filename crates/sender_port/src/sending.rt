@@ -11,7 +11,7 @@ use mailx_vars::Vars;
 use session_play::run_child;
 use std::alloc::Global;
 
-// The program that takes mail: what the variable `sendmail` says, or its usual path where that is unset or empty.
+// The program that takes mail: what the variable `sendmail` says, or its usual path if that is unset or empty.
 fn program_of(vars: &Vars) -> &[u8]
     ensures { result.now ≡ program_of vars.now }
 {
@@ -51,7 +51,7 @@ fn sent(answer: Option<ChildAnswer>) -> Result<Text, SendError>
 
 /// Sends a message to names: runs the sender with the arguments `-i` and the names, and the message as its input.
 /// Answers what it wrote. Names that can't be sent to are refused before anything is done. `Refused` comes exactly
-/// where the sender ends with another status than 0, and `Child` where it could not be run.
+/// if the sender ends with another status than 0, and `Child` if it could not be run.
 pub fn send<H: Host>(
     alloc: Global,
     vars: &Vars,

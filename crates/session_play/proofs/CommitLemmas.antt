@@ -60,7 +60,7 @@ commit-caused old now (Err (error.TooManyNames n)) h = tt
 commit-caused old now (Err (error.Disk passed)) h = h
 commit-caused old now (Err error.Memory) h = tt
 
--- a fault of the disk and want of memory alone cut off
+-- a fault of the disk and running out of memory alone cut off
 pub commit-cut : (answer : Result Unit CommitError) → IfErr (taken answer) IsLoadCut
 commit-cut (Ok u) = tt
 commit-cut (Err (error.Busy name)) = tt

@@ -35,7 +35,7 @@ at-event bytes failed result i j d e took is =
 pub filled-err : (i : Input) → next_line i ≡ None → (d : Disk) (e : Event) → e ≡ event.In [] true → Agrees d e × TookSome (Err stop.Input) i i (own (e ∷ []))
 filled-err i none d e is = at-event [] true (Err stop.Input) i i d e ([], i, record { reads = refl; none = none }, refl) is
 
--- what follows where bytes were put behind the unused ones
+-- what follows if bytes were put after the unused ones
 pub in-cause : (old new : Counts) (result : Result Unit Stop) (i j : Input) (bytes : List ℕ) → TookIn result i bytes j → Caused old new result
 in-cause old new (Ok u) i j bytes t = tt
 in-cause old new (Err stop.TooMuch) i j bytes t = tt

@@ -8,7 +8,7 @@ use Rattle.session_play.specs.declared.stop.Stop.{Stop}
 use Rattle.session_play.specs.declared.stop.Stop.TheVariants as stop
 use Rattle.session_play.specs.Play.{Play, Ret, Ask, bind, Goes}
 
--- want of memory may come before any act
+-- memory may run out before any act
 pub at-memory : {R : Type 0} (p : Play R) → Goes p [] (Err stop.Memory)
 at-memory (Ret r) = (refl, inr refl)
 at-memory (Ask act go) = inr (stop.Memory, refl, inl (refl, refl))

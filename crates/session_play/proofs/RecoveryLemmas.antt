@@ -61,7 +61,7 @@ recovery-caused old now (Err (error.TooLarge name n)) h = tt
 recovery-caused old now (Err error.Disk) h = h
 recovery-caused old now (Err error.Memory) h = tt
 
--- a fault of the disk and want of memory alone cut off
+-- a fault of the disk and running out of memory alone cut off
 pub recovery-cut : (result : Result Recovered RecoverError) → IfErr (recovered result) IsLoadCut
 recovery-cut (Ok f) = tt
 recovery-cut (Err (error.Busy name)) = tt

@@ -17,7 +17,7 @@ loads_nothing (Changes c) = false
 loads_nothing (Recover actor token) = false
 loads_nothing act = true
 
--- Where a failed load cuts the run off, none is only tried, and nothing is committed or recovered; elsewhere each load is only tried.
+-- If a failed load cuts the run off, none is only tried, and nothing is committed or recovered; elsewhere each load is only tried.
 abbrev pub may_load : Bool → Act → Bool
 may_load true (Try name) = false
 may_load true (Changes c) = false

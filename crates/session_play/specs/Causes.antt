@@ -43,7 +43,7 @@ bytes_in [] = 0
 bytes_in (event.In bytes failed ∷ es) = length bytes + bytes_in es
 bytes_in (e ∷ es) = bytes_in es
 
--- the events, where they count
+-- the events, if they count
 abbrev pub counted : Bool → List Event → List Event
 counted true es = es
 counted false es = []
@@ -73,8 +73,8 @@ commits_in {round = round} (again {x = x} {y = y} front rest is goes more) = com
 commits_in {round = round} (last {x = x} {es = es} {r = r} goes) = commits_of (round x) es (Ok (Last r)) goes
 commits_in {round = round} (cut {x = x} {es = es} {cause = cause} goes) = commits_of (round x) es (Err cause) goes
 
--- Each cut but the one for want of memory comes exactly with its events: a fault of the disk with a failed load among `loads`, or with a call
--- that failed among the events of commits and recoveries.
+-- Each cut but the one when memory ran out comes exactly with its events: a fault of the disk with a failed load among `loads`, or with a
+-- call that failed among the events of commits and recoveries.
 pub record IsExplained {R : Type 0} (out : Result R Stop) (es loads commits : List Event) : Type 0 where
   pub input : (out ≡ Err stop.Input) ↔ (some_in_failed es ≡ true)
   pub output : (out ≡ Err stop.Output) ↔ (some_out_failed es ≡ true)

@@ -41,7 +41,7 @@ IsCommitOf c es answer = IsCommit c.actor c.token c.changes c.base es answer
 abbrev pub FailsIn : Commit → List Event → Type 0
 FailsIn c es = (passed : Passed) × IsCommitOf c es (Err (error.Disk passed))
 
--- what a run makes of a commit's answer: a fault of the disk and want of memory cut it off
+-- what a run makes of a commit's answer: a fault of the disk and running out of memory cut it off
 abbrev pub taken : Result Unit CommitError → Result Committed Stop
 taken (Ok u) = Ok committed.Done
 taken (Err (error.Busy name)) = Ok (committed.Busy name)

@@ -2,7 +2,7 @@
 use Rattle.session_play.specs.declared.stop.Stop.{Stop}
 use Rattle.session_play.specs.declared.stop.Stop.TheVariants as stop
 
--- a load is cut off by a fault of the disk, or for want of memory
+-- a load is cut off by a fault of the disk, or since memory ran out
 abbrev pub IsLoadCut : Stop → Type 0
 IsLoadCut stop.Disk = Unit {0}
 IsLoadCut stop.Memory = Unit {0}

@@ -16,7 +16,7 @@ pub record IsReading (bytes : List ℕ) (at clear taken : ℕ) : Type 0 where
   pub limit : taken ≤ input_limit
   pub no_feed : NoFeed (drop at bytes) clear
 
--- Bytes were put behind the unused ones. Else nothing changed: they pass the limit, or memory is wanting, which the end never needs.
+-- Bytes were put after the unused ones. Else nothing changed: they pass the limit, or memory ran out, as it never does at the end.
 abbrev pub TookIn : Result Unit Stop → Input → List ℕ → Input → Type 0
 TookIn (Ok u) i bytes j = (i.taken + length bytes ≤ input_limit) × (j ≡ took i bytes)
 TookIn (Err stop.TooMuch) i bytes j = (input_limit < i.taken + length bytes) × (j ≡ i)

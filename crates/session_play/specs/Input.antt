@@ -24,7 +24,7 @@ abbrev pub onto_first : ℕ → Option (List ℕ × List ℕ) → Option (List �
 onto_first b None = None
 onto_first b (Some p) = Some (b ∷ p.0, p.1)
 
--- the bytes before the first line feed, and the bytes behind it
+-- the bytes before the first line feed, and the bytes after it
 abbrev pub first_line : List ℕ → Option (List ℕ × List ℕ)
 first_line [] = None
 first_line (b ∷ bs) = if b == 10 then Some ([], bs) else onto_first b (first_line bs)

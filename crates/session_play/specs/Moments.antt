@@ -4,7 +4,7 @@ use Rattle.mail_dates.specs.declared.moment.Moment.{Moment}
 use Rattle.mail_dates.specs.declared.zone.Zone.{Zone}
 use Rattle.mail_dates.specs.Zones.{IsRule, HasRule, zone_offset, within_years}
 
--- the zone is that of the rule of a TZ text; where the text is no rule its clocks show UTC
+-- the zone is that of the rule of a TZ text; if the text is no rule its clocks show UTC
 abbrev pub IsZoneOf : List ℕ → Zone → Type 0
 IsZoneOf tz zone = HasRule tz zone ⊎ ((¬ IsRule tz) × ((seconds : ℤ) → zone_offset zone seconds ≡ pos 0))
 

@@ -26,10 +26,10 @@ use Rattle.session_play.specs.declared.stop.Stop.TheVariants as stop
 use Rattle.session_play.specs.Input.{Input, input_limit, buffer_size, next_line, Reads}
 use Rattle.session_play.specs.Moments.{IsMomentAt}
 
--- What a run asks: the next line of its input; to say bytes; to load a file, where a failure cuts the run off; to try to load one, where a
--- failure is an answer; to commit changes of files, where a fault of the disk cuts the run off; to recover what a stopped commit of an actor has
--- left, where such a fault does so too; to run a program with arguments and an input, where a failure is an answer; the moment that it is, in the
--- zone of a TZ text; and the rows of some texts, which it finds without the outside.
+-- What a run asks: the next line of its input; to print bytes; to load a file (a failure cuts the run off); to try to load one (a failure is
+-- an answer); to commit changes of files (a fault of the disk cuts the run off); to recover what a stopped commit of an actor has left (such a
+-- fault does so too); to run a program with arguments and an input (a failure is an answer); the moment that it is, in the zone of a TZ text;
+-- and the rows of some texts, which it finds without the outside.
 pub data Act : Type 0 where
   Line : Input → Act
   Say : List ℕ → Act
@@ -41,8 +41,8 @@ pub data Act : Type 0 where
   Now : List ℕ → Act
   Know : List (List ℕ) → Act
 
--- what it is answered: the line, or none at the end, with the input that is left; nothing; what the load found; the same, or none where the
--- load failed; what the commit answers; what the recovery answers; what the program answers, or none where it could not be run; the moment;
+-- what it is answered: the line, or none at the end, with the input that is left; nothing; what the load found; the same, or none if the
+-- load failed; what the commit answers; what the recovery answers; what the program answers, or none if it could not be run; the moment;
 -- the rows
 abbrev pub Answer : Act → Type 0
 Answer (Line i) = Option (List ℕ) × Input
@@ -78,7 +78,7 @@ SaysInPart bytes (event.Out front false ∷ es) = (rest : List ℕ) × (bytes �
 SaysInPart bytes (event.Out front true ∷ es) = (rest : List ℕ) × (bytes ≡ front ++ rest) × (es ≡ [])
 SaysInPart bytes (e ∷ es) = ⊥
 
--- what the event of a load says where it found something
+-- what the event of a load says if it found something
 abbrev pub seen_of : Found → Seen
 seen_of (found.Bytes bytes held) = seen.Bytes bytes held
 seen_of (found.TooLarge n) = seen.TooLarge n
@@ -126,7 +126,7 @@ Partly (Recover actor token) stop.Memory es = IsRecoveryOf actor token es (Err r
 Partly (Child program args input) stop.Memory es = es ≡ event.Child program args input None false ∷ []
 Partly act cause es = ⊥
 
--- The events are those of the play, to its end or to where it was cut off. Want of memory may come at any place.
+-- The events are those of the play, to its end or to where it was cut off. Memory may run out at any place.
 abbrev pub Goes : {R : Type 0} → Play R → List Event → Result R Stop → Type 0
 Goes (Ret r) es out = (es ≡ []) × ((out ≡ Ok r) ⊎ (out ≡ Err stop.Memory))
 Goes (Ask act k) es out =
@@ -156,7 +156,7 @@ pub record Whole {X R : Type 0} (round : X → Play (Next X R)) (opening : X) (E
   pub plays : Loop round opening front out
   pub ending : Ending out behind
 
--- each cause of a cut but the limit and want of memory comes only where the count of its kind rose
+-- each cause of a cut but the limit and running out of memory comes only if the count of its kind rose
 abbrev pub Caused : {T : Type 0} → Counts → Counts → Result T Stop → Type 0
 Caused old new (Err stop.Input) = Rose old.ins new.ins
 Caused old new (Err stop.Output) = Rose old.outs new.outs

@@ -25,7 +25,7 @@ recovery_as (recovery.TooLarge name length) = Err (error.TooLarge name length)
 abbrev pub IsRecoveryOf : List ℕ → ℕ → List Event → Result Recovered RecoverError → Type 0
 IsRecoveryOf actor token es result = Recovers (recovery_for actor token) es result
 
--- what a run makes of a recovery's answer: a fault of the disk and want of memory cut it off
+-- what a run makes of a recovery's answer: a fault of the disk and running out of memory cut it off
 abbrev pub recovered : Result Recovered RecoverError → Result RecoveryAnswer Stop
 recovered (Ok found) = Ok (recovery.Done found)
 recovered (Err (error.Busy name)) = Ok (recovery.Busy name)

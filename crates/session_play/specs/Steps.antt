@@ -22,7 +22,7 @@ abbrev pub in_order : {S R A : Type 0} → (S → A → Play (After S R)) → S 
 in_order asked s [] = Ret (On s)
 in_order asked s (a ∷ rest) = bind (asked s a) (onward (λ t. in_order asked t rest))
 
--- the line that refuses a command is said, and nothing is changed
+-- the line that refuses a command is printed, and nothing is changed
 abbrev pub refused : {S R : Type 0} → S → List ℕ → Play (Next S R)
 refused s line = Ask (Say line) (λ _. Ret (Go s))
 

@@ -17,7 +17,7 @@ use std::alloc::Global;
 /// What a load found.
 #[derive(Drop, Debug)]
 pub enum Found {
-    /// The whole file, or None where it is absent, and whether a lock on its name stood.
+    /// The whole file, or None if it is absent, and whether a lock on its name stood.
     Bytes { bytes: Option<Text>, held: bool },
     /// A file of this many bytes, more than a load takes.
     TooLarge { length: u64 },
@@ -60,7 +60,7 @@ pub fn load<H: Host>(alloc: Global, host: &mut H, name: &[u8]) -> Result<Found, 
     }
 }
 
-/// Tries to load a file; None where the load fails.
+/// Tries to load a file; None if the load fails.
 pub fn try_load<H: Host>(alloc: Global, host: &mut H, name: &[u8]) -> Result<Option<Found>, Stop>
     requires { IsFileName name.now }
     ensures ran { Ran H.world host.old host.new (λ es. Goes (Ask (Try name.now) Ret) es result) }
@@ -75,7 +75,7 @@ pub fn try_load<H: Host>(alloc: Global, host: &mut H, name: &[u8]) -> Result<Opt
     }
 }
 
-/// Runs a program with these arguments and this input, and waits for its end; None where it could not be run.
+/// Runs a program with these arguments and this input, and waits for its end; None if it could not be run.
 pub fn run_child<H: Host>(
     alloc: Global,
     host: &mut H,
@@ -98,7 +98,7 @@ pub fn run_child<H: Host>(
     }
 }
 
-// The zone of a TZ text; UTC where the text is no POSIX rule.
+// The zone of a TZ text; UTC if the text is no POSIX rule.
 fn zone_in(alloc: Global, tz: &[u8]) -> Result<Zone, Memory>
     ensures { IfOk result (IsZoneOf tz.now) }
 {
@@ -109,8 +109,8 @@ fn zone_in(alloc: Global, tz: &[u8]) -> Result<Zone, Memory>
     }
 }
 
-/// The moment that it is, in the zone of a TZ text; in UTC where the text is no POSIX rule (POSIX.1-2017, Base
-/// Definitions, 8.3). Only want of memory can fail.
+/// The moment that it is, in the zone of a TZ text; in UTC if the text is no POSIX rule (POSIX.1-2017, Base
+/// Definitions, 8.3). Fails only if memory runs out.
 pub fn now<H: Host>(alloc: Global, host: &mut H, tz: &[u8]) -> Result<Moment, Stop>
     ensures ran { Ran H.world host.old host.new (λ es. Goes (Ask (Now tz.now) Ret) es result) }
     ensures cause { Caused (H.world.counts host.old) (H.world.counts host.new) result }

@@ -18,7 +18,7 @@ use mail_text::Text;
 use mbox_scan::Folder;
 use std::alloc::Global;
 
-/// What a commit is answered, faults and want of memory aside.
+/// What a commit is answered, faults and running out of memory aside.
 #[derive(Drop, Debug)]
 pub enum Committed {
     /// All was done, or there was nothing to do.
@@ -29,9 +29,9 @@ pub enum Committed {
     NotARecord,
     /// The file of this name has changed at this message.
     Changed { name: Text, at: u64 },
-    /// The file of this name has or would have so many bytes.
+    /// The file of this name has or would have `length` bytes.
     TooLarge { name: Text, length: u64 },
-    /// The changes name so many files, more than one commit takes.
+    /// The changes name `count` files, more than one commit takes.
     TooManyNames { count: u64 },
 }
 
@@ -52,8 +52,8 @@ fn taken(answer: Result<(), CommitError>) -> Result<Committed, Stop>
 }
 
 /// Makes changes of up to 16 files as one commit of this actor, under a token that no other run has. `base` is the
-/// folder that a rewrite among them was made for. A fault of the disk and want of memory cut the run off; all else is
-/// an answer.
+/// folder that a rewrite among them was made for. A fault of the disk and running out of memory cut the run off; all
+/// else is an answer.
 pub fn change<H: Host>(
     alloc: Global,
     host: &mut H,

@@ -1,4 +1,4 @@
-// Input by lines, taken where no whole line is buffered.
+// Input by lines, taken when no whole line is buffered.
 ghost use Rattle.std.specs.Prelude.{◌≡◌, ◌≢◌, ◌⊎◌, None, ◌<◌, ◌≤◌, List, ℕ, length, slice_index, true, false, IfOk, OnOk, OnErr, OnSome, IfSome, IfNone};
 ghost use Rattle.host_port.specs.Ran.{Ran};
 ghost use Rattle.session_play.specs.Input.{next_line, left, Handed, no_input, input_limit};
@@ -42,7 +42,7 @@ impl Model for Reader {
     ghost invariant = { λ r. IsReading r.bytes.items r.at r.clear r.taken };
 }
 
-// The first line feed, where none stands in front of `from`.
+// The first line feed. None stands in front of `from`.
 fn find_line(bytes: &[u8], from: usize) -> Option<usize>
     requires within { from ≤ length bytes.now }
     requires clear { NoFeed bytes.now from }
@@ -111,7 +111,7 @@ impl Reader {
         self.at = 0;
     }
 
-    // Puts bytes behind the unused ones. None are the end.
+    // Puts bytes after the unused ones. None are the end.
     fn take_in(&mut self, bytes: &[u8]) -> Result<(), Stop>
         requires { self.old.ended ≡ false }
         ensures { TookIn result self.old bytes.now self.new }
@@ -132,7 +132,7 @@ impl Reader {
         }
     }
 
-    // Takes more input, where nothing can be handed out.
+    // Takes more input, when nothing can be handed out.
     fn fill<H: Host>(&mut self, host: &mut H) -> Result<(), Stop>
         requires { next_line self.old ≡ None }
         ensures ran { Ran H.world host.old host.new (TookSome result self.old self.new) }

@@ -13,7 +13,7 @@ use host_port::Host;
 use mail_text::Text;
 use std::alloc::Global;
 
-/// What a recovery is answered, faults and want of memory aside.
+/// What a recovery is answered, faults and running out of memory aside.
 #[derive(Drop, Debug)]
 pub enum RecoveryAnswer {
     /// No record stands any more: there was none, or its commit was carried out or undone.
@@ -22,7 +22,7 @@ pub enum RecoveryAnswer {
     Busy { name: Text },
     /// The file of the record is no record.
     NotARecord,
-    /// The file of this name, the record or a staged one, has so many bytes, more than a load takes.
+    /// The file of this name, the record or a staged one, has `length` bytes, more than a load takes.
     TooLarge { name: Text, length: u64 },
 }
 
@@ -44,7 +44,7 @@ fn recovered(answer: Result<Recovered, RecoverError>) -> Result<RecoveryAnswer, 
 }
 
 /// Recovers what a stopped commit of this actor has left: a commit that was decided is carried out, one that wasn't is
-/// undone. A fault of the disk and want of memory cut the run off; all else is an answer.
+/// undone. A fault of the disk and running out of memory cut the run off; all else is an answer.
 pub fn recovery<H: Host>(alloc: Global, host: &mut H, actor: &[u8]) -> Result<RecoveryAnswer, Stop>
     requires short { length actor.now ≤ actor_limit }
     requires no_zero { has_no_zero actor.now ≡ true }

@@ -20,7 +20,7 @@ fn bringing(alloc: Global, name: Text) -> Result<Steps, Memory>
     })
 }
 
-// The same for the file that a word stands for.
+// The lines of the file that a word stands for are asked for, and nothing is changed.
 fn source_word(alloc: Global, desk: &Desk, word: &[u8]) -> Result<Steps, Refusal>
     ensures means { Means result (source desk.now (word.now ∷ [])) }
     ensures within { IsWithin desk.now result }

@@ -11,7 +11,7 @@ pub pieces-more : {X : Type 0} (f : X → List ℕ) (xs : List X) (i : ℕ) (d :
 pieces-more f xs i d within =
     ap (flat_map f) (take_more xs i d within) ∙ flat_map-append f (take i xs) (get_or xs i d ∷ []) ∙ ap (λ (l : List ℕ). flat_map f (take i xs) ++ l) (append-nil (f (get_or xs i d)))
 
--- words joined by a byte: the first, and each other behind that byte
+-- words joined by a byte: the first, and each other after that byte
 pub joined-first : (c : ℕ) (w : List ℕ) (ws : List (List ℕ)) → join_with_byte c (w ∷ ws) ≡ w ++ flat_map (λ v. c ∷ v) ws
 joined-first c w [] = sym (append-nil w)
 joined-first c w (v ∷ vs) = ap (λ (l : List ℕ). w ++ c ∷ l) (joined-first c v vs)

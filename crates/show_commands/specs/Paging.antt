@@ -22,7 +22,7 @@ page_size desk = next (number_of_variable desk.vars (codes "screen")) (λ n. Ok 
 abbrev pub page_of : Desk → ℕ → ℕ → ℕ
 page_of desk n size = unwrap_or (place_of desk.shown n) 0 / size
 
--- the summary lines of a page are said, with the current message that is left
+-- the summary lines of a page are printed, with the current message that is left
 abbrev pub says_page : Desk → ℕ → ℕ → Effects → OrFault Steps
 says_page desk page size effects =
     let shown = record desk.shown { current = unwrap_or effects.current desk.shown.current } in
@@ -53,13 +53,13 @@ headers desk (w ∷ ws) =
     next (page_size desk) (λ size.
     page_of_message desk n size)))
 
--- a page, where its first place is in the view
+-- a page, if its first place is in the view
 abbrev pub turned : Desk → ℕ → ℕ → OrFault Steps
 turned desk page size =
     if nat_lt (page * size) (length desk.shown.order) then says_page desk page size unchanged
     else Err at_end
 
--- the page after the last one said, or the one before it
+-- the page after the last one printed, or the one before it
 abbrev pub scrolled : Desk → Bool → ℕ → OrFault Steps
 scrolled desk true size = if desk.page == 0 then Err at_end else turned desk (desk.page - 1) size
 scrolled desk false size = turned desk (desk.page + 1) size

@@ -42,12 +42,12 @@ top desk words =
     next (number_of_variable desk.vars (codes "toplines")) (λ count.
     says (flat_map (topped desk count) ns) (marked_and_written Look ns)))
 
--- the message is printed, where there is one
+-- the message is printed, if there is one
 abbrev pub print_next : Desk → Option ℕ → OrFault Steps
 print_next desk (Some n) = says (printed desk Kept n) (marked_and_written Look (n ∷ []))
 print_next desk None = Err at_end
 
--- what `next` prints: the current message where it is live and unwritten, else the next live one in the view
+-- what `next` prints: the current message if it is live and unwritten, else the next live one in the view
 abbrev pub following : Desk → Option ℕ
 following desk =
     let current = desk.shown.current in

@@ -25,7 +25,7 @@ size_line desk n = with_feed (decimal n ++ codes ": " ++ decimal (length (messag
 abbrev pub size : Desk → List (List ℕ) → OrFault Steps
 size desk words = next (chosen Any desk words) (λ ns. says (flat_map (size_line desk) ns) unchanged)
 
--- `=`: the number of the current message, 0 where there is none
+-- `=`: the number of the current message, 0 if there is none
 abbrev pub number : Desk → OrFault Steps
 number desk = says (with_feed (decimal desk.shown.current)) unchanged
 

@@ -110,7 +110,7 @@ pub fn headers(alloc: Global, desk: &Desk, words: &[Text]) -> Result<Steps, Refu
     page_of_message(alloc, desk, n, size)
 }
 
-// Says a page, where its first place is in the view.
+// Prints a page, if its first place is in the view.
 fn turned(alloc: Global, desk: &Desk, page: usize, size: usize) -> Result<Steps, Refusal>
     requires { IsDesk desk.now }
     ensures means { Means result (turned desk.now page size) }
@@ -124,7 +124,7 @@ fn turned(alloc: Global, desk: &Desk, page: usize, size: usize) -> Result<Steps,
     }
 }
 
-// Says the page before the last one said.
+// Prints the page before the last one printed.
 fn scrolled_back(alloc: Global, desk: &Desk, size: usize) -> Result<Steps, Refusal>
     requires { IsDesk desk.now }
     ensures means { Means result (scrolled desk.now true size) }
@@ -137,7 +137,7 @@ fn scrolled_back(alloc: Global, desk: &Desk, size: usize) -> Result<Steps, Refus
     }
 }
 
-// Says the page after the last one said.
+// Prints the page after the last one printed.
 fn scrolled_on(alloc: Global, desk: &Desk, size: usize) -> Result<Steps, Refusal>
     requires desk { IsDesk desk.now }
     requires some { 0 < size }

@@ -91,7 +91,7 @@ pub fn top(alloc: Global, desk: &Desk, words: &[Text]) -> Result<Steps, Refusal>
     says(alloc, out, effects)
 }
 
-// Prints the message, where there is one.
+// Prints the message, if there is one.
 fn print_next(alloc: Global, desk: &Desk, n: Option<u32>) -> Result<Steps, Refusal>
     requires desk { IsDesk desk.now }
     requires message { IfSome n (IsMessageOf desk.now.shown) }
@@ -121,7 +121,7 @@ fn following(desk: &Desk) -> Option<u32>
     next_live(&desk.shown, current)
 }
 
-// The same in the view by number.
+// The first of some messages that stands after the current one in the view by number.
 fn least_above(desk: &Desk, numbers: &[u32]) -> Option<u32>
     requires desk { IsDesk desk.now }
     requires by_number { desk.now.shown.order ≡ range_with_len 1 (length desk.now.shown.order) }

@@ -75,7 +75,7 @@ pub fn number(alloc: Global, desk: &Desk) -> Result<Steps, Refusal>
     says(alloc, out, unchanged(alloc))
 }
 
-// Puts words, each behind a space.
+// Puts words, each after a space.
 fn put_rest(out: &mut Text, words: &[Text]) -> Result<(), Memory>
     ensures { OnOk result (out.new ≡ out.old ++ flat_map (λ word. 32 ∷ word) words.now) }
 {

@@ -32,7 +32,7 @@ four f a b c = simp append_assoc
 abbrev going : ℕ → List Entry → Record
 going t es = record { phase = Go; token = t; entries = es }
 
--- what stands behind the front
+-- what stands after the front
 abbrev behind : List Entry → List ℕ
 behind es = line (codes "entries " ++ decimal (length es)) ++ (flat_map entry_line es ++ line (codes "end"))
 

@@ -14,7 +14,7 @@ use Rattle.commit_record.specs.Format.{token_digits}
 use Rattle.commit_record.specs.Names.{is_lawful, is_staged_end, is_lower_hex}
 use Rattle.commit_machine.specs.Names.{record_name, new_name, staged_name, is_record_name}
 
--- what stands behind two equal fronts is equal, and the other way round
+-- what stands after two equal fronts is equal, and the other way round
 behind : (a b c : List ℕ) → a ++ b ≡ a ++ c → b ≡ c
 behind [] b c e = e
 behind (x ∷ xs) b c e = behind xs b c (cc)

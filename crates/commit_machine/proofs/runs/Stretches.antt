@@ -16,7 +16,7 @@ module _ (j : Job) where
   undoing_twice r [] ls = unlocking_twice r ls
   undoing_twice r (n ∷ ns) ls = refl
 
-  -- want of memory met twice is met once
+  -- running out of memory twice is as running out once
   pub refused_twice : (s : State) → refused j (refused j s) ≡ refused j s
   refused_twice Seizing = refl
   refused_twice Looking = refl
@@ -45,7 +45,7 @@ module _ (j : Job) where
   refused_twice (Releasing e) = refl
   refused_twice (Ended e) = refl
 
-  -- what goes on from where want of memory was met goes on from before it
+  -- what goes on from where memory ran out goes on from before it
   after_refusal : (s : State) (es : List Event) (last : State) → Goes j (refused j s) es last → Goes j s es last
   after_refusal s [] last (inl e) = inr e
   after_refusal s [] last (inr e) = inr (sym (refused_twice s) ∙ e)

@@ -15,7 +15,7 @@ use Rattle.commit_machine.specs.Troubles.{MayEnd, release, clean_up, record_too_
 use Rattle.commit_machine.proofs.runs.Stretches.{goes_then}
 use Rattle.commit_machine.proofs.runs.Worked.{alone_goes}
 
--- events behind the first k of the commit
+-- events after the first k of the commit
 behind : (k : ℕ) (es : List Event) (last : State) → Goes one_file (alone_last k one_file Seizing nothing) es last → Goes one_file Seizing (alone k one_file Seizing nothing ++ es) last
 behind k es last more = goes_then one_file (alone k one_file Seizing nothing) es Seizing (alone_last k one_file Seizing nothing) last (alone_goes k one_file Seizing nothing).0 more
 

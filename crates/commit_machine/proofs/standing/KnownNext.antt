@@ -125,7 +125,7 @@ module _ (j : Job) (d : Disk) where
   none_set : Subset [] (all_of j)
   none_set = record { each = λ m h. absurd h }
 
-  -- what is known where want of memory is met
+  -- what is known where memory runs out
   pub knows_refused : (s : State) → Knows j s d → Knows j (refused j s) d
   knows_refused Seizing k = k
   knows_refused Looking k = k.fresh

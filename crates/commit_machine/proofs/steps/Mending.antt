@@ -24,13 +24,13 @@ use Rattle.commit_machine.proofs.standing.KnownNext.{knows_placing, knows_undoin
 use Rattle.commit_machine.proofs.steps.Shown
 use Rattle.commit_machine.proofs.steps.Shown.{Shows, Kept, none_of, absent_more, absent_renamed}
 
--- a name behind the first is left, or the staged file is gone
+-- a name after the first is left, or the staged file is gone
 gone_there : (r : Record) (n : List ℕ) (ns : List (List ℕ)) (f : Files) (m : List ℕ) → Mem m (n ∷ ns) ⊎ (f (staged_name r.token m) ≡ None) → f (staged_name r.token n) ≡ None → Mem m ns ⊎ (f (staged_name r.token m) ≡ None)
 gone_there r n ns f m (inl (inl e)) h = inr (ap (λ (z : List ℕ). f (staged_name r.token z)) e ∙ h)
 gone_there r n ns f m (inl (inr a)) h = inl a
 gone_there r n ns f m (inr b) h = inr b
 
--- a name behind the first is another
+-- a name after the first is another
 pub another : (n m : List ℕ) (ns : List (List ℕ)) → has ns n ≡ false → Mem m ns → m ≢ n
 another n m ns h mem e = let w : has ns n ≡ true = Mem_has ns n (subst (λ (z : List ℕ). Mem z ns) e mem) in absurd (cc)
 

@@ -4,8 +4,14 @@ use Rattle.mail_addresses.proofs.Quoting.{unquote-escaped, unquote-backslash, un
 use Rattle.mail_addresses.proofs.scan.quote_end.Goals as goal
 use Rattle.mail_addresses.proofs.scan.quote_end.Goals.{then-escaped, else-escaped+then-b-eq92, else-escaped+else-b-eq92+else-b-eq34}
 
-pub returns-then-b-eq34 : goal.returns-then-b-eq34
-returns-then-b-eq34 c =
+pub returns-then-b-eq34-clause-place : goal.returns-then-b-eq34-clause-place
+returns-then-b-eq34-clause-place c =
+    let xs = c.args.bytes.now in
+    let i = c.loop-i.i in
+    sym (sym c.loop-i.invariant ∙ unquote-here _ false i xs (omega arith) c.if-escaped.false ∙ unquote-last i (get_or xs i 0) (drop (i + 1) xs) c.if-b-eq34.true)
+
+pub returns-then-b-eq34-clause-end : goal.returns-then-b-eq34-clause-end
+returns-then-b-eq34-clause-end c =
     let xs = c.args.bytes.now in
     let i = c.loop-i.i in
     quoted_found xs i (sym c.loop-i.invariant ∙ unquote-here _ false i xs (omega arith) c.if-escaped.false ∙ unquote-last i (get_or xs i 0) (drop (i + 1) xs) c.if-b-eq34.true)
@@ -24,5 +30,8 @@ loop-i-preserved c =
       | else-escaped+else-b-eq92+else-b-eq34 w ↦ ap state (w.escaped-is ∙ w.if-escaped.false) ∙ sym (unquote-here _ false i xs lt w.if-escaped.false ∙ unquote-byte i b rest w.if-b-eq92.false w.if-b-eq34.false) ∙ c.loop-i.invariant
     ]
 
-pub returns : goal.returns
-returns c = quoted_none c.args.bytes.now (sym c.loop-i.invariant ∙ unquote-end c.loop-i.escaped c.loop-i.i c.args.bytes.now (omega arith))
+pub returns-clause-place : goal.returns-clause-place
+returns-clause-place c = sym (sym c.loop-i.invariant ∙ unquote-end c.loop-i.escaped c.loop-i.i c.args.bytes.now (omega arith))
+
+pub returns-clause-end : goal.returns-clause-end
+returns-clause-end c = quoted_none c.args.bytes.now (sym c.loop-i.invariant ∙ unquote-end c.loop-i.escaped c.loop-i.i c.args.bytes.now (omega arith))

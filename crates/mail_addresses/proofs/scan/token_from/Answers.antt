@@ -14,7 +14,7 @@ pub returns-in-34 : goal.returns-in-34
 returns-in-34 c =
     let inside = c.args.inside.now in
     enclosed_begins IsQuotedContent quoted 34 34 (λ content. refl) (λ content rest is. is) c.args.bytes.now inside c.enclosed-in-34.result.1.now c.quote_end.result c.enclosed-in-34.result.0
-    (c.requires ∙ ap (λ b. b ∷ inside) c.in-34.is) (λ never. quote_open never) c.quote_end.ensures c.enclosed-in-34.ensures
+    (c.requires ∙ ap (λ b. b ∷ inside) c.in-34.is) (λ never. quote_open never) c.quote_end.ensures.end c.enclosed-in-34.ensures
 
 pub returns-in-91 : goal.returns-in-91
 returns-in-91 c =

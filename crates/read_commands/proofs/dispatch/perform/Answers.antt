@@ -3,5 +3,5 @@ use Rattle.command_desk.proofs.DeskLemmas.{if-ok}
 use Rattle.command_desk.proofs.EffectLemmas.{desk-after}
 use Rattle.read_commands.proofs.dispatch.perform.Goals as goal
 
-pub returns-then-is_built-clause-desk : goal.returns-then-is_built-clause-desk
-returns-then-is_built-clause-desk c = if-ok c.carry_out.result (λ (steps : Steps) within. desk-after c.args.desk.now steps.effects c.requires within) c.carry_out.ensures.within
+pub returns-else-has_words_too_many-clause-desk : goal.returns-else-has_words_too_many-clause-desk
+returns-else-has_words_too_many-clause-desk c = if-ok c.carry_out.result (λ (steps : Steps) within. desk-after c.args.desk.now steps.effects c.requires within) c.carry_out.ensures.within

@@ -10,10 +10,10 @@ use Rattle.message_state.specs.declared.shown.Shown.{Shown}
 use Rattle.message_list.specs.declared.list.Item.{Item}
 use Rattle.message_list.specs.declared.list.ListError.{ListError}
 use Rattle.message_list.specs.declared.list.ListError.TheVariants.{Syntax, NoSuch, NoneMatch, Memory}
-use Rattle.message_list.specs.declared.list.Purpose.TheVariants.{Live}
+use Rattle.message_list.specs.declared.list.Purpose.{Purpose}
 use Rattle.message_list.specs.ListWords.{kind_of, first_bad, HaveKinds, AreItems, IsBadList}
 use Rattle.message_list.specs.Selections.{selection, first_missing, IsUnmet}
-use Rattle.compose_tilde.specs.Views.{items_of, unless, some_message, chosen, IsChosen}
+use Rattle.message_list.specs.Choosing.{items_of, unless, some_message, chosen, IsChosen}
 
 -- a word whose kind is known is no bad word, and is an item
 find-on : (word : List ℕ) (words : List (List ℕ)) → is_none (kind_of word) ≡ false → first_bad (word ∷ words) ≡ first_bad words
@@ -41,42 +41,42 @@ no-bad : (words : List (List ℕ)) (items : List Item) → AreItems words items 
 no-bad words items are = ap first_bad (sym are.in_order) ∙ none-bad items are.kinds
 
 -- words that are no list
-pub chosen-bad : (shown : Shown) (words : List (List ℕ)) (e : ListError) → IsBadList words e → IsChosen (Err e) (chosen shown words)
+pub chosen-bad : (purpose : Purpose) (shown : Shown) (words : List (List ℕ)) (e : ListError) → IsBadList words e → IsChosen (Err e) (chosen purpose shown words)
 unfolding chosen
-chosen-bad shown words (Syntax word) is =
-    ap (λ o. unless o Syntax (unless (first_missing shown Live (items_of words)) NoSuch (some_message (selection shown Live (items_of words))))) is
-chosen-bad shown words (NoSuch word) never = absurd never
-chosen-bad shown words NoneMatch never = absurd never
-chosen-bad shown words Memory is = tt
+chosen-bad purpose shown words (Syntax word) is =
+    ap (λ o. unless o Syntax (unless (first_missing shown purpose (items_of words)) NoSuch (some_message (selection shown purpose (items_of words))))) is
+chosen-bad purpose shown words (NoSuch word) never = absurd never
+chosen-bad purpose shown words NoneMatch never = absurd never
+chosen-bad purpose shown words Memory is = tt
 
 -- what a list that was read comes to
-chosen-read : (shown : Shown) (words : List (List ℕ)) (items : List Item) → AreItems words items
-    → chosen shown words ≡ unless (first_missing shown Live items) NoSuch (some_message (selection shown Live items))
+chosen-read : (purpose : Purpose) (shown : Shown) (words : List (List ℕ)) (items : List Item) → AreItems words items
+    → chosen purpose shown words ≡ unless (first_missing shown purpose items) NoSuch (some_message (selection shown purpose items))
 unfolding chosen
-chosen-read shown words items are =
-    ap (λ o. unless o Syntax (unless (first_missing shown Live (items_of words)) NoSuch (some_message (selection shown Live (items_of words))))) (no-bad words items are)
-    ∙ ap (λ (l : List Item). unless (first_missing shown Live l) NoSuch (some_message (selection shown Live l))) (items-of words items are)
+chosen-read purpose shown words items are =
+    ap (λ o. unless o Syntax (unless (first_missing shown purpose (items_of words)) NoSuch (some_message (selection shown purpose (items_of words))))) (no-bad words items are)
+    ∙ ap (λ (l : List Item). unless (first_missing shown purpose l) NoSuch (some_message (selection shown purpose l))) (items-of words items are)
 
 some-there : (ns : List ℕ) → 0 < length ns → some_message ns ≡ Ok ns
 some-there [] some = absurd (omega arith)
 some-there (n ∷ ns) some = refl
 
 -- a list that selects messages
-pub chosen-met : (shown : Shown) (words : List (List ℕ)) (items : List Item) (ns : List ℕ) → AreItems words items → ns ≡ selection shown Live items → first_missing shown Live items ≡ None → 0 < length ns
-    → chosen shown words ≡ Ok ns
-chosen-met shown words items ns are is met some =
-    chosen-read shown words items are
-    ∙ ap (λ o. unless o NoSuch (some_message (selection shown Live items))) met
+pub chosen-met : (purpose : Purpose) (shown : Shown) (words : List (List ℕ)) (items : List Item) (ns : List ℕ) → AreItems words items → ns ≡ selection shown purpose items → first_missing shown purpose items ≡ None → 0 < length ns
+    → chosen purpose shown words ≡ Ok ns
+chosen-met purpose shown words items ns are is met some =
+    chosen-read purpose shown words items are
+    ∙ ap (λ o. unless o NoSuch (some_message (selection shown purpose items))) met
     ∙ ap some_message (sym is)
     ∙ some-there ns some
 
 -- a list that selects none
-pub chosen-unmet : (shown : Shown) (words : List (List ℕ)) (items : List Item) (e : ListError) → AreItems words items → IsUnmet shown Live items e → IsChosen (Err e) (chosen shown words)
-chosen-unmet shown words items (Syntax word) are never = absurd never
-chosen-unmet shown words items (NoSuch word) are is =
-    chosen-read shown words items are ∙ ap (λ o. unless o NoSuch (some_message (selection shown Live items))) is
-chosen-unmet shown words items NoneMatch are (empty, none) =
-    chosen-read shown words items are
-    ∙ ap (λ (l : List Item). unless (first_missing shown Live l) NoSuch (some_message (selection shown Live l))) empty
+pub chosen-unmet : (purpose : Purpose) (shown : Shown) (words : List (List ℕ)) (items : List Item) (e : ListError) → AreItems words items → IsUnmet shown purpose items e → IsChosen (Err e) (chosen purpose shown words)
+chosen-unmet purpose shown words items (Syntax word) are never = absurd never
+chosen-unmet purpose shown words items (NoSuch word) are is =
+    chosen-read purpose shown words items are ∙ ap (λ o. unless o NoSuch (some_message (selection shown purpose items))) is
+chosen-unmet purpose shown words items NoneMatch are (empty, none) =
+    chosen-read purpose shown words items are
+    ∙ ap (λ (l : List Item). unless (first_missing shown purpose l) NoSuch (some_message (selection shown purpose l))) empty
     ∙ ap (λ o. some_message (option_to_list o)) none
-chosen-unmet shown words items Memory are is = tt
+chosen-unmet purpose shown words items Memory are is = tt
