@@ -37,14 +37,14 @@ letter_of draft m = record { draft = draft; moment = m }
 abbrev pub text_of : SessionState → Letter → List ℕ
 text_of s letter = mbox_text letter.draft s.desk.places.user letter.moment
 
--- the state once a draft wasn't sent, by a sender with this status where one was run; and once a record or a dead letter was refused
+-- the state once a draft wasn't sent, by a sender with this status if one was run; and once a record or a dead letter was refused
 abbrev pub unsent_by : Option ℤ → SessionState → SessionState
 unsent_by n s = with_outcome s (not_sent n s.outcome)
 
 abbrev pub refused_by : SessionState → SessionState
 refused_by s = with_outcome s outcome.Refused
 
--- what is said once a dead letter was put into the file of this name
+-- what is printed once a dead letter was put into the file of this name
 abbrev pub dead_reply : List ℕ → List ℕ
 dead_reply name = reply name (codes "Dead") 1
 
@@ -52,14 +52,14 @@ dead_reply name = reply name (codes "Dead") 1
 abbrev pub saved_one : SessionState → Change → Play (After SessionState Status)
 saved_one s c = saved s (c ∷ []) (names_fault s (c ∷ []))
 
--- what follows the commit of a dead letter: it is said, or the line that refuses it, and then the text is dropped
+-- what follows the commit of a dead letter: it is printed, or the line that refuses it, and then the text is dropped
 abbrev pub buried : SessionState → List ℕ → After SessionState Status → Play (Next SessionState Status)
 buried s name (On t) = refused t (dead_reply name)
 buried s name (Over t) = refused t (dead_reply name)
 buried s name (Refused line) = refused (refused_by s) line
 buried s name (Ended e) = Ret (Last e)
 
--- a dead letter is committed, where there is one
+-- a dead letter is committed, if there is one
 abbrev pub burying : SessionState → Option Change → Play (Next SessionState Status)
 burying s None = Ret (Go s)
 burying s (Some c) = bind (saved_one s c) (buried s (name_of c))
@@ -72,11 +72,11 @@ lost s letter = burying s (dead s.desk (text_of s letter))
 abbrev pub lost_now : SessionState → Draft → Play (Next SessionState Status)
 lost_now s draft = Ask (Now s.desk.places.tz) (λ m. lost s (letter_of draft m))
 
--- this is said, and the text goes there
+-- this is printed, and the text goes there
 abbrev pub unsent : SessionState → Letter → List ℕ → Play (Next SessionState Status)
 unsent s letter line = Ask (Say line) (λ _. lost s letter)
 
--- what follows the sender: its output is said, and where it didn't end with 0 or could not be run, that too, and the text is kept
+-- what follows the sender: its output is printed, and if it didn't end with 0 or could not be run, that too, and the text is kept
 abbrev pub ended_with : SessionState → Letter → ℤ → List ℕ → Play (Next SessionState Status)
 ended_with s letter n output = unsent (unsent_by (Some n) s) letter (output ++ sender_ended n)
 
@@ -105,12 +105,12 @@ recording s letter names (Err line) = unsent (refused_by s) letter line
 recording s letter names (Ok None) = sending s letter names
 recording s letter names (Ok (Some c)) = bind (saved_one s c) (after_record s letter names)
 
--- names that can't be sent to are said, and the text is kept
+-- names that can't be sent to are printed, and the text is kept
 abbrev pub posting : SessionState → Option (List ℕ) → Letter → List (List ℕ) → Option (List ℕ) → Play (Next SessionState Status)
 posting s file letter names (Some line) = unsent (unsent_by None s) letter line
 posting s file letter names None = recording s letter names (recorded s.desk (text_of s letter) s.by_recipient file names)
 
--- the names of a draft stand for those that it goes to; where they are too many the text is kept as it was written
+-- the names of a draft stand for those that it goes to; if they are too many the text is kept as it was written
 abbrev pub addressing : SessionState → Option (List ℕ) → Draft → Moment → Option Recipients → Play (Next SessionState Status)
 addressing s file draft m None = unsent (unsent_by None s) (letter_of draft m) too_many_recipients
 addressing s file draft m (Some a) = posting s file (letter_of (addressed draft a) m) a.all (names_refused a.all)

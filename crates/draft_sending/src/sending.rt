@@ -45,7 +45,7 @@ fn text_of(alloc: Global, state: &SessionState, letter: &Letter) -> Result<Text,
     mbox_text(alloc, &letter.draft, user, letter.moment)
 }
 
-// Says that a dead letter was put into the file of this name.
+// Prints that a dead letter was put into the file of this name.
 fn say_dead<H: Host>(
     alloc: Global,
     state: &SessionState,
@@ -109,7 +109,7 @@ fn save_one<H: Host>(
     }
 }
 
-// Commits a dead letter, where there is one.
+// Commits a dead letter, if there is one.
 fn bury<H: Host>(
     alloc: Global,
     state: &mut SessionState,
@@ -133,7 +133,7 @@ fn bury<H: Host>(
     }
 }
 
-// The dead letter of a draft, where one is kept.
+// The dead letter of a draft, if one is kept.
 fn dead_of(alloc: Global, state: &SessionState, letter: &Letter) -> Result<Option<Change>, Memory>
     requires { IsPrintable letter.now.moment }
     ensures { IfOk result (λ change. change ≡ dead state.now.desk (text_of state.now letter.now)) }
@@ -164,7 +164,7 @@ fn lose<H: Host>(
     }
 }
 
-// Says why a draft isn't sent, and puts its text to the dead letters.
+// Prints why a draft isn't sent, and puts its text to the dead letters.
 fn keep<H: Host>(
     alloc: Global,
     state: &mut SessionState,
@@ -237,7 +237,7 @@ fn ended_line(alloc: Global, status: i32, output: Text) -> Result<Text, Memory>
     Ok(line)
 }
 
-// Says what the sender wrote and its status, and puts the text to the dead letters.
+// Prints what the sender wrote and its status, and puts the text to the dead letters.
 fn keep_refused<H: Host>(
     alloc: Global,
     state: &mut SessionState,
@@ -260,7 +260,7 @@ fn keep_refused<H: Host>(
     }
 }
 
-// Says that the sender could not be run, and puts the text to the dead letters.
+// Prints that the sender could not be run, and puts the text to the dead letters.
 fn keep_not_run<H: Host>(
     alloc: Global,
     state: &mut SessionState,
@@ -389,7 +389,7 @@ fn record<H: Host>(
     }
 }
 
-// The change that records a draft, where it is to be recorded.
+// The change that records a draft, if it is to be recorded.
 fn record_of(
     alloc: Global,
     state: &SessionState,
@@ -411,7 +411,7 @@ fn record_of(
     )
 }
 
-// Records and sends a draft to these names, or says why that can't be.
+// Records and sends a draft to these names, or prints why that can't be.
 fn post<H: Host>(
     alloc: Global,
     state: &mut SessionState,

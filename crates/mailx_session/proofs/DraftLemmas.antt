@@ -24,7 +24,7 @@ use Rattle.session_state.specs.declared.status.Status.{Status}
 use Rattle.session_state.specs.States.{with_draft}
 use Rattle.session_asks.specs.Beginning.{view_in}
 use Rattle.mailx_session.specs.Drafting.{escape_fault, released, told, took_answer, given, answered, needed, took_line, drafted, draft_play, run_for}
-use Rattle.mailx_session.specs.Taking.{TookAnswer, TookLine, IsEscapeFault, SaysFault}
+use Rattle.mailx_session.specs.Taking.{TookAnswer, TookLine, RefusesLine, IsEscapeFault, SaysFault}
 
 abbrev plays : Type 0
 plays = Play (Next SessionState Status)
@@ -51,6 +51,21 @@ took need = Ok need
 
 more-only : (need : Need) → took need ≡ took More → need ≡ More
 more-only need same = cc same
+
+no-draft : (m : Machine) → None ≡ Some m → ⊥
+no-draft m same = cc same
+
+same-draft : (m n : Machine) → Some m ≡ Some n → m ≡ n
+same-draft m n same = cc same
+
+abbrev taken : Machine × Need → Step
+taken step = Ok step
+
+abbrev refusal : ComposeError → Step
+refusal e = Err e
+
+no-step : (step : Machine × Need) (e : ComposeError) → taken step ≡ refusal e → ⊥
+no-step step e same = cc same
 
 -- what follows an answer that the draft took
 pub answered-told : (s : SessionState) (d : Option Machine) (a : Answer) (need : Need) (new : Option Machine) → s.draft ≡ d → TookAnswer (Ok need) d a new
@@ -85,6 +100,21 @@ drafted-needed s (Some m) line need new is has =
     ap (λ (d : Option Machine). drafted t d line) inside
     ∙ (ap (took_line t) has.means ∙ ap (λ (d : Option Machine). needed (with_draft s d) need) (sym has.is))
 
+-- a line that it took isn't one that it refuses
+pub took-not-refused : (s : SessionState) (d : Option Machine) (line : List ℕ) (need : Need) (new : Option Machine) → s.draft ≡ d → TookLine (Ok need) d line (view_in s) new
+    → RefusesLine s line → ⊥
+took-not-refused s None line need new is has r = no-draft r.machine (sym is ∙ r.draft)
+took-not-refused s (Some m) line need new is has r =
+    let same : r.machine ≡ m = same-draft r.machine m (sym r.draft ∙ is) in
+    no-step (has.machine, need) r.fault (sym has.means ∙ subst (λ (n : Machine). line_step (idle n) line (view_in s) ≡ Err r.fault) same r.refused)
+
+-- after one that it refused it is as it was
+pub refused-released : (s : SessionState) (d : Option Machine) (line : List ℕ) (e : ComposeError) (new : Option Machine) → s.draft ≡ d → TookLine (Err e) d line (view_in s) new
+    → with_draft s new ≡ released s
+refused-released s None line e new is has = absurd (cc has.went)
+refused-released s (Some m) line e new is has =
+    ap (with_draft s) ((has.is ∙ ap (λ (n : Machine). Some n) has.stays) ∙ sym (ap (option_map idle) is))
+
 -- and one that it refused
 pub drafted-refused : (s : SessionState) (d : Option Machine) (line : List ℕ) (e : ComposeError) (new : Option Machine) → s.draft ≡ d → TookLine (Err e) d line (view_in s) new
     → SaysFault e (with_draft s new) (draft_play s line)
@@ -92,6 +122,6 @@ drafted-refused s None line e new is has = λ said fault. absurd (cc has.went)
 drafted-refused s (Some m) line e new is has = λ said fault.
     let t = released s in
     let inside : t.draft ≡ Some (idle m) = ap (option_map idle) is in
-    let there : t ≡ with_draft s new = ap (with_draft s) (inside ∙ sym (has.is ∙ ap (λ (n : Machine). Some n) has.stays)) in
+    let there : t ≡ with_draft s new = sym (refused-released s (Some m) line e new is has) in
     ap (λ (d : Option Machine). drafted t d line) inside
     ∙ step-refused e said has.machine (line_step (idle m) line (view_in s)) (took_line t) (with_draft s new) (λ e. ap (λ (u : SessionState). refused u (escape_fault e)) there) fault has.means

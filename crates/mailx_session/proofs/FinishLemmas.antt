@@ -72,3 +72,7 @@ ends-lost s t cause inside es fs so ends = so.whole fs (Err cause) (lost inside 
 
 pub ends-done : (s t : SessionState) → is_drafting t ≡ false → (es : List Event) → EndsSoFar s t es → FinishGo s es (Ok (Go t))
 ends-done s t out es so = subst (λ (l : List Event). FinishGo s l (Ok (Go t))) (append-nil es) (so.whole [] (Ok (Go t)) (finished out))
+
+-- where no draft was open at first, none ends
+pub none-open : (s t : SessionState) → (is_drafting s ≡ false → t ≡ s) → is_drafting t ≡ true → is_drafting s ≡ false → ⊥
+none-open s t same inside out = no-both inside (ap (λ (u : SessionState). is_drafting u) (same out) ∙ out)

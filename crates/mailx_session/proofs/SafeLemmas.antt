@@ -1,5 +1,5 @@
 -- The calls of a session are crash safe.
-use Rattle.std.proofs.Common.{◌≡◌, ◌<◌, ◌^◌, ℕ, Bool, true, false, List, [], ◌++◌, refl, sym, ◌∙◌, ap, subst, inl, append_assoc}
+use Rattle.std.proofs.Common.{◌≡◌, ◌<◌, ◌^◌, ℕ, Bool, true, false, List, [], ◌++◌, length, refl, sym, ◌∙◌, ap, subst, inl, append_assoc}
 use Rattle.std.proofs.lemmas.Bool.{cond-true, cond-false}
 use Rattle.std.proofs.lemmas.List.{append-nil}
 use Rattle.std.specs.Prelude.{if◌then◌else◌}
@@ -16,20 +16,20 @@ use Rattle.host_port.proofs.RanLemmas.{Ran-since}
 use Rattle.folder_commit.specs.Safe.{MayCommit}
 use Rattle.session_play.specs.declared.stop.Stop.{Stop}
 use Rattle.session_play.specs.Acts.{AllEnds}
-use Rattle.session_play.specs.Play.{Play, Ret, Goes, Next, Go, Last, Loop, again, last, cut, bind}
+use Rattle.session_play.specs.Play.{Act, Play, Ret, Goes, Next, Go, Last, Loop, again, last, cut, bind}
 use Rattle.session_play.proofs.PlayLemmas.{at-memory, goes-cut, goes-as}
-use Rattle.session_play.proofs.ShapeLemmas.{bind-ends, goes-ends}
+use Rattle.session_play.proofs.ShapeLemmas.{goes-ends}
 use Rattle.play_safety.specs.Safe.{IsBy, EachCommit, NextKeeps, MayRun, IsCalm, IsCrashSafe}
 use Rattle.play_safety.proofs.LawLemmas.{read-loop, run-safe}
 use Rattle.play_safety.proofs.DecidedLemmas.{run-decided}
-use Rattle.read_commands.specs.Origins.{is_defining}
 use Rattle.compose_tilde.specs.declared.machine.Machine.{Machine}
 use Rattle.session_state.specs.declared.error.RunError.{RunError}
 use Rattle.session_state.specs.declared.frames.WaitingLine.{WaitingLine}
 use Rattle.session_state.specs.declared.state.SessionState.{SessionState}
+use Rattle.session_state.specs.declared.outcome.Outcome.{Outcome}
 use Rattle.session_state.specs.declared.status.Status.{Status}
 use Rattle.session_state.specs.Answers.{in_play}
-use Rattle.session_state.specs.Pending.{taken}
+use Rattle.session_state.specs.Pending.{taken, held}
 use Rattle.session_state.specs.Waits.{Pending}
 use Rattle.session_state.specs.States.{is_drafting, next_waiting, with_draft, resumed, at_rest, rested}
 use Rattle.draft_text.specs.declared.draft.Draft.{Draft}
@@ -38,12 +38,13 @@ use Rattle.compose_tilde.specs.Answering.{new_machine}
 use Rattle.compose_tilde.specs.Lines.{asks_subject}
 use Rattle.session_asks.specs.Beginning.{view_in, with_new_draft, subject_asked, composing}
 use Rattle.draft_sending.specs.Sending.{ended_draft}
-use Rattle.mailx_session.specs.Leaving.{leaving}
-use Rattle.mailx_session.specs.Rounds.{typed_play, waiting_play, WaitingGo, none, more, ended, short, LineGoes, typed, cut_short, DraftEnds, told, told_last, untold, FinishGo, finished, onward, left, lost}
+use Rattle.mailx_session.specs.Leaving.{leaving, InputEnds, then_leaves, ends_before, cut_before}
+use Rattle.mailx_session.specs.Rounds.{typed_play, is_uncounted, waiting_play, WaitingGo, none, more, ended, short, LineGoes, typed, cut_short, DraftEnds, told, told_last, untold, FinishGo, finished, onward, left, lost}
 use Rattle.mailx_session.specs.Rounds as rounds
 use Rattle.mailx_session.specs.Startup.{startup_play, StartupGoes, begun, unread}
 use Rattle.mailx_session.specs.Safe.{Turn, Composing, Typed, Starting, Waiting, Finishing, Leaving, TurnPlay, on_to, waiting_turn, finishing_turn, turn_play, IsStepSafe, IsSafeCall}
-use Rattle.mailx_session.proofs.CommitLemmas.{IsOf, NextOf, bind-commits, any-ends, typed-commits, typed-of, waiting-commits, waiting-of, ended-commits, ended-of, rested-of, leaving-commits, startup-play-commits, startup-play-of}
+use Rattle.mailx_session.proofs.ObeyLemmas.{Obeys, bind-obeys, obeys-commits, obeys-ends, met_by}
+use Rattle.mailx_session.proofs.LineLemmas.{IsOf, NextOf, MayAsk, EndsSo, LineEnds, EndsAs, LeavesAs, Lines, lines-of, typed-obeys, waiting-obeys, ended-obeys, rested-of, leaving-obeys, startup-obeys, commits-so}
 
 abbrev pub Ends : Type 0
 Ends = Result (Next SessionState Status) Stop
@@ -140,7 +141,7 @@ rested-twice-as : (s : SessionState) (draft : Option Machine) → rested (rested
 rested-twice-as s (Some m) = refl
 rested-twice-as s None = refl
 
-abbrev AreAtRest : Ends → Type 0
+abbrev pub AreAtRest : Ends → Type 0
 AreAtRest (Ok (Go t)) = rested t ≡ t
 AreAtRest (Ok (Last e)) = Unit {0}
 AreAtRest (Err cause) = Unit {0}
@@ -159,21 +160,57 @@ draft-rests (untold goes) = tt
 
 -- where no draft is open, in a state at rest, no line waits
 idle-waits : (s : SessionState) → is_drafting s ≡ false → rested s ≡ s → next_waiting s ≡ None
-idle-waits s free same = cond-false _ _ _ free ∙ ap taken (sym (ap (λ (t : SessionState). t.frames) (sym (cond-false (is_drafting s) s (at_rest s) free) ∙ same)))
+idle-waits s free same =
+    let none_left : s.frames ≡ [] = sym (ap (λ (t : SessionState). t.frames) (sym (cond-false (is_drafting s) s (at_rest s) free) ∙ same)) in
+    cond-false _ _ _ free ∙ ap (λ (fs : List Pending). taken (held (length s.desk.conditions) fs)) none_left
 
-over-turn : (s : SessionState) → is_drafting s ≡ false → rested s ≡ s → turn_play (Finishing s) ≡ Ret (Last (Go s))
+over-turn : (s : SessionState) → is_drafting s ≡ false → rested s ≡ s → turn_play (Finishing s) ≡ Ret (Go (Leaving s))
 over-turn s free same =
-    let to : SessionState → TurnPlay = λ t. Ret (Last (Go t)) in
+    let to : SessionState → TurnPlay = λ t. Ret (Go (Leaving t)) in
     ap (finishing_turn s) (idle-waits s free same) ∙ (cond-false _ _ _ free ∙ ap to same)
 
-finish-loop : {s : SessionState} {es : List Event} {out : Ends} → rested s ≡ s → FinishGo s es out → Loop turn_play (Finishing s) es out
-finish-loop {s = s} same (finished free) = last (subst (λ (q : TurnPlay). Goes q [] (Ok (Last (Go s)))) (sym (over-turn s free same)) (refl, inl refl))
-finish-loop {s = s} {es = es} {out = out} same (onward {t = t} front rest drafting is first later) =
-    subst (λ (l : List Event). Loop turn_play (Finishing s) l out) (sym is) (draft-leads s drafting first rest out (finish-loop (draft-rests first) later))
-finish-loop {s = s} same (left drafting goes) = draft-leads s drafting goes
-finish-loop {s = s} same (lost drafting goes) = draft-leads s drafting goes
+leads-then : (s t : SessionState) (front rest : List Event) (out : Ends) → LeadsOn s front (Ok (Go t)) → LeadsOn t rest out → LeadsOn s (front ++ rest) out
+leads-then s t front rest (Ok (Go u)) first second = λ later end loop.
+    subst (λ (l : List Event). Loop turn_play (Finishing s) l end) (sym (append_assoc front rest later)) (first (rest ++ later) end (second later end loop))
+leads-then s t front rest (Ok (Last e)) first second = first rest (Ok (Last e)) second
+leads-then s t front rest (Err cause) first second = first rest (Err cause) second
 
--- ---- each commit of a call is one of the state's actor and token
+finish-leads : {s : SessionState} {es : List Event} {out : Ends} → FinishGo s es out → LeadsOn s es out
+finish-leads (finished free) = λ rest out loop. loop
+finish-leads {s = s} {out = out} (onward {t = t} front rest drafting is first later) =
+    subst (λ (l : List Event). LeadsOn s l out) (sym is) (leads-then s t front rest out (draft-leads s drafting first) (finish-leads later))
+finish-leads {s = s} (left drafting goes) = draft-leads s drafting goes
+finish-leads {s = s} (lost drafting goes) = draft-leads s drafting goes
+
+-- then no draft is open, in a state at rest
+pub finish-over : {s t : SessionState} {es : List Event} {out : Ends} → FinishGo s es out → out ≡ Ok (Go t) → is_drafting t ≡ false
+finish-over {s = s} {t = t} (finished free) is = let same : s ≡ t = cc is in ap (λ (u : SessionState). is_drafting u) (sym same) ∙ free
+finish-over (onward front rest drafting is_front first later) is = finish-over later is
+finish-over (left drafting goes) is = absurd (cc is)
+finish-over (lost drafting goes) is = absurd (cc is)
+
+pub finish-rests : {s : SessionState} {es : List Event} {out : Ends} → rested s ≡ s → FinishGo s es out → AreAtRest out
+finish-rests same (finished free) = same
+finish-rests same (onward front rest drafting is first later) = finish-rests (draft-rests first) later
+finish-rests same (left drafting goes) = draft-rests goes
+finish-rests same (lost drafting goes) = draft-rests goes
+
+-- the folder is left then
+left-then : (s t : SessionState) (front rest es : List Event) (r : Result Status RunError) → rested s ≡ s → es ≡ front ++ rest → FinishGo s front (Ok (Go t))
+    → Goes (leaving t) rest (in_play (λ (e : Status). e) r) → Loop turn_play (Finishing s) es (in_play (λ (e : Status). Last e) r)
+left-then s t front rest es r same is finishes goes =
+    subst (λ (l : List Event). Loop turn_play (Finishing s) l (in_play (λ (e : Status). Last e) r)) (sym is)
+    (finish-leads finishes rest (in_play (λ (e : Status). Last e) r)
+    (again [] rest refl (subst (λ (q : TurnPlay). Goes q [] (Ok (Go (Leaving t)))) (sym (over-turn t (finish-over finishes refl) (finish-rests same finishes))) (refl, inl refl)) (leaving-loop t r rest goes)))
+
+input-loop : (s : SessionState) (r : Result Status RunError) (es : List Event) → rested s ≡ s → InputEnds s es (in_play (λ (e : Status). e) r)
+    → Loop turn_play (Finishing s) es (in_play (λ (e : Status). Last e) r)
+input-loop s (Ok e) es same (then_leaves {t = t} front rest is finishes goes) = left-then s t front rest es (Ok e) same is finishes goes
+input-loop s (Ok e) es same (ends_before finishes) = finish-leads finishes
+input-loop s (Err e) es same (then_leaves {t = t} front rest is finishes goes) = left-then s t front rest es (Err e) same is finishes goes
+input-loop s (Err e) es same (cut_before finishes) = finish-leads finishes
+
+-- ---- each commit of a call is one of the state's actor and token, and so is the state that it leaves
 
 module _ (actor : List ℕ) (token : ℕ) where
   abbrev TurnOf : Turn → Type 0
@@ -184,84 +221,75 @@ module _ (actor : List ℕ) (token : ℕ) where
   TurnOf (Finishing s) = IsOf actor token s
   TurnOf (Leaving s) = IsOf actor token s
 
-  on-commits : (turn : SessionState → Turn) (n : Next SessionState Status) → NextOf actor token n → EachCommit (IsBy actor token) (on_to turn n)
-  on-commits turn (Go s) of = tt
-  on-commits turn (Last e) of = tt
+  abbrev MayTurn : Bool → Act → Type 0
+  MayTurn met act = MayAsk actor token act
 
-  on-of : (turn : SessionState → Turn) → ((s : SessionState) → IsOf actor token s → TurnOf (turn s)) → (n : Next SessionState Status) → NextOf actor token n → AllEnds (NextKeeps TurnOf) (on_to turn n)
-  on-of turn to (Go s) of = to s of
-  on-of turn to (Last e) of = tt
+  abbrev TurnEnds : Bool → Next Turn (Next SessionState Status) → Type 0
+  TurnEnds met n = NextKeeps TurnOf n
 
-  then-commits : (p : Play (Next SessionState Status)) (turn : SessionState → Turn) → EachCommit (IsBy actor token) p → AllEnds (NextOf actor token) p → EachCommit (IsBy actor token) (bind p (on_to turn))
-  then-commits p turn each ends = bind-commits (IsBy actor token) (NextOf actor token) p (on_to turn) each ends (on-commits turn)
+  abbrev Turns : TurnPlay → Type 0
+  Turns p = Obeys MayTurn met_by TurnEnds false p
 
-  then-of : (p : Play (Next SessionState Status)) (turn : SessionState → Turn) → ((s : SessionState) → IsOf actor token s → TurnOf (turn s)) → AllEnds (NextOf actor token) p → AllEnds (NextKeeps TurnOf) (bind p (on_to turn))
-  then-of p turn to ends = bind-ends (NextOf actor token) (NextKeeps TurnOf) p (on_to turn) ends (on-of turn to)
-
-  waits-commits : (s : SessionState) (turn : SessionState → Turn) (line : WaitingLine) (frames : List Pending) → IsOf actor token s → EachCommit (IsBy actor token) (bind (waiting_play (resumed s frames) line) (on_to turn))
-  waits-commits s turn line frames of =
-      let t = resumed s frames in
-      then-commits (waiting_play t line) turn (waiting-commits actor token (is_defining t.desk) t line of) (waiting-of actor token (is_defining t.desk) t line of)
+  -- a line, and the turn that follows it
+  then-turns : (o : Outcome) (p : Play (Next SessionState Status)) (turn : SessionState → Turn) → ((s : SessionState) → IsOf actor token s → TurnOf (turn s)) → Lines actor token o p → Turns (bind p (on_to turn))
+  then-turns o p turn to obeys = bind-obeys MayTurn met_by (LineEnds (IsOf actor token) (EndsAs o)) TurnEnds false p (on_to turn) obeys each
+    where
+      each : (met : Bool) (n : Next SessionState Status) → LineEnds (IsOf actor token) (EndsAs o) met n → Obeys MayTurn met_by TurnEnds met (on_to turn n)
+      each true (Go s) never = absurd never
+      each false (Go s) of = to s of
+      each met (Last e) is = tt
 
   waits-of : (s : SessionState) (line : WaitingLine) (frames : List Pending) → IsOf actor token s → AllEnds (NextOf actor token) (waiting_play (resumed s frames) line)
-  waits-of s line frames of = let t = resumed s frames in waiting-of actor token (is_defining t.desk) t line of
+  waits-of s line frames of = let t = resumed s frames in lines-of actor token s.outcome (waiting_play t line) (waiting-obeys actor token s.outcome t line (of, refl))
 
-  waiting-turn-commits : (s : SessionState) (next : Option (WaitingLine × List Pending)) → IsOf actor token s → EachCommit (IsBy actor token) (waiting_turn s next)
-  waiting-turn-commits s None of = tt
-  waiting-turn-commits s (Some p) of = waits-commits s Waiting p.0 p.1 of
+  waits-obeys : (s : SessionState) (turn : SessionState → Turn) → ((s : SessionState) → IsOf actor token s → TurnOf (turn s)) → (line : WaitingLine) (frames : List Pending) → IsOf actor token s
+      → Turns (bind (waiting_play (resumed s frames) line) (on_to turn))
+  waits-obeys s turn to line frames of = let t = resumed s frames in then-turns s.outcome (waiting_play t line) turn to (waiting-obeys actor token s.outcome t line (of, refl))
 
-  waiting-turn-of : (s : SessionState) (next : Option (WaitingLine × List Pending)) → IsOf actor token s → AllEnds (NextKeeps TurnOf) (waiting_turn s next)
-  waiting-turn-of s None of = tt
-  waiting-turn-of s (Some p) of = then-of (waiting_play (resumed s p.1) p.0) Waiting (λ t of. of) (waits-of s p.0 p.1 of)
+  waiting-turn-obeys : (s : SessionState) (next : Option (WaitingLine × List Pending)) → IsOf actor token s → Turns (waiting_turn s next)
+  waiting-turn-obeys s None of = tt
+  waiting-turn-obeys s (Some p) of = waits-obeys s Waiting (λ t of. of) p.0 p.1 of
 
-  ends-commits : (b : Bool) (s : SessionState) → IsOf actor token s → EachCommit (IsBy actor token) (if b then bind (ended_draft s) (on_to Finishing) else Ret (Last (Go (rested s))))
-  ends-commits true s of = then-commits (ended_draft s) Finishing (ended-commits actor token s of) (ended-of actor token s of)
-  ends-commits false s of = tt
+  ends-obeys : (b : Bool) (s : SessionState) → IsOf actor token s → Turns (if b then bind (ended_draft s) (on_to Finishing) else Ret (Go (Leaving (rested s))))
+  ends-obeys true s of = then-turns s.outcome (ended_draft s) Finishing (λ t of. of) (ended-obeys actor token s.outcome s of)
+  ends-obeys false s of = rested-of actor token s of
 
-  ends-of : (b : Bool) (s : SessionState) → IsOf actor token s → AllEnds (NextKeeps TurnOf) (if b then bind (ended_draft s) (on_to Finishing) else Ret (Last (Go (rested s))))
-  ends-of true s of = then-of (ended_draft s) Finishing (λ t of. of) (ended-of actor token s of)
-  ends-of false s of = tt
-
-  finishing-turn-commits : (s : SessionState) (next : Option (WaitingLine × List Pending)) → IsOf actor token s → EachCommit (IsBy actor token) (finishing_turn s next)
-  finishing-turn-commits s None of = ends-commits (is_drafting s) s of
-  finishing-turn-commits s (Some p) of = waits-commits s Finishing p.0 p.1 of
-
-  finishing-turn-of : (s : SessionState) (next : Option (WaitingLine × List Pending)) → IsOf actor token s → AllEnds (NextKeeps TurnOf) (finishing_turn s next)
-  finishing-turn-of s None of = ends-of (is_drafting s) s of
-  finishing-turn-of s (Some p) of = then-of (waiting_play (resumed s p.1) p.0) Finishing (λ t of. of) (waits-of s p.0 p.1 of)
+  finishing-turn-obeys : (s : SessionState) (next : Option (WaitingLine × List Pending)) → IsOf actor token s → Turns (finishing_turn s next)
+  finishing-turn-obeys s None of = ends-obeys (is_drafting s) s of
+  finishing-turn-obeys s (Some p) of = waits-obeys s Finishing (λ t of. of) p.0 p.1 of
 
   -- the draft of send mode
-  subject-commits : (b : Bool) → EachCommit (IsBy actor token) (subject_asked b)
-  subject-commits true = (tt, λ u. tt)
-  subject-commits false = tt
-
-  composing-commits : (b : Bool) (t : SessionState) → EachCommit (IsBy actor token) (bind (subject_asked b) (λ u. Ret t))
-  composing-commits b t = bind-commits (IsBy actor token) (λ (u : Unit {0}). Unit {0}) (subject_asked b) (λ u. Ret t) (subject-commits b) (any-ends (subject_asked b)) (λ u done. tt)
+  composing-obeys : (b : Bool) (t : SessionState) → Turns (bind (bind (subject_asked b) (λ u. Ret t)) (λ t. Ret (Last (Go t))))
+  composing-obeys true t = (tt, λ u. tt)
+  composing-obeys false t = tt
 
   composing-of : (b : Bool) (t : SessionState) → IsOf actor token t → AllEnds (IsOf actor token) (bind (subject_asked b) (λ u. Ret t))
-  composing-of b t of = bind-ends (λ (u : Unit {0}). Unit {0}) (IsOf actor token) (subject_asked b) (λ u. Ret t) (any-ends (subject_asked b)) (λ u done. of)
+  composing-of true t of = λ u. of
+  composing-of false t of = of
+
+  turn-obeys : (x : Turn) → TurnOf x → Turns (turn_play x)
+  turn-obeys (Composing s draft) of = composing-obeys (asks_subject (new_machine (flattened draft)) (view_in s)) (with_new_draft s draft)
+  turn-obeys (Typed s line) of = then-turns s.outcome (typed_play s line) Waiting (λ t of. of) (typed-obeys actor token s.outcome s line (of, refl))
+  turn-obeys (Starting s name) of = then-turns s.outcome (startup_play s name) Waiting (λ t of. of) (startup-obeys actor token s.outcome s name of)
+  turn-obeys (Waiting s) of = waiting-turn-obeys s (next_waiting s) of
+  turn-obeys (Finishing s) of = finishing-turn-obeys s (next_waiting s) of
+  turn-obeys (Leaving s) of =
+      bind-obeys MayTurn met_by (EndsSo (LeavesAs s.outcome)) TurnEnds false (leaving s) (λ e. Ret (Last (Last e))) (leaving-obeys actor token s.outcome s (of, refl)) (λ met e is. tt)
 
   turn-commits : (x : Turn) → TurnOf x → EachCommit (IsBy actor token) (turn_play x)
-  turn-commits (Composing s draft) of =
-      let b = asks_subject (new_machine (flattened draft)) (view_in s) in
-      bind-commits (IsBy actor token) (IsOf actor token) (composing s draft) (λ t. Ret (Last (Go t))) (composing-commits b (with_new_draft s draft)) (composing-of b (with_new_draft s draft) of) (λ t done. tt)
-  turn-commits (Typed s line) of = then-commits (typed_play s line) Waiting (typed-commits actor token s line of) (typed-of actor token s line of)
-  turn-commits (Starting s name) of =
-      then-commits (startup_play s name) Waiting (startup-play-commits actor token s name) (startup-play-of actor token s name of)
-  turn-commits (Waiting s) of = waiting-turn-commits s (next_waiting s) of
-  turn-commits (Finishing s) of = finishing-turn-commits s (next_waiting s) of
-  turn-commits (Leaving s) of =
-      bind-commits (IsBy actor token) (λ (e : Status). Unit {0}) (leaving s) (λ e. Ret (Last (Last e))) (leaving-commits actor token s of) (any-ends (leaving s)) (λ e t. tt)
+  turn-commits x of = obeys-commits MayTurn met_by (IsBy actor token) TurnEnds (λ met. commits-so actor token) false (turn_play x) (turn-obeys x of)
 
   turn-of : (x : Turn) → TurnOf x → AllEnds (NextKeeps TurnOf) (turn_play x)
-  turn-of (Composing s draft) of =
-      let b = asks_subject (new_machine (flattened draft)) (view_in s) in
-      bind-ends (IsOf actor token) (NextKeeps TurnOf) (composing s draft) (λ t. Ret (Last (Go t))) (composing-of b (with_new_draft s draft) of) (λ t done. tt)
-  turn-of (Typed s line) of = then-of (typed_play s line) Waiting (λ t of. of) (typed-of actor token s line of)
-  turn-of (Starting s name) of = then-of (startup_play s name) Waiting (λ t of. of) (startup-play-of actor token s name of)
-  turn-of (Waiting s) of = waiting-turn-of s (next_waiting s) of
-  turn-of (Finishing s) of = finishing-turn-of s (next_waiting s) of
-  turn-of (Leaving s) of = bind-ends (λ (e : Status). Unit {0}) (NextKeeps TurnOf) (leaving s) (λ e. Ret (Last (Last e))) (any-ends (leaving s)) (λ e t. tt)
+  turn-of x of = obeys-ends MayTurn met_by TurnEnds (NextKeeps TurnOf) (λ met n keeps. keeps) false (turn_play x) (turn-obeys x of)
+
+  typed-of : (s : SessionState) (line : List ℕ) → IsOf actor token s → AllEnds (NextOf actor token) (typed_play s line)
+  typed-of s line of = lines-of actor token s.outcome (typed_play s line) (typed-obeys actor token s.outcome s line (of, refl))
+
+  ended-of : (s : SessionState) → IsOf actor token s → AllEnds (NextOf actor token) (ended_draft s)
+  ended-of s of = lines-of actor token s.outcome (ended_draft s) (ended-obeys actor token s.outcome s of)
+
+  startup-play-of : (s : SessionState) (name : List ℕ) → IsOf actor token s → AllEnds (NextOf actor token) (startup_play s name)
+  startup-play-of s name of = lines-of actor token s.outcome (startup_play s name) (startup-obeys actor token s.outcome s name of)
 
   -- so is the state with which a call goes on
   abbrev GoesOnOf : Ends → Type 0
@@ -277,17 +305,17 @@ module _ (actor : List ℕ) (token : ℕ) where
   waiting-goes-on of short = tt
 
   line-goes-on : (s : SessionState) (line : List ℕ) {es : List Event} {out : Ends} → IsOf actor token s → LineGoes s line es out → GoesOnOf out
-  line-goes-on s line of (typed {t = t} front rest is goes waits) = waiting-goes-on (goes-ends (NextOf actor token) (typed_play s line) front (Go t) (typed-of actor token s line of) goes) waits
+  line-goes-on s line of (typed {t = t} front rest is goes waits) = waiting-goes-on (goes-ends (NextOf actor token) (typed_play s line) front (Go t) (typed-of s line of) goes) waits
   line-goes-on s line of (rounds.last goes) = tt
   line-goes-on s line of (cut_short goes) = tt
 
   startup-goes-on : (s : SessionState) (name : List ℕ) {es : List Event} {out : Ends} → IsOf actor token s → StartupGoes s name es out → GoesOnOf out
   startup-goes-on s name of (begun {t = t} front rest is goes waits) =
-      waiting-goes-on (goes-ends (NextOf actor token) (startup_play s name) front (Go t) (startup-play-of actor token s name of) goes) waits
+      waiting-goes-on (goes-ends (NextOf actor token) (startup_play s name) front (Go t) (startup-play-of s name of) goes) waits
   startup-goes-on s name of (unread goes) = tt
 
   draft-goes-on : (s : SessionState) {es : List Event} {out : Ends} → IsOf actor token s → DraftEnds s es out → GoesOnOf out
-  draft-goes-on s of (told {t = t} front rest is goes waits) = waiting-goes-on (goes-ends (NextOf actor token) (ended_draft s) front (Go t) (ended-of actor token s of) goes) waits
+  draft-goes-on s of (told {t = t} front rest is goes waits) = waiting-goes-on (goes-ends (NextOf actor token) (ended_draft s) front (Go t) (ended-of s of) goes) waits
   draft-goes-on s of (told_last goes) = tt
   draft-goes-on s of (untold goes) = tt
 
@@ -341,11 +369,6 @@ module _ {H : Type 0} (w : World H) (old new : H) (s : SessionState) (fits : s.t
       let r = Ran-since before es ran at to in
       turn-safe s.actor s.token (Starting s name) _ es out fits (refl, refl) r.0 may (startup-loop s name r.1) (startup-goes-on s.actor s.token s name (refl, refl) r.1)
 
-  pub finish-safe : (out : Ends) → rested s ≡ s → Ran w old new (λ es. FinishGo s es out) → IsSafeCall w old new s (Finishing s) out
-  finish-safe out same ran = λ before es at to may.
-      let r = Ran-since before es ran at to in
-      turn-safe s.actor s.token (Finishing s) _ es out fits (refl, refl) r.0 may (finish-loop same r.1) (finish-goes-on s.actor s.token (refl, refl) r.1)
-
   pub compose-safe : {A : Type 0} (t : SessionState) (draft : Draft) (result : Result A RunError) → Ran w old new (λ es. Goes (composing s draft) es (in_play (λ (a : A). t) result))
       → IsSafeCall w old new s (Composing s draft) (in_play (λ (a : A). Go t) result)
   compose-safe t draft result ran = λ before es at to may.
@@ -356,7 +379,8 @@ module _ {H : Type 0} (w : World H) (old new : H) (s : SessionState) (fits : s.t
   left-on (Ok e) = tt
   left-on (Err e) = tt
 
-  pub end-safe : (result : Result Status RunError) → Ran w old new (λ es. Goes (leaving s) es (in_play (λ (e : Status). e) result)) → IsSafeCall w old new s (Leaving s) (in_play (λ (e : Status). Last e) result)
-  end-safe result ran = λ before es at to may.
+  pub input-safe : (result : Result Status RunError) → rested s ≡ s → Ran w old new (λ es. InputEnds s es (in_play (λ (e : Status). e) result))
+      → IsSafeCall w old new s (Finishing s) (in_play (λ (e : Status). Last e) result)
+  input-safe result same ran = λ before es at to may.
       let r = Ran-since before es ran at to in
-      turn-safe s.actor s.token (Leaving s) _ es _ fits (refl, refl) r.0 may (leaving-loop s result (own es) r.1) (left-on result)
+      turn-safe s.actor s.token (Finishing s) _ es _ fits (refl, refl) r.0 may (input-loop s result (own es) same r.1) (left-on result)

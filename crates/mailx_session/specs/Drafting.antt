@@ -36,7 +36,7 @@ use Rattle.read_commands.specs.Origins.{commanded}
 use Rattle.session_state.specs.declared.state.SessionState.{SessionState}
 use Rattle.session_state.specs.declared.status.Status.{Status}
 use Rattle.session_state.specs.Placing.{placed}
-use Rattle.session_state.specs.States.{with_draft, with_count, without_draft}
+use Rattle.session_state.specs.States.{with_draft, without_draft}
 use Rattle.mailx_session.specs.Sessions.{carried_out}
 use Rattle.session_asks.specs.Running.{by_shell, not_run}
 use Rattle.session_asks.specs.Beginning.{view_in}
@@ -67,7 +67,7 @@ escape_fault error.Memory = []
 abbrev pub released : SessionState → SessionState
 released s = with_draft s (option_map idle s.draft)
 
--- once the draft took an answer what it says is said
+-- once the draft took an answer what it asks to print is printed
 abbrev pub told : SessionState → Need → Play (Next SessionState Status)
 told s (need.Say bytes) = Ask (Say bytes) (λ _. Ret (Go s))
 told s other = Ret (Go s)
@@ -92,12 +92,12 @@ after_fetch s name (Some (found.TooLarge n)) = refused s (too_large name)
 after_fetch s name (Some (found.Bytes None held)) = refused s (no_such_file name)
 after_fetch s name (Some (found.Bytes (Some text) held)) = answered s (answer.Loaded text)
 
--- the file of this name is loaded for the draft, where it can be a file's
+-- the file of this name is loaded for the draft, if it can be a file's
 abbrev pub fetched_named : SessionState → List ℕ → Play (Next SessionState Status)
 fetched_named s name =
     if is_short_name (placed s.here name) then Ask (Try (placed s.here name)) (after_fetch s name) else refused s (bad_name name)
 
--- the same, where a word stands for a name
+-- the same, if a word stands for a name
 abbrev pub fetched : SessionState → OrFault (List ℕ) → Play (Next SessionState Status)
 fetched s (Ok name) = fetched_named s name
 fetched s (Err line) = refused s line
@@ -111,7 +111,7 @@ after_child s (Some a) = answered s (answer.Ran a)
 abbrev pub run_for : SessionState → List ℕ → List ℕ → Play (Next SessionState Status)
 run_for s command input = Ask (by_shell s.desk command input) (after_child s)
 
--- bytes are put at the end of a file by a commit, and then the reply is said
+-- bytes are put at the end of a file by a commit, and then the reply is printed
 abbrev pub written : List ℕ → List ℕ → Steps
 written name bytes = record {
   asks = asks.Commit (AddRaw name bytes ∷ []) ∷ asks.Say (reply name (codes "Written") 1) ∷ [];
@@ -123,9 +123,9 @@ abbrev pub put : SessionState → OrFault (List ℕ) → List ℕ → Play (Next
 put s (Ok name) bytes = carried_out s (Ok (written name bytes))
 put s (Err line) bytes = refused s line
 
--- a command of the session is carried out while the draft is open; it is the first that is counted
+-- a command of the session is carried out while the draft is open; it brings no lines, so it isn't counted
 abbrev pub commanded_within : SessionState → List ℕ → Play (Next SessionState Status)
-commanded_within s line = carried_out (with_count s 1) (commanded origin.Draft s.desk line)
+commanded_within s line = carried_out s (commanded origin.Draft s.desk line)
 
 -- what the draft needs
 abbrev pub needed : SessionState → Need → Play (Next SessionState Status)

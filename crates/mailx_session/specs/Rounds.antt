@@ -1,5 +1,5 @@
 -- The lines of a session: one of the input, and those that wait.
-use Rattle.std.specs.Prelude.{◌≡◌, ◌+◌, nat_lt, ℕ, Bool, true, false, ◌||◌, List, [], ◌++◌, codes, if◌then◌else◌}
+use Rattle.std.specs.Prelude.{◌≡◌, ◌+◌, nat_lt, ℕ, Bool, true, false, not, ◌||◌, List, [], ◌++◌, codes, if◌then◌else◌}
 use Rattle.std.specs.List.{list_all}
 use Rattle.std.specs.declared.option.Option.TheVariants.{Some, None}
 use Rattle.std.specs.declared.result.Result.{Result}
@@ -10,9 +10,11 @@ use Rattle.mail_text.specs.Lines.{with_feed}
 use Rattle.session_play.specs.declared.stop.Stop.{Stop}
 use Rattle.session_play.specs.declared.stop.Stop.TheVariants as stop
 use Rattle.session_play.specs.Play.{Play, Ret, Ask, Say, Next, Go, Last, Goes}
+use Rattle.rc_conditionals.specs.Turns.{is_live}
+use Rattle.command_desk.specs.declared.desk.Desk.{Desk}
 use Rattle.read_commands.specs.declared.origin.Origin.{Origin}
 use Rattle.read_commands.specs.declared.origin.Origin.TheVariants.{Input}
-use Rattle.read_commands.specs.Origins.{commanded, is_defining, passes_over}
+use Rattle.read_commands.specs.Origins.{commanded, is_defining}
 use Rattle.session_state.specs.declared.frames.WaitingLine.{WaitingLine}
 use Rattle.session_state.specs.declared.state.SessionState.{SessionState}
 use Rattle.session_state.specs.declared.status.Status.{Status}
@@ -30,14 +32,14 @@ line_play from s line = carried_out s (commanded from s.desk line)
 abbrev pub command_play : SessionState → List ℕ → Play (Next SessionState Status)
 command_play s line = line_play Input (with_count (rested s) 1) line
 
--- a line of the input: one of the draft, where one is open, and else a command
+-- a line of the input: one of the draft, if one is open, and else a command
 abbrev pub typed_play : SessionState → List ℕ → Play (Next SessionState Status)
 typed_play s line = if is_drafting s then draft_play s line else command_play s line
 
 abbrev pub too_many_commands : List ℕ
 too_many_commands = with_feed (codes "too many commands")
 
--- this is said, and the lines that wait are dropped, with the conditions and the definition that they left open
+-- this is printed, and the lines that wait are dropped, with the conditions and the definition that they left open
 abbrev pub dropped_play : SessionState → Play (Next SessionState Status)
 dropped_play s = Ask (Say too_many_commands) (λ _. Ret (Go (resumed s [])))
 
@@ -47,18 +49,22 @@ counted_play s line =
     if nat_lt s.count command_limit then line_play line.origin (with_count s (s.count + 1)) line.text
     else dropped_play s
 
--- a line from elsewhere is no command: it is empty, or passed over
-abbrev pub is_idle : SessionState → WaitingLine → Bool
-is_idle s line = list_all is_blank line.text || passes_over s.desk line.text
+-- a line from elsewhere has nothing but blanks
+abbrev pub is_empty : WaitingLine → Bool
+is_empty line = list_all is_blank line.text
 
--- a line from elsewhere that is no line of a definition
+-- a line from elsewhere, while lines are carried out; an empty one is no command
 abbrev pub outside_play : SessionState → WaitingLine → Play (Next SessionState Status)
-outside_play s line = if is_idle s line then Ret (Go s) else counted_play s line
+outside_play s line = if is_empty line then Ret (Go s) else counted_play s line
 
--- a line from elsewhere; one of a definition is no command
+-- a line that is read here is no command: a definition is under way, or lines aren't carried out
+abbrev pub is_uncounted : Desk → Bool
+is_uncounted desk = is_defining desk || not (is_live desk.conditions)
+
+-- a line from elsewhere, with the count of commands
 abbrev pub waiting_play : SessionState → WaitingLine → Play (Next SessionState Status)
 waiting_play s line =
-    if is_defining s.desk then line_play line.origin s line.text
+    if is_uncounted s.desk then line_play line.origin s line.text
     else outside_play s line
 
 -- The lines that wait are carried out, each on the state that the one before it left, until none is left, a draft is open, the

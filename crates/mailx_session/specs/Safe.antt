@@ -26,7 +26,7 @@ use Rattle.mailx_session.specs.Startup.{startup_play}
 use Rattle.mailx_session.specs.Leaving.{leaving}
 
 -- where a call is between two plays: before the draft of send mode; before a line of the input; before a start-up file is loaded; before the lines
--- that wait; at the end of the input, where lines that wait are carried out and drafts end; or before the folder is left
+-- that wait; at the end of the input, where lines that wait are carried out and drafts end; or after these, where the folder is left
 pub data Turn : Type 0 where
   Composing : SessionState → Draft → Turn
   Typed : SessionState → List ℕ → Turn
@@ -44,14 +44,14 @@ abbrev pub on_to : (SessionState → Turn) → Next SessionState Status → Turn
 on_to turn (Go s) = Ret (Go (turn s))
 on_to turn (Last e) = Ret (Last (Last e))
 
--- the next of the lines that wait is carried out; where none waits the call is over
+-- the next of the lines that wait is carried out; if none waits the call is over
 abbrev pub waiting_turn : SessionState → Option (WaitingLine × List Pending) → TurnPlay
 waiting_turn s None = Ret (Last (Go (rested s)))
 waiting_turn s (Some (line, frames)) = bind (waiting_play (resumed s frames) line) (on_to Waiting)
 
--- at the end of the input a line that waits is carried out; where none does a draft that is open ends; else the call is over
+-- at the end of the input a line that waits is carried out; if none does a draft that is open ends; else the folder is left
 abbrev pub finishing_turn : SessionState → Option (WaitingLine × List Pending) → TurnPlay
-finishing_turn s None = if is_drafting s then bind (ended_draft s) (on_to Finishing) else Ret (Last (Go (rested s)))
+finishing_turn s None = if is_drafting s then bind (ended_draft s) (on_to Finishing) else Ret (Go (Leaving (rested s)))
 finishing_turn s (Some (line, frames)) = bind (waiting_play (resumed s frames) line) (on_to Finishing)
 
 -- the play of a turn
@@ -64,7 +64,7 @@ turn_play (Finishing s) = finishing_turn s (next_waiting s)
 turn_play (Leaving s) = bind (leaving s) (λ e. Ret (Last (Last e)))
 
 -- The events of a call, steps of others among them, carry out its meaning from a turn on, and with the commits that are read off the same stretches
--- they are crash safe; each commit that was answered as done is decided in its own stretch, before anything is said of it. Where the session goes
+-- they are crash safe; each commit that was answered as done is decided in its own stretch, before anything is printed of it. If the session goes
 -- on, its next call begins on such a disk again.
 pub record IsStepSafe (actor : List ℕ) (token : ℕ) (turn : Turn) (d : Disk) (es : List Event) (out : Result (Next SessionState Status) Stop) : Type 0 where
   pub commits : Commits

@@ -14,12 +14,12 @@ use Rattle.session_state.specs.declared.status.Status.{Status}
 use Rattle.session_state.specs.States.{settled}
 use Rattle.session_asks.specs.Asks.{asked}
 
--- a command's steps are carried out, or the line that refuses it is said
+-- a command's steps are carried out, or the line that refuses it is printed
 abbrev pub carried_out : SessionState → OrFault Steps → Play (Next SessionState Status)
 carried_out s (Ok steps) = bind (in_order asked s steps.asks) (concluded s (λ t. settled t steps.effects))
 carried_out s (Err line) = refused s line
 
--- where the run ends, the state stays
+-- if the run ends, the state stays
 abbrev pub StaysAtEnd : SessionState → SessionState → Flow → Type 0
 StaysAtEnd old new flow.Go = Unit {0}
 StaysAtEnd old new (flow.End s) = new ≡ old

@@ -21,19 +21,19 @@ use Rattle.session_state.specs.Placing.{placed}
 use Rattle.session_state.specs.States.{with_frames}
 use Rattle.mailx_session.specs.Rounds.{WaitingGo}
 
--- the lines of a start-up file wait, in front of others, of which there are none where no draft is open
+-- the lines of a start-up file wait, in front of others, of which there are none if no draft is open
 abbrev pub with_startup : SessionState → List ℕ → SessionState
 with_startup s text = with_frames s (s.frames ++ frame_of Startup kind.Startup (length s.desk.conditions) text ∷ [])
 
 -- what follows the load of a start-up file that is said by this name: its lines wait, an absent one is passed over, and else what is
--- wrong is said; a lock on it is no matter
+-- wrong is printed; a lock on it is no matter
 abbrev pub after_startup : SessionState → List ℕ → Option Found → Play (Next SessionState Status)
 after_startup s name None = refused s (cannot_be_read name)
 after_startup s name (Some (found.TooLarge n)) = refused s (too_large name)
 after_startup s name (Some (found.Bytes None held)) = Ret (Go s)
 after_startup s name (Some (found.Bytes (Some text) held)) = Ret (Go (with_startup s text))
 
--- a start-up file of this name is loaded, where the name can be a file's
+-- a start-up file of this name is loaded, if the name can be a file's
 abbrev pub startup_play : SessionState → List ℕ → Play (Next SessionState Status)
 startup_play s name = if is_short_name (placed s.here name) then Ask (Try (placed s.here name)) (after_startup s name) else refused s (bad_name name)
 

@@ -9,8 +9,8 @@ ghost use Rattle.command_desk.specs.FileNames.{expanded};
 ghost use Rattle.session_state.specs.declared.state.SessionState.{SessionState};
 ghost use Rattle.session_state.specs.declared.status.Status.{Status};
 ghost use Rattle.session_asks.specs.Beginning.{view_as};
-ghost use Rattle.mailx_session.specs.Drafting.{answered, after_child, after_fetch, commanded_within, draft_play, fetched, fetched_named, needed, put, run_for, tilde, told, written};
-ghost use Rattle.mailx_session.specs.Taking.{AwaitsAll, IsAwaited, IsEscapeFault, SaysFault, TookAnswer, TookLine};
+ghost use Rattle.mailx_session.specs.Drafting.{answered, after_child, after_fetch, commanded_within, draft_play, fetched, fetched_named, needed, put, released, run_for, tilde, told, written};
+ghost use Rattle.mailx_session.specs.Taking.{AwaitsAll, IsAwaited, IsEscapeFault, RefusesLine, SaysFault, TookAnswer, TookLine};
 ghost use Rattle.session_state.specs.Placing.{placed};
 ghost use Rattle.session_state.specs.States.{IsState};
 ghost use Rattle.mailx_session.specs.Sessions.{carried_out};
@@ -89,7 +89,7 @@ fn refuse_escape<H: Host>(
     }
 }
 
-// Says what the draft says once it took an answer.
+// Prints what the draft asks to print once it took an answer.
 fn tell<H: Host>(state: &SessionState, host: &mut H, need: &Need) -> Result<Flow, RunError>
     ensures ran { Ran H.world host.old host.new
         (λ es. Goes (told state.now need.now) es (in_play (next_of state.now) result)) }
@@ -110,7 +110,7 @@ fn tell<H: Host>(state: &SessionState, host: &mut H, need: &Need) -> Result<Flow
     }
 }
 
-// The draft, where one is open, takes an answer that it waits for.
+// The draft, if one is open, takes an answer that it waits for.
 fn take_answer(
     desk: &Desk,
     terminal: bool,
@@ -203,7 +203,7 @@ fn fetch_named<H: Host>(
     }
 }
 
-// Loads a file for the draft, the one that its name stands for, or says what is wrong with its name.
+// Loads a file for the draft, the one that its name stands for, or prints what is wrong with its name.
 fn fetch_placed<H: Host>(
     alloc: Global,
     state: &mut SessionState,
@@ -227,7 +227,7 @@ fn fetch_placed<H: Host>(
     }
 }
 
-// Loads a file for the draft, or says what is wrong with its name.
+// Loads a file for the draft, or prints what is wrong with its name.
 fn fetch<H: Host>(
     alloc: Global,
     state: &mut SessionState,
@@ -335,7 +335,7 @@ fn run_for<H: Host>(
     }
 }
 
-// Bytes are put at the end of a file by a commit, and then the reply is said.
+// Bytes are put at the end of a file by a commit, and then the reply is printed.
 fn written(alloc: Global, name: Text, bytes: Text) -> Result<Steps, Memory>
     ensures { IfOk result (λ steps. steps ≡ written name bytes) }
 {
@@ -409,7 +409,6 @@ fn command_within<H: Host>(
     ensures done { IfOk result EndsByLine }
     ensures cause { LineCaused (H.world.counts host.old) (H.world.counts host.new) result }
 {
-    state.count = 1;
     carry_line(alloc, state, host, Origin::Draft, line)
 }
 
@@ -446,7 +445,7 @@ fn meet<H: Host>(
     }
 }
 
-// The draft, where one is open, takes a line, and waits for no answer any more.
+// The draft, if one is open, takes a line, and waits for no answer any more.
 fn take_line(
     desk: &Desk,
     terminal: bool,
@@ -466,7 +465,7 @@ fn take_line(
     }
 }
 
-/// Takes a line of the draft that is open.
+/// Takes a line of the draft that is open. If that refuses it the draft is as it was, and waits for no answer.
 pub(crate) fn draft_line<H: Host>(
     alloc: Global,
     state: &mut SessionState,
@@ -477,6 +476,8 @@ pub(crate) fn draft_line<H: Host>(
     ensures ran { Ran H.world host.old host.new
         (λ es. Goes (draft_play state.old line.now) es (in_play (next_of state.new) result)) }
     ensures state { IsState state.new }
+    ensures refused { RefusesLine state.old line.now → state.new ≡ released state.old }
+    ensures goes_on { RefusesLine state.old line.now → IfOk result (λ flow. flow ≡ Flow.Go) }
     ensures done { IfOk result EndsByLine }
     ensures cause { LineCaused (H.world.counts host.old) (H.world.counts host.new) result }
 {

@@ -1,4 +1,4 @@
-// The end of the input, where a draft is open.
+// The end of the input, if a draft is open.
 ghost use Rattle.std.specs.Prelude.{◌≡◌, ◌<◌, false, true, Ok, IfOk, OnOk};
 ghost use Rattle.host_port.specs.Ran.{Ran};
 ghost use Rattle.session_state.specs.Bringing.{weight};
@@ -59,6 +59,7 @@ pub(crate) fn finish<H: Host>(
     ensures ran { Ran H.world host.old host.new
         (λ es. FinishGo state.old es (in_play (next_of state.new) result)) }
     ensures over { result ≡ Ok Flow.Go → is_drafting state.new ≡ false }
+    ensures stays { is_drafting state.old ≡ false → state.new ≡ state.old }
     ensures session { IsSession state.new }
     ensures done { IfOk result EndsByLine }
     ensures cause { LineCaused (H.world.counts host.old) (H.world.counts host.new) result }

@@ -1,5 +1,5 @@
-//! A session: the desk that it begins with, what an input line does to it and says, and how the end of the input leaves
-//! the folder.
+//! A session: the desk that it begins with, what an input line does to it and prints, and how the end of the input
+//! leaves the folder.
 #![tactic(auto)]
 
 mod drafting;

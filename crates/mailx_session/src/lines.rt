@@ -1,5 +1,5 @@
 // Lines as they are carried out: one of the input, and then those that wait.
-ghost use Rattle.std.specs.Prelude.{◌≡◌, ◌≤◌, ◌<◌, ◌≢◌, List, ℕ, [], true, false, Ok, Err, IfErr, IfOk, OnErr, OnOk, take};
+ghost use Rattle.std.specs.Prelude.{◌≡◌, ◌≤◌, ◌<◌, ◌≢◌, List, ℕ, [], true, false, None, Ok, Err, IfErr, IfOk, OnErr, OnOk, length, take};
 ghost use Rattle.std.specs.List.{list_all, list_any};
 ghost use Rattle.mail_text.specs.Ascii.{is_blank};
 ghost use Rattle.host_port.specs.Ran.{Ran};
@@ -7,20 +7,22 @@ ghost use Rattle.session_play.specs.Play.{Goes};
 ghost use Rattle.session_play.specs.Steps.{refused};
 ghost use Rattle.command_desk.specs.Desks.{IsDesk};
 ghost use Rattle.command_desk.specs.Effects.{effect};
-ghost use Rattle.read_commands.specs.Origins.{commanded, is_defining};
+ghost use Rattle.read_commands.specs.Origins.{commanded};
 ghost use Rattle.read_commands.specs.declared.origin.Origin.{Origin};
-ghost use Rattle.session_state.specs.Pending.{IsTaken};
+ghost use Rattle.session_state.specs.Pending.{held, IsTaken};
 ghost use Rattle.session_state.specs.Follows.{IsNext};
 ghost use Rattle.session_state.specs.States.{IsState, IsSession, is_drafting, resumed, rested, settled, with_frames, KeepsOthers};
 ghost use Rattle.session_state.specs.Bringing.{brings, brings_lines, room, weight};
-ghost use Rattle.mailx_session.specs.Rounds.{line_play, command_play, typed_play, dropped_play, counted_play, is_idle, outside_play, waiting_play, WaitingGo, LineGoes};
+ghost use Rattle.mailx_session.specs.Rounds.{line_play, command_play, typed_play, dropped_play, counted_play, outside_play, is_uncounted, waiting_play, WaitingGo, LineGoes};
 ghost use Rattle.mailx_session.specs.Sessions.{carried_out, StaysAtEnd, DoesNothing};
+ghost use Rattle.mailx_session.specs.Drafting.{released};
+ghost use Rattle.mailx_session.specs.Taking.{RefusesLine};
 ghost use Rattle.session_state.specs.Answers.{next_of, in_play, LineCaused, EndsByLine};
 
 use crate::drafting::draft_line;
 use host_port::Host;
 use mail_text::{Memory, Text, is_blank};
-use read_commands::{Effects, Origin, Refusal, Steps, is_defining, passes_over, perform_line};
+use read_commands::{Desk, Effects, Origin, Refusal, Steps, is_defining, perform_line};
 use session_asks::do_asks;
 use session_state::{
     Asked, Flow, RunError, SessionState, Taken, WaitingLine, cut_to, drop_lines, refuse, say,
@@ -30,7 +32,7 @@ use std::alloc::Global;
 /// The most commands that one input line gives.
 const COMMAND_LIMIT: u32 = 100_000;
 
-// Makes the changes of a command once what it asked for was done. After want of memory the lines that it brought are
+// Makes the changes of a command once what it asked for was done. If memory runs out, the lines that it brought are
 // gone: the first `depth` frames stay.
 fn settle(state: &mut SessionState, depth: usize, effects: Effects) -> Result<(), RunError>
     requires before { IsDesk state.old.desk }
@@ -82,7 +84,7 @@ pub(crate) fn carry_out<H: Host>(
     }
 }
 
-/// Carries out a line from somewhere, without its line feed. The desk changes only where the run goes on, and not where
+/// Carries out a line from somewhere, without its line feed. The desk changes only if the run goes on, and not if
 /// the line is refused, and so do the lines that wait and the draft; nothing else changes.
 pub(crate) fn carry_line<H: Host>(
     alloc: Global,
@@ -140,7 +142,7 @@ fn command_line<H: Host>(
     carry_line(alloc, state, host, Origin::Input, line)
 }
 
-// Carries out a line of the input: one of the draft, where one is open, and else a command.
+// Carries out a line of the input: one of the draft, if one is open, and else a command.
 fn typed_line<H: Host>(
     alloc: Global,
     state: &mut SessionState,
@@ -157,6 +159,8 @@ fn typed_line<H: Host>(
         → commanded Origin.Input state.old.desk line.now ≡ Err fault → rested state.new ≡ state.old }
     ensures goes_on { is_drafting state.old ≡ false → (fault : List ℕ)
         → commanded Origin.Input state.old.desk line.now ≡ Err fault → IfOk result (λ flow. flow ≡ Flow.Go) }
+    ensures escape { RefusesLine state.old line.now → state.new ≡ released state.old }
+    ensures escape_goes_on { RefusesLine state.old line.now → IfOk result (λ flow. flow ≡ Flow.Go) }
     ensures done { IfOk result EndsByLine }
     ensures end { is_drafting state.old ≡ false → IfOk result (StaysAtEnd state.old (rested state.new)) }
     ensures err { is_drafting state.old ≡ false → OnErr result (rested state.new ≡ state.old) }
@@ -169,7 +173,7 @@ fn typed_line<H: Host>(
     }
 }
 
-// Says that there are too many commands, and drops the lines that wait, with the conditions and the definition that
+// Prints that there are too many commands, and drops the lines that wait, with the conditions and the definition that
 // they left open.
 #[tactic(auto, using(session_asks::proofs::SourcingLemmas::weight_dropped))]
 fn drop_waiting<H: Host>(
@@ -224,18 +228,7 @@ fn is_empty(line: &[u8]) -> bool
     line.iter().all(|byte| is_blank(*byte))
 }
 
-// Whether a line from elsewhere is no command: it is empty, or passed over.
-fn is_idle(alloc: Global, state: &SessionState, line: &WaitingLine) -> Result<bool, Memory>
-    ensures { IfOk result (λ idle. idle ≡ is_idle state.now line.now) }
-{
-    if is_empty(line.text.bytes()) {
-        Ok(true)
-    } else {
-        passes_over(alloc, &state.desk, line.text.bytes())
-    }
-}
-
-// Carries out a line from elsewhere that is no line of a definition.
+// Carries out a line from elsewhere, while lines are carried out. An empty one is no command.
 fn outside_line<H: Host>(
     alloc: Global,
     state: &mut SessionState,
@@ -250,20 +243,22 @@ fn outside_line<H: Host>(
     ensures done { IfOk result EndsByLine }
     ensures cause { LineCaused (H.world.counts host.old) (H.world.counts host.new) result }
 {
-    match is_idle(alloc, state, line) {
-        Ok(idle) => {
-            if idle {
-                Ok(Flow::Go)
-            } else {
-                counted_line(alloc, state, host, line)
-            }
-        }
-        Err(Memory) => Err(RunError::Memory),
+    if is_empty(line.text.bytes()) {
+        Ok(Flow::Go)
+    } else {
+        counted_line(alloc, state, host, line)
     }
 }
 
-// Carries out a line from elsewhere where a definition is under way, so that it is no command.
-fn defining_line<H: Host>(
+// Whether a line that is read here is no command: a definition is under way, or lines aren't carried out.
+fn is_uncounted(desk: &Desk) -> bool
+    ensures { result ≡ is_uncounted desk.now }
+{
+    is_defining(desk) || !desk.conditions.live()
+}
+
+// Carries out a line from elsewhere that is no command, so that it brings none.
+fn uncounted_line<H: Host>(
     alloc: Global,
     state: &mut SessionState,
     host: &mut H,
@@ -271,7 +266,7 @@ fn defining_line<H: Host>(
     line: &[u8],
 ) -> Result<Flow, RunError>
     requires state { IsState state.old }
-    requires defining { is_defining state.old.desk ≡ true }
+    requires uncounted { is_uncounted state.old.desk ≡ true }
     ensures ran { Ran H.world host.old host.new
         (λ es. Goes (line_play origin state.old line.now) es (in_play (next_of state.new) result)) }
     ensures state { IsState state.new }
@@ -282,7 +277,7 @@ fn defining_line<H: Host>(
     carry_line(alloc, state, host, origin, line)
 }
 
-// Carries out a line from elsewhere. One of a definition is no command.
+// Carries out a line from elsewhere, with the count of commands.
 fn waiting_line<H: Host>(
     alloc: Global,
     state: &mut SessionState,
@@ -297,8 +292,8 @@ fn waiting_line<H: Host>(
     ensures done { IfOk result EndsByLine }
     ensures cause { LineCaused (H.world.counts host.old) (H.world.counts host.new) result }
 {
-    if is_defining(&state.desk) {
-        defining_line(alloc, state, host, line.origin, line.text.bytes())
+    if is_uncounted(&state.desk) {
+        uncounted_line(alloc, state, host, line.origin, line.text.bytes())
     } else {
         outside_line(alloc, state, host, line)
     }
@@ -309,11 +304,13 @@ fn waiting_line<H: Host>(
 #[tactic(auto, using(session_state::proofs::RestLemmas::kept_valid))]
 fn next_of_frames(alloc: Global, state: &mut SessionState) -> Result<Option<WaitingLine>, Memory>
     requires { IsState state.old }
-    ensures taken { IfOk result (λ line. IsTaken line state.old.frames state.new.frames) }
+    ensures taken { IfOk result (λ line.
+        IsTaken line (held (length state.old.desk.conditions) state.old.frames) state.new.frames) }
     ensures resumed { OnOk result (state.new ≡ resumed state.old state.new.frames) }
     ensures state { IsState state.new }
     ensures err { OnErr result (state.old.frames ≢ []) }
 {
+    state.frames.hold(state.desk.conditions.depth());
     match state.frames.next_line(alloc) {
         Ok(Taken { line, nested }) => {
             cut_to(&mut state.desk, nested);
@@ -323,10 +320,11 @@ fn next_of_frames(alloc: Global, state: &mut SessionState) -> Result<Option<Wait
     }
 }
 
-// Takes the line that is carried out next: none where a draft is open.
+// Takes the line that is carried out next: none if a draft is open.
 fn next_waiting(alloc: Global, state: &mut SessionState) -> Result<Option<WaitingLine>, Memory>
     requires { IsState state.old }
     ensures next { IfOk result (λ line. IsNext line state.old state.new) }
+    ensures held { is_drafting state.old ≡ true → (result ≡ Ok None) × (state.new ≡ state.old) }
     ensures state { IsState state.new }
     ensures err { OnErr result (state.old.frames ≢ []) }
 {
@@ -348,6 +346,7 @@ pub(crate) fn waiting_lines<H: Host>(
         (λ es. WaitingGo state.old es (in_play (next_of (rested state.new)) result)) }
     ensures state { IsState state.new }
     ensures nothing { state.old.frames ≡ [] → DoesNothing (rested state.old) (rested state.new) result }
+    ensures held { is_drafting state.old ≡ true → DoesNothing state.old state.new result }
     ensures falls { is_drafting state.old ≡ false
         → OnOk result (is_drafting state.new ≡ true → weight state.new < weight state.old) }
     ensures done { IfOk result EndsByLine }
@@ -381,6 +380,8 @@ pub(crate) fn input_line<H: Host>(
         → commanded Origin.Input state.old.desk line.now ≡ Err fault → rested state.new ≡ state.old }
     ensures goes_on { is_drafting state.old ≡ false → (fault : List ℕ)
         → commanded Origin.Input state.old.desk line.now ≡ Err fault → IfOk result (λ flow. flow ≡ Flow.Go) }
+    ensures escape { RefusesLine state.old line.now → rested state.new ≡ released state.old }
+    ensures escape_goes_on { RefusesLine state.old line.now → IfOk result (λ flow. flow ≡ Flow.Go) }
     ensures done { IfOk result EndsByLine }
     ensures end { is_drafting state.old ≡ false → brings_lines (commanded Origin.Input state.old.desk line.now) ≡ false
         → IfOk result (StaysAtEnd state.old (rested state.new)) }

@@ -8,10 +8,12 @@ ghost use Rattle.read_commands.specs.declared.origin.Origin.{Origin};
 ghost use Rattle.read_commands.specs.Origins.{commanded};
 ghost use Rattle.session_asks.specs.Beginning.{composing, with_new_draft};
 ghost use Rattle.session_state.specs.States.{IsState, IsSession, is_drafting, rested};
-ghost use Rattle.mailx_session.specs.Leaving.{leaving};
-ghost use Rattle.mailx_session.specs.Rounds.{FinishGo, LineGoes};
-ghost use Rattle.mailx_session.specs.Safe.{Composing, Typed, Starting, Finishing, Leaving, IsSafeCall};
+ghost use Rattle.mailx_session.specs.Drafting.{released};
+ghost use Rattle.mailx_session.specs.Leaving.{InputEnds};
+ghost use Rattle.mailx_session.specs.Rounds.{LineGoes};
+ghost use Rattle.mailx_session.specs.Safe.{Composing, Typed, Starting, Finishing, IsSafeCall};
 ghost use Rattle.mailx_session.specs.Startup.{StartupGoes};
+ghost use Rattle.mailx_session.specs.Taking.{RefusesLine};
 ghost use Rattle.session_state.specs.Statuses.{IsEnd};
 ghost use Rattle.session_play.specs.Play.{Play, Go, Goes, Last};
 ghost use Rattle.session_state.specs.Bringing.{brings_lines};
@@ -19,8 +21,7 @@ ghost use Rattle.session_state.specs.Answers.{next_of, in_play, LineCaused, Ends
 ghost use Rattle.mailx_session.specs.Sessions.{StaysAtEnd};
 ghost use Rattle.session_asks.specs.Openings.{first_state, greeting, Opens};
 
-use crate::finishing::finish;
-use crate::leaving::leave;
+use crate::leaving::end_input;
 use crate::lines::input_line;
 use crate::startup::startup_file;
 use draft_text::Draft;
@@ -98,7 +99,7 @@ impl Session {
         Ok(())
     }
 
-    /// Begins the draft of send mode, once `Subject: ` was said where the next line is the subject.
+    /// Begins the draft of send mode, once `Subject: ` was printed, if the next line is the subject.
     pub fn compose<H: Host>(&mut self, draft: &Draft, host: &mut H) -> Result<(), RunError>
         ensures ran { Ran H.world host.old host.new
             (λ es. Goes (composing self.old draft.now) es (in_play (λ u. self.new) result)) }
@@ -114,7 +115,7 @@ impl Session {
         begun
     }
 
-    /// What is said at the start: with `header` set the opening line and the page of the current message.
+    /// What is printed at the start: with `header` set the opening line and the page of the current message.
     pub fn greeting(&self) -> Result<Text, Memory>
         ensures { IfOk result (λ text. text ≡ greeting self.now.desk) }
     {
@@ -138,7 +139,7 @@ impl Session {
     }
 
     /// Reads one start-up file and carries out its lines, of which each must be one that a start-up file may hold. An
-    /// absent file is passed over; what is wrong with another is said, and the session goes on.
+    /// absent file is passed over; what is wrong with another is printed, and the session goes on.
     pub fn startup<H: Host>(&mut self, name: &[u8], host: &mut H) -> Result<Flow, RunError>
         ensures ran { Ran H.world host.old host.new
             (λ es. StartupGoes self.old name.now es (in_play (next_of self.new) result)) }
@@ -163,8 +164,9 @@ impl Session {
     }
 
     /// Takes one input line, without its line feed, be it a command, a line of a definition or a line of a draft, and
-    /// carries out the lines that it brings too. Where it is no line of a draft and brings none, the state changes only
-    /// where the run goes on; it doesn't where the line is refused.
+    /// carries out the lines that it brings too. If it is no line of a draft and brings none, the state changes only
+    /// if the run goes on; it doesn't if the line is refused. A draft that refuses its line is as it was, and waits for
+    /// no answer; nothing else changes, and the session goes on.
     pub fn step<H: Host>(&mut self, line: &[u8], host: &mut H) -> Result<Flow, RunError>
         ensures ran { Ran H.world host.old host.new
             (λ es. LineGoes self.old line.now es (in_play (next_of self.new) result)) }
@@ -172,6 +174,8 @@ impl Session {
             → commanded Origin.Input self.old.desk line.now ≡ Err fault → self.new ≡ self.old }
         ensures goes_on { is_drafting self.old ≡ false → (fault : List ℕ)
             → commanded Origin.Input self.old.desk line.now ≡ Err fault → IfOk result (λ flow. flow ≡ Flow.Go) }
+        ensures escape { RefusesLine self.old line.now → self.new ≡ released self.old }
+        ensures escape_goes_on { RefusesLine self.old line.now → IfOk result (λ flow. flow ≡ Flow.Go) }
         ensures done { IfOk result EndsByLine }
         ensures end { is_drafting self.old ≡ false
             → brings_lines (commanded Origin.Input self.old.desk line.now) ≡ false
@@ -189,34 +193,19 @@ impl Session {
         result
     }
 
-    /// The end of the input, where a draft may be open: it ends, and the lines that wait are carried out, until no draft
-    /// is open and none waits.
-    pub fn finish<H: Host>(&mut self, host: &mut H) -> Result<Flow, RunError>
-        ensures ran { Ran H.world host.old host.new
-            (λ es. FinishGo self.old es (in_play (next_of self.new) result)) }
-        ensures over { result ≡ Ok Flow.Go → is_drafting self.new ≡ false }
-        ensures done { IfOk result EndsByLine }
-        ensures cause { LineCaused (H.world.counts host.old) (H.world.counts host.new) result }
-        ensures safe { IsSafeCall H.world host.old host.new self.old (Finishing self.old)
-            (in_play (next_of self.new) result) }
-    {
-        let _token = self.state.token;
-        finish(self.alloc, &mut self.state, host)
-    }
-
-    /// The end of the input, where no draft is open: the folder is left, as by `quit`, and the run ends. Where the quit is
-    /// refused its line is said. The state stays.
+    /// The end of the input. While a draft is open it ends, and the lines that wait are carried out; then the folder is
+    /// left, as by `quit`, and the run ends. If the quit is refused its line is printed.
     pub fn end<H: Host>(&mut self, host: &mut H) -> Result<Status, RunError>
         ensures ran { Ran H.world host.old host.new
-            (λ es. Goes (leaving self.old) es (in_play (λ (e : Status). e) result)) }
+            (λ es. InputEnds self.old es (in_play (λ (e : Status). e) result)) }
         ensures idle { rested self.old ≡ self.old }
-        ensures stays { self.new ≡ self.old }
+        ensures stays { is_drafting self.old ≡ false → self.new ≡ self.old }
         ensures end { IfOk result IsEnd }
         ensures cause { LineCaused (H.world.counts host.old) (H.world.counts host.new) result }
-        ensures safe { IsSafeCall H.world host.old host.new self.old (Leaving self.old)
+        ensures safe { IsSafeCall H.world host.old host.new self.old (Finishing self.old)
             (in_play (λ (e : Status). Last e) result) }
     {
         let _token = self.state.token;
-        leave(self.alloc, &mut self.state, host)
+        end_input(self.alloc, &mut self.state, host)
     }
 }

@@ -19,7 +19,7 @@ use session_play::{Found, try_load};
 use session_state::{Flow, Frame, FrameKind, RunError, SessionState, line_of, placed, refuse};
 use std::alloc::Global;
 
-/// Says a word and what is wrong with it.
+/// Prints a word and what is wrong with it.
 pub(crate) fn say_fault<H: Host>(
     alloc: Global,
     state: &SessionState,
@@ -105,7 +105,7 @@ fn load_named<H: Host>(
     }
 }
 
-// Loads a start-up file, the one that its name stands for, or says what is wrong with its name.
+// Loads a start-up file, the one that its name stands for, or prints what is wrong with its name.
 fn load_placed<H: Host>(
     alloc: Global,
     state: &mut SessionState,
@@ -128,7 +128,7 @@ fn load_placed<H: Host>(
     }
 }
 
-// Loads a start-up file, or says what is wrong with its name.
+// Loads a start-up file, or prints what is wrong with its name.
 fn load_file<H: Host>(
     alloc: Global,
     state: &mut SessionState,

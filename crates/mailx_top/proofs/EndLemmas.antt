@@ -86,7 +86,7 @@ pub cut-unless-idle : (may : Bool) (bytes : List ℕ) (cause : Stop) (front behi
 cut-unless-idle true bytes cause front behind said = λ is none. far-some bytes behind said none
 cut-unless-idle false bytes cause front behind said = λ is none. absurd (cc is)
 
--- where memory is wanting at an end, the play is cut off there
+-- if memory runs out at an end, the play is cut off there
 goes-short : {R : Type 0} (p : Play R) (es : List Event) (r : R) → Goes p es (Ok r) → Goes p es (Err stop.Memory)
 goes-short (Ret q) es r (none, end) = (none, inr refl)
 goes-short (Ask act go) es r (inl (answer, front, rest, is, did, goes)) = inl (answer, front, rest, is, did, goes-short (go answer) rest r goes)
@@ -97,7 +97,7 @@ loop-short round e is (again front rest same goes more) = again front rest same 
 loop-short round e {x = x} {es = es} is (last {r = r} goes) = cut (goes-short (round x) es (Last r) goes)
 loop-short round e is (cut goes) = absurd (cc is)
 
--- where memory is wanting at an end, it is named so too
+-- if memory runs out at an end, it is named so too
 pub named-short : (env : Environment) (start : Option Start) (s : Status) → EndsAsNamed env start (Ok s) → EndsAsNamed env start (Err stop.Memory)
 named-short env None s named = tt
 named-short env (Some start) s named = (tt, λ bad. tt)
@@ -310,7 +310,7 @@ load-stops stop.Input never = absurd never
 load-stops stop.Output never = absurd never
 load-stops stop.TooMuch never = absurd never
 
--- what a line leads to behind a busy right
+-- what a line leads to after a busy right
 pub said-next : (s : SessionState) (i : Input) (env : Environment) (start : Start) (result : Result (Option Status) Stop) → EndsOrOpens status.Refused result → next_state s i result ≡ after_recovery env start result
 said-next s i env start (Ok None) never = absurd never
 said-next s i env start (Ok (Some e)) is = refl

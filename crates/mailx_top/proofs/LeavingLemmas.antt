@@ -1,5 +1,5 @@
--- The end of the input: its acts and its ends.
-use Rattle.std.proofs.Common.{◌≡◌, ℕ, Bool, true, false, List, [], ◌∷◌, ◌++◌, length, refl, sym, ap, subst, inl, inr}
+-- The end of the input, and how it ends a run.
+use Rattle.std.proofs.Common.{◌≡◌, ◌⊎◌, ℕ, Bool, true, false, List, [], ◌∷◌, ◌++◌, length, refl, sym, ap, subst, inl, inr}
 use Rattle.std.specs.Prelude.{◌||◌, ◌==◌, is_some, if◌then◌else◌}
 use Rattle.std.specs.Option.{option_map_or}
 use Rattle.std.specs.declared.option.Option.{Option}
@@ -9,49 +9,29 @@ use Rattle.host_port.specs.declared.event.Event.{Event}
 use Rattle.folder_change.specs.declared.change.Change.{Change}
 use Rattle.session_play.specs.declared.changing.Committed.{Committed}
 use Rattle.session_play.specs.declared.changing.Committed.TheVariants as committed
-use Rattle.session_play.specs.Input.{Input}
-use Rattle.session_play.specs.Acts.{AllActs, AllEnds, Threads, may_load}
+use Rattle.session_play.specs.Acts.{AllEnds}
 use Rattle.session_play.specs.Play.{Play, Ret, Next, Go, Last, Goes, bind}
-use Rattle.session_play.specs.Steps.{After, On, Over, Refused, Ended, onward, in_order}
-use Rattle.session_play.proofs.ShapeLemmas.{bind-acts, bind-threads, goes-ends}
+use Rattle.session_play.specs.Steps.{Refused, Ended, onward, in_order}
+use Rattle.session_play.proofs.ShapeLemmas.{goes-ends}
 use Rattle.command_desk.specs.declared.steps.Ask as asked_of
 use Rattle.command_desk.specs.declared.steps.Ask.TheVariants as asks
-use Rattle.folder_commands.specs.Leaving.{said, left_reply, quit}
+use Rattle.folder_commands.specs.Leaving.{said, left_reply}
 use Rattle.session_state.specs.Placing.{placed_changes}
 use Rattle.session_state.specs.declared.state.SessionState.{SessionState}
 use Rattle.session_state.specs.declared.status.Status.{Status}
 use Rattle.session_state.specs.declared.status.Status.TheVariants as status
 use Rattle.session_state.specs.Saving.{names_fault, is_changed, after_commit, saved}
 use Rattle.session_asks.specs.Asks.{asked}
-use Rattle.mailx_session.specs.Leaving.{left_by, leaving}
+use Rattle.mailx_session.specs.Leaving.{left_by}
 use Rattle.mailx_top.specs.Meaning.{RunState, last_round}
 use Rattle.session_state.specs.declared.outcome.Outcome.{Outcome}
 use Rattle.session_state.specs.declared.outcome.Outcome.TheVariants as outcome
 use Rattle.session_state.specs.Outcomes.{status_of}
 use Rattle.mailx_top.specs.Leavings.{first_answer, refuses, left_changes, is_quit_refused, is_refused_before}
-use Rattle.mailx_top.proofs.OrderLemmas.{Keeps}
-use Rattle.mailx_top.proofs.LineLemmas.{EndsBy, asks-acts, asks-threads}
 
-left-acts : (a : After SessionState Status) → AllActs (may_load false) (left_by a)
-left-acts (On s) = tt
-left-acts (Over s) = tt
-left-acts (Refused line) = (refl, λ u. tt)
-left-acts (Ended e) = tt
-
-pub last-acts : (s : SessionState) → AllActs (may_load false) (last_round s)
-last-acts s =
-    bind-acts (may_load false) (leaving s) (λ e. Ret (Last e))
-    (bind-acts (may_load false) (in_order asked s (quit s.desk).asks) left_by (asks-acts s (quit s.desk).asks) left-acts) (λ e. tt)
-
-left-threads : (i : Input) (a : After SessionState Status) (j : Input) → j ≡ i → Threads (Keeps i) j (left_by a)
-left-threads i (On s) j same = same
-left-threads i (Over s) j same = same
-left-threads i (Refused line) j same = (tt, λ u. same)
-left-threads i (Ended e) j same = same
-
-pub leaving-threads : (s : SessionState) (i : Input) → Threads (Keeps i) i (leaving s)
-leaving-threads s i =
-    bind-threads {A = After SessionState Status} {B = Status} (Keeps i) (Keeps i) (in_order asked s (quit s.desk).asks) left_by i (asks-threads s (quit s.desk).asks i) (left-threads i)
+-- a line ends the run by what became of drafts, or since the record can't be read
+abbrev pub EndsBy : Outcome → Status → Type 0
+EndsBy o e = (e ≡ status_of o) ⊎ (e ≡ status.BadRecord)
 
 -- the ends of a session by its last quit and its drafts: it is refused, or done, which stands for one that wasn't sent and for a record that can't
 -- be read too

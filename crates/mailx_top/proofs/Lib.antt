@@ -2,13 +2,10 @@ pub mod SafeLemmas
 pub mod EndLemmas
 pub mod FileLemmas
 pub mod FolderLemmas
-pub mod LineLemmas
 pub mod LeavingLemmas
 pub mod OpeningLemmas
-pub mod OrderLemmas
 pub mod QuitLemmas
 pub mod RunLemmas
-pub mod StartupLemmas
 pub mod RoundLemmas
 pub mod WaitingLemmas
 pub mod RecoveringLemmas

@@ -1,7 +1,7 @@
 -- Why a run opened no folder, and why it was refused.
 use Rattle.std.proofs.lemmas.List.{append-nil}
-use Rattle.std.proofs.Common.{◌≡◌, ◌⊎◌, ◌||◌, ℕ, Bool, true, false, List, [], ◌∷◌, ◌++◌, length, refl, sym, ◌∙◌, ap, subst, inl, inr}
-use Rattle.std.specs.Prelude.{if◌then◌else◌, ◌&&◌, not, nat_lt, codes}
+use Rattle.std.proofs.Common.{◌≡◌, ◌⊎◌, ◌||◌, ℕ, Bool, true, false, List, [], ◌∷◌, ◌++◌, refl, sym, ◌∙◌, ap, subst, inl, inr}
+use Rattle.std.specs.Prelude.{if◌then◌else◌, ◌&&◌, not, codes}
 use Rattle.std.specs.declared.option.Option.{Option}
 use Rattle.std.specs.declared.option.Option.TheVariants.{Some, None}
 use Rattle.std.specs.declared.result.Result.{Result}
@@ -10,54 +10,33 @@ use Rattle.host_port.specs.declared.event.Event.{Event}
 use Rattle.host_port.specs.declared.event.Event.TheVariants as event
 use Rattle.host_port.specs.declared.event.Seen.{Seen}
 use Rattle.host_port.specs.declared.event.Seen.TheVariants as seen
-use Rattle.mbox_scan.specs.Mailbox.{list_of, message_limit}
 use Rattle.session_play.specs.declared.act.Found.{Found}
 use Rattle.session_play.specs.declared.act.Found.TheVariants as found
 use Rattle.session_play.specs.declared.stop.Stop.{Stop}
-use Rattle.session_play.specs.Input.{Input}
-use Rattle.session_play.specs.Play.{Line, Read, Know, Play, Ret, Ask, seen_of, Goes, Next, Go, Last, Loop, again, last, cut, bind}
+use Rattle.session_play.specs.Input.{no_input}
+use Rattle.session_play.specs.Play.{Read, Play, Ask, seen_of, Goes, Next, Go, Last, Loop, again, last, cut}
 use Rattle.mail_text.specs.Lines.{with_feed}
 use Rattle.mailx_vars.specs.Names.{is_short_name}
-use Rattle.command_desk.specs.declared.desk.Desk.{Desk}
 use Rattle.command_desk.specs.Answers.{OrFault}
 use Rattle.session_state.specs.Placing.{placed}
 use Rattle.session_state.specs.declared.state.SessionState.{SessionState}
 use Rattle.session_state.specs.declared.status.Status.{Status}
 use Rattle.session_state.specs.declared.status.Status.TheVariants as status
-use Rattle.session_asks.specs.Openings.{with_opened}
-use Rattle.session_state.specs.declared.frames.WaitingLine.{WaitingLine}
-use Rattle.session_state.specs.Waits.{Pending}
-use Rattle.session_state.specs.States.{is_drafting, next_waiting, resumed, rested}
-use Rattle.draft_sending.specs.Sending.{ended_draft}
-use Rattle.mailx_session.specs.Rounds.{typed_play, waiting_play}
 use Rattle.mailx_top.specs.declared.environment.Environment.{Environment}
-use Rattle.mailx_top.specs.declared.words.Manner.{Manner}
-use Rattle.mailx_top.specs.declared.words.Manner.TheVariants.{Silent, Rows, Quiet, Greeting}
 use Rattle.mailx_top.specs.Words.{Start}
-use Rattle.mailx_top.specs.Meaning.{RunState, at_prompt, Recovering, Opening, Reading, Finishing, Leaving, round, opening, starting, starting_with, folder_name, with_name_or_fault, loaded, unheld, is_no_mail, with_list, greeted, heard, ends_with, turn, next_turn, is_over, next_unless, line_round, finishing_round, with_input, with_finishing, prompted, says_and_ends, is_opening, usage, Preparing}
+use Rattle.mailx_top.specs.Meaning.{RunState, Recovering, Opening, Reading, Finishing, Leaving, round, opening, starting, starting_with, folder_name, with_name_or_fault, loaded, is_no_mail, heard, ends_with, says_and_ends, is_opening, usage, Preparing}
 use Rattle.session_play.specs.Acts.{AllActs, AllEnds, loads_nothing}
 use Rattle.session_play.specs.Causes.{some_load_saw, counted, events_at}
 use Rattle.session_play.proofs.SawLemmas.{Unseen, goes-unseen}
-use Rattle.session_play.proofs.ShapeLemmas.{came-same, goes-ends, bind-ends}
-use Rattle.mailx_session.specs.Leaving.{leaving}
+use Rattle.session_play.proofs.ShapeLemmas.{came-same, goes-ends}
 use Rattle.session_state.specs.declared.outcome.Outcome.{Outcome}
 use Rattle.mailx_top.specs.Leavings.{first_answer, is_quit_refused, is_refused_before, is_refused_at, refused_at_end}
-use Rattle.mailx_session.proofs.CommitLemmas.{any-ends}
-use Rattle.mailx_top.proofs.LeavingLemmas.{end_at, opened_end, quit-end, last-ends}
-use Rattle.mailx_top.proofs.LineLemmas.{EndsBy, EndsByLine, typed-ends, waiting-ends, ended-ends}
+use Rattle.mailx_session.proofs.ObeyLemmas.{obeys-acts, obeys-ends}
+use Rattle.mailx_top.proofs.LeavingLemmas.{EndsBy, end_at, opened_end, quit-end, last-ends}
 use Rattle.command_words.specs.declared.options.Options.{Options}
-use Rattle.mailx_top.proofs.RoundLemmas.{loaded-acts, sent, asks_in, begun_in, sent-acts}
-use Rattle.mailx_top.proofs.StartupLemmas.{IsBefore, LeavesBefore, file-ends}
-use Rattle.mailx_top.specs.Openings.{OpensBadly, OpenedBadly, saw_held, is_no_list, is_no_folder, is_named, saw_no_mail, saw_no_folder, OpensNoMail, OpensNone, IsOpeningExplained}
+use Rattle.mailx_top.proofs.RoundLemmas.{IsBefore, IsReadingState, Standing, after_act, May, OpenEnds, Opens, end_by, end_of, loaded-obeys, sent, asks_in, begun_in, sent-obeys, goes-on, goes-over}
+use Rattle.mailx_top.specs.Openings.{OpensBadly, OpenedBadly, saw_held, is_no_folder, is_named, saw_no_mail, saw_no_folder, OpensNoMail, OpensNone, IsOpeningExplained}
 use Rattle.mailx_top.specs.Usage.{IsNoName, IsBadlyNamed}
-
-abbrev pub IsReadingState : RunState → Type 0
-IsReadingState (Recovering start) = ⊥
-IsReadingState (Preparing start s names) = ⊥
-IsReadingState (Opening start s) = ⊥
-IsReadingState (Reading s i) = Unit {0}
-IsReadingState (Finishing s i) = Unit {0}
-IsReadingState (Leaving s i) = Unit {0}
 
 line-end : (o : Outcome) (e : Status) → EndsBy o e → opened_end e ≡ end_at (is_refused_before o e)
 line-end o e by_line = quit-end o false e by_line
@@ -81,72 +60,14 @@ abbrev EndsLike : Status → Result Status Stop → Type 0
 EndsLike e (Ok r) = opened_end r ≡ e
 EndsLike e (Err cause) = Unit {0}
 
--- a round that reads a line goes on, or ends as a line does
-abbrev pub ReadsOn : Outcome → Next RunState Status → Type 0
-ReadsOn o (Go y) = IsReadingState y
-ReadsOn o (Last e) = EndsBy o e
-
-ends-with : (o : Outcome) (j : Input) (n : Next SessionState Status) → EndsByLine o n → AllEnds (ReadsOn o) (with_input j n)
-ends-with o j (Go s) by_line = tt
-ends-with o j (Last e) by_line = by_line
-
-ends-behind : (b : Bool) (s : SessionState) (j : Input) → IsReadingState (if b then Finishing s j else Leaving (rested s) j)
-ends-behind true s j = tt
-ends-behind false s j = tt
-
-ends-turn : (s : SessionState) (j : Input) (line : Option (List ℕ)) → AllEnds (ReadsOn s.outcome) (turn s j line)
-ends-turn s j None = ends-behind (is_drafting s) s j
-ends-turn s j (Some line) = bind-ends (EndsByLine s.outcome) (ReadsOn s.outcome) (typed_play s line) (with_input j) (typed-ends s line) (ends-with s.outcome j)
-
-ends-prompted : (terminal : Bool) (desk : Desk) → AllEnds (λ (u : Unit {0}). Unit {0}) (prompted terminal desk)
-ends-prompted true desk = λ u. tt
-ends-prompted false desk = tt
-
-ends-next : (s : SessionState) (i : Input) → AllEnds (ReadsOn s.outcome) (next_turn s i)
-ends-next s i =
-    bind-ends (λ (u : Unit {0}). Unit {0}) (ReadsOn s.outcome) (prompted (at_prompt s) s.desk) (λ u. Ask (Line i) (λ a. turn s a.1 a.0))
-    (ends-prompted (at_prompt s) s.desk) (λ u t a. ends-turn s a.1 a.0)
-
-ends-unless : (b : Bool) (s : SessionState) (i : Input) → AllEnds (ReadsOn s.outcome) (next_unless b s i)
-ends-unless true s i = tt
-ends-unless false s i = ends-next s i
-
-pub ends-line-round : (s : SessionState) (i : Input) (next : Option (WaitingLine × List Pending)) → AllEnds (ReadsOn s.outcome) (line_round s i next)
-ends-line-round s i None = ends-unless (is_over s) s i
-ends-line-round s i (Some p) =
-    let t = resumed s p.1 in bind-ends (EndsByLine s.outcome) (ReadsOn s.outcome) (waiting_play t p.0) (with_input i) (waiting-ends t p.0) (ends-with s.outcome i)
-
--- so does a round at the end of the input
-ends-finishing : (o : Outcome) (j : Input) (n : Next SessionState Status) → EndsByLine o n → AllEnds (ReadsOn o) (with_finishing j n)
-ends-finishing o j (Go s) by_line = tt
-ends-finishing o j (Last e) by_line = by_line
-
-ends-ended : (b : Bool) (s : SessionState) (i : Input) → AllEnds (ReadsOn s.outcome) (if b then bind (ended_draft s) (with_finishing i) else Ret (Go (Leaving (rested s) i)))
-ends-ended true s i = bind-ends (EndsByLine s.outcome) (ReadsOn s.outcome) (ended_draft s) (with_finishing i) (ended-ends s) (ends-finishing s.outcome i)
-ends-ended false s i = tt
-
-pub ends-finishing-round : (s : SessionState) (i : Input) (next : Option (WaitingLine × List Pending)) → AllEnds (ReadsOn s.outcome) (finishing_round s i next)
-ends-finishing-round s i None = ends-ended (is_drafting s) s i
-ends-finishing-round s i (Some p) =
-    let t = resumed s p.1 in bind-ends (EndsByLine s.outcome) (ReadsOn s.outcome) (waiting_play t p.0) (with_finishing i) (waiting-ends t p.0) (ends-finishing s.outcome i)
-
 -- a round is followed by none that opens a folder
-abbrev pub ReadsNext : Next RunState Status → Type 0
-ReadsNext (Go y) = IsReadingState y
-ReadsNext (Last e) = Unit {0}
-
-only-next : (o : Outcome) (p : Play (Next RunState Status)) → AllEnds (ReadsOn o) p → AllEnds ReadsNext p
-only-next o (Ret (Go y)) ends = ends
-only-next o (Ret (Last e)) ends = tt
-only-next o (Ask act go) ends = λ a. only-next o (go a) (ends a)
-
-pub next-round : (env : Environment) (x : RunState) → IsReadingState x → AllEnds ReadsNext (round env x)
-next-round env (Recovering start) never = absurd never
-next-round env (Preparing start s names) never = absurd never
-next-round env (Opening start s) never = absurd never
-next-round env (Reading s i) reading = only-next s.outcome (round env (Reading s i)) (ends-line-round s i (next_waiting s))
-next-round env (Finishing s i) reading = only-next s.outcome (round env (Finishing s i)) (ends-finishing-round s i (next_waiting s))
-next-round env (Leaving s i) reading = bind-ends (λ (e : Status). Unit {0}) ReadsNext (leaving s) (λ e. Ret (Last e)) (any-ends (leaving s)) (λ e t. tt)
+pub next-round : (env : Environment) (x y : RunState) (es : List Event) → IsReadingState x → Goes (round env x) es (Ok (Go y)) → IsReadingState y
+next-round env (Recovering start) y es never goes = absurd never
+next-round env (Preparing start s names) y es never goes = absurd never
+next-round env (Opening start s) y es never goes = absurd never
+next-round env (Reading s i) y es reading goes = goes-on env (Reading s i) y es goes
+next-round env (Finishing s i) y es reading goes = goes-on env (Finishing s i) y es goes
+next-round env (Leaving s i) y es reading goes = goes-on env (Leaving s i) y es goes
 
 -- how the last round of a run ends it
 round-ends : (env : Environment) (x : RunState) (es : List Event) (r : Status) → IsReadingState x → (goes : Goes (round env x) es (Ok (Last r)))
@@ -154,8 +75,8 @@ round-ends : (env : Environment) (x : RunState) (es : List Event) (r : Status) �
 round-ends env (Recovering start) es r never goes = absurd never
 round-ends env (Preparing start s names) es r never goes = absurd never
 round-ends env (Opening start s) es r never goes = absurd never
-round-ends env (Reading s i) es r reading goes = line-end s.outcome r (goes-ends (ReadsOn s.outcome) (round env (Reading s i)) es (Last r) (ends-line-round s i (next_waiting s)) goes)
-round-ends env (Finishing s i) es r reading goes = line-end s.outcome r (goes-ends (ReadsOn s.outcome) (round env (Finishing s i)) es (Last r) (ends-finishing-round s i (next_waiting s)) goes)
+round-ends env (Reading s i) es r reading goes = line-end s.outcome r (goes-over env (Reading s i) es r goes)
+round-ends env (Finishing s i) es r reading goes = line-end s.outcome r (goes-over env (Finishing s i) es r goes)
 round-ends env (Leaving s i) es r reading goes =
     quit-end s.outcome (is_quit_refused s (first_answer (round env (Leaving s i)) es (Ok (Last r)) goes)) r (last-ends s es r goes)
 
@@ -174,7 +95,7 @@ none-counted x es reading = ap (λ (b : Bool). counted b es) (reads-nothing x re
 loop-reads : (env : Environment) {x : RunState} {es : List Event} {out : Result Status Stop} → IsReadingState x → (loop : Loop (round env) x es out)
     → (events_at is_opening loop ≡ []) × EndsLike (end_at (refused_at_end loop)) out
 loop-reads env {x = x} {out = out} reading (again {y = y} front rest is goes more) =
-    let on : IsReadingState y = goes-ends ReadsNext (round env x) front (Go y) (next-round env x reading) goes in
+    let on : IsReadingState y = next-round env x y front reading goes in
     let later = loop-reads env on more in
     (ap (λ (l : List Event). l ++ events_at is_opening more) (none-counted x front reading) ∙ later.0, later.1)
 loop-reads env {x = x} {es = es} reading (last {r = r} goes) = (none-counted x es reading, round-ends env x es r reading goes)
@@ -202,41 +123,19 @@ continues-with b e p es out ends (inl (y, goes, reads)) =
 continues-with b e p es out ends (inr (none, inl (r, is, goes))) = inr (none, subst (EndsLike e) (sym is) (goes-ends (EndsWith e) p es (Last r) ends goes))
 continues-with b e p es out ends (inr (none, inr (cause, is, goes))) = inr (none, subst (EndsLike e) (sym is) tt)
 
--- the end that the load of a file that isn't held leads to, if the run isn't cut off: there is no mail, or no folder, or it is opened
-abbrev end_by : Bool → Bool → Status
-end_by true none = status.NoMail
-end_by false true = status.NoFolder
-end_by false false = status.Done
-
-abbrev end_of : Bool → Found → Status
-end_of named (found.Bytes bytes true) = status.Refused
-end_of named (found.Bytes bytes false) = end_by (is_no_mail named bytes) (is_no_folder bytes)
-end_of named (found.TooLarge n) = status.NoFolder
-
-greeted-ends : (manner : Manner) (s : SessionState) → AllEnds (EndsWith status.Done) (greeted manner s)
-greeted-ends Silent s = refl
-greeted-ends Rows s = λ u. refl
-greeted-ends Quiet s = (tt, refl)
-greeted-ends Greeting s = λ u. (tt, refl)
-
-list-ends : (s : SessionState) (start : Start) (name bytes : List ℕ) (l : Option (List (List ℕ))) → AllEnds (EndsWith (end_by false (is_no_list l))) (with_list s start name bytes l)
-list-ends s start name bytes None = λ u. refl
-list-ends s start name bytes (Some texts) = go (nat_lt message_limit (length texts))
+-- so an opening leads on, whose ends are plain
+ends-with : (env : Environment) (s : SessionState) (e : Status) (p : Play (Next RunState Status)) → Opens env s.actor s.token e p → AllEnds (EndsWith e) p
+ends-with env s e p obeys = obeys-ends (May env s.actor s.token loads_nothing) after_act (OpenEnds env s.actor s.token e) (EndsWith e) so (false, no_input) p obeys
   where
-    go : (b : Bool) → AllEnds (EndsWith (end_by false b))
-        (if b then ends_with start (with_feed (name ++ codes ": too many messages")) status.NoFolder else Ask (Know texts) (λ rows. greeted start.manner (with_opened s name bytes rows)))
-    go true = λ u. refl
-    go false = λ rows. greeted-ends start.manner (with_opened s name bytes rows)
+    so : (x : Standing) (n : Next RunState Status) → OpenEnds env s.actor s.token e x n → EndsWith e n
+    so (true, i) (Go y) never = absurd never
+    so (false, i) (Go y) (same, of, reads, done) = (reads, done)
+    so (true, i) (Last r) never = absurd never
+    so (false, i) (Last r) (is, opened, free, other) = opened ∙ is
 
-unheld-ends : (s : SessionState) (start : Start) (name : List ℕ) (bytes : Option (List ℕ)) (b : Bool) → AllEnds (EndsWith (end_by b (is_no_folder bytes))) (unheld s start name bytes b)
-unheld-ends s start name bytes true = λ u. refl
-unheld-ends s start name None false = λ u. refl
-unheld-ends s start name (Some bytes) false = list-ends s start name bytes (list_of bytes)
-
-loaded-ends : (s : SessionState) (start : Start) (name : List ℕ) (f : Found) → AllEnds (EndsWith (end_of start.named f)) (loaded s start name f)
-loaded-ends s start name (found.Bytes bytes true) = λ u. refl
-loaded-ends s start name (found.Bytes bytes false) = unheld-ends s start name bytes (is_no_mail start.named bytes)
-loaded-ends s start name (found.TooLarge n) = λ u. refl
+-- and loads nothing
+loads-none : (env : Environment) (s : SessionState) (e : Status) (p : Play (Next RunState Status)) → Opens env s.actor s.token e p → AllActs loads_nothing p
+loads-none env s e p obeys = obeys-acts (May env s.actor s.token loads_nothing) after_act loads_nothing (OpenEnds env s.actor s.token e) (λ x act may. may.1) (false, no_input) p obeys
 
 -- how an end and what was seen belong together
 record Matches (Bad : Type 0) (start : Option Start) (es : List Event) (e : Status) : Type 0 where
@@ -423,15 +322,16 @@ continues-blind named b p es out all goes = record {
   mail = continues-unseen (saw_no_mail named) b p es out all goes;
 }
 
-explained-found : (Bad : Type 0) (s : SessionState) (start : Start) (name file : List ℕ) (es : List Event) (b : Bool) (out : Result Status Stop) → (Bad → ⊥) → AfterLoad b file (loaded s start name) es out
+explained-found : (env : Environment) (Bad : Type 0) (s : SessionState) (start : Start) (name file : List ℕ) (es : List Event) (b : Bool) (out : Result Status Stop) → (Bad → ⊥) → AfterLoad b file (loaded s start name) es out
     → IsOpeningExplained Bad (Some start) out es b
-explained-found Bad s start name file es b out good (inr (cause, is)) = explained-cut Bad (Some start) es b out cause is
-explained-found Bad s start name file es b out good (inl (f, rest, is, goes)) =
+explained-found env Bad s start name file es b out good (inr (cause, is)) = explained-cut Bad (Some start) es b out cause is
+explained-found env Bad s start name file es b out good (inl (f, rest, is, goes)) =
     let p = loaded s start name f in
-    let u = continues-blind start.named b p rest out (loaded-acts s start name f) goes in
+    let obeys = loaded-obeys env s.actor s.token s start name f (refl, refl) in
+    let u = continues-blind start.named b p rest out (loads-none env s (end_of start.named f) p obeys) goes in
     let E : List Event → Type 0 = λ es. IsOpeningExplained Bad (Some start) out es b in
     let e = end_of start.named f in
-    subst E (sym is) (explained-as Bad (Some start) _ b out e (matches-found Bad start file rest f good u) (continues-with b e p rest out (loaded-ends s start name f) goes))
+    subst E (sym is) (explained-as Bad (Some start) _ b out e (matches-found Bad start file rest f good u) (continues-with b e p rest out (ends-with env s e p obeys) goes))
 
 explained-said : (Bad : Type 0) (start : Option Start) (text : List ℕ) (e : Status) (es : List Event) (b : Bool) (out : Result Status Stop) → opened_end e ≡ e → Continues b (says_and_ends text e) es out
     → (LoadsNone (is_named start) es → Matches Bad start es e) → IsOpeningExplained Bad start out es b
@@ -440,10 +340,6 @@ explained-said Bad start text e es b out plain goes to =
     explained-as Bad start es b out e (to u) (continues-with b e (says_and_ends text e) es out (λ u. plain) goes)
 
 -- a draft that begins in the folder's place
-sent-ends : (b : Bool) (t : SessionState) → AllEnds (EndsWith status.Done) (sent b t)
-sent-ends true t = λ u. (tt, refl)
-sent-ends false t = (tt, refl)
-
 matches-sent : (start : Start) (es : List Event) → LoadsNone start.named es → Matches ⊥ (Some start) es status.Done
 matches-sent start es u = record {
   refused = λ is. absurd (cc is);
@@ -458,14 +354,15 @@ matches-sent start es u = record {
     none-opens (inl never) = absurd never
     none-opens (inr h) = no-end _ u.folder h
 
-explained-sent : (b : Bool) (t : SessionState) (start : Start) (es : List Event) (at_end : Bool) (out : Result Status Stop) → Continues at_end (sent b t) es out → IsOpeningExplained ⊥ (Some start) out es at_end
-explained-sent b t start es at_end out goes =
-    let u = continues-blind start.named at_end (sent b t) es out (sent-acts b t) goes in
-    explained-as ⊥ (Some start) es at_end out status.Done (matches-sent start es u) (continues-with at_end status.Done (sent b t) es out (sent-ends b t) goes)
+explained-sent : (env : Environment) (b : Bool) (t : SessionState) (start : Start) (es : List Event) (at_end : Bool) (out : Result Status Stop) → Continues at_end (sent b t) es out → IsOpeningExplained ⊥ (Some start) out es at_end
+explained-sent env b t start es at_end out goes =
+    let obeys = sent-obeys env t.actor t.token b t (refl, refl) in
+    let u = continues-blind start.named at_end (sent b t) es out (loads-none env t status.Done (sent b t) obeys) goes in
+    explained-as ⊥ (Some start) es at_end out status.Done (matches-sent start es u) (continues-with at_end status.Done (sent b t) es out (ends-with env t status.Done (sent b t) obeys) goes)
 
-explained-folder : (start : Start) (s : SessionState) (es : List Event) (at_end : Bool) (out : Result Status Stop) → Continues at_end (starting s start) es out
+explained-folder : (env : Environment) (start : Start) (s : SessionState) (es : List Event) (at_end : Bool) (out : Result Status Stop) → Continues at_end (starting s start) es out
     → IsOpeningExplained (IsNoName s.here (folder_name s start)) (Some start) out es at_end
-explained-folder start s es at_end out goes = word (folder_name s start) refl goes
+explained-folder env start s es at_end out goes = word (folder_name s start) refl goes
   where
     Bad : Type 0
     Bad = IsNoName s.here (folder_name s start)
@@ -476,46 +373,22 @@ explained-folder start s es at_end out goes = word (folder_name s start) refl go
     named : (name : List ℕ) → folder_name s start ≡ Ok name → (b : Bool) → is_short_name (placed s.here name) ≡ b
         → Continues at_end (if b then Ask (Read (placed s.here name)) (loaded s start name) else ends_with start (with_feed (name ++ codes ": bad name")) status.NoFolder) es out → IsOpeningExplained Bad (Some start) out es at_end
     named name word true short goes =
-        explained-found Bad s start name (placed s.here name) es at_end out (λ bad. no-end _ (subst (IsNoName s.here) word bad) short) (after-load at_end (placed s.here name) (loaded s start name) es out goes)
+        explained-found env Bad s start name (placed s.here name) es at_end out (λ bad. no-end _ (subst (IsNoName s.here) word bad) short) (after-load at_end (placed s.here name) (loaded s start name) es out goes)
     named name word false bad goes = said (with_feed (name ++ codes ": bad name")) (subst (IsNoName s.here) (sym word) bad) goes
 
     word : (name : OrFault (List ℕ)) → folder_name s start ≡ name → Continues at_end (with_name_or_fault s start name) es out → IsOpeningExplained Bad (Some start) out es at_end
     word (Ok name) is goes = named name is (is_short_name (placed s.here name)) refl goes
     word (Err line) is goes = said line (subst (IsNoName s.here) (sym is) tt) goes
 
-explained-starting : (sends : Option Options) (start : Start) (s : SessionState) (es : List Event) (at_end : Bool) (out : Result Status Stop) → Continues at_end (starting_with sends s start) es out
+explained-starting : (env : Environment) (sends : Option Options) (start : Start) (s : SessionState) (es : List Event) (at_end : Bool) (out : Result Status Stop) → Continues at_end (starting_with sends s start) es out
     → IsOpeningExplained (IsBadlyNamed sends s.here (folder_name s start)) (Some start) out es at_end
-explained-starting (Some o) start s es at_end out goes = explained-sent (asks_in s o) (begun_in s o) start es at_end out goes
-explained-starting None start s es at_end out goes = explained-folder start s es at_end out goes
+explained-starting env (Some o) start s es at_end out goes = explained-sent env (asks_in s o) (begun_in s o) start es at_end out goes
+explained-starting env None start s es at_end out goes = explained-folder env start s es at_end out goes
 
-explained-opening : (start : Option Start) (s : SessionState) (es : List Event) (at_end : Bool) (out : Result Status Stop) → Continues at_end (opening start s) es out
+explained-opening : (env : Environment) (start : Option Start) (s : SessionState) (es : List Event) (at_end : Bool) (out : Result Status Stop) → Continues at_end (opening start s) es out
     → IsOpeningExplained (OpensBadly (Opening start s)) start out es at_end
-explained-opening None s es at_end out goes = explained-said ⊥ None usage status.Usage es at_end out refl goes (matches-none es)
-explained-opening (Some start) s es at_end out goes = explained-starting start.sends start s es at_end out goes
-
-next-of : (e : Status) (p : Play (Next RunState Status)) → AllEnds (EndsWith e) p → AllEnds ReadsNext p
-next-of e (Ret (Go y)) ends = ends.0
-next-of e (Ret (Last r)) ends = tt
-next-of e (Ask act go) ends = λ a. next-of e (go a) (ends a)
-
-named-next : (s : SessionState) (start : Start) (name : OrFault (List ℕ)) → AllEnds ReadsNext (with_name_or_fault s start name)
-named-next s start (Ok name) = go (is_short_name (placed s.here name))
-  where
-    go : (b : Bool) → AllEnds ReadsNext (if b then Ask (Read (placed s.here name)) (loaded s start name) else ends_with start (with_feed (name ++ codes ": bad name")) status.NoFolder)
-    go true = λ f. next-of (end_of start.named f) (loaded s start name f) (loaded-ends s start name f)
-    go false = λ u. tt
-named-next s start (Err line) = λ u. tt
-
-starting-next : (sends : Option Options) (s : SessionState) (start : Start) → AllEnds ReadsNext (starting_with sends s start)
-starting-next (Some o) s start = next-of status.Done (sent (asks_in s o) (begun_in s o)) (sent-ends (asks_in s o) (begun_in s o))
-starting-next None s start = named-next s start (folder_name s start)
-
-opening-next : (start : Option Start) (s : SessionState) → AllEnds ReadsNext (opening start s)
-opening-next None s = λ u. tt
-opening-next (Some start) s = starting-next start.sends s start
-
-pub opening-reads : (start : Option Start) (s : SessionState) (y : RunState) (es : List Event) → Goes (opening start s) es (Ok (Go y)) → IsReadingState y
-opening-reads start s y es goes = goes-ends ReadsNext (opening start s) es (Go y) (opening-next start s) goes
+explained-opening env None s es at_end out goes = explained-said ⊥ None usage status.Usage es at_end out refl goes (matches-none es)
+explained-opening env (Some start) s es at_end out goes = explained-starting env start.sends start s es at_end out goes
 
 -- what is said of a bad word may be said in other words
 pub explained-by : (A B : Type 0) → (A → B) → (B → A) → (start : Option Start) (out : Result Status Stop) (es : List Event) (b : Bool) → IsOpeningExplained A start out es b → IsOpeningExplained B start out es b
@@ -547,7 +420,7 @@ not-opening (Leaving s i) reading never = never
 -- a loop of lines opens no folder badly
 none-badly : (env : Environment) {x : RunState} {es : List Event} {out : Result Status Stop} → IsReadingState x → (loop : Loop (round env) x es out) → OpenedBadly loop → ⊥
 none-badly env {x = x} reading (again front rest is goes more) (inl bad) = not-opening x reading bad
-none-badly env {x = x} reading (again {y = y} front rest is goes more) (inr bad) = none-badly env (goes-ends ReadsNext (round env x) front (Go y) (next-round env x reading) goes) more bad
+none-badly env {x = x} reading (again {y = y} front rest is goes more) (inr bad) = none-badly env (next-round env x y front reading goes) more bad
 none-badly env {x = x} reading (last goes) bad = not-opening x reading bad
 none-badly env {x = x} reading (cut goes) bad = not-opening x reading bad
 
@@ -559,15 +432,15 @@ either-left never (inr b) = absurd (never b)
 pub opening-explained : (env : Environment) (start : Option Start) (s : SessionState) (es : List Event) (out : Result Status Stop) (loop : Loop (round env) (Opening start s) es out)
     → IsOpeningExplained (OpenedBadly loop) start out (events_at is_opening loop) (refused_at_end loop)
 opening-explained env start s es out (again {y = y} front rest is goes more) =
-    let on = opening-reads start s y front goes in
+    let on = goes-on env (Opening start s) y front goes in
     let later = loop-reads env on more in
     let b = refused_at_end more in
     let Bad : Type 0 = OpensBadly (Opening start s) in
     let E : List Event → Type 0 = λ es. IsOpeningExplained (Bad ⊎ OpenedBadly more) start out es b in
     subst E (sym (ap (λ (l : List Event). front ++ l) later.0 ∙ append-nil front))
-    (explained-by Bad (Bad ⊎ OpenedBadly more) inl (either-left (none-badly env on more)) start out front b (explained-opening start s front b out (inl (y, goes, λ reading. later.1))))
-opening-explained env start s es out (last {r = r} goes) = explained-opening start s es false out (inr (refl, inl (r, refl, goes)))
-opening-explained env start s es out (cut {cause = cause} goes) = explained-opening start s es false out (inr (refl, inr (cause, refl, goes)))
+    (explained-by Bad (Bad ⊎ OpenedBadly more) inl (either-left (none-badly env on more)) start out front b (explained-opening env start s front b out (inl (y, goes, λ reading. later.1))))
+opening-explained env start s es out (last {r = r} goes) = explained-opening env start s es false out (inr (refl, inl (r, refl, goes)))
+opening-explained env start s es out (cut {cause = cause} goes) = explained-opening env start s es false out (inr (refl, inr (cause, refl, goes)))
 
 pub or-later : {A B : Type 0} → (A → ⊥) → A ⊎ B → B
 or-later never (inl a) = absurd (never a)
@@ -598,7 +471,7 @@ files-then : (env : Environment) (start : Start) (x y : RunState) (es front rest
     → IsOpeningExplained (OpensBadly x ⊎ OpenedBadly more) (Some start) out (counted (is_opening x) front ++ events_at is_opening more) (refused_at_end more)
 files-then env start (Recovering o) y es front rest out never is goes more later = absurd never
 files-then env start (Preparing b s names) y es front rest out before is goes more later =
-    let on : IsBefore b y = goes-ends (LeavesBefore s.outcome b) (round env (Preparing b s names)) front (Go y) (file-ends b s names (next_waiting s)) goes in
+    let on : IsBefore b y = goes-on env (Preparing b s names) y front goes in
     let at : IsBefore start y = subst (λ (b : Start). IsBefore b y) before on in
     explained-by (OpenedBadly more) (⊥ ⊎ OpenedBadly more) inr (or-later (λ never. never)) (Some start) out (events_at is_opening more) (refused_at_end more) (later at)
 files-then env start (Opening o s) y es front rest out before is goes more later =
@@ -614,9 +487,9 @@ files-over : (env : Environment) (start : Start) (x : RunState) (es : List Event
     → IsOpeningExplained (OpensBadly x) (Some start) (Ok r) (counted (is_opening x) es) (is_refused_at x r (first_answer (round env x) es (Ok (Last r)) goes))
 files-over env start (Recovering o) es r never goes = absurd never
 files-over env start (Preparing b s names) es r before goes =
-    files-last s.outcome start r (goes-ends (LeavesBefore s.outcome b) (round env (Preparing b s names)) es (Last r) (file-ends b s names (next_waiting s)) goes)
+    files-last s.outcome start r (goes-over env (Preparing b s names) es r goes)
 files-over env start (Opening o s) es r before goes =
-    subst (λ (p : Option Start). IsOpeningExplained (OpensBadly (Opening o s)) p (Ok r) es false) before (explained-opening o s es false (Ok r) (inr (refl, inl (r, refl, goes))))
+    subst (λ (p : Option Start). IsOpeningExplained (OpensBadly (Opening o s)) p (Ok r) es false) before (explained-opening env o s es false (Ok r) (inr (refl, inl (r, refl, goes))))
 files-over env start (Reading s i) es r never goes = absurd never
 files-over env start (Finishing s i) es r never goes = absurd never
 files-over env start (Leaving s i) es r never goes = absurd never

@@ -28,7 +28,6 @@ use Rattle.session_play.specs.Causes.{counted, events_at}
 use Rattle.session_play.specs.Play.{Play, Ret, Says, Goes, Next, Go, Last, Loop, again, last, cut}
 use Rattle.session_play.proofs.ShapeLemmas.{came-same, goes-ends}
 use Rattle.session_state.specs.declared.state.SessionState.{SessionState}
-use Rattle.session_state.specs.States.{next_waiting}
 use Rattle.session_state.specs.declared.status.Status.{Status}
 use Rattle.session_state.specs.declared.status.Status.TheVariants as status
 use Rattle.mailx_top.specs.declared.environment.Environment.{Environment}
@@ -38,8 +37,8 @@ use Rattle.mailx_top.specs.Meaning.{RunState, Recovering, Preparing, Opening, Re
 use Rattle.mailx_top.specs.Openings.{OpenedBadly, IsOpeningExplained}
 use Rattle.mailx_top.specs.Leavings.{refused_at_end}
 use Rattle.mailx_top.specs.Starts.{is_recovered, is_right_busy, is_bad_record, IsStartExplained, IsExplainedFrom}
-use Rattle.mailx_top.proofs.OpeningLemmas.{IsReadingState, ReadsNext, next-round, opening-reads, explained-by, or-later, files-explained}
-use Rattle.mailx_top.proofs.StartupLemmas.{IsBefore, LeavesBefore, file-ends}
+use Rattle.mailx_top.proofs.OpeningLemmas.{next-round, explained-by, or-later, files-explained}
+use Rattle.mailx_top.proofs.RoundLemmas.{IsBefore, IsReadingState, goes-on}
 
 abbrev ends : RunState → Next RunState Status
 ends y = Go y
@@ -49,9 +48,6 @@ ended r = Ok (Last r)
 
 go-same : (x y : RunState) → ends x ≡ ends y → x ≡ y
 go-same x y e = cc
-
-reading-next : (env : Environment) (x y : RunState) (es : List Event) → IsReadingState x → Goes (round env x) es (Ok (Go y)) → IsReadingState y
-reading-next env x y es reading goes = goes-ends ReadsNext (round env x) es (Go y) (next-round env x reading) goes
 
 -- a run from its opening or from a line recovers nothing
 plain-state : (x : RunState) → IsReadingState x → is_recovering x ≡ false
@@ -67,13 +63,13 @@ plain-counted x es reading = ap (λ (b : Bool). counted b es) (plain-state x rea
 
 lines-plain : (env : Environment) {x : RunState} {es : List Event} {out : Result Status Stop} → IsReadingState x → (loop : Loop (round env) x es out) → events_at is_recovering loop ≡ []
 lines-plain env {x = x} reading (again {y = y} front rest is goes more) =
-    let on = reading-next env x y front reading goes in
+    let on = next-round env x y front reading goes in
     ap (λ (l : List Event). l ++ events_at is_recovering more) (plain-counted x front reading) ∙ lines-plain env on more
 lines-plain env {x = x} {es = es} reading (last goes) = plain-counted x es reading
 lines-plain env {x = x} {es = es} reading (cut goes) = plain-counted x es reading
 
 opening-plain : (env : Environment) (start : Option Start) (s : SessionState) {es : List Event} {out : Result Status Stop} (loop : Loop (round env) (Opening start s) es out) → events_at is_recovering loop ≡ []
-opening-plain env start s (again {y = y} front rest is goes more) = lines-plain env (opening-reads start s y front goes) more
+opening-plain env start s (again {y = y} front rest is goes more) = lines-plain env (goes-on env (Opening start s) y front goes) more
 opening-plain env start s (last goes) = refl
 opening-plain env start s (cut goes) = refl
 
@@ -82,7 +78,7 @@ before-then : (env : Environment) (start : Start) (x y : RunState) (es front res
     → (more : Loop (round env) y rest out) → (IsBefore start y → events_at is_recovering more ≡ []) → counted (is_recovering x) front ++ events_at is_recovering more ≡ []
 before-then env start (Recovering o) y es front rest out never is goes more later = absurd never
 before-then env start (Preparing b s names) y es front rest out before is goes more later =
-    let on : IsBefore b y = goes-ends (LeavesBefore s.outcome b) (round env (Preparing b s names)) front (Go y) (file-ends b s names (next_waiting s)) goes in
+    let on : IsBefore b y = goes-on env (Preparing b s names) y front goes in
     later (subst (λ (b : Start). IsBefore b y) before on)
 before-then env start (Opening o s) y es front rest out before is goes more later = opening-plain env o s (again front rest is goes more)
 before-then env start (Reading s i) y es front rest out never is goes more later = absurd never
@@ -102,7 +98,7 @@ before-plain env start {x = x} {es = es} {out = out} before (again {y = y} front
 before-plain env start {x = x} {es = es} before (last goes) = ap (λ (b : Bool). counted b es) (before-plain-state start x before)
 before-plain env start {x = x} {es = es} before (cut goes) = ap (λ (b : Bool). counted b es) (before-plain-state start x before)
 
--- what is explained behind the recovery
+-- what is explained after the recovery
 abbrev Explained : Type 0 → Option Start → Result Status Stop → Ending → List Event → Bool → Type 0
 Explained Bad start out recovery es at_end = IsStartExplained out recovery (IsOpeningExplained Bad start out es at_end)
 
@@ -189,7 +185,7 @@ ended-usage recovery es is = record {
   done_only = λ e. absurd (cc e);
 }
 
--- what is said behind a seizure that another's right refused changes nothing of what its events tell
+-- what is printed after a seizure that another's right refused changes nothing of what its events tell
 says-fine : (bytes : List ℕ) (es : List Event) → Says bytes es → list_any is_failed es ≡ false
 says-fine bytes [] s = refl
 says-fine bytes (event.Out front false ∷ es) s = says-fine s.0 es s.2
@@ -236,7 +232,7 @@ told-behind actor front outs name is fine = go (list_any is_failed front) refl i
     go true h is = absurd (cc is)
     go false h is = ap (λ (b : Bool). if b then Failed Before else end_by actor (front ++ outs)) (fine-append front outs h fine) ∙ end-behind actor front outs name is
 
--- the end that a line behind a busy right leads to, and its events
+-- the end that a line after a busy right leads to, and its events
 abbrev EndsSo : Status → Next RunState Status → Type 0
 EndsSo e (Go y) = ⊥
 EndsSo e (Last r) = r ≡ e

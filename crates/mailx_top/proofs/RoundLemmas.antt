@@ -1,81 +1,125 @@
--- The rounds of a run hand on their input, and only where a folder is opened a load that fails cuts the run off.
-use Rattle.std.proofs.Common.{◌≡◌, ℕ, Bool, true, false, List, refl, sym}
-use Rattle.std.specs.Prelude.{if◌then◌else◌, nat_lt, length}
+-- One walk over the rounds of a run. It tells what each may ask and on which input, where it may lead and how it may end the run, and that the run
+-- ends for its record exactly if the round met one that can't be read.
+use Rattle.std.proofs.Common.{◌≡◌, ◌⊎◌, ℕ, Bool, true, false, List, [], ◌∷◌, length, refl, ◌∙◌, inl, inr}
+use Rattle.std.specs.Prelude.{if◌then◌else◌, nat_lt}
 use Rattle.std.specs.declared.option.Option.{Option}
 use Rattle.std.specs.declared.option.Option.TheVariants.{Some, None}
+use Rattle.std.specs.declared.result.Result.TheVariants.{Ok, Err}
+use Rattle.std.proofs.lemmas.List.Elements.{All-nil}
+use Rattle.host_port.specs.declared.event.Event.{Event}
 use Rattle.mbox_scan.specs.Mailbox.{list_of, message_limit}
+use Rattle.folder_change.specs.Changes.{name_of}
+use Rattle.folder_change.specs.declared.change.Change.{Change}
+use Rattle.folder_commit.specs.Names.{is_file_name}
 use Rattle.session_play.specs.declared.act.Found.{Found}
 use Rattle.session_play.specs.declared.act.Found.TheVariants as found
 use Rattle.session_play.specs.declared.recovering.RecoveryAnswer.{RecoveryAnswer}
 use Rattle.session_play.specs.declared.recovering.RecoveryAnswer.TheVariants as recovery
-use Rattle.session_play.specs.Input.{Input, no_input}
-use Rattle.session_play.specs.Play.{Act, Line, Play, Ret, Ask, Next, Go, Last, bind}
-use Rattle.session_play.specs.Acts.{AllActs, Threads, may_load, loads_nothing}
+use Rattle.session_play.specs.Acts.{AllActs, AllEnds, Threads, TakesFrom, input_after, may_load, loads_nothing}
 use Rattle.session_play.specs.Causes.{NextFrom}
+use Rattle.session_play.specs.Input.{Input, no_input}
+use Rattle.session_play.specs.Play.{Act, Answer, Line, Say, Read, Try, Changes, Recover, Child, Now, Know, Play, Ret, Ask, Goes, Next, Go, Last, bind}
+use Rattle.session_play.proofs.ShapeLemmas.{may-all, goes-ends}
+use Rattle.play_safety.specs.Safe.{IsBy, OfCommit, EachCommit, NextKeeps}
 use Rattle.mailx_vars.specs.Names.{is_short_name}
-use Rattle.std.specs.declared.result.Result.TheVariants.{Ok, Err}
-use Rattle.command_desk.specs.declared.desk.Desk.{Desk}
-use Rattle.command_desk.specs.Answers.{OrFault}
-use Rattle.session_state.specs.Placing.{placed}
-use Rattle.session_state.specs.declared.state.SessionState.{SessionState}
-use Rattle.session_state.specs.declared.status.Status.{Status}
-use Rattle.session_asks.specs.Openings.{with_opened}
-use Rattle.session_state.specs.declared.frames.WaitingLine.{WaitingLine}
-use Rattle.session_state.specs.Waits.{Pending}
-use Rattle.session_state.specs.States.{is_drafting, next_waiting, resumed, rested}
-use Rattle.draft_sending.specs.Sending.{ended_draft}
-use Rattle.command_words.specs.declared.options.Options.{Options}
 use Rattle.draft_text.specs.Texts.{flattened}
 use Rattle.compose_tilde.specs.Answering.{new_machine}
 use Rattle.compose_tilde.specs.Lines.{asks_subject}
+use Rattle.command_words.specs.declared.options.Options.{Options}
+use Rattle.command_desk.specs.Answers.{OrFault}
+use Rattle.session_state.specs.Placing.{placed}
+use Rattle.session_state.specs.States.{is_drafting, next_waiting, resumed, rested}
+use Rattle.session_state.specs.Waits.{Pending}
+use Rattle.session_state.specs.declared.frames.WaitingLine.{WaitingLine}
+use Rattle.session_state.specs.declared.outcome.Outcome.{Outcome}
+use Rattle.session_state.specs.declared.state.SessionState.{SessionState}
+use Rattle.session_state.specs.declared.status.Status.{Status}
+use Rattle.session_state.specs.declared.status.Status.TheVariants as status
 use Rattle.session_asks.specs.Beginning.{view_in, with_new_draft, subject_asked}
+use Rattle.session_asks.specs.Openings.{with_opened}
+use Rattle.draft_sending.specs.Sending.{ended_draft}
+use Rattle.mailx_session.specs.Leaving.{leaving}
 use Rattle.mailx_session.specs.Rounds.{typed_play, waiting_play}
+use Rattle.mailx_session.specs.Startup.{startup_play}
+use Rattle.mailx_session.proofs.ObeyLemmas.{Obeys, obeys-weaker, obeys-acts, obeys-commits, obeys-ends, met_by}
+use Rattle.mailx_session.proofs.LineLemmas.{IsOf, MayAsk, Fine, EndsSo, LineEnds, EndsAs, LeavesAs, Lines, typed-obeys, waiting-obeys, ended-obeys, leaving-obeys, startup-obeys, rested-of}
 use Rattle.mailx_top.specs.declared.environment.Environment.{Environment}
 use Rattle.mailx_top.specs.declared.words.Manner.{Manner}
 use Rattle.mailx_top.specs.declared.words.Manner.TheVariants.{Silent, Rows, Quiet, Greeting}
-use Rattle.mailx_top.specs.Words.{Start}
+use Rattle.mailx_top.specs.Leavings.{is_for_record}
+use Rattle.mailx_top.specs.Meaning.{RunState, at_prompt, is_over, next_unless, first_of, actor_in, Recovering, recovered, recovered_unless, Preparing, with_files, next_file, file_round, Opening, opening, starting_with, folder_name, with_name_or_fault, ends_with, begun, loaded, unheld, is_no_mail, with_list, greeted, Reading, Finishing, Leaving, round, turn, line_round, finishing_round, with_input, with_finishing, prompted, input_of, is_opening}
+use Rattle.mailx_top.specs.Openings.{is_no_list, is_no_folder}
 use Rattle.mailx_top.specs.Sending.{draft_with}
-use Rattle.mailx_top.specs.Meaning.{RunState, at_prompt, actor_in, Recovering, recovering, recovered, recovered_unless, Opening, Reading, Finishing, Leaving, round, opening, starting_with, folder_name, with_name_or_fault, loaded, unheld, is_no_mail, with_list, greeted, turn, next_turn, is_over, next_unless, line_round, finishing_round, with_input, with_finishing, prompted, input_of, is_opening, Preparing}
-use Rattle.session_play.proofs.ShapeLemmas.{bind-acts, bind-threads, weaker-acts, may-all}
-use Rattle.mailx_session.specs.Leaving.{leaving}
-use Rattle.mailx_top.proofs.OrderLemmas.{Keeps}
-use Rattle.mailx_top.proofs.LeavingLemmas.{last-acts, leaving-threads}
-use Rattle.mailx_top.proofs.LineLemmas.{typed-acts, typed-threads, waiting-acts, waiting-threads, ended-acts, ended-threads}
-use Rattle.mailx_top.proofs.StartupLemmas.{file-acts, file-threads}
+use Rattle.mailx_top.specs.Words.{Start}
+use Rattle.mailx_top.proofs.EndLemmas.{actor-same}
+use Rattle.mailx_top.proofs.LeavingLemmas.{opened_end}
 
-abbrev On : Input → Play (Next RunState Status) → Type 0
-On i p = Threads (NextFrom input_of) i p
+-- a state of a run of this actor and this token
+abbrev pub StateOf : Environment → List ℕ → ℕ → RunState → Type 0
+StateOf env actor token (Recovering start) = (actor_in env ≡ actor) × (env.token ≡ token)
+StateOf env actor token (Preparing start s names) = IsOf actor token s
+StateOf env actor token (Opening start s) = IsOf actor token s
+StateOf env actor token (Reading s i) = IsOf actor token s
+StateOf env actor token (Finishing s i) = IsOf actor token s
+StateOf env actor token (Leaving s i) = IsOf actor token s
 
-both : (b : Bool) (p q : Play (Next RunState Status)) (i : Input) → On i p → On i q → On i (if b then p else q)
-both true p q i x y = x
-both false p q i x y = y
+-- the folder of these words is still to be opened
+abbrev pub IsBefore : Start → RunState → Type 0
+IsBefore start (Preparing b s names) = b ≡ start
+IsBefore start (Opening o s) = o ≡ Some start
+IsBefore start x = ⊥
 
-threads-greeted : (manner : Manner) (s : SessionState) → On no_input (greeted manner s)
-threads-greeted Silent s = tt
-threads-greeted Rows s = (tt, λ u. tt)
-threads-greeted Quiet s = refl
-threads-greeted Greeting s = (tt, λ u. refl)
+-- the folder is open, or a draft begun
+abbrev pub IsReadingState : RunState → Type 0
+IsReadingState (Recovering start) = ⊥
+IsReadingState (Preparing start s names) = ⊥
+IsReadingState (Opening start s) = ⊥
+IsReadingState (Reading s i) = Unit {0}
+IsReadingState (Finishing s i) = Unit {0}
+IsReadingState (Leaving s i) = Unit {0}
 
-threads-list : (s : SessionState) (start : Start) (name bytes : List ℕ) (l : Option (List (List ℕ))) → On no_input (with_list s start name bytes l)
-threads-list s start name bytes None = (tt, λ u. tt)
-threads-list s start name bytes (Some texts) =
-    both (nat_lt message_limit (length texts)) _ _ no_input (tt, λ u. tt) (tt, λ rows. threads-greeted start.manner (with_opened s name bytes rows))
+-- an end that speaks of no draft
+abbrev pub IsOther : Status → Type 0
+IsOther (status.NotSent n) = ⊥
+IsOther e = Unit {0}
 
-threads-unheld : (s : SessionState) (start : Start) (name : List ℕ) (bytes : Option (List ℕ)) (b : Bool) → On no_input (unheld s start name bytes b)
-threads-unheld s start name bytes true = (tt, λ u. tt)
-threads-unheld s start name None false = (tt, λ u. tt)
-threads-unheld s start name (Some bytes) false = threads-list s start name bytes (list_of bytes)
+-- an end that speaks of neither draft nor record
+abbrev pub IsPlain : Status → Type 0
+IsPlain e = (opened_end e ≡ e) × (is_for_record e ≡ false) × IsOther e
 
-threads-loaded : (s : SessionState) (start : Start) (name : List ℕ) (f : Found) → On no_input (loaded s start name f)
-threads-loaded s start name (found.Bytes bytes true) = (tt, λ u. tt)
-threads-loaded s start name (found.Bytes bytes false) = threads-unheld s start name bytes (is_no_mail start.named bytes)
-threads-loaded s start name (found.TooLarge n) = (tt, λ u. tt)
+-- where a round of a state may lead, and how it may end the run, if it met no record that can't be read
+abbrev pub LeadsFrom : RunState → RunState → Type 0
+LeadsFrom (Recovering start) y = Unit {0}
+LeadsFrom (Preparing start s names) y = IsBefore start y
+LeadsFrom (Opening start s) y = IsReadingState y
+LeadsFrom (Reading s i) y = IsReadingState y
+LeadsFrom (Finishing s i) y = IsReadingState y
+LeadsFrom (Leaving s i) y = IsReadingState y
 
-threads-named : (s : SessionState) (start : Start) (name : OrFault (List ℕ)) → On no_input (with_name_or_fault s start name)
-threads-named s start (Ok name) = both (is_short_name (placed s.here name)) _ _ no_input (tt, threads-loaded s start name) (tt, λ u. tt)
-threads-named s start (Err line) = (tt, λ u. tt)
+abbrev pub ExitsFrom : RunState → Status → Type 0
+ExitsFrom (Recovering start) e = IsPlain e
+ExitsFrom (Preparing start s names) e = EndsAs s.outcome e
+ExitsFrom (Opening start s) e = IsPlain e
+ExitsFrom (Reading s i) e = EndsAs s.outcome e
+ExitsFrom (Finishing s i) e = EndsAs s.outcome e
+ExitsFrom (Leaving s i) e = LeavesAs s.outcome e
 
--- a draft that begins, after the question for its subject where that is asked for
+abbrev pub EndsFrom : RunState → Next RunState Status → Type 0
+EndsFrom x (Go y) = LeadsFrom x y
+EndsFrom x (Last e) = ExitsFrom x e ⊎ (e ≡ status.BadRecord)
+
+-- the end that the load of a file that isn't held leads to, if the run isn't cut off: there is no mail, or no folder, or it is opened
+abbrev pub end_by : Bool → Bool → Status
+end_by true none = status.NoMail
+end_by false true = status.NoFolder
+end_by false false = status.Done
+
+abbrev pub end_of : Bool → Found → Status
+end_of named (found.Bytes bytes true) = status.Refused
+end_of named (found.Bytes bytes false) = end_by (is_no_mail named bytes) (is_no_folder bytes)
+end_of named (found.TooLarge n) = status.NoFolder
+
+-- a draft that begins, after the question for its subject if that is asked for
 abbrev pub sent : Bool → SessionState → Play (Next RunState Status)
 sent b t = bind (bind (subject_asked b) (λ u. Ret t)) (λ t. Ret (Go (Reading t no_input)))
 
@@ -85,193 +129,260 @@ asks_in s o = asks_subject (new_machine (flattened (draft_with s.desk o))) (view
 abbrev pub begun_in : SessionState → Options → SessionState
 begun_in s o = with_new_draft s (draft_with s.desk o)
 
-threads-sent : (b : Bool) (t : SessionState) → On no_input (sent b t)
-threads-sent true t = (tt, λ u. refl)
-threads-sent false t = refl
+-- how things stand in a round: whether a record was met that can't be read, and the input that is left
+abbrev pub Standing : Type 0
+Standing = Bool × Input
 
-threads-starting : (sends : Option Options) (s : SessionState) (start : Start) → On no_input (starting_with sends s start)
-threads-starting (Some o) s start = threads-sent (asks_in s o) (begun_in s o)
-threads-starting None s start = threads-named s start (folder_name s start)
+abbrev pub after_act : Standing → (act : Act) → Answer act → Standing
+after_act x act answer = (met_by x.0 act answer, input_after act answer x.1)
 
-threads-opening : (start : Option Start) (s : SessionState) → On no_input (opening start s)
-threads-opening None s = (tt, λ u. tt)
-threads-opening (Some start) s = threads-starting start.sends s start
+module _ (env : Environment) (actor : List ℕ) (token : ℕ) where
+  -- a round takes its lines from the input that is left, its acts pass a test, and its commits are those of its actor and token
+  abbrev pub May : (Act → Bool) → Standing → Act → Type 0
+  May test x act = TakesFrom act x.1 × (test act ≡ true) × OfCommit (IsBy actor token) act
 
-threads-recovered : (env : Environment) (start : Start) (a : RecoveryAnswer) → On no_input (recovered env start a)
-threads-recovered env start (recovery.Done found) = refl
-threads-recovered env start (recovery.Busy name) = (tt, λ u. tt)
-threads-recovered env start recovery.NotARecord = tt
-threads-recovered env start (recovery.TooLarge name length) = tt
+  abbrev pub RoundEnds : (RunState → Type 0) → (Status → Type 0) → Standing → Next RunState Status → Type 0
+  RoundEnds Leads Exits x (Go y) = Fine x.0 ((x.1 ≡ input_of y) × StateOf env actor token y × Leads y)
+  RoundEnds Leads Exits x (Last e) = EndsSo Exits x.0 e
 
-threads-recovered-unless : (sends : Option Options) (env : Environment) (start : Start) → On no_input (recovered_unless sends env start (actor_in env) env.token)
-threads-recovered-unless (Some o) env start = refl
-threads-recovered-unless None env start = (tt, threads-recovered env start)
+  abbrev pub Rounds : Bool → (RunState → Type 0) → (Status → Type 0) → Standing → Play (Next RunState Status) → Type 0
+  Rounds opens Leads Exits x p = Obeys (May (may_load opens)) after_act (RoundEnds Leads Exits) x p
 
-threads-recovering : (env : Environment) (start : Option Start) → On no_input (recovering env start)
-threads-recovering env None = refl
-threads-recovering env (Some start) = threads-recovered-unless start.sends env start
+  -- ---- lines
 
-threads-with : (i : Input) (n : Next SessionState Status) (j : Input) → j ≡ i → On j (with_input i n)
-threads-with i (Go s) j same = same
-threads-with i (Last e) j same = tt
+  -- what a line does, in a round
+  lifted : {A : Type 0} (E : Bool → A → Type 0) (Leads : RunState → Type 0) (Exits : Status → Type 0) (met : Bool) (i : Input) (p : Play A) (k : A → Play (Next RunState Status))
+      → Obeys (λ (met : Bool). MayAsk actor token) met_by E met p → ((met : Bool) (a : A) → E met a → Rounds false Leads Exits (met, i) (k a)) → Rounds false Leads Exits (met, i) (bind p k)
+  lifted E Leads Exits met i (Ret a) k obeys more = more met a obeys
+  lifted E Leads Exits met i (Ask (Line j) go) k obeys more = absurd obeys.0
+  lifted E Leads Exits met i (Ask (Say bytes) go) k obeys more = ((tt, refl, tt), λ a. lifted E Leads Exits met i (go a) k (obeys.1 a) more)
+  lifted E Leads Exits met i (Ask (Read name) go) k obeys more = absurd obeys.0
+  lifted E Leads Exits met i (Ask (Try name) go) k obeys more = ((tt, refl, tt), λ a. lifted E Leads Exits met i (go a) k (obeys.1 a) more)
+  lifted E Leads Exits met i (Ask (Changes c) go) k obeys more = ((tt, refl, obeys.0), λ a. lifted E Leads Exits (met_by met (Changes c) a) i (go a) k (obeys.1 a) more)
+  lifted E Leads Exits met i (Ask (Recover b t) go) k obeys more = absurd obeys.0
+  lifted E Leads Exits met i (Ask (Child program args input) go) k obeys more = ((tt, refl, tt), λ a. lifted E Leads Exits met i (go a) k (obeys.1 a) more)
+  lifted E Leads Exits met i (Ask (Now tz) go) k obeys more = ((tt, refl, tt), λ a. lifted E Leads Exits met i (go a) k (obeys.1 a) more)
+  lifted E Leads Exits met i (Ask (Know texts) go) k obeys more = ((tt, refl, tt), λ a. lifted E Leads Exits met i (go a) k (obeys.1 a) more)
 
-threads-behind : (b : Bool) (s : SessionState) (j : Input) → On j (Ret (Go (if b then Finishing s j else Leaving (rested s) j)))
-threads-behind true s j = refl
-threads-behind false s j = refl
+  -- a line, and the round that follows it
+  then-rounds : (o : Outcome) (Leads : RunState → Type 0) (i : Input) (p : Play (Next SessionState Status)) (k : Next SessionState Status → Play (Next RunState Status)) → Lines actor token o p
+      → ((s : SessionState) → IsOf actor token s → Rounds false Leads (EndsAs o) (false, i) (k (Go s))) → ((met : Bool) (e : Status) → EndsSo (EndsAs o) met e → Rounds false Leads (EndsAs o) (met, i) (k (Last e)))
+      → Rounds false Leads (EndsAs o) (false, i) (bind p k)
+  then-rounds o Leads i p k obeys on over = lifted (LineEnds (IsOf actor token) (EndsAs o)) Leads (EndsAs o) false i p k obeys each
+    where
+      each : (met : Bool) (n : Next SessionState Status) → LineEnds (IsOf actor token) (EndsAs o) met n → Rounds false Leads (EndsAs o) (met, i) (k n)
+      each true (Go s) never = absurd never
+      each false (Go s) of = on s of
+      each met (Last e) is = over met e is
 
-threads-turn : (s : SessionState) (j : Input) (line : Option (List ℕ)) → On j (turn s j line)
-threads-turn s j None = threads-behind (is_drafting s) s j
-threads-turn s j (Some line) =
-    bind-threads (λ (n : Next SessionState Status) (k : Input). k ≡ j) (NextFrom input_of) (typed_play s line) (with_input j) j (typed-threads s line j) (threads-with j)
+  -- a line that waits
+  waits-obeys : (Leads : RunState → Type 0) (s : SessionState) (i : Input) (p : WaitingLine × List Pending) (k : Next SessionState Status → Play (Next RunState Status)) → IsOf actor token s
+      → ((t : SessionState) → IsOf actor token t → Rounds false Leads (EndsAs s.outcome) (false, i) (k (Go t))) → ((met : Bool) (e : Status) → EndsSo (EndsAs s.outcome) met e → Rounds false Leads (EndsAs s.outcome) (met, i) (k (Last e)))
+      → Rounds false Leads (EndsAs s.outcome) (false, i) (bind (waiting_play (resumed s p.1) p.0) k)
+  waits-obeys Leads s i p k of on over = let t = resumed s p.1 in then-rounds s.outcome Leads i (waiting_play t p.0) k (waiting-obeys actor token s.outcome t p.0 (of, refl)) on over
 
-threads-prompted : (terminal : Bool) (desk : Desk) (i : Input) → Threads (λ (u : Unit {0}) (j : Input). j ≡ i) i (prompted terminal desk)
-threads-prompted true desk i = (tt, λ u. refl)
-threads-prompted false desk i = refl
+  -- ---- the input
 
-threads-turn-next : (s : SessionState) (i : Input) → On i (next_turn s i)
-threads-turn-next s i =
-    bind-threads (λ (u : Unit {0}) (j : Input). j ≡ i) (NextFrom input_of) (prompted (at_prompt s) s.desk) (λ u. Ask (Line i) (λ a. turn s a.1 a.0)) i (threads-prompted (at_prompt s) s.desk i)
-    (λ u j same. (sym same, λ a. threads-turn s a.1 a.0))
+  abbrev Reads : Outcome → Input → Play (Next RunState Status) → Type 0
+  Reads o i p = Rounds false IsReadingState (EndsAs o) (false, i) p
 
-threads-unless : (b : Bool) (s : SessionState) (i : Input) → On i (next_unless b s i)
-threads-unless true s i = refl
-threads-unless false s i = threads-turn-next s i
+  behind-obeys : (o : Outcome) (b : Bool) (s : SessionState) (j : Input) → IsOf actor token s → Reads o j (Ret (Go (if b then Finishing s j else Leaving (rested s) j)))
+  behind-obeys o true s j of = (refl, of, tt)
+  behind-obeys o false s j of = (refl, rested-of actor token s of, tt)
 
-threads-line-round : (s : SessionState) (i : Input) (next : Option (WaitingLine × List Pending)) → On i (line_round s i next)
-threads-line-round s i None = threads-unless (is_over s) s i
-threads-line-round s i (Some p) =
-    let t = resumed s p.1 in
-    bind-threads (λ (n : Next SessionState Status) (k : Input). k ≡ i) (NextFrom input_of) (waiting_play t p.0) (with_input i) i (waiting-threads t p.0 i) (threads-with i)
+  turn-obeys : (s : SessionState) (j : Input) (line : Option (List ℕ)) → IsOf actor token s → Reads s.outcome j (turn s j line)
+  turn-obeys s j None of = behind-obeys s.outcome (is_drafting s) s j of
+  turn-obeys s j (Some line) of =
+      then-rounds s.outcome IsReadingState j (typed_play s line) (with_input j) (typed-obeys actor token s.outcome s line (of, refl)) (λ t of. (refl, of, tt)) (λ met e is. is)
 
-threads-finishing : (i : Input) (n : Next SessionState Status) (j : Input) → j ≡ i → On j (with_finishing i n)
-threads-finishing i (Go s) j same = same
-threads-finishing i (Last e) j same = tt
+  next-obeys : (b : Bool) (s : SessionState) (i : Input) → IsOf actor token s → Reads s.outcome i (bind (prompted b s.desk) (λ u. Ask (Line i) (λ a. turn s a.1 a.0)))
+  next-obeys true s i of = ((tt, refl, tt), λ u. ((refl, refl, tt), λ a. turn-obeys s a.1 a.0 of))
+  next-obeys false s i of = ((refl, refl, tt), λ a. turn-obeys s a.1 a.0 of)
 
-threads-ended : (b : Bool) (s : SessionState) (i : Input) → On i (if b then bind (ended_draft s) (with_finishing i) else Ret (Go (Leaving (rested s) i)))
-threads-ended true s i =
-    bind-threads (λ (n : Next SessionState Status) (k : Input). k ≡ i) (NextFrom input_of) (ended_draft s) (with_finishing i) i (ended-threads s i) (threads-finishing i)
-threads-ended false s i = refl
+  unless-obeys : (b : Bool) (s : SessionState) (i : Input) → IsOf actor token s → Reads s.outcome i (next_unless b s i)
+  unless-obeys true s i of = (refl, rested-of actor token s of, tt)
+  unless-obeys false s i of = next-obeys (at_prompt s) s i of
 
-threads-finishing-round : (s : SessionState) (i : Input) (next : Option (WaitingLine × List Pending)) → On i (finishing_round s i next)
-threads-finishing-round s i None = threads-ended (is_drafting s) s i
-threads-finishing-round s i (Some p) =
-    let t = resumed s p.1 in
-    bind-threads (λ (n : Next SessionState Status) (k : Input). k ≡ i) (NextFrom input_of) (waiting_play t p.0) (with_finishing i) i (waiting-threads t p.0 i) (threads-finishing i)
+  line-obeys : (s : SessionState) (i : Input) (next : Option (WaitingLine × List Pending)) → IsOf actor token s → Reads s.outcome i (line_round s i next)
+  line-obeys s i None of = unless-obeys (is_over s) s i of
+  line-obeys s i (Some p) of = waits-obeys IsReadingState s i p (with_input i) of (λ t of. (refl, of, tt)) (λ met e is. is)
 
-pub threads-round : (env : Environment) (x : RunState) → On (input_of x) (round env x)
-threads-round env (Recovering start) = threads-recovering env start
-threads-round env (Preparing start s names) = file-threads start s names (next_waiting s)
-threads-round env (Opening start s) = threads-opening start s
-threads-round env (Reading s i) = threads-line-round s i (next_waiting s)
-threads-round env (Finishing s i) = threads-finishing-round s i (next_waiting s)
-threads-round env (Leaving s i) = bind-threads (Keeps i) (NextFrom input_of) (leaving s) (λ e. Ret (Last e)) i (leaving-threads s i) (λ e j same. tt)
+  -- ---- the end of the input
 
--- acts that pass a test on either side
-either : (test : Act → Bool) (b : Bool) (p q : Play (Next RunState Status)) → AllActs test p → AllActs test q → AllActs test (if b then p else q)
-either test true p q x y = x
-either test false p q x y = y
+  drafts-obey : (b : Bool) (s : SessionState) (i : Input) → IsOf actor token s → Reads s.outcome i (if b then bind (ended_draft s) (with_finishing i) else Ret (Go (Leaving (rested s) i)))
+  drafts-obey true s i of =
+      then-rounds s.outcome IsReadingState i (ended_draft s) (with_finishing i) (ended-obeys actor token s.outcome s of) (λ t of. (refl, of, tt)) (λ met e is. is)
+  drafts-obey false s i of = (refl, rested-of actor token s of, tt)
 
-loads-less : {R : Type 0} (b : Bool) (p : Play R) → AllActs loads_nothing p → AllActs (may_load b) p
-loads-less b p all = weaker-acts loads_nothing (may_load b) (may-all b) p all
+  finishing-obeys : (s : SessionState) (i : Input) (next : Option (WaitingLine × List Pending)) → IsOf actor token s → Reads s.outcome i (finishing_round s i next)
+  finishing-obeys s i None of = drafts-obey (is_drafting s) s i of
+  finishing-obeys s i (Some p) of = waits-obeys IsReadingState s i p (with_finishing i) of (λ t of. (refl, of, tt)) (λ met e is. is)
 
-greeted-acts : (manner : Manner) (s : SessionState) → AllActs loads_nothing (greeted manner s)
-greeted-acts Silent s = tt
-greeted-acts Rows s = (refl, λ u. tt)
-greeted-acts Quiet s = tt
-greeted-acts Greeting s = (refl, λ u. tt)
+  -- ---- the start-up files
 
-list-acts : (s : SessionState) (start : Start) (name bytes : List ℕ) (l : Option (List (List ℕ))) → AllActs loads_nothing (with_list s start name bytes l)
-list-acts s start name bytes None = (refl, λ u. tt)
-list-acts s start name bytes (Some texts) =
-    either loads_nothing (nat_lt message_limit (length texts)) _ _ (refl, λ u. tt) (refl, λ rows. greeted-acts start.manner (with_opened s name bytes rows))
+  files-obey : (o : Outcome) (start : Start) (s : SessionState) (names : List (List ℕ)) → IsOf actor token s → Rounds false (IsBefore start) (EndsAs o) (false, no_input) (next_file start s names)
+  files-obey o start s [] of = (refl, of, refl)
+  files-obey o start s (name ∷ names) of =
+      then-rounds o (IsBefore start) no_input (startup_play s name) (with_files start names) (startup-obeys actor token o s name of) (λ t of. (refl, of, refl)) (λ met e is. is)
 
-unheld-acts : (s : SessionState) (start : Start) (name : List ℕ) (bytes : Option (List ℕ)) (b : Bool) → AllActs loads_nothing (unheld s start name bytes b)
-unheld-acts s start name bytes true = (refl, λ u. tt)
-unheld-acts s start name None false = (refl, λ u. tt)
-unheld-acts s start name (Some bytes) false = list-acts s start name bytes (list_of bytes)
+  file-obeys : (start : Start) (s : SessionState) (names : List (List ℕ)) (next : Option (WaitingLine × List Pending)) → IsOf actor token s
+      → Rounds false (IsBefore start) (EndsAs s.outcome) (false, no_input) (file_round start s names next)
+  file-obeys start s names None of = files-obey s.outcome start (rested s) names (rested-of actor token s of)
+  file-obeys start s names (Some p) of = waits-obeys (IsBefore start) s no_input p (with_files start names) of (λ t of. (refl, of, refl)) (λ met e is. is)
 
-pub loaded-acts : (s : SessionState) (start : Start) (name : List ℕ) (f : Found) → AllActs loads_nothing (loaded s start name f)
-loaded-acts s start name (found.Bytes bytes true) = (refl, λ u. tt)
-loaded-acts s start name (found.Bytes bytes false) = unheld-acts s start name bytes (is_no_mail start.named bytes)
-loaded-acts s start name (found.TooLarge n) = (refl, λ u. tt)
+  -- ---- the recovery
 
-named-acts : (s : SessionState) (start : Start) (name : OrFault (List ℕ)) → AllActs (may_load true) (with_name_or_fault s start name)
-named-acts s start (Ok name) =
-    either (may_load true) (is_short_name (placed s.here name)) _ _ (refl, λ f. loads-less true (loaded s start name f) (loaded-acts s start name f)) (refl, λ u. tt)
-named-acts s start (Err line) = (refl, λ u. tt)
+  recovered-obeys : (start : Start) (a : RecoveryAnswer) → IsOf actor token (first_of env (Some start)) → Rounds false (λ y. Unit {0}) IsPlain (met_by false (Recover actor token) a, no_input) (recovered env start a)
+  recovered-obeys start (recovery.Done f) of = (refl, of, tt)
+  recovered-obeys start (recovery.Busy name) of = ((tt, refl, tt), λ u. (refl, refl, tt))
+  recovered-obeys start recovery.NotARecord of = refl
+  recovered-obeys start (recovery.TooLarge name n) of = refl
 
-pub sent-acts : (b : Bool) (t : SessionState) → AllActs loads_nothing (sent b t)
-sent-acts true t = (refl, λ u. tt)
-sent-acts false t = tt
+  recovering-obeys : (sends : Option Options) (start : Start) → (actor_in env ≡ actor) × (env.token ≡ token) → Rounds false (λ y. Unit {0}) IsPlain (false, no_input) (recovered_unless sends env start (actor_in env) env.token)
+  recovering-obeys (Some o) start of = (refl, (actor-same env start ∙ of.0, of.1), tt)
+  recovering-obeys None start of =
+      ((tt, refl, record { actor_is = of.0; token_is = of.1; files = All-nil (λ (c : Change). is_file_name actor (name_of c) ≡ true) }), λ a. recovered-obeys start a (actor-same env start ∙ of.0, of.1))
 
-starting-acts : (sends : Option Options) (s : SessionState) (start : Start) → AllActs (may_load true) (starting_with sends s start)
-starting-acts (Some o) s start = loads-less true (sent (asks_in s o) (begun_in s o)) (sent-acts (asks_in s o) (begun_in s o))
-starting-acts None s start = named-acts s start (folder_name s start)
+  -- ---- the opening
 
-opening-acts : (start : Option Start) (s : SessionState) → AllActs (may_load true) (opening start s)
-opening-acts None s = (refl, λ u. tt)
-opening-acts (Some start) s = starting-acts start.sends s start
+  -- an opening leads to this end; it is done if the folder is open
+  abbrev pub OpenEnds : Status → Standing → Next RunState Status → Type 0
+  OpenEnds w x (Go y) = Fine x.0 ((x.1 ≡ input_of y) × StateOf env actor token y × IsReadingState y × (w ≡ status.Done))
+  OpenEnds w x (Last e) = Fine x.0 ((e ≡ w) × (opened_end e ≡ e) × (is_for_record e ≡ false) × IsOther e)
 
-recovered-acts : (env : Environment) (start : Start) (a : RecoveryAnswer) → AllActs (may_load false) (recovered env start a)
-recovered-acts env start (recovery.Done found) = tt
-recovered-acts env start (recovery.Busy name) = (refl, λ u. tt)
-recovered-acts env start recovery.NotARecord = tt
-recovered-acts env start (recovery.TooLarge name length) = tt
+  abbrev pub Opens : Status → Play (Next RunState Status) → Type 0
+  Opens w p = Obeys (May loads_nothing) after_act (OpenEnds w) (false, no_input) p
 
-recovered-unless-acts : (sends : Option Options) (env : Environment) (start : Start) → AllActs (may_load false) (recovered_unless sends env start (actor_in env) env.token)
-recovered-unless-acts (Some o) env start = tt
-recovered-unless-acts None env start = (refl, recovered-acts env start)
+  greeted-obeys : (manner : Manner) (s : SessionState) → IsOf actor token s → Opens status.Done (greeted manner s)
+  greeted-obeys Silent s of = (refl, refl, refl, tt)
+  greeted-obeys Rows s of = ((tt, refl, tt), λ u. (refl, refl, refl, tt))
+  greeted-obeys Quiet s of = (refl, of, tt, refl)
+  greeted-obeys Greeting s of = ((tt, refl, tt), λ u. (refl, of, tt, refl))
 
-recovering-acts : (env : Environment) (start : Option Start) → AllActs (may_load false) (recovering env start)
-recovering-acts env None = tt
-recovering-acts env (Some start) = recovered-unless-acts start.sends env start
+  many-obeys : (b : Bool) (s : SessionState) (start : Start) (name bytes line : List ℕ) (texts : List (List ℕ)) → IsOf actor token s
+      → Opens (end_by false b) (if b then ends_with start line status.NoFolder else begun s start name bytes texts)
+  many-obeys true s start name bytes line texts of = ((tt, refl, tt), λ u. (refl, refl, refl, tt))
+  many-obeys false s start name bytes line texts of = ((tt, refl, tt), λ rows. greeted-obeys start.manner (with_opened s name bytes rows) of)
 
-with-acts : (i : Input) (n : Next SessionState Status) → AllActs (may_load false) (with_input i n)
-with-acts i (Go s) = tt
-with-acts i (Last e) = tt
+  list-obeys : (s : SessionState) (start : Start) (name bytes : List ℕ) (l : Option (List (List ℕ))) → IsOf actor token s → Opens (end_by false (is_no_list l)) (with_list s start name bytes l)
+  list-obeys s start name bytes None of = ((tt, refl, tt), λ u. (refl, refl, refl, tt))
+  list-obeys s start name bytes (Some texts) of = many-obeys (nat_lt message_limit (length texts)) s start name bytes _ texts of
 
-turn-acts : (s : SessionState) (j : Input) (line : Option (List ℕ)) → AllActs (may_load false) (turn s j line)
-turn-acts s j None = tt
-turn-acts s j (Some line) = bind-acts (may_load false) (typed_play s line) (with_input j) (typed-acts s line) (with-acts j)
+  unheld-obeys : (s : SessionState) (start : Start) (name : List ℕ) (bytes : Option (List ℕ)) (b : Bool) → IsOf actor token s → Opens (end_by b (is_no_folder bytes)) (unheld s start name bytes b)
+  unheld-obeys s start name bytes true of = ((tt, refl, tt), λ u. (refl, refl, refl, tt))
+  unheld-obeys s start name None false of = ((tt, refl, tt), λ u. (refl, refl, refl, tt))
+  unheld-obeys s start name (Some bytes) false of = list-obeys s start name bytes (list_of bytes) of
 
-prompted-acts : (terminal : Bool) (desk : Desk) → AllActs (may_load false) (prompted terminal desk)
-prompted-acts true desk = (refl, λ u. tt)
-prompted-acts false desk = tt
+  pub loaded-obeys : (s : SessionState) (start : Start) (name : List ℕ) (f : Found) → IsOf actor token s → Opens (end_of start.named f) (loaded s start name f)
+  loaded-obeys s start name (found.Bytes bytes true) of = ((tt, refl, tt), λ u. (refl, refl, refl, tt))
+  loaded-obeys s start name (found.Bytes bytes false) of = unheld-obeys s start name bytes (is_no_mail start.named bytes) of
+  loaded-obeys s start name (found.TooLarge n) of = ((tt, refl, tt), λ u. (refl, refl, refl, tt))
 
-next-acts : (s : SessionState) (i : Input) → AllActs (may_load false) (next_turn s i)
-next-acts s i =
-    bind-acts (may_load false) (prompted (at_prompt s) s.desk) (λ u. Ask (Line i) (λ a. turn s a.1 a.0)) (prompted-acts (at_prompt s) s.desk) (λ u. (refl, λ a. turn-acts s a.1 a.0))
+  pub sent-obeys : (b : Bool) (t : SessionState) → IsOf actor token t → Opens status.Done (sent b t)
+  sent-obeys true t of = ((tt, refl, tt), λ u. (refl, of, tt, refl))
+  sent-obeys false t of = (refl, of, tt, refl)
 
-unless-acts : (b : Bool) (s : SessionState) (i : Input) → AllActs (may_load false) (next_unless b s i)
-unless-acts true s i = tt
-unless-acts false s i = next-acts s i
+  -- what an opening leads to, as a round
+  opens-so : (w : Status) (p : Play (Next RunState Status)) → Opens w p → Rounds true IsReadingState IsPlain (false, no_input) p
+  opens-so w p obeys =
+      obeys-weaker (May loads_nothing) after_act (May (may_load true)) (OpenEnds w) (RoundEnds IsReadingState IsPlain) (λ x act may. (may.0, may-all true act may.1, may.2)) ends (false, no_input) p obeys
+    where
+      ends : (x : Standing) (n : Next RunState Status) → OpenEnds w x n → RoundEnds IsReadingState IsPlain x n
+      ends (true, i) (Go y) never = absurd never
+      ends (false, i) (Go y) (same, of, reads, done) = (same, of, reads)
+      ends (true, i) (Last e) never = absurd never
+      ends (false, i) (Last e) (is, opened, free, other) = (opened, free, other)
 
-line-round-acts : (s : SessionState) (i : Input) (next : Option (WaitingLine × List Pending)) → AllActs (may_load false) (line_round s i next)
-line-round-acts s i None = unless-acts (is_over s) s i
-line-round-acts s i (Some p) =
-    let t = resumed s p.1 in bind-acts (may_load false) (waiting_play t p.0) (with_input i) (waiting-acts t p.0) (with-acts i)
+  short-obeys : (b : Bool) (s : SessionState) (start : Start) (name line : List ℕ) → IsOf actor token s
+      → Rounds true IsReadingState IsPlain (false, no_input) (if b then Ask (Read (placed s.here name)) (loaded s start name) else ends_with start line status.NoFolder)
+  short-obeys true s start name line of = ((tt, refl, tt), λ f. opens-so (end_of start.named f) (loaded s start name f) (loaded-obeys s start name f of))
+  short-obeys false s start name line of = ((tt, refl, tt), λ u. (refl, refl, tt))
 
-finishing-acts : (i : Input) (n : Next SessionState Status) → AllActs (may_load false) (with_finishing i n)
-finishing-acts i (Go s) = tt
-finishing-acts i (Last e) = tt
+  named-obeys : (s : SessionState) (start : Start) (name : OrFault (List ℕ)) → IsOf actor token s → Rounds true IsReadingState IsPlain (false, no_input) (with_name_or_fault s start name)
+  named-obeys s start (Ok name) of = short-obeys (is_short_name (placed s.here name)) s start name _ of
+  named-obeys s start (Err line) of = ((tt, refl, tt), λ u. (refl, refl, tt))
 
-ended-round-acts : (b : Bool) (s : SessionState) (i : Input) → AllActs (may_load false) (if b then bind (ended_draft s) (with_finishing i) else Ret (Go (Leaving (rested s) i)))
-ended-round-acts true s i = bind-acts (may_load false) (ended_draft s) (with_finishing i) (ended-acts s) (finishing-acts i)
-ended-round-acts false s i = tt
+  starting-obeys : (sends : Option Options) (s : SessionState) (start : Start) → IsOf actor token s → Rounds true IsReadingState IsPlain (false, no_input) (starting_with sends s start)
+  starting-obeys (Some o) s start of = opens-so status.Done (sent (asks_in s o) (begun_in s o)) (sent-obeys (asks_in s o) (begun_in s o) of)
+  starting-obeys None s start of = named-obeys s start (folder_name s start) of
 
-finishing-round-acts : (s : SessionState) (i : Input) (next : Option (WaitingLine × List Pending)) → AllActs (may_load false) (finishing_round s i next)
-finishing-round-acts s i None = ended-round-acts (is_drafting s) s i
-finishing-round-acts s i (Some p) =
-    let t = resumed s p.1 in bind-acts (may_load false) (waiting_play t p.0) (with_finishing i) (waiting-acts t p.0) (finishing-acts i)
+  opening-obeys : (start : Option Start) (s : SessionState) → IsOf actor token s → Rounds true IsReadingState IsPlain (false, no_input) (opening start s)
+  opening-obeys None s of = ((tt, refl, tt), λ u. (refl, refl, tt))
+  opening-obeys (Some start) s of = starting-obeys start.sends s start of
 
-pub reading-acts : (env : Environment) (s : SessionState) (i : Input) → AllActs (may_load false) (round env (Reading s i))
-reading-acts env s i = line-round-acts s i (next_waiting s)
+  -- ---- each round
+
+  pub round-obeys : (x : RunState) → StateOf env actor token x → Rounds (is_opening x) (LeadsFrom x) (ExitsFrom x) (false, input_of x) (round env x)
+  round-obeys (Recovering None) of = (refl, of, tt)
+  round-obeys (Recovering (Some start)) of = recovering-obeys start.sends start of
+  round-obeys (Preparing start s names) of = file-obeys start s names (next_waiting s) of
+  round-obeys (Opening start s) of = opening-obeys start s of
+  round-obeys (Reading s i) of = line-obeys s i (next_waiting s) of
+  round-obeys (Finishing s i) of = finishing-obeys s i (next_waiting s) of
+  round-obeys (Leaving s i) of =
+      lifted (EndsSo (LeavesAs s.outcome)) IsReadingState (LeavesAs s.outcome) false i (leaving s) (λ e. Ret (Last e)) (leaving-obeys actor token s.outcome s (of, refl)) (λ met e is. is)
+
+  -- ---- what is read off that
+
+  -- the input is handed on
+  obeys-threads : (opens : Bool) (Leads : RunState → Type 0) (Exits : Status → Type 0) (met : Bool) (i : Input) (p : Play (Next RunState Status)) → Rounds opens Leads Exits (met, i) p → Threads (NextFrom input_of) i p
+  obeys-threads opens Leads Exits true i (Ret (Go y)) never = absurd never
+  obeys-threads opens Leads Exits false i (Ret (Go y)) is = is.0
+  obeys-threads opens Leads Exits met i (Ret (Last e)) is = tt
+  obeys-threads opens Leads Exits met i (Ask act go) obeys = (obeys.0.0, λ a. obeys-threads opens Leads Exits (met_by met act a) (input_after act a i) (go a) (obeys.1 a))
+
+  -- what a round leads to is a state of its actor and token
+  ends-of : (Leads : RunState → Type 0) (Exits : Status → Type 0) (x : Standing) (n : Next RunState Status) → RoundEnds Leads Exits x n → NextKeeps (StateOf env actor token) n
+  ends-of Leads Exits (true, i) (Go y) never = absurd never
+  ends-of Leads Exits (false, i) (Go y) is = is.1
+  ends-of Leads Exits x (Last e) is = tt
+
+  -- it leads where it may, and ends the run as it may or for its record
+  ends-so : (r : RunState) (x : Standing) (n : Next RunState Status) → RoundEnds (LeadsFrom r) (ExitsFrom r) x n → EndsFrom r n
+  ends-so r (true, i) (Go y) never = absurd never
+  ends-so r (false, i) (Go y) (same, of, leads) = leads
+  ends-so r (true, i) (Last e) is = inr is
+  ends-so r (false, i) (Last e) is = inl is
+
+-- each round, whoever's it is
+any-round : (env : Environment) (P : Type 0) (x : RunState) → ((actor : List ℕ) (token : ℕ) → StateOf env actor token x → P) → P
+any-round env P (Recovering start) to = to (actor_in env) env.token (refl, refl)
+any-round env P (Preparing start s names) to = to s.actor s.token (refl, refl)
+any-round env P (Opening start s) to = to s.actor s.token (refl, refl)
+any-round env P (Reading s i) to = to s.actor s.token (refl, refl)
+any-round env P (Finishing s i) to = to s.actor s.token (refl, refl)
+any-round env P (Leaving s i) to = to s.actor s.token (refl, refl)
+
+pub threads-round : (env : Environment) (x : RunState) → Threads (NextFrom input_of) (input_of x) (round env x)
+threads-round env x = any-round env _ x (λ actor token of.
+    obeys-threads env actor token (is_opening x) (LeadsFrom x) (ExitsFrom x) false (input_of x) (round env x) (round-obeys env actor token x of))
 
 -- where a folder is opened each load that fails cuts the run off, and elsewhere none does
 pub loads-round : (env : Environment) (x : RunState) → AllActs (may_load (is_opening x)) (round env x)
-loads-round env (Recovering start) = recovering-acts env start
-loads-round env (Preparing start s names) = file-acts start s names (next_waiting s)
-loads-round env (Opening start s) = opening-acts start s
-loads-round env (Reading s i) = reading-acts env s i
-loads-round env (Finishing s i) = finishing-round-acts s i (next_waiting s)
-loads-round env (Leaving s i) = last-acts s
+loads-round env x = any-round env _ x (λ actor token of.
+    obeys-acts (May env actor token (may_load (is_opening x))) after_act (may_load (is_opening x)) (RoundEnds env actor token (LeadsFrom x) (ExitsFrom x)) (λ y act may. may.1) (false, input_of x) (round env x)
+    (round-obeys env actor token x of))
+
+-- where a round leads, and how it ends the run
+ends-round : (env : Environment) (x : RunState) → AllEnds (EndsFrom x) (round env x)
+ends-round env x = any-round env _ x (λ actor token of.
+    obeys-ends (May env actor token (may_load (is_opening x))) after_act (RoundEnds env actor token (LeadsFrom x) (ExitsFrom x)) (EndsFrom x) (ends-so env actor token x)
+    (false, input_of x) (round env x) (round-obeys env actor token x of))
+
+pub goes-on : (env : Environment) (x y : RunState) (es : List Event) → Goes (round env x) es (Ok (Go y)) → LeadsFrom x y
+goes-on env x y es goes = goes-ends (EndsFrom x) (round env x) es (Go y) (ends-round env x) goes
+
+pub goes-over : (env : Environment) (x : RunState) (es : List Event) (e : Status) → Goes (round env x) es (Ok (Last e)) → ExitsFrom x e ⊎ (e ≡ status.BadRecord)
+goes-over env x es e goes = goes-ends (EndsFrom x) (round env x) es (Last e) (ends-round env x) goes
+
+-- each commit of a round is one of the run
+pub round-commits : (env : Environment) (actor : List ℕ) (token : ℕ) (x : RunState) → StateOf env actor token x → EachCommit (IsBy actor token) (round env x)
+round-commits env actor token x of =
+    obeys-commits (May env actor token (may_load (is_opening x))) after_act (IsBy actor token) (RoundEnds env actor token (LeadsFrom x) (ExitsFrom x)) (λ y act may. may.2) (false, input_of x) (round env x)
+    (round-obeys env actor token x of)
+
+-- and each round leaves a state of its actor and token
+pub round-of : (env : Environment) (actor : List ℕ) (token : ℕ) (x : RunState) → StateOf env actor token x → AllEnds (NextKeeps (StateOf env actor token)) (round env x)
+round-of env actor token x of =
+    obeys-ends (May env actor token (may_load (is_opening x))) after_act (RoundEnds env actor token (LeadsFrom x) (ExitsFrom x)) (NextKeeps (StateOf env actor token)) (ends-of env actor token (LeadsFrom x) (ExitsFrom x))
+    (false, input_of x) (round env x) (round-obeys env actor token x of)

@@ -1,4 +1,4 @@
--- A loop and what is said behind it are a run.
+-- A loop and what is printed after it are a run.
 use Rattle.std.proofs.Common.{◌<◌, ◌^◌, ◌++◌, List, refl}
 use Rattle.std.specs.declared.option.Option.{Option}
 use Rattle.std.specs.declared.result.Result.{Result}

@@ -1,5 +1,5 @@
 -- A line of the input, a start-up file, and the lines that they bring, are rounds of a run.
-use Rattle.std.proofs.Common.{◌≡◌, ◌&&◌, ℕ, Bool, true, false, List, [], ◌∷◌, ◌++◌, refl, sym, ◌∙◌, ap, subst, inl, append_assoc}
+use Rattle.std.proofs.Common.{◌≡◌, ◌&&◌, ℕ, Bool, true, false, List, [], ◌∷◌, ◌++◌, length, refl, sym, ◌∙◌, ap, subst, inl, append_assoc}
 use Rattle.std.proofs.lemmas.Bool.{cond-true, cond-false}
 use Rattle.std.proofs.lemmas.List.{append-nil}
 use Rattle.std.specs.Prelude.{not, if◌then◌else◌}
@@ -16,7 +16,8 @@ use Rattle.session_play.proofs.LoopLemmas.{SoFar}
 use Rattle.command_desk.specs.declared.desk.Desk.{Desk}
 use Rattle.session_state.specs.declared.state.SessionState.{SessionState}
 use Rattle.session_state.specs.declared.status.Status.{Status}
-use Rattle.session_state.specs.Pending.{taken, open_before}
+use Rattle.session_state.specs.Waits.{Pending}
+use Rattle.session_state.specs.Pending.{taken, held, open_before}
 use Rattle.read_commands.specs.Origins.{is_defining}
 use Rattle.session_state.specs.States.{IsSession, is_drafting, next_waiting, with_draft, cut_to, resumed, at_rest, rested}
 use Rattle.draft_sending.specs.Sending.{ended_draft}
@@ -26,8 +27,11 @@ use Rattle.mailx_session.specs.Startup as files
 use Rattle.session_state.proofs.RestLemmas.{rested-same}
 use Rattle.mailx_session.specs.Rounds.{typed_play, waiting_play, WaitingGo, none, more, ended, LineGoes, typed, DraftEnds, FinishGo}
 use Rattle.mailx_session.specs.Rounds as rounds
+use Rattle.mailx_session.specs.Leaving.{leaving, InputEnds, then_leaves, ends_before, cut_before}
+use Rattle.mailx_session.proofs.SafeLemmas.{finish-over, finish-rests}
+use Rattle.rc_conditionals.specs.Turns.{is_send}
 use Rattle.mailx_top.specs.declared.environment.Environment.{Environment}
-use Rattle.mailx_top.specs.Meaning.{RunState, at_prompt, Reading, Finishing, Leaving, behind_input, round, last_round, is_over, next_unless, AsksNext, line_round, finishing_round, with_finishing, next_turn, turn, prompted, with_input, next_state, after_line, LeadsTo, LeadsAfterPrompt, Preparing, Opening, first_of, startup_files, files_with, with_files, next_file, file_round, prepared, after_file, after_files}
+use Rattle.mailx_top.specs.Meaning.{RunState, at_prompt, Reading, Finishing, Leaving, behind_input, round, is_over, next_unless, AsksNext, line_round, finishing_round, with_finishing, next_turn, turn, prompted, with_input, next_state, after_line, LeadsTo, LeadsAfterPrompt, Preparing, Opening, first_of, startup_files, files_with, with_files, next_file, file_round, prepared, after_file, after_files}
 use Rattle.mailx_top.specs.Words.{Start, is_silent}
 
 -- a result of a session's line, with the input that is left
@@ -59,13 +63,15 @@ prompt_at_rest s is = ap (λ (t : SessionState). (s.terminal && not (is_drafting
 pub none_waits : (s : SessionState) → IsSession s → next_waiting s ≡ None
 none_waits s is = go (is_drafting s) is.frames
   where
-    go : (b : Bool) → (b ≡ false → s.frames ≡ []) → (if b then None else taken s.frames) ≡ None
+    go : (b : Bool) → (b ≡ false → s.frames ≡ []) → (if b then None else taken (held (length s.desk.conditions) s.frames)) ≡ None
     go true idle = refl
-    go false idle = ap taken (idle refl)
+    go false idle = ap (λ (fs : List Pending). taken (held (length s.desk.conditions) fs)) (idle refl)
 
 -- nor does one where no draft is open, in a state at rest
 pub idle-waits : (s : SessionState) → is_drafting s ≡ false → rested s ≡ s → next_waiting s ≡ None
-idle-waits s free same = cond-false _ _ _ free ∙ ap taken (sym (ap (λ (t : SessionState). t.frames) (sym (cond-false (is_drafting s) s (at_rest s) free) ∙ same)))
+idle-waits s free same =
+    let none_left : s.frames ≡ [] = sym (ap (λ (t : SessionState). t.frames) (sym (cond-false (is_drafting s) s (at_rest s) free) ∙ same)) in
+    cond-false _ _ _ free ∙ ap (λ (fs : List Pending). taken (held (length s.desk.conditions) fs)) none_left
 
 -- the prompt has nothing to do with conditions
 prompted-alike : (terminal : Bool) (nested : Option ℕ) (desk : Desk) → prompted terminal desk ≡ prompted terminal (cut_to nested desk)
@@ -143,20 +149,21 @@ step-leads env s t i j line (Ok None) idle took es takes goes = λ said says. li
 step-leads env s t i j line (Ok (Some e)) idle took es takes goes = λ said says. line-leads env s i j line said took es (Ok (Last e)) idle says takes goes
 step-leads env s t i j line (Err cause) idle took es takes goes = λ said says. line-leads env s i j line said took es (Err cause) idle says takes goes
 
--- a round leads where it goes
-leads-once : (env : Environment) (x : RunState) (es : List Event) (out : Result (Next RunState Status) Stop) → Goes (round env x) es out → LeadsTo env x es out
-leads-once env x es (Ok (Go y)) goes = λ rest out loop. again es rest refl goes loop
-leads-once env x es (Ok (Last e)) goes = last goes
-leads-once env x es (Err cause) goes = cut goes
+-- a run that is over has no open draft
+over-free : (a b : Bool) → (a && not b) ≡ true → b ≡ false
+over-free true false is = refl
+over-free true true is = absurd (cc is)
+over-free false b is = absurd (cc is)
 
--- where the run is over the folder is left
-pub over-ends : (env : Environment) (s : SessionState) (i : Input) (out : Result (Next RunState Status) Stop) → next_waiting s ≡ None → is_over s ≡ true → rested s ≡ s → (es : List Event)
-    → Goes (last_round s) es out → LeadsTo env (Reading s i) es out
-over-ends env s i out idle over same es leaves =
+-- where the run is over the folder is left, as at the end of the input
+pub over-ends : (env : Environment) (s : SessionState) (i : Input) (out : Result (Next RunState Status) Stop) → next_waiting s ≡ None → is_over s ≡ true → (es : List Event)
+    → LeadsTo env (behind_input s i) es out → LeadsTo env (Reading s i) es out
+over-ends env s i out idle over es leads =
     let shut : round env (Reading s i) ≡ Ret (Go (Leaving (rested s) i)) = ap (line_round s i) idle ∙ ap (λ (b : Bool). next_unless b s i) over in
+    let free : is_drafting s ≡ false = over-free (is_send s.desk.mode) (is_drafting s) over in
     leads-more env (Reading s i) (Leaving (rested s) i) [] es es out refl
     (subst (λ (p : Play (Next RunState Status)). Goes p [] (Ok (Go (Leaving (rested s) i)))) (sym shut) (refl, inl refl))
-    (leads-once env (Leaving (rested s) i) es out (subst (λ (u : SessionState). Goes (last_round u) es out) (sym same) leaves))
+    (subst (λ (x : RunState). LeadsTo env x es out) (cond-false (is_drafting s) (Finishing s i) (Leaving (rested s) i) free) leads)
 
 -- the end of the input, and what follows it
 pub end-leads : (env : Environment) (s : SessionState) (i j : Input) (out : Result (Next RunState Status) Stop) → AsksNext s → (took es : List Event)
@@ -243,7 +250,7 @@ file-leads env start s t name names (Ok None) is es goes = file-goes env start s
 file-leads env start s t name names (Ok (Some e)) is es goes = file-goes env start s name names is goes
 file-leads env start s t name names (Err cause) is es goes = file-goes env start s name names is goes
 
--- behind the last file the folder is opened
+-- after the last file the folder is opened
 pub last-leads : (env : Environment) (x : RunState) (start : Start) (t : SessionState) (r : Result (Option Status) Stop) → IsSession t → (es : List Event) → LeadsTo env x es (after_file start [] t r) → LeadsTo env x es (after_files start t r)
 last-leads env x start t (Ok None) is es leads = λ rest out loop.
     leads rest out (again [] rest refl (subst (λ (p : Play (Next RunState Status)). Goes p [] (Ok (Go (Opening (Some start) t)))) (sym (next-round env start t [] is)) (refl, inl refl)) loop)
@@ -351,7 +358,7 @@ over-leads env x i es (Ok (Go s)) over leads = λ rest out loop.
 over-leads env x i es (Ok (Last e)) over leads = leads
 over-leads env x i es (Err cause) over leads = leads
 
--- behind the last line of the input, where a draft is drafting
+-- after the last line of the input, if a draft is drafting
 drafting-leads : (env : Environment) (s : SessionState) (j : Input) (es : List Event) (out : Result (Next SessionState Status) Stop) → is_drafting s ≡ true → IsOver out → FinishGo s es out
     → LeadsTo env (behind_input s j) es (onward-left j out)
 drafting-leads env s j es out drafting over goes =
@@ -366,15 +373,19 @@ behind-leads env j {s = s} {es = es} {out = out} over (rounds.onward front rest 
 behind-leads env j {s = s} {es = es} {out = out} over (rounds.left drafting goes) = drafting-leads env s j es out drafting over (rounds.left drafting goes)
 behind-leads env j {s = s} {es = es} {out = out} over (rounds.lost drafting goes) = drafting-leads env s j es out drafting over (rounds.lost drafting goes)
 
--- the same, of a session's end of the input in a run
-pub finish-ends : (env : Environment) (s t : SessionState) (j : Input) (e : Status) (es : List Event) → FinishGo s es (after_line t (Ok (Some e))) → LeadsTo env (behind_input s j) es (Ok (Last e))
-finish-ends env s t j e es goes = behind-leads env j tt goes
+-- the folder is left
+left-loop : (env : Environment) (s : SessionState) (i : Input) (es : List Event) (out : Result Status Stop) → Goes (leaving s) es out → Loop (round env) (Leaving s i) es out
+left-loop env s i es (Ok e) goes = last (goes-as (leaving s) (λ e. Ret (Last e)) e (Last e) es refl goes)
+left-loop env s i es (Err cause) goes = cut (goes-cut (leaving s) (λ e. Ret (Last e)) cause es goes)
 
-pub finish-cut : (env : Environment) (s t : SessionState) (j : Input) (cause : Stop) (es : List Event) → FinishGo s es (after_line t (Err cause)) → LeadsTo env (behind_input s j) es (Err cause)
-finish-cut env s t j cause es goes = behind-leads env j tt goes
-
-pub finish-leaves : (env : Environment) (s t : SessionState) (j : Input) (out : Result (Next RunState Status) Stop) → is_drafting t ≡ false → rested t ≡ t → (es fs : List Event)
-    → FinishGo s es (after_line t (Ok None)) → Goes (last_round t) fs out → LeadsTo env (behind_input s j) (es ++ fs) out
-finish-leaves env s t j out free same es fs goes leaves =
-    leads-then env (behind_input s j) (Leaving (rested t) j) out es fs (behind-leads env j (free, idle-waits t free same) goes)
-    (leads-once env (Leaving (rested t) j) fs out (subst (λ (u : SessionState). Goes (last_round u) fs out) (sym same) leaves))
+-- the end of the input in a session is that of the run
+pub input-ends : (env : Environment) (j : Input) {s : SessionState} {es : List Event} {out : Result Status Stop} → rested s ≡ s → InputEnds s es out
+    → Loop (round env) (behind_input s j) es out
+input-ends env j {s = s} {out = out} same (then_leaves {t = t} front rest is finishes goes) =
+    let free : is_drafting t ≡ false = finish-over finishes refl in
+    let rests : rested t ≡ t = finish-rests same finishes in
+    subst (λ (l : List Event). Loop (round env) (behind_input s j) l out) (sym is)
+    (behind-leads env j (free, idle-waits t free rests) finishes rest out
+    (subst (λ (u : SessionState). Loop (round env) (Leaving u j) rest out) (sym rests) (left-loop env t j rest out goes)))
+input-ends env j same (ends_before finishes) = behind-leads env j tt finishes
+input-ends env j same (cut_before finishes) = behind-leads env j tt finishes

@@ -16,7 +16,7 @@ use Rattle.mailx_top.specs.Runs.{Ending}
 
 -- The events of a run, steps of others among them, carry out its meaning, and then what its ending adds. The commits that are accepted are read
 -- off the same stretches, and with them the run is crash safe. Each commit that was answered as done is decided in its own stretch, before anything
--- is said of it.
+-- is printed of it.
 pub record IsSafe (start : Option Start) (env : Environment) (s : Status) (d : Disk) (es : List Event) : Type 0 where
   pub out : Result Status Stop
   pub front : List Event

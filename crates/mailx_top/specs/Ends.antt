@@ -1,4 +1,4 @@
--- How the rounds of a run end, beside the line that is said last.
+-- How the rounds of a run end, beside the line that is printed last.
 use Rattle.std.specs.declared.result.Result.{Result}
 use Rattle.std.specs.declared.result.Result.TheVariants.{Ok, Err}
 use Rattle.session_play.specs.declared.stop.Stop.{Stop}

@@ -1,4 +1,4 @@
--- A commit of a run that rewrites a file is decided only where the file begins with its base.
+-- A commit of a run that rewrites a file is decided only if the file begins with its base.
 use Rattle.std.specs.Prelude.{List}
 use Rattle.std.specs.declared.option.Option.{Option}
 use Rattle.host_port.specs.declared.event.Event.{Event}

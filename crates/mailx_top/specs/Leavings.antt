@@ -27,7 +27,7 @@ abbrev pub or_answered : (act : Act) → Answer act → Option Committed → Opt
 or_answered (Changes c) answer later = Some answer
 or_answered act answer later = later
 
--- what the first commit of a play was answered, where there is one
+-- what the first commit of a play was answered, if there is one
 abbrev pub first_answer : {R : Type 0} (p : Play R) (es : List Event) (out : Result R Stop) → Goes p es out → Option Committed
 first_answer (Ret r) es out g = None
 first_answer (Ask act go) es out (inl (answer, front, rest, is, did, goes)) = or_answered act answer (first_answer (go answer) rest out goes)
@@ -83,7 +83,7 @@ refused_at_end (again front rest is goes more) = refused_at_end more
 refused_at_end {round = round} (last {x = x} {es = es} {r = r} goes) = is_refused_at x r (first_answer (round x) es (Ok (Last r)) goes)
 refused_at_end (cut goes) = false
 
--- what became of drafts before a round, where a session goes on
+-- what became of drafts before a round, if a session goes on
 abbrev pub outcome_before : RunState → Outcome
 outcome_before (Recovering start) = outcome.Fine
 outcome_before (Preparing start s names) = s.outcome
@@ -98,7 +98,7 @@ last_outcome (again front rest is goes more) = last_outcome more
 last_outcome (last {x = x} goes) = outcome_before x
 last_outcome (cut {x = x} goes) = outcome_before x
 
--- the run ends as one that left a draft unsent, by a sender with this status where one was run, unless it is refused, or ends for a record that can't
+-- the run ends as one that left a draft unsent, by a sender with this status if one was run, unless it is refused, or ends for a record that can't
 -- be read, or is cut off
 abbrev pub EndsUnsent : Option ℤ → Bool → Result Status Stop → Type 0
 EndsUnsent n refused (Ok (status.NotSent m)) = m ≡ n
@@ -107,7 +107,7 @@ EndsUnsent n refused (Ok status.BadRecord) = Unit {0}
 EndsUnsent n refused (Ok e) = ⊥
 EndsUnsent n refused (Err cause) = Unit {0}
 
--- A run ends so exactly where a draft wasn't sent before its last round, and none was refused.
+-- A run ends so exactly when a draft wasn't sent before its last round, and none was refused.
 pub record IsUnsentExplained (out : Result Status Stop) (before : Outcome) (refused : Bool) : Type 0 where
   pub only : (n : Option ℤ) → out ≡ Ok (status.NotSent n) → before ≡ outcome.NotSent n
   pub always : (n : Option ℤ) → before ≡ outcome.NotSent n → EndsUnsent n refused out

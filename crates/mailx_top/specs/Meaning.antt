@@ -47,7 +47,7 @@ use Rattle.mailx_top.specs.Sending.{mode_with, draft_with}
 
 -- where a run is between two rounds: before what a stopped run has left is recovered, and then a folder opened or a draft
 -- begun, if the words ask for one; before a line of a start-up file, or the next of the files that are left; before the
--- folder is opened, or the draft begun; before a line; at the end of the input, where drafts end that are still open, and lines that wait are carried out; or behind
+-- folder is opened, or the draft begun; before a line; at the end of the input, where drafts end that are still open, and lines that wait are carried out; or after
 -- these, where the folder is left
 pub data RunState : Type 0 where
   Recovering : Option Start → RunState
@@ -62,7 +62,7 @@ abbrev pub with_input : Input → Next SessionState Status → Play (Next RunSta
 with_input j (Go s) = Ret (Go (Reading s j))
 with_input j (Last e) = Ret (Last e)
 
--- behind the last line of the input a draft that is open ends; where none is, the folder is left, in a state at rest
+-- after the last line of the input a draft that is open ends; if none is, the folder is left, in a state at rest
 abbrev pub behind_input : SessionState → Input → RunState
 behind_input s j = if is_drafting s then Finishing s j else Leaving (rested s) j
 
@@ -71,12 +71,12 @@ abbrev pub turn : SessionState → Input → Option (List ℕ) → Play (Next Ru
 turn s j None = Ret (Go (behind_input s j))
 turn s j (Some line) = bind (typed_play s line) (with_input j)
 
--- the prompt is said before a line is asked for: on a terminal, unless the line is one of a draft that is open, or of a
+-- the prompt is printed before a line is asked for: on a terminal, unless the line is one of a draft that is open, or of a
 -- definition that is under way
 abbrev pub at_prompt : SessionState → Bool
 at_prompt s = (s.terminal && not (is_drafting s)) && not (is_defining (rested s).desk)
 
--- what is said before a line is asked for: the value of `prompt`, where the prompt is said
+-- what is printed before a line is asked for: the value of `prompt`, if the prompt is printed
 abbrev pub prompted : Bool → Desk → Play (Unit {0})
 prompted true desk = Ask (Say (unwrap_or (value_of desk.vars (codes "prompt")) [])) Ret
 prompted false desk = Ret tt
@@ -89,7 +89,7 @@ next_turn s i = bind (prompted (at_prompt s) s.desk) (λ u. Ask (Line i) (λ a. 
 abbrev pub is_over : SessionState → Bool
 is_over s = is_send s.desk.mode && not (is_drafting s)
 
--- where the run is over the folder is left, and else the next line asked for
+-- if the run is over the folder is left, and else the next line asked for
 abbrev pub next_unless : Bool → SessionState → Input → Play (Next RunState Status)
 next_unless true s i = Ret (Go (Leaving (rested s) i))
 next_unless false s i = next_turn s i
@@ -98,7 +98,7 @@ next_unless false s i = next_turn s i
 abbrev pub AsksNext : SessionState → Type 0
 AsksNext s = (next_waiting s ≡ None) × (is_over s ≡ false)
 
--- a line that waits is taken first; where none does, the input is asked for one, unless the run is over
+-- a line that waits is taken first; if none does, the input is asked for one, unless the run is over
 abbrev pub line_round : SessionState → Input → Option (WaitingLine × List Pending) → Play (Next RunState Status)
 line_round s i None = next_unless (is_over s) s i
 line_round s i (Some (line, frames)) = bind (waiting_play (resumed s frames) line) (with_input i)
@@ -108,7 +108,7 @@ abbrev pub with_finishing : Input → Next SessionState Status → Play (Next Ru
 with_finishing i (Go s) = Ret (Go (Finishing s i))
 with_finishing i (Last e) = Ret (Last e)
 
--- at the end of the input a line that waits is taken first; where none does, a draft that is open ends; else the folder
+-- at the end of the input a line that waits is taken first; if none does, a draft that is open ends; else the folder
 -- is left
 abbrev pub finishing_round : SessionState → Input → Option (WaitingLine × List Pending) → Play (Next RunState Status)
 finishing_round s i None = if is_drafting s then bind (ended_draft s) (with_finishing i) else Ret (Go (Leaving (rested s) i))
@@ -125,7 +125,7 @@ says_and_ends text e = Ask (Say text) (λ _. Ret (Last e))
 abbrev pub all_rows : Desk → List ℕ
 all_rows desk = page_text desk.shown 0 (length desk.shown.order) desk.places.width
 
--- once the folder is open: with `-e` the run is done; with `-H` it is, once the summary lines of all messages are said; else the first line is read,
+-- once the folder is open: with `-e` the run is done; with `-H` it is, once the summary lines of all messages are printed; else the first line is read,
 -- after a greeting unless it is to be quiet
 abbrev pub greeted : Manner → SessionState → Play (Next RunState Status)
 greeted Silent s = Ret (Last status.Done)
@@ -133,11 +133,11 @@ greeted Rows s = Ask (Say (all_rows s.desk)) (λ _. Ret (Last status.Done))
 greeted Quiet s = Ret (Go (Reading s no_input))
 greeted Greeting s = Ask (Say (greeting s.desk)) (λ _. Ret (Go (Reading s no_input)))
 
--- what is said of a line: nothing, where the run is to be silent
+-- what is printed of a line: nothing, if the run is to be silent
 abbrev pub heard : Start → List ℕ → List ℕ
 heard start line = if is_silent start.manner then [] else line
 
--- the run ends so, once this line is said, where it may be
+-- the run ends so, once this line is printed, if it may be
 abbrev pub ends_with : Start → List ℕ → Status → Play (Next RunState Status)
 ends_with start line e = says_and_ends (heard start line) e
 
@@ -145,7 +145,7 @@ ends_with start line e = says_and_ends (heard start line) e
 abbrev pub begun : SessionState → Start → List ℕ → List ℕ → List (List ℕ) → Play (Next RunState Status)
 begun s start name bytes texts = Ask (Know texts) (λ rows. greeted start.manner (with_opened s name bytes rows))
 
--- a folder of these bytes is opened, where its texts are defined and not too many
+-- a folder of these bytes is opened, if its texts are defined and not too many
 abbrev pub with_list : SessionState → Start → List ℕ → List ℕ → Option (List (List ℕ)) → Play (Next RunState Status)
 with_list s start name bytes None = ends_with start (with_feed (name ++ codes ": not a mailbox")) status.NoFolder
 with_list s start name bytes (Some texts) =
@@ -175,13 +175,13 @@ loaded s start name (found.Bytes bytes true) = ends_with start (with_feed (name 
 loaded s start name (found.Bytes bytes false) = unheld s start name bytes (is_no_mail start.named bytes)
 loaded s start name (found.TooLarge n) = ends_with start (with_feed (name ++ codes ": too large")) status.NoFolder
 
--- the folder that is said by this name is loaded, where the name can be a file's
+-- the folder that is said by this name is loaded, if the name can be a file's
 abbrev pub with_name : SessionState → Start → List ℕ → Play (Next RunState Status)
 with_name s start name =
     if is_short_name (placed s.here name) then Ask (Read (placed s.here name)) (loaded s start name)
     else ends_with start (with_feed (name ++ codes ": bad name")) status.NoFolder
 
--- the same, where the word stands for a name
+-- the same, if the word stands for a name
 abbrev pub with_name_or_fault : SessionState → Start → OrFault (List ℕ) → Play (Next RunState Status)
 with_name_or_fault s start (Ok name) = with_name s start name
 with_name_or_fault s start (Err line) = ends_with start line status.NoFolder
@@ -216,7 +216,7 @@ actor_in env = (first_of env None).actor
 abbrev pub sending : SessionState → Options → Play (Next RunState Status)
 sending s o = bind (composing s (draft_with s.desk o)) (λ t. Ret (Go (Reading t no_input)))
 
--- the draft begins, where one is to be sent; else the folder is opened
+-- the draft begins, if one is to be sent; else the folder is opened
 abbrev pub starting_with : Option Options → SessionState → Start → Play (Next RunState Status)
 starting_with (Some o) s start = sending s o
 starting_with None s start = starting s start
@@ -239,7 +239,7 @@ files_with false own = system_file ∷ own ∷ []
 abbrev pub startup_files : Start → Places → List (List ℕ)
 startup_files start places = if is_silent start.manner then [] else files_with start.no_system_file places.rc
 
--- the state after a line of a start-up file, or after its load, where these are left; or the end
+-- the state after a line of a start-up file, or after its load, if these are left; or the end
 abbrev pub with_files : Start → List (List ℕ) → Next SessionState Status → Play (Next RunState Status)
 with_files start names (Go s) = Ret (Go (Preparing start s names))
 with_files start names (Last e) = Ret (Last e)
@@ -249,7 +249,7 @@ abbrev pub next_file : Start → SessionState → List (List ℕ) → Play (Next
 next_file start s [] = Ret (Go (Opening (Some start) s))
 next_file start s (name ∷ names) = bind (startup_play s name) (with_files start names)
 
--- a line that waits is taken first; where none does, the next start-up file is loaded, in a state at rest
+-- a line that waits is taken first; if none does, the next start-up file is loaded, in a state at rest
 abbrev pub file_round : Start → SessionState → List (List ℕ) → Option (WaitingLine × List Pending) → Play (Next RunState Status)
 file_round start s names None = next_file start (rested s) names
 file_round start s names (Some (line, frames)) = bind (waiting_play (resumed s frames) line) (with_files start names)
@@ -317,7 +317,7 @@ after_recovery env start (Ok None) = Ok (Go (prepared env start))
 after_recovery env start (Ok (Some e)) = Ok (Last e)
 after_recovery env start (Err cause) = Err cause
 
--- the state after a start-up file, where these are left, or the end
+-- the state after a start-up file, if these are left, or the end
 abbrev pub after_file : Start → List (List ℕ) → SessionState → Result (Option Status) Stop → Result (Next RunState Status) Stop
 after_file start names s (Ok None) = Ok (Go (Preparing start s names))
 after_file start names s (Ok (Some e)) = Ok (Last e)

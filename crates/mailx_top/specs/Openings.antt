@@ -73,8 +73,8 @@ abbrev pub EndsOrIsCut : Status → Result Status Stop → Type 0
 EndsOrIsCut e (Ok r) = r ≡ e
 EndsOrIsCut e (Err cause) = Unit {0}
 
--- A run is refused exactly where the load of its opening saw the folder held, or the quit at the end of its input was
--- refused, or a draft was refused before, and has no folder exactly where there is none to open, and no mail exactly where the system mailbox is to be
+-- A run is refused exactly when the load of its opening saw the folder held, or the quit at the end of its input was
+-- refused, or a draft was refused before, and has no folder exactly when there is none to open, and no mail exactly when the system mailbox is to be
 -- opened, and its load saw it absent or empty, and not held, unless it is cut off. `Bad` says that the folder's word was
 -- bad in the state in which it was to be opened, `es` are the own events of the opening, and `at_end` says whether that
 -- quit, or a draft, was refused.

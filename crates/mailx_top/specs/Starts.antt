@@ -29,8 +29,8 @@ is_bad_record (Refused NotARecord) = true
 is_bad_record (Refused (TooLarge name length)) = true
 is_bad_record recovery = false
 
--- Once the recovery is done the opening explains the rest. Where it met another's right the run is refused, and where the record can't be read it
--- ends so, unless it is cut off; and a run ends in one of these ways, or without a folder, only behind such a recovery.
+-- Once the recovery is done the opening explains the rest. If it met another's right the run is refused, and if the record can't be read it
+-- ends so, unless it is cut off; and a run ends in one of these ways, or without a folder, only after such a recovery.
 pub record IsStartExplained (out : Result Status Stop) (recovery : Ending) (Opening : Type 0) : Type 0 where
   pub opens : is_recovered recovery ≡ true → Opening
   pub busy : is_right_busy recovery ≡ true → EndsOrIsCut status.Refused out

@@ -1,4 +1,4 @@
--- The status at a cut, and the line that is said before it, or before an end.
+-- The status at a cut, and the line that is printed before it, or before an end.
 use Rattle.std.specs.Prelude.{ℕ, List, ◌++◌, codes}
 use Rattle.std.specs.declared.option.Option.{Option}
 use Rattle.std.specs.declared.option.Option.TheVariants.{Some, None}
@@ -17,7 +17,7 @@ status_at_stop stop.Disk = status.DiskFault
 status_at_stop stop.TooMuch = status.InputLimit
 status_at_stop stop.Memory = status.Memory
 
--- the line that is said at a cut
+-- the line that is printed at a cut
 abbrev pub line_at_stop : Stop → List ℕ
 line_at_stop stop.Input = with_feed (codes "mailx: input fault")
 line_at_stop stop.Output = with_feed (codes "mailx: output fault")
@@ -29,7 +29,7 @@ line_at_stop stop.Memory = with_feed (codes "mailx: out of memory")
 abbrev pub not_a_record : List ℕ → List ℕ
 not_a_record actor = with_feed (record_name actor ++ codes ": not a commit record")
 
--- the line that is said at an end, where there is one
+-- the line that is printed at an end, if there is one
 abbrev pub line_at_end : List ℕ → Status → Option (List ℕ)
 line_at_end actor status.BadRecord = Some (not_a_record actor)
 line_at_end actor e = None

@@ -40,7 +40,7 @@ some_unreadable_in {round = round} (again {x = x} {y = y} front rest is goes mor
 some_unreadable_in {round = round} (last {x = x} {es = es} {r = r} goes) = some_unreadable (round x) es (Ok (Last r)) goes
 some_unreadable_in {round = round} (cut {x = x} {es = es} {cause = cause} goes) = some_unreadable (round x) es (Err cause) goes
 
--- A run ends for its record exactly where a commit or a recovery of it met one that can't be read, unless it is cut off.
+-- A run ends for its record exactly when a commit or a recovery of it met one that can't be read, unless it is cut off.
 pub record IsRecordExplained (out : Result Status Stop) (met : Bool) : Type 0 where
   pub only : out ≡ Ok status.BadRecord → met ≡ true
   pub always : met ≡ true → EndsOrIsCut status.BadRecord out

@@ -1,4 +1,4 @@
--- How a run ends where its words, its environment or its folder's name are refused, whatever the host tells.
+-- How a run ends if its words, its environment or its folder's name are refused, whatever the host tells.
 use Rattle.std.specs.Prelude.{◌≡◌, ℕ, List, true, false, IfOk}
 use Rattle.std.specs.declared.option.Option.{Option}
 use Rattle.std.specs.declared.option.Option.TheVariants.{Some, None}
@@ -17,7 +17,7 @@ use Rattle.mailx_top.specs.declared.environment.Environment.{Environment}
 use Rattle.mailx_top.specs.Words.{Start, is_silent}
 use Rattle.mailx_top.specs.Meaning.{first_of, folder_name}
 
--- a line that is said is cut off where the output fails; memory may be wanted for it
+-- a line that is printed is cut off if the output fails; memory may run out for it
 abbrev pub IsSayCut : Stop → Type 0
 IsSayCut stop.Output = Unit {0}
 IsSayCut stop.Memory = Unit {0}
@@ -49,7 +49,7 @@ abbrev pub IsBadName : Environment → Option Start → Type 0
 IsBadName env None = ⊥
 IsBadName env (Some start) = let s = first_of env (Some start) in (is_silent start.manner ≡ true) × IsBadlyNamed start.sends s.here (folder_name s start)
 
--- the recovery at the start is cut off by a fault of the disk, or for want of memory; so is the line that it may say, where the output fails
+-- the recovery at the start is cut off by a fault of the disk, or because memory ran out; so is the line that it may print, if the output fails
 abbrev pub IsStartCut : Stop → Type 0
 IsStartCut stop.Output = Unit {0}
 IsStartCut stop.Disk = Unit {0}
@@ -68,13 +68,13 @@ StopsAtStart (Ok None) = Unit {0}
 StopsAtStart (Ok (Some s)) = IsStartEnd s
 StopsAtStart (Err cause) = IsStartCut cause
 
--- a run that opens no folder ends without one, where it didn't end at its start
+-- a run that opens no folder ends without one, if it didn't end at its start
 abbrev pub EndsUnopened : Result Status Stop → Type 0
 EndsUnopened (Ok status.NoFolder) = Unit {0}
 EndsUnopened (Ok s) = IsStartEnd s
 EndsUnopened (Err cause) = IsStartCut cause
 
--- a run ends as refused words do exactly where there is no way to start, and without a folder where its word stands for
+-- a run ends as refused words do exactly when there is no way to start, and without a folder if its word stands for
 -- no file
 abbrev pub EndsAsNamed : Environment → Option Start → Result Status Stop → Type 0
 EndsAsNamed env None out = EndsOr status.Usage out
@@ -86,7 +86,7 @@ IsOrCut wanted status.OutputFault = Unit {0}
 IsOrCut wanted status.Memory = Unit {0}
 IsOrCut wanted s = s ≡ wanted
 
--- the status of a run that opens no folder: there is none, or the recovery at the start or a line that is said ended the run
+-- the status of a run that opens no folder: there is none, or the recovery at the start or a line that is printed ended the run
 abbrev pub IsUnopened : Status → Type 0
 IsUnopened status.NoFolder = Unit {0}
 IsUnopened status.Refused = Unit {0}

@@ -13,8 +13,8 @@ use Rattle.mailx_top.specs.declared.words.Manner.{Manner}
 use Rattle.mailx_top.specs.declared.words.Manner.TheVariants.{Silent, Rows, Quiet, Greeting}
 
 -- how to start: the word of the folder to open, whether `-f` asks for it, the user of `-u`, whether `-n` passes over the
--- start-up file of the system, whether `-F` names the file of a draft, what is said once the folder is open, and what the
--- draft begins with that is begun in the folder's place, where one is
+-- start-up file of the system, whether `-F` names the file of a draft, what is printed once the folder is open, and what the
+-- draft begins with that is begun in the folder's place, if one is
 pub record Start : Type 0 where
   pub word : List ℕ
   pub named : Bool
@@ -24,7 +24,7 @@ pub record Start : Type 0 where
   pub manner : Manner
   pub sends : Option Options
 
--- the first of these words, or another where there is none
+-- the first of these words, or another if there is none
 abbrev pub first_or : List ℕ → List (List ℕ) → List ℕ
 first_or other [] = other
 first_or other (word ∷ words) = word
@@ -33,7 +33,7 @@ first_or other (word ∷ words) = word
 abbrev pub folder_word : Options → List ℕ
 folder_word o = if o.folder then first_or (codes "&") o.operands else codes "%"
 
--- nothing is said with `-e`; with `-H` the summary lines of all messages are, and else a greeting, unless `-N` is given
+-- nothing is printed with `-e`; with `-H` the summary lines of all messages are, and else a greeting, unless `-N` is given
 abbrev pub manner_of : Options → Manner
 manner_of o = if o.exists then Silent else if o.headers then Rows else if o.quiet then Quiet else Greeting
 
@@ -58,25 +58,25 @@ start_in m o = None
 abbrev pub start_by : Wanted → Option Start
 start_by wanted = start_in wanted.mode wanted.options
 
--- what the words ask for; none where they are refused
+-- what the words ask for; none if they are refused
 abbrev pub asked : List (List ℕ) → Option Start
 asked words = option_and_then start_by (reading words)
 
--- the run says nothing
+-- the run prints nothing
 abbrev pub is_silent : Manner → Bool
 is_silent Silent = true
 is_silent manner = false
 
--- a last line may be said: the words aren't refused, nor do they ask for silence
+-- a last line may be printed: the words aren't refused, nor do they ask for silence
 abbrev pub may_say : Option Start → Bool
 may_say None = false
 may_say (Some start) = not (is_silent start.manner)
 
--- what the draft begins with that a run sends, where it sends one
+-- what the draft begins with that a run sends, if it sends one
 abbrev pub sent_by : Option Start → Option Options
 sent_by None = None
 sent_by (Some start) = start.sends
 
--- how to start; none where the words are refused, or home folder and user aren't known
+-- how to start; none if the words are refused, or home folder and user aren't known
 abbrev pub start_of : Option Start → Pairs → Option Start
 start_of start pairs = if knows_user pairs then start else None

@@ -3,7 +3,7 @@ ghost use Rattle.mailx_top.specs.Fitting.{RunsFit};
 ghost use Rattle.mailx_top.specs.Quits.{QuitsKeepAppended};
 ghost use Rattle.mailx_top.specs.Replies.{RunsReplyAfter};
 
-/// In a run that is safe each accepted commit has its decision. Where it rewrites a file of which it has no other
+/// In a run that is safe each accepted commit has its decision. If it rewrites a file of which it has no other
 /// change, what others appended meanwhile follows the rewritten messages, from the decision on, at each moment and at
 /// each disk that a stop leaves, until the file is changed again.
 pub fn appended_follows()
@@ -11,21 +11,21 @@ pub fn appended_follows()
 {}
 
 /// In such a run, from a disk that is sound and carries nothing of its token, with lawful steps of others, a commit
-/// that rewrites a file of which it has no other change is decided only where the file begins with the messages that
+/// that rewrites a file of which it has no other change is decided only if the file begins with the messages that
 /// the commit was made for.
 pub fn decided_fit()
     ensures { RunsFit }
 {}
 
-/// Where a commit of a run that is safe leaves a folder, what others appended to the messages that were read follows
+/// If a commit of a run that is safe leaves a folder, what others appended to the messages that were read follows
 /// those that stay, from the decision on, at each moment and at each disk that a stop leaves, until the file is changed
 /// again; mbox is another file.
 pub fn quits_keep_appended()
     ensures { QuitsKeepAppended }
 {}
 
-/// In a run that is safe, where a commit is answered as done, each output that follows stands after its decision: no
-/// byte of a reply is said before the commit that it tells of is decided.
+/// In a run that is safe, if a commit is answered as done, each output that follows stands after its decision: no
+/// byte of a reply is printed before the commit that it tells of is decided.
 pub fn replies_follow()
     ensures { RunsReplyAfter }
 {}

@@ -31,7 +31,7 @@ use std::alloc::Global;
 const USAGE: &[u8] =
     b"usage: mailx [-eHiNnF] [-f [file]] [-u user] [-s subject] [-b names] [-c names] [address...]\n";
 
-/// Says the usage and ends.
+/// Prints the usage and ends.
 pub(crate) fn end_with_usage<H: Host>(host: &mut H) -> Result<Status, Stop>
     ensures ran { (env : Environment) → (s : SessionState) → Ran H.world host.old host.new
         (λ es. Loop (round env) (Opening None s) es result) }
@@ -44,7 +44,7 @@ pub(crate) fn end_with_usage<H: Host>(host: &mut H) -> Result<Status, Stop>
     }
 }
 
-// Says a line, unless the run is to be silent.
+// Prints a line, unless the run is to be silent.
 fn tell<H: Host>(host: &mut H, start: Asked<'_>, line: &[u8]) -> Result<(), Stop>
     ensures ran { Ran H.world host.old host.new
         (λ es. Goes (Ask (Say (heard (start_from start.entry) line.now)) Ret) es result) }
@@ -58,7 +58,7 @@ fn tell<H: Host>(host: &mut H, start: Asked<'_>, line: &[u8]) -> Result<(), Stop
     }
 }
 
-// Says a line, where one may be said, and ends.
+// Prints a line, if one may be printed, and ends.
 fn end_with<H: Host>(
     host: &mut H,
     start: Asked<'_>,
@@ -86,7 +86,7 @@ fn fault_line(alloc: Global, name: &[u8], fault: &[u8]) -> Result<Text, Memory>
     Ok(line)
 }
 
-/// Says what is wrong with a file, where a line may be said, and ends.
+/// Prints what is wrong with a file, if a line may be printed, and ends.
 pub(crate) fn end_at_file<H: Host>(
     alloc: Global,
     host: &mut H,
@@ -108,7 +108,7 @@ pub(crate) fn end_at_file<H: Host>(
     }
 }
 
-// Says the greeting of a session.
+// Prints the greeting of a session.
 fn greet_aloud<H: Host>(host: &mut H, session: &Session) -> Result<Option<Status>, Stop>
     ensures ran { Ran H.world host.old host.new
         (λ es. Goes (greeted Manner.Greeting session.now) es (next_state session.now no_input result)) }
@@ -134,7 +134,7 @@ fn all_rows(alloc: Global, session: &Session) -> Result<Text, Memory>
     page(alloc, &desk.shown, 0, count, desk.places.width)
 }
 
-// Says the summary lines of all messages and ends.
+// Prints the summary lines of all messages and ends.
 fn show_rows<H: Host>(
     alloc: Global,
     host: &mut H,
@@ -155,7 +155,7 @@ fn show_rows<H: Host>(
     }
 }
 
-// Says of an open folder what is to be said.
+// Prints what is to be printed of an open folder.
 fn greet<H: Host>(
     alloc: Global,
     host: &mut H,
@@ -259,7 +259,7 @@ fn reader<'a>(session: &'a Session, start: Asked<'a>) -> &'a [u8]
     }
 }
 
-// Says that the user has no mail, and ends.
+// Prints that the user has no mail, and ends.
 fn end_without_mail<H: Host>(
     alloc: Global,
     host: &mut H,
@@ -288,7 +288,7 @@ fn is_no_mail(named: bool, bytes: &Option<Text>) -> bool
     }
 }
 
-// What follows the load of a file that isn't held, with mail where it is to have some.
+// What follows the load of a file that isn't held, with mail if it is to have some.
 fn open_file<H: Host>(
     alloc: Global,
     host: &mut H,
@@ -386,7 +386,7 @@ fn load_and_open<H: Host>(
     }
 }
 
-// Opens the folder of a name, the file that it stands for, or says why not.
+// Opens the folder of a name, the file that it stands for, or prints why not.
 fn open_placed<H: Host>(
     alloc: Global,
     host: &mut H,
@@ -410,7 +410,7 @@ fn open_placed<H: Host>(
     }
 }
 
-// Opens the folder of a name, or says why not.
+// Opens the folder of a name, or prints why not.
 fn open_name<H: Host>(
     alloc: Global,
     host: &mut H,
@@ -432,7 +432,7 @@ fn open_name<H: Host>(
     }
 }
 
-// Opens the folder that the words name, or says why not.
+// Opens the folder that the words name, or prints why not.
 fn open<H: Host>(
     alloc: Global,
     host: &mut H,
@@ -453,7 +453,7 @@ fn open<H: Host>(
     }
 }
 
-/// Begins the draft that is to be sent, where one is; else opens the folder that the words name, or says why not.
+/// Begins the draft that is to be sent, if one is; else opens the folder that the words name, or prints why not.
 pub(crate) fn open_or_begin<H: Host>(
     alloc: Global,
     host: &mut H,

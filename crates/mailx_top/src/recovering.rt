@@ -35,7 +35,7 @@ fn answered<H: Host>(
     }
 }
 
-// Recovers what a stopped commit of the session's actor has left. None where the start-up files are to be read then, and
+// Recovers what a stopped commit of the session's actor has left. None if the start-up files are to be read then, and
 // the folder is to be opened, else how the run ends.
 fn recover_first<H: Host>(
     alloc: Global,

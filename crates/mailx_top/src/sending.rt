@@ -66,7 +66,7 @@ fn draft_with(alloc: Global, desk: &Desk, options: &Options) -> Result<Draft, Me
     })
 }
 
-/// Begins the draft that is to be sent, after the question for its subject where that is asked for.
+/// Begins the draft that is to be sent, after the question for its subject if that is asked for.
 pub(crate) fn begin_draft<H: Host>(
     alloc: Global,
     host: &mut H,

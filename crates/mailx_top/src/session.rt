@@ -1,17 +1,17 @@
 // A session by lines.
-ghost use Rattle.std.specs.Prelude.{◌≡◌, ◌<◌, false, Ok, Some, None, IfOk, IfNone, IfSome, IsSome, unwrap_or, [], codes};
+ghost use Rattle.std.specs.Prelude.{◌≡◌, ◌<◌, false, Some, None, IfOk, IfNone, IfSome, IsSome, unwrap_or, [], codes};
 ghost use Rattle.mailx_vars.specs.Settings.{value_of};
 ghost use Rattle.host_port.specs.Ran.{Ran};
 ghost use Rattle.rc_conditionals.specs.Turns.{is_send};
 ghost use Rattle.host_port.specs.Calls.{NeverFall};
 ghost use Rattle.session_play.specs.Input.{Input, left, no_input};
 ghost use Rattle.session_play.specs.Play.{Play, Goes, Loop, Caused};
-ghost use Rattle.mailx_session.specs.Rounds.{FinishGo, LineGoes};
+ghost use Rattle.mailx_session.specs.Rounds.{LineGoes};
 ghost use Rattle.session_state.specs.Answers.{stop_of};
-ghost use Rattle.session_state.specs.States.{is_drafting, next_waiting, rested};
+ghost use Rattle.session_state.specs.States.{next_waiting};
 ghost use Rattle.session_state.specs.Statuses.{IsEnd, IsLineEnd};
 ghost use Rattle.mailx_top.specs.declared.environment.Environment.{Environment};
-ghost use Rattle.mailx_top.specs.Meaning.{round, Reading, AsksNext, behind_input, is_over, last_round, next_state, at_prompt, prompted, after_line, LeadsTo, LeadsAfterPrompt};
+ghost use Rattle.mailx_top.specs.Meaning.{round, Reading, AsksNext, behind_input, is_over, next_state, at_prompt, prompted, after_line, LeadsTo, LeadsAfterPrompt};
 
 use host_port::Host;
 use mailx_session::{Flow, RunError, Session, Status};
@@ -30,7 +30,7 @@ fn prompt(session: &Session) -> &[u8]
     }
 }
 
-// Whether the prompt is said: on a terminal, unless a draft is open or a definition is under way.
+// Whether the prompt is printed: on a terminal, unless a draft is open or a definition is under way.
 #[tactic(auto, using(crate::proofs::WaitingLemmas::prompt_at_rest))]
 fn is_prompted(session: &Session) -> bool
     ensures { result ≡ at_prompt session.now }
@@ -38,7 +38,7 @@ fn is_prompted(session: &Session) -> bool
     session.state().terminal && !session.drafting() && !is_defining(session.desk())
 }
 
-// Says the prompt, where it is said.
+// Prints the prompt, if it is to be printed.
 fn say_prompt<H: Host>(host: &mut H, session: &Session) -> Result<(), Stop>
     ensures ran { Ran H.world host.old host.new
         (λ es. Goes (prompted (at_prompt session.now) session.now.desk) es result) }
@@ -76,36 +76,6 @@ fn step<H: Host>(host: &mut H, session: &mut Session, line: &[u8]) -> Result<Opt
     }
 }
 
-// Ends a draft that is open at the end of the input, and carries out the lines that wait.
-fn finish<H: Host>(host: &mut H, session: &mut Session) -> Result<Option<Status>, Stop>
-    ensures ran { Ran H.world host.old host.new
-        (λ es. FinishGo session.old es (after_line session.new result)) }
-    ensures over { result ≡ Ok None → is_drafting session.new ≡ false }
-    ensures cause { Caused (H.world.counts host.old) (H.world.counts host.new) result }
-    ensures line_end { IfOk result (λ end. IfSome end IsLineEnd) }
-{
-    match session.finish(host) {
-        Ok(Flow::Go) => Ok(None),
-        Ok(Flow::End(status)) => Ok(Some(status)),
-        Err(error) => Err(stop_of(&error)),
-    }
-}
-
-// Leaves the folder, where no draft is open.
-fn leave<H: Host>(host: &mut H, session: &mut Session) -> Result<Option<Status>, Stop>
-    ensures ran { (j : Input) → Ran H.world host.old host.new
-        (λ es. Goes (last_round session.old) es (next_state session.new j result)) }
-    ensures cause { Caused (H.world.counts host.old) (H.world.counts host.new) result }
-    ensures idle { rested session.old ≡ session.old }
-    ensures ended { IfOk result IsSome }
-    ensures plain { IfOk result (λ end. IfSome end IsEnd) }
-{
-    match session.end(host) {
-        Ok(status) => Ok(Some(status)),
-        Err(error) => Err(stop_of(&error)),
-    }
-}
-
 // The end of the input: drafts end, and then the folder is left.
 fn end_of_input<H: Host>(host: &mut H, session: &mut Session) -> Result<Option<Status>, Stop>
     ensures ran { (env : Environment) → (j : Input) → Ran H.world host.old host.new
@@ -115,14 +85,13 @@ fn end_of_input<H: Host>(host: &mut H, session: &mut Session) -> Result<Option<S
     ensures ended { IfOk result IsSome }
     ensures plain { IfOk result (λ end. IfSome end IsEnd) }
 {
-    match finish(host, session) {
-        Ok(None) => leave(host, session),
-        Ok(Some(status)) => Ok(Some(status)),
-        Err(cause) => Err(cause),
+    match session.end(host) {
+        Ok(status) => Ok(Some(status)),
+        Err(error) => Err(stop_of(&error)),
     }
 }
 
-// Takes the next line, or the end of input, once the prompt was said.
+// Takes the next line, or the end of input, once the prompt was printed.
 fn next_line<H: Host>(
     alloc: Global,
     host: &mut H,
@@ -144,7 +113,7 @@ fn next_line<H: Host>(
     }
 }
 
-// Says the prompt, where it is said, and takes the next line.
+// Prints the prompt, if it is to be printed, and takes the next line.
 fn one_line<H: Host>(
     alloc: Global,
     host: &mut H,
@@ -184,7 +153,7 @@ fn is_over(session: &Session) -> bool
     is_send(session.state().desk.mode) && !session.drafting()
 }
 
-// Takes the next line, or leaves the folder where the run is over.
+// Takes the next line, or ends the run if it is over.
 fn line_or_end<H: Host>(
     alloc: Global,
     host: &mut H,
@@ -199,7 +168,7 @@ fn line_or_end<H: Host>(
     ensures plain { IfOk result (λ end. IfSome end IsEnd) }
 {
     if is_over(session) {
-        leave(host, session)
+        end_of_input(host, session)
     } else {
         one_line(alloc, host, reader, session)
     }

@@ -115,7 +115,7 @@ fn own_file(alloc: Global, session: &Session) -> Result<Text, Memory>
     Text::copy(alloc, session.desk().places.rc.bytes())
 }
 
-/// Reads the start-up files, that of the system unless it is passed over, and carries out their lines. None where the
+/// Reads the start-up files, that of the system unless it is passed over, and carries out their lines. None if the
 /// folder is to be opened then.
 pub(crate) fn read_files<H: Host>(
     alloc: Global,

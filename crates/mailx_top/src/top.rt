@@ -210,7 +210,7 @@ fn play<H: Host>(
     }
 }
 
-// How a run that isn't cut off ends, and the line that is said last, where there is one.
+// How a run that isn't cut off ends, and the line that is printed last, if there is one.
 #[derive(Drop)]
 struct End {
     status: Status,
@@ -253,7 +253,7 @@ fn end_of(alloc: Global, env: &Environment, status: Status) -> Result<End, Memor
     Ok(End { status, line })
 }
 
-// All rounds of a run; where they end its last line is made, or memory is wanting.
+// All rounds of a run; when they end its last line is made, or memory runs out.
 fn play_to_end<H: Host>(
     alloc: Global,
     host: &mut H,
@@ -276,7 +276,7 @@ fn play_to_end<H: Host>(
     }
 }
 
-// Says a last line, where one may be said.
+// Prints a last line, if one may be printed.
 fn say_last<H: Host>(host: &mut H, asked: Option<Asked<'_>>, line: &[u8])
     ensures { Ran H.world host.old host.new (SaysLast (may_say (may_start asked.entry)) line.now) }
 {
@@ -285,7 +285,7 @@ fn say_last<H: Host>(host: &mut H, asked: Option<Asked<'_>>, line: &[u8])
     }
 }
 
-// Says the line of an end, where there is one and it may be said.
+// Prints the line of an end, if there is one and it may be printed.
 fn say_end<H: Host>(host: &mut H, asked: Option<Asked<'_>>, end: &End)
     ensures { Ran H.world host.old host.new (SaysAtEnd (may_say (may_start asked.entry)) end.now.line) }
 {
@@ -295,7 +295,7 @@ fn say_end<H: Host>(host: &mut H, asked: Option<Asked<'_>>, end: &End)
     }
 }
 
-// Says why the run is cut off, where that may be said.
+// Prints why the run is cut off, if that may be printed.
 fn say_cut<H: Host>(host: &mut H, asked: Option<Asked<'_>>, cause: Stop)
     ensures { Ran H.world host.old host.new (SaysLast (may_say (may_start asked.entry)) (line_at_stop cause)) }
 {
@@ -310,18 +310,18 @@ fn say_cut<H: Host>(host: &mut H, asked: Option<Asked<'_>>, cause: Stop)
 pub fn run<H: Host>(alloc: Global, words: &[Text], env: &Environment, host: &mut H) -> Status
     // The own events are those of the command meaning, and output and status are its.
     ensures run { Ran H.world host.old host.new (IsRun (asked words.now) env.now result) }
-    // A fault is answered only where the host's count of it rose.
+    // A fault is answered only if the host's count of it rose.
     ensures input_fault { result ≡ Status.InputFault
         → Rose (H.world.counts host.old).ins (H.world.counts host.new).ins }
     ensures output_fault { result ≡ Status.OutputFault
         → Rose (H.world.counts host.old).outs (H.world.counts host.new).outs }
     ensures disk_fault { result ≡ Status.DiskFault
         → Rose (H.world.counts host.old).disks (H.world.counts host.new).disks }
-    // The usage is answered exactly where the words or the environment are refused.
+    // The usage is answered exactly when the words or the environment are refused.
     ensures usage_only { result ≡ Status.Usage → start_of (asked words.now) env.now.pairs ≡ None }
     ensures usage_always { start_of (asked words.now) env.now.pairs ≡ None → IsOrCut Status.Usage result }
     // A folder whose word stands for no file, or for a name that no file can have, is none, whatever the host tells,
-    // where no start-up file is read.
+    // if no start-up file is read.
     ensures bad_name { IsBadName env.now (start_of (asked words.now) env.now.pairs) → IsUnopened result }
     // From a disk that is sound and carries nothing of the token, with lawful steps of others: at every moment, and
     // wherever the run stops, what recovery would make of the files is what the accepted commits and others give.

@@ -12,7 +12,7 @@ use mail_text::{Memory, Text};
 use mailx_vars::knows_user;
 use std::alloc::Global;
 
-/// What is said once the folder is open.
+/// What is printed once the folder is open.
 #[derive(Clone, Copy, Debug, PartialEq, Eq)]
 pub(crate) enum Manner {
     /// Nothing; the run is done.
@@ -32,20 +32,20 @@ pub(crate) struct Asked<'a> {
     pub word: &'a [u8],
     /// Whether `-f` asks for it; else it is the system mailbox.
     pub named: bool,
-    /// The user whose mailbox that is, where it isn't the user's own.
+    /// The user whose mailbox that is, if it isn't the user's own.
     pub user: Option<&'a [u8]>,
     /// Whether the start-up file of the system is passed over.
     pub no_system_file: bool,
     /// Whether a draft is recorded in the file named after its first recipient.
     pub by_recipient: bool,
-    /// What is said once the folder is open.
+    /// What is printed once the folder is open.
     pub manner: Manner,
-    /// What the draft begins with that is begun in the folder's place, where one is.
+    /// What the draft begins with that is begun in the folder's place, if one is.
     pub sends: Option<&'a Options>,
 }
 
 impl Manner {
-    /// Whether nothing is said in the run.
+    /// Whether nothing is printed in the run.
     pub(crate) fn is_silent(self) -> bool
         ensures { result ≡ is_silent self }
     {
@@ -56,7 +56,7 @@ impl Manner {
     }
 }
 
-// The first of these words, or another where there is none.
+// The first of these words, or another if there is none.
 fn first_or<'a>(other: &'a [u8], words: &'a [Text]) -> &'a [u8]
     ensures { result.now ≡ first_or other.now words.now }
 {
@@ -115,7 +115,7 @@ fn start_with(options: &Options) -> Asked<'_>
     }
 }
 
-// How to start where a draft is begun.
+// How to start if a draft is begun.
 fn send_with(options: &Options) -> Asked<'_>
     ensures { start_from result ≡ record (start_with options.now) { sends = Some options.now } }
 {
@@ -136,7 +136,7 @@ fn start_by(wanted: &Wanted) -> Option<Asked<'_>>
     }
 }
 
-/// What the words ask for. None where they are refused.
+/// What the words ask for. None if they are refused.
 pub(crate) fn asked_by(wanted: &Option<Wanted>) -> Option<Asked<'_>>
     ensures { may_start result ≡ option_and_then start_by wanted.now }
 {
@@ -146,7 +146,7 @@ pub(crate) fn asked_by(wanted: &Option<Wanted>) -> Option<Asked<'_>>
     }
 }
 
-/// Reads the words. None where they are refused.
+/// Reads the words. None if they are refused.
 pub(crate) fn wanted(alloc: Global, words: &[Text]) -> Result<Option<Wanted>, Memory>
     ensures { IfOk result (λ wanted. wanted ≡ reading words.now) }
 {
@@ -157,7 +157,7 @@ pub(crate) fn wanted(alloc: Global, words: &[Text]) -> Result<Option<Wanted>, Me
     }
 }
 
-/// Whether a last line may be said.
+/// Whether a last line may be printed.
 pub(crate) fn may_say(asked: Option<Asked<'_>>) -> bool
     ensures { result ≡ may_say (may_start asked.entry) }
 {
@@ -167,7 +167,7 @@ pub(crate) fn may_say(asked: Option<Asked<'_>>) -> bool
     }
 }
 
-/// How to start, or None where the words are refused or home folder and user aren't known.
+/// How to start, or None if the words are refused or home folder and user aren't known.
 pub(crate) fn start_of<'a>(asked: Option<Asked<'a>>, env: &Environment) -> Option<Asked<'a>>
     ensures wanted { may_start result ≡ start_of (may_start asked.entry) env.now.pairs }
     ensures known { IfSome result (λ a. knows_user env.now.pairs ≡ true) }

@@ -179,7 +179,7 @@ brings-lines by s text few small = record {
   room = room-lines by s.frames (origin_at s.frames) (length s.desk.conditions) text few small;
 }
 
--- the first of some asks that bring nothing brings nothing, and neither do those behind it
+-- the first of some asks that bring nothing brings nothing, and neither do those after it
 pub quiet-parts : (a : asked_of.Ask) (asks : List asked_of.Ask) → list_any brings (a ∷ asks) ≡ false → (brings a ≡ false) × (list_any brings asks ≡ false)
 quiet-parts a asks none = go (brings a) none
   where

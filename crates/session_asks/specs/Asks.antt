@@ -45,7 +45,7 @@ is_on (Ok answered.On) = true
 is_on (Ok answered.Over) = true
 is_on r = false
 
--- where not all was done, the state stays
+-- if not all was done, the state stays
 abbrev pub StaysUnlessOn : SessionState → SessionState → Result Asked RunError → Type 0
 StaysUnlessOn old new (Ok answered.On) = Unit {0}
 StaysUnlessOn old new (Ok answered.Over) = Unit {0}
@@ -56,7 +56,7 @@ abbrev pub KeepsDesk : SessionState → SessionState → Result Asked RunError �
 KeepsDesk old new (Ok answered.Over) = Unit {0}
 KeepsDesk old new r = OnlyFrames old new
 
--- a refusal leaves its line, or is a cut for want of memory
+-- a refusal leaves its line, or is a cut because memory ran out
 abbrev pub IsRefusedSo : Refusal → Result Asked RunError → Type 0
 IsRefusedSo (refusal.Fault line) r = r ≡ Ok (answered.Refused line)
 IsRefusedSo refusal.Memory r = r ≡ Err error.Memory

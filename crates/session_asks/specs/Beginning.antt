@@ -38,7 +38,7 @@ with_new_draft s draft = with_draft s (Some (new_machine (flattened draft)))
 abbrev pub subject_prompt : List ℕ
 subject_prompt = codes "Subject: "
 
--- `Subject: ` is said, where the next line is the subject
+-- `Subject: ` is printed, if the next line is the subject
 abbrev pub subject_asked : Bool → Play (Unit {0})
 subject_asked true = Ask (Say subject_prompt) Ret
 subject_asked false = Ret tt
@@ -56,19 +56,19 @@ abbrev pub composing : SessionState → Draft → Play SessionState
 composing s draft =
     bind (subject_asked (asks_subject (new_machine (flattened draft)) (view_in s))) (λ u. Ret (with_new_draft s draft))
 
--- message n is current, where the desk has so many; it is unwritten, where another was current before
+-- message n is current, if the desk has at least n messages; it is unwritten, if another was current before
 abbrev pub at_message : SessionState → Option ℕ → SessionState
 at_message s None = s
 at_message s (Some n) = if nat_le n (length s.desk.shown.rows) then settled s (moved s.desk n) else s
 
--- a draft that has begun is recorded in this file, where it has one of its own, and this message is current
+-- a draft that has begun is recorded in this file, if it has one of its own, and this message is current
 abbrev pub placed : Option (List ℕ) → Option ℕ → After SessionState Status → Play (After SessionState Status)
 placed file current (On s) = Ret (On s)
 placed file current (Over s) = Ret (Over (with_file (at_message s current) file))
 placed file current (Refused line) = Ret (Refused line)
 placed file current (Ended e) = Ret (Ended e)
 
--- the line of what is wrong with the file that a draft is recorded in, where it has one of its own
+-- the line of what is wrong with the file that a draft is recorded in, if it has one of its own
 abbrev pub file_fault : SessionState → Option (List ℕ) → Option (List ℕ)
 file_fault s None = None
 file_fault s (Some name) = name_fault s name

@@ -72,12 +72,12 @@ number_or other (Some k) = k + 1
 abbrev pub first_current : List Row → ℕ
 first_current rows = number_or (number_or (min 1 (length rows)) (position (is_in Unread) rows)) (position (is_in New) rows)
 
--- the page that has the current message, where `screen` is a number
+-- the page that has the current message, if `screen` is a number
 abbrev pub page_at : Desk → OrFault ℕ → ℕ
 page_at desk (Ok size) = page_of desk desk.shown.current size
 page_at desk (Err line) = 0
 
--- the size of a page, where it is known
+-- the size of a page, if it is known
 abbrev pub IsKnownSize : OrFault ℕ → Option ℕ → Type 0
 IsKnownSize (Ok size) known = known ≡ Some size
 IsKnownSize (Err line) known = known ≡ None
@@ -89,7 +89,7 @@ with_page desk = record desk { page = page_at desk (page_size desk) }
 abbrev pub plain : List Row → Shown
 plain rows = record { rows = rows; order = range_with_len 1 (length rows); depth = replicate (length rows) 0; current = first_current rows }
 
--- the file of this name is the system mailbox; where mbox is that file too it counts as another folder, so that nothing is moved within one file
+-- the file of this name is the system mailbox; if mbox is that file too it counts as another folder, so that nothing is moved within one file
 abbrev pub is_system : SessionState → List ℕ → Bool
 is_system s name = bytes_eq name s.desk.places.mail && not (bytes_eq (placed s.here name) (placed s.here s.desk.places.mbox))
 
@@ -120,11 +120,11 @@ pub record IsOpening (s : SessionState) (name bytes : List ℕ) (opening : Openi
 abbrev pub Opens : SessionState → List ℕ → List ℕ → SessionState → Type 0
 Opens old name bytes new = (rows : List Row) × AreRows (texts_of bytes) rows × (new ≡ with_opened old name bytes rows)
 
--- the page of the current message, where there is one
+-- the page of the current message, if there is one
 abbrev pub page_or_none : OrFault (List ℕ) → List ℕ
 page_or_none (Ok page) = page
 page_or_none (Err line) = []
 
--- what is said at the start: with `header` set the opening line and the page of the current message
+-- what is printed at the start: with `header` set the opening line and the page of the current message
 unfoldable pub greeting : Desk → List ℕ
 greeting desk = if is_set desk.vars (codes "header") then opening_line desk ++ page_or_none (current_page desk) else []

@@ -19,11 +19,12 @@ shell_args command = codes "-c" ∷ command ∷ []
 abbrev pub by_shell : Desk → List ℕ → List ℕ → Act
 by_shell desk command input = Child desk.places.shell (shell_args command) input
 
--- the line that says so where it could not be run
+-- the line that says so if it could not be run
 abbrev pub not_run : List ℕ
 not_run = with_feed (codes "command could not be run")
 
--- what follows a command that was asked for: what is said of it is said; one that could not be run refuses what follows
+-- what follows a command that was asked for: what there is to print of it is printed; one that could not be run refuses
+-- what follows
 abbrev pub after_run : SessionState → Option ChildAnswer → Play (After SessionState Status)
 after_run s None = Ret (Refused not_run)
 after_run s (Some child) = Ask (Say (said_of child)) (λ _. Ret (On s))

@@ -46,11 +46,11 @@ switched s name bytes rows = record (opened s name bytes rows) { previous = s.de
 abbrev pub laid_as : Desk → Opening → List ℕ → Desk
 laid_as desk opening previous = record (with_page (with_folder desk opening.folder opening.shown)) { previous = previous }
 
--- what is said of a folder that was opened: the opening line, and with `header` set the page of the current message
+-- what is printed of a folder that was opened: the opening line, and with `header` set the page of the current message
 unfoldable pub announcement : Desk → List ℕ
 announcement desk = opening_line desk ++ (if is_set desk.vars (codes "header") then page_or_none (current_page desk) else [])
 
--- Once the changes were committed the reply and the new folder's lines are said, and the command is over with that folder.
+-- Once the changes were committed the reply and the new folder's lines are printed, and the command is over with that folder.
 abbrev pub announced : List ℕ → Desk → After SessionState Status → Play (After SessionState Status)
 announced reply desk (On s) = Ask (Say (reply ++ announcement desk)) (λ _. Ret (Over (with_desk s desk)))
 announced reply desk (Over s) = Ret (Over s)
@@ -66,7 +66,7 @@ abbrev pub switched_to : SessionState → List ℕ → List Change → List ℕ 
 switched_to s name changes reply (Err line) = Ret (Refused line)
 switched_to s name changes reply (Ok bytes) = Ask (Know (texts_of bytes)) (λ rows. switching s changes reply (switched s name bytes rows))
 
--- The file of this name is loaded, unless something stands in the way; the changes are committed, whose outcome is what is opened where they
+-- The file of this name is loaded, unless something stands in the way; the changes are committed, whose outcome is what is opened if they
 -- are of that file; the folder is opened.
 abbrev pub switches : SessionState → List ℕ → List Change → List ℕ → Option (List ℕ) → Play (After SessionState Status)
 switches s name changes reply (Some line) = Ret (Refused line)

@@ -36,7 +36,7 @@ pub fn view_as(desk: &Desk, terminal: bool) -> ComposeView<'_>
     }
 }
 
-// Says `Subject: `, where the next line is the subject.
+// Prints `Subject: `, if the next line is the subject.
 fn ask_subject<H: Host>(host: &mut H, asks: bool) -> Result<(), RunError>
     ensures ran { Ran H.world host.old host.new
         (λ es. Goes (subject_asked asks) es (in_play (λ u. u) result)) }
@@ -56,7 +56,7 @@ fn open_draft(draft: &mut Option<Compose>, compose: Compose)
     *draft = Some(compose);
 }
 
-// Opens a draft, once its subject was asked for where the next line is that. The command is over then.
+// Opens a draft, once its subject was asked for, if the next line is that. The command is over then.
 fn begin_with<H: Host>(
     state: &mut SessionState,
     host: &mut H,
@@ -83,7 +83,7 @@ fn begin_with<H: Host>(
     }
 }
 
-/// Begins a draft, once its subject was asked for where the next line is that. The command is over then.
+/// Begins a draft, once its subject was asked for, if the next line is that. The command is over then.
 pub(crate) fn begin<H: Host>(
     alloc: Global,
     state: &mut SessionState,
@@ -127,7 +127,7 @@ pub fn compose<H: Host>(
     }
 }
 
-// Makes message n current, where the desk has so many.
+// Makes message n current, if the desk has at least n messages.
 fn move_within(alloc: Global, state: &mut SessionState, n: u32)
     requires { IsState state.old }
     ensures moved { state.new ≡ at_message state.old (Some n) }
@@ -167,7 +167,7 @@ fn file_fault(
     }
 }
 
-// A copy of the name of a file, where there is one.
+// A copy of the name of a file, if there is one.
 fn file_copy(alloc: Global, file: &Option<Text>) -> Result<Option<Text>, Memory>
     ensures { IfOk result (λ copy. copy ≡ file.now) }
 {
@@ -177,7 +177,7 @@ fn file_copy(alloc: Global, file: &Option<Text>) -> Result<Option<Text>, Memory>
     }
 }
 
-// Begins a draft that is recorded in this file, where it has one of its own; this message is current then.
+// Begins a draft that is recorded in this file, if it has one of its own; this message is current then.
 fn begin_placed<H: Host>(
     alloc: Global,
     state: &mut SessionState,
@@ -210,7 +210,7 @@ fn begin_placed<H: Host>(
     }
 }
 
-/// Begins a draft that a command asks for, unless something is wrong with the file that it is recorded in, where it has
+/// Begins a draft that a command asks for, unless something is wrong with the file that it is recorded in, if it has
 /// one of its own; this message is current then.
 pub(crate) fn begin_recorded<H: Host>(
     alloc: Global,

@@ -1,4 +1,4 @@
-// What is said of a folder that was opened.
+// What is printed of a folder that was opened.
 ghost use Rattle.std.specs.Prelude.{◌≡◌, ◌++◌, [], codes, IfOk, OnOk, if◌then◌else◌};
 ghost use Rattle.mailx_vars.specs.Settings.{is_set};
 ghost use Rattle.command_desk.specs.Desks.{IsDesk};
@@ -11,7 +11,7 @@ use mail_text::{Memory, Text};
 use read_commands::{Desk, Refusal, current_page};
 use std::alloc::Global;
 
-// Puts the page of the current message, where there is one.
+// Puts the page of the current message, if there is one.
 fn put_page(alloc: Global, out: &mut Text, desk: &Desk) -> Result<(), Memory>
     requires { IsDesk desk.now }
     ensures { OnOk result (out.new ≡ out.old ++ page_or_none (current_page desk.now)) }
@@ -36,7 +36,7 @@ pub fn greeting(alloc: Global, desk: &Desk) -> Result<Text, Memory>
     Ok(out)
 }
 
-// Puts the page of the current message where `header` is set.
+// Puts the page of the current message if `header` is set.
 fn put_page_by_header(alloc: Global, out: &mut Text, desk: &Desk) -> Result<(), Memory>
     requires { IsDesk desk.now }
     ensures { OnOk result (out.new ≡ out.old ++
@@ -49,7 +49,7 @@ fn put_page_by_header(alloc: Global, out: &mut Text, desk: &Desk) -> Result<(), 
     }
 }
 
-/// The opening line, and with `header` set the page of the current message, behind a reply.
+/// The opening line, and with `header` set the page of the current message, after a reply.
 pub(crate) fn announcement(alloc: Global, desk: &Desk, reply: &[u8]) -> Result<Text, Memory>
     requires { IsDesk desk.now }
     ensures { IfOk result (λ text. text ≡ reply.now ++ announcement desk.now) }

@@ -1,4 +1,4 @@
-//! What commands ask of a session: what is said, committed, read, opened, begun and run.
+//! What commands ask of a session: what is printed, committed, read, opened, begun and run.
 #![tactic(auto)]
 
 mod asks;

@@ -29,7 +29,7 @@ const ACTOR_LIMIT: usize = 4_021;
 /// What is to be put on the desk for a folder.
 #[derive(Drop)]
 pub struct Opening {
-    /// How many messages a page has, where that is known.
+    /// How many messages a page has, if that is known.
     pub size: Option<usize>,
     /// The folder.
     pub folder: Open,
@@ -37,7 +37,7 @@ pub struct Opening {
     pub shown: Shown,
 }
 
-/// Whether the file of this name is the system mailbox. Where mbox is that file too it counts as another folder, so
+/// Whether the file of this name is the system mailbox. If mbox is that file too it counts as another folder, so
 /// that nothing is moved within one file.
 fn is_system(alloc: Global, state: &SessionState, name: &[u8]) -> Result<bool, Memory>
     ensures { IfOk result (λ system. system ≡ is_system state.now name.now) }
@@ -140,7 +140,7 @@ pub fn first_state(
     })
 }
 
-/// How many messages a page has, where `screen` is a number.
+/// How many messages a page has, if `screen` is a number.
 pub(crate) fn known_page_size(alloc: Global, desk: &Desk) -> Result<Option<usize>, Memory>
     ensures size { IfOk result (IsKnownSize (page_size desk.now)) }
     ensures some { IfOk result (λ size. IfSome size (λ n. 0 < n)) }
@@ -176,7 +176,7 @@ pub(crate) fn marks_of(alloc: Global, rows: &[Row]) -> Result<Items<Mark>, Memor
     Ok(marks)
 }
 
-// So many depths of messages that stand under no other.
+// `count` depths of messages that stand under no other.
 fn no_depths(alloc: Global, count: u32) -> Result<Items<u32>, Memory>
     ensures { IfOk result (λ depth. depth ≡ replicate count 0) }
 {
@@ -253,7 +253,7 @@ pub fn opening_of(
     })
 }
 
-/// The page of the current message, where the size of a page is known.
+/// The page of the current message, if the size of a page is known.
 pub(crate) fn page_here(desk: &Desk, size: Option<usize>) -> usize
     requires size { IsKnownSize (page_size desk.now) size }
     requires some { IfSome size (λ n. 0 < n) }
@@ -266,7 +266,7 @@ pub(crate) fn page_here(desk: &Desk, size: Option<usize>) -> usize
     }
 }
 
-/// Puts a folder on the desk, whose messages are shown so. The page is that of the current message, where the size of
+/// Puts a folder on the desk, whose messages are shown so. The page is that of the current message, if the size of
 /// a page is known.
 pub fn put_folder(desk: &mut Desk, size: Option<usize>, folder: Open, shown: Shown)
     requires size { IsKnownSize (page_size desk.old) size }

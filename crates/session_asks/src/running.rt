@@ -26,7 +26,7 @@ fn shell_args(alloc: Global, command: &[u8]) -> Result<Items<Text>, Memory>
     Ok(args)
 }
 
-/// Runs a command by the shell of the places, with this input; none where it could not be run.
+/// Runs a command by the shell of the places, with this input; none if it could not be run.
 pub fn by_shell<H: Host>(
     alloc: Global,
     desk: &Desk,
@@ -49,7 +49,7 @@ pub fn by_shell<H: Host>(
     }
 }
 
-// Says what is said of a command that was run.
+// Prints what there is to print of a command that was run.
 fn say_of<H: Host>(host: &mut H, child: ChildAnswer) -> Result<Asked, RunError>
     ensures ran { (s : SessionState) → Ran H.world host.old host.new
         (λ es. Goes (Ask (Say (said_of child)) (λ _. Ret (after_asks s Asked.On))) es (in_play (after_asks s) result)) }
@@ -84,7 +84,8 @@ fn after_run<H: Host>(
     }
 }
 
-/// Runs a command that is asked for, and says what is said of it. One that could not be run refuses what follows.
+/// Runs a command that is asked for, and prints what there is to print of it. One that could not be run refuses what
+/// follows.
 pub(crate) fn run_asked<H: Host>(
     alloc: Global,
     state: &SessionState,

@@ -128,7 +128,7 @@ fn lay(desk: &mut Desk, opening: Opening, previous: Text) -> Laid
     before
 }
 
-// Says a reply and then the lines of the folder on the desk.
+// Prints a reply and then the lines of the folder on the desk.
 fn say_opened<H: Host>(
     alloc: Global,
     host: &mut H,
@@ -146,7 +146,7 @@ fn say_opened<H: Host>(
     }
 }
 
-// Puts a folder on the desk and says its lines behind the reply. Where they can't be said the desk is as before.
+// Puts a folder on the desk and prints its lines after the reply. If they can't be printed the desk is as before.
 fn announce<H: Host>(
     alloc: Global,
     state: &mut SessionState,
@@ -348,7 +348,7 @@ fn load_and_switch<H: Host>(
 }
 
 /// Opens a file in place of the folder, which is left by these changes: they are committed once the file was loaded.
-/// Then the reply and the new folder's lines are said.
+/// Then the reply and the new folder's lines are printed.
 pub(crate) fn switch<H: Host>(
     alloc: Global,
     state: &mut SessionState,

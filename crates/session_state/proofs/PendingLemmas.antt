@@ -13,7 +13,7 @@ use Rattle.mail_text.proofs.LineLemmas.{lines_of-nil, lines_of-feed, lines_of-by
 use Rattle.session_state.specs.declared.frames.WaitingLine.{WaitingLine}
 use Rattle.session_state.specs.declared.frames.Taken.{Taken}
 use Rattle.session_state.specs.Waits.{Pending}
-use Rattle.session_state.specs.Pending.{taken, or_own, own_line, line_from, lines_left, open_before, closed, IsTaken, IsHanded}
+use Rattle.session_state.specs.Pending.{taken, or_own, own_line, line_from, lines_left, held, open_before, closed, IsTaken, IsHanded}
 
 -- an innermost frame without a line counts for nothing
 pub taken-closed : (fs : List Pending) (f : Pending) → f.lines ≡ [] → taken (fs ++ f ∷ []) ≡ taken fs
@@ -34,14 +34,14 @@ drop-more n b bs = ap (λ (k : ℕ). drop k (b ∷ bs)) (let same : suc n + 1 �
 same-parts : (l k : List ℕ) (ls ks : List (List ℕ)) → l ∷ ls ≡ k ∷ ks → (l ≡ k) × (ls ≡ ks)
 same-parts l k ls ks is = (cc is, cc is)
 
--- where the first line is known, so is what is left behind it
+-- if the first line is known, so is what is left after it
 found-line : (bs l k : List ℕ) (ls ks : List (List ℕ)) → lines_of bs ≡ l ∷ ls → lines_of bs ≡ k ∷ ks → lines_of (drop (length k + 1) bs) ≡ ks
     → lines_of (drop (length l + 1) bs) ≡ ls
 found-line bs l k ls ks is known after =
     let p = same-parts l k ls ks (sym is ∙ known) in
     ap (λ (m : List ℕ). lines_of (drop (length m + 1) bs)) p.0 ∙ after ∙ sym p.1
 
--- what is left behind the first line
+-- what is left after the first line
 pub after-line : (bs l : List ℕ) (ls : List (List ℕ)) → lines_of bs ≡ l ∷ ls → lines_of (drop (length l + 1) bs) ≡ ls
 after-line [] l ls is = absurd (cc (lines_of-nil, is))
 after-line (b ∷ []) l ls is =
@@ -114,7 +114,7 @@ open-then (Ok given) old before now shut f g nested said back is was =
     let left : closed old now ≡ shut = ap (drop (length now)) is ∙ drop_at (before ++ f ∷ []) shut (length now) long in
     said ∙ was ∙ ap open_before (sym left)
 
--- the line at the front of what is left of a text, and what is left behind it
+-- the line at the front of what is left of a text, and what is left after it
 pub handed-line : (text : List ℕ) (used at : ℕ) (line : List ℕ) (rest : List (List ℕ)) → at ≡ min used (length text) → lines_of (drop at text) ≡ line ∷ rest
     → lines_of (drop used text) ≡ line ∷ lines_of (drop (at + length line + 1) text)
 handed-line text used at line rest is front =
@@ -122,3 +122,8 @@ handed-line text used at line rest is front =
     let more : drop (length line + 1) (drop at text) ≡ drop (at + length line + 1) text =
     drop-drop (length line + 1) at text ∙ ap (λ (k : ℕ). drop k text) (let same : at + (length line + 1) ≡ at + length line + 1 = omega arith in same) in
     ap lines_of (sym here) ∙ front ∙ ap (λ (ls : List (List ℕ)). line ∷ ls) (sym (after-line (drop at text) line rest front) ∙ ap lines_of more)
+
+-- no line is taken from frames by telling them how many conditions are open
+pub lines-held : (depth : ℕ) (fs : List Pending) → lines_left (held depth fs) ≡ lines_left fs
+lines-held depth [] = refl
+lines-held depth (f ∷ fs) = ap (λ (n : ℕ). length f.lines + n) (lines-held depth fs)

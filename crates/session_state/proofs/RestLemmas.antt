@@ -1,16 +1,18 @@
 -- States at rest.
-use Rattle.std.proofs.Common.{◌≡◌, ℕ, Bool, true, List, [], refl, sym, ◌∙◌, ap, subst}
+use Rattle.std.proofs.Common.{◌≡◌, ℕ, Bool, true, List, [], ◌∷◌, length, drop, refl, sym, ◌∙◌, ap, subst}
 use Rattle.std.specs.declared.option.Option.{Option}
 use Rattle.std.specs.declared.option.Option.TheVariants.{Some, None}
-use Rattle.std.specs.Prelude.{false, is_some}
+use Rattle.std.specs.Prelude.{false, is_some, map}
 use Rattle.std.proofs.lemmas.Bool.{cond-true, cond-false}
+use Rattle.std.proofs.lemmas.List.{take_min, drop-map}
 use Rattle.mailx_macros.specs.Macros.{Definitions, Macro}
+use Rattle.rc_conditionals.specs.declared.conditions.Condition.{Condition}
 use Rattle.command_desk.specs.declared.desk.Desk.{Desk}
 use Rattle.command_desk.specs.Desks.{IsDesk}
 use Rattle.session_state.specs.declared.state.SessionState.{SessionState}
 use Rattle.session_state.specs.Waits.{Pending}
-use Rattle.session_state.specs.Pending.{open_before}
-use Rattle.session_state.specs.States.{IsActor, IsState, IsSession, is_drafting, with_frames, with_count, cut_to, at_rest, rested}
+use Rattle.session_state.specs.Pending.{held_to, held, open_before, closed}
+use Rattle.session_state.specs.States.{IsActor, IsState, IsSession, is_drafting, with_frames, with_count, still_defining, cut_to, at_rest, rested}
 
 pub no-both : {b : Bool} → b ≡ true → b ≡ false → ⊥
 no-both holds not_so = absurd (cc (holds, not_so))
@@ -69,3 +71,13 @@ kept_valid s t o desk actor is = record { desk = subst IsDesk (sym desk) (desk-c
 -- how many commands are counted is no matter to a state at rest
 pub counted-rested : (s : SessionState) (n : ℕ) → is_drafting s ≡ false → rested (with_count s n) ≡ rested s
 counted-rested s n out = let same : at_rest (with_count s n) ≡ at_rest s = refl in rested-out (with_count s n) out ∙ (same ∙ sym (rested-out s out))
+
+-- frames that were told how many conditions are open leave as many as before, once they are closed
+first-held : (desk : Desk) (fs : List Pending) → cut_to (open_before (map (held_to (length desk.conditions)) fs)) desk ≡ cut_to (open_before fs) desk
+first-held desk [] = refl
+first-held desk (f ∷ fs) =
+    ap (λ (cs : List Condition). record desk { conditions = cs; macros = still_defining (Some f.nested) desk.macros }) (take_min f.nested desk.conditions)
+
+pub cut-held : (desk : Desk) (fs left : List Pending) → cut_to (open_before (closed (held (length desk.conditions) fs) left)) desk ≡ cut_to (open_before (closed fs left)) desk
+cut-held desk fs left =
+    ap (λ (gs : List Pending). cut_to (open_before gs) desk) (drop-map (held_to (length desk.conditions)) (length left) fs) ∙ first-held desk (drop (length left) fs)

@@ -39,19 +39,19 @@ abbrev pub in_play : {A B : Type 0} → (A → B) → Result A RunError → Resu
 in_play to (Ok a) = Ok (to a)
 in_play to (Err e) = Err (stop_of e)
 
--- a line is cut off by a fault only where the count of its kind rose
+-- a line is cut off by a fault only if the count of its kind rose
 abbrev pub LineCaused : {T : Type 0} → Counts → Counts → Result T RunError → Type 0
 LineCaused old new (Err error.Output) = Rose old.outs new.outs
 LineCaused old new (Err error.Disk) = Rose old.disks new.disks
 LineCaused old new (Err error.Memory) = Unit {0}
 LineCaused old new (Ok t) = Unit {0}
 
--- where the run ends, it ends as a line ends it
+-- if the run ends, it ends as a line ends it
 abbrev pub EndsByLine : Flow → Type 0
 EndsByLine flow.Go = Unit {0}
 EndsByLine (flow.End s) = IsLineEnd s
 
--- where an ask ended the run, it ends as a line ends it
+-- if an ask ended the run, it ends as a line ends it
 abbrev pub EndsByAsk : Asked → Type 0
 EndsByAsk (answered.Ended s) = IsLineEnd s
 EndsByAsk a = Unit {0}

@@ -35,7 +35,7 @@ abbrev pub is_call : FrameKind → Bool
 is_call kinds.Call = true
 is_call other = false
 
--- how many sourced files are open: each until a line is wanted behind its last
+-- how many sourced files are open: each until a line is wanted after its last
 abbrev pub sources : List Pending → ℕ
 sources frames = count_by (λ f. is_source f.kind) frames
 

@@ -16,7 +16,7 @@ use Rattle.session_state.specs.States.{next_waiting, resumed, rested}
 use Rattle.session_state.specs.Saving.{after_placed}
 use Rattle.session_state.specs.Answers.{after_asks, stop_of}
 
--- an answered commit of changes, of files that are said by these names, leaves what it is to leave, unless memory is wanting; one that was cut off
+-- an answered commit of changes, of files that are said by these names, leaves what it is to leave, unless memory runs out; one that was cut off
 -- is that cut
 abbrev pub Follows : SessionState → List (List ℕ) → List Change → Result Committed Stop → Result Asked RunError → Type 0
 Follows s names changes (Ok answer) (Ok asked) = after_asks s asked ≡ after_placed s names changes answer

@@ -7,7 +7,7 @@ use Rattle.session_state.specs.declared.outcome.Outcome.TheVariants as outcome
 use Rattle.session_state.specs.declared.status.Status.{Status}
 use Rattle.session_state.specs.declared.status.Status.TheVariants as status
 
--- a sender's status, or where there is none that of an earlier one
+-- a sender's status, or if there is none that of an earlier one
 abbrev pub or_earlier : Option ℤ → Option ℤ → Option ℤ
 or_earlier (Some n) earlier = Some n
 or_earlier None earlier = earlier

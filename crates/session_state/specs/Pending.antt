@@ -1,5 +1,5 @@
 -- The next of the lines from elsewhere that are still to run.
-use Rattle.std.specs.Prelude.{◌≡◌, ◌+◌, ℕ, List, [], ◌∷◌, drop, length}
+use Rattle.std.specs.Prelude.{◌≡◌, ◌+◌, ℕ, List, [], ◌∷◌, drop, length, map, min}
 use Rattle.std.specs.declared.option.Option.{Option}
 use Rattle.std.specs.declared.option.Option.TheVariants.{Some, None}
 use Rattle.mail_text.specs.Lines.{lines_of}
@@ -8,7 +8,7 @@ use Rattle.session_state.specs.declared.frames.WaitingLine.{WaitingLine}
 use Rattle.session_state.specs.declared.kinds.FrameKind.{FrameKind}
 use Rattle.session_state.specs.Waits.{Pending}
 
--- the lines of a text from somewhere, brought so, where this many conditions are open
+-- the lines of a text from somewhere, brought so, when this many conditions are open
 abbrev pub frame_of : Origin → FrameKind → ℕ → List ℕ → Pending
 frame_of origin kind nested text = record { origin = origin; kind = kind; nested = nested; lines = lines_of text }
 
@@ -42,12 +42,20 @@ abbrev pub IsHanded : Option (List ℕ) → Pending → Pending → Type 0
 IsHanded (Some line) old new = (new ≡ record old { lines = new.lines }) × (old.lines ≡ line ∷ new.lines)
 IsHanded None old new = (old.lines ≡ []) × (new ≡ old)
 
--- how many conditions were open before the outermost of these frames
+-- the frame, if this many conditions are open: of those before it no more are still open
+abbrev pub held_to : ℕ → Pending → Pending
+held_to depth f = record f { nested = min f.nested depth }
+
+-- each of the frames so
+abbrev pub held : ℕ → List Pending → List Pending
+held depth frames = map (held_to depth) frames
+
+-- how many of the conditions are still open that were open before the outermost of these frames
 abbrev pub open_before : List Pending → Option ℕ
 open_before [] = None
 open_before (f ∷ fs) = Some f.nested
 
--- the frames that are closed where these are left
+-- the frames that are closed if these are left
 abbrev pub closed : List Pending → List Pending → List Pending
 closed frames left = drop (length left) frames
 

@@ -16,12 +16,12 @@ abbrev pub placed : List ℕ → List ℕ → List ℕ
 placed here [] = []
 placed here (b ∷ bs) = if is_rooted (b ∷ bs) then b ∷ bs else here ++ b ∷ bs
 
--- What stands there in a run whose working folder has this name: the folder and a `/`; nothing, where the name is no folder's.
+-- What stands there in a run whose working folder has this name: the folder and a `/`; nothing, if the name is no folder's.
 abbrev pub front_of : List ℕ → List ℕ
 front_of folder =
     if is_short_name folder && is_rooted folder then (if bytes_eq folder (codes "/") then folder else folder ++ codes "/") else []
 
--- The name of the actor of a home folder: the file that `.mailx` in it stands for; that name itself, where the file's is too long for an actor.
+-- The name of the actor of a home folder: the file that `.mailx` in it stands for; that name itself, if the file's is too long for an actor.
 abbrev pub actor_for : List ℕ → List ℕ → List ℕ
 actor_for here home =
     let own = home ++ codes "/.mailx" in if nat_le (length (placed here own)) actor_limit then placed here own else own
@@ -36,7 +36,7 @@ placed_change here (AddRaw name bytes) = AddRaw (placed here name) bytes
 abbrev pub placed_changes : List ℕ → List Change → List Change
 placed_changes here changes = map (placed_change here) changes
 
--- how a file is said: as the first of these names that stands for it; as itself where none does
+-- how a file is said: as the first of these names that stands for it; as itself if none does
 abbrev pub said_as : List ℕ → List (List ℕ) → List ℕ → List ℕ
 said_as here [] file = file
 said_as here (name ∷ names) file = if bytes_eq (placed here name) file then name else said_as here names file

@@ -26,7 +26,7 @@ name_fault s name =
     if is_short_name (placed s.here name) then (if is_file_name s.actor (placed s.here name) then None else Some (reserved_name name))
     else Some (bad_name name)
 
--- a line, or where there is none a later one
+-- a line, or if there is none a later one
 abbrev pub or_later : Option (List ℕ) → Option (List ℕ) → Option (List ℕ)
 or_later (Some line) later = Some line
 or_later None later = later
@@ -36,7 +36,7 @@ abbrev pub names_fault : SessionState → List Change → Option (List ℕ)
 names_fault s [] = None
 names_fault s (c ∷ cs) = or_later (name_fault s (name_of c)) (names_fault s cs)
 
--- changes of the files that their names stand for, made at once by the actor of a state under its token, where a rewrite is one of the open folder
+-- changes of the files that their names stand for, made at once by the actor of a state under its token, in which a rewrite is one of the open folder
 abbrev pub commit_of : SessionState → List Change → Commit
 commit_of s changes = wanted_of s.actor s.token (placed_changes s.here changes) (base_list (Some s.desk.folder.folder))
 

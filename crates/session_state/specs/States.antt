@@ -15,7 +15,7 @@ use Rattle.session_state.specs.declared.state.SessionState.{SessionState}
 use Rattle.compose_tilde.specs.declared.machine.Machine.{Machine}
 use Rattle.session_state.specs.declared.frames.WaitingLine.{WaitingLine}
 use Rattle.session_state.specs.Waits.{Pending}
-use Rattle.session_state.specs.Pending.{taken, open_before, closed}
+use Rattle.session_state.specs.Pending.{taken, held, open_before, closed}
 
 -- the files of an actor of this name can have their names
 pub record IsActor (name : List ℕ) : Type 0 where
@@ -69,23 +69,24 @@ with_outcome s outcome = record s { outcome = outcome }
 abbrev pub without_draft : SessionState → SessionState
 without_draft s = record s { draft = None; file = None }
 
--- the line that is carried out next: one of those that wait, unless a draft is open, whose lines come from the input
+-- the line that is carried out next: one of those that wait, unless a draft is open, whose lines come from the input.
+-- Each frame is told how many conditions are open by now, so none counts one that was open before it and is closed.
 abbrev pub next_waiting : SessionState → Option (WaitingLine × List Pending)
-next_waiting s = if is_drafting s then None else taken s.frames
+next_waiting s = if is_drafting s then None else taken (held (length s.desk.conditions) s.frames)
 
--- the conditions that stay open, where this many were before
+-- the conditions that stay open, if this many of those before are still open
 abbrev pub still_open : Option ℕ → List Condition → List Condition
 still_open None conditions = conditions
 still_open (Some n) conditions = take n conditions
 
--- the macros, where so many conditions were open before the lines that are over: a definition that these left is dropped.
+-- the macros after lines that are over, if any are: a definition that these left is dropped.
 -- None was under way before them, or the command that brought them would have been a line of it.
 abbrev pub still_defining : Option ℕ → Definitions → Definitions
 still_defining None macros = macros
 still_defining (Some n) macros = record macros { unfinished = None }
 
--- the desk without the conditions that were opened since this many were open, and without the definition that was
--- begun since
+-- the desk after lines that are over, if any are: without the conditions that were opened in them, so that this many
+-- of those before stay, and without the definition that was begun in them
 abbrev pub cut_to : Option ℕ → Desk → Desk
 cut_to nested desk = record desk {
   conditions = still_open nested desk.conditions;
@@ -102,7 +103,7 @@ resumed s frames = record s { desk = cut_to (open_before (closed s.frames frames
 abbrev pub at_rest : SessionState → SessionState
 at_rest s = record s { desk = cut_to (open_before s.frames) s.desk; frames = []; count = 0 }
 
--- the state at rest, unless a draft is open, behind which the lines that wait go on
+-- the state at rest, unless a draft is open, after which the lines that wait go on
 abbrev pub rested : SessionState → SessionState
 rested s = if is_drafting s then s else at_rest s
 

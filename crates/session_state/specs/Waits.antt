@@ -3,7 +3,8 @@ use Rattle.std.specs.Prelude.{ℕ, List}
 use Rattle.read_commands.specs.declared.origin.Origin.{Origin}
 use Rattle.session_state.specs.declared.kinds.FrameKind.{FrameKind}
 
--- lines from one place that are still to run, where they come from, what brought them, and how many conditions were open before
+-- lines from one place that are still to run, where they come from, what brought them, and how many of the conditions that were open before
+-- are still open
 pub record Pending : Type 0 where
   pub origin : Origin
   pub kind : FrameKind

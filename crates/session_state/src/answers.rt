@@ -1,4 +1,4 @@
-// What the answers to a command's asks leave, and what is said.
+// What the answers to a command's asks leave, and what is printed.
 ghost use Rattle.std.specs.Prelude.{◌≡◌, IfOk};
 ghost use Rattle.host_port.specs.Calls.{NeverFall};
 ghost use Rattle.host_port.specs.Ran.{Ran};
@@ -24,7 +24,7 @@ pub enum Asked {
     Ended(Status),
 }
 
-/// Says bytes.
+/// Prints bytes.
 pub fn say<H: Host>(host: &mut H, bytes: &[u8]) -> Result<(), RunError>
     ensures ran { Ran H.world host.old host.new
         (λ es. Goes (Ask (Say bytes.now) Ret) es (in_play (λ u. u) result)) }
@@ -36,7 +36,7 @@ pub fn say<H: Host>(host: &mut H, bytes: &[u8]) -> Result<(), RunError>
     }
 }
 
-/// Says bytes that a command asks for.
+/// Prints bytes that a command asks for.
 pub fn say_line<H: Host>(host: &mut H, bytes: &Text) -> Result<Asked, RunError>
     ensures ran { (s : SessionState) → Ran H.world host.old host.new
         (λ es. Goes (Ask (Say bytes.now) (λ _. Ret (after_asks s Asked.On))) es (in_play (after_asks s) result)) }
@@ -50,7 +50,7 @@ pub fn say_line<H: Host>(host: &mut H, bytes: &Text) -> Result<Asked, RunError>
     }
 }
 
-/// Says the line that refuses a command, or tells what is wrong with a start-up file.
+/// Prints the line that refuses a command, or tells what is wrong with a start-up file.
 pub fn refuse<H: Host>(state: &SessionState, host: &mut H, line: &Text) -> Result<Flow, RunError>
     ensures ran { Ran H.world host.old host.new
         (λ es. Goes (refused state.now line.now) es (in_play (next_of state.now) result)) }

@@ -1,6 +1,6 @@
 // Lines from elsewhere than the input that are still to run.
 ghost use Rattle.std.specs.Prelude.{◌≡◌, ◌≢◌, ◌≤◌, ◌++◌, ◌∷◌, [], Some, length, take, IfOk, IfSome, IfNone, OnOk, OnErr};
-ghost use Rattle.session_state.specs.Pending.{frame_of, line_from, open_before, closed, IsTaken, IsHanded};
+ghost use Rattle.session_state.specs.Pending.{frame_of, line_from, held_to, held, open_before, closed, IsTaken, IsHanded};
 ghost use Rattle.session_state.specs.Bringing.{is_source, is_call, sources, calls, origin_at};
 
 use crate::FrameKind;
@@ -9,13 +9,13 @@ use read_commands::Origin;
 use std::alloc::Global;
 use std::marker::Model;
 
-/// Lines from one place that are still to run. Contracts see where they come from, what brought them, how many
-/// conditions were open before, and their list.
+/// Lines from one place that are still to run. Contracts see where they come from, what brought them, how many of the
+/// conditions that were open before are still open, and their list.
 #[derive(Drop)]
 pub struct Frame {
     origin: Origin,
     kind: FrameKind,
-    // how many conditions were open before
+    // how many of the conditions that were open before are still open
     nested: usize,
     text: Text,
     // how many bytes of the text were used
@@ -42,17 +42,18 @@ pub struct WaitingLine {
     pub text: Text,
 }
 
-/// The line that is taken, and how many conditions were open before the outermost of the frames that are closed then.
+/// The line that is taken, and how many of the conditions are still open that were open before the outermost of the
+/// frames that are closed then.
 #[derive(Drop)]
 pub struct Taken {
-    /// The line, where one waits.
+    /// The line, if one waits.
     pub line: Option<WaitingLine>,
-    /// The number of conditions, where a frame is closed.
+    /// The number of conditions, if a frame is closed.
     pub nested: Option<usize>,
 }
 
 impl Frame {
-    /// The lines of a text from somewhere, which this brought, where this many conditions are open.
+    /// The lines of a text from somewhere, which this brought, when this many conditions are open.
     pub fn new(origin: Origin, kind: FrameKind, nested: usize, text: Text) -> Frame
         ensures { result ≡ frame_of origin kind nested text }
     {
@@ -65,11 +66,18 @@ impl Frame {
         }
     }
 
-    // How many conditions were open before.
+    // How many of the conditions that were open before are still open.
     fn open_before(&self) -> usize
         ensures { result ≡ self.now.nested }
     {
         self.nested
+    }
+
+    // If this many conditions are open, no more of those before are still open.
+    fn hold(&mut self, depth: usize)
+        ensures { self.new ≡ held_to depth self.old }
+    {
+        self.nested = self.nested.min(depth);
     }
 
     // Whether a command brought the lines out of a file.
@@ -146,7 +154,7 @@ impl Frames {
         }
     }
 
-    /// How many conditions were open before the outermost frame, if there is one.
+    /// How many of the conditions are still open that were open before the outermost frame, if there is one.
     pub fn open_before(&self) -> Option<usize>
         ensures { result ≡ open_before self.now }
     {
@@ -182,6 +190,15 @@ impl Frames {
         ensures { self.new ≡ take depth self.old }
     {
         self.stack.truncate(depth);
+    }
+
+    /// Tells each frame how many conditions are open, so that none counts one that was open before it and is closed.
+    pub fn hold(&mut self, depth: usize)
+        ensures { self.new ≡ held depth self.old }
+    {
+        for frame in self.stack.iter_mut() {
+            frame.hold(depth);
+        }
     }
 
     /// Puts a frame inside of all others.

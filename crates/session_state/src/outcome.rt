@@ -17,7 +17,7 @@ pub enum Outcome {
     Refused,
 }
 
-// A sender's status, or where there is none that of an earlier one.
+// A sender's status, or if there is none that of an earlier one.
 fn or_earlier(status: Option<i32>, earlier: Option<i32>) -> Option<i32>
     ensures { result ≡ or_earlier status earlier }
 {
@@ -27,7 +27,7 @@ fn or_earlier(status: Option<i32>, earlier: Option<i32>) -> Option<i32>
     }
 }
 
-/// What became of them once a further one isn't sent, by a sender that ended with this status where one was run.
+/// What became of them once a further one isn't sent, by a sender that ended with this status if one was run.
 pub fn not_sent(status: Option<i32>, outcome: Outcome) -> Outcome
     ensures { result ≡ not_sent status outcome }
 {

@@ -16,7 +16,7 @@ pub struct SessionState {
     /// What commands show and change.
     pub desk: Desk,
     /// What stands in front of a name without a leading `/`, where it goes to the host: the working folder and a `/`, or
-    /// nothing where that isn't known.
+    /// nothing if that isn't known.
     pub here: Text,
     /// What the names of the run's record of commits and of its right begin with: `.mailx` in the home folder, as the host
     /// is told it.
@@ -33,13 +33,13 @@ pub struct SessionState {
     pub count: u32,
     /// The draft that is open, so that the lines of the input are those of it.
     pub draft: Option<Compose>,
-    /// The file that this draft is recorded in, where it is one of its own.
+    /// The file that this draft is recorded in, if it is one of its own.
     pub file: Option<Text>,
     /// What became of the drafts so far.
     pub outcome: Outcome,
 }
 
-// Drops the definition that is under way, where one is.
+// Drops the definition that is under way, if one is.
 #[tactic(auto, using(crate::proofs::RestLemmas::none_dropped))]
 fn drop_definition(macros: &mut Macros)
     ensures { macros.new ≡ record macros.old { unfinished = None } }
@@ -49,7 +49,8 @@ fn drop_definition(macros: &mut Macros)
     }
 }
 
-/// Cuts the conditions that were opened since this many were open, and drops the definition that was begun since.
+/// After lines that are over, if any are, cuts the conditions that were opened in them, so that this many of those
+/// before stay, and drops the definition that was begun in them.
 pub fn cut_to(desk: &mut Desk, nested: Option<usize>)
     ensures { desk.new ≡ cut_to nested desk.old }
 {
@@ -80,7 +81,7 @@ fn clear(alloc: Global, state: &mut SessionState)
     state.count = 0;
 }
 
-/// Drops the lines that wait, with what they left open, and counts no command any more, unless a draft is open, behind
+/// Drops the lines that wait, with what they left open, and counts no command any more, unless a draft is open, after
 /// which they go on.
 #[tactic(auto, using(crate::proofs::RestLemmas::rested_valid))]
 pub fn rest(alloc: Global, state: &mut SessionState)

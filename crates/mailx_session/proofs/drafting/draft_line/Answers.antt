@@ -1,6 +1,6 @@
 use Rattle.std.proofs.Common.{refl}
 use Rattle.mailx_session.specs.Drafting.{draft_play}
-use Rattle.mailx_session.proofs.DraftLemmas.{drafted-needed, drafted-refused}
+use Rattle.mailx_session.proofs.DraftLemmas.{drafted-needed, drafted-refused, took-not-refused, refused-released}
 use Rattle.mailx_session.proofs.drafting.draft_line.Goals as goal
 
 pub returns-in-Ok-clause-ran : goal.returns-in-Ok-clause-ran
@@ -12,3 +12,12 @@ pub returns-in-Err-clause-ran : goal.returns-in-Err-clause-ran
 returns-in-Err-clause-ran g c =
     let s = c.args.state.now in
     c.refuse_escape.ensures.ran (draft_play s c.args.line.now) (drafted-refused s s.draft c.args.line.now c.in-Err.error _ refl c.in-Err.ensures.line)
+
+pub returns-in-Ok-clause-refused : goal.returns-in-Ok-clause-refused
+returns-in-Ok-clause-refused g c = λ r. absurd (took-not-refused c.args.state.now c.args.state.now.draft c.args.line.now c.in-Ok.need _ refl c.in-Ok.ensures.line r)
+
+pub returns-in-Ok-clause-goes_on : goal.returns-in-Ok-clause-goes_on
+returns-in-Ok-clause-goes_on g c = λ r. absurd (took-not-refused c.args.state.now c.args.state.now.draft c.args.line.now c.in-Ok.need _ refl c.in-Ok.ensures.line r)
+
+pub returns-in-Err-clause-refused : goal.returns-in-Err-clause-refused
+returns-in-Err-clause-refused g c = λ r. refused-released c.args.state.now c.args.state.now.draft c.args.line.now c.in-Err.error _ refl c.in-Err.ensures.line

@@ -1,7 +1,7 @@
 use Rattle.host_port.proofs.RanLemmas.{Ran-then, Ran-map}
 use Rattle.session_state.specs.Answers.{stop_of}
 use Rattle.session_asks.proofs.AskLemmas.{never-fall-then}
-use Rattle.mailx_session.proofs.FinishLemmas.{ends-more, ends-left, ends-lost, ends-done}
+use Rattle.mailx_session.proofs.FinishLemmas.{ends-more, ends-left, ends-lost, ends-done, none-open}
 use Rattle.mailx_session.proofs.finishing.finish.Goals as goal
 
 pub returns-then-is_none-clause-ran : goal.returns-then-is_none-clause-ran
@@ -12,6 +12,7 @@ drafts-preserved g c = record {
   session = c.in-Ok-Go.ensures.session;
   fall = never-fall-then _ _ _ c.drafts.invariant.fall c.in-Ok-Go.ensures.ran.never_fall;
   ran = Ran-then (ends-more c.args.state.now c.drafts.state c.end_one.new.state c.if-is_none.ensures) c.drafts.invariant.ran (rw c.in-Ok-Go.field-0-is at c.in-Ok-Go.ensures.ran);
+  same = λ out. absurd (none-open c.args.state.now c.drafts.state c.drafts.invariant.same c.if-is_none.ensures out);
 }
 
 pub returns-in-Ok-End-clause-ran : goal.returns-in-Ok-End-clause-ran
@@ -21,3 +22,9 @@ returns-in-Ok-End-clause-ran g c =
 pub returns-in-Err-clause-ran : goal.returns-in-Err-clause-ran
 returns-in-Err-clause-ran g c =
     Ran-then (ends-lost c.args.state.now c.drafts.state (stop_of c.in-Err.error) c.if-is_none.ensures) c.drafts.invariant.ran c.in-Err.ensures.ran
+
+pub returns-in-Ok-End-clause-stays : goal.returns-in-Ok-End-clause-stays
+returns-in-Ok-End-clause-stays g c = λ out. absurd (none-open c.args.state.now c.drafts.state c.drafts.invariant.same c.if-is_none.ensures out)
+
+pub returns-in-Err-clause-stays : goal.returns-in-Err-clause-stays
+returns-in-Err-clause-stays g c = λ out. absurd (none-open c.args.state.now c.drafts.state c.drafts.invariant.same c.if-is_none.ensures out)

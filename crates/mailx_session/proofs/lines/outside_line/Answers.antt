@@ -1,11 +1,10 @@
+use Rattle.std.proofs.Common.{ℕ, List, sym, ◌∙◌, ap}
+use Rattle.std.specs.List.{list_all}
+use Rattle.mail_text.specs.Ascii.{is_blank}
 use Rattle.host_port.proofs.RanLemmas.{Ran-none}
-use Rattle.session_play.proofs.PlayLemmas.{at-memory}
-use Rattle.mailx_session.specs.Rounds.{outside_play}
-use Rattle.mailx_session.proofs.RoundLemmas.{idle-goes}
+use Rattle.mailx_session.proofs.RoundLemmas.{empty-goes}
 use Rattle.mailx_session.proofs.lines.outside_line.Goals as goal
 
-pub returns-then-idle-clause-ran : goal.returns-then-idle-clause-ran
-returns-then-idle-clause-ran g c = Ran-none (idle-goes c.args.state.now c.args.line.now _ c.in-Ok.ensures c.if-idle.true)
-
-pub returns-in-Err-clause-ran : goal.returns-in-Err-clause-ran
-returns-in-Err-clause-ran g c = Ran-none (at-memory (outside_play c.args.state.now c.args.line.now))
+pub returns-then-is_empty-clause-ran : goal.returns-then-is_empty-clause-ran
+returns-then-is_empty-clause-ran g c =
+    Ran-none (empty-goes c.args.state.now c.args.line.now (ap (λ (bytes : List ℕ). list_all is_blank bytes) (sym c.bytes.ensures) ∙ (sym c.is_empty.ensures ∙ c.if-is_empty.true)))

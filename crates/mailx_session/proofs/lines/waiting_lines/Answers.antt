@@ -3,11 +3,11 @@ use Rattle.host_port.proofs.RanLemmas.{Ran-then, Ran-map, Ran-none}
 use Rattle.session_state.specs.declared.state.SessionState.{SessionState}
 use Rattle.session_state.specs.Answers.{stop_of}
 use Rattle.session_asks.proofs.AskLemmas.{never-fall-none, never-fall-then}
-use Rattle.session_state.proofs.PendingLemmas.{fewer-left, less-then, nothing-taken}
+use Rattle.session_state.proofs.PendingLemmas.{less-then}
 use Rattle.session_asks.proofs.SourcingLemmas.{le-refl, weight-taken}
-use Rattle.mailx_session.proofs.RoundLemmas.{waits-none, waits-more, waits-ended, waits-cut, waits-over, waits-short, next-taken, at-most, below-most}
+use Rattle.mailx_session.proofs.RoundLemmas.{waits-none, waits-more, waits-ended, waits-cut, waits-over, waits-short, next-fewer, next-waits, none-next, at-most, below-most}
 use Rattle.session_state.proofs.RestLemmas.{no-both}
-use Rattle.session_state.specs.States.{rested}
+use Rattle.session_state.specs.States.{is_drafting, rested}
 use Rattle.session_state.specs.Bringing.{weight}
 use Rattle.mailx_session.proofs.lines.waiting_lines.Goals as goal
 
@@ -17,6 +17,7 @@ lines-init g c = record {
   fall = never-fall-none _;
   ran = Ran-none (waits-none c.args.state.now);
   nothing = λ over. refl;
+  held = λ inside. refl;
   light = le-refl (weight c.args.state.now);
   lighter = λ out inside. absurd (no-both inside out);
 }
@@ -34,22 +35,21 @@ returns-in-Err-waiting_line-clause-ran g c =
 pub lines-smaller : goal.lines-smaller
 lines-smaller g c =
     let is = rw c.in-Ok-Some.field-0-is at c.in-Ok-Some.ensures.next in
-    let took = next-taken c.lines.state c.in-Ok-Some.line c.next_waiting.new.state.frames is.0 in
     less-then _ _ _ c.in-Ok-Go.ensures.falls
-    (subst (λ (s : SessionState). weight s < weight c.lines.state) (sym is.1) (weight-taken c.lines.state c.next_waiting.new.state.frames (fewer-left _ _ _ took.1)))
+    (subst (λ (s : SessionState). weight s < weight c.lines.state) (sym is.1) (weight-taken c.lines.state c.next_waiting.new.state.frames (next-fewer c.lines.state c.in-Ok-Some.line c.next_waiting.new.state.frames is.0)))
 
 pub lines-preserved : goal.lines-preserved
 lines-preserved g c =
     let is = rw c.in-Ok-Some.field-0-is at c.in-Ok-Some.ensures.next in
-    let took = next-taken c.lines.state c.in-Ok-Some.line c.next_waiting.new.state.frames is.0 in
     let less : weight c.waiting_line.new.state < weight c.lines.state =
     less-then _ _ _ c.in-Ok-Go.ensures.falls
-    (subst (λ (s : SessionState). weight s < weight c.lines.state) (sym is.1) (weight-taken c.lines.state c.next_waiting.new.state.frames (fewer-left _ _ _ took.1))) in
+    (subst (λ (s : SessionState). weight s < weight c.lines.state) (sym is.1) (weight-taken c.lines.state c.next_waiting.new.state.frames (next-fewer c.lines.state c.in-Ok-Some.line c.next_waiting.new.state.frames is.0))) in
     record {
       state = c.in-Ok-Go.ensures.state;
       fall = never-fall-then _ _ _ c.lines.invariant.fall c.in-Ok-Go.ensures.ran.never_fall;
       ran = Ran-then (waits-more c.args.state.now c.lines.state c.next_waiting.new.state c.waiting_line.new.state c.in-Ok-Some.line is.0 is.1) c.lines.invariant.ran (rw c.in-Ok-Go.field-0-is at c.in-Ok-Go.ensures.ran);
-      nothing = λ none. absurd (nothing-taken _ _ _ (ap (λ (s : SessionState). s.frames) (c.lines.invariant.nothing none) ∙ none) took.1);
+      nothing = λ none. absurd (next-waits c.lines.state c.in-Ok-Some.line c.next_waiting.new.state.frames is.0 (ap (λ (s : SessionState). s.frames) (c.lines.invariant.nothing none) ∙ none));
+      held = λ inside. absurd (none-next c.args.state.now c.lines.state c.in-Ok-Some.line c.next_waiting.new.state.frames (c.lines.invariant.held inside) inside is.0);
       light = at-most _ _ _ less c.lines.invariant.light;
       lighter = λ out inside. below-most _ _ _ less c.lines.invariant.light;
     }
@@ -64,14 +64,32 @@ returns-in-Ok-None-clause-nothing g c = λ none.
     let over = rw c.in-Ok-None.field-0-is at c.in-Ok-None.ensures.next in
     (over.1 ∙ ap rested (c.lines.invariant.nothing none), refl)
 
+pub returns-in-Ok-None-clause-held : goal.returns-in-Ok-None-clause-held
+returns-in-Ok-None-clause-held g c = λ inside.
+    let same = c.lines.invariant.held inside in
+    ((c.in-Ok-None.ensures.held (ap (λ (s : SessionState). is_drafting s) same ∙ inside)).1 ∙ same, refl)
+
+pub returns-in-Ok-End-clause-held : goal.returns-in-Ok-End-clause-held
+returns-in-Ok-End-clause-held g c = λ inside.
+    let is = rw c.in-Ok-Some.field-0-is at c.in-Ok-Some.ensures.next in
+    absurd (none-next c.args.state.now c.lines.state c.in-Ok-Some.line c.next_waiting.new.state.frames (c.lines.invariant.held inside) inside is.0)
+
+pub returns-in-Err-waiting_line-clause-held : goal.returns-in-Err-waiting_line-clause-held
+returns-in-Err-waiting_line-clause-held g c = λ inside.
+    let is = rw c.in-Ok-Some.field-0-is at c.in-Ok-Some.ensures.next in
+    absurd (none-next c.args.state.now c.lines.state c.in-Ok-Some.line c.next_waiting.new.state.frames (c.lines.invariant.held inside) inside is.0)
+
+pub returns-in-Err-clause-held : goal.returns-in-Err-clause-held
+returns-in-Err-clause-held g c = λ inside.
+    absurd (cc (c.in-Err.ensures.held (ap (λ (s : SessionState). is_drafting s) (c.lines.invariant.held inside) ∙ inside)).0)
+
 pub returns-in-Err-clause-ran : goal.returns-in-Err-clause-ran
 returns-in-Err-clause-ran g c = Ran-map (waits-short c.args.state.now c.lines.state) c.lines.invariant.ran
 
 pub returns-in-Ok-End-clause-falls : goal.returns-in-Ok-End-clause-falls
 returns-in-Ok-End-clause-falls g c = λ out inside.
     let is = rw c.in-Ok-Some.field-0-is at c.in-Ok-Some.ensures.next in
-    let took = next-taken c.lines.state c.in-Ok-Some.line c.next_waiting.new.state.frames is.0 in
     let less : weight c.waiting_line.new.state < weight c.lines.state =
     less-then _ _ _ c.in-Ok-End.ensures.falls
-    (subst (λ (s : SessionState). weight s < weight c.lines.state) (sym is.1) (weight-taken c.lines.state c.next_waiting.new.state.frames (fewer-left _ _ _ took.1))) in
+    (subst (λ (s : SessionState). weight s < weight c.lines.state) (sym is.1) (weight-taken c.lines.state c.next_waiting.new.state.frames (next-fewer c.lines.state c.in-Ok-Some.line c.next_waiting.new.state.frames is.0))) in
     below-most _ _ _ less c.lines.invariant.light

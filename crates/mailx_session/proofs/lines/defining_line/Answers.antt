@@ -1,7 +1,0 @@
-use Rattle.session_asks.proofs.SourcingLemmas.{defining_brings_none, weight_kept}
-use Rattle.mailx_session.proofs.lines.defining_line.Goals as goal
-
-pub returns-clause-falls : goal.returns-clause-falls
-returns-clause-falls g c =
-    weight_kept c.args.state.now c.carry_line.new.state c.carry_line.ensures.others
-    (c.carry_line.ensures.quiet (defining_brings_none c.args.origin c.args.state.now.desk c.args.line.now c.requires.defining))
