@@ -4,7 +4,7 @@ use mail_text::{Memory, Text, lines};
 use std::alloc::Global;
 use std::fmt::{Debug, Display};
 
-/// The answers so far, to whose end parts are put. What memory was wanting for, here or to read a case, is left out,
+/// The answers so far, to whose end parts are put. What memory ran out for, here or to read a case, is left out,
 /// and then they aren't whole.
 #[derive(Drop)]
 pub struct Answer {
@@ -33,13 +33,13 @@ impl Answer {
         self.text.bytes()
     }
 
-    /// Whether memory was never wanting.
+    /// Whether memory never ran out.
     pub fn is_whole(&self) -> bool {
         self.whole
     }
 
-    /// Writes the answers. The status of a program that did: 0, 3 where they couldn't be written, or 8 where memory was
-    /// wanting.
+    /// Writes the answers. The status of a program that did: 0, 3 if they couldn't be written, or 8 if memory ran
+    /// out.
     pub fn write(&self, rt: &impl Print) -> u8 {
         match rt.write_all(self.text.bytes()) {
             Ok(()) if self.whole => 0,
@@ -48,12 +48,12 @@ impl Answer {
         }
     }
 
-    /// Notes that memory was wanting.
+    /// Notes that memory ran out.
     pub fn lack(&mut self) {
         self.whole = false;
     }
 
-    /// Notes it where it was.
+    /// Notes that memory ran out, if this call failed.
     pub fn note(&mut self, done: Result<(), Memory>) {
         if done.is_err() {
             self.lack();
@@ -83,7 +83,7 @@ impl Answer {
         }
     }
 
-    /// Puts bytes as lines `|TEXT`, the last as `:TEXT` where it has no line feed.
+    /// Puts bytes as lines `|TEXT`, the last as `:TEXT` if it has no line feed.
     pub fn put_lines(&mut self, bytes: &[u8]) {
         let mut left = bytes.len();
         for line in lines(bytes) {
@@ -169,6 +169,37 @@ impl Answer {
             self.put_shown(n);
         }
     }
+
+    /// Puts how what was found differs from what is wanted: the lines of both from the first on that isn't the same.
+    pub fn put_difference(&mut self, wanted: &[u8], found: &Answer) {
+        let same = count_same(wanted, found.bytes());
+        self.put_rest(b"wanted: ", wanted, same);
+        self.put_rest(b"found: ", found.bytes(), same);
+        if !found.is_whole() {
+            self.lack();
+        }
+    }
+
+    // Puts the lines of a text but for the first `count`, each after this head.
+    fn put_rest(&mut self, head: &[u8], bytes: &[u8], count: usize) {
+        for line in lines(bytes).skip(count) {
+            self.put_plain(head);
+            self.put_plain(line);
+            self.put_plain(b"\n");
+        }
+    }
+}
+
+// How many lines are the same at the start of two texts.
+fn count_same(first: &[u8], second: &[u8]) -> usize {
+    let mut count = 0usize;
+    for (a, b) in lines(first).zip(lines(second)) {
+        if a != b {
+            return count;
+        }
+        count = count.saturating_add(1);
+    }
+    count
 }
 
 // The digit of a value below 16.

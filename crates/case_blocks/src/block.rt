@@ -27,17 +27,17 @@ pub fn is_plain(line: &str) -> bool {
     line.is_empty()
 }
 
-/// The first word, and what stands behind the blank after it.
+/// The first word, and what stands after the blank that follows it.
 pub fn cut(text: &str) -> (&str, &str) {
     text.split_once(' ').unwrap_or((text, ""))
 }
 
-/// A number, 0 where the text is none.
+/// A number, 0 if the text is none.
 pub fn number(text: &str) -> u64 {
     read_number(text.as_bytes()).unwrap_or(0)
 }
 
-// What stands behind this head on the first line that begins with it.
+// What stands after this head on the first line that begins with it.
 fn value_in<'a>(block: &'a str, head: &str) -> Option<&'a str> {
     for line in block.lines() {
         if let Some(value) = line.strip_prefix(head) {
@@ -47,12 +47,17 @@ fn value_in<'a>(block: &'a str, head: &str) -> Option<&'a str> {
     None
 }
 
-/// What stands behind this head on the first line that begins with it, in the case's own block or else in the other.
+/// What stands after this head on the first line that begins with it, in the case's own block or else in the other.
 pub fn value<'a>(case: Case<'a>, head: &str) -> Option<&'a str> {
     match value_in(case.own, head) {
         Some(value) => Some(value),
         None => value_in(case.always, head),
     }
+}
+
+/// Whether a block is a case.
+pub fn is_case(case: Case<'_>) -> bool {
+    has_line(case.own, "case ")
 }
 
 /// Whether a line of a block begins so.
@@ -74,7 +79,17 @@ pub trait Tells {
     fn tell(&self, case: Case<'_>, out: &mut Answer);
 }
 
-/// What each block of a text tells.
+// Puts the title of a block, and how what it tells differs from the lines below its line `want`.
+fn put_block<T: Tells>(program: &T, block: &str, always: &str, out: &mut Answer) {
+    let (own, wanted) = block.split_once("\nwant\n").unwrap_or((block, ""));
+    let case = first(own, always);
+    put_title(case, out);
+    let mut found = Answer::new(out.alloc());
+    program.tell(case, &mut found);
+    out.put_difference(wanted.as_bytes(), &found);
+}
+
+/// The title of each block of a text, and how what it tells differs from what it wants.
 pub fn told<T: Tells>(alloc: Global, program: &T, blocks: &str) -> Answer {
     let mut out = Answer::new(alloc);
     let mut always = "";
@@ -82,21 +97,17 @@ pub fn told<T: Tells>(alloc: Global, program: &T, blocks: &str) -> Answer {
         if has_line(block, "always") {
             always = block;
         }
-        program.tell(first(block, always), &mut out);
+        put_block(program, block, always, &mut out);
     }
     out
 }
 
-/// Puts the title of a case as a line. False where the block has none.
-pub fn put_title(case: Case<'_>, out: &mut Answer) -> bool {
-    match value_in(case.own, "case ") {
-        Some(title) => {
-            out.put_plain(b"case ");
-            out.put_plain(title.as_bytes());
-            out.put_plain(b"\n");
-            true
-        }
-        None => false,
+// Puts the title of a case as a line.
+fn put_title(case: Case<'_>, out: &mut Answer) {
+    if let Some(title) = value_in(case.own, "case ") {
+        out.put_plain(b"case ");
+        out.put_plain(title.as_bytes());
+        out.put_plain(b"\n");
     }
 }
 

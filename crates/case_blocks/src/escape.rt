@@ -9,7 +9,14 @@ enum Place {
     Escaped,
     High,
     Low(u8),
-    Count(u32),
+    Count(How, u32),
+}
+
+// How a piece is repeated: as it is, or each time with its number at its end.
+#[derive(Clone, Copy)]
+enum How {
+    Same,
+    Numbered,
 }
 
 // What a byte of the escaped form means.
@@ -17,7 +24,7 @@ enum Place {
 enum Meant {
     Nothing,
     Byte(u8),
-    Times(u32),
+    Times(How, u32),
 }
 
 // The value of a digit to the base 16.
@@ -29,19 +36,20 @@ fn digit(byte: u8) -> u8 {
     }
 }
 
-// The place behind a byte that stands behind a backslash, and what the byte means.
+// The place after a byte that stands after a backslash, and what the byte means.
 fn escaped(byte: u8) -> (Place, Meant) {
     match byte {
         b'n' => (Place::Plain, Meant::Byte(b'\n')),
         b't' => (Place::Plain, Meant::Byte(b'\t')),
         b'e' => (Place::Plain, Meant::Nothing),
         b'x' => (Place::High, Meant::Nothing),
-        b'*' => (Place::Count(0), Meant::Nothing),
+        b'*' => (Place::Count(How::Same, 0), Meant::Nothing),
+        b'+' => (Place::Count(How::Numbered, 0), Meant::Nothing),
         _ => (Place::Plain, Meant::Byte(byte)),
     }
 }
 
-// The place behind a byte, and what the byte means.
+// The place after a byte, and what the byte means.
 fn turn(place: Place, byte: u8) -> (Place, Meant) {
     match place {
         Place::Plain if byte == b'\\' => (Place::Escaped, Meant::Nothing),
@@ -52,27 +60,42 @@ fn turn(place: Place, byte: u8) -> (Place, Meant) {
             let whole = high.wrapping_mul(16) | digit(byte);
             (Place::Plain, Meant::Byte(whole))
         }
-        Place::Count(n) if byte.is_ascii_digit() => {
+        Place::Count(how, n) if byte.is_ascii_digit() => {
             let more = n.wrapping_mul(10).wrapping_add(u32::from(digit(byte)));
-            (Place::Count(more), Meant::Nothing)
+            (Place::Count(how, more), Meant::Nothing)
         }
-        Place::Count(n) => (Place::Plain, Meant::Times(n)),
+        Place::Count(how, n) => (Place::Plain, Meant::Times(how, n)),
     }
 }
 
-// Repeats what stands behind a place, so that it is there `count` times.
-fn repeat(alloc: Global, text: &mut Text, mark: usize, count: u32) -> Result<(), Memory> {
+// Puts a number at the end of a text.
+fn push_number(alloc: Global, text: &mut Text, n: u32) -> Result<(), Memory> {
+    match format!(in alloc; "{n}") {
+        Ok(digits) => text.push(digits.as_bytes()),
+        Err(_) => Err(Memory),
+    }
+}
+
+// Repeats what stands after a place, so that it is there `count` times.
+fn repeat(alloc: Global, text: &mut Text, mark: usize, how: How, count: u32) -> Result<(), Memory> {
     let (_, back) = text.bytes().split_at(mark.min(text.bytes().len()));
     let piece = Text::copy(alloc, back)?;
-    for _ in 1..count {
+    for k in 1..count {
+        if matches!(how, How::Numbered) {
+            push_number(alloc, text, k)?;
+        }
         text.push(piece.bytes())?;
     }
-    Ok(())
+    match how {
+        How::Same => Ok(()),
+        How::Numbered => push_number(alloc, text, count),
+    }
 }
 
 /// Puts the bytes that an escaped text means at the end of a text.
 pub fn push_decoded(alloc: Global, text: &mut Text, escaped: &str) -> Result<(), Memory> {
     let mut mark = text.bytes().len();
+    let mut last = mark;
     let mut place = Place::Plain;
     for byte in escaped.bytes() {
         let (next, meant) = turn(place, byte);
@@ -80,8 +103,11 @@ pub fn push_decoded(alloc: Global, text: &mut Text, escaped: &str) -> Result<(),
         match meant {
             Meant::Nothing => {}
             Meant::Byte(byte) => text.push(&[byte])?,
-            Meant::Times(count) => {
-                repeat(alloc, text, mark, count)?;
+            Meant::Times(how, count) => {
+                if mark != text.bytes().len() {
+                    last = mark;
+                }
+                repeat(alloc, text, last, how, count)?;
                 mark = text.bytes().len();
             }
         }

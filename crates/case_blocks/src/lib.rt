@@ -3,15 +3,16 @@
 //!
 //! Each line of a block says one thing. In it `\n`, `\t` and `\\` stand for a line feed, a tab and a backslash, `\xNN`
 //! for the byte of two hexadecimal digits, and `\e` for nothing. `\*N;` repeats what stands before it, back to the last
-//! such mark, so that it is there N times. The bytes of a file or of the input stand below their
-//! line: each line `|TEXT` is TEXT with a line feed, and each line `:TEXT` is TEXT without one. A line that begins with
-//! `#` says nothing.
+//! such mark, so that it is there N times; right after such a mark it repeats what that one made. `\+N;` puts its number
+//! after each of them too: `a\+3;` is `a1a2a3`. The bytes of a file or of the input stand below their line: each line
+//! `|TEXT` is TEXT with a line feed, and each line `:TEXT` is TEXT without one. A line that begins with `#` says nothing.
 //!
 //! | Line | Meaning |
 //! |---|---|
 //! | `always` | the block holds for the cases that follow; what they say themselves goes before it |
 //! | `case TITLE` | the block is a case |
 //! | `bare` | for this case the block `always` doesn't hold |
+//! | `want` | the lines below it, to the end of the block, are what the case tells |
 //! | `file NAME` | a file, whose bytes stand below |
 //! | `holds NAME TEXT` | a file with these bytes |
 //! | `lock NAME TOKEN` | a lock |
@@ -33,7 +34,7 @@ mod planned;
 mod shown;
 
 pub use answer::Answer;
-pub use block::{Case, Tells, cut, is_plain, number, put_title, text_under, told, value};
+pub use block::{Case, Tells, cut, is_case, is_plain, number, text_under, told, value};
 pub use disks::{host, view};
 pub use escape::push_decoded;
 pub use planned::part;

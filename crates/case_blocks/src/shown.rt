@@ -57,7 +57,7 @@ pub fn put_changes(before: &DiskView, after: &DiskView, out: &mut Answer) {
     put_locks(after.locks.items(), out);
 }
 
-/// Puts what became of the disk of a host, and `lost` where memory was refused to it.
+/// Puts what became of the disk of a host, and `lost` if memory was refused to it.
 pub fn put_disk(before: &DiskView, host: &MemHost, out: &mut Answer) {
     match host.view() {
         Ok(after) => put_changes(before, &after, out),

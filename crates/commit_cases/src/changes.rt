@@ -4,7 +4,7 @@ use folder_change::{Change, ChangeError, change_name, outcome};
 use mail_text::{Items, Text};
 use mbox_scan::Folder;
 
-// The texts between bars; none where there are no bytes.
+// The texts between bars; none if there are no bytes.
 fn texts(barred: &str, out: &mut Answer) -> Items<Text> {
     let mut texts = Items::new(out.alloc());
     if !barred.is_empty() {
@@ -68,7 +68,7 @@ fn put_outcome(found: &Result<Option<Text>, ChangeError>, out: &mut Answer) {
     }
 }
 
-// What a change makes of a file, where a rewrite was made for a folder of this text.
+// What a change makes of a file, if a rewrite was made for a folder of this text.
 fn put_made(current: Option<&[u8]>, change: &Change, base: Text, out: &mut Answer) {
     match Folder::open(out.alloc(), base) {
         Ok(base) => {

@@ -78,7 +78,7 @@ fn put_committed(
     }
 }
 
-// The same, where rewrites were made for a folder of this text.
+// Commits changes, whose rewrites were made for a folder of this text, and puts how that ended.
 fn put_committed_over(
     host: &mut MemHost,
     changes: &[Change],
@@ -92,7 +92,7 @@ fn put_committed_over(
     }
 }
 
-/// Adds so many times to the file of this name: how the commit ended.
+/// Adds the bytes `times` times to the file of this name: how the commit ended.
 pub fn put_additions(host: &mut MemHost, name: &str, bytes: &str, times: u32, out: &mut Answer) {
     let mut list = Items::new(out.alloc());
     for _ in 0..times {
@@ -116,7 +116,7 @@ pub fn put_emptied(host: &mut MemHost, rest: &str, out: &mut Answer) {
     put_committed_over(host, &[change], base, true, out);
 }
 
-/// Commits the changes of a line; behind a slash stands the text that the folder of rewrites was read from.
+/// Commits the changes of a line; after a slash stands the text that the folder of rewrites was read from.
 pub fn put_commit(host: &mut MemHost, line: &str, out: &mut Answer) {
     let (line, base) = line.split_once(" / ").unwrap_or((line, ""));
     let list = changes(line, out);

@@ -79,17 +79,19 @@ fn put_is(words: &[u8], is: bool, out: &mut Answer) {
     out.put_plain(words);
     out.put_plain(b": ");
     out.put_flag(is);
-    out.put_plain(b"\n");
 }
 
 /// Puts what comes of files past a limit, long names and many changes.
 pub fn put_large(out: &mut Answer) {
     let is = writes_too_large("holds /h/a xxxxxxxxxxxxxxxx\\*16777216;x", out);
     put_is(b"a file past the limit is too large", is, out);
+    out.put_plain(b"\n");
     let is = keeps_many(out);
     put_is(b"a rewrite keeps a million messages and one", is, out);
+    out.put_plain(b"\n");
     let is = knows_long_names(out);
     put_is(b"names of 4,000 bytes are known", is, out);
+    out.put_plain(b"\n");
     let is = adds_often(out);
     put_is(b"twenty changes of a long name are one", is, out);
 }

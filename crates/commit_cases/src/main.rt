@@ -1,5 +1,6 @@
 //! Cases of the host in memory, of changes, records, commits and recoveries, and of mail that is sent. Standard input
-//! has the cases, and for each the program prints what its lines answer.
+//! has the cases, each with what its lines answer below a line `want`. For each the program prints `case TITLE`, and
+//! how its answers differ if they do.
 //!
 //! The lines of a case are those of `case_blocks`, and these, which are carried out in their order. A line `do` is a
 //! call of the host or of a library over it; the actor of recoveries and commits is `/h/m`, and their token 1.
@@ -13,7 +14,7 @@
 //! | `do load NAME` | what was seen |
 //! | `do child PROGRAM INPUT ARGUMENT..` | the child's status and output, or the length of a long one; `, cut` |
 //! | `do now` | the time |
-//! | `do send SENDER MESSAGE NAME..` | how the sending ended; SENDER is `sendmail`, and `-` where that is unset |
+//! | `do send SENDER MESSAGE NAME..` | how the sending ended; SENDER is `sendmail`, and `-` if that is unset |
 //! | `do recover`, `do add NAME TEXT` | how the recovery, or the commit that adds the text to the file, ended |
 //! | `do empty NAME TEXT` | how the commit ended that leaves a file without a message, read before as the text |
 //! | `do commit CHANGE ; CHANGE.. / BASE` | how the commit of these changes ended, an error in its words |
@@ -25,7 +26,7 @@
 //! | `change KIND / CURRENT / BASE / TEXT\|TEXT..` | what a change makes of a file; `-` is no file |
 //! | `write PHASE TOKEN NAME\|NAME..` | whether such a record is valid, its text, and whether it is read back |
 //! | `read` | whether the text below the line `record` is one |
-//! | `swap OLD => NEW` | the same of this text where the first OLD is replaced |
+//! | `swap OLD => NEW` | the same of this text if the first OLD is replaced |
 //! | `lawful NAME`, `own NAME` | whether a record may have the name; whether a commit of the actor may change it |
 //! | `names ACTOR TOKEN NAME` | the names of the record, of the new one, of the right and of a staged file |
 //! | `taken ACTOR NAME` | whether the name is that of the actor's record |
@@ -33,9 +34,10 @@
 //!
 //! A change of `do commit` is `KIND NAME TEXT|TEXT..`, and BASE, which may be left out with its slash, the text
 //! that the rewrites were made for. The kinds are `keep` and `drop`, which are rewrites, `add`, `front` and `raw`.
-//! For `stops` there comes a line where another stop inside a recovery, recovered again, leaves something else.
+//! Of `stops` a stop is left out that leaves what the one before it does (the first, if it leaves what was there). There
+//! comes a line if another stop inside a recovery, recovered again, leaves something else.
 //!
-//! Of a case with calls there are printed last how many events there are, and what became of the disk.
+//! Of a case with calls there come last how many events there are, and what became of the disk.
 #![tactic(auto)]
 
 mod calls;

@@ -103,7 +103,7 @@ pub fn put_written(line: &str, out: &mut Answer) {
     put_record(&value, out);
 }
 
-// The text with the first such part replaced, where there is one: whether it is a record.
+// The text with the first such part replaced, if there is one: whether it is a record.
 fn put_swapped(record: &str, old: &str, new: &str, out: &mut Answer) {
     match record.split_once(old) {
         Some((front, back)) => {
@@ -117,7 +117,7 @@ fn put_swapped(record: &str, old: &str, new: &str, out: &mut Answer) {
     }
 }
 
-/// The same of a text in which one part is replaced by another, as a line says.
+/// The text of a record with one part replaced by another, as a line says: whether it is a record.
 pub fn put_swap(record: &[u8], line: &str, out: &mut Answer) {
     let (old, new) = line.split_once(" => ").unwrap_or((line, ""));
     let old = out.decoded(old);

@@ -3,7 +3,7 @@ use crate::calls::put_call;
 use crate::pure::put_answer;
 use crate::sending::put_children;
 use crate::stops::{put_stop, put_stops};
-use case_blocks::{Answer, Case, Tells, cut, host, is_plain, put_disk, put_title, view};
+use case_blocks::{Answer, Case, Tells, cut, host, is_case, is_plain, put_disk, view};
 use host_memory::{DiskView, MemHost};
 use host_port::Event;
 use mail_text::Memory;
@@ -66,15 +66,14 @@ fn put_script(case: Case<'_>, host: &mut MemHost, start: &DiskView, out: &mut An
         out.put_plain(b"\n");
         put_disk(start, host, out);
     }
-    out.put_plain(b"\n");
 }
 
-/// Cases as scripts: each its title and the answers of its lines.
+/// Cases as scripts: the answers of their lines.
 pub struct Script;
 
 impl Tells for Script {
     fn tell(&self, case: Case<'_>, out: &mut Answer) {
-        if put_title(case, out) {
+        if is_case(case) {
             let start = view(case, out);
             match host(case, out) {
                 Ok(mut host) => put_script(case, &mut host, &start, out),

@@ -7,7 +7,7 @@ use host_memory::{DiskView, MemHost, Plan};
 use mail_text::{Items, Memory, Text};
 use std::alloc::Global;
 
-const WAYS: [&str; 4] = ["before", "after", "bytes mailx-commit 1\\nph", "nothing"];
+const WAYS: [&str; 4] = ["before", "nothing", "bytes mailx-commit 1\\nph", "after"];
 
 /// The plan of a host that nothing happens to.
 pub fn no_plan(alloc: Global) -> Plan
@@ -83,15 +83,28 @@ fn put_shown(start: &DiskView, again: &MemHost, out: &mut Answer) {
     }
 }
 
-/// What each stop inside each event shows once it is recovered.
+// What a stop inside the event of this number shows once it is recovered.
+fn shown(start: &DiskView, host: &MemHost, at: usize, way: &str, out: &mut Answer) -> Answer {
+    let mut shown = Answer::new(out.alloc());
+    match recovered_host(host, at, way, out) {
+        Ok(again) => put_shown(start, &again, &mut shown),
+        Err(Memory) => out.lack(),
+    }
+    shown
+}
+
+/// What the stops inside each event show once they are recovered. A stop that shows what the one before it does is left
+/// out, as the first is that shows nothing.
 pub fn put_stops(start: &DiskView, host: &MemHost, out: &mut Answer) {
+    let mut last = Answer::new(out.alloc());
     for at in 0..host.trace().len() {
         for way in WAYS {
-            put_head(at.saturating_add(1), way, out);
-            match recovered_host(host, at.saturating_add(1), way, out) {
-                Ok(again) => put_shown(start, &again, out),
-                Err(Memory) => out.lack(),
+            let next = shown(start, host, at.saturating_add(1), way, out);
+            if next.bytes() != last.bytes() {
+                put_head(at.saturating_add(1), way, out);
+                out.put_plain(next.bytes());
             }
+            last = next;
         }
     }
 }

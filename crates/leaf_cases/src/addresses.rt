@@ -2,7 +2,8 @@
 use crate::case::{field, words};
 use case_blocks::Answer;
 use mail_addresses::{
-    Address, AddressError, FoundAddress, bare, first_address, local_part, read_list, same_address,
+    Address, AddressError, FoundAddress, bare, first_address, local_part, quote_end, read_list,
+    same_address,
 };
 use mail_text::{Memory, Text};
 
@@ -10,6 +11,7 @@ pub fn put(case: &[Text], out: &mut Answer) {
     match words(case, 1) {
         "read" => put_list(field(case, 2), out),
         "first" => put_first(field(case, 2), out),
+        "quote end" => out.put_found(quote_end(field(case, 2))),
         "same" => out.put_flag(same_address(field(case, 2), field(case, 3))),
         _ => out.put_bad(),
     }

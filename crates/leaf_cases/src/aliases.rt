@@ -16,7 +16,7 @@ pub fn put(case: &[Text], out: &mut Answer) {
     }
 }
 
-// What each step answers, with `;` behind it, and then the aliases that they leave, each as `NAME: MEMBER ..|`.
+// What each step answers, with `;` after it, and then the aliases that they leave, each as `NAME: MEMBER ..|`.
 fn put_done(steps: &str, out: &mut Answer) {
     let mut aliases = Aliases::new(out.alloc());
     for step in steps.split(';') {
@@ -56,7 +56,7 @@ fn put_defined(aliases: &mut Aliases, name: &Text, to: &[Text], out: &mut Answer
     }
 }
 
-// Names, each behind a space.
+// Names, each after a space.
 fn put_names(names: &[Text], out: &mut Answer) {
     for name in names {
         out.put(b" ");
@@ -96,8 +96,8 @@ fn put_expansion(expansion: Result<Vec<Text>, ExpandError>, out: &mut Answer) {
     }
 }
 
-// So many aliases, each with the next as its member and the last with the first where they close, and what the first
-// stands for.
+// `count` aliases, each with the next as its member and the last with the first if `closes`, and what the first stands
+// for.
 fn put_chain(count: u32, closes: bool, out: &mut Answer) {
     let mut aliases = Aliases::new(out.alloc());
     for n in 0..count {
@@ -112,7 +112,7 @@ fn put_chain(count: u32, closes: bool, out: &mut Answer) {
     put_first(&aliases, out);
 }
 
-// An alias of so many names, and what it stands for.
+// An alias of `count` names, and what it stands for.
 fn put_group(count: u32, out: &mut Answer) {
     let mut names = Items::new(out.alloc());
     for n in 0..count {

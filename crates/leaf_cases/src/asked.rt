@@ -3,7 +3,7 @@ use case_blocks::Answer;
 use command_words::{Mode, Options, Wanted, read_words};
 use mail_text::Text;
 
-/// What the words behind the kind ask for, the mode with the options that are given and the operands, or why they are
+/// What the words after the kind ask for, the mode with the options that are given and the operands, or why they are
 /// refused.
 pub fn put(case: &[Text], out: &mut Answer) {
     let words = match case {

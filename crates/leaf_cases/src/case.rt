@@ -11,7 +11,7 @@ pub fn field(case: &[Text], k: usize) -> &[u8] {
     }
 }
 
-/// The field at place `k` of a case where it is UTF-8, or nothing.
+/// The field at place `k` of a case if it is UTF-8, or nothing.
 pub fn words(case: &[Text], k: usize) -> &str {
     str::from_utf8(field(case, k)).unwrap_or("")
 }

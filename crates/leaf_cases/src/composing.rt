@@ -219,7 +219,7 @@ fn put_error(error: &ComposeError, out: &mut Out) {
     out.put_shown(error);
 }
 
-// A draft: its names with `,` behind each, its subject and its body.
+// A draft: its names with `,` after each, its subject and its body.
 fn put_draft(draft: &Draft, out: &mut Out) {
     put_names(b"To ", draft.to.items(), out);
     put_names(b"Cc ", draft.cc.items(), out);

@@ -4,7 +4,7 @@ use case_blocks::{Answer, cut};
 use mail_text::Text;
 use rc_conditionals::{CondError, Conditions, Mode};
 
-/// Each word of the last field in turn, with `;` between one and the next: whether lines are carried out behind it and
+/// Each word of the last field in turn, with `;` between one and the next: whether lines are carried out after it and
 /// how many conditions are open, or why it is refused.
 pub fn put(case: &[Text], out: &mut Answer) {
     let mode = match words(case, 1) {

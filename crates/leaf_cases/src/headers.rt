@@ -25,7 +25,7 @@ fn put_of(header: &Header<'_>, case: &[Text], out: &mut Answer) {
     }
 }
 
-// `<From line>`, `[name=value]` for a field, `(line)` for another line, and `|body` where there is one.
+// `<From line>`, `[name=value]` for a field, `(line)` for another line, and `|body` if there is one.
 fn put_parts(header: &Header<'_>, out: &mut Answer) {
     out.put_in_angles(header.from_line());
     for entry in header.entries() {
@@ -78,7 +78,7 @@ fn put_unfolded(header: &Header<'_>, out: &mut Answer) {
     }
 }
 
-// The same, where a value without a line feed is a part of the header.
+// The unfolded value of each field, of which one without a line feed is a part of the header.
 fn put_values(header: &Header<'_>, out: &mut Answer) {
     for field in header.fields() {
         match unfold_value(out.alloc(), field) {

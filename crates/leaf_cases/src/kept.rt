@@ -20,7 +20,7 @@ impl Kept {
         })
     }
 
-    /// Keeps the fields of a case behind its topic as messages.
+    /// Keeps the fields of a case after its topic as messages.
     pub fn keep_messages(&mut self, case: &[Text], out: &mut Answer) {
         self.messages = Items::new(out.alloc());
         for message in case.iter().skip(1) {

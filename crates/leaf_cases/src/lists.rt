@@ -58,7 +58,7 @@ fn purpose_of(letter: &[u8]) -> Purpose {
     }
 }
 
-// The place of a message in the view, and the nearest behind it and before it that aren't deleted.
+// The place of a message in the view, and the nearest after it and before it that aren't deleted.
 fn put_near(shown: &Shown, k: u32, out: &mut Answer)
     requires { IsShown shown.now }
 {

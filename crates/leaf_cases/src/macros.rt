@@ -4,7 +4,7 @@ use case_blocks::{Answer, cut};
 use mail_text::{Memory, Text, read_number};
 use mailx_macros::{MacroError, Macros};
 
-/// What each step of the field answers, with `;` behind it, then whether a definition is under way, and the macros that
+/// What each step of the field answers, with `;` after it, then whether a definition is under way, and the macros that
 /// they leave, each as its name and its lines, `NAME<LINE><LINE>..`.
 pub fn put(case: &[Text], out: &mut Answer) {
     let mut macros = Macros::new(out.alloc());
@@ -60,7 +60,7 @@ fn put_inside(macros: &mut Macros, word: &str, line: &[u8], out: &mut Answer) {
     }
 }
 
-// Puts so many empty lines at the end of the definition that is under way.
+// Puts `count` empty lines at the end of the definition that is under way.
 fn fill(macros: &mut Macros, count: u64) -> Result<(), MacroError> {
     for _ in 0..count {
         if macros.open() {

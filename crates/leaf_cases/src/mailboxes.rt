@@ -2,7 +2,7 @@
 use crate::case::{field, words};
 use case_blocks::Answer;
 use mail_text::Text;
-use mbox_scan::{Folder, ScanError, Texts, is_mailbox};
+use mbox_scan::{Folder, ScanError, Texts, is_mailbox, trimmed_len};
 use std::alloc::Global;
 
 pub fn put(case: &[Text], out: &mut Answer) {
@@ -14,6 +14,7 @@ pub fn put(case: &[Text], out: &mut Answer) {
             put_texts(bytes, out);
         }
         "count" => put_count(bytes, out),
+        "trimmed" => out.put_shown(&trimmed_len(bytes)),
         _ => out.put_bad(),
     }
 }

@@ -1,4 +1,5 @@
-//! The cases of the leaf crates: one a line of the input, and what the libraries answer to each a line of the output.
+//! The cases of the leaf crates, each a line `CASE => ANSWER` of the input. The output has the case alone, and below it
+//! what was found where that isn't the answer that is wanted. A case without an answer wants none.
 //!
 //! A case is fields with `|` between them: its topic, its kind, and what the kind takes. In a field and in an answer
 //! `\n` is a line feed, `\t` a tab, `\\` a backslash and `\x` with two digits any byte. In a field `\*N;` repeats what
@@ -64,24 +65,38 @@ fn put_answer(kept: &mut Kept, case: &[Text], out: &mut Answer) {
     }
 }
 
-// Puts the answers to the lines of a text at the end.
-fn put_answers(kept: &mut Kept, text: &str, out: &mut Answer) {
+// Puts a line as it is.
+fn put_line(line: &str, out: &mut Answer) {
+    out.put_plain(line.as_bytes());
+    out.put_plain(b"\n");
+}
+
+// Puts the case of a line, and how the answer to it differs from the one that the line wants.
+fn put_case(kept: &mut Kept, line: &str, out: &mut Answer) {
+    let (asked, wanted) = line.split_once(" => ").unwrap_or((line, ""));
+    put_line(asked, out);
+    let mut found = Answer::new(out.alloc());
+    let case = fields_of(asked, &mut found);
+    put_answer(kept, case.items(), &mut found);
+    out.put_difference(wanted.as_bytes(), &found);
+}
+
+// Puts the lines of a text, and what differs in the cases among them.
+fn put_lines(kept: &mut Kept, text: &str, out: &mut Answer) {
     for line in text.lines() {
         if line.is_empty() || line.starts_with('#') {
-            out.put_plain(line.as_bytes());
+            put_line(line, out);
         } else {
-            let case = fields_of(line, out);
-            put_answer(kept, case.items(), out);
+            put_case(kept, line, out);
         }
-        out.put_plain(b"\n");
     }
 }
 
-// The answers to the lines of a text.
+// What is written of a text.
 fn answers(alloc: Global, text: &str) -> Answer {
     let mut out = Answer::new(alloc);
     match Kept::new(alloc) {
-        Ok(mut kept) => put_answers(&mut kept, text, &mut out),
+        Ok(mut kept) => put_lines(&mut kept, text, &mut out),
         Err(Memory) => out.lack(),
     }
     out

@@ -11,7 +11,7 @@ use mailx_vars::Vars;
 use message_state::Mark;
 use quit_rules::{Open, boxed, kept, quit_changes};
 
-/// The folder of a text with these marks, the system mailbox where the kind says so: how many messages stay and how
+/// The folder of a text with these marks, the system mailbox if the kind says so: how many messages stay and how
 /// many go to mbox, and the changes.
 pub fn put(vars: &Vars, case: &[Text], out: &mut Answer) {
     match folder_of(out.alloc(), field(case, 2)) {
@@ -28,7 +28,7 @@ pub fn put(vars: &Vars, case: &[Text], out: &mut Answer) {
     }
 }
 
-// Marks, each the letter of its state, and `+` where the message was seen.
+// Marks, each the letter of its state, and `+` if the message was seen.
 fn marks(text: &str, out: &mut Answer) -> Items<Mark> {
     let mut marks = Items::new(out.alloc());
     for mark in text.split(' ') {

@@ -110,7 +110,7 @@ fn put_names(out: &mut Answer, names: &[Text]) {
     out.put(b".");
 }
 
-// The ignored and the retained names, where they are asked for; and for each name of the last field whether its fields
+// The ignored and the retained names, if they are asked for; and for each name of the last field whether its fields
 // are kept. Names are ignored in two calls.
 fn put_told(case: &[Text], names: bool, out: &mut Answer) {
     let mut sets = FieldSets::new(out.alloc());
@@ -126,7 +126,7 @@ fn put_told(case: &[Text], names: bool, out: &mut Answer) {
     }
 }
 
-// What is shown of each message of a folder, where these names are ignored and these retained.
+// What is shown of each message of a folder, if these names are ignored and these retained.
 fn put_folder(case: &[Text], out: &mut Answer) {
     let mut sets = FieldSets::new(out.alloc());
     name_fields(&mut sets, words(case, 3), false, out);

@@ -64,7 +64,7 @@ pub fn state_of(letter: &[u8]) -> State {
     }
 }
 
-// The letter of a state, and `+` where the message was seen.
+// The letter of a state, and `+` if the message was seen.
 fn put_mark(out: &mut Answer, mark: Mark) {
     out.put(match mark.state {
         State::New => b"N",
@@ -110,7 +110,7 @@ fn put_row(text: &[u8], out: &mut Answer) -> Result<(), Memory> {
     Ok(())
 }
 
-// The texts and the ids of a row, each with a line feed behind it.
+// The texts and the ids of a row, each with a line feed after it.
 fn put_row_texts(row: &Row, out: &mut Answer) {
     for text in [
         row.texts.subject(),
@@ -130,7 +130,7 @@ fn put_row_texts(row: &Row, out: &mut Answer) {
     }
 }
 
-// The rows of so many messages.
+// The rows of `count` messages.
 fn rows(alloc: Global, count: u32) -> Result<Items<Row>, Memory> {
     let mut rows = Items::new(alloc);
     for _ in 0..count {

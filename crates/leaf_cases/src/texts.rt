@@ -94,7 +94,7 @@ fn put_items(case: &[Text], out: &mut Answer) -> Result<(), Memory> {
     Ok(())
 }
 
-// Puts a number into a list and into a new one, and says both.
+// Puts a number into a list and into a new one, and puts both.
 fn put_in_both(list: &mut Items<u32>, x: u32, out: &mut Answer) -> Result<(), Memory> {
     let mut other = Items::new(out.alloc());
     put_both(list, &mut other, x)?;

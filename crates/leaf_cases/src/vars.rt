@@ -78,7 +78,7 @@ fn put_copied(vars: &mut Vars, name: &[u8], out: &mut Answer) {
     }
 }
 
-// Sets so many variables, and says whether each could be set.
+// Sets `count` variables, and puts whether each could be set.
 fn put_filled(vars: &mut Vars, count: u32, out: &mut Answer) {
     let mut all = true;
     for n in 0..count {
@@ -157,7 +157,7 @@ fn put_each_place(places: &Places, out: &mut Answer) {
     out.put_shown(&places.width);
 }
 
-// What a file name stands for, where a previous file and a folder may be given.
+// What a file name stands for, as a previous file and a folder may be given.
 fn put_expanded(places: &Places, vars: &mut Vars, case: &[Text], out: &mut Answer) {
     if case.len() > 4 && vars.set(b"folder", field(case, 4)).is_err() {
         return out.put_bad();

@@ -14,7 +14,7 @@ use message_state::{Order, Row, RowList, Shown, row_of};
 use std::alloc::Global;
 
 /// The messages that are kept, in the order that comes of changing places by pairs in turn, so deep and with this
-/// current message; none where there are more than 100, or the current message isn't one of them. Where no depth is
+/// current message; none if there are more than 100, or the current message isn't one of them. If no depth is
 /// given, a message isn't deep.
 pub fn shown_of(
     messages: &[Text],
@@ -40,7 +40,7 @@ pub fn shown_of(
     }))
 }
 
-// So many depths.
+// `count` depths: these, and 0 for those that are missing.
 fn depths_of(alloc: Global, count: usize, depths: &[u32]) -> Result<Vec<u32>, Memory>
     ensures { IfOk result (λ v. length v.items ≡ count) }
 {
@@ -49,7 +49,7 @@ fn depths_of(alloc: Global, count: usize, depths: &[u32]) -> Result<Vec<u32>, Me
     Ok(depth)
 }
 
-// A row of a message, which is written as the letter of its state, its size where it isn't its own, a space and the
+// A row of a message, which is written as the letter of its state, its size if it isn't its own, a space and the
 // text.
 fn message_row(alloc: Global, message: &[u8]) -> Result<Row, Memory>
     ensures { IfOk result (λ row. IfSome row.moment IsInYears) }
@@ -63,7 +63,7 @@ fn message_row(alloc: Global, message: &[u8]) -> Result<Row, Memory>
     Ok(row)
 }
 
-// What stands before the first space, and behind it.
+// What stands before the first space, and after it.
 fn cut(message: &[u8]) -> (&[u8], &[u8]) {
     match memchr(b' ', message) {
         Some(at) => (&message[..at], &message[at + 1..]),
@@ -112,7 +112,7 @@ fn numbers_to(alloc: Global, count: u32) -> Result<Vec<u32>, Memory>
     Ok(order)
 }
 
-// Changes the values at two places, where there are such places.
+// Changes the values at two places, if there are such places.
 fn swap_places(order: &mut Vec<u32>, places: &[u32])
     ensures { IsPermutation order.old.items order.new.items }
 {

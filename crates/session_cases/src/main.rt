@@ -1,5 +1,6 @@
-//! Whole runs of the program over a host in memory. Standard input has the cases, and for each the program prints what
-//! the run says, its status, and what became of the files.
+//! Whole runs of the program over a host in memory. Standard input has the cases, each with what is wanted of its run
+//! below a line `want`: what it prints, its status, and what became of the files. For each the program prints `case
+//! TITLE`, and how the run differs if it does.
 //!
 //! The lines of a case are those of `case_blocks`, and these:
 //!
@@ -10,12 +11,11 @@
 //! | `folder NAME` | the working folder; without it that isn't known |
 //! | `terminal` | the input is a terminal |
 //! | `token N` | the word that no other run has; without it 1 |
-//! | `children` | what each child that ran was given is printed |
+//! | `children` | what each child that ran was given is told |
 //!
-//! For each case come `case TITLE`, the output in lines `|TEXT` (the last `:TEXT` where it has no line feed), with
-//! `children` a line `ran <PROGRAM> <ARGUMENT>..` for each child and below it the input in such lines, `status
-//! N`, what became of the disk (`file NAME` with its bytes, `gone NAME`, `lock NAME TOKEN`), `lost` where memory was
-//! refused, and an empty line.
+//! A run is its output in lines `|TEXT` (the last `:TEXT` if it has no line feed), with `children` a line `ran <PROGRAM>
+//! <ARGUMENT>..` for each child and below it the input in such lines, `status N`, what became of the disk (`file NAME`
+//! with its bytes, `gone NAME`, `lock NAME TOKEN`), and `lost` if memory was refused.
 #![tactic(auto)]
 
 mod run;

@@ -1,5 +1,5 @@
 // One case: its run, and what is printed of it.
-use case_blocks::{Answer, Case, Tells, host, is_plain, number, put_disk, put_title, value, view};
+use case_blocks::{Answer, Case, Tells, host, is_case, is_plain, number, put_disk, value, view};
 use host_memory::MemHost;
 use host_port::Event;
 use mail_text::{Items, Memory, Text};
@@ -100,7 +100,6 @@ fn put_run(case: Case<'_>, host: &mut MemHost, out: &mut Answer) {
     out.put_plain(b"\n");
     let before = view(case, out);
     put_disk(&before, host, out);
-    out.put_plain(b"\n");
 }
 
 fn is_known(line: &str) -> bool {
@@ -117,13 +116,13 @@ fn put_unknown(block: &str, out: &mut Answer) {
     }
 }
 
-/// The runs of cases: each its title and its run, and each line that says nothing known.
+/// The runs of cases, and each line that says nothing known.
 pub struct Runs;
 
 impl Tells for Runs {
     fn tell(&self, case: Case<'_>, out: &mut Answer) {
         put_unknown(case.own, out);
-        if put_title(case, out) {
+        if is_case(case) {
             match host(case, out) {
                 Ok(mut host) => put_run(case, &mut host, out),
                 Err(Memory) => out.lack(),
