@@ -5,7 +5,7 @@ use Rattle.std.specs.declared.option.Option.{Option}
 use Rattle.std.specs.declared.option.Option.TheVariants.{Some, None}
 use Rattle.alias_groups.specs.GroupLaws.{DepthSuffices}
 use Rattle.alias_groups.specs.Groups.{Group, members_of}
-use Rattle.alias_groups.specs.Names.{has_name, with_name}
+use Rattle.name_lists.specs.Names.{has_name, with_name}
 use Rattle.alias_groups.specs.Unwinding.{fresh, one_each}
 use Rattle.alias_groups.specs.Walk.{Walked, closed, is_among, is_within, met, met_all, named, nothing, walk}
 use Rattle.alias_groups.proofs.FreshLemmas.{alias-old, among-new, among-old, fresh-begun, fresh-less, or-left, or-right, or-split}

@@ -12,7 +12,7 @@ use Rattle.mail_text.specs.Ascii.{same_ascii}
 use Rattle.alias_groups.specs.Expansion.{dropped_names}
 use Rattle.alias_groups.specs.GroupLaws.{DefineAppends, EachOnce, RemoveTakes}
 use Rattle.alias_groups.specs.Groups.{Group, members_of, with_members}
-use Rattle.alias_groups.specs.Names.{has_name, with_name}
+use Rattle.name_lists.specs.Names.{has_name, with_name}
 use Rattle.alias_groups.specs.Walk.{Walked, closed, is_among, is_within, met, met_all, named, nothing, walk}
 use Rattle.alias_groups.proofs.SameLemmas.{same-refl, same-symm, to-same}
 use Rattle.alias_groups.proofs.WalkLemmas.{Names}

@@ -1,5 +1,4 @@
 pub mod SameLemmas
-pub mod NameLemmas
 pub mod EntryLemmas
 pub mod GroupLemmas
 pub mod WalkLemmas

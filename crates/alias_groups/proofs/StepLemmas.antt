@@ -7,7 +7,7 @@ use Rattle.std.specs.declared.option.Option.TheVariants.{Some, None}
 use Rattle.std.specs.Map.{keys_of}
 use Rattle.std.proofs.lemmas.List.Sums.{sum_by_push}
 use Rattle.alias_groups.specs.Groups.{Group, members_of}
-use Rattle.alias_groups.specs.Names.{has_name, with_name}
+use Rattle.name_lists.specs.Names.{has_name, with_name}
 use Rattle.alias_groups.specs.Unwinding.{Fits, IsClosed, IsDone, IsNext, IsTooLong, Walking, finished, fresh, has_begun, named_in, one_each, opened_in, start, steps_of, unwound, walked}
 use Rattle.alias_groups.specs.Walk.{Walked, is_among, is_within, met, named, with_alias}
 use Rattle.alias_groups.proofs.FreshLemmas.{begun-closed, begun-now, begun-opened, fresh-begun, fresh-less}

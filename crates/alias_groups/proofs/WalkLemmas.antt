@@ -7,7 +7,7 @@ use Rattle.std.specs.Map.{keys_of}
 use Rattle.std.proofs.lemmas.Bool.{cond-true, cond-false}
 use Rattle.std.proofs.lemmas.List.{append-nil}
 use Rattle.alias_groups.specs.Groups.{Group, members_of}
-use Rattle.alias_groups.specs.Names.{has_name, with_name}
+use Rattle.name_lists.specs.Names.{has_name, with_name}
 use Rattle.alias_groups.specs.Unwinding.{below, unwound}
 use Rattle.alias_groups.specs.Walk.{Walked, closed, is_among, is_within, met, met_all, named, walk}
 

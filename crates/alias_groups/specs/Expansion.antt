@@ -2,7 +2,7 @@
 use Rattle.std.specs.Prelude.{ℕ, suc, Bool, List, [], ◌∷◌, length, if◌then◌else◌}
 use Rattle.alias_groups.specs.declared.own.Own.{Own}
 use Rattle.alias_groups.specs.Groups.{Group}
-use Rattle.alias_groups.specs.Names.{with_names}
+use Rattle.name_lists.specs.Names.{with_names}
 use Rattle.alias_groups.specs.Walk.{nothing, walk}
 
 -- the names that are left out if an alias leads to them: the own names, each once, and none with `metoo`

@@ -1,5 +1,3 @@
-pub mod Names
-pub mod Keys
 pub mod Groups
 pub mod Entries
 pub mod Walk

@@ -3,7 +3,7 @@ use Rattle.std.specs.Prelude.{ℕ, zero, suc, Bool, true, false, ◌&&◌, List,
 use Rattle.std.specs.List.{list_any}
 use Rattle.std.specs.Str.{bytes_eq}
 use Rattle.alias_groups.specs.Groups.{Group, members_of}
-use Rattle.alias_groups.specs.Names.{has_name, with_name}
+use Rattle.name_lists.specs.Names.{has_name, with_name}
 
 -- how far a walk has come: the aliases whose walk is over, and the names that were added
 pub record Walked : Type 0 where

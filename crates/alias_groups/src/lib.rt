@@ -4,7 +4,6 @@
 mod aliases;
 mod error;
 mod laws;
-mod names;
 mod own;
 mod removal;
 mod walk;
@@ -12,5 +11,4 @@ mod walk;
 pub use aliases::Aliases;
 pub use error::{AliasError, ExpandError};
 pub use laws::{aliases_are_kept, each_name_once, no_walk_is_cut};
-pub use names::Names;
 pub use own::{Own, dropped_names, each_once};

@@ -1,9 +1,9 @@
 ghost use Rattle.std.specs.Prelude.{◌≡◌, [], IfOk};
 ghost use Rattle.alias_groups.specs.Expansion.{dropped_names};
-ghost use Rattle.alias_groups.specs.Names.{with_names};
+ghost use Rattle.name_lists.specs.Names.{with_names};
 
-use crate::names::Names;
 use mail_text::{Items, Memory, Text};
+use name_lists::Names;
 use std::alloc::Global;
 
 /// The user's own names.
@@ -20,7 +20,7 @@ pub fn each_once(alloc: Global, names: &[Text]) -> Result<Items<Text>, Memory>
     ensures { IfOk result (λ once. once ≡ with_names [] names.now) }
 {
     let mut once = Names::new(alloc);
-    once.put_all(names)?;
+    once.add(names)?;
     Ok(Items::of(once.into_vec()))
 }
 
@@ -32,7 +32,7 @@ pub fn dropped_names(alloc: Global, own: &Own, metoo: bool) -> Result<Names, Mem
     let mut names = Names::new(alloc);
     if !metoo {
         names.put(own.user.bytes())?;
-        names.put_all(own.alternates.items())?;
+        names.add(own.alternates.items())?;
     }
     Ok(names)
 }

@@ -6,9 +6,9 @@ ghost use Rattle.alias_groups.specs.Unwinding.{Fits, IsClosed, IsDone, IsNamed, 
 
 use crate::aliases::Aliases;
 use crate::error::ExpandError;
-use crate::names::Names;
 use indexmap::{IndexMap, IndexSet};
 use mail_text::{Memory, Text};
+use name_lists::Names;
 use std::alloc::Global;
 use std::marker::Model;
 
@@ -60,10 +60,10 @@ impl<'a> Walk<'a> {
         ensures too_many { result ≡ Err ExpandError.TooMany
             → 10000 < length (named_in dropped.now self.old name.now).added }
     {
-        if !self.inside.is_empty() && dropped.has(name)? {
+        if !self.inside.is_empty() && dropped.look_up(name)? {
             return Ok(());
         }
-        if self.added.has(name)? {
+        if self.added.look_up(name)? {
             return Ok(());
         }
         if self.added.len() >= NAME_LIMIT {

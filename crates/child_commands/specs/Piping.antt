@@ -30,7 +30,7 @@ abbrev pub into_value : List ℕ → Desk → Option (List ℕ) → OrFault Step
 into_value name desk (Some command) = into_command desk [] command
 into_value name desk None = Err (bad_arguments name)
 
--- the same of the variable `cmd`
+-- the variable `cmd` is the command
 abbrev pub into_variable : List ℕ → Desk → OrFault Steps
 into_variable name desk = into_value name desk (value_of desk.vars (codes "cmd"))
 

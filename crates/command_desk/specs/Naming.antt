@@ -6,7 +6,8 @@ use Rattle.alias_groups.specs.Groups.{Group}
 use Rattle.alias_groups.specs.Removal as removal
 use Rattle.alias_groups.specs.declared.own.Own.{Own}
 use Rattle.mailx_macros.specs.Macros.{Definitions, begin_refusal, begun, ended, line_refusal, with_line, without}
-use Rattle.message_show.specs.FieldSets.{FieldNames, with_names}
+use Rattle.message_show.specs.FieldSets.{FieldNames}
+use Rattle.name_lists.specs.Names.{with_names}
 use Rattle.command_desk.specs.declared.desk.Desk.{Desk}
 use Rattle.command_desk.specs.declared.naming.Naming.{Naming}
 use Rattle.command_desk.specs.declared.naming.Naming.TheVariants as naming

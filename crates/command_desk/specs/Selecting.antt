@@ -9,8 +9,8 @@ use Rattle.message_list.specs.declared.list.Purpose.{Purpose}
 use Rattle.message_list.specs.Choosing as of_list
 use Rattle.command_desk.specs.declared.desk.Desk.{Desk}
 use Rattle.command_desk.specs.declared.steps.Refusal.{Refusal}
-use Rattle.command_desk.specs.declared.steps.Refusal.TheVariants.{Memory}
-use Rattle.command_desk.specs.Answers.{OrFault, IsRefusal}
+use Rattle.command_desk.specs.declared.steps.Refusal.TheVariants.{Fault, Memory}
+use Rattle.command_desk.specs.Answers.{OrFault}
 use Rattle.command_desk.specs.Faults.{bad_arguments, bad_list, no_such, none_applicable}
 
 -- the line of a list that can't be read, or that selects nothing
@@ -50,10 +50,15 @@ last_message ns = slice_index ns (length ns - 1)
 abbrev pub is_among : List ℕ → ℕ → Bool
 is_among ns n = list_any (λ m. m == n) ns
 
+-- the line by which a list is refused; none if memory ran out
+abbrev pub IsListLine : ListError → List ℕ → Type 0
+IsListLine error.Memory line = ⊥
+IsListLine e line = line ≡ list_line e
+
 -- the refusal of a list that can't be read, or that selects nothing
 abbrev pub IsListRefusal : ListError → Refusal → Type 0
-IsListRefusal error.Memory r = r ≡ Memory
-IsListRefusal e r = IsRefusal r (list_line e)
+IsListRefusal e (Fault line) = IsListLine e line
+IsListRefusal e Memory = Unit {0}
 
 -- the flag of a number, false if there is none
 abbrev pub flag_of : List Bool → ℕ → Bool

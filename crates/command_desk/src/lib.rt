@@ -23,5 +23,5 @@ pub use lists::{as_lines, copies, put_lines};
 pub use messages::{message, printed, put_heading, put_printed};
 pub use naming::Naming;
 pub use quit_rules::Open;
-pub use selecting::{Among, chosen, last_message, last_word, list_words, single};
+pub use selecting::{Among, chosen, last_message, last_word, list_line, list_words, single};
 pub use steps::{Ask, Refusal, Steps, quietly, says};

@@ -3,24 +3,34 @@ ghost use Rattle.std.specs.Prelude.{◌≡◌, ◌≤◌, ◌<◌, All, IfOk, le
 ghost use Rattle.mbox_scan.specs.declared.folder.TheConstants.{MOST_MESSAGES};
 ghost use Rattle.command_desk.specs.Answers.{Means};
 ghost use Rattle.command_desk.specs.Desks.{IsDesk, IsMessageOf};
-ghost use Rattle.command_desk.specs.Selecting.{chosen, single, list_words, last_word, last_message, is_among, flag_of, IsListRefusal, AreFlags};
+ghost use Rattle.command_desk.specs.Selecting.{chosen, single, list_words, last_word, last_message, is_among, flag_of, IsListLine, IsListRefusal, AreFlags};
 
-use crate::faults::fault;
+use crate::faults::{fault, line_of};
 use crate::{Desk, Refusal};
 use mail_text::{Items, Memory, Text};
 use message_list::{ListError, Purpose};
 use std::alloc::Global;
 use std::marker::Model;
 
-// The line that refuses a list.
-fn list_refusal(alloc: Global, error: ListError) -> Refusal
-    ensures { IsListRefusal error result }
+/// The line that refuses a list. It fails only if memory runs out, or ran out while the list was read.
+pub fn list_line(alloc: Global, error: &ListError) -> Result<Text, Memory>
+    ensures { IfOk result (IsListLine error.now) }
 {
     match error {
-        ListError::Syntax { word } => fault(alloc, word.bytes(), b": bad message list"),
-        ListError::NoSuch { word } => fault(alloc, word.bytes(), b": no such message"),
-        ListError::NoneMatch => fault(alloc, b"", b"no applicable message"),
-        ListError::Memory => Refusal::Memory,
+        ListError::Syntax { word } => line_of(alloc, word.bytes(), b": bad message list"),
+        ListError::NoSuch { word } => line_of(alloc, word.bytes(), b": no such message"),
+        ListError::NoneMatch => line_of(alloc, b"", b"no applicable message"),
+        ListError::Memory => Err(Memory),
+    }
+}
+
+// The refusal of a list.
+fn list_refusal(alloc: Global, error: &ListError) -> Refusal
+    ensures { IsListRefusal error.now result }
+{
+    match list_line(alloc, error) {
+        Ok(line) => Refusal::Fault { line },
+        Err(Memory) => Refusal::Memory,
     }
 }
 
@@ -38,7 +48,7 @@ pub fn chosen(
 {
     match message_list::chosen(alloc, words, &desk.shown, purpose) {
         Ok(numbers) => Ok(numbers),
-        Err(error) => Err(list_refusal(alloc, error)),
+        Err(error) => Err(list_refusal(alloc, &error)),
     }
 }
 

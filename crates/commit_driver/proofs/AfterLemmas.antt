@@ -64,7 +64,7 @@ loads-short s a = loads-of s reply.Short a true (λ b e. absurd (cc)) (λ e. abs
 loads-saw : (s : Step) (c : Option (List ℕ)) → IsAnswer (call_at s) (reply.Saw c) → Loads s
 loads-saw s c a = loads-of s (reply.Saw c) a true (λ b e. absurd (cc)) (λ e. absurd (cc))
 
--- the same place with another step
+-- a place whose step alone changes stays a place of its plan
 place-step : (plan : Plan) (old : Place) (s : Step) → IsPlace plan old → Fits (files_of plan) (entries_of old) s → IsPlace plan (at_step old s)
 place-step plan old s q f = record { fits = f; staged_are = q.staged_are; few = q.few; files_are = q.files_are; distinct = q.distinct; names = q.names; staged = q.staged }
 

@@ -8,9 +8,9 @@ use Rattle.host_port.specs.declared.event.Event.{Event}
 use Rattle.host_port.specs.declared.event.Event.TheVariants as event
 use Rattle.host_port.specs.declared.event.Seen.TheVariants as seen
 use Rattle.host_port.specs.Disk.{Disk}
-use Rattle.host_port.specs.Calls.{World, Rose}
+use Rattle.host_port.specs.Calls.{World}
 use Rattle.host_port.specs.Ran.{Ran}
-use Rattle.host_port.proofs.RanLemmas.{Ran-none, Ran-then, Ran-map}
+use Rattle.host_port.proofs.RanLemmas.{Ran-none, Ran-then, Ran-map, rose-on, rose-back}
 use Rattle.folder_change.specs.declared.change.Change.{Change}
 use Rattle.commit_machine.specs.Jobs.{NoMemory, Job}
 use Rattle.commit_machine.specs.Machine.{State, Seizing, Looking, Undoing, Placing, Testing, Removing, Discarding, Unlocking, Erasing, Clearing, Preparing, Publishing, Locking, Loading, Staging, Deciding, Committing, Checking, Releasing, Ended, GoOn, Answer, Reply, Went, Saw, Long, Short, Fault, next, refused, after_reply}
@@ -196,12 +196,6 @@ finished j place e es is r =
     }
 
 -- the count of faults never falls
-rose-on : (a b c : ℕ) → b ≤ c → Rose a b → Rose a c
-rose-on a b c l r = omega (arith, l, r)
-
-rose-back : (a b c : ℕ) → a ≤ b → Rose b c → Rose a c
-rose-back a b c l r = omega (arith, l, r)
-
 end-on : (a b c : ℕ) (e : End) → b ≤ c → EndCaused a b e → EndCaused a c e
 end-on a b c (end.Failed p) l h = rose-on a b c l h
 end-on a b c (end.RecordTooLarge n) l h = h

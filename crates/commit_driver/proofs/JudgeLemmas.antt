@@ -185,7 +185,7 @@ all-rest {A = A} P xs x h is all = All-tail P x (rest_of xs) (subst (λ (z : Lis
 pub all-first : {A : Type 0} (P : A → Type 0) (xs : List A) (x : A) → 1 ≤ length xs → x ≡ get_or xs 0 x → All P xs → P x
 all-first {A = A} P xs x h is all = All-head P x (rest_of xs) (subst (λ (z : List A). All P z) (head-tail xs x h is) all)
 
--- the same over a list of one at least
+-- what is judged of changes, of which there is one at least
 module _ (xs : List Change) (first : Change) (some : 1 ≤ length xs) (is : first ≡ get_or xs 0 first) (base names : List (List ℕ)) (at : ℕ) (among : has names (name_of first) ≡ true) (number : at ≡ number_in names (name_of first)) where
   split : xs ≡ first ∷ rest_of xs
   split = head-tail xs first some is

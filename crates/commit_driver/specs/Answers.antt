@@ -82,7 +82,7 @@ abbrev pub PassedSo : List ℕ → Option (List ℕ) → Passed → Type 0
 PassedSo go None p = p ≡ Before
 PassedSo go (Some bytes) p = p ≡ (if starts_with nat_eq bytes (take 47 go) then After else Before)
 
--- the same place with another step
+-- a place whose step alone changes
 abbrev pub at_step : Place → Step → Place
 at_step place s = record place { step = s }
 

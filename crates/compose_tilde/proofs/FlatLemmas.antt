@@ -185,7 +185,7 @@ pub answers-flat : AnswersStayFlat
 unfolding answer_step
 answers-flat m a h = flat-awaited m.waits a (idle m) h
 
--- the same once a step was made
+-- parts stay flat once a step was made
 pub kept-flat : (r : Result Need ComposeError) (old new : Machine) (s : Step) → HasFlatParts old.draft → IsFlatStep s → Means r new s → OnErr r (new ≡ old) → HasFlatParts new.draft
 kept-flat (Ok need) old new s h flat means stays = subst IsFlatStep means flat
 kept-flat (Err e) old new s h flat means stays = subst (λ (m : Machine). HasFlatParts m.draft) (sym stays) h

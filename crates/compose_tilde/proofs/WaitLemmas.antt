@@ -114,7 +114,7 @@ pub lines-ask : LinesAsk
 unfolding line_step
 lines-ask m line view h = waits-asked m.header m line view h
 
--- the same once a step was made
+-- a machine waits once a step was made
 pub step-waits : (r : Result Need ComposeError) (new : Machine) (s : Step) → IsWaitingStep s → Means r new s → IfOk r (λ need. IsWaiting new.waits need)
 step-waits (Ok need) new s h means = subst IsWaitingStep means h
 step-waits (Err e) new s h means = tt

@@ -65,7 +65,7 @@ abbrev pub replaced : Draft → Part → List ℕ → Option Draft
 replaced draft part.Subject line = Some (with_subject draft line)
 replaced draft (part.Names names) line = option_map (with_names draft names) (words_of line)
 
--- the same, but that an empty line leaves the value
+-- a value that a line gives; an empty line leaves it
 abbrev pub put_value : Draft → Part → List ℕ → Option Draft
 put_value draft part line = if length line == 0 then Some draft else replaced draft part line
 
@@ -73,7 +73,7 @@ put_value draft part line = if length line == 0 then Some draft else replaced dr
 abbrev pub value_line : Part → List ℕ → List ℕ
 value_line part value = if length value == 0 then [] else with_feed (field_name part ++ codes ": " ++ value)
 
--- the same of a list of names
+-- a list of names as it is printed
 abbrev pub names_line : Names → List (List ℕ) → List ℕ
 names_line names values = value_line (part.Names names) (joined (codes ", ") values)
 

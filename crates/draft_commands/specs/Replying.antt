@@ -4,7 +4,7 @@ use Rattle.std.specs.List.{fold, list_any}
 use Rattle.std.specs.declared.option.Option.TheVariants.{Some, None}
 use Rattle.std.specs.declared.result.Result.TheVariants.{Ok, Err}
 use Rattle.mailx_vars.specs.Settings.{is_set}
-use Rattle.alias_groups.specs.Names.{with_names}
+use Rattle.name_lists.specs.Names.{with_names}
 use Rattle.message_list.specs.declared.list.Purpose.TheVariants.{Live}
 use Rattle.draft_text.specs.declared.draft.Draft.{Draft}
 use Rattle.draft_text.specs.declared.reply.ReplyHow.{ReplyHow}

@@ -7,13 +7,13 @@ ghost use Rattle.command_desk.specs.Desks.{IsDesk, IsMessageOf, IsWithin};
 ghost use Rattle.draft_commands.specs.Replying.{from_writer, answer_one, has_nobody, with_answered, all_answered, answer_all, recorded_in, begun, answer_message, answer_messages, is_flipped, reply, reply_authors, followup, followup_authors};
 
 use crate::mailing::{drafting, writer};
-use alias_groups::Names;
 use command_desk::{
     Desk, Refusal, Steps, chosen, fault, last_message, message, named_after, single,
 };
 use draft_text::{Draft, ReplyError, ReplyHow, answered, reply_to};
 use mail_text::{Items, Memory, Text};
 use message_list::Purpose;
+use name_lists::Names;
 use std::alloc::Global;
 
 // Whether a variable is set.
@@ -45,7 +45,7 @@ fn put_answered(alloc: Global, desk: &Desk, n: u32, names: &mut Names) -> Result
     ensures names { OnOk result (names.new ≡ with_answered desk.now names.old n) }
 {
     let more = answered(alloc, message(desk, n).text())?;
-    names.put_all(more.items())?;
+    names.add(more.items())?;
     Ok(!more.items().is_empty())
 }
 

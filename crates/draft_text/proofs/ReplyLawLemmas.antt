@@ -7,7 +7,7 @@ use Rattle.std.proofs.lemmas.Bool.{both_ways, cases_Bool, cond-true, cond-false,
 use Rattle.std.proofs.lemmas.List.Folds.{list_any-append}
 use Rattle.mail_text.specs.Ascii.{same_ascii}
 use Rattle.alias_groups.specs.Expansion.{dropped_names}
-use Rattle.alias_groups.specs.Names.{has_name, with_name, with_names}
+use Rattle.name_lists.specs.Names.{has_name, with_name, with_names}
 use Rattle.alias_groups.proofs.LawLemmas.{none-once, once-with_name}
 use Rattle.alias_groups.proofs.SameLemmas.{to-same}
 use Rattle.draft_text.specs.declared.draft.Draft.{Draft}
@@ -66,7 +66,7 @@ each-once how own metoo text draft is =
 
 -- ---- names that are there
 
--- the same name is among the same names
+-- whether a name is among names doesn't hang on the case of its letters
 same-has : (names : Names) (a b : List ℕ) → same_ascii a b ≡ true → has_name names a ≡ has_name names b
 same-has names a b is =
     ap (λ (lower : List ℕ). list_any (λ (x : List ℕ). bytes_eq lower (str_to_ascii_lowercase x)) names) (to-same (str_to_ascii_lowercase a) (str_to_ascii_lowercase b) is)

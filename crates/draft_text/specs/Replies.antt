@@ -12,7 +12,7 @@ use Rattle.message_state.specs.Ids.{first_id}
 use Rattle.message_state.specs.Rows.{after_from, ids_named, value_or_empty}
 use Rattle.alias_groups.specs.declared.own.Own.{Own}
 use Rattle.alias_groups.specs.Expansion.{dropped_names}
-use Rattle.alias_groups.specs.Names.{has_name, with_name, with_names}
+use Rattle.name_lists.specs.Names.{has_name, with_name, with_names}
 use Rattle.draft_text.specs.declared.draft.Draft.{Draft}
 use Rattle.draft_text.specs.declared.reply.ReplyHow.{ReplyHow}
 use Rattle.draft_text.specs.declared.reply.ReplyHow.TheVariants as how

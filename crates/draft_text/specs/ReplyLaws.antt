@@ -4,7 +4,7 @@ use Rattle.std.specs.List.{IsDistinct}
 use Rattle.mail_text.specs.Ascii.{same_ascii}
 use Rattle.alias_groups.specs.declared.own.Own.{Own}
 use Rattle.alias_groups.specs.Expansion.{dropped_names}
-use Rattle.alias_groups.specs.Names.{has_name}
+use Rattle.name_lists.specs.Names.{has_name}
 use Rattle.draft_text.specs.declared.draft.Draft.{Draft}
 use Rattle.draft_text.specs.declared.reply.ReplyHow.{ReplyHow}
 use Rattle.draft_text.specs.Replies.{answered, reply}

@@ -3,17 +3,18 @@ ghost use Rattle.std.specs.Prelude.{◌≡◌, ◌≤◌, ◌++◌, [], map, tak
 ghost use Rattle.mail_headers.specs.Header.{field_named};
 ghost use Rattle.mail_addresses.specs.declared.address.Address.{Address};
 ghost use Rattle.mail_text.specs.Ascii.{same_ascii};
-ghost use Rattle.alias_groups.specs.Names.{with_names};
+ghost use Rattle.name_lists.specs.Names.{with_names};
 ghost use Rattle.message_state.specs.Rows.{IsRow, value_or_empty};
 ghost use Rattle.draft_text.specs.Addresses.{addresses_of};
 ghost use Rattle.draft_text.specs.Replies.{answer_subject, answered, bare_addresses, AreAddressees, draft_of, IsReply, or_else, reply, unless_empty, with_other, with_others};
 
 use crate::Draft;
-use alias_groups::{Names, Own, dropped_names};
+use alias_groups::{Own, dropped_names};
 use mail_addresses::{Address, AddressError, bare, read_list};
 use mail_headers::{Header, unfolded};
 use mail_text::{Items, Memory, Text, same_ascii};
 use message_state::{Row, row_of};
+use name_lists::Names;
 use std::alloc::Global;
 use thiserror::Error;
 
@@ -134,7 +135,7 @@ pub fn answered(alloc: Global, text: &[u8]) -> Result<Items<Text>, Memory>
 fn put_other(names: &mut Names, dropped: &Names, name: &[u8]) -> Result<(), Memory>
     ensures { OnOk result (names.new ≡ with_other dropped.now names.old name.now) }
 {
-    if dropped.has(name)? {
+    if dropped.look_up(name)? {
         return Ok(());
     }
     names.put(name)
@@ -191,7 +192,7 @@ fn addressees(
     ensures { IfOk result (AreAddressees how dropped.now header.now) }
 {
     let mut names = Names::new(alloc);
-    names.put_all(authors)?;
+    names.add(authors)?;
     match how {
         ReplyHow::All => with_others(alloc, header, dropped, names),
         ReplyHow::Authors => Ok((Items::of(names.into_vec()), Items::new(alloc))),

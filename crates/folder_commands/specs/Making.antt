@@ -54,7 +54,7 @@ openable_file name (Some bytes) stood = openable name bytes
 openable_file name None true = Ok []
 openable_file name None false = Err (no_such_file name)
 
--- the same, unless the file has changed
+-- a file that was made, unless it has changed
 abbrev pub openable_made : List ℕ → Made → Bool → OrFault (List ℕ)
 openable_made name (Ok file) stood = openable_file name file stood
 openable_made name (Err at) stood = Err (changed_at name at)

@@ -10,9 +10,8 @@ use Rattle.commit_record.specs.Format.{written}
 use Rattle.commit_record.specs.declared.record.Record.{Record}
 use Rattle.commit_machine.specs.Names.{record_name, new_name, right_name, staged_name}
 use Rattle.commit_machine.specs.Jobs.{TooLarge, Ending, Refused, Failed, Edit, Job, Made, all_of, prepare_of, go_of}
-use Rattle.commit_machine.specs.Machine.{State, Seizing, Looking, Undoing, Placing, Testing, Removing, Discarding, Unlocking, Erasing, Clearing, Preparing, Publishing, Locking, Loading, Staging, Deciding, Committing, Checking, Releasing, Ended, Answer, Call, ToLoad, ToStage, ToErase, ToPublish, ToLock, ToUnlock, ToSeize, ToRelease, Reply, Long, unlocking, undoing, refusing, next, refused, after_reply}
+use Rattle.commit_machine.specs.Machine.{State, Seizing, Looking, Undoing, Placing, Testing, Removing, Discarding, Unlocking, Erasing, Clearing, Preparing, Publishing, Locking, Loading, Staging, Deciding, Committing, Checking, Releasing, Ended, Answer, ToLoad, ToStage, ToErase, ToPublish, ToLock, ToUnlock, ToSeize, ToRelease, unlocking, undoing, refusing, next, refused, after_reply}
 use Rattle.commit_machine.specs.Goes.{IsOf, loads, stages, stage_fails, publishes, erases, locks, unlocks, seizes, releases, IsNext, reply, Goes}
-use Rattle.commit_driver.specs.Did.{Did}
 use Rattle.commit_driver.specs.Drives.{is_past_limit}
 
 pub erase-is : (n : List ℕ) (e : Event) → IsOf (ToErase n) e → (done : Bool) × (failed : Bool) × (e ≡ event.Erase n done failed)
@@ -73,37 +72,6 @@ pub quiet-within : (es : List Event) → AllQuiet es → list_any is_past_limit 
 quiet-within [] q = refl
 quiet-within (event.Load m s ∷ es) q = let h = q.0 in absurd (cc)
 quiet-within (e ∷ es) q = quiet-within es q.1
-
--- an answer to a load that met too many bytes
-abbrev pub is_long : Reply → Bool
-is_long (Long n) = true
-is_long r = false
-
-long-seen : (e : Event) → is_past_limit e ≡ is_long (reply e)
-long-seen (event.Load n (seen.Bytes c held)) = refl
-long-seen (event.Load n (seen.TooLarge k)) = refl
-long-seen (event.Load n seen.Failed) = refl
-long-seen (event.Load n seen.Memory) = refl
-long-seen (event.Stage n c true) = refl
-long-seen (event.Stage n c false) = refl
-long-seen (event.Publish from to done true) = refl
-long-seen (event.Publish from to done false) = refl
-long-seen (event.Erase n done true) = refl
-long-seen (event.Erase n done false) = refl
-long-seen (event.Lock n t got true) = refl
-long-seen (event.Lock n t got false) = refl
-long-seen (event.Unlock n t done true) = refl
-long-seen (event.Unlock n t done false) = refl
-long-seen (event.Seize n got true) = refl
-long-seen (event.Seize n got false) = refl
-long-seen e = refl
-
-or_false : (a : Bool) → (a || false) ≡ a
-or_false true = refl
-or_false false = refl
-
-pub did-within : (c : Call) (r : Reply) (es : List Event) → Did c r es → list_any is_past_limit es ≡ is_long r
-did-within c r es h = ap (list_any is_past_limit) h.is ∙ or_false (is_past_limit h.event) ∙ long-seen h.event ∙ ap is_long h.replies
 
 -- an end that a load past the limit leads to
 abbrev EndsLong : Ending → Type 0

@@ -54,7 +54,7 @@ pub record CommitsSafely (j : Job) (changes : List Change) (base : List (List �
   pub nothing_left : MetNoFault result → IsFresh j.actor j.token (disk d es)
   pub busy : (name : List ℕ) → result ≡ Err (error.Busy name) → MetAnother j.token d es name
 
--- the same of a commit of changes of 16 files at most; without a change there is none
+-- a commit of changes of 16 files at most is safe; without a change there is none
 abbrev pub IsSafe : List ℕ → ℕ → List Change → List (List ℕ) → Disk → List Event → Result Unit CommitError → Type 0
 IsSafe actor token [] base d es result = Unit {0}
 IsSafe actor token (c ∷ cs) base d es result = length (first_names (c ∷ cs)) ≤ 16 → CommitsSafely (job_for actor token (c ∷ cs) base) (c ∷ cs) base d es result

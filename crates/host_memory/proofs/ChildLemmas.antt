@@ -15,7 +15,7 @@ pub given-fits : (xs : List ChildAnswer) → length (next_given xs).output ≤ o
 given-fits [] = omega arith
 given-fits (a ∷ rest) = omega (arith, length-take output_limit a.output)
 
--- the same of an answer that is there
+-- an answer that is there is the next one given
 pub answer-fits : (o : Option ChildAnswer) (a : ChildAnswer) (xs : List ChildAnswer) → o ≡ Some a → IfSome o (λ b. b ≡ next_given xs) → length a.output ≤ output_limit
 answer-fits o a xs is given =
     let P : Option ChildAnswer → Type 0 = λ p. IfSome p (λ b. b ≡ next_given xs) in

@@ -5,21 +5,10 @@ use Rattle.std.specs.List.{list_any}
 use Rattle.command_desk.specs.declared.desk.Desk.{Desk}
 use Rattle.command_desk.specs.declared.steps.Ask.TheVariants as asks
 use Rattle.folder_commands.specs.Leaving.{said, left_reply, quit}
-use Rattle.session_state.specs.declared.status.Status.{Status}
-use Rattle.session_state.specs.declared.status.Status.TheVariants as status
 use Rattle.session_state.specs.Bringing.{brings}
-use Rattle.session_state.specs.Statuses.{IsEnd, IsLineEnd}
 
 said-brings-none : (text : List ℕ) → list_any brings (said text ++ asks.Exit ∷ []) ≡ false
 said-brings-none text = elim (cases_Bool (length text == 0)) [ inl y ↦ rw y refl | inr n ↦ rw n refl ]
 
 pub quit-brings-none : (desk : Desk) → list_any brings (quit desk).asks ≡ false
 quit-brings-none desk = said-brings-none (left_reply desk)
-
--- a run that a line ends is ended
-pub line-end : (e : Status) → IsLineEnd e → IsEnd e
-line-end status.Done t = tt
-line-end (status.NotSent n) t = tt
-line-end status.Refused t = tt
-line-end status.BadRecord t = tt
-line-end other never = absurd never

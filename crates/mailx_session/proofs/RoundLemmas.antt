@@ -25,11 +25,11 @@ use Rattle.session_state.specs.declared.frames.WaitingLine.{WaitingLine}
 use Rattle.session_state.specs.declared.state.SessionState.{SessionState}
 use Rattle.session_state.specs.declared.status.Status.{Status}
 use Rattle.session_state.specs.Waits.{Pending}
-use Rattle.session_state.specs.Pending.{taken, held, lines_left}
+use Rattle.session_state.specs.Pending.{taken, capped, lines_left}
 use Rattle.session_state.specs.States.{IsSession, is_drafting, next_waiting, with_count, resumed, at_rest, rested}
 use Rattle.mailx_session.specs.Rounds.{line_play, command_play, counted_play, is_empty, outside_play, is_uncounted, waiting_play, WaitingGo, none, more, ended, cut, short}
 use Rattle.session_state.proofs.RestLemmas.{no-both, rested-in, rested-out, rested-same, counted-rested}
-use Rattle.session_state.proofs.PendingLemmas.{fewer-left, lines-held, nothing-taken}
+use Rattle.session_state.proofs.PendingLemmas.{fewer-left, lines-capped, nothing-taken}
 
 no-next : {A : Type 0} {a : A} → None ≡ Some a → ⊥
 no-next e = absurd (cc e)
@@ -67,7 +67,7 @@ rested-resumed t v out same over =
     ap rested left ∙ (rested-out (resumed t []) out ∙ (rests ∙ sym (rested-out t out)))
 
 -- the line that is carried out next, where no draft is open
-pub next-out : (s : SessionState) (o : Option (WaitingLine × List Pending)) → is_drafting s ≡ false → taken (held (length s.desk.conditions) s.frames) ≡ o → next_waiting s ≡ o
+pub next-out : (s : SessionState) (o : Option (WaitingLine × List Pending)) → is_drafting s ≡ false → taken (capped (length s.desk.conditions) s.frames) ≡ o → next_waiting s ≡ o
 next-out s o out is = cond-false _ _ _ out ∙ is
 
 -- a draft that refuses a line is open, and stays so
@@ -81,20 +81,20 @@ pub released-rested : (s t : SessionState) (line : List ℕ) → RefusesLine s l
 released-rested s t line r same = ap rested same ∙ rested-in (released s) (released-inside s line r)
 
 -- a line that is carried out next waits
-next-taken : (s : SessionState) (line : WaitingLine) (fs : List Pending) → next_waiting s ≡ Some (line, fs) → taken (held (length s.desk.conditions) s.frames) ≡ Some (line, fs)
+next-taken : (s : SessionState) (line : WaitingLine) (fs : List Pending) → next_waiting s ≡ Some (line, fs) → taken (capped (length s.desk.conditions) s.frames) ≡ Some (line, fs)
 next-taken s line fs is = go (is_drafting s) refl
   where
-    go : (b : Bool) → is_drafting s ≡ b → taken (held (length s.desk.conditions) s.frames) ≡ Some (line, fs)
+    go : (b : Bool) → is_drafting s ≡ b → taken (capped (length s.desk.conditions) s.frames) ≡ Some (line, fs)
     go true e = absurd (no-next (sym (cond-true _ _ _ e) ∙ is))
     go false e = sym (cond-false _ _ _ e) ∙ is
 
 pub next-fewer : (s : SessionState) (line : WaitingLine) (fs : List Pending) → next_waiting s ≡ Some (line, fs) → lines_left fs < lines_left s.frames
 next-fewer s line fs is =
-    subst (λ (n : ℕ). lines_left fs < n) (lines-held (length s.desk.conditions) s.frames) (fewer-left (held (length s.desk.conditions) s.frames) fs line (next-taken s line fs is))
+    subst (λ (n : ℕ). lines_left fs < n) (lines-capped (length s.desk.conditions) s.frames) (fewer-left (capped (length s.desk.conditions) s.frames) fs line (next-taken s line fs is))
 
 pub next-waits : (s : SessionState) (line : WaitingLine) (fs : List Pending) → next_waiting s ≡ Some (line, fs) → s.frames ≡ [] → ⊥
 next-waits s line fs is none_left =
-    nothing-taken (held (length s.desk.conditions) s.frames) fs line (ap (held (length s.desk.conditions)) none_left) (next-taken s line fs is)
+    nothing-taken (capped (length s.desk.conditions) s.frames) fs line (ap (capped (length s.desk.conditions)) none_left) (next-taken s line fs is)
 
 next-undrafting : (s : SessionState) (line : WaitingLine) (fs : List Pending) → next_waiting s ≡ Some (line, fs) → is_drafting s ≡ false
 next-undrafting s line fs is = go (is_drafting s) refl

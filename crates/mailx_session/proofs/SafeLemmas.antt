@@ -29,7 +29,7 @@ use Rattle.session_state.specs.declared.state.SessionState.{SessionState}
 use Rattle.session_state.specs.declared.outcome.Outcome.{Outcome}
 use Rattle.session_state.specs.declared.status.Status.{Status}
 use Rattle.session_state.specs.Answers.{in_play}
-use Rattle.session_state.specs.Pending.{taken, held}
+use Rattle.session_state.specs.Pending.{taken, capped}
 use Rattle.session_state.specs.Waits.{Pending}
 use Rattle.session_state.specs.States.{is_drafting, next_waiting, with_draft, resumed, at_rest, rested}
 use Rattle.draft_text.specs.declared.draft.Draft.{Draft}
@@ -162,7 +162,7 @@ draft-rests (untold goes) = tt
 idle-waits : (s : SessionState) → is_drafting s ≡ false → rested s ≡ s → next_waiting s ≡ None
 idle-waits s free same =
     let none_left : s.frames ≡ [] = sym (ap (λ (t : SessionState). t.frames) (sym (cond-false (is_drafting s) s (at_rest s) free) ∙ same)) in
-    cond-false _ _ _ free ∙ ap (λ (fs : List Pending). taken (held (length s.desk.conditions) fs)) none_left
+    cond-false _ _ _ free ∙ ap (λ (fs : List Pending). taken (capped (length s.desk.conditions) fs)) none_left
 
 over-turn : (s : SessionState) → is_drafting s ≡ false → rested s ≡ s → turn_play (Finishing s) ≡ Ret (Go (Leaving s))
 over-turn s free same =

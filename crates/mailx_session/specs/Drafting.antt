@@ -8,8 +8,6 @@ use Rattle.mail_text.specs.Lines.{with_feed}
 use Rattle.host_port.specs.declared.event.ChildAnswer.{ChildAnswer}
 use Rattle.folder_change.specs.declared.change.Change.TheVariants.{AddRaw}
 use Rattle.mailx_vars.specs.Names.{is_short_name}
-use Rattle.message_list.specs.declared.list.ListError.{ListError}
-use Rattle.message_list.specs.declared.list.ListError.TheVariants as list_error
 use Rattle.compose_tilde.specs.declared.machine.Machine.{Machine}
 use Rattle.compose_tilde.specs.declared.need.Need.{Need}
 use Rattle.compose_tilde.specs.declared.need.Need.TheVariants as need
@@ -29,7 +27,8 @@ use Rattle.command_desk.specs.declared.steps.Steps.{Steps}
 use Rattle.command_desk.specs.Answers.{OrFault}
 use Rattle.command_desk.specs.Effects.{unchanged}
 use Rattle.command_desk.specs.FileNames.{expanded}
-use Rattle.command_desk.specs.Faults.{bad_list, no_such, none_applicable, bad_name, no_such_file, too_large, cannot_be_read}
+use Rattle.command_desk.specs.Faults.{bad_name, no_such_file, too_large, cannot_be_read}
+use Rattle.command_desk.specs.Selecting.{list_line}
 use Rattle.folder_commands.specs.Saving.{reply}
 use Rattle.read_commands.specs.declared.origin.Origin.TheVariants as origin
 use Rattle.read_commands.specs.Origins.{commanded}
@@ -42,13 +41,6 @@ use Rattle.session_asks.specs.Running.{by_shell, not_run}
 use Rattle.session_asks.specs.Beginning.{view_in}
 use Rattle.draft_sending.specs.Sending.{ended_draft, quit_draft}
 
--- the line that refuses the messages of an escape
-abbrev pub list_fault : ListError → List ℕ
-list_fault (list_error.Syntax word) = bad_list word
-list_fault (list_error.NoSuch word) = no_such word
-list_fault list_error.NoneMatch = none_applicable
-list_fault list_error.Memory = []
-
 -- an escape as its faults name it
 abbrev pub tilde : List ℕ → List ℕ
 tilde letters = codes "~" ++ letters
@@ -60,7 +52,7 @@ escape_fault (error.Unknown (Some letter)) = with_feed (tilde (letter ∷ []) ++
 escape_fault (error.BadArguments letter) = with_feed (tilde (letter ∷ []) ++ codes ": bad arguments")
 escape_fault error.NotSending = with_feed (codes "not while sending")
 escape_fault error.TooMuch = with_feed (codes "too much output")
-escape_fault (error.List e) = list_fault e
+escape_fault (error.List e) = list_line e
 escape_fault error.Memory = []
 
 -- the draft waits for no answer any more, and is as it was
@@ -97,7 +89,7 @@ abbrev pub fetched_named : SessionState → List ℕ → Play (Next SessionState
 fetched_named s name =
     if is_short_name (placed s.here name) then Ask (Try (placed s.here name)) (after_fetch s name) else refused s (bad_name name)
 
--- the same, if a word stands for a name
+-- a file that is read into the draft, if the word stands for a name
 abbrev pub fetched : SessionState → OrFault (List ℕ) → Play (Next SessionState Status)
 fetched s (Ok name) = fetched_named s name
 fetched s (Err line) = refused s line
@@ -118,7 +110,7 @@ written name bytes = record {
   effects = unchanged;
 }
 
--- the same of the file that a word stands for
+-- bytes that are written to the file that a word stands for
 abbrev pub put : SessionState → OrFault (List ℕ) → List ℕ → Play (Next SessionState Status)
 put s (Ok name) bytes = carried_out s (Ok (written name bytes))
 put s (Err line) bytes = refused s line

@@ -15,7 +15,7 @@ use Rattle.compose_tilde.specs.Laws.{IsWaiting}
 use Rattle.compose_tilde.specs.Lines.{line_step}
 use Rattle.compose_tilde.specs.Steps.{Step, Means}
 use Rattle.compose_tilde.specs.Views.{View}
-use Rattle.message_list.specs.declared.list.ListError.TheVariants as list_error
+use Rattle.command_desk.specs.Selecting.{IsListLine}
 use Rattle.session_play.specs.Play.{Play, Next}
 use Rattle.session_play.specs.Steps.{refused}
 use Rattle.session_state.specs.declared.state.SessionState.{SessionState}
@@ -31,7 +31,7 @@ IsAwaited draft answer = IfSome draft (λ m. is_waited_for m.waits answer ≡ tr
 abbrev pub AwaitsAll : Option Machine → Need → Type 0
 AwaitsAll draft need = IfSome draft (λ m. IsWaiting m.waits need)
 
--- the draft became a machine by a step, or memory was wanting, or it is as it was, and waits for nothing
+-- the draft became a machine by a step, or memory ran out, or it is as it was, and waits for nothing
 pub record IsStepped (result : Result Need ComposeError) (old : Machine) (step : Step) (new : Option Machine) : Type 0 where
   pub machine : Machine
   pub is : new ≡ Some machine
@@ -62,8 +62,8 @@ pub record RefusesLine (s : SessionState) (line : List ℕ) : Type 0 where
 
 -- the line by which an escape is refused; none if memory ran out
 abbrev pub IsEscapeFault : ComposeError → List ℕ → Type 0
-IsEscapeFault (error.List list_error.Memory) line = ⊥
 IsEscapeFault error.Memory line = ⊥
+IsEscapeFault (error.List e) line = IsListLine e line
 IsEscapeFault e line = line ≡ escape_fault e
 
 -- the play prints the line by which an escape is refused, whatever it is, and nothing else

@@ -18,7 +18,7 @@ ghost use Rattle.session_state.specs.Answers.{in_play, next_of, LineCaused, Ends
 
 use crate::lines::{carry_line, carry_out};
 use crate::startup::say_fault;
-use command_desk::{expanded, unchanged};
+use command_desk::{expanded, line_of, list_line, unchanged};
 use compose_tilde::{Answer, Compose, ComposeError, Need};
 use draft_sending::{end_draft, quit_draft};
 use folder_change::Change;
@@ -26,11 +26,10 @@ use folder_commands::reply;
 use host_port::{ChildAnswer, Host};
 use mail_text::{Items, Memory, Text};
 use mailx_vars::is_short_name;
-use message_list::ListError;
 use read_commands::{Ask as Wanted, Desk, Origin, Refusal, Steps};
 use session_asks::{by_shell, view_as};
 use session_play::{Found, try_load};
-use session_state::{Flow, RunError, SessionState, line_of, placed, refuse, say};
+use session_state::{Flow, RunError, SessionState, placed, refuse, say};
 use std::alloc::Global;
 
 // An escape as its faults name it, and what is wrong with it, as a line.
@@ -40,18 +39,6 @@ fn tilde_line(alloc: Global, letters: &[u8], fault: &[u8]) -> Result<Text, Memor
     let mut word = Text::copy(alloc, b"~")?;
     word.push(letters)?;
     line_of(alloc, word.bytes(), fault)
-}
-
-// The line that refuses the messages of an escape.
-fn list_line(alloc: Global, error: &ListError) -> Result<Text, Memory>
-    ensures { IfOk result (IsEscapeFault (ComposeError.List error.now)) }
-{
-    match error {
-        ListError::Syntax { word } => line_of(alloc, word.bytes(), b": bad message list"),
-        ListError::NoSuch { word } => line_of(alloc, word.bytes(), b": no such message"),
-        ListError::NoneMatch => line_of(alloc, b"", b"no applicable message"),
-        ListError::Memory => Err(Memory),
-    }
 }
 
 // The line that refuses an escape.

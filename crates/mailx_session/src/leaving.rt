@@ -7,7 +7,7 @@ ghost use Rattle.session_play.specs.Steps.{in_order};
 ghost use Rattle.session_state.specs.declared.state.SessionState.{SessionState};
 ghost use Rattle.session_state.specs.declared.status.Status.{Status};
 ghost use Rattle.session_state.specs.States.{IsState, IsSession, is_drafting};
-ghost use Rattle.session_state.specs.Statuses.{IsEnd};
+ghost use Rattle.session_state.specs.Statuses.{IsLineEnd};
 ghost use Rattle.session_asks.specs.Asks.{asked};
 ghost use Rattle.session_state.specs.Answers.{after_asks, in_play, LineCaused, EndsByAsk};
 ghost use Rattle.session_state.specs.Bringing.{brings};
@@ -39,7 +39,7 @@ fn end_by<H: Host>(host: &mut H, state: &SessionState, asked: Asked) -> Result<S
     requires { EndsByAsk asked }
     ensures ran { Ran H.world host.old host.new
         (λ es. Goes (left_by (after_asks state.now asked)) es (in_play (λ (e : Status). e) result)) }
-    ensures end { IfOk result IsEnd }
+    ensures end { IfOk result IsLineEnd }
     ensures cause { LineCaused (H.world.counts host.old) (H.world.counts host.new) result }
 {
     match asked {
@@ -60,7 +60,7 @@ fn leave_by<H: Host>(
     ensures ran { Ran H.world host.old host.new
         (λ es. Goes (bind (in_order asked state.old asks) left_by) es (in_play (λ (e : Status). e) result)) }
     ensures quiet { list_any brings asks ≡ false → state.new ≡ state.old }
-    ensures end { IfOk result IsEnd }
+    ensures end { IfOk result IsLineEnd }
     ensures cause { LineCaused (H.world.counts host.old) (H.world.counts host.new) result }
 {
     let asked = do_asks(alloc, state, host, asks)?;
@@ -74,7 +74,7 @@ fn leave<H: Host>(alloc: Global, state: &mut SessionState, host: &mut H) -> Resu
     ensures ran { Ran H.world host.old host.new
         (λ es. Goes (leaving state.old) es (in_play (λ (e : Status). e) result)) }
     ensures stays { state.new ≡ state.old }
-    ensures end { IfOk result IsEnd }
+    ensures end { IfOk result IsLineEnd }
     ensures cause { LineCaused (H.world.counts host.old) (H.world.counts host.new) result }
 {
     match quit(alloc, &state.desk) {
@@ -95,7 +95,7 @@ pub(crate) fn end_input<H: Host>(
         (λ es. InputEnds state.old es (in_play (λ (e : Status). e) result)) }
     ensures session { IsSession state.new }
     ensures stays { is_drafting state.old ≡ false → state.new ≡ state.old }
-    ensures end { IfOk result IsEnd }
+    ensures end { IfOk result IsLineEnd }
     ensures cause { LineCaused (H.world.counts host.old) (H.world.counts host.new) result }
 {
     match finish(alloc, state, host) {

@@ -11,7 +11,4 @@ mod startup;
 
 pub use session::Session;
 pub use session_asks::actor_of;
-pub use session_state::{
-    Flow, Frame, FrameKind, Frames, Outcome, RunError, SessionState, Status, WaitingLine, front_of,
-    placed,
-};
+pub use session_state::{Flow, RunError, SessionState, Status, front_of, placed};

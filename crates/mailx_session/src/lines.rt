@@ -9,7 +9,7 @@ ghost use Rattle.command_desk.specs.Desks.{IsDesk};
 ghost use Rattle.command_desk.specs.Effects.{effect};
 ghost use Rattle.read_commands.specs.Origins.{commanded};
 ghost use Rattle.read_commands.specs.declared.origin.Origin.{Origin};
-ghost use Rattle.session_state.specs.Pending.{held, IsTaken};
+ghost use Rattle.session_state.specs.Pending.{capped, IsTaken};
 ghost use Rattle.session_state.specs.Follows.{IsNext};
 ghost use Rattle.session_state.specs.States.{IsState, IsSession, is_drafting, resumed, rested, settled, with_frames, KeepsOthers};
 ghost use Rattle.session_state.specs.Bringing.{brings, brings_lines, room, weight};
@@ -305,12 +305,12 @@ fn waiting_line<H: Host>(
 fn next_of_frames(alloc: Global, state: &mut SessionState) -> Result<Option<WaitingLine>, Memory>
     requires { IsState state.old }
     ensures taken { IfOk result (λ line.
-        IsTaken line (held (length state.old.desk.conditions) state.old.frames) state.new.frames) }
+        IsTaken line (capped (length state.old.desk.conditions) state.old.frames) state.new.frames) }
     ensures resumed { OnOk result (state.new ≡ resumed state.old state.new.frames) }
     ensures state { IsState state.new }
     ensures err { OnErr result (state.old.frames ≢ []) }
 {
-    state.frames.hold(state.desk.conditions.depth());
+    state.frames.cap(state.desk.conditions.depth());
     match state.frames.next_line(alloc) {
         Ok(Taken { line, nested }) => {
             cut_to(&mut state.desk, nested);
@@ -324,7 +324,7 @@ fn next_of_frames(alloc: Global, state: &mut SessionState) -> Result<Option<Wait
 fn next_waiting(alloc: Global, state: &mut SessionState) -> Result<Option<WaitingLine>, Memory>
     requires { IsState state.old }
     ensures next { IfOk result (λ line. IsNext line state.old state.new) }
-    ensures held { is_drafting state.old ≡ true → (result ≡ Ok None) × (state.new ≡ state.old) }
+    ensures drafting { is_drafting state.old ≡ true → (result ≡ Ok None) × (state.new ≡ state.old) }
     ensures state { IsState state.new }
     ensures err { OnErr result (state.old.frames ≢ []) }
 {
@@ -346,7 +346,7 @@ pub(crate) fn waiting_lines<H: Host>(
         (λ es. WaitingGo state.old es (in_play (next_of (rested state.new)) result)) }
     ensures state { IsState state.new }
     ensures nothing { state.old.frames ≡ [] → DoesNothing (rested state.old) (rested state.new) result }
-    ensures held { is_drafting state.old ≡ true → DoesNothing state.old state.new result }
+    ensures drafting { is_drafting state.old ≡ true → DoesNothing state.old state.new result }
     ensures falls { is_drafting state.old ≡ false
         → OnOk result (is_drafting state.new ≡ true → weight state.new < weight state.old) }
     ensures done { IfOk result EndsByLine }

@@ -14,7 +14,7 @@ ghost use Rattle.mailx_session.specs.Rounds.{LineGoes};
 ghost use Rattle.mailx_session.specs.Safe.{Composing, Typed, Starting, Finishing, IsSafeCall};
 ghost use Rattle.mailx_session.specs.Startup.{StartupGoes};
 ghost use Rattle.mailx_session.specs.Taking.{RefusesLine};
-ghost use Rattle.session_state.specs.Statuses.{IsEnd};
+ghost use Rattle.session_state.specs.Statuses.{IsLineEnd};
 ghost use Rattle.session_play.specs.Play.{Play, Go, Goes, Last};
 ghost use Rattle.session_state.specs.Bringing.{brings_lines};
 ghost use Rattle.session_state.specs.Answers.{next_of, in_play, LineCaused, EndsByLine};
@@ -109,6 +109,7 @@ impl Session {
             (in_play (λ u. Go self.new) result) }
     {
         // the clause `safe` speaks of a token of 64 bits
+        // the clause `safe` needs its bound of 64 bits
         let _token = self.state.token;
         let begun = compose(self.alloc, &mut self.state, host, draft);
         rest(self.alloc, &mut self.state);
@@ -150,6 +151,7 @@ impl Session {
         ensures safe { IsSafeCall H.world host.old host.new self.old (Starting self.old name.now)
             (in_play (next_of self.new) result) }
     {
+        // the clause `safe` needs its bound of 64 bits
         let _token = self.state.token;
         let result = startup_file(self.alloc, &mut self.state, host, name);
         rest(self.alloc, &mut self.state);
@@ -187,6 +189,7 @@ impl Session {
         ensures safe { IsSafeCall H.world host.old host.new self.old (Typed self.old line.now)
             (in_play (next_of self.new) result) }
     {
+        // the clause `safe` needs its bound of 64 bits
         let _token = self.state.token;
         let result = input_line(self.alloc, &mut self.state, host, line);
         rest(self.alloc, &mut self.state);
@@ -200,11 +203,12 @@ impl Session {
             (λ es. InputEnds self.old es (in_play (λ (e : Status). e) result)) }
         ensures idle { rested self.old ≡ self.old }
         ensures stays { is_drafting self.old ≡ false → self.new ≡ self.old }
-        ensures end { IfOk result IsEnd }
+        ensures end { IfOk result IsLineEnd }
         ensures cause { LineCaused (H.world.counts host.old) (H.world.counts host.new) result }
         ensures safe { IsSafeCall H.world host.old host.new self.old (Finishing self.old)
             (in_play (λ (e : Status). Last e) result) }
     {
+        // the clause `safe` needs its bound of 64 bits
         let _token = self.state.token;
         end_input(self.alloc, &mut self.state, host)
     }

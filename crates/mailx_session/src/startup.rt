@@ -11,12 +11,13 @@ ghost use Rattle.mailx_session.specs.Startup.{with_startup, after_startup, start
 ghost use Rattle.session_state.specs.Answers.{in_play, next_of, LineCaused, EndsByLine};
 
 use crate::lines::waiting_lines;
+use command_desk::line_of;
 use host_port::Host;
 use mail_text::{Memory, Text};
 use mailx_vars::is_short_name;
 use read_commands::Origin;
 use session_play::{Found, try_load};
-use session_state::{Flow, Frame, FrameKind, RunError, SessionState, line_of, placed, refuse};
+use session_state::{Flow, Frame, FrameKind, RunError, SessionState, placed, refuse};
 use std::alloc::Global;
 
 /// Prints a word and what is wrong with it.

@@ -1,5 +1,5 @@
 -- How a run ends, and the last line of one that was cut off.
-use Rattle.std.proofs.Common.{◌≡◌, ◌≤◌, arith, ℕ, Bool, true, false, List, [], ◌∷◌, refl, sym, ◌∙◌, ap, subst, inl, inr, take}
+use Rattle.std.proofs.Common.{◌≡◌, arith, ℕ, Bool, true, false, List, [], ◌∷◌, refl, sym, ◌∙◌, ap, subst, inl, inr, take}
 use Rattle.std.specs.declared.result.Result.{Result}
 use Rattle.std.specs.declared.result.Result.TheVariants.{Ok, Err}
 use Rattle.host_port.specs.declared.event.Event.{Event}
@@ -9,7 +9,8 @@ use Rattle.host_port.specs.Disk.{Disk}
 use Rattle.host_port.specs.Calls.{Said}
 use Rattle.host_port.specs.Ran.{Agrees}
 use Rattle.host_port.specs.Own.{own, OnlyLooks}
-use Rattle.host_port.specs.Calls.{Counts, NeverFall, Rose}
+use Rattle.host_port.specs.Calls.{Counts, NeverFall}
+use Rattle.host_port.proofs.RanLemmas.{rose-back}
 use Rattle.session_play.specs.declared.stop.Stop.{Stop}
 use Rattle.session_play.specs.declared.stop.Stop.TheVariants as stop
 use Rattle.std.specs.Prelude.{codes, ◌++◌, if◌then◌else◌, IfOk, IfSome, IfNone, IsSome}
@@ -128,15 +129,12 @@ caused-line T old new error.Output rose = rose
 caused-line T old new error.Disk rose = rose
 caused-line T old new error.Memory c = tt
 
-rose-later : (a b c : ℕ) → a ≤ b → Rose b c → Rose a c
-rose-later a b c le rose = omega arith
-
 -- the cause of a later cut is one since before
 pub caused-since : {T : Type 0} (a b c : Counts) (r : Result T Stop) → NeverFall a b → Caused b c r → Caused a c r
 caused-since a b c (Ok t) fall u = tt
-caused-since a b c (Err stop.Input) fall rose = rose-later a.ins b.ins c.ins fall.ins rose
-caused-since a b c (Err stop.Output) fall rose = rose-later a.outs b.outs c.outs fall.outs rose
-caused-since a b c (Err stop.Disk) fall rose = rose-later a.disks b.disks c.disks fall.disks rose
+caused-since a b c (Err stop.Input) fall rose = rose-back a.ins b.ins c.ins fall.ins rose
+caused-since a b c (Err stop.Output) fall rose = rose-back a.outs b.outs c.outs fall.outs rose
+caused-since a b c (Err stop.Disk) fall rose = rose-back a.disks b.disks c.disks fall.disks rose
 caused-since a b c (Err stop.TooMuch) fall u = tt
 caused-since a b c (Err stop.Memory) fall u = tt
 

@@ -17,7 +17,7 @@ use Rattle.command_desk.specs.declared.desk.Desk.{Desk}
 use Rattle.session_state.specs.declared.state.SessionState.{SessionState}
 use Rattle.session_state.specs.declared.status.Status.{Status}
 use Rattle.session_state.specs.Waits.{Pending}
-use Rattle.session_state.specs.Pending.{taken, held, open_before}
+use Rattle.session_state.specs.Pending.{taken, capped, open_before}
 use Rattle.read_commands.specs.Origins.{is_defining}
 use Rattle.session_state.specs.States.{IsSession, is_drafting, next_waiting, with_draft, cut_to, resumed, at_rest, rested}
 use Rattle.draft_sending.specs.Sending.{ended_draft}
@@ -63,15 +63,15 @@ prompt_at_rest s is = ap (λ (t : SessionState). (s.terminal && not (is_drafting
 pub none_waits : (s : SessionState) → IsSession s → next_waiting s ≡ None
 none_waits s is = go (is_drafting s) is.frames
   where
-    go : (b : Bool) → (b ≡ false → s.frames ≡ []) → (if b then None else taken (held (length s.desk.conditions) s.frames)) ≡ None
+    go : (b : Bool) → (b ≡ false → s.frames ≡ []) → (if b then None else taken (capped (length s.desk.conditions) s.frames)) ≡ None
     go true idle = refl
-    go false idle = ap (λ (fs : List Pending). taken (held (length s.desk.conditions) fs)) (idle refl)
+    go false idle = ap (λ (fs : List Pending). taken (capped (length s.desk.conditions) fs)) (idle refl)
 
 -- nor does one where no draft is open, in a state at rest
 pub idle-waits : (s : SessionState) → is_drafting s ≡ false → rested s ≡ s → next_waiting s ≡ None
 idle-waits s free same =
     let none_left : s.frames ≡ [] = sym (ap (λ (t : SessionState). t.frames) (sym (cond-false (is_drafting s) s (at_rest s) free) ∙ same)) in
-    cond-false _ _ _ free ∙ ap (λ (fs : List Pending). taken (held (length s.desk.conditions) fs)) none_left
+    cond-false _ _ _ free ∙ ap (λ (fs : List Pending). taken (capped (length s.desk.conditions) fs)) none_left
 
 -- the prompt has nothing to do with conditions
 prompted-alike : (terminal : Bool) (nested : Option ℕ) (desk : Desk) → prompted terminal desk ≡ prompted terminal (cut_to nested desk)
@@ -142,7 +142,7 @@ line-leads env s i j line said took es out idle says takes (rounds.last {e = e} 
 line-leads env s i j line said took es out idle says takes (rounds.cut_short {cause = cause} goes) =
     cut (asked-round env s i j (Some line) said took es (Err cause) idle says takes (goes-cut (typed_play s line) (with_input j) cause es goes))
 
--- the same, of a session's line in a run
+-- a session's line leads on in a run
 pub step-leads : (env : Environment) (s t : SessionState) (i j : Input) (line : List ℕ) (r : Result (Option Status) Stop) → AsksNext s → (took es : List Event)
     → Goes (Ask (Line i) Ret) took (Ok (Some line, j)) → LineGoes s line es (after_line t r) → LeadsAfterPrompt env s i (took ++ es) (next_state t j r)
 step-leads env s t i j line (Ok None) idle took es takes goes = λ said says. line-leads env s i j line said took es (Ok (Go t)) idle says takes goes

@@ -181,7 +181,7 @@ with_name s start name =
     if is_short_name (placed s.here name) then Ask (Read (placed s.here name)) (loaded s start name)
     else ends_with start (with_feed (name ++ codes ": bad name")) status.NoFolder
 
--- the same, if the word stands for a name
+-- a run begins with a name, if the word stands for one
 abbrev pub with_name_or_fault : SessionState → Start → OrFault (List ℕ) → Play (Next RunState Status)
 with_name_or_fault s start (Ok name) = with_name s start name
 with_name_or_fault s start (Err line) = ends_with start line status.NoFolder
@@ -341,7 +341,7 @@ LeadsTo env x es (Ok (Go y)) = (rest : List Event) (out : Result Status Stop) �
 LeadsTo env x es (Ok (Last e)) = Loop (round env) x es (Ok e)
 LeadsTo env x es (Err cause) = Loop (round env) x es (Err cause)
 
--- the same, for events that follow the prompt
+-- events that follow the prompt lead on
 abbrev pub LeadsAfterPrompt : Environment → SessionState → Input → List Event → Result (Next RunState Status) Stop → Type 0
 LeadsAfterPrompt env s i es out = (said : List Event) → Goes (prompted (at_prompt s) s.desk) said (Ok tt) → LeadsTo env (Reading s i) (said ++ es) out
 

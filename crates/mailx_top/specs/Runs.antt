@@ -29,7 +29,7 @@ abbrev pub SaysLast : Bool → List ℕ → List Event → Type 0
 SaysLast true bytes es = AsFar bytes es
 SaysLast false bytes es = es ≡ []
 
--- the same of a line that may be missing
+-- what is said at the end about a line that may be missing
 abbrev pub SaysAtEnd : Bool → Option (List ℕ) → List Event → Type 0
 SaysAtEnd may None es = es ≡ []
 SaysAtEnd may (Some line) es = SaysLast may line es

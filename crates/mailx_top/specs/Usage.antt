@@ -28,7 +28,7 @@ abbrev pub EndsOr : Status → Result Status Stop → Type 0
 EndsOr wanted (Ok s) = s ≡ wanted
 EndsOr wanted (Err cause) = IsSayCut cause
 
--- the same of the opening of a folder, which isn't opened
+-- an opening that opens no folder ends with the status, or at a write that failed
 abbrev pub EndsOrOpens : Status → Result (Option Status) Stop → Type 0
 EndsOrOpens wanted (Ok None) = ⊥
 EndsOrOpens wanted (Ok (Some s)) = s ≡ wanted

@@ -16,6 +16,6 @@ start_from a = record {
   sends = option_copied a.sends;
 }
 
--- the same, if the words ask for anything
+-- what starts, if the words ask for anything
 abbrev pub may_start : Option Asked → Option Start
 may_start a = option_map start_from a

@@ -18,7 +18,7 @@ ghost use Rattle.mailx_top.specs.Wants.{start_from};
 
 use crate::sending::begin_draft;
 use crate::words::{Asked, Manner};
-use command_desk::{Refusal, expanded};
+use command_desk::{Refusal, expanded, line_of};
 use host_port::Host;
 use mail_text::{Memory, Text};
 use mailx_session::{Session, Status, placed};
@@ -77,15 +77,6 @@ fn end_with<H: Host>(
     }
 }
 
-fn fault_line(alloc: Global, name: &[u8], fault: &[u8]) -> Result<Text, Memory>
-    ensures { IfOk result (λ t. t ≡ with_feed (name.now ++ fault.now)) }
-{
-    let mut line = Text::copy(alloc, name)?;
-    line.push(fault)?;
-    line.push(b"\n")?;
-    Ok(line)
-}
-
 /// Prints what is wrong with a file, if a line may be printed, and ends.
 pub(crate) fn end_at_file<H: Host>(
     alloc: Global,
@@ -102,7 +93,7 @@ pub(crate) fn end_at_file<H: Host>(
     ensures same_end { IfOk result (λ e. e ≡ Some end) }
     ensures ends { EndsOrOpens end result }
 {
-    match fault_line(alloc, name, fault) {
+    match line_of(alloc, name, fault) {
         Ok(line) => end_with(host, start, line.bytes(), end),
         Err(Memory) => Err(Stop::Memory),
     }

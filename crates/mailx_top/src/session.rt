@@ -83,7 +83,7 @@ fn end_of_input<H: Host>(host: &mut H, session: &mut Session) -> Result<Option<S
     ensures fall { NeverFall (H.world.counts host.old) (H.world.counts host.new) }
     ensures cause { Caused (H.world.counts host.old) (H.world.counts host.new) result }
     ensures ended { IfOk result IsSome }
-    ensures plain { IfOk result (λ end. IfSome end IsEnd) }
+    ensures line_end { IfOk result (λ end. IfSome end IsLineEnd) }
 {
     match session.end(host) {
         Ok(status) => Ok(Some(status)),

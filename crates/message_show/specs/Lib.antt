@@ -1,4 +1,3 @@
 pub mod FieldSets
 pub mod Summary
 pub mod ShownText
-pub mod Keys

@@ -1,8 +1,9 @@
 ghost use Rattle.std.specs.Prelude.{◌≡◌, [], OnOk, OnErr};
-ghost use Rattle.message_show.specs.FieldSets.{with_names, keeps};
+ghost use Rattle.name_lists.specs.Names.{with_names};
+ghost use Rattle.message_show.specs.FieldSets.{keeps};
 
-use crate::names::Names;
 use mail_text::{Memory, Text};
+use name_lists::Names;
 use std::alloc::Global;
 use std::marker::Model;
 

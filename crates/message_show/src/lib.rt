@@ -4,7 +4,6 @@
 mod columns;
 mod field_sets;
 mod laws;
-mod names;
 mod summary;
 mod text;
 

@@ -5,7 +5,7 @@ use Rattle.std.specs.Option.{option_map_or}
 use Rattle.std.specs.declared.result.Result.TheVariants.{Err}
 use Rattle.mail_text.specs.Lines.{with_feed}
 use Rattle.alias_groups.specs.Groups.{Group, define_refusal, members_of}
-use Rattle.alias_groups.specs.Names.{with_names}
+use Rattle.name_lists.specs.Names.{with_names}
 use Rattle.command_desk.specs.declared.desk.Desk.{Desk}
 use Rattle.command_desk.specs.declared.naming.Naming.TheVariants as naming
 use Rattle.command_desk.specs.declared.steps.Steps.{Steps}

@@ -83,7 +83,7 @@ replies-follow (Ask act go) d es commits out (inl (answer, front, rest, more, is
     (reply-of act answer d front (rest ++ later) answered.0, replies-follow (go answer) (disk d front) rest more out goes later answered.1)
 replies-follow (Ask act go) d es commits out (inr stopped) later answered = tt
 
--- the same of all rounds of a loop
+-- replies follow in all rounds of a loop
 pub all-replies-follow : {X R : Type 0} {round : X → Play (Next X R)} {x : X} {d : Disk} {es : List Event} {commits : Commits} {out : Result R Stop}
     → (all : PassesAll round x d es commits out) (later : List Event) → AllAnswersAreDecided all → AllRepliesFollow all later
 all-replies-follow {round = round} (again {x = x} {y = y} {d = d} front rest first more is commits_is goes all) later answered =

@@ -117,7 +117,7 @@ AnswersAreDecided (Ask act go) d es commits out (inl (answer, front, rest, later
     OfAnswer act answer d front × AnswersAreDecided (go answer) (disk d front) rest later out goes
 AnswersAreDecided (Ask act go) d es commits out (inr stopped) = Unit {0}
 
--- the same of all rounds of a loop
+-- answers are decided in all rounds of a loop
 abbrev pub AllAnswersAreDecided : {X R : Type 0} {round : X → Play (Next X R)} {x : X} {d : Disk} {es : List Event} {commits : Commits} {out : Result R Stop}
     → PassesAll round x d es commits out → Type 0
 AllAnswersAreDecided {round = round} (again {x = x} {y = y} {d = d} front rest first later is commits_is goes more) =

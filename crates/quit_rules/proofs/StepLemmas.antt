@@ -105,7 +105,7 @@ part-more passes rules folder slice k t text d f x before after valid same there
     ∙ ap (λ (l : List (List ℕ)). texts_where passes rules (take k (messages_of folder)) ++ l) (sym (cond-true _ _ _ (ap passes (sym fated) ∙ pass)))
     ∙ sym (parts-texts passes rules folder slice k t d valid same there)
 
--- the same texts in a list
+-- a message that passes no test leaves the texts that a list names
 pub part-same : (passes : Fate → Bool) (rules : Rules) (folder : Open) (slice : List Mark) (k : ℕ) (t : List ℕ) (d : Mark) (f : Fate) (before after : List (List ℕ))
     → IsOpen folder → slice ≡ folder.marks → slice_get (texts_of folder.folder) k ≡ Some t
     → f ≡ fate_of rules (get_or slice k d).state → passes f ≡ false

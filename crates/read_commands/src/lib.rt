@@ -4,8 +4,8 @@
 mod dispatch;
 mod origin;
 
-pub use command_desk::{Ask, Desk, Effects, Marking, Naming, Open, Refusal, Steps};
+pub use command_desk::{Ask, Desk, Effects, Open, Refusal, Steps};
 pub use dispatch::perform;
 pub use folder_commands::quit;
-pub use origin::{Origin, is_defining, passes_over, perform_line, read_command};
+pub use origin::{Origin, is_defining, perform_line};
 pub use show_commands::{current_page, page_of, page_size};

@@ -100,11 +100,11 @@ fn built(alloc: Global, line: &CommandLine) -> Result<(), Refusal>
     }
 }
 
-/// Reads a line from somewhere. It is refused by its form, then if its command isn't built, and else if it may not
-/// stand there: a start-up file holds settings, sets of fields, aliases, macros, conditions, `source`, `echo` and
-/// comments alone, and a draft can't leave itself.
+// Reads a line from somewhere. It is refused by its form, then if its command isn't built, and else if it may not
+// stand there: a start-up file holds settings, sets of fields, aliases, macros, conditions, `source`, `echo` and
+// comments alone, and a draft can't leave itself.
 #[tactic(auto, using(command_desk::proofs::MeansLemmas::means_refused_by, command_desk::proofs::MeansLemmas::unless_none))]
-pub fn read_command(alloc: Global, origin: Origin, line: &[u8]) -> Result<CommandLine, Refusal>
+fn read_command(alloc: Global, origin: Origin, line: &[u8]) -> Result<CommandLine, Refusal>
     ensures { Means result (read_from origin line.now) }
 {
     let line = command_line(alloc, line)?;
@@ -124,9 +124,9 @@ fn turns_lines(alloc: Global, line: &[u8]) -> Result<bool, Memory>
     }
 }
 
-/// Whether a line is passed over: a condition that is open doesn't hold, and the line is none of `if`, `else` and
-/// `endif`. It may be no command.
-pub fn passes_over(alloc: Global, desk: &Desk, line: &[u8]) -> Result<bool, Memory>
+// Whether a line is passed over: a condition that is open doesn't hold, and the line is none of `if`, `else` and
+// `endif`. It may be no command.
+fn passes_over(alloc: Global, desk: &Desk, line: &[u8]) -> Result<bool, Memory>
     ensures { IfOk result (λ passes. passes ≡ passes_over desk.now line.now) }
 {
     if desk.conditions.live() {

@@ -7,7 +7,7 @@ use Rattle.std.proofs.lemmas.List.{append-nil}
 use Rattle.alias_groups.specs.declared.own.Own.{Own}
 use Rattle.alias_groups.specs.Expansion.{dropped_names, expansion}
 use Rattle.alias_groups.specs.Groups.{Group, members_of}
-use Rattle.alias_groups.specs.Names.{has_name, with_name}
+use Rattle.name_lists.specs.Names.{has_name, with_name}
 use Rattle.alias_groups.specs.Walk.{Walked, closed, is_among, is_within, met, met_all, named, nothing, walk}
 
 abbrev Names : Type 0

@@ -1,7 +1,7 @@
 -- What is asked for, by the kind of ask.
 use Rattle.std.proofs.Common.{◌≡◌, Option, ℕ, List, [], ◌∷◌, refl, sym, ap, arith, subst, inl, append_assoc, append-nil}
-use Rattle.host_port.specs.Calls.{Counts, NeverFall, Rose}
-use Rattle.std.specs.Prelude.{◌≤◌, true, false, ◌++◌, length}
+use Rattle.host_port.specs.Calls.{Counts, NeverFall}
+use Rattle.std.specs.Prelude.{true, false, ◌++◌, length}
 use Rattle.std.specs.declared.result.Result.{Result}
 use Rattle.std.specs.declared.result.Result.TheVariants.{Ok, Err}
 use Rattle.session_state.specs.declared.error.RunError.{RunError}
@@ -27,6 +27,7 @@ use Rattle.session_asks.specs.Beginning.{beginning, file_fault}
 use Rattle.session_asks.specs.Running.{after_run, run_asked}
 use Rattle.std.specs.declared.option.Option.TheVariants.{Some}
 use Rattle.host_port.specs.declared.event.ChildAnswer.{ChildAnswer}
+use Rattle.host_port.proofs.RanLemmas.{rose-back}
 use Rattle.compose_tilde.specs.Answering.{said_of}
 use Rattle.session_asks.specs.Calling.{called}
 use Rattle.session_asks.specs.Switching.{open_fault, switches}
@@ -74,14 +75,11 @@ never-fall-none c = record { ins = omega arith; outs = omega arith; disks = omeg
 pub never-fall-then : (a b c : Counts) → NeverFall a b → NeverFall b c → NeverFall a c
 never-fall-then a b c x y = record { ins = omega arith; outs = omega arith; disks = omega arith; children = omega arith }
 
-rose-later : (a b c : ℕ) → a ≤ b → Rose b c → Rose a c
-rose-later a b c le rose = omega arith
-
 -- a cause in a later call is one in the whole stretch
 pub caused-later : (a b c : Counts) (r : Result Asked RunError) → NeverFall a b → LineCaused b c r → LineCaused a c r
 caused-later a b c (Ok asked) fall t = tt
-caused-later a b c (Err error.Output) fall rose = rose-later a.outs b.outs c.outs fall.outs rose
-caused-later a b c (Err error.Disk) fall rose = rose-later a.disks b.disks c.disks fall.disks rose
+caused-later a b c (Err error.Output) fall rose = rose-back a.outs b.outs c.outs fall.outs rose
+caused-later a b c (Err error.Disk) fall rose = rose-back a.disks b.disks c.disks fall.disks rose
 caused-later a b c (Err error.Memory) fall t = tt
 
 -- all was done, and the command isn't over

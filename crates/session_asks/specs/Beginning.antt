@@ -47,7 +47,7 @@ subject_asked false = Ret tt
 abbrev pub begun_with : SessionState → Machine → Play (After SessionState Status)
 begun_with s m = bind (subject_asked (asks_subject m (view_in s))) (λ u. Ret (Over (with_draft s (Some m))))
 
--- the same of a draft that is made flat: no part but the body holds a line feed then
+-- a draft begins after it is made flat: no part but the body holds a line feed then
 abbrev pub begun : SessionState → Draft → Play (After SessionState Status)
 begun s draft = begun_with s (new_machine (flattened draft))
 

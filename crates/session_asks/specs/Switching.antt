@@ -42,7 +42,7 @@ loaded_folder desk changes name (Some (found.Bytes file false)) = made_folder ch
 abbrev pub switched : SessionState → List ℕ → List ℕ → List Row → Desk
 switched s name bytes rows = record (opened s name bytes rows) { previous = s.desk.folder.name }
 
--- the same of what is to be put on the desk
+-- a folder that was opened, with the previous one's name, as it is put on the desk
 abbrev pub laid_as : Desk → Opening → List ℕ → Desk
 laid_as desk opening previous = record (with_page (with_folder desk opening.folder opening.shown)) { previous = previous }
 

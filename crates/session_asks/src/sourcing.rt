@@ -10,11 +10,12 @@ ghost use Rattle.session_state.specs.States.{OnlyFrames};
 ghost use Rattle.session_state.specs.Answers.{after_asks, in_play, LineCaused, EndsByAsk};
 
 use crate::bringing::bring;
+use command_desk::line_of;
 use host_port::Host;
 use mail_text::{Memory, Text};
 use mailx_vars::is_short_name;
 use session_play::{Found, try_load};
-use session_state::{Asked, FrameKind, RunError, SessionState, line_of, placed, refused};
+use session_state::{Asked, FrameKind, RunError, SessionState, placed, refused};
 use std::alloc::Global;
 
 /// The most sourced files that are open at once.

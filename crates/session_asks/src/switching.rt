@@ -19,7 +19,7 @@ ghost use Rattle.session_asks.specs.Asks.{KeepsDesk, IsRefusedSo};
 use crate::asks::all_done;
 use crate::greetings::announcement;
 use crate::opening::{Opening, opening_of, page_here};
-use command_desk::{Refusal, fault};
+use command_desk::{Refusal, fault, line_of};
 use folder_change::Change;
 use folder_commands::made_folder;
 use host_port::Host;
@@ -29,7 +29,7 @@ use mbox_scan::Folder;
 use message_state::Shown;
 use read_commands::{Desk, Open};
 use session_play::{Found, try_load};
-use session_state::{Asked, RunError, SessionState, commit, line_of, names_fault, placed, say};
+use session_state::{Asked, RunError, SessionState, commit, names_fault, placed, say};
 use std::alloc::Global;
 use std::mem;
 

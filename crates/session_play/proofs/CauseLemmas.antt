@@ -267,7 +267,7 @@ abbrev Loads : Bool → Bool → List Event → List Event → Type 0
 Loads true is_cut es commits = (some_load_saw is_failed es ≡ is_cut) × (commits ≡ [])
 Loads false is_cut es commits = list_any calls.is_failed commits ≡ is_cut
 
--- the same of one act that is carried out
+-- one act that is carried out leaves no commit that failed
 abbrev Quiet : Bool → List Event → List Event → Type 0
 Quiet true es commits = Unseen is_failed es × (commits ≡ [])
 Quiet false es commits = list_any calls.is_failed commits ≡ false

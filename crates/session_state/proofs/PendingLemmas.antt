@@ -13,7 +13,7 @@ use Rattle.mail_text.proofs.LineLemmas.{lines_of-nil, lines_of-feed, lines_of-by
 use Rattle.session_state.specs.declared.frames.WaitingLine.{WaitingLine}
 use Rattle.session_state.specs.declared.frames.Taken.{Taken}
 use Rattle.session_state.specs.Waits.{Pending}
-use Rattle.session_state.specs.Pending.{taken, or_own, own_line, line_from, lines_left, held, open_before, closed, IsTaken, IsHanded}
+use Rattle.session_state.specs.Pending.{taken, or_own, own_line, line_from, lines_left, capped, open_before, closed, IsTaken, IsHanded}
 
 -- an innermost frame without a line counts for nothing
 pub taken-closed : (fs : List Pending) (f : Pending) → f.lines ≡ [] → taken (fs ++ f ∷ []) ≡ taken fs
@@ -124,6 +124,6 @@ handed-line text used at line rest is front =
     ap lines_of (sym here) ∙ front ∙ ap (λ (ls : List (List ℕ)). line ∷ ls) (sym (after-line (drop at text) line rest front) ∙ ap lines_of more)
 
 -- no line is taken from frames by telling them how many conditions are open
-pub lines-held : (depth : ℕ) (fs : List Pending) → lines_left (held depth fs) ≡ lines_left fs
-lines-held depth [] = refl
-lines-held depth (f ∷ fs) = ap (λ (n : ℕ). length f.lines + n) (lines-held depth fs)
+pub lines-capped : (depth : ℕ) (fs : List Pending) → lines_left (capped depth fs) ≡ lines_left fs
+lines-capped depth [] = refl
+lines-capped depth (f ∷ fs) = ap (λ (n : ℕ). length f.lines + n) (lines-capped depth fs)

@@ -11,7 +11,7 @@ use Rattle.command_desk.specs.declared.desk.Desk.{Desk}
 use Rattle.command_desk.specs.Desks.{IsDesk}
 use Rattle.session_state.specs.declared.state.SessionState.{SessionState}
 use Rattle.session_state.specs.Waits.{Pending}
-use Rattle.session_state.specs.Pending.{held_to, held, open_before, closed}
+use Rattle.session_state.specs.Pending.{capped_to, capped, open_before, closed}
 use Rattle.session_state.specs.States.{IsActor, IsState, IsSession, is_drafting, with_frames, with_count, still_defining, cut_to, at_rest, rested}
 
 pub no-both : {b : Bool} → b ≡ true → b ≡ false → ⊥
@@ -73,11 +73,11 @@ pub counted-rested : (s : SessionState) (n : ℕ) → is_drafting s ≡ false �
 counted-rested s n out = let same : at_rest (with_count s n) ≡ at_rest s = refl in rested-out (with_count s n) out ∙ (same ∙ sym (rested-out s out))
 
 -- frames that were told how many conditions are open leave as many as before, once they are closed
-first-held : (desk : Desk) (fs : List Pending) → cut_to (open_before (map (held_to (length desk.conditions)) fs)) desk ≡ cut_to (open_before fs) desk
-first-held desk [] = refl
-first-held desk (f ∷ fs) =
+first-capped : (desk : Desk) (fs : List Pending) → cut_to (open_before (map (capped_to (length desk.conditions)) fs)) desk ≡ cut_to (open_before fs) desk
+first-capped desk [] = refl
+first-capped desk (f ∷ fs) =
     ap (λ (cs : List Condition). record desk { conditions = cs; macros = still_defining (Some f.nested) desk.macros }) (take_min f.nested desk.conditions)
 
-pub cut-held : (desk : Desk) (fs left : List Pending) → cut_to (open_before (closed (held (length desk.conditions) fs) left)) desk ≡ cut_to (open_before (closed fs left)) desk
-cut-held desk fs left =
-    ap (λ (gs : List Pending). cut_to (open_before gs) desk) (drop-map (held_to (length desk.conditions)) (length left) fs) ∙ first-held desk (drop (length left) fs)
+pub cut-capped : (desk : Desk) (fs left : List Pending) → cut_to (open_before (closed (capped (length desk.conditions) fs) left)) desk ≡ cut_to (open_before (closed fs left)) desk
+cut-capped desk fs left =
+    ap (λ (gs : List Pending). cut_to (open_before gs) desk) (drop-map (capped_to (length desk.conditions)) (length left) fs) ∙ first-capped desk (drop (length left) fs)

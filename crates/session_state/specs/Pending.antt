@@ -43,12 +43,12 @@ IsHanded (Some line) old new = (new ≡ record old { lines = new.lines }) × (ol
 IsHanded None old new = (old.lines ≡ []) × (new ≡ old)
 
 -- the frame, if this many conditions are open: of those before it no more are still open
-abbrev pub held_to : ℕ → Pending → Pending
-held_to depth f = record f { nested = min f.nested depth }
+abbrev pub capped_to : ℕ → Pending → Pending
+capped_to depth f = record f { nested = min f.nested depth }
 
 -- each of the frames so
-abbrev pub held : ℕ → List Pending → List Pending
-held depth frames = map (held_to depth) frames
+abbrev pub capped : ℕ → List Pending → List Pending
+capped depth frames = map (capped_to depth) frames
 
 -- how many of the conditions are still open that were open before the outermost of these frames
 abbrev pub open_before : List Pending → Option ℕ

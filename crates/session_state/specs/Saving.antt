@@ -55,7 +55,7 @@ after_placed s names changes (committed.TooLarge file length) =
     if is_changed changes file then Refused (too_large (said_as s.here names file)) else Ended BadRecord
 after_placed s names changes (committed.TooManyNames count) = Refused too_many_names
 
--- the same of changes by their names as they are said
+-- a commit of changes is said by their own names
 abbrev pub after_commit : SessionState → List Change → Committed → After SessionState Status
 after_commit s changes answer = after_placed s (map name_of changes) (placed_changes s.here changes) answer
 

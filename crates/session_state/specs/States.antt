@@ -15,7 +15,7 @@ use Rattle.session_state.specs.declared.state.SessionState.{SessionState}
 use Rattle.compose_tilde.specs.declared.machine.Machine.{Machine}
 use Rattle.session_state.specs.declared.frames.WaitingLine.{WaitingLine}
 use Rattle.session_state.specs.Waits.{Pending}
-use Rattle.session_state.specs.Pending.{taken, held, open_before, closed}
+use Rattle.session_state.specs.Pending.{taken, capped, open_before, closed}
 
 -- the files of an actor of this name can have their names
 pub record IsActor (name : List ℕ) : Type 0 where
@@ -72,7 +72,7 @@ without_draft s = record s { draft = None; file = None }
 -- the line that is carried out next: one of those that wait, unless a draft is open, whose lines come from the input.
 -- Each frame is told how many conditions are open by now, so none counts one that was open before it and is closed.
 abbrev pub next_waiting : SessionState → Option (WaitingLine × List Pending)
-next_waiting s = if is_drafting s then None else taken (held (length s.desk.conditions) s.frames)
+next_waiting s = if is_drafting s then None else taken (capped (length s.desk.conditions) s.frames)
 
 -- the conditions that stay open, if this many of those before are still open
 abbrev pub still_open : Option ℕ → List Condition → List Condition

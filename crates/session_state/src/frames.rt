@@ -1,6 +1,6 @@
 // Lines from elsewhere than the input that are still to run.
 ghost use Rattle.std.specs.Prelude.{◌≡◌, ◌≢◌, ◌≤◌, ◌++◌, ◌∷◌, [], Some, length, take, IfOk, IfSome, IfNone, OnOk, OnErr};
-ghost use Rattle.session_state.specs.Pending.{frame_of, line_from, held_to, held, open_before, closed, IsTaken, IsHanded};
+ghost use Rattle.session_state.specs.Pending.{frame_of, line_from, capped_to, capped, open_before, closed, IsTaken, IsHanded};
 ghost use Rattle.session_state.specs.Bringing.{is_source, is_call, sources, calls, origin_at};
 
 use crate::FrameKind;
@@ -74,8 +74,8 @@ impl Frame {
     }
 
     // If this many conditions are open, no more of those before are still open.
-    fn hold(&mut self, depth: usize)
-        ensures { self.new ≡ held_to depth self.old }
+    fn cap(&mut self, depth: usize)
+        ensures { self.new ≡ capped_to depth self.old }
     {
         self.nested = self.nested.min(depth);
     }
@@ -193,11 +193,11 @@ impl Frames {
     }
 
     /// Tells each frame how many conditions are open, so that none counts one that was open before it and is closed.
-    pub fn hold(&mut self, depth: usize)
-        ensures { self.new ≡ held depth self.old }
+    pub fn cap(&mut self, depth: usize)
+        ensures { self.new ≡ capped depth self.old }
     {
         for frame in self.stack.iter_mut() {
-            frame.hold(depth);
+            frame.cap(depth);
         }
     }
 

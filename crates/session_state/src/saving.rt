@@ -17,6 +17,7 @@ ghost use Rattle.session_state.specs.Answers.{after_asks, in_play, stop_of, Line
 
 use crate::placing::{Targets, place, placed, said_as};
 use crate::{Asked, RunError, SessionState, Status};
+use command_desk::line_of;
 use folder_change::{Change, change_name};
 use folder_commit::is_file_name;
 use host_port::Host;
@@ -25,16 +26,6 @@ use mail_text::{Items, Memory, Text};
 use mailx_vars::is_short_name;
 use session_play::{Committed, Stop, change};
 use std::alloc::Global;
-
-/// A word and what is wrong with it, as a line.
-pub fn line_of(alloc: Global, word: &[u8], fault: &[u8]) -> Result<Text, Memory>
-    ensures { IfOk result (λ line. line ≡ with_feed (word.now ++ fault.now)) }
-{
-    let mut line = Text::copy(alloc, word)?;
-    line.push(fault)?;
-    line.push(b"\n")?;
-    Ok(line)
-}
 
 /// What is wrong with a name, for a file that a commit is to change.
 pub fn name_fault(alloc: Global, state: &SessionState, name: &[u8]) -> Result<Option<Text>, Memory>

@@ -1,6 +1,6 @@
-use Rattle.host_port.proofs.RanLemmas.{called}
+use Rattle.host_port.proofs.RanLemmas.{called, loaded-counted}
 use Rattle.commit_driver.proofs.CallLemmas.{loaded}
 use Rattle.commit_driver.proofs.calls.load.Goals as goal
 
 pub returns-clause-ran : goal.returns-clause-ran
-returns-clause-ran g c = called (loaded c.args.name.now c.load.result) c.load.ensures.start c.load.ensures.counts c.load.ensures.call
+returns-clause-ran g c = called (loaded c.args.name.now c.load.result) (loaded-counted c.args.name.now c.load.result _ _ c.load.ensures.cause) c.load.ensures.start c.load.ensures.counts c.load.ensures.call

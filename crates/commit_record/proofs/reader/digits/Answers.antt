@@ -2,7 +2,7 @@ use Rattle.std.proofs.Common.{ℕ, not, ◌∙◌, rules, tests}
 use Rattle.std.proofs.lemmas.Iterator.{YieldsList-from_slice}
 use Rattle.std.proofs.lemmas.Iterator.Search.{position_from_yields_List}
 use Rattle.std.specs.Char.{is_ascii_digit}
-use Rattle.commit_record.proofs.NumberLemmas.{prefix_len-from_position}
+use Rattle.mail_text.proofs.FrontLemmas.{prefix_len-from_position}
 use Rattle.commit_record.proofs.reader.digits.Goals as goal
 
 pub returns-clause-value : goal.returns-clause-value

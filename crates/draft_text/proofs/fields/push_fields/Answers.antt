@@ -12,7 +12,7 @@ one new old so_far name given value put is before =
     ∙ ap (λ (v : List ℕ). old ++ field_lines (filled name v)) is
     ∙ ap (λ (x : List ℕ). x ++ field_lines (filled name value)) before
 
--- the same of names or ids
+-- a field of names or ids
 list : (new old so_far name separator : List ℕ) (given texts : List (List ℕ)) → new ≡ old ++ field_lines (filled name (joined separator given)) → given ≡ texts → old ≡ so_far
     → new ≡ so_far ++ field_lines (filled name (joined separator texts))
 list new old so_far name separator given texts put is before =

@@ -17,7 +17,7 @@ lines-init g c = record {
   fall = never-fall-none _;
   ran = Ran-none (waits-none c.args.state.now);
   nothing = λ over. refl;
-  held = λ inside. refl;
+  drafting = λ inside. refl;
   light = le-refl (weight c.args.state.now);
   lighter = λ out inside. absurd (no-both inside out);
 }
@@ -49,7 +49,7 @@ lines-preserved g c =
       fall = never-fall-then _ _ _ c.lines.invariant.fall c.in-Ok-Go.ensures.ran.never_fall;
       ran = Ran-then (waits-more c.args.state.now c.lines.state c.next_waiting.new.state c.waiting_line.new.state c.in-Ok-Some.line is.0 is.1) c.lines.invariant.ran (rw c.in-Ok-Go.field-0-is at c.in-Ok-Go.ensures.ran);
       nothing = λ none. absurd (next-waits c.lines.state c.in-Ok-Some.line c.next_waiting.new.state.frames is.0 (ap (λ (s : SessionState). s.frames) (c.lines.invariant.nothing none) ∙ none));
-      held = λ inside. absurd (none-next c.args.state.now c.lines.state c.in-Ok-Some.line c.next_waiting.new.state.frames (c.lines.invariant.held inside) inside is.0);
+      drafting = λ inside. absurd (none-next c.args.state.now c.lines.state c.in-Ok-Some.line c.next_waiting.new.state.frames (c.lines.invariant.drafting inside) inside is.0);
       light = at-most _ _ _ less c.lines.invariant.light;
       lighter = λ out inside. below-most _ _ _ less c.lines.invariant.light;
     }
@@ -64,24 +64,24 @@ returns-in-Ok-None-clause-nothing g c = λ none.
     let over = rw c.in-Ok-None.field-0-is at c.in-Ok-None.ensures.next in
     (over.1 ∙ ap rested (c.lines.invariant.nothing none), refl)
 
-pub returns-in-Ok-None-clause-held : goal.returns-in-Ok-None-clause-held
-returns-in-Ok-None-clause-held g c = λ inside.
-    let same = c.lines.invariant.held inside in
-    ((c.in-Ok-None.ensures.held (ap (λ (s : SessionState). is_drafting s) same ∙ inside)).1 ∙ same, refl)
+pub returns-in-Ok-None-clause-drafting : goal.returns-in-Ok-None-clause-drafting
+returns-in-Ok-None-clause-drafting g c = λ inside.
+    let same = c.lines.invariant.drafting inside in
+    ((c.in-Ok-None.ensures.drafting (ap (λ (s : SessionState). is_drafting s) same ∙ inside)).1 ∙ same, refl)
 
-pub returns-in-Ok-End-clause-held : goal.returns-in-Ok-End-clause-held
-returns-in-Ok-End-clause-held g c = λ inside.
+pub returns-in-Ok-End-clause-drafting : goal.returns-in-Ok-End-clause-drafting
+returns-in-Ok-End-clause-drafting g c = λ inside.
     let is = rw c.in-Ok-Some.field-0-is at c.in-Ok-Some.ensures.next in
-    absurd (none-next c.args.state.now c.lines.state c.in-Ok-Some.line c.next_waiting.new.state.frames (c.lines.invariant.held inside) inside is.0)
+    absurd (none-next c.args.state.now c.lines.state c.in-Ok-Some.line c.next_waiting.new.state.frames (c.lines.invariant.drafting inside) inside is.0)
 
-pub returns-in-Err-waiting_line-clause-held : goal.returns-in-Err-waiting_line-clause-held
-returns-in-Err-waiting_line-clause-held g c = λ inside.
+pub returns-in-Err-waiting_line-clause-drafting : goal.returns-in-Err-waiting_line-clause-drafting
+returns-in-Err-waiting_line-clause-drafting g c = λ inside.
     let is = rw c.in-Ok-Some.field-0-is at c.in-Ok-Some.ensures.next in
-    absurd (none-next c.args.state.now c.lines.state c.in-Ok-Some.line c.next_waiting.new.state.frames (c.lines.invariant.held inside) inside is.0)
+    absurd (none-next c.args.state.now c.lines.state c.in-Ok-Some.line c.next_waiting.new.state.frames (c.lines.invariant.drafting inside) inside is.0)
 
-pub returns-in-Err-clause-held : goal.returns-in-Err-clause-held
-returns-in-Err-clause-held g c = λ inside.
-    absurd (cc (c.in-Err.ensures.held (ap (λ (s : SessionState). is_drafting s) (c.lines.invariant.held inside) ∙ inside)).0)
+pub returns-in-Err-clause-drafting : goal.returns-in-Err-clause-drafting
+returns-in-Err-clause-drafting g c = λ inside.
+    absurd (cc (c.in-Err.ensures.drafting (ap (λ (s : SessionState). is_drafting s) (c.lines.invariant.drafting inside) ∙ inside)).0)
 
 pub returns-in-Err-clause-ran : goal.returns-in-Err-clause-ran
 returns-in-Err-clause-ran g c = Ran-map (waits-short c.args.state.now c.lines.state) c.lines.invariant.ran

@@ -12,7 +12,7 @@ invariant-lines g l = record {
   fall : NeverFall (g.H.Host.world.counts l.fn.host) (g.H.Host.world.counts l.host);
   ran : Ran g.H.Host.world l.fn.host l.host (WaitsSoFar l.fn.state l.state);
   nothing : l.fn.state.frames ≡ [] → l.state ≡ l.fn.state;
-  held : is_drafting l.fn.state ≡ true → l.state ≡ l.fn.state;
+  drafting : is_drafting l.fn.state ≡ true → l.state ≡ l.fn.state;
   light : weight l.state ≤ weight l.fn.state;
   lighter : is_drafting l.fn.state ≡ false → is_drafting l.state ≡ true → weight l.state < weight l.fn.state;
 }

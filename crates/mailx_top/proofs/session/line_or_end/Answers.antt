@@ -1,6 +1,6 @@
 use Rattle.std.proofs.Common.{sym, ◌∙◌}
 use Rattle.host_port.proofs.RanLemmas.{Ran-map}
-use Rattle.mailx_top.proofs.EndLemmas.{ended-whatever}
+use Rattle.mailx_top.proofs.EndLemmas.{ended-whatever, line-ends}
 use Rattle.mailx_top.proofs.WaitingLemmas.{over-ends}
 use Rattle.mailx_top.proofs.session.line_or_end.Goals as goal
 
@@ -17,3 +17,6 @@ returns-then-is_over-clause-fall g c = c.end_of_input.ensures.fall
 
 pub returns-then-is_over-clause-progress : goal.returns-then-is_over-clause-progress
 returns-then-is_over-clause-progress g c = ended-whatever c.end_of_input.result _ c.end_of_input.ensures.ended
+
+pub returns-then-is_over-clause-plain : goal.returns-then-is_over-clause-plain
+returns-then-is_over-clause-plain g c = line-ends c.end_of_input.result c.end_of_input.ensures.line_end

@@ -20,6 +20,9 @@ returns-in-Ok-None-clause-progress g c = ended-whatever c.end_of_input.result _ 
 pub returns-in-Ok-Some-clause-plain : goal.returns-in-Ok-Some-clause-plain
 returns-in-Ok-Some-clause-plain g c = line-ends c.step.result c.step.ensures.line_end
 
+pub returns-in-Ok-None-clause-plain : goal.returns-in-Ok-None-clause-plain
+returns-in-Ok-None-clause-plain g c = line-ends c.end_of_input.result c.end_of_input.ensures.line_end
+
 pub returns-in-Err-clause-ran : goal.returns-in-Err-clause-ran
 returns-in-Err-clause-ran g c = λ env.
     Ran-map (take-cut-leads env c.args.session.now c.args.reader.now c.in-Err.cause c.requires) (rw c.in-Err.is at c.line.ensures.ran)

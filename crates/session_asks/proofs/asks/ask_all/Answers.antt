@@ -38,7 +38,7 @@ loop-ask-preserved g c =
           (rw on at c.do_ask-asked.ensures.ran);
     }
 
--- the same where what was answered is let go in another way
+-- an ask is done, where the arm lets the answer go otherwise
 pub loop-ask-preserved-else-not-all_done-2 : goal.loop-ask-preserved-else-not-all_done-2
 loop-ask-preserved-else-not-all_done-2 g c =
     let on = done-on c.do_ask-asked.result (cc (c.all_done.ensures, c.if-not-all_done.false)) in

@@ -1,6 +1,6 @@
 use Rattle.std.proofs.Common.{sym, ◌∙◌, ap, w64, ℤ, pos}
 use Rattle.std.proofs.lemmas.Int.{to_z-of_z}
-use Rattle.host_port.proofs.RanLemmas.{called}
+use Rattle.host_port.proofs.RanLemmas.{called, time-counted}
 use Rattle.mail_dates.specs.Zones.{zone_offset, within_years}
 use Rattle.session_play.proofs.ActLemmas.{time-told}
 use Rattle.session_play.proofs.act.now.Goals as goal
@@ -14,4 +14,4 @@ returns-in-Ok-clause-ran g c =
       is_of = c.in-Ok.ensures;
       seconds_are = c.moment_at.ensures.seconds ∙ ap (λ (n : ℤ). within_years n) read;
       offset_is = c.moment_at.ensures.offset ∙ ap (λ (n : ℤ). zone_offset zone (within_years n)) read;
-    })) c.now-seconds.ensures.start c.now-seconds.ensures.counts c.now-seconds.ensures.call
+    })) (time-counted c.now-seconds.result _ _) c.now-seconds.ensures.start c.now-seconds.ensures.counts c.now-seconds.ensures.call

@@ -1,5 +1,6 @@
 use Rattle.std.proofs.Common.{ap, arith, rules}
-use Rattle.host_port.proofs.RanLemmas.{called}
+use Rattle.host_port.proofs.RanLemmas.{called, filled-counted}
+use Rattle.std.specs.declared.result.Result.TheVariants.{Ok, Err}
 use Rattle.session_play.specs.Input.{Input}
 use Rattle.session_play.proofs.InputLemmas.{filled, filled-err, still_open, in-cause, in-ok, in-more, in-left}
 use Rattle.session_play.proofs.reader.Reader.fill.Goals as goal
@@ -9,7 +10,7 @@ take_in-requires g c = still_open c.args.self.now c.requires
 
 pub returns-in-Ok-clause-ran : goal.returns-in-Ok-clause-ran
 returns-in-Ok-clause-ran g c =
-    called (filled _ c.args.self.now c.take_in.new.self c.in-Ok.n c.fill.new.buf _ c.requires (search rules) (search rules) (search rules) c.take_in.ensures) c.fill.ensures.start c.fill.ensures.counts c.in-Ok.ensures.call
+    called (filled _ c.args.self.now c.take_in.new.self c.in-Ok.n c.fill.new.buf _ c.requires (search rules) (search rules) (search rules) c.take_in.ensures) (filled-counted (Ok c.in-Ok.n) c.fill.new.buf _ _ tt) c.fill.ensures.start c.fill.ensures.counts c.in-Ok.ensures.call
 
 pub returns-in-Ok-clause-cause : goal.returns-in-Ok-clause-cause
 returns-in-Ok-clause-cause g c = in-cause (g.H.Host.world.counts c.args.host.now) (g.H.Host.world.counts c.fill.new.self) _ c.args.self.now c.take_in.new.self _ c.take_in.ensures
@@ -30,4 +31,4 @@ pub returns-in-Ok-clause-kept : goal.returns-in-Ok-clause-kept
 returns-in-Ok-clause-kept g c = in-ok _ c.args.self.now c.take_in.new.self _ c.take_in.ensures (λ within is. in-left c.args.self.now c.take_in.new.self _ within is)
 
 pub returns-in-Err-clause-ran : goal.returns-in-Err-clause-ran
-returns-in-Err-clause-ran g c = called (filled-err c.args.self.now c.requires) c.fill.ensures.start c.fill.ensures.counts c.in-Err.ensures.call
+returns-in-Err-clause-ran g c = called (filled-err c.args.self.now c.requires) (filled-counted (Err _) c.fill.new.buf _ _ c.in-Err.ensures.cause) c.fill.ensures.start c.fill.ensures.counts c.in-Err.ensures.call

@@ -1,6 +1,6 @@
-// Names of fields in order, with an index by their lower-case forms.
+// Names in order, each once, with an index by their lower-case forms.
 ghost use Rattle.std.specs.Prelude.{◌≡◌, ◌≤◌, [], length, take, IfOk, OnOk, OnErr};
-ghost use Rattle.message_show.specs.FieldSets.{has_name, with_name, with_names};
+ghost use Rattle.name_lists.specs.Names.{has_name, with_name, with_names};
 ghost use Rattle.std.specs.Str.{str_to_ascii_lowercase};
 
 use indexmap::IndexSet;
@@ -8,13 +8,13 @@ use mail_text::{Memory, Text, same_ascii};
 use std::alloc::Global;
 use std::marker::Model;
 
-// A name of up to this many bytes is looked for in the index; a longer one would make a header's line longer than RFC
-// 5322, section 2.1.1 allows, and is compared with each name.
+// A name of up to this many bytes is looked for in the index without memory; a longer one would make a header's line
+// longer than RFC 5322, section 2.1.1 allows.
 const LONGEST: usize = 998;
 
-// Names in order of first naming, each once, ASCII case ignored. Contracts see the list of them.
+/// Names in order of first naming, each once, ASCII case ignored. Contracts see the list of them.
 #[derive(Drop)]
-pub(crate) struct Names {
+pub struct Names {
     alloc: Global,
     names: Vec<Text>,
     keys: IndexSet<Vec<u8>>,
@@ -22,7 +22,7 @@ pub(crate) struct Names {
 
 impl Model for Names {
     ghost use Rattle.std.specs.Prelude.{List, ℕ};
-    ghost use Rattle.message_show.specs.Keys.{AreKeysOf};
+    ghost use Rattle.name_lists.specs.Keys.{AreKeysOf};
 
     ghost Value = { List (List ℕ) };
 
@@ -32,8 +32,8 @@ impl Model for Names {
 }
 
 impl Names {
-    // No names. It takes no memory.
-    pub(crate) fn new(alloc: Global) -> Names
+    /// No names. It takes no memory.
+    pub fn new(alloc: Global) -> Names
         ensures { result ≡ [] }
     {
         Names {
@@ -43,14 +43,37 @@ impl Names {
         }
     }
 
-    pub(crate) fn names(&self) -> &[Text]
+    /// How many they are.
+    pub fn len(&self) -> usize
+        ensures { result ≡ length self.now }
+    {
+        self.names.len()
+    }
+
+    /// The names.
+    pub fn names(&self) -> &[Text]
         ensures { result.now ≡ self.now }
     {
         &self.names
     }
 
-    // Whether the name is among them.
-    pub(crate) fn has(&self, name: &[u8]) -> bool
+    /// The names as a vector.
+    pub fn into_vec(self) -> Vec<Text>
+        ensures { result.items ≡ self }
+    {
+        self.names
+    }
+
+    /// Whether the name is among them, in time that grows with the name alone.
+    pub fn look_up(&self, name: &[u8]) -> Result<bool, Memory>
+        ensures { IfOk result (λ has. has ≡ has_name self.now name.now) }
+    {
+        let key = lower_case(self.alloc, name)?;
+        Ok(self.keys.contains(key.as_slice()))
+    }
+
+    /// Whether the name is among them. It takes no memory, so a name of more than 998 bytes is compared with each.
+    pub fn has(&self, name: &[u8]) -> bool
         ensures { result ≡ has_name self.now name.now }
     {
         if self.names.is_empty() {
@@ -69,8 +92,8 @@ impl Names {
         }
     }
 
-    // Puts these names at the end, but for those that are there. If memory runs out, the names are as before.
-    pub(crate) fn add(&mut self, names: &[Text]) -> Result<(), Memory>
+    /// Puts these names at the end, but for those that are there. If memory runs out, the names are as before.
+    pub fn add(&mut self, names: &[Text]) -> Result<(), Memory>
         ensures ok { OnOk result (self.new ≡ with_names self.old names.now) }
         ensures err { OnErr result (self.new ≡ self.old) }
     {
@@ -90,13 +113,13 @@ impl Names {
         ensures err { OnErr result (take (length self.old) self.new ≡ self.old) }
     {
         for name in names {
-            self.add_one(name.bytes())?;
+            self.put(name.bytes())?;
         }
         Ok(())
     }
 
-    // Puts a name at the end, if it isn't there.
-    fn add_one(&mut self, name: &[u8]) -> Result<(), Memory>
+    /// Puts a name at the end, if it isn't there. If memory runs out, the names are as before.
+    pub fn put(&mut self, name: &[u8]) -> Result<(), Memory>
         ensures ok { OnOk result (self.new ≡ with_name self.old name.now) }
         ensures err { OnErr result (self.new ≡ self.old) }
     {

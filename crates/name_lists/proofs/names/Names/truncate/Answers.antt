@@ -1,7 +1,7 @@
 use Rattle.std.proofs.Common.{map, ap, ◌∙◌, sym}
 use Rattle.std.specs.Str.{str_to_ascii_lowercase}
-use Rattle.message_show.proofs.NameLemmas.{Key, keys-take}
-use Rattle.message_show.proofs.names.Names.truncate.Goals as goal
+use Rattle.name_lists.proofs.NameLemmas.{Key, keys-take}
+use Rattle.name_lists.proofs.names.Names.truncate.Goals as goal
 
 pub invariant_of-self : goal.invariant_of-self
 invariant_of-self c =

@@ -1,7 +1,7 @@
 use Rattle.std.proofs.Common.{List, ℕ, ap, ◌∙◌, ◌++◌, ◌∷◌, [], sym}
-use Rattle.message_show.specs.FieldSets.{with_name}
-use Rattle.message_show.proofs.NameLemmas.{inserted, present}
-use Rattle.message_show.proofs.names.Names.add_one.Goals as goal
+use Rattle.name_lists.specs.Names.{with_name}
+use Rattle.name_lists.proofs.NameLemmas.{inserted, present}
+use Rattle.name_lists.proofs.names.Names.put.Goals as goal
 
 pub returns-in-Ok-clause-ok : goal.returns-in-Ok-clause-ok
 returns-in-Ok-clause-ok c =

@@ -1,6 +1,6 @@
 use Rattle.std.proofs.Common.{◌≡◌, length, take, drop}
-use Rattle.message_show.specs.FieldSets.{with_names}
-use Rattle.message_show.proofs.names.Names.add_each.Given as goal
+use Rattle.name_lists.specs.Names.{with_names}
+use Rattle.name_lists.proofs.names.Names.add_each.Given as goal
 
 abbrev pub invariant-loop-name : goal.invariant-loop-name
 invariant-loop-name l =

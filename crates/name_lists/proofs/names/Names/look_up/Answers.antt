@@ -1,7 +1,7 @@
 use Rattle.std.proofs.Common.{List, ℕ, ap, ◌∙◌}
-use Rattle.alias_groups.specs.Names.{has_name}
-use Rattle.alias_groups.proofs.NameLemmas.{found-has}
-use Rattle.alias_groups.proofs.names.Names.has.Goals as goal
+use Rattle.name_lists.specs.Names.{has_name}
+use Rattle.name_lists.proofs.NameLemmas.{found-has}
+use Rattle.name_lists.proofs.names.Names.look_up.Goals as goal
 
 pub returns : goal.returns
 returns c =

@@ -4,8 +4,8 @@ use Rattle.std.specs.List.{list_any}
 use Rattle.std.specs.Str.{bytes_eq, str_to_ascii_lowercase}
 use Rattle.std.specs.declared.alloc.Global.{Global}
 use Rattle.std.proofs.lemmas.Bool.{cond-true, cond-false}
-use Rattle.message_show.specs.FieldSets.{has_name, with_name}
-use Rattle.message_show.specs.Keys.{AreKeysOf}
+use Rattle.name_lists.specs.Names.{has_name, with_name}
+use Rattle.name_lists.specs.Keys.{AreKeysOf}
 
 abbrev pub Key : Type 0
 Key = Vec ℕ Global

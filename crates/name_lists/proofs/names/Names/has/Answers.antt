@@ -1,8 +1,8 @@
 use Rattle.std.proofs.Common.{List, ℕ, ap, ◌∙◌}
 use Rattle.std.specs.Str.{str_to_ascii_lowercase}
-use Rattle.message_show.specs.FieldSets.{has_name}
-use Rattle.message_show.proofs.NameLemmas.{found-has}
-use Rattle.message_show.proofs.names.Names.has.Goals as goal
+use Rattle.name_lists.specs.Names.{has_name}
+use Rattle.name_lists.proofs.NameLemmas.{found-has}
+use Rattle.name_lists.proofs.names.Names.has.Goals as goal
 
 pub returns-then-name-le-LONGEST : goal.returns-then-name-le-LONGEST
 returns-then-name-le-LONGEST c =
