@@ -7,6 +7,7 @@ use folder_change::Change;
 use mail_text::{Items, Memory, Text};
 use std::alloc::{AllocError, Global};
 use thiserror::Error;
+use thread_view::ViewKind;
 
 /// What a command asks for.
 #[derive(Drop)]
@@ -31,6 +32,10 @@ pub enum Ask {
         name: Text,
         changes: Items<Change>,
         reply: Text,
+    },
+    /// The messages of the folder are shown in a view of this kind.
+    View {
+        kind: ViewKind,
     },
     /// A message is begun: the lines of the input that follow are those of this draft, until it is over. A line feed in
     /// a part of it but the body stands for a space. If a file is named the message is recorded in it: the name stands

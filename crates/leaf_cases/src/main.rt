@@ -29,6 +29,7 @@ mod states;
 mod texts;
 mod vars;
 mod view;
+mod views;
 
 use case::{fields_of, words};
 use case_blocks::Answer;
@@ -52,6 +53,7 @@ fn put_answer(kept: &mut Kept, case: &[Text], out: &mut Answer) {
         "messages" => kept.keep_messages(case, out),
         "list" => lists::put(kept.messages.items(), case, out),
         "show" => show::put(kept.messages.items(), case, out),
+        "view" => views::put(kept.messages.items(), case, out),
         "words" => asked::put(case, out),
         "condition" => conditions::put(case, out),
         "alias" => aliases::put(case, out),

@@ -79,7 +79,7 @@ fn size_in(front: &[u8]) -> Option<u64> {
 }
 
 // The rows of the messages.
-fn rows_of(alloc: Global, messages: &[Text]) -> Result<Items<Row>, Memory>
+pub fn rows_of(alloc: Global, messages: &[Text]) -> Result<Items<Row>, Memory>
     ensures { IfOk result (λ rows. All (λ row. IfSome row.moment IsInYears) rows) }
 {
     let mut rows = Items::new(alloc);

@@ -4,5 +4,6 @@ pub mod DraftLemmas
 pub mod FinishLemmas
 pub mod LeavingLemmas
 pub mod RoundLemmas
+pub mod StartupLemmas
 pub mod UncountedLemmas
 pub mod SafeLemmas

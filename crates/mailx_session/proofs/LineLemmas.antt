@@ -242,6 +242,7 @@ module _ (actor : List ℕ) (token : ℕ) (o : Outcome) where
   ask-obeys s (asks.Source name) like = sourced-obeys s name (source_fault s name) like
   ask-obeys s (asks.Lines text) like = called-ends (nat_lt (calls s.frames) call_limit) (with_lines kinds.Call s text) like
   ask-obeys s (asks.Open name changes reply) like = switches-obeys s name changes reply (open_fault s name changes) refl like
+  ask-obeys s (asks.View kind) like = (tt, λ view. like)
   ask-obeys s (asks.Draft draft file current) like = beginning-obeys s draft file current (file_fault s file) like
   ask-obeys s (asks.Child command input) like = (tt, λ a. run-obeys s a like)
   ask-obeys s asks.Exit like = ap status_of like.1

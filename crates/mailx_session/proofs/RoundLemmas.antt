@@ -81,7 +81,7 @@ pub released-rested : (s t : SessionState) (line : List ℕ) → RefusesLine s l
 released-rested s t line r same = ap rested same ∙ rested-in (released s) (released-inside s line r)
 
 -- a line that is carried out next waits
-next-taken : (s : SessionState) (line : WaitingLine) (fs : List Pending) → next_waiting s ≡ Some (line, fs) → taken (capped (length s.desk.conditions) s.frames) ≡ Some (line, fs)
+pub next-taken : (s : SessionState) (line : WaitingLine) (fs : List Pending) → next_waiting s ≡ Some (line, fs) → taken (capped (length s.desk.conditions) s.frames) ≡ Some (line, fs)
 next-taken s line fs is = go (is_drafting s) refl
   where
     go : (b : Bool) → is_drafting s ≡ b → taken (capped (length s.desk.conditions) s.frames) ≡ Some (line, fs)
@@ -96,7 +96,7 @@ pub next-waits : (s : SessionState) (line : WaitingLine) (fs : List Pending) →
 next-waits s line fs is none_left =
     nothing-taken (capped (length s.desk.conditions) s.frames) fs line (ap (capped (length s.desk.conditions)) none_left) (next-taken s line fs is)
 
-next-undrafting : (s : SessionState) (line : WaitingLine) (fs : List Pending) → next_waiting s ≡ Some (line, fs) → is_drafting s ≡ false
+pub next-undrafting : (s : SessionState) (line : WaitingLine) (fs : List Pending) → next_waiting s ≡ Some (line, fs) → is_drafting s ≡ false
 next-undrafting s line fs is = go (is_drafting s) refl
   where
     go : (b : Bool) → is_drafting s ≡ b → is_drafting s ≡ false

@@ -1,5 +1,5 @@
 -- The start-up files.
-use Rattle.std.specs.Prelude.{◌≡◌, ℕ, List, [], ◌∷◌, ◌++◌, length, if◌then◌else◌}
+use Rattle.std.specs.Prelude.{◌≡◌, ℕ, false, List, [], ◌∷◌, ◌++◌, length, if◌then◌else◌}
 use Rattle.std.specs.declared.option.Option.{Option}
 use Rattle.std.specs.declared.option.Option.TheVariants.{Some, None}
 use Rattle.std.specs.declared.result.Result.{Result}
@@ -18,12 +18,17 @@ use Rattle.session_state.specs.declared.state.SessionState.{SessionState}
 use Rattle.session_state.specs.declared.status.Status.{Status}
 use Rattle.session_state.specs.Pending.{frame_of}
 use Rattle.session_state.specs.Placing.{placed}
-use Rattle.session_state.specs.States.{with_frames}
+use Rattle.session_state.specs.Bringing.{AllFrom}
+use Rattle.session_state.specs.States.{is_drafting, with_frames}
 use Rattle.mailx_session.specs.Rounds.{WaitingGo}
 
 -- the lines of a start-up file wait, in front of others, of which there are none if no draft is open
 abbrev pub with_startup : SessionState → List ℕ → SessionState
 with_startup s text = with_frames s (s.frames ++ frame_of Startup kind.Startup (length s.desk.conditions) text ∷ [])
+
+-- no lines wait but those of start-up files, unless a draft is open
+abbrev pub WaitsInStartup : SessionState → Type 0
+WaitsInStartup s = is_drafting s ≡ false → AllFrom Startup s.frames
 
 -- what follows the load of a start-up file that is said by this name: its lines wait, an absent one is passed over, and else what is
 -- wrong is printed; a lock on it is no matter

@@ -7,17 +7,18 @@ ghost use Rattle.session_play.specs.Play.{Goes};
 ghost use Rattle.session_play.specs.Steps.{refused};
 ghost use Rattle.command_desk.specs.Desks.{IsDesk};
 ghost use Rattle.command_desk.specs.Effects.{effect};
-ghost use Rattle.read_commands.specs.Origins.{commanded};
+ghost use Rattle.read_commands.specs.Origins.{commanded, is_startup_ask};
 ghost use Rattle.read_commands.specs.declared.origin.Origin.{Origin};
 ghost use Rattle.session_state.specs.Pending.{capped, IsTaken};
 ghost use Rattle.session_state.specs.Follows.{IsNext};
-ghost use Rattle.session_state.specs.States.{IsState, IsSession, is_drafting, resumed, rested, settled, with_frames, KeepsOthers};
-ghost use Rattle.session_state.specs.Bringing.{brings, brings_lines, room, weight};
+ghost use Rattle.session_state.specs.States.{IsState, IsSession, is_drafting, resumed, rested, settled, with_frames};
+ghost use Rattle.session_state.specs.Bringing.{brings, brings_lines, weight, StaysAlike, OnlyBrings};
 ghost use Rattle.mailx_session.specs.Rounds.{line_play, command_play, typed_play, dropped_play, counted_play, outside_play, is_uncounted, waiting_play, WaitingGo, LineGoes};
 ghost use Rattle.mailx_session.specs.Sessions.{carried_out, StaysAtEnd, DoesNothing};
+ghost use Rattle.mailx_session.specs.Startup.{WaitsInStartup};
 ghost use Rattle.mailx_session.specs.Drafting.{released};
 ghost use Rattle.mailx_session.specs.Taking.{RefusesLine};
-ghost use Rattle.session_state.specs.Answers.{next_of, in_play, LineCaused, EndsByLine};
+ghost use Rattle.session_state.specs.Answers.{next_of, in_play, LineCaused, EndsByLine, EndsFrom, GoesOn};
 
 use crate::drafting::draft_line;
 use host_port::Host;
@@ -62,9 +63,9 @@ pub(crate) fn carry_out<H: Host>(
     ensures ran { Ran H.world host.old host.new
         (λ es. Goes (carried_out state.old (Ok steps)) es (in_play (next_of state.new) result)) }
     ensures state { IsState state.new }
-    ensures others { KeepsOthers state.old state.new }
-    ensures room { room state.new.frames ≤ room state.old.frames }
+    ensures brings { OnlyBrings state.old state.new }
     ensures quiet { list_any brings steps.asks ≡ false → state.new.frames ≡ state.old.frames }
+    ensures goes_on { list_all is_startup_ask steps.asks ≡ true → GoesOn result }
     ensures done { IfOk result EndsByLine }
     ensures end { IfOk result (StaysAtEnd state.old state.new) }
     ensures err { OnErr result (state.new ≡ state.old) }
@@ -97,14 +98,13 @@ pub(crate) fn carry_line<H: Host>(
     ensures ran { Ran H.world host.old host.new
         (λ es. Goes (line_play origin state.old line.now) es (in_play (next_of state.new) result)) }
     ensures state { IsState state.new }
-    ensures others { KeepsOthers state.old state.new }
-    ensures room { room state.new.frames ≤ room state.old.frames }
+    ensures brings { OnlyBrings state.old state.new }
     ensures quiet { brings_lines (commanded origin state.old.desk line.now) ≡ false
         → state.new.frames ≡ state.old.frames }
     ensures refused { (fault : List ℕ) → commanded origin state.old.desk line.now ≡ Err fault → state.new ≡ state.old }
     ensures goes_on { (fault : List ℕ) → commanded origin state.old.desk line.now ≡ Err fault
         → IfOk result (λ flow. flow ≡ Flow.Go) }
-    ensures done { IfOk result EndsByLine }
+    ensures done { EndsFrom origin result }
     ensures end { IfOk result (StaysAtEnd state.old state.new) }
     ensures err { OnErr result (state.new ≡ state.old) }
     ensures cause { LineCaused (H.world.counts host.old) (H.world.counts host.new) result }
@@ -186,7 +186,8 @@ fn drop_waiting<H: Host>(
         (λ es. Goes (dropped_play state.old) es (in_play (next_of state.new) result)) }
     ensures state { IsState state.new }
     ensures falls { weight state.new ≤ weight state.old }
-    ensures done { IfOk result EndsByLine }
+    ensures alike { StaysAlike state.old.frames state.new.frames }
+    ensures goes_on { GoesOn result }
     ensures cause { LineCaused (H.world.counts host.old) (H.world.counts host.new) result }
 {
     match say(host, b"too many commands\n") {
@@ -210,7 +211,8 @@ fn counted_line<H: Host>(
         (λ es. Goes (counted_play state.old line.now) es (in_play (next_of state.new) result)) }
     ensures state { IsState state.new }
     ensures falls { weight state.new ≤ weight state.old }
-    ensures done { IfOk result EndsByLine }
+    ensures alike { StaysAlike state.old.frames state.new.frames }
+    ensures done { EndsFrom line.now.origin result }
     ensures cause { LineCaused (H.world.counts host.old) (H.world.counts host.new) result }
 {
     if state.count < COMMAND_LIMIT {
@@ -240,7 +242,8 @@ fn outside_line<H: Host>(
         (λ es. Goes (outside_play state.old line.now) es (in_play (next_of state.new) result)) }
     ensures state { IsState state.new }
     ensures falls { weight state.new ≤ weight state.old }
-    ensures done { IfOk result EndsByLine }
+    ensures alike { StaysAlike state.old.frames state.new.frames }
+    ensures done { EndsFrom line.now.origin result }
     ensures cause { LineCaused (H.world.counts host.old) (H.world.counts host.new) result }
 {
     if is_empty(line.text.bytes()) {
@@ -271,7 +274,8 @@ fn uncounted_line<H: Host>(
         (λ es. Goes (line_play origin state.old line.now) es (in_play (next_of state.new) result)) }
     ensures state { IsState state.new }
     ensures falls { weight state.new ≤ weight state.old }
-    ensures done { IfOk result EndsByLine }
+    ensures alike { StaysAlike state.old.frames state.new.frames }
+    ensures done { EndsFrom origin result }
     ensures cause { LineCaused (H.world.counts host.old) (H.world.counts host.new) result }
 {
     carry_line(alloc, state, host, origin, line)
@@ -289,7 +293,8 @@ fn waiting_line<H: Host>(
         (λ es. Goes (waiting_play state.old line.now) es (in_play (next_of state.new) result)) }
     ensures state { IsState state.new }
     ensures falls { weight state.new ≤ weight state.old }
-    ensures done { IfOk result EndsByLine }
+    ensures alike { StaysAlike state.old.frames state.new.frames }
+    ensures done { EndsFrom line.now.origin result }
     ensures cause { LineCaused (H.world.counts host.old) (H.world.counts host.new) result }
 {
     if is_uncounted(&state.desk) {
@@ -349,6 +354,7 @@ pub(crate) fn waiting_lines<H: Host>(
     ensures drafting { is_drafting state.old ≡ true → DoesNothing state.old state.new result }
     ensures falls { is_drafting state.old ≡ false
         → OnOk result (is_drafting state.new ≡ true → weight state.new < weight state.old) }
+    ensures goes_on { WaitsInStartup state.old → GoesOn result }
     ensures done { IfOk result EndsByLine }
     ensures cause { LineCaused (H.world.counts host.old) (H.world.counts host.new) result }
 {

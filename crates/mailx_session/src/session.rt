@@ -1,5 +1,5 @@
 // A session and its lines.
-ghost use Rattle.std.specs.Prelude.{◌≡◌, true, false, List, ℕ, Ok, Err, IfOk, OnOk, OnErr};
+ghost use Rattle.std.specs.Prelude.{◌≡◌, ◌≢◌, true, false, List, ℕ, Ok, Err, IfOk, IfErr, OnOk, OnErr};
 ghost use Rattle.host_port.specs.Ran.{Ran};
 ghost use Rattle.session_state.specs.declared.status.Status.{Status};
 ghost use Rattle.mailx_vars.specs.Environment.{knows_user};
@@ -140,16 +140,17 @@ impl Session {
     }
 
     /// Reads one start-up file and carries out its lines, of which each must be one that a start-up file may hold. An
-    /// absent file is passed over; what is wrong with another is printed, and the session goes on.
-    pub fn startup<H: Host>(&mut self, name: &[u8], host: &mut H) -> Result<Flow, RunError>
+    /// absent file is passed over; what is wrong with another is printed. None of its lines ends the run, and no fault
+    /// of the disk cuts one off.
+    pub fn startup<H: Host>(&mut self, name: &[u8], host: &mut H) -> Result<(), RunError>
         ensures ran { Ran H.world host.old host.new
-            (λ es. StartupGoes self.old name.now es (in_play (next_of self.new) result)) }
+            (λ es. StartupGoes self.old name.now es (in_play (λ u. Go self.new) result)) }
         ensures before { IsSession self.old }
         ensures after { IsSession self.new }
-        ensures done { IfOk result EndsByLine }
+        ensures no_disk { IfErr result (λ error. error ≢ RunError.Disk) }
         ensures cause { LineCaused (H.world.counts host.old) (H.world.counts host.new) result }
         ensures safe { IsSafeCall H.world host.old host.new self.old (Starting self.old name.now)
-            (in_play (next_of self.new) result) }
+            (in_play (λ u. Go self.new) result) }
     {
         // the clause `safe` needs its bound of 64 bits
         let _token = self.state.token;

@@ -1,14 +1,14 @@
 // The start-up files.
-ghost use Rattle.std.specs.Prelude.{◌≡◌, ◌++◌, true, IfOk, OnOk, OnErr};
+ghost use Rattle.std.specs.Prelude.{◌≡◌, ◌++◌, true, IfErr, IfOk, OnOk, OnErr};
 ghost use Rattle.mail_text.specs.Lines.{with_feed};
 ghost use Rattle.host_port.specs.Ran.{Ran};
-ghost use Rattle.session_play.specs.Play.{Play, Ask, Try, Goes};
+ghost use Rattle.session_play.specs.Play.{Play, Ask, Try, Go, Goes};
 ghost use Rattle.session_play.specs.Steps.{refused};
 ghost use Rattle.mailx_vars.specs.Names.{is_short_name};
 ghost use Rattle.session_state.specs.Placing.{placed};
 ghost use Rattle.session_state.specs.States.{IsState, IsSession, rested};
-ghost use Rattle.mailx_session.specs.Startup.{with_startup, after_startup, startup_play, StartupGoes};
-ghost use Rattle.session_state.specs.Answers.{in_play, next_of, LineCaused, EndsByLine};
+ghost use Rattle.mailx_session.specs.Startup.{with_startup, after_startup, startup_play, StartupGoes, WaitsInStartup};
+ghost use Rattle.session_state.specs.Answers.{in_play, next_of, LineCaused, IsNoDiskFault};
 
 use crate::lines::waiting_lines;
 use command_desk::line_of;
@@ -32,6 +32,7 @@ pub(crate) fn say_fault<H: Host>(
         (λ es. Goes (refused state.now (with_feed (name.now ++ fault.now))) es
         (in_play (next_of state.now) result)) }
     ensures go { IfOk result (λ flow. flow ≡ Flow.Go) }
+    ensures no_disk { IfErr result IsNoDiskFault }
     ensures cause { LineCaused (H.world.counts host.old) (H.world.counts host.new) result }
 {
     match line_of(alloc, name, fault) {
@@ -53,6 +54,7 @@ fn bring(state: &mut SessionState, text: Text) -> Result<(), Memory>
 }
 
 // What follows the load of a start-up file.
+#[tactic(auto, using(crate::proofs::StartupLemmas::session_waits, crate::proofs::StartupLemmas::brought_waits))]
 fn after_load<H: Host>(
     alloc: Global,
     state: &mut SessionState,
@@ -64,6 +66,8 @@ fn after_load<H: Host>(
     ensures ran { Ran H.world host.old host.new
         (λ es. Goes (after_startup state.old name.now found) es (in_play (next_of state.new) result)) }
     ensures go { IfOk result (λ flow. flow ≡ Flow.Go) }
+    ensures no_disk { IfErr result IsNoDiskFault }
+    ensures waits { WaitsInStartup state.new }
     ensures state { IsState state.new }
     ensures cause { LineCaused (H.world.counts host.old) (H.world.counts host.new) result }
 {
@@ -84,6 +88,7 @@ fn after_load<H: Host>(
 }
 
 // Loads a start-up file that is said by this name.
+#[tactic(auto, using(crate::proofs::StartupLemmas::session_waits))]
 fn load_named<H: Host>(
     alloc: Global,
     state: &mut SessionState,
@@ -97,6 +102,8 @@ fn load_named<H: Host>(
         (λ es. Goes (Ask (Try file.now) (after_startup state.old name.now)) es
         (in_play (next_of state.new) result)) }
     ensures go { IfOk result (λ flow. flow ≡ Flow.Go) }
+    ensures no_disk { IfErr result IsNoDiskFault }
+    ensures waits { WaitsInStartup state.new }
     ensures state { IsState state.new }
     ensures cause { LineCaused (H.world.counts host.old) (H.world.counts host.new) result }
 {
@@ -107,6 +114,7 @@ fn load_named<H: Host>(
 }
 
 // Loads a start-up file, the one that its name stands for, or prints what is wrong with its name.
+#[tactic(auto, using(crate::proofs::StartupLemmas::session_waits))]
 fn load_placed<H: Host>(
     alloc: Global,
     state: &mut SessionState,
@@ -119,6 +127,8 @@ fn load_placed<H: Host>(
     ensures ran { Ran H.world host.old host.new
         (λ es. Goes (startup_play state.old name.now) es (in_play (next_of state.new) result)) }
     ensures go { IfOk result (λ flow. flow ≡ Flow.Go) }
+    ensures no_disk { IfErr result IsNoDiskFault }
+    ensures waits { WaitsInStartup state.new }
     ensures state { IsState state.new }
     ensures cause { LineCaused (H.world.counts host.old) (H.world.counts host.new) result }
 {
@@ -130,6 +140,7 @@ fn load_placed<H: Host>(
 }
 
 // Loads a start-up file, or prints what is wrong with its name.
+#[tactic(auto, using(crate::proofs::StartupLemmas::session_waits))]
 fn load_file<H: Host>(
     alloc: Global,
     state: &mut SessionState,
@@ -140,6 +151,8 @@ fn load_file<H: Host>(
     ensures ran { Ran H.world host.old host.new
         (λ es. Goes (startup_play state.old name.now) es (in_play (next_of state.new) result)) }
     ensures go { IfOk result (λ flow. flow ≡ Flow.Go) }
+    ensures no_disk { IfErr result IsNoDiskFault }
+    ensures waits { WaitsInStartup state.new }
     ensures state { IsState state.new }
     ensures cause { LineCaused (H.world.counts host.old) (H.world.counts host.new) result }
 {
@@ -149,22 +162,25 @@ fn load_file<H: Host>(
     }
 }
 
-/// Loads a start-up file and carries out its lines.
+/// Loads a start-up file and carries out its lines, none of which ends the run.
 pub(crate) fn startup_file<H: Host>(
     alloc: Global,
     state: &mut SessionState,
     host: &mut H,
     name: &[u8],
-) -> Result<Flow, RunError>
+) -> Result<(), RunError>
     requires { IsSession state.old }
     ensures ran { Ran H.world host.old host.new
-        (λ es. StartupGoes state.old name.now es (in_play (next_of (rested state.new)) result)) }
+        (λ es. StartupGoes state.old name.now es (in_play (λ u. Go (rested state.new)) result)) }
     ensures state { IsState state.new }
-    ensures done { IfOk result EndsByLine }
+    ensures no_disk { IfErr result IsNoDiskFault }
     ensures cause { LineCaused (H.world.counts host.old) (H.world.counts host.new) result }
 {
     match load_file(alloc, state, host, name) {
-        Ok(_) => waiting_lines(alloc, state, host),
+        Ok(_) => match waiting_lines(alloc, state, host) {
+            Ok(_) => Ok(()),
+            Err(error) => Err(error),
+        },
         Err(error) => Err(error),
     }
 }

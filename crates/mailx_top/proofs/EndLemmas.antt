@@ -33,7 +33,7 @@ use Rattle.std.specs.declared.option.Option.{Option}
 use Rattle.std.specs.declared.option.Option.TheVariants.{Some, None}
 use Rattle.mailx_top.specs.Statuses.{status_at_stop, line_at_stop}
 use Rattle.mailx_top.specs.Usage.{IsSayCut, IsStartCut, IsStartEnd, EndsOr, EndsOrOpens, StopsAtStart, EndsUnopened, EndsAsNamed, IsBadName, IsOrCut, IsUnopened}
-use Rattle.mailx_top.specs.Words.{Start}
+use Rattle.mailx_top.specs.Words.{Start, options_of}
 use Rattle.mailx_top.specs.Sending.{mode_with}
 use Rattle.session_asks.specs.Openings.{first_state}
 use Rattle.mailx_top.specs.Runs.{AsFar, SaysLast, SaysAtCut, SaysAtEnd, SaysUnlessIdle}
@@ -105,9 +105,9 @@ named-short env (Some start) s named = (tt, λ bad. tt)
 
 -- the actor is the same whatever user's mailbox is opened
 pub actor-same : (env : Environment) (start : Start) → (first_of env (Some start)).actor ≡ actor_in env
-actor-same env start = go start.user
+actor-same env start = go (options_of start).user
   where
-    go : (user : Option (List ℕ)) → (first_state env.folder (pairs_for user env.pairs) (mode_with start.sends) env.terminal start.by_recipient env.token).actor ≡ actor_in env
+    go : (user : Option (List ℕ)) → (first_state env.folder (pairs_for user env.pairs) (mode_with start) env.terminal (options_of start).named env.token).actor ≡ actor_in env
     go None = refl
     go (Some user) = refl
 
@@ -124,10 +124,10 @@ actor-read env places is = ap (λ (p : Places). actor_for (front_of env.folder) 
     go false same = absurd (cc same)
 
 -- an error has the cause of its cut
-pub caused-line : (T : Type 0) (old new : Counts) (e : RunError) → LineCaused {T = T} old new (Err e) → Caused {T = Option Status} old new (Err (stop_of e))
-caused-line T old new error.Output rose = rose
-caused-line T old new error.Disk rose = rose
-caused-line T old new error.Memory c = tt
+pub caused-line : (T U : Type 0) (old new : Counts) (e : RunError) → LineCaused {T = T} old new (Err e) → Caused {T = U} old new (Err (stop_of e))
+caused-line T U old new error.Output rose = rose
+caused-line T U old new error.Disk rose = rose
+caused-line T U old new error.Memory c = tt
 
 -- the cause of a later cut is one since before
 pub caused-since : {T : Type 0} (a b c : Counts) (r : Result T Stop) → NeverFall a b → Caused b c r → Caused a c r

@@ -13,7 +13,7 @@ use Rattle.mbox_scan.specs.Mailbox.{list_of, is_mailbox, texts_of, starts, piece
 use Rattle.mail_text.specs.Lines.{with_feed}
 use Rattle.session_state.specs.Placing.{placed}
 use Rattle.session_state.specs.declared.status.Status.TheVariants as status
-use Rattle.mailx_top.specs.Words.{Start, is_silent}
+use Rattle.mailx_top.specs.Words.{manner_of}
 use Rattle.host_port.specs.declared.event.Event.{Event}
 use Rattle.session_play.specs.declared.stop.Stop.{Stop}
 use Rattle.session_play.specs.Play.{Goes, Next}
@@ -22,9 +22,7 @@ use Rattle.session_state.specs.declared.state.SessionState.{SessionState}
 use Rattle.session_state.specs.declared.status.Status.{Status}
 use Rattle.session_asks.specs.Openings.{Opens}
 use Rattle.command_words.specs.declared.options.Options.{Options}
-use Rattle.mailx_top.specs.Openings.{OpensBadly}
-use Rattle.mailx_top.specs.Usage.{IsNoName, IsBadlyNamed}
-use Rattle.mailx_top.specs.Meaning.{RunState, Opening, opening, sending, starting, starting_with, folder_name, with_name, with_name_or_fault, loaded, unheld, is_no_mail, with_list, begun, greeted, heard, ends_with}
+use Rattle.mailx_top.specs.Meaning.{RunState, starting, folder_name, with_name, with_name_or_fault, loaded, unheld, is_no_mail, with_list, begun, greeted, heard, ends_with}
 use Rattle.std.specs.Prelude.{◌++◌, codes, Bool, false}
 use Rattle.mail_text.specs.declared.text.Text.{Text}
 use Rattle.session_play.specs.declared.act.Found.{Found}
@@ -47,62 +45,48 @@ unfolding list_of
 listed b some = ⊎_elim (λ t. cond-true _ _ _ t) (λ f. absurd (some (cond-false _ _ _ f))) (cases_Bool (is_mailbox b))
 
 -- a session that was opened goes as it is greeted
-pub begun-goes : (old : SessionState) (start : Start) (name bytes : List ℕ) (s : SessionState) (out : Result (Next RunState Status) Stop) → Opens old name bytes s → (es : List Event) → Goes (greeted start.manner s) es out
-    → Goes (begun old start name bytes (texts_of bytes)) es out
-begun-goes old start name bytes s out (rows, are, is) es went =
-    let G : SessionState → Type 0 = λ d. Goes (greeted start.manner d) es out in
+pub begun-goes : (old : SessionState) (o : Options) (name bytes : List ℕ) (s : SessionState) (out : Result (Next RunState Status) Stop) → Opens old name bytes s → (es : List Event) → Goes (greeted (manner_of o) s) es out
+    → Goes (begun old o name bytes (texts_of bytes)) es out
+begun-goes old o name bytes s out (rows, are, is) es went =
+    let G : SessionState → Type 0 = λ d. Goes (greeted (manner_of o) d) es out in
     inl (rows, [], es, refl, (refl, are), subst G is went)
 
 -- what is heard of a line
-pub heard-none : (start : Start) (line : List ℕ) → is_silent start.manner ≡ true → heard start line ≡ []
-heard-none start line is = cond-true _ _ _ is
+pub heard-none : (o : Options) (line : List ℕ) → o.exists ≡ true → heard o line ≡ []
+heard-none o line is = cond-true _ _ _ is
 
-pub heard-all : (start : Start) (line : List ℕ) → is_silent start.manner ≡ false → heard start line ≡ line
-heard-all start line is = cond-false _ _ _ is
+pub heard-all : (o : Options) (line : List ℕ) → o.exists ≡ false → heard o line ≡ line
+heard-all o line is = cond-false _ _ _ is
 
 abbrev pub failed : ScanError → Result Folder ScanError
 failed e = Err e
 
-pub with-no-list : (s : SessionState) (start : Start) (name b : List ℕ) (l : Option (List (List ℕ))) → l ≡ None → with_list s start name b l ≡ ends_with start (with_feed (name ++ codes ": not a mailbox")) status.NoFolder
-with-no-list s start name b l is = ap (with_list s start name b) is
+pub with-no-list : (s : SessionState) (o : Options) (name b : List ℕ) (l : Option (List (List ℕ))) → l ≡ None → with_list s o name b l ≡ ends_with o (with_feed (name ++ codes ": not a mailbox")) status.NoFolder
+with-no-list s o name b l is = ap (with_list s o name b) is
 
-pub with-held : (s : SessionState) (start : Start) (name : List ℕ) (f : Found) (b : Option Text) (h : Bool) → f ≡ found.Bytes b h → h ≡ true → loaded s start name f ≡ ends_with start (with_feed (name ++ codes ": busy")) status.Refused
-with-held s start name f b h is held = ap (loaded s start name) (is ∙ ap (λ h. found.Bytes b h) held)
+pub with-held : (s : SessionState) (o : Options) (name : List ℕ) (f : Found) (b : Option Text) (h : Bool) → f ≡ found.Bytes b h → h ≡ true → loaded s o name f ≡ ends_with o (with_feed (name ++ codes ": busy")) status.Refused
+with-held s o name f b h is held = ap (loaded s o name) (is ∙ ap (λ h. found.Bytes b h) held)
 
 -- a file that isn't held, with no mail or with some
-pub with-unheld : (s : SessionState) (start : Start) (name : List ℕ) (bytes : Option (List ℕ)) (b : Bool) → is_no_mail start.named bytes ≡ b → loaded s start name (found.Bytes bytes false) ≡ unheld s start name bytes b
-with-unheld s start name bytes b is = ap (unheld s start name bytes) is
+pub with-unheld : (s : SessionState) (o : Options) (name : List ℕ) (bytes : Option (List ℕ)) (b : Bool) → is_no_mail o.folder bytes ≡ b → loaded s o name (found.Bytes bytes false) ≡ unheld s o name bytes b
+with-unheld s o name bytes b is = ap (unheld s o name bytes) is
 
-pub with-large : (s : SessionState) (start : Start) (name : List ℕ) (f : Found) (n : ℕ) → f ≡ found.TooLarge n → loaded s start name f ≡ ends_with start (with_feed (name ++ codes ": too large")) status.NoFolder
-with-large s start name f n is = ap (loaded s start name) is
+pub with-large : (s : SessionState) (o : Options) (name : List ℕ) (f : Found) (n : ℕ) → f ≡ found.TooLarge n → loaded s o name f ≡ ends_with o (with_feed (name ++ codes ": too large")) status.NoFolder
+with-large s o name f n is = ap (loaded s o name) is
 
-pub with-bad-name : (s : SessionState) (start : Start) (name : List ℕ) → is_short_name (placed s.here name) ≡ false → with_name s start name ≡ ends_with start (with_feed (name ++ codes ": bad name")) status.NoFolder
-with-bad-name s start name bad = cond-false _ _ _ bad
-
--- a draft begins in the folder's place, which has no bad name then
-pub begins-draft : (s : SessionState) (start : Start) (o : Options) → start.sends ≡ Some o → opening (Some start) s ≡ sending s o
-begins-draft s start o is = ap (λ (sends : Option Options). starting_with sends s start) is
-
-pub no-bad-name : {A : Type 0} (s : SessionState) (start : Start) (o : Options) → start.sends ≡ Some o → OpensBadly (Opening (Some start) s) → A
-no-bad-name s start o is bad = absurd (subst (λ (sends : Option Options). IsBadlyNamed sends s.here (folder_name s start)) is bad)
-
--- or the folder is opened
-pub begins-folder : (s : SessionState) (start : Start) → start.sends ≡ None → opening (Some start) s ≡ starting s start
-begins-folder s start is = ap (λ (sends : Option Options). starting_with sends s start) is
-
-pub its-bad-name : (s : SessionState) (start : Start) → start.sends ≡ None → OpensBadly (Opening (Some start) s) → IsNoName s.here (folder_name s start)
-its-bad-name s start is bad = subst (λ (sends : Option Options). IsBadlyNamed sends s.here (folder_name s start)) is bad
+pub with-bad-name : (s : SessionState) (o : Options) (name : List ℕ) → is_short_name (placed s.here name) ≡ false → with_name s o name ≡ ends_with o (with_feed (name ++ codes ": bad name")) status.NoFolder
+with-bad-name s o name bad = cond-false _ _ _ bad
 
 -- what is done by what the folder's word stands for
-pub with-word : (s : SessionState) (start : Start) (name : OrFault (List ℕ)) → folder_name s start ≡ name → starting s start ≡ with_name_or_fault s start name
-with-word s start name is = ap (with_name_or_fault s start) is
+pub with-word : (s : SessionState) (o : Options) (name : OrFault (List ℕ)) → folder_name s o ≡ name → starting s o ≡ with_name_or_fault s o name
+with-word s o name is = ap (with_name_or_fault s o) is
 
 -- what is done where more messages start than a folder may have
-pub with-too-many : (s : SessionState) (start : Start) (name b : List ℕ) (count : ℕ) (e : ScanError) → e ≡ scan.TooMany count → (list_of b ≡ None → failed e ≡ failed scan.NotAMailbox) → count ≡ length (starts b) → message_limit < count
-    → with_list s start name b (list_of b) ≡ ends_with start (with_feed (name ++ codes ": too many messages")) status.NoFolder
-with-too-many s start name b count e found some is many =
+pub with-too-many : (s : SessionState) (o : Options) (name b : List ℕ) (count : ℕ) (e : ScanError) → e ≡ scan.TooMany count → (list_of b ≡ None → failed e ≡ failed scan.NotAMailbox) → count ≡ length (starts b) → message_limit < count
+    → with_list s o name b (list_of b) ≡ ends_with o (with_feed (name ++ codes ": too many messages")) status.NoFolder
+with-too-many s o name b count e found some is many =
     let long : nat_lt message_limit (length (texts_of b)) ≡ true = lt-ltb _ _ (let e = length-texts b in omega arith) in
-    ap (with_list s start name b) (listed b (λ none. other (ap failed (sym found) ∙ some none))) ∙ cond-true _ _ _ long
+    ap (with_list s o name b) (listed b (λ none. other (ap failed (sym found) ∙ some none))) ∙ cond-true _ _ _ long
   where
     other : failed (scan.TooMany count) ≡ failed scan.NotAMailbox → ⊥
     other h = absurd (cc h)

@@ -23,8 +23,9 @@ use Rattle.session_state.specs.declared.state.SessionState.{SessionState}
 use Rattle.session_state.specs.declared.status.Status.{Status}
 use Rattle.session_state.specs.declared.status.Status.TheVariants as status
 use Rattle.mailx_top.specs.declared.environment.Environment.{Environment}
-use Rattle.mailx_top.specs.Words.{Start}
-use Rattle.mailx_top.specs.Meaning.{RunState, Recovering, Opening, Reading, Finishing, Leaving, round, opening, starting, starting_with, folder_name, with_name_or_fault, loaded, is_no_mail, heard, ends_with, says_and_ends, is_opening, usage, Preparing}
+use Rattle.mailx_top.specs.Words as words
+use Rattle.mailx_top.specs.Words.{Start, options_of}
+use Rattle.mailx_top.specs.Meaning.{RunState, Recovering, Opening, Reading, Finishing, Leaving, round, opening, starting, folder_name, with_name_or_fault, loaded, is_no_mail, heard, ends_with, says_and_ends, is_opening, usage, Preparing}
 use Rattle.session_play.specs.Acts.{AllActs, AllEnds, loads_nothing}
 use Rattle.session_play.specs.Causes.{some_load_saw, counted, events_at}
 use Rattle.session_play.proofs.SawLemmas.{Unseen, goes-unseen}
@@ -35,8 +36,7 @@ use Rattle.mailx_session.proofs.ObeyLemmas.{obeys-acts, obeys-ends}
 use Rattle.mailx_top.proofs.LeavingLemmas.{EndsBy, end_at, opened_end, quit-end, last-ends}
 use Rattle.command_words.specs.declared.options.Options.{Options}
 use Rattle.mailx_top.proofs.RoundLemmas.{IsBefore, IsReadingState, Standing, after_act, May, OpenEnds, Opens, end_by, end_of, loaded-obeys, sent, asks_in, begun_in, sent-obeys, goes-on, goes-over}
-use Rattle.mailx_top.specs.Openings.{OpensBadly, OpenedBadly, saw_held, is_no_folder, is_named, saw_no_mail, saw_no_folder, OpensNoMail, OpensNone, IsOpeningExplained}
-use Rattle.mailx_top.specs.Usage.{IsNoName, IsBadlyNamed}
+use Rattle.mailx_top.specs.Openings.{IsNoName, OpensBadly, OpenedBadly, saw_held, is_no_folder, is_named, saw_no_mail, saw_no_folder, OpensNoMail, OpensNone, IsOpeningExplained}
 
 line-end : (o : Outcome) (e : Status) → EndsBy o e → opened_end e ≡ end_at (is_refused_before o e)
 line-end o e by_line = quit-end o false e by_line
@@ -223,8 +223,8 @@ matches-none es u = record {
     none-opens (inl never) = absurd never
     none-opens (inr h) = no-end _ u.folder h
 
-matches-bad : (Bad : Type 0) (start : Start) (es : List Event) → Bad → LoadsNone start.named es → Matches Bad (Some start) es status.NoFolder
-matches-bad Bad start es bad u = record {
+matches-bad : (Bad : Type 0) (o : Options) (es : List Event) → Bad → LoadsNone o.folder es → Matches Bad (Some (words.Opens o)) es status.NoFolder
+matches-bad Bad o es bad u = record {
   refused = λ is. absurd (cc is);
   held = λ h. no-end _ u.held h;
   none = λ is. inl bad;
@@ -233,9 +233,9 @@ matches-bad Bad start es bad u = record {
   opens_no_mail = λ h. no-end _ u.mail h;
 }
 
-matches-found : (Bad : Type 0) (start : Start) (name : List ℕ) (rest : List Event) (f : Found) → (Bad → ⊥) → LoadsNone start.named rest
-    → Matches Bad (Some start) (event.Load name (seen_of f) ∷ rest) (end_of start.named f)
-matches-found Bad start name rest (found.Bytes bytes true) good u = record {
+matches-found : (Bad : Type 0) (o : Options) (name : List ℕ) (rest : List Event) (f : Found) → (Bad → ⊥) → LoadsNone o.folder rest
+    → Matches Bad (Some (words.Opens o)) (event.Load name (seen_of f) ∷ rest) (end_of o.folder f)
+matches-found Bad o name rest (found.Bytes bytes true) good u = record {
   refused = λ is. refl;
   held = λ h. refl;
   none = λ is. absurd (cc is);
@@ -244,10 +244,10 @@ matches-found Bad start name rest (found.Bytes bytes true) good u = record {
   opens_no_mail = λ h. no-end _ u.mail h;
 }
   where
-    opens : OpensNone Bad (Some start) (event.Load name (seen.Bytes bytes true) ∷ rest) → status.Refused ≡ status.NoFolder
+    opens : OpensNone Bad (Some (words.Opens o)) (event.Load name (seen.Bytes bytes true) ∷ rest) → status.Refused ≡ status.NoFolder
     opens (inl bad) = absurd (good bad)
     opens (inr h) = no-end _ u.folder h
-matches-found Bad start name rest (found.TooLarge n) good u = record {
+matches-found Bad o name rest (found.TooLarge n) good u = record {
   refused = λ is. absurd (cc is);
   held = λ h. no-end _ u.held h;
   none = λ is. inr refl;
@@ -255,8 +255,8 @@ matches-found Bad start name rest (found.TooLarge n) good u = record {
   no_mail = λ is. absurd (cc is);
   opens_no_mail = λ h. no-end _ u.mail h;
 }
-matches-found Bad start name rest (found.Bytes bytes false) good u =
-    let m = is_no_mail start.named bytes in
+matches-found Bad o name rest (found.Bytes bytes false) good u =
+    let m = is_no_mail o.folder bytes in
     let n = is_no_folder bytes in
     record {
       refused = refuses m n;
@@ -272,24 +272,24 @@ matches-found Bad start name rest (found.Bytes bytes false) good u =
     refuses false true is = absurd (cc is)
     refuses false false is = absurd (cc is)
 
-    nones : (m n : Bool) → end_by m n ≡ status.NoFolder → Bad ⊎ (((not m && n) || some_load_saw (saw_no_folder start.named) rest) ≡ true)
+    nones : (m n : Bool) → end_by m n ≡ status.NoFolder → Bad ⊎ (((not m && n) || some_load_saw (saw_no_folder o.folder) rest) ≡ true)
     nones true n is = absurd (cc is)
     nones false true is = inr refl
     nones false false is = absurd (cc is)
 
-    opens : (m n : Bool) → Bad ⊎ (((not m && n) || some_load_saw (saw_no_folder start.named) rest) ≡ true) → end_by m n ≡ status.NoFolder
+    opens : (m n : Bool) → Bad ⊎ (((not m && n) || some_load_saw (saw_no_folder o.folder) rest) ≡ true) → end_by m n ≡ status.NoFolder
     opens true n (inl bad) = absurd (good bad)
     opens true n (inr h) = no-end _ u.folder h
     opens false true h = refl
     opens false false (inl bad) = absurd (good bad)
     opens false false (inr h) = no-end _ u.folder h
 
-    mails : (m n : Bool) → end_by m n ≡ status.NoMail → (m || some_load_saw (saw_no_mail start.named) rest) ≡ true
+    mails : (m n : Bool) → end_by m n ≡ status.NoMail → (m || some_load_saw (saw_no_mail o.folder) rest) ≡ true
     mails true n is = refl
     mails false true is = absurd (cc is)
     mails false false is = absurd (cc is)
 
-    opens-mail : (m n : Bool) → (m || some_load_saw (saw_no_mail start.named) rest) ≡ true → end_by m n ≡ status.NoMail
+    opens-mail : (m n : Bool) → (m || some_load_saw (saw_no_mail o.folder) rest) ≡ true → end_by m n ≡ status.NoMail
     opens-mail true n h = refl
     opens-mail false n h = no-end _ u.mail h
 
@@ -322,16 +322,16 @@ continues-blind named b p es out all goes = record {
   mail = continues-unseen (saw_no_mail named) b p es out all goes;
 }
 
-explained-found : (env : Environment) (Bad : Type 0) (s : SessionState) (start : Start) (name file : List ℕ) (es : List Event) (b : Bool) (out : Result Status Stop) → (Bad → ⊥) → AfterLoad b file (loaded s start name) es out
-    → IsOpeningExplained Bad (Some start) out es b
-explained-found env Bad s start name file es b out good (inr (cause, is)) = explained-cut Bad (Some start) es b out cause is
-explained-found env Bad s start name file es b out good (inl (f, rest, is, goes)) =
-    let p = loaded s start name f in
-    let obeys = loaded-obeys env s.actor s.token s start name f (refl, refl) in
-    let u = continues-blind start.named b p rest out (loads-none env s (end_of start.named f) p obeys) goes in
-    let E : List Event → Type 0 = λ es. IsOpeningExplained Bad (Some start) out es b in
-    let e = end_of start.named f in
-    subst E (sym is) (explained-as Bad (Some start) _ b out e (matches-found Bad start file rest f good u) (continues-with b e p rest out (ends-with env s e p obeys) goes))
+explained-found : (env : Environment) (Bad : Type 0) (s : SessionState) (o : Options) (name file : List ℕ) (es : List Event) (b : Bool) (out : Result Status Stop) → (Bad → ⊥) → AfterLoad b file (loaded s o name) es out
+    → IsOpeningExplained Bad (Some (words.Opens o)) out es b
+explained-found env Bad s o name file es b out good (inr (cause, is)) = explained-cut Bad (Some (words.Opens o)) es b out cause is
+explained-found env Bad s o name file es b out good (inl (f, rest, is, goes)) =
+    let p = loaded s o name f in
+    let obeys = loaded-obeys env s.actor s.token s o name f (refl, refl) in
+    let u = continues-blind o.folder b p rest out (loads-none env s (end_of o.folder f) p obeys) goes in
+    let E : List Event → Type 0 = λ es. IsOpeningExplained Bad (Some (words.Opens o)) out es b in
+    let e = end_of o.folder f in
+    subst E (sym is) (explained-as Bad (Some (words.Opens o)) _ b out e (matches-found Bad o file rest f good u) (continues-with b e p rest out (ends-with env s e p obeys) goes))
 
 explained-said : (Bad : Type 0) (start : Option Start) (text : List ℕ) (e : Status) (es : List Event) (b : Bool) (out : Result Status Stop) → opened_end e ≡ e → Continues b (says_and_ends text e) es out
     → (LoadsNone (is_named start) es → Matches Bad start es e) → IsOpeningExplained Bad start out es b
@@ -340,7 +340,7 @@ explained-said Bad start text e es b out plain goes to =
     explained-as Bad start es b out e (to u) (continues-with b e (says_and_ends text e) es out (λ u. plain) goes)
 
 -- a draft that begins in the folder's place
-matches-sent : (start : Start) (es : List Event) → LoadsNone start.named es → Matches ⊥ (Some start) es status.Done
+matches-sent : (start : Start) (es : List Event) → LoadsNone (options_of start).folder es → Matches ⊥ (Some start) es status.Done
 matches-sent start es u = record {
   refused = λ is. absurd (cc is);
   held = λ h. no-end _ u.held h;
@@ -357,38 +357,34 @@ matches-sent start es u = record {
 explained-sent : (env : Environment) (b : Bool) (t : SessionState) (start : Start) (es : List Event) (at_end : Bool) (out : Result Status Stop) → Continues at_end (sent b t) es out → IsOpeningExplained ⊥ (Some start) out es at_end
 explained-sent env b t start es at_end out goes =
     let obeys = sent-obeys env t.actor t.token b t (refl, refl) in
-    let u = continues-blind start.named at_end (sent b t) es out (loads-none env t status.Done (sent b t) obeys) goes in
+    let u = continues-blind (options_of start).folder at_end (sent b t) es out (loads-none env t status.Done (sent b t) obeys) goes in
     explained-as ⊥ (Some start) es at_end out status.Done (matches-sent start es u) (continues-with at_end status.Done (sent b t) es out (ends-with env t status.Done (sent b t) obeys) goes)
 
-explained-folder : (env : Environment) (start : Start) (s : SessionState) (es : List Event) (at_end : Bool) (out : Result Status Stop) → Continues at_end (starting s start) es out
-    → IsOpeningExplained (IsNoName s.here (folder_name s start)) (Some start) out es at_end
-explained-folder env start s es at_end out goes = word (folder_name s start) refl goes
+explained-folder : (env : Environment) (o : Options) (s : SessionState) (es : List Event) (at_end : Bool) (out : Result Status Stop) → Continues at_end (starting s o) es out
+    → IsOpeningExplained (IsNoName s.here (folder_name s o)) (Some (words.Opens o)) out es at_end
+explained-folder env o s es at_end out goes = word (folder_name s o) refl goes
   where
     Bad : Type 0
-    Bad = IsNoName s.here (folder_name s start)
+    Bad = IsNoName s.here (folder_name s o)
 
-    said : (line : List ℕ) → Bad → Continues at_end (ends_with start line status.NoFolder) es out → IsOpeningExplained Bad (Some start) out es at_end
-    said line bad goes = explained-said Bad (Some start) (heard start line) status.NoFolder es at_end out refl goes (λ u. matches-bad Bad start es bad u)
+    said : (line : List ℕ) → Bad → Continues at_end (ends_with o line status.NoFolder) es out → IsOpeningExplained Bad (Some (words.Opens o)) out es at_end
+    said line bad goes = explained-said Bad (Some (words.Opens o)) (heard o line) status.NoFolder es at_end out refl goes (λ u. matches-bad Bad o es bad u)
 
-    named : (name : List ℕ) → folder_name s start ≡ Ok name → (b : Bool) → is_short_name (placed s.here name) ≡ b
-        → Continues at_end (if b then Ask (Read (placed s.here name)) (loaded s start name) else ends_with start (with_feed (name ++ codes ": bad name")) status.NoFolder) es out → IsOpeningExplained Bad (Some start) out es at_end
+    named : (name : List ℕ) → folder_name s o ≡ Ok name → (b : Bool) → is_short_name (placed s.here name) ≡ b
+        → Continues at_end (if b then Ask (Read (placed s.here name)) (loaded s o name) else ends_with o (with_feed (name ++ codes ": bad name")) status.NoFolder) es out → IsOpeningExplained Bad (Some (words.Opens o)) out es at_end
     named name word true short goes =
-        explained-found env Bad s start name (placed s.here name) es at_end out (λ bad. no-end _ (subst (IsNoName s.here) word bad) short) (after-load at_end (placed s.here name) (loaded s start name) es out goes)
+        explained-found env Bad s o name (placed s.here name) es at_end out (λ bad. no-end _ (subst (IsNoName s.here) word bad) short) (after-load at_end (placed s.here name) (loaded s o name) es out goes)
     named name word false bad goes = said (with_feed (name ++ codes ": bad name")) (subst (IsNoName s.here) (sym word) bad) goes
 
-    word : (name : OrFault (List ℕ)) → folder_name s start ≡ name → Continues at_end (with_name_or_fault s start name) es out → IsOpeningExplained Bad (Some start) out es at_end
+    word : (name : OrFault (List ℕ)) → folder_name s o ≡ name → Continues at_end (with_name_or_fault s o name) es out → IsOpeningExplained Bad (Some (words.Opens o)) out es at_end
     word (Ok name) is goes = named name is (is_short_name (placed s.here name)) refl goes
     word (Err line) is goes = said line (subst (IsNoName s.here) (sym is) tt) goes
-
-explained-starting : (env : Environment) (sends : Option Options) (start : Start) (s : SessionState) (es : List Event) (at_end : Bool) (out : Result Status Stop) → Continues at_end (starting_with sends s start) es out
-    → IsOpeningExplained (IsBadlyNamed sends s.here (folder_name s start)) (Some start) out es at_end
-explained-starting env (Some o) start s es at_end out goes = explained-sent env (asks_in s o) (begun_in s o) start es at_end out goes
-explained-starting env None start s es at_end out goes = explained-folder env start s es at_end out goes
 
 explained-opening : (env : Environment) (start : Option Start) (s : SessionState) (es : List Event) (at_end : Bool) (out : Result Status Stop) → Continues at_end (opening start s) es out
     → IsOpeningExplained (OpensBadly (Opening start s)) start out es at_end
 explained-opening env None s es at_end out goes = explained-said ⊥ None usage status.Usage es at_end out refl goes (matches-none es)
-explained-opening env (Some start) s es at_end out goes = explained-starting env start.sends start s es at_end out goes
+explained-opening env (Some (words.Opens o)) s es at_end out goes = explained-folder env o s es at_end out goes
+explained-opening env (Some (words.Sends o)) s es at_end out goes = explained-sent env (asks_in s o) (begun_in s o) (words.Sends o) es at_end out goes
 
 -- what is said of a bad word may be said in other words
 pub explained-by : (A B : Type 0) → (A → B) → (B → A) → (start : Option Start) (out : Result Status Stop) (es : List Event) (b : Bool) → IsOpeningExplained A start out es b → IsOpeningExplained B start out es b
@@ -446,24 +442,9 @@ pub or-later : {A B : Type 0} → (A → ⊥) → A ⊎ B → B
 or-later never (inl a) = absurd (never a)
 or-later never (inr b) = b
 
--- where nothing was loaded nothing tells why no folder was opened
-matches-nothing : (start : Start) → Matches ⊥ (Some start) [] status.Done
-matches-nothing start = record {
-  refused = λ is. absurd (cc is);
-  held = λ h. absurd (cc h);
-  none = λ is. absurd (cc is);
-  opens_none = none;
-  no_mail = λ is. absurd (cc is);
-  opens_no_mail = λ h. absurd (cc h);
-}
-  where
-    none : OpensNone ⊥ (Some start) [] → status.Done ≡ status.NoFolder
-    none (inl never) = absurd never
-    none (inr h) = absurd (cc h)
-
 -- where a start-up file's round ends the run, it ends as a line does
 files-last : (o : Outcome) (start : Start) (r : Status) → EndsBy o r → IsOpeningExplained ⊥ (Some start) (Ok r) [] (is_refused_before o r)
-files-last o start r by_line = explained-open (is_refused_before o r) ⊥ (Some start) [] (Ok r) (matches-nothing start) (line-end o r by_line)
+files-last o start r by_line = explained-open (is_refused_before o r) ⊥ (Some start) [] (Ok r) (matches-sent start [] (record { held = refl; folder = refl; mail = refl })) (line-end o r by_line)
 
 -- a round before the opening, and what follows it
 files-then : (env : Environment) (start : Start) (x y : RunState) (es front rest : List Event) (out : Result Status Stop) → IsBefore start x → (is : es ≡ front ++ rest) → (goes : Goes (round env x) front (Ok (Go y)))

@@ -25,15 +25,15 @@ use Rattle.session_play.specs.declared.recovering.RecoveryAnswer.{RecoveryAnswer
 use Rattle.session_play.specs.declared.recovering.RecoveryAnswer.TheVariants as recovery
 use Rattle.session_play.specs.Recovering.{recovery_as, IsRecoveryOf}
 use Rattle.session_play.specs.Causes.{counted, events_at}
-use Rattle.session_play.specs.Play.{Play, Ret, Says, Goes, Next, Go, Last, Loop, again, last, cut}
+use Rattle.session_play.specs.Play.{Says, Goes, Next, Go, Last, Loop, again, last, cut}
 use Rattle.session_play.proofs.ShapeLemmas.{came-same, goes-ends}
 use Rattle.session_state.specs.declared.state.SessionState.{SessionState}
 use Rattle.session_state.specs.declared.status.Status.{Status}
 use Rattle.session_state.specs.declared.status.Status.TheVariants as status
 use Rattle.mailx_top.specs.declared.environment.Environment.{Environment}
 use Rattle.command_words.specs.declared.options.Options.{Options}
-use Rattle.mailx_top.specs.Words.{Start, sent_by}
-use Rattle.mailx_top.specs.Meaning.{RunState, Recovering, Preparing, Opening, Reading, Finishing, Leaving, round, prepared, recovered, recovered_unless, first_of, actor_in, heard, ends_with, says_and_ends, usage, is_recovering, is_opening}
+use Rattle.mailx_top.specs.Words.{Start, Opens, Sends}
+use Rattle.mailx_top.specs.Meaning.{RunState, Recovering, Preparing, Opening, Reading, Finishing, Leaving, round, prepared, recovered, recovering, first_of, actor_in, heard, ends_with, says_and_ends, usage, is_recovering, is_opening}
 use Rattle.mailx_top.specs.Openings.{OpenedBadly, IsOpeningExplained}
 use Rattle.mailx_top.specs.Leavings.{refused_at_end}
 use Rattle.mailx_top.specs.Starts.{is_recovered, is_right_busy, is_bad_record, IsStartExplained, IsExplainedFrom}
@@ -261,34 +261,34 @@ abbrev Ends : Next RunState Status → Type 0
 Ends (Go y) = ⊥
 Ends (Last r) = Unit {0}
 
-module _ (env : Environment) (actor : List ℕ) (token : ℕ) (start : Start) where
+module _ (env : Environment) (actor : List ℕ) (token : ℕ) (o : Options) where
   -- a recovery whose answer ends the run
-  ended-by : (a : RecoveryAnswer) (r : Status) (front rest : List Event) → IsRecoveryOf actor token front (recovery_as a) → Goes (recovered env start a) rest (Ok (Last r))
-      → Explained ⊥ (Some start) (Ok r) (told_end actor (front ++ rest)) [] false
+  ended-by : (a : RecoveryAnswer) (r : Status) (front rest : List Event) → IsRecoveryOf actor token front (recovery_as a) → Goes (recovered env o a) rest (Ok (Last r))
+      → Explained ⊥ (Some (Opens o)) (Ok r) (told_end actor (front ++ rest)) [] false
   ended-by (recovery.Done f) r front rest did (none, inl other) = absurd (cc other)
   ended-by (recovery.Done f) r front rest did (none, inr other) = absurd (cc other)
   ended-by (recovery.Busy name) r front rest did goes =
-      let said = said-so (heard start (with_feed (name ++ codes ": busy"))) status.Refused r rest goes in
+      let said = said-so (heard o (with_feed (name ++ codes ": busy"))) status.Refused r rest goes in
       let told = told-behind actor front rest name (is-told actor token front (recovery_as (recovery.Busy name)) did) said.1 in
-      subst (λ (r : Status). Explained ⊥ (Some start) (Ok r) (told_end actor (front ++ rest)) [] false) (sym said.0) (ended-busy (Some start) (told_end actor (front ++ rest)) name told)
+      subst (λ (r : Status). Explained ⊥ (Some (Opens o)) (Ok r) (told_end actor (front ++ rest)) [] false) (sym said.0) (ended-busy (Some (Opens o)) (told_end actor (front ++ rest)) name told)
   ended-by recovery.NotARecord r front rest did (none, end) =
-      ended-plainly actor (Some start) (Refused NotARecord) r front rest refl refl refl (is-told actor token front (recovery_as recovery.NotARecord) did) none (last-same r status.BadRecord end)
+      ended-plainly actor (Some (Opens o)) (Refused NotARecord) r front rest refl refl refl (is-told actor token front (recovery_as recovery.NotARecord) did) none (last-same r status.BadRecord end)
   ended-by (recovery.TooLarge name n) r front rest did (none, end) =
-      ended-plainly actor (Some start) (Refused (TooLarge name n)) r front rest refl refl refl (is-told actor token front (recovery_as (recovery.TooLarge name n)) did) none (last-same r status.BadRecord end)
+      ended-plainly actor (Some (Opens o)) (Refused (TooLarge name n)) r front rest refl refl refl (is-told actor token front (recovery_as (recovery.TooLarge name n)) did) none (last-same r status.BadRecord end)
 
   -- one that leaves the folder to be opened
   abbrev Reaches : RunState → List Event → List Event → Type 0
-  Reaches y front rest = (y ≡ prepared env start) × (is_recovered (told_end actor (front ++ rest)) ≡ true)
+  Reaches y front rest = (y ≡ prepared env (Opens o)) × (is_recovered (told_end actor (front ++ rest)) ≡ true)
 
-  reaches-with : (y : RunState) (f : Found) (front rest : List Event) → y ≡ prepared env start → told_end actor front ≡ Recovered f → rest ≡ [] → Reaches y front rest
+  reaches-with : (y : RunState) (f : Found) (front rest : List Event) → y ≡ prepared env (Opens o) → told_end actor front ≡ Recovered f → rest ≡ [] → Reaches y front rest
   reaches-with y f front rest is told none =
       (is, ap is_recovered (ap (λ (l : List Event). told_end actor (front ++ l)) none ∙ (ap (told_end actor) (append-nil front) ∙ told)))
 
-  reaches : (a : RecoveryAnswer) (y : RunState) (front rest : List Event) → IsRecoveryOf actor token front (recovery_as a) → Goes (recovered env start a) rest (Ok (Go y)) → Reaches y front rest
+  reaches : (a : RecoveryAnswer) (y : RunState) (front rest : List Event) → IsRecoveryOf actor token front (recovery_as a) → Goes (recovered env o a) rest (Ok (Go y)) → Reaches y front rest
   reaches (recovery.Done f) y front rest did (none, inl same) =
-      reaches-with y (found f) front rest (go-same y (prepared env start) (came-same (Go y) (Go (prepared env start)) same)) (is-told actor token front (recovery_as (recovery.Done f)) did) none
+      reaches-with y (found f) front rest (go-same y (prepared env (Opens o)) (came-same (Go y) (Go (prepared env (Opens o))) same)) (is-told actor token front (recovery_as (recovery.Done f)) did) none
   reaches (recovery.Done f) y front rest did (none, inr other) = absurd (cc other)
-  reaches (recovery.Busy name) y front rest did goes = absurd (goes-ends Ends (ends_with start (with_feed (name ++ codes ": busy")) status.Refused) rest (Go y) (λ u. tt) goes)
+  reaches (recovery.Busy name) y front rest did goes = absurd (goes-ends Ends (ends_with o (with_feed (name ++ codes ": busy")) status.Refused) rest (Go y) (λ u. tt) goes)
   reaches recovery.NotARecord y front rest did (none, inl other) = absurd (cc other)
   reaches recovery.NotARecord y front rest did (none, inr other) = absurd (cc other)
   reaches (recovery.TooLarge name n) y front rest did (none, inl other) = absurd (cc other)
@@ -325,64 +325,46 @@ usage-at env y s front rest out is none =
     subst E (sym is) (λ more. usage-told env s front more none)
 
 -- a run that recovers, from its recovery on
-abbrev Recovery : Environment → Start → Play (Next RunState Status)
-Recovery env start = recovered_unless None env start (actor_in env) env.token
+recovery-then : (env : Environment) (o : Options) (y : RunState) (front rest : List Event) (out : Result Status Stop) → Goes (recovering env (Some (Opens o))) front (Ok (Go y)) → (more : Loop (round env) y rest out)
+    → Explained (⊥ ⊎ OpenedBadly more) (Some (Opens o)) out (told_end (actor_in env) (front ++ events_at is_recovering more)) (events_at is_opening more) (refused_at_end more)
+recovery-then env o y front rest out (inl (a, xs, ys, parts, did, goes)) more =
+    let r = reaches env (actor_in env) env.token o a y xs ys did goes in
+    let before : IsBefore (Opens o) y = subst (IsBefore (Opens o)) (sym r.0) refl in
+    opened-after env (Opens o) y front before more (subst (λ (l : List Event). is_recovered (told_end (actor_in env) l) ≡ true) (sym parts) r.1)
+recovery-then env o y front rest out (inr (cause, other, part)) more = absurd (cc other)
 
-recovery-then : (env : Environment) (start : Start) (y : RunState) (front rest : List Event) (out : Result Status Stop) → Goes (Recovery env start) front (Ok (Go y)) → (more : Loop (round env) y rest out)
-    → Explained (⊥ ⊎ OpenedBadly more) (Some start) out (told_end (actor_in env) (front ++ events_at is_recovering more)) (events_at is_opening more) (refused_at_end more)
-recovery-then env start y front rest out (inl (a, xs, ys, parts, did, goes)) more =
-    let r = reaches env (actor_in env) env.token start a y xs ys did goes in
-    let before : IsBefore start y = subst (IsBefore start) (sym r.0) refl in
-    opened-after env start y front before more (subst (λ (l : List Event). is_recovered (told_end (actor_in env) l) ≡ true) (sym parts) r.1)
-recovery-then env start y front rest out (inr (cause, other, part)) more = absurd (cc other)
-
-recovery-over : (env : Environment) (start : Start) (r : Status) (es : List Event) → Goes (Recovery env start) es (Ok (Last r)) → Explained ⊥ (Some start) (Ok r) (told_end (actor_in env) es) [] false
-recovery-over env start r es (inl (a, xs, ys, parts, did, goes)) =
-    subst (λ (l : List Event). Explained ⊥ (Some start) (Ok r) (told_end (actor_in env) l) [] false) (sym parts) (ended-by env (actor_in env) env.token start a r xs ys did goes)
-recovery-over env start r es (inr (cause, other, part)) = absurd (cc other)
+recovery-over : (env : Environment) (o : Options) (r : Status) (es : List Event) → Goes (recovering env (Some (Opens o))) es (Ok (Last r)) → Explained ⊥ (Some (Opens o)) (Ok r) (told_end (actor_in env) es) [] false
+recovery-over env o r es (inl (a, xs, ys, parts, did, goes)) =
+    subst (λ (l : List Event). Explained ⊥ (Some (Opens o)) (Ok r) (told_end (actor_in env) l) [] false) (sym parts) (ended-by env (actor_in env) env.token o a r xs ys did goes)
+recovery-over env o r es (inr (cause, other, part)) = absurd (cc other)
 
 -- a run that sends, from its start-up files on
-prepared-then : (env : Environment) (start : Start) (y : RunState) (front rest : List Event) (out : Result Status Stop) → Goes (Ret (let n : Next RunState Status = Go (prepared env start) in n)) front (Ok (Go y))
+prepared-then : (env : Environment) (o : Options) (y : RunState) (front rest : List Event) (out : Result Status Stop) → Goes (recovering env (Some (Sends o))) front (Ok (Go y))
     → (more : Loop (round env) y rest out)
-    → (front ++ events_at is_recovering more ≡ []) × IsOpeningExplained (⊥ ⊎ OpenedBadly more) (Some start) out (events_at is_opening more) (refused_at_end more)
-prepared-then env start y front rest out (none, inl same) more =
-    let at : y ≡ prepared env start = go-same y (prepared env start) (came-same (Go y) (Go (prepared env start)) same) in
-    let before : IsBefore start y = subst (IsBefore start) (sym at) refl in
-    let plain : events_at is_recovering more ≡ [] = before-plain env start before more in (
+    → (front ++ events_at is_recovering more ≡ []) × IsOpeningExplained (⊥ ⊎ OpenedBadly more) (Some (Sends o)) out (events_at is_opening more) (refused_at_end more)
+prepared-then env o y front rest out (none, inl same) more =
+    let at : y ≡ prepared env (Sends o) = go-same y (prepared env (Sends o)) (came-same (Go y) (Go (prepared env (Sends o))) same) in
+    let before : IsBefore (Sends o) y = subst (IsBefore (Sends o)) (sym at) refl in
+    let plain : events_at is_recovering more ≡ [] = before-plain env (Sends o) before more in (
       ap (λ (l : List Event). l ++ events_at is_recovering more) none ∙ plain,
-      explained-by (OpenedBadly more) (⊥ ⊎ OpenedBadly more) inr (or-later (λ never. never)) (Some start) out (events_at is_opening more) (refused_at_end more) (files-explained env start before more),
+      explained-by (OpenedBadly more) (⊥ ⊎ OpenedBadly more) inr (or-later (λ never. never)) (Some (Sends o)) out (events_at is_opening more) (refused_at_end more) (files-explained env (Sends o) before more),
     )
-prepared-then env start y front rest out (none, inr other) more = absurd (cc other)
+prepared-then env o y front rest out (none, inr other) more = absurd (cc other)
 
 -- a run from its start tells how its recovery ended, where it makes one, and why it opened no folder
-abbrev ExplainedSo : Option Options → Environment → Option Start → Result Status Stop → List Event → Type 0 → List Event → Bool → Type 0
-ExplainedSo sends env start out es Bad opened at_end = IsExplainedFrom sends (actor_in env) out es (IsOpeningExplained Bad start out opened at_end)
-
-explained-then : (sends : Option Options) (env : Environment) (start : Start) (y : RunState) (front rest : List Event) (out : Result Status Stop)
-    → Goes (recovered_unless sends env start (actor_in env) env.token) front (Ok (Go y)) → (more : Loop (round env) y rest out)
-    → ExplainedSo sends env (Some start) out (front ++ events_at is_recovering more) (⊥ ⊎ OpenedBadly more) (events_at is_opening more) (refused_at_end more)
-explained-then (Some o) env start y front rest out goes more = prepared-then env start y front rest out goes more
-explained-then None env start y front rest out goes more = recovery-then env start y front rest out goes more
-
-explained-over : (sends : Option Options) (env : Environment) (start : Start) (r : Status) (es : List Event) → Goes (recovered_unless sends env start (actor_in env) env.token) es (Ok (Last r))
-    → ExplainedSo sends env (Some start) (Ok r) es ⊥ [] false
-explained-over (Some o) env start r es (none, inl other) = absurd (cc other)
-explained-over (Some o) env start r es (none, inr other) = absurd (cc other)
-explained-over None env start r es goes = recovery-over env start r es goes
-
-explained-short : (sends : Option Options) (env : Environment) (start : Start) (cause : Stop) (es : List Event) → Goes (recovered_unless sends env start (actor_in env) env.token) es (Err cause)
-    → ExplainedSo sends env (Some start) (Err cause) es ⊥ [] false
-explained-short (Some o) env start cause es (none, end) = (none, plainly-cut ⊥ (Some start) cause [] false)
-explained-short None env start cause es goes = explained-cut ⊥ (Some start) cause (told_end (actor_in env) es) [] false (plainly-cut ⊥ (Some start) cause [] false)
-
 pub recovering-explained : (env : Environment) (start : Option Start) (es : List Event) (out : Result Status Stop) (loop : Loop (round env) (Recovering start) es out)
-    → ExplainedSo (sent_by start) env start out (events_at is_recovering loop) (OpenedBadly loop) (events_at is_opening loop) (refused_at_end loop)
+    → IsExplainedFrom start (actor_in env) out (events_at is_recovering loop) (IsOpeningExplained (OpenedBadly loop) start out (events_at is_opening loop) (refused_at_end loop))
 recovering-explained env None es out (again {y = y} front rest is (none, inl same) more) =
     usage-at env y (first_of env None) front rest out (go-same y (Opening None (first_of env None)) (came-same (Go y) (Go (Opening None (first_of env None))) same)) none more
 recovering-explained env None es out (again front rest is (none, inr other) more) = absurd (cc other)
 recovering-explained env None es out (last (none, inl other)) = absurd (cc other)
 recovering-explained env None es out (last (none, inr other)) = absurd (cc other)
 recovering-explained env None es out (cut {cause = cause} goes) = explained-cut ⊥ None cause (told_end (actor_in env) es) [] false (plainly-cut ⊥ None cause [] false)
-recovering-explained env (Some start) es out (again {y = y} front rest is goes more) = explained-then start.sends env start y front rest out goes more
-recovering-explained env (Some start) es out (last {r = r} goes) = explained-over start.sends env start r es goes
-recovering-explained env (Some start) es out (cut {cause = cause} goes) = explained-short start.sends env start cause es goes
+recovering-explained env (Some (Opens o)) es out (again {y = y} front rest is goes more) = recovery-then env o y front rest out goes more
+recovering-explained env (Some (Opens o)) es out (last {r = r} goes) = recovery-over env o r es goes
+recovering-explained env (Some (Opens o)) es out (cut {cause = cause} goes) =
+    explained-cut ⊥ (Some (Opens o)) cause (told_end (actor_in env) es) [] false (plainly-cut ⊥ (Some (Opens o)) cause [] false)
+recovering-explained env (Some (Sends o)) es out (again {y = y} front rest is goes more) = prepared-then env o y front rest out goes more
+recovering-explained env (Some (Sends o)) es out (last (none, inl other)) = absurd (cc other)
+recovering-explained env (Some (Sends o)) es out (last (none, inr other)) = absurd (cc other)
+recovering-explained env (Some (Sends o)) es out (cut {cause = cause} (none, end)) = (none, plainly-cut ⊥ (Some (Sends o)) cause [] false)

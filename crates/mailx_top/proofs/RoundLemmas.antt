@@ -47,10 +47,11 @@ use Rattle.mailx_top.specs.declared.environment.Environment.{Environment}
 use Rattle.mailx_top.specs.declared.words.Manner.{Manner}
 use Rattle.mailx_top.specs.declared.words.Manner.TheVariants.{Silent, Rows, Quiet, Greeting}
 use Rattle.mailx_top.specs.Leavings.{is_for_record}
-use Rattle.mailx_top.specs.Meaning.{RunState, at_prompt, is_over, next_unless, first_of, actor_in, Recovering, recovered, recovered_unless, Preparing, with_files, next_file, file_round, Opening, opening, starting_with, folder_name, with_name_or_fault, ends_with, begun, loaded, unheld, is_no_mail, with_list, greeted, Reading, Finishing, Leaving, round, turn, line_round, finishing_round, with_input, with_finishing, prompted, input_of, is_opening}
+use Rattle.mailx_top.specs.Meaning.{RunState, at_prompt, is_over, next_unless, first_of, actor_in, Recovering, recovered, recovering, Preparing, with_files, next_file, file_round, Opening, opening, folder_name, with_name_or_fault, ends_with, begun, loaded, unheld, is_no_mail, with_list, greeted, Reading, Finishing, Leaving, round, turn, line_round, finishing_round, with_input, with_finishing, prompted, input_of, is_opening}
 use Rattle.mailx_top.specs.Openings.{is_no_list, is_no_folder}
 use Rattle.mailx_top.specs.Sending.{draft_with}
-use Rattle.mailx_top.specs.Words.{Start}
+use Rattle.mailx_top.specs.Words as words
+use Rattle.mailx_top.specs.Words.{Start, manner_of}
 use Rattle.mailx_top.proofs.EndLemmas.{actor-same}
 use Rattle.mailx_top.proofs.LeavingLemmas.{opened_end}
 
@@ -232,16 +233,17 @@ module _ (env : Environment) (actor : List ℕ) (token : ℕ) where
 
   -- ---- the recovery
 
-  recovered-obeys : (start : Start) (a : RecoveryAnswer) → IsOf actor token (first_of env (Some start)) → Rounds false (λ y. Unit {0}) IsPlain (met_by false (Recover actor token) a, no_input) (recovered env start a)
-  recovered-obeys start (recovery.Done f) of = (refl, of, tt)
-  recovered-obeys start (recovery.Busy name) of = ((tt, refl, tt), λ u. (refl, refl, tt))
-  recovered-obeys start recovery.NotARecord of = refl
-  recovered-obeys start (recovery.TooLarge name n) of = refl
+  recovered-obeys : (o : Options) (a : RecoveryAnswer) → IsOf actor token (first_of env (Some (words.Opens o))) → Rounds false (λ y. Unit {0}) IsPlain (met_by false (Recover actor token) a, no_input) (recovered env o a)
+  recovered-obeys o (recovery.Done f) of = (refl, of, tt)
+  recovered-obeys o (recovery.Busy name) of = ((tt, refl, tt), λ u. (refl, refl, tt))
+  recovered-obeys o recovery.NotARecord of = refl
+  recovered-obeys o (recovery.TooLarge name n) of = refl
 
-  recovering-obeys : (sends : Option Options) (start : Start) → (actor_in env ≡ actor) × (env.token ≡ token) → Rounds false (λ y. Unit {0}) IsPlain (false, no_input) (recovered_unless sends env start (actor_in env) env.token)
-  recovering-obeys (Some o) start of = (refl, (actor-same env start ∙ of.0, of.1), tt)
-  recovering-obeys None start of =
-      ((tt, refl, record { actor_is = of.0; token_is = of.1; files = All-nil (λ (c : Change). is_file_name actor (name_of c) ≡ true) }), λ a. recovered-obeys start a (actor-same env start ∙ of.0, of.1))
+  recovering-obeys : (start : Option Start) → (actor_in env ≡ actor) × (env.token ≡ token) → Rounds false (λ y. Unit {0}) IsPlain (false, no_input) (recovering env start)
+  recovering-obeys None of = (refl, of, tt)
+  recovering-obeys (Some (words.Opens o)) of =
+      ((tt, refl, record { actor_is = of.0; token_is = of.1; files = All-nil (λ (c : Change). is_file_name actor (name_of c) ≡ true) }), λ a. recovered-obeys o a (actor-same env (words.Opens o) ∙ of.0, of.1))
+  recovering-obeys (Some (words.Sends o)) of = (refl, (actor-same env (words.Sends o) ∙ of.0, of.1), tt)
 
   -- ---- the opening
 
@@ -259,24 +261,24 @@ module _ (env : Environment) (actor : List ℕ) (token : ℕ) where
   greeted-obeys Quiet s of = (refl, of, tt, refl)
   greeted-obeys Greeting s of = ((tt, refl, tt), λ u. (refl, of, tt, refl))
 
-  many-obeys : (b : Bool) (s : SessionState) (start : Start) (name bytes line : List ℕ) (texts : List (List ℕ)) → IsOf actor token s
-      → Opens (end_by false b) (if b then ends_with start line status.NoFolder else begun s start name bytes texts)
-  many-obeys true s start name bytes line texts of = ((tt, refl, tt), λ u. (refl, refl, refl, tt))
-  many-obeys false s start name bytes line texts of = ((tt, refl, tt), λ rows. greeted-obeys start.manner (with_opened s name bytes rows) of)
+  many-obeys : (b : Bool) (s : SessionState) (o : Options) (name bytes line : List ℕ) (texts : List (List ℕ)) → IsOf actor token s
+      → Opens (end_by false b) (if b then ends_with o line status.NoFolder else begun s o name bytes texts)
+  many-obeys true s o name bytes line texts of = ((tt, refl, tt), λ u. (refl, refl, refl, tt))
+  many-obeys false s o name bytes line texts of = ((tt, refl, tt), λ rows. greeted-obeys (manner_of o) (with_opened s name bytes rows) of)
 
-  list-obeys : (s : SessionState) (start : Start) (name bytes : List ℕ) (l : Option (List (List ℕ))) → IsOf actor token s → Opens (end_by false (is_no_list l)) (with_list s start name bytes l)
-  list-obeys s start name bytes None of = ((tt, refl, tt), λ u. (refl, refl, refl, tt))
-  list-obeys s start name bytes (Some texts) of = many-obeys (nat_lt message_limit (length texts)) s start name bytes _ texts of
+  list-obeys : (s : SessionState) (o : Options) (name bytes : List ℕ) (l : Option (List (List ℕ))) → IsOf actor token s → Opens (end_by false (is_no_list l)) (with_list s o name bytes l)
+  list-obeys s o name bytes None of = ((tt, refl, tt), λ u. (refl, refl, refl, tt))
+  list-obeys s o name bytes (Some texts) of = many-obeys (nat_lt message_limit (length texts)) s o name bytes _ texts of
 
-  unheld-obeys : (s : SessionState) (start : Start) (name : List ℕ) (bytes : Option (List ℕ)) (b : Bool) → IsOf actor token s → Opens (end_by b (is_no_folder bytes)) (unheld s start name bytes b)
-  unheld-obeys s start name bytes true of = ((tt, refl, tt), λ u. (refl, refl, refl, tt))
-  unheld-obeys s start name None false of = ((tt, refl, tt), λ u. (refl, refl, refl, tt))
-  unheld-obeys s start name (Some bytes) false of = list-obeys s start name bytes (list_of bytes) of
+  unheld-obeys : (s : SessionState) (o : Options) (name : List ℕ) (bytes : Option (List ℕ)) (b : Bool) → IsOf actor token s → Opens (end_by b (is_no_folder bytes)) (unheld s o name bytes b)
+  unheld-obeys s o name bytes true of = ((tt, refl, tt), λ u. (refl, refl, refl, tt))
+  unheld-obeys s o name None false of = ((tt, refl, tt), λ u. (refl, refl, refl, tt))
+  unheld-obeys s o name (Some bytes) false of = list-obeys s o name bytes (list_of bytes) of
 
-  pub loaded-obeys : (s : SessionState) (start : Start) (name : List ℕ) (f : Found) → IsOf actor token s → Opens (end_of start.named f) (loaded s start name f)
-  loaded-obeys s start name (found.Bytes bytes true) of = ((tt, refl, tt), λ u. (refl, refl, refl, tt))
-  loaded-obeys s start name (found.Bytes bytes false) of = unheld-obeys s start name bytes (is_no_mail start.named bytes) of
-  loaded-obeys s start name (found.TooLarge n) of = ((tt, refl, tt), λ u. (refl, refl, refl, tt))
+  pub loaded-obeys : (s : SessionState) (o : Options) (name : List ℕ) (f : Found) → IsOf actor token s → Opens (end_of o.folder f) (loaded s o name f)
+  loaded-obeys s o name (found.Bytes bytes true) of = ((tt, refl, tt), λ u. (refl, refl, refl, tt))
+  loaded-obeys s o name (found.Bytes bytes false) of = unheld-obeys s o name bytes (is_no_mail o.folder bytes) of
+  loaded-obeys s o name (found.TooLarge n) of = ((tt, refl, tt), λ u. (refl, refl, refl, tt))
 
   pub sent-obeys : (b : Bool) (t : SessionState) → IsOf actor token t → Opens status.Done (sent b t)
   sent-obeys true t of = ((tt, refl, tt), λ u. (refl, of, tt, refl))
@@ -293,28 +295,24 @@ module _ (env : Environment) (actor : List ℕ) (token : ℕ) where
       ends (true, i) (Last e) never = absurd never
       ends (false, i) (Last e) (is, opened, free, other) = (opened, free, other)
 
-  short-obeys : (b : Bool) (s : SessionState) (start : Start) (name line : List ℕ) → IsOf actor token s
-      → Rounds true IsReadingState IsPlain (false, no_input) (if b then Ask (Read (placed s.here name)) (loaded s start name) else ends_with start line status.NoFolder)
-  short-obeys true s start name line of = ((tt, refl, tt), λ f. opens-so (end_of start.named f) (loaded s start name f) (loaded-obeys s start name f of))
-  short-obeys false s start name line of = ((tt, refl, tt), λ u. (refl, refl, tt))
+  short-obeys : (b : Bool) (s : SessionState) (o : Options) (name line : List ℕ) → IsOf actor token s
+      → Rounds true IsReadingState IsPlain (false, no_input) (if b then Ask (Read (placed s.here name)) (loaded s o name) else ends_with o line status.NoFolder)
+  short-obeys true s o name line of = ((tt, refl, tt), λ f. opens-so (end_of o.folder f) (loaded s o name f) (loaded-obeys s o name f of))
+  short-obeys false s o name line of = ((tt, refl, tt), λ u. (refl, refl, tt))
 
-  named-obeys : (s : SessionState) (start : Start) (name : OrFault (List ℕ)) → IsOf actor token s → Rounds true IsReadingState IsPlain (false, no_input) (with_name_or_fault s start name)
-  named-obeys s start (Ok name) of = short-obeys (is_short_name (placed s.here name)) s start name _ of
-  named-obeys s start (Err line) of = ((tt, refl, tt), λ u. (refl, refl, tt))
-
-  starting-obeys : (sends : Option Options) (s : SessionState) (start : Start) → IsOf actor token s → Rounds true IsReadingState IsPlain (false, no_input) (starting_with sends s start)
-  starting-obeys (Some o) s start of = opens-so status.Done (sent (asks_in s o) (begun_in s o)) (sent-obeys (asks_in s o) (begun_in s o) of)
-  starting-obeys None s start of = named-obeys s start (folder_name s start) of
+  named-obeys : (s : SessionState) (o : Options) (name : OrFault (List ℕ)) → IsOf actor token s → Rounds true IsReadingState IsPlain (false, no_input) (with_name_or_fault s o name)
+  named-obeys s o (Ok name) of = short-obeys (is_short_name (placed s.here name)) s o name _ of
+  named-obeys s o (Err line) of = ((tt, refl, tt), λ u. (refl, refl, tt))
 
   opening-obeys : (start : Option Start) (s : SessionState) → IsOf actor token s → Rounds true IsReadingState IsPlain (false, no_input) (opening start s)
   opening-obeys None s of = ((tt, refl, tt), λ u. (refl, refl, tt))
-  opening-obeys (Some start) s of = starting-obeys start.sends s start of
+  opening-obeys (Some (words.Opens o)) s of = named-obeys s o (folder_name s o) of
+  opening-obeys (Some (words.Sends o)) s of = opens-so status.Done (sent (asks_in s o) (begun_in s o)) (sent-obeys (asks_in s o) (begun_in s o) of)
 
   -- ---- each round
 
   pub round-obeys : (x : RunState) → StateOf env actor token x → Rounds (is_opening x) (LeadsFrom x) (ExitsFrom x) (false, input_of x) (round env x)
-  round-obeys (Recovering None) of = (refl, of, tt)
-  round-obeys (Recovering (Some start)) of = recovering-obeys start.sends start of
+  round-obeys (Recovering start) of = recovering-obeys start of
   round-obeys (Preparing start s names) of = file-obeys start s names (next_waiting s) of
   round-obeys (Opening start s) of = opening-obeys start s of
   round-obeys (Reading s i) of = line-obeys s i (next_waiting s) of

@@ -32,7 +32,7 @@ use Rattle.mailx_session.proofs.SafeLemmas.{finish-over, finish-rests}
 use Rattle.rc_conditionals.specs.Turns.{is_send}
 use Rattle.mailx_top.specs.declared.environment.Environment.{Environment}
 use Rattle.mailx_top.specs.Meaning.{RunState, at_prompt, Reading, Finishing, Leaving, behind_input, round, is_over, next_unless, AsksNext, line_round, finishing_round, with_finishing, next_turn, turn, prompted, with_input, next_state, after_line, LeadsTo, LeadsAfterPrompt, Preparing, Opening, first_of, startup_files, files_with, with_files, next_file, file_round, prepared, after_file, after_files}
-use Rattle.mailx_top.specs.Words.{Start, is_silent}
+use Rattle.mailx_top.specs.Words.{Start, options_of}
 
 -- a result of a session's line, with the input that is left
 abbrev pub onward : Input → Result (Next SessionState Status) Stop → Result (Next RunState Status) Stop
@@ -233,7 +233,7 @@ next-round : (env : Environment) (start : Start) (s : SessionState) (names : Lis
 next-round env start s names is = ap (file_round start s names) (none_waits s is) ∙ ap (λ (t : SessionState). next_file start t names) (rested-same s is)
 
 -- so is a start-up file
-file-goes : (env : Environment) (start : Start) (s : SessionState) (name : List ℕ) (names : List (List ℕ)) → IsSession s → {es : List Event} {out : Result (Next SessionState Status) Stop} → StartupGoes s name es out
+pub file-goes : (env : Environment) (start : Start) (s : SessionState) (name : List ℕ) (names : List (List ℕ)) → IsSession s → {es : List Event} {out : Result (Next SessionState Status) Stop} → StartupGoes s name es out
     → LeadsTo env (Preparing start s (name ∷ names)) es (onward-files start names out)
 file-goes env start s name names is {es = es} {out = out} (begun {t = t} front rest parts goes waits) =
     leads-more env (Preparing start s (name ∷ names)) (Preparing start t names) front rest es (onward-files start names out) parts
@@ -244,17 +244,10 @@ file-goes env start s name names is {es = es} (files.unread {cause = cause} goes
     cut (subst (λ (p : Play (Next RunState Status)). Goes p es (Err cause)) (sym (next-round env start s (name ∷ names) is))
     (goes-cut (startup_play s name) (with_files start names) cause es goes))
 
-pub file-leads : (env : Environment) (start : Start) (s t : SessionState) (name : List ℕ) (names : List (List ℕ)) (r : Result (Option Status) Stop) → IsSession s → (es : List Event) → StartupGoes s name es (after_line t r)
-    → LeadsTo env (Preparing start s (name ∷ names)) es (after_file start names t r)
-file-leads env start s t name names (Ok None) is es goes = file-goes env start s name names is goes
-file-leads env start s t name names (Ok (Some e)) is es goes = file-goes env start s name names is goes
-file-leads env start s t name names (Err cause) is es goes = file-goes env start s name names is goes
-
 -- after the last file the folder is opened
-pub last-leads : (env : Environment) (x : RunState) (start : Start) (t : SessionState) (r : Result (Option Status) Stop) → IsSession t → (es : List Event) → LeadsTo env x es (after_file start [] t r) → LeadsTo env x es (after_files start t r)
-last-leads env x start t (Ok None) is es leads = λ rest out loop.
+pub last-leads : (env : Environment) (x : RunState) (start : Start) (t : SessionState) (r : Result (Unit {0}) Stop) → IsSession t → (es : List Event) → LeadsTo env x es (after_file start [] t r) → LeadsTo env x es (after_files start t r)
+last-leads env x start t (Ok u) is es leads = λ rest out loop.
     leads rest out (again [] rest refl (subst (λ (p : Play (Next RunState Status)). Goes p [] (Ok (Go (Opening (Some start) t)))) (sym (next-round env start t [] is)) (refl, inl refl)) loop)
-last-leads env x start t (Ok (Some e)) is es leads = leads
 last-leads env x start t (Err cause) is es leads = leads
 
 -- what leads on, from where other events led
@@ -265,19 +258,19 @@ leads-then env x y (Ok (Last e)) es fs first second = first fs (Ok e) second
 leads-then env x y (Err cause) es fs first second = first fs (Err cause) second
 
 -- where the run is to be silent no start-up file is read
-pub silent-loop : (env : Environment) (start : Start) → is_silent start.manner ≡ true → (es : List Event) (out : Result Status Stop) → Loop (round env) (Opening (Some start) (first_of env (Some start))) es out
+pub silent-loop : (env : Environment) (start : Start) → (options_of start).exists ≡ true → (es : List Event) (out : Result Status Stop) → Loop (round env) (Opening (Some start) (first_of env (Some start))) es out
     → Loop (round env) (prepared env start) es out
 silent-loop env start silent es out loop =
     let s = first_of env (Some start) in
-    let none_left : startup_files start s.desk.places ≡ [] = cond-true _ _ _ silent in
+    let none_left : startup_files (options_of start) s.desk.places ≡ [] = cond-true _ _ _ silent in
     subst (λ (names : List (List ℕ)). Loop (round env) (Preparing start s names) es out) (sym none_left) (again [] es refl (refl, inl refl) loop)
 
 -- elsewhere they are
-pub aloud-loop : (env : Environment) (start : Start) → is_silent start.manner ≡ false → (es : List Event) (out : Result Status Stop)
-    → Loop (round env) (Preparing start (first_of env (Some start)) (files_with start.no_system_file (first_of env (Some start)).desk.places.rc)) es out → Loop (round env) (prepared env start) es out
+pub aloud-loop : (env : Environment) (start : Start) → (options_of start).exists ≡ false → (es : List Event) (out : Result Status Stop)
+    → Loop (round env) (Preparing start (first_of env (Some start)) (files_with (options_of start).no_system_file (first_of env (Some start)).desk.places.rc)) es out → Loop (round env) (prepared env start) es out
 aloud-loop env start aloud es out loop =
     let s = first_of env (Some start) in
-    let named : startup_files start s.desk.places ≡ files_with start.no_system_file s.desk.places.rc = cond-false _ _ _ aloud in
+    let named : startup_files (options_of start) s.desk.places ≡ files_with (options_of start).no_system_file s.desk.places.rc = cond-false _ _ _ aloud in
     subst (λ (names : List (List ℕ)). Loop (round env) (Preparing start s names) es out) (sym named) loop
 
 -- a result of drafts that end, and of lines that wait, at the end of the input

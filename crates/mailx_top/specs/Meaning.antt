@@ -12,6 +12,7 @@ use Rattle.session_play.specs.declared.stop.Stop.{Stop}
 use Rattle.session_play.specs.Input.{Input, no_input}
 use Rattle.session_play.specs.declared.recovering.RecoveryAnswer.{RecoveryAnswer}
 use Rattle.session_play.specs.declared.recovering.RecoveryAnswer.TheVariants as recovery
+use Rattle.session_play.specs.Knowing.{Rows}
 use Rattle.session_play.specs.Play.{Play, Ret, Ask, Line, Say, Read, Recover, Know, Next, Go, Last, Goes, Loop, bind}
 use Rattle.host_port.specs.declared.event.Event.{Event}
 use Rattle.mailx_vars.specs.declared.environment.Places.{Places}
@@ -42,7 +43,7 @@ use Rattle.message_show.specs.Summary.{page_text}
 use Rattle.mailx_vars.specs.Environment.{Pairs}
 use Rattle.mailx_top.specs.declared.words.Manner.{Manner}
 use Rattle.mailx_top.specs.declared.words.Manner.TheVariants.{Silent, Rows, Quiet, Greeting}
-use Rattle.mailx_top.specs.Words.{Start, is_silent}
+use Rattle.mailx_top.specs.Words.{Start, Opens, Sends, options_of, folder_word, manner_of}
 use Rattle.mailx_top.specs.Sending.{mode_with, draft_with}
 
 -- where a run is between two rounds: before what a stopped run has left is recovered, and then a folder opened or a draft
@@ -133,25 +134,25 @@ greeted Rows s = Ask (Say (all_rows s.desk)) (λ _. Ret (Last status.Done))
 greeted Quiet s = Ret (Go (Reading s no_input))
 greeted Greeting s = Ask (Say (greeting s.desk)) (λ _. Ret (Go (Reading s no_input)))
 
--- what is printed of a line: nothing, if the run is to be silent
-abbrev pub heard : Start → List ℕ → List ℕ
-heard start line = if is_silent start.manner then [] else line
+-- what is printed of a line: nothing with `-e`
+abbrev pub heard : Options → List ℕ → List ℕ
+heard o line = if o.exists then [] else line
 
 -- the run ends so, once this line is printed, if it may be
-abbrev pub ends_with : Start → List ℕ → Status → Play (Next RunState Status)
-ends_with start line e = says_and_ends (heard start line) e
+abbrev pub ends_with : Options → List ℕ → Status → Play (Next RunState Status)
+ends_with o line e = says_and_ends (heard o line) e
 
 -- a folder of this name with these texts is opened
-abbrev pub begun : SessionState → Start → List ℕ → List ℕ → List (List ℕ) → Play (Next RunState Status)
-begun s start name bytes texts = Ask (Know texts) (λ rows. greeted start.manner (with_opened s name bytes rows))
+abbrev pub begun : SessionState → Options → List ℕ → List ℕ → List (List ℕ) → Play (Next RunState Status)
+begun s o name bytes texts = Ask (Know (Rows texts)) (λ rows. greeted (manner_of o) (with_opened s name bytes rows))
 
 -- a folder of these bytes is opened, if its texts are defined and not too many
-abbrev pub with_list : SessionState → Start → List ℕ → List ℕ → Option (List (List ℕ)) → Play (Next RunState Status)
-with_list s start name bytes None = ends_with start (with_feed (name ++ codes ": not a mailbox")) status.NoFolder
-with_list s start name bytes (Some texts) =
+abbrev pub with_list : SessionState → Options → List ℕ → List ℕ → Option (List (List ℕ)) → Play (Next RunState Status)
+with_list s o name bytes None = ends_with o (with_feed (name ++ codes ": not a mailbox")) status.NoFolder
+with_list s o name bytes (Some texts) =
     if nat_lt message_limit (length texts)
-    then ends_with start (with_feed (name ++ codes ": too many messages")) status.NoFolder
-    else begun s start name bytes texts
+    then ends_with o (with_feed (name ++ codes ": too many messages")) status.NoFolder
+    else begun s o name bytes texts
 
 -- there is no mail: without `-f` the file is absent, or empty
 abbrev pub is_no_mail : Bool → Option (List ℕ) → Bool
@@ -160,39 +161,39 @@ is_no_mail false None = true
 is_no_mail false (Some bytes) = length bytes == 0
 
 -- the user whose mail is read
-abbrev pub reader : SessionState → Start → List ℕ
-reader s start = unwrap_or start.user s.desk.places.user
+abbrev pub reader : SessionState → Options → List ℕ
+reader s o = unwrap_or o.user s.desk.places.user
 
 -- what follows the load of a file that isn't held, with no mail or with some
-abbrev pub unheld : SessionState → Start → List ℕ → Option (List ℕ) → Bool → Play (Next RunState Status)
-unheld s start name bytes true = ends_with start (with_feed (codes "No mail for " ++ reader s start)) status.NoMail
-unheld s start name None false = ends_with start (with_feed (name ++ codes ": no such file")) status.NoFolder
-unheld s start name (Some bytes) false = with_list s start name bytes (list_of bytes)
+abbrev pub unheld : SessionState → Options → List ℕ → Option (List ℕ) → Bool → Play (Next RunState Status)
+unheld s o name bytes true = ends_with o (with_feed (codes "No mail for " ++ reader s o)) status.NoMail
+unheld s o name None false = ends_with o (with_feed (name ++ codes ": no such file")) status.NoFolder
+unheld s o name (Some bytes) false = with_list s o name bytes (list_of bytes)
 
 -- what follows the load of the folder that is said by this name
-abbrev pub loaded : SessionState → Start → List ℕ → Found → Play (Next RunState Status)
-loaded s start name (found.Bytes bytes true) = ends_with start (with_feed (name ++ codes ": busy")) status.Refused
-loaded s start name (found.Bytes bytes false) = unheld s start name bytes (is_no_mail start.named bytes)
-loaded s start name (found.TooLarge n) = ends_with start (with_feed (name ++ codes ": too large")) status.NoFolder
+abbrev pub loaded : SessionState → Options → List ℕ → Found → Play (Next RunState Status)
+loaded s o name (found.Bytes bytes true) = ends_with o (with_feed (name ++ codes ": busy")) status.Refused
+loaded s o name (found.Bytes bytes false) = unheld s o name bytes (is_no_mail o.folder bytes)
+loaded s o name (found.TooLarge n) = ends_with o (with_feed (name ++ codes ": too large")) status.NoFolder
 
 -- the folder that is said by this name is loaded, if the name can be a file's
-abbrev pub with_name : SessionState → Start → List ℕ → Play (Next RunState Status)
-with_name s start name =
-    if is_short_name (placed s.here name) then Ask (Read (placed s.here name)) (loaded s start name)
-    else ends_with start (with_feed (name ++ codes ": bad name")) status.NoFolder
+abbrev pub with_name : SessionState → Options → List ℕ → Play (Next RunState Status)
+with_name s o name =
+    if is_short_name (placed s.here name) then Ask (Read (placed s.here name)) (loaded s o name)
+    else ends_with o (with_feed (name ++ codes ": bad name")) status.NoFolder
 
 -- a run begins with a name, if the word stands for one
-abbrev pub with_name_or_fault : SessionState → Start → OrFault (List ℕ) → Play (Next RunState Status)
-with_name_or_fault s start (Ok name) = with_name s start name
-with_name_or_fault s start (Err line) = ends_with start line status.NoFolder
+abbrev pub with_name_or_fault : SessionState → Options → OrFault (List ℕ) → Play (Next RunState Status)
+with_name_or_fault s o (Ok name) = with_name s o name
+with_name_or_fault s o (Err line) = ends_with o line status.NoFolder
 
 -- the name of the folder that is to be opened, or the line that says why its word stands for none
-abbrev pub folder_name : SessionState → Start → OrFault (List ℕ)
-folder_name s start = expanded s.desk start.word
+abbrev pub folder_name : SessionState → Options → OrFault (List ℕ)
+folder_name s o = expanded s.desk (folder_word o)
 
 -- the folder is opened
-abbrev pub starting : SessionState → Start → Play (Next RunState Status)
-starting s start = with_name_or_fault s start (folder_name s start)
+abbrev pub starting : SessionState → Options → Play (Next RunState Status)
+starting s o = with_name_or_fault s o (folder_name s o)
 
 -- the usage
 abbrev pub usage : List ℕ
@@ -206,7 +207,9 @@ pairs_for (Some user) pairs = (codes "MAIL", codes "/var/mail/" ++ user) ∷ pai
 -- the state of a session that begins in an environment, whose words ask for this start or for none
 abbrev pub first_of : Environment → Option Start → SessionState
 first_of env None = first_state env.folder env.pairs Receive env.terminal false env.token
-first_of env (Some start) = first_state env.folder (pairs_for start.user env.pairs) (mode_with start.sends) env.terminal start.by_recipient env.token
+first_of env (Some start) =
+    let o = options_of start in
+    first_state env.folder (pairs_for o.user env.pairs) (mode_with start) env.terminal o.named env.token
 
 -- the actor of a run's commits
 abbrev pub actor_in : Environment → List ℕ
@@ -216,15 +219,11 @@ actor_in env = (first_of env None).actor
 abbrev pub sending : SessionState → Options → Play (Next RunState Status)
 sending s o = bind (composing s (draft_with s.desk o)) (λ t. Ret (Go (Reading t no_input)))
 
--- the draft begins, if one is to be sent; else the folder is opened
-abbrev pub starting_with : Option Options → SessionState → Start → Play (Next RunState Status)
-starting_with (Some o) s start = sending s o
-starting_with None s start = starting s start
-
 -- a run opens its folder or begins its draft in a state, or its words are refused
 abbrev pub opening : Option Start → SessionState → Play (Next RunState Status)
 opening None s = says_and_ends usage status.Usage
-opening (Some start) s = starting_with start.sends s start
+opening (Some (Opens o)) s = starting s o
+opening (Some (Sends o)) s = sending s o
 
 -- the start-up file of the system
 abbrev pub system_file : List ℕ
@@ -236,8 +235,8 @@ files_with true own = own ∷ []
 files_with false own = system_file ∷ own ∷ []
 
 -- the names of the start-up files that are read, in order; with `-e` none is
-abbrev pub startup_files : Start → Places → List (List ℕ)
-startup_files start places = if is_silent start.manner then [] else files_with start.no_system_file places.rc
+abbrev pub startup_files : Options → Places → List (List ℕ)
+startup_files o places = if o.exists then [] else files_with o.no_system_file places.rc
 
 -- the state after a line of a start-up file, or after its load, if these are left; or the end
 abbrev pub with_files : Start → List (List ℕ) → Next SessionState Status → Play (Next RunState Status)
@@ -256,24 +255,23 @@ file_round start s names (Some (line, frames)) = bind (waiting_play (resumed s f
 
 -- before the start-up files, in the first state of a run
 abbrev pub prepared : Environment → Start → RunState
-prepared env start = let s = first_of env (Some start) in Preparing start s (startup_files start s.desk.places)
+prepared env start =
+    let s = first_of env (Some start) in
+    Preparing start s (startup_files (options_of start) s.desk.places)
 
--- what follows the recovery at the start: the start-up files, once it is done
-abbrev pub recovered : Environment → Start → RecoveryAnswer → Play (Next RunState Status)
-recovered env start (recovery.Done found) = Ret (Go (prepared env start))
-recovered env start (recovery.Busy name) = ends_with start (with_feed (name ++ codes ": busy")) status.Refused
-recovered env start recovery.NotARecord = Ret (Last status.BadRecord)
-recovered env start (recovery.TooLarge name length) = Ret (Last status.BadRecord)
+-- what follows the recovery before a folder is opened: the start-up files, once it is done
+abbrev pub recovered : Environment → Options → RecoveryAnswer → Play (Next RunState Status)
+recovered env o (recovery.Done found) = Ret (Go (prepared env (Opens o)))
+recovered env o (recovery.Busy name) = ends_with o (with_feed (name ++ codes ": busy")) status.Refused
+recovered env o recovery.NotARecord = Ret (Last status.BadRecord)
+recovered env o (recovery.TooLarge name length) = Ret (Last status.BadRecord)
 
--- what a stopped commit of the actor has left is recovered, unless a draft is to be sent
-abbrev pub recovered_unless : Option Options → Environment → Start → List ℕ → ℕ → Play (Next RunState Status)
-recovered_unless (Some o) env start actor token = Ret (Go (prepared env start))
-recovered_unless None env start actor token = Ask (Recover actor token) (recovered env start)
-
--- that comes before all else, unless the words are refused
+-- what a stopped commit of the actor has left is recovered before all else, unless the words are refused or a draft is to
+-- be sent
 abbrev pub recovering : Environment → Option Start → Play (Next RunState Status)
 recovering env None = Ret (Go (Opening None (first_of env None)))
-recovering env (Some start) = recovered_unless start.sends env start (actor_in env) env.token
+recovering env (Some (Opens o)) = Ask (Recover (actor_in env) env.token) (recovered env o)
+recovering env (Some (Sends o)) = Ret (Go (prepared env (Sends o)))
 
 -- what a run in this environment does from a state on, to its next state or its end
 abbrev pub round : Environment → RunState → Play (Next RunState Status)
@@ -317,16 +315,14 @@ after_recovery env start (Ok None) = Ok (Go (prepared env start))
 after_recovery env start (Ok (Some e)) = Ok (Last e)
 after_recovery env start (Err cause) = Err cause
 
--- the state after a start-up file, if these are left, or the end
-abbrev pub after_file : Start → List (List ℕ) → SessionState → Result (Option Status) Stop → Result (Next RunState Status) Stop
-after_file start names s (Ok None) = Ok (Go (Preparing start s names))
-after_file start names s (Ok (Some e)) = Ok (Last e)
+-- the state after a start-up file, if these are left
+abbrev pub after_file : Start → List (List ℕ) → SessionState → Result (Unit {0}) Stop → Result (Next RunState Status) Stop
+after_file start names s (Ok u) = Ok (Go (Preparing start s names))
 after_file start names s (Err cause) = Err cause
 
--- the opening after the last of them, or the end
-abbrev pub after_files : Start → SessionState → Result (Option Status) Stop → Result (Next RunState Status) Stop
-after_files start s (Ok None) = Ok (Go (Opening (Some start) s))
-after_files start s (Ok (Some e)) = Ok (Last e)
+-- the opening after the last of them
+abbrev pub after_files : Start → SessionState → Result (Unit {0}) Stop → Result (Next RunState Status) Stop
+after_files start s (Ok u) = Ok (Go (Opening (Some start) s))
 after_files start s (Err cause) = Err cause
 
 -- the state after a line, or the end

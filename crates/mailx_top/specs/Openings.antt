@@ -8,14 +8,16 @@ use Rattle.host_port.specs.declared.event.Event.{Event}
 use Rattle.host_port.specs.declared.event.Seen.{Seen}
 use Rattle.host_port.specs.declared.event.Seen.TheVariants as seen
 use Rattle.mbox_scan.specs.Mailbox.{list_of, message_limit}
+use Rattle.mailx_vars.specs.Names.{is_short_name}
+use Rattle.command_desk.specs.Answers.{OrFault}
 use Rattle.session_play.specs.declared.stop.Stop.{Stop}
 use Rattle.session_play.specs.Play.{Play, Next, Loop, again, last, cut}
 use Rattle.session_play.specs.Causes.{some_load_saw}
+use Rattle.session_state.specs.Placing.{placed}
 use Rattle.session_state.specs.declared.status.Status.{Status}
 use Rattle.session_state.specs.declared.status.Status.TheVariants as status
-use Rattle.mailx_top.specs.Words.{Start}
+use Rattle.mailx_top.specs.Words.{Start, Opens, options_of}
 use Rattle.mailx_top.specs.Meaning.{RunState, Opening, folder_name, is_no_mail}
-use Rattle.mailx_top.specs.Usage.{IsBadlyNamed}
 
 -- a load saw that the folder is held
 abbrev pub saw_held : Seen → Bool
@@ -46,15 +48,20 @@ saw_no_folder named s = false
 -- `-f` asks for a folder
 abbrev pub is_named : Option Start → Bool
 is_named None = true
-is_named (Some start) = start.named
+is_named (Some start) = (options_of start).folder
 
 -- there is no mail to read
 abbrev pub OpensNoMail : Option Start → List Event → Type 0
 OpensNoMail start es = some_load_saw (saw_no_mail (is_named start)) es ≡ true
 
+-- a word stands for no name, or for one that can't be a file's
+abbrev pub IsNoName : List ℕ → OrFault (List ℕ) → Type 0
+IsNoName here (Ok name) = is_short_name (placed here name) ≡ false
+IsNoName here (Err line) = Unit {0}
+
 -- a folder is to be opened whose word stands for no name in this state, or for one that can't be a file's
 abbrev pub OpensBadly : RunState → Type 0
-OpensBadly (Opening (Some start) s) = IsBadlyNamed start.sends s.here (folder_name s start)
+OpensBadly (Opening (Some (Opens o)) s) = IsNoName s.here (folder_name s o)
 OpensBadly x = ⊥
 
 -- it is so in some round of a loop

@@ -17,7 +17,7 @@ use Rattle.mailx_top.specs.Leavings.{refused_at_end, last_outcome, IsUnsentExpla
 use Rattle.mailx_top.specs.Openings.{OpenedBadly, IsOpeningExplained}
 use Rattle.mailx_top.specs.Starts.{IsExplainedFrom}
 use Rattle.mailx_top.specs.Unreadable.{some_unreadable_in, IsRecordExplained}
-use Rattle.mailx_top.specs.Words.{Start, may_say, sent_by, start_of}
+use Rattle.mailx_top.specs.Words.{Start, may_say, start_of}
 use Rattle.mailx_top.specs.Statuses.{status_at_stop, line_at_stop, line_at_end}
 
 -- bytes are printed by one Out, as far as they went
@@ -59,7 +59,7 @@ pub record IsRun (start : Option Start) (env : Environment) (s : Status) (es : L
   pub said : SaysUnlessIdle (may_say start) whole.out whole.front whole.behind
   pub explained : IsExplained whole.out whole.front (events_at is_opening whole.plays) (commits_in whole.plays)
   pub record_met : IsRecordExplained whole.out (some_unreadable_in whole.plays)
-  pub opening : IsExplainedFrom (sent_by (start_of start env.pairs)) (actor_in env) whole.out (events_at is_recovering whole.plays)
+  pub opening : IsExplainedFrom (start_of start env.pairs) (actor_in env) whole.out (events_at is_recovering whole.plays)
       (IsOpeningExplained (OpenedBadly whole.plays) (start_of start env.pairs) whole.out
       (events_at is_opening whole.plays) (refused_at_end whole.plays))
   pub sending : IsUnsentExplained whole.out (last_outcome whole.plays) (refused_at_end whole.plays)

@@ -2,7 +2,6 @@
 use Rattle.std.specs.Prelude.{ℕ, List, [], unwrap_or}
 use Rattle.std.specs.Option.{option_map_or}
 use Rattle.std.specs.declared.option.Option.{Option}
-use Rattle.std.specs.declared.option.Option.TheVariants.{Some, None}
 use Rattle.command_words.specs.declared.options.Options.{Options}
 use Rattle.command_words.specs.Names.{names_in}
 use Rattle.draft_text.specs.declared.draft.Draft.{Draft}
@@ -10,11 +9,12 @@ use Rattle.rc_conditionals.specs.declared.conditions.Mode.{Mode}
 use Rattle.rc_conditionals.specs.declared.conditions.Mode.TheVariants.{Send, Receive}
 use Rattle.command_desk.specs.declared.desk.Desk.{Desk}
 use Rattle.draft_commands.specs.Mailing.{writer}
+use Rattle.mailx_top.specs.Words.{Start, Opens, Sends}
 
--- the mode of a run that begins a draft, or that doesn't
-abbrev pub mode_with : Option Options → Mode
-mode_with None = Receive
-mode_with (Some o) = Send
+-- the mode of a run that opens a folder, or that sends a draft
+abbrev pub mode_with : Start → Mode
+mode_with (Opens o) = Receive
+mode_with (Sends o) = Send
 
 -- the names of an option's value; without the option there are none
 abbrev pub names_of : Option (List ℕ) → List (List ℕ)

@@ -1,17 +1,17 @@
 -- How the recovery at the start of a run ended, and what came of it.
 use Rattle.std.specs.Prelude.{◌≡◌, ◌||◌, ℕ, Bool, true, false, List, []}
 use Rattle.std.specs.declared.option.Option.{Option}
-use Rattle.std.specs.declared.option.Option.TheVariants.{Some, None}
+use Rattle.std.specs.declared.option.Option.TheVariants.{Some}
 use Rattle.std.specs.declared.result.Result.{Result}
 use Rattle.std.specs.declared.result.Result.TheVariants.{Ok}
 use Rattle.commit_machine.specs.Jobs.{Busy, NotARecord, TooLarge, Ending, Recovered, Refused}
 use Rattle.host_port.specs.declared.event.Event.{Event}
-use Rattle.command_words.specs.declared.options.Options.{Options}
 use Rattle.folder_recovery.specs.Told.{told_end}
 use Rattle.session_play.specs.declared.stop.Stop.{Stop}
 use Rattle.session_state.specs.declared.status.Status.{Status}
 use Rattle.session_state.specs.declared.status.Status.TheVariants as status
 use Rattle.mailx_top.specs.Openings.{EndsOrIsCut}
+use Rattle.mailx_top.specs.Words.{Start, Sends}
 
 -- it is done, so that the folder is to be opened
 abbrev pub is_recovered : Ending → Bool
@@ -41,7 +41,8 @@ pub record IsStartExplained (out : Result Status Stop) (recovery : Ending) (Open
   pub no_mail_only : out ≡ Ok status.NoMail → is_recovered recovery ≡ true
   pub done_only : out ≡ Ok status.Done → is_recovered recovery ≡ true
 
--- A run that sends a draft recovers nothing, and its opening explains it. Another is explained by its recovery first, whose own events these are.
-abbrev pub IsExplainedFrom : Option Options → List ℕ → Result Status Stop → List Event → Type 0 → Type 0
-IsExplainedFrom (Some o) actor out es Opening = (es ≡ []) × Opening
-IsExplainedFrom None actor out es Opening = IsStartExplained out (told_end actor es) Opening
+-- A run that sends a draft recovers nothing, and its opening explains it. Another is explained by its recovery first,
+-- whose own events these are.
+abbrev pub IsExplainedFrom : Option Start → List ℕ → Result Status Stop → List Event → Type 0 → Type 0
+IsExplainedFrom (Some (Sends o)) actor out es Opening = (es ≡ []) × Opening
+IsExplainedFrom start actor out es Opening = IsStartExplained out (told_end actor es) Opening

@@ -1,21 +1,18 @@
 -- How a run ends if its words, its environment or its folder's name are refused, whatever the host tells.
-use Rattle.std.specs.Prelude.{◌≡◌, ℕ, List, true, false, IfOk}
+use Rattle.std.specs.Prelude.{◌≡◌, true, IfOk}
 use Rattle.std.specs.declared.option.Option.{Option}
 use Rattle.std.specs.declared.option.Option.TheVariants.{Some, None}
 use Rattle.std.specs.declared.result.Result.{Result}
 use Rattle.std.specs.declared.result.Result.TheVariants.{Ok, Err}
 use Rattle.session_play.specs.declared.stop.Stop.{Stop}
 use Rattle.session_play.specs.declared.stop.Stop.TheVariants as stop
-use Rattle.mailx_vars.specs.Names.{is_short_name}
 use Rattle.session_state.specs.declared.status.Status.{Status}
 use Rattle.session_state.specs.declared.status.Status.TheVariants as status
-use Rattle.session_state.specs.Placing.{placed}
 use Rattle.session_state.specs.Statuses.{IsEnd}
-use Rattle.command_desk.specs.Answers.{OrFault}
-use Rattle.command_words.specs.declared.options.Options.{Options}
 use Rattle.mailx_top.specs.declared.environment.Environment.{Environment}
-use Rattle.mailx_top.specs.Words.{Start, is_silent}
-use Rattle.mailx_top.specs.Meaning.{first_of, folder_name}
+use Rattle.mailx_top.specs.Words.{Start, options_of}
+use Rattle.mailx_top.specs.Meaning.{Opening, first_of}
+use Rattle.mailx_top.specs.Openings.{OpensBadly}
 
 -- a line that is printed is cut off if the output fails; memory may run out for it
 abbrev pub IsSayCut : Stop → Type 0
@@ -34,20 +31,11 @@ EndsOrOpens wanted (Ok None) = ⊥
 EndsOrOpens wanted (Ok (Some s)) = s ≡ wanted
 EndsOrOpens wanted (Err cause) = IsSayCut cause
 
--- a word stands for no name, or for one that can't be a file's
-abbrev pub IsNoName : List ℕ → OrFault (List ℕ) → Type 0
-IsNoName here (Ok name) = is_short_name (placed here name) ≡ false
-IsNoName here (Err line) = Unit {0}
-
--- a folder is to be opened, and its word is such
-abbrev pub IsBadlyNamed : Option Options → List ℕ → OrFault (List ℕ) → Type 0
-IsBadlyNamed (Some o) here name = ⊥
-IsBadlyNamed None here name = IsNoName here name
-
--- so is the folder's that is to be opened, and no start-up file can set variables that it stands on
+-- a folder is to be opened whose word is bad in the first state of a run, and no start-up file can set variables that it
+-- stands on
 abbrev pub IsBadName : Environment → Option Start → Type 0
 IsBadName env None = ⊥
-IsBadName env (Some start) = let s = first_of env (Some start) in (is_silent start.manner ≡ true) × IsBadlyNamed start.sends s.here (folder_name s start)
+IsBadName env (Some start) = ((options_of start).exists ≡ true) × OpensBadly (Opening (Some start) (first_of env (Some start)))
 
 -- the recovery at the start is cut off by a fault of the disk, or because memory ran out; so is the line that it may print, if the output fails
 abbrev pub IsStartCut : Stop → Type 0

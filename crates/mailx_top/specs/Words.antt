@@ -1,5 +1,5 @@
 -- What the words of the command line ask a run to do.
-use Rattle.std.specs.Prelude.{not, ℕ, Bool, true, false, List, [], ◌∷◌, if◌then◌else◌, codes}
+use Rattle.std.specs.Prelude.{not, ℕ, Bool, false, List, [], ◌∷◌, if◌then◌else◌, codes}
 use Rattle.std.specs.Option.{option_and_then}
 use Rattle.std.specs.declared.option.Option.{Option}
 use Rattle.std.specs.declared.option.Option.TheVariants.{Some, None}
@@ -12,17 +12,15 @@ use Rattle.mailx_vars.specs.Environment.{Pairs, knows_user}
 use Rattle.mailx_top.specs.declared.words.Manner.{Manner}
 use Rattle.mailx_top.specs.declared.words.Manner.TheVariants.{Silent, Rows, Quiet, Greeting}
 
--- how to start: the word of the folder to open, whether `-f` asks for it, the user of `-u`, whether `-n` passes over the
--- start-up file of the system, whether `-F` names the file of a draft, what is printed once the folder is open, and what the
--- draft begins with that is begun in the folder's place, if one is
-pub record Start : Type 0 where
-  pub word : List ℕ
-  pub named : Bool
-  pub user : Option (List ℕ)
-  pub no_system_file : Bool
-  pub by_recipient : Bool
-  pub manner : Manner
-  pub sends : Option Options
+-- how to start, with the options of the words: a folder is opened, or a draft is sent
+pub data Start : Type 0 where
+  Opens : Options → Start
+  Sends : Options → Start
+
+-- the options with which a run starts
+abbrev pub options_of : Start → Options
+options_of (Opens o) = o
+options_of (Sends o) = o
 
 -- the first of these words, or another if there is none
 abbrev pub first_or : List ℕ → List (List ℕ) → List ℕ
@@ -37,22 +35,11 @@ folder_word o = if o.folder then first_or (codes "&") o.operands else codes "%"
 abbrev pub manner_of : Options → Manner
 manner_of o = if o.exists then Silent else if o.headers then Rows else if o.quiet then Quiet else Greeting
 
-abbrev pub start_with : Options → Start
-start_with o = record {
-  word = folder_word o;
-  named = o.folder;
-  user = o.user;
-  no_system_file = o.no_system_file;
-  by_recipient = o.named;
-  manner = manner_of o;
-  sends = None;
-}
-
 -- how to start in a mode; what tries isn't built
 abbrev pub start_in : Mode → Options → Option Start
-start_in mode.Exists o = Some (start_with o)
-start_in mode.Receive o = Some (start_with o)
-start_in mode.Send o = Some (record (start_with o) { sends = Some o })
+start_in mode.Exists o = Some (Opens o)
+start_in mode.Receive o = Some (Opens o)
+start_in mode.Send o = Some (Sends o)
 start_in m o = None
 
 abbrev pub start_by : Wanted → Option Start
@@ -62,20 +49,10 @@ start_by wanted = start_in wanted.mode wanted.options
 abbrev pub asked : List (List ℕ) → Option Start
 asked words = option_and_then start_by (reading words)
 
--- the run prints nothing
-abbrev pub is_silent : Manner → Bool
-is_silent Silent = true
-is_silent manner = false
-
--- a last line may be printed: the words aren't refused, nor do they ask for silence
+-- a last line may be printed: the words aren't refused, nor do they ask for silence with `-e`
 abbrev pub may_say : Option Start → Bool
 may_say None = false
-may_say (Some start) = not (is_silent start.manner)
-
--- what the draft begins with that a run sends, if it sends one
-abbrev pub sent_by : Option Start → Option Options
-sent_by None = None
-sent_by (Some start) = start.sends
+may_say (Some start) = not (options_of start).exists
 
 -- how to start; none if the words are refused, or home folder and user aren't known
 abbrev pub start_of : Option Start → Pairs → Option Start

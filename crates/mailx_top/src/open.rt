@@ -11,14 +11,15 @@ ghost use Rattle.session_state.specs.Placing.{placed};
 ghost use Rattle.session_asks.specs.Openings.{Opens};
 ghost use Rattle.mailx_top.specs.declared.environment.Environment.{Environment};
 ghost use Rattle.mailx_top.specs.Meaning.{starting, with_name, folder_name, loaded, unheld, is_no_mail, reader, with_list, begun, greeted, all_rows, heard, ends_with, round, Opening, opening, next_state};
-ghost use Rattle.mailx_top.specs.Openings.{OpensBadly};
+ghost use Rattle.mailx_top.specs.Openings.{IsNoName, OpensBadly};
 ghost use Rattle.session_state.specs.Statuses.{IsEnd};
-ghost use Rattle.mailx_top.specs.Usage.{EndsOr, EndsOrOpens, IsNoName};
+ghost use Rattle.mailx_top.specs.Usage.{EndsOr, EndsOrOpens};
 ghost use Rattle.mailx_top.specs.Wants.{start_from};
 
 use crate::sending::begin_draft;
-use crate::words::{Asked, Manner};
+use crate::words::{Manner, Start, folder_word, manner_of};
 use command_desk::{Refusal, expanded, line_of};
+use command_words::Options;
 use host_port::Host;
 use mail_text::{Memory, Text};
 use mailx_session::{Session, Status, placed};
@@ -45,13 +46,13 @@ pub(crate) fn end_with_usage<H: Host>(host: &mut H) -> Result<Status, Stop>
 }
 
 // Prints a line, unless the run is to be silent.
-fn tell<H: Host>(host: &mut H, start: Asked<'_>, line: &[u8]) -> Result<(), Stop>
+fn tell<H: Host>(host: &mut H, options: &Options, line: &[u8]) -> Result<(), Stop>
     ensures ran { Ran H.world host.old host.new
-        (λ es. Goes (Ask (Say (heard (start_from start.entry) line.now)) Ret) es result) }
+        (λ es. Goes (Ask (Say (heard options.now line.now)) Ret) es result) }
     ensures cause { Caused (H.world.counts host.old) (H.world.counts host.new) result }
     ensures only_output { IfErr result (λ cause. cause ≡ Stop.Output) }
 {
-    if start.manner.is_silent() {
+    if options.exists {
         Ok(())
     } else {
         say(host, line)
@@ -61,17 +62,17 @@ fn tell<H: Host>(host: &mut H, start: Asked<'_>, line: &[u8]) -> Result<(), Stop
 // Prints a line, if one may be printed, and ends.
 fn end_with<H: Host>(
     host: &mut H,
-    start: Asked<'_>,
+    options: &Options,
     line: &[u8],
     end: Status,
 ) -> Result<Option<Status>, Stop>
     ensures ran { (s : SessionState) → Ran H.world host.old host.new
-        (λ es. Goes (ends_with (start_from start.entry) line.now end) es (next_state s no_input result)) }
+        (λ es. Goes (ends_with options.now line.now end) es (next_state s no_input result)) }
     ensures cause { Caused (H.world.counts host.old) (H.world.counts host.new) result }
     ensures same_end { IfOk result (λ e. e ≡ Some end) }
     ensures ends { EndsOrOpens end result }
 {
-    match tell(host, start, line) {
+    match tell(host, options, line) {
         Ok(()) => Ok(Some(end)),
         Err(cause) => Err(cause),
     }
@@ -81,20 +82,20 @@ fn end_with<H: Host>(
 pub(crate) fn end_at_file<H: Host>(
     alloc: Global,
     host: &mut H,
-    start: Asked<'_>,
+    options: &Options,
     name: &[u8],
     fault: &[u8],
     end: Status,
 ) -> Result<Option<Status>, Stop>
     ensures ran { (s : SessionState) → Ran H.world host.old host.new
-        (λ es. Goes (ends_with (start_from start.entry) (with_feed (name.now ++ fault.now)) end)
+        (λ es. Goes (ends_with options.now (with_feed (name.now ++ fault.now)) end)
         es (next_state s no_input result)) }
     ensures cause { Caused (H.world.counts host.old) (H.world.counts host.new) result }
     ensures same_end { IfOk result (λ e. e ≡ Some end) }
     ensures ends { EndsOrOpens end result }
 {
     match line_of(alloc, name, fault) {
-        Ok(line) => end_with(host, start, line.bytes(), end),
+        Ok(line) => end_with(host, options, line.bytes(), end),
         Err(Memory) => Err(Stop::Memory),
     }
 }
@@ -183,19 +184,19 @@ fn put_folder(
 fn begin<H: Host>(
     alloc: Global,
     host: &mut H,
-    start: Asked<'_>,
+    options: &Options,
     name: &[u8],
     folder: Folder,
     session: &mut Session,
 ) -> Result<Option<Status>, Stop>
     ensures ran { Ran H.world host.old host.new
-        (λ es. Goes (begun session.old (start_from start.entry) name.now folder (texts_of folder))
+        (λ es. Goes (begun session.old options.now name.now folder (texts_of folder))
         es (next_state session.new no_input result)) }
     ensures cause { Caused (H.world.counts host.old) (H.world.counts host.new) result }
     ensures plain { IfOk result (λ end. IfSome end (λ e. IsEnd e)) }
 {
     match put_folder(alloc, session, name, folder) {
-        Ok(()) => greet(alloc, host, start.manner, session),
+        Ok(()) => greet(alloc, host, manner_of(options), session),
         Err(Memory) => Err(Stop::Memory),
     }
 }
@@ -203,24 +204,24 @@ fn begin<H: Host>(
 fn open_bytes<H: Host>(
     alloc: Global,
     host: &mut H,
-    start: Asked<'_>,
+    options: &Options,
     name: &[u8],
     bytes: Text,
     session: &mut Session,
 ) -> Result<Option<Status>, Stop>
     ensures ran { Ran H.world host.old host.new
-        (λ es. Goes (with_list session.old (start_from start.entry) name.now bytes (list_of bytes))
+        (λ es. Goes (with_list session.old options.now name.now bytes (list_of bytes))
         es (next_state session.new no_input result)) }
     ensures cause { Caused (H.world.counts host.old) (H.world.counts host.new) result }
     ensures plain { IfOk result (λ end. IfSome end (λ e. IsEnd e)) }
 {
     match Folder::open(alloc, bytes) {
-        Ok(folder) => begin(alloc, host, start, name, folder, session),
+        Ok(folder) => begin(alloc, host, options, name, folder, session),
         Err(ScanError::NotAMailbox) => {
             end_at_file(
                 alloc,
                 host,
-                start,
+                options,
                 name,
                 b": not a mailbox",
                 Status::NoFolder,
@@ -230,7 +231,7 @@ fn open_bytes<H: Host>(
             end_at_file(
                 alloc,
                 host,
-                start,
+                options,
                 name,
                 b": too many messages",
                 Status::NoFolder,
@@ -241,11 +242,11 @@ fn open_bytes<H: Host>(
 }
 
 // The user whose mail is read.
-fn reader<'a>(session: &'a Session, start: Asked<'a>) -> &'a [u8]
-    ensures { result.now ≡ reader session.entry.now (start_from start.entry) }
+fn reader<'a>(session: &'a Session, options: &'a Options) -> &'a [u8]
+    ensures { result.now ≡ reader session.entry.now options.now }
 {
-    match start.user {
-        Some(user) => user,
+    match &options.user {
+        Some(user) => user.bytes(),
         None => session.desk().places.user.bytes(),
     }
 }
@@ -254,18 +255,25 @@ fn reader<'a>(session: &'a Session, start: Asked<'a>) -> &'a [u8]
 fn end_without_mail<H: Host>(
     alloc: Global,
     host: &mut H,
-    start: Asked<'_>,
+    options: &Options,
     session: &Session,
 ) -> Result<Option<Status>, Stop>
     ensures ran { Ran H.world host.old host.new
-        (λ es. Goes (ends_with (start_from start.entry)
-        (with_feed (codes "No mail for " ++ reader session.now (start_from start.entry))) Status.NoMail)
+        (λ es. Goes (ends_with options.now
+        (with_feed (codes "No mail for " ++ reader session.now options.now)) Status.NoMail)
         es (next_state session.now no_input result)) }
     ensures cause { Caused (H.world.counts host.old) (H.world.counts host.new) result }
     ensures plain { IfOk result (λ end. IfSome end (λ e. IsEnd e)) }
 {
-    let reader = reader(session, start);
-    end_at_file(alloc, host, start, b"No mail for ", reader, Status::NoMail)
+    let reader = reader(session, options);
+    end_at_file(
+        alloc,
+        host,
+        options,
+        b"No mail for ",
+        reader,
+        Status::NoMail,
+    )
 }
 
 // Whether there is no mail: without `-f` the file is absent, or empty.
@@ -283,23 +291,23 @@ fn is_no_mail(named: bool, bytes: &Option<Text>) -> bool
 fn open_file<H: Host>(
     alloc: Global,
     host: &mut H,
-    start: Asked<'_>,
+    options: &Options,
     name: &[u8],
     bytes: Option<Text>,
     session: &mut Session,
 ) -> Result<Option<Status>, Stop>
     ensures ran { Ran H.world host.old host.new
-        (λ es. Goes (unheld session.old (start_from start.entry) name.now bytes false) es
+        (λ es. Goes (unheld session.old options.now name.now bytes false) es
         (next_state session.new no_input result)) }
     ensures cause { Caused (H.world.counts host.old) (H.world.counts host.new) result }
     ensures plain { IfOk result (λ end. IfSome end (λ e. IsEnd e)) }
 {
     match bytes {
-        Some(bytes) => open_bytes(alloc, host, start, name, bytes, session),
+        Some(bytes) => open_bytes(alloc, host, options, name, bytes, session),
         None => end_at_file(
             alloc,
             host,
-            start,
+            options,
             name,
             b": no such file",
             Status::NoFolder,
@@ -311,47 +319,47 @@ fn open_file<H: Host>(
 fn open_unheld<H: Host>(
     alloc: Global,
     host: &mut H,
-    start: Asked<'_>,
+    options: &Options,
     name: &[u8],
     bytes: Option<Text>,
     session: &mut Session,
 ) -> Result<Option<Status>, Stop>
     ensures ran { Ran H.world host.old host.new
-        (λ es. Goes (loaded session.old (start_from start.entry) name.now (Found.Bytes bytes false)) es
+        (λ es. Goes (loaded session.old options.now name.now (Found.Bytes bytes false)) es
         (next_state session.new no_input result)) }
     ensures cause { Caused (H.world.counts host.old) (H.world.counts host.new) result }
     ensures plain { IfOk result (λ end. IfSome end (λ e. IsEnd e)) }
 {
-    if is_no_mail(start.named, &bytes) {
-        end_without_mail(alloc, host, start, session)
+    if is_no_mail(options.folder, &bytes) {
+        end_without_mail(alloc, host, options, session)
     } else {
-        open_file(alloc, host, start, name, bytes, session)
+        open_file(alloc, host, options, name, bytes, session)
     }
 }
 
 fn open_found<H: Host>(
     alloc: Global,
     host: &mut H,
-    start: Asked<'_>,
+    options: &Options,
     name: &[u8],
     found: Found,
     session: &mut Session,
 ) -> Result<Option<Status>, Stop>
     ensures ran { Ran H.world host.old host.new
-        (λ es. Goes (loaded session.old (start_from start.entry) name.now found) es
+        (λ es. Goes (loaded session.old options.now name.now found) es
         (next_state session.new no_input result)) }
     ensures cause { Caused (H.world.counts host.old) (H.world.counts host.new) result }
     ensures plain { IfOk result (λ end. IfSome end (λ e. IsEnd e)) }
 {
     match found {
         Found::Bytes { held: true, .. } => {
-            end_at_file(alloc, host, start, name, b": busy", Status::Refused)
+            end_at_file(alloc, host, options, name, b": busy", Status::Refused)
         }
         Found::Bytes { bytes, held: false } => {
-            open_unheld(alloc, host, start, name, bytes, session)
+            open_unheld(alloc, host, options, name, bytes, session)
         }
         Found::TooLarge { .. } => {
-            end_at_file(alloc, host, start, name, b": too large", Status::NoFolder)
+            end_at_file(alloc, host, options, name, b": too large", Status::NoFolder)
         }
     }
 }
@@ -359,20 +367,20 @@ fn open_found<H: Host>(
 fn load_and_open<H: Host>(
     alloc: Global,
     host: &mut H,
-    start: Asked<'_>,
+    options: &Options,
     name: &[u8],
     file: &[u8],
     session: &mut Session,
 ) -> Result<Option<Status>, Stop>
     requires { is_short_name file.now ≡ true }
     ensures ran { Ran H.world host.old host.new
-        (λ es. Goes (Ask (Read file.now) (loaded session.old (start_from start.entry) name.now))
+        (λ es. Goes (Ask (Read file.now) (loaded session.old options.now name.now))
         es (next_state session.new no_input result)) }
     ensures cause { Caused (H.world.counts host.old) (H.world.counts host.new) result }
     ensures plain { IfOk result (λ end. IfSome end (λ e. IsEnd e)) }
 {
     match load(alloc, host, file) {
-        Ok(found) => open_found(alloc, host, start, name, found, session),
+        Ok(found) => open_found(alloc, host, options, name, found, session),
         Err(cause) => Err(cause),
     }
 }
@@ -381,23 +389,23 @@ fn load_and_open<H: Host>(
 fn open_placed<H: Host>(
     alloc: Global,
     host: &mut H,
-    start: Asked<'_>,
+    options: &Options,
     name: &[u8],
     file: &[u8],
     session: &mut Session,
 ) -> Result<Option<Status>, Stop>
     requires { file.now ≡ placed session.old.here name.now }
     ensures ran { Ran H.world host.old host.new
-        (λ es. Goes (with_name session.old (start_from start.entry) name.now) es
+        (λ es. Goes (with_name session.old options.now name.now) es
         (next_state session.new no_input result)) }
     ensures cause { Caused (H.world.counts host.old) (H.world.counts host.new) result }
     ensures plain { IfOk result (λ end. IfSome end (λ e. IsEnd e)) }
     ensures bad_name { is_short_name file.now ≡ false → EndsOrOpens Status.NoFolder result }
 {
     if is_short_name(file) {
-        load_and_open(alloc, host, start, name, file, session)
+        load_and_open(alloc, host, options, name, file, session)
     } else {
-        end_at_file(alloc, host, start, name, b": bad name", Status::NoFolder)
+        end_at_file(alloc, host, options, name, b": bad name", Status::NoFolder)
     }
 }
 
@@ -405,12 +413,12 @@ fn open_placed<H: Host>(
 fn open_name<H: Host>(
     alloc: Global,
     host: &mut H,
-    start: Asked<'_>,
+    options: &Options,
     name: &[u8],
     session: &mut Session,
 ) -> Result<Option<Status>, Stop>
     ensures ran { Ran H.world host.old host.new
-        (λ es. Goes (with_name session.old (start_from start.entry) name.now) es
+        (λ es. Goes (with_name session.old options.now name.now) es
         (next_state session.new no_input result)) }
     ensures cause { Caused (H.world.counts host.old) (H.world.counts host.new) result }
     ensures plain { IfOk result (λ end. IfSome end (λ e. IsEnd e)) }
@@ -418,7 +426,7 @@ fn open_name<H: Host>(
         → EndsOrOpens Status.NoFolder result }
 {
     match placed(alloc, session.state().here.bytes(), name) {
-        Ok(file) => open_placed(alloc, host, start, name, file.bytes(), session),
+        Ok(file) => open_placed(alloc, host, options, name, file.bytes(), session),
         Err(Memory) => Err(Stop::Memory),
     }
 }
@@ -427,28 +435,28 @@ fn open_name<H: Host>(
 fn open<H: Host>(
     alloc: Global,
     host: &mut H,
-    start: Asked<'_>,
+    options: &Options,
     session: &mut Session,
 ) -> Result<Option<Status>, Stop>
     ensures ran { Ran H.world host.old host.new
-        (λ es. Goes (starting session.old (start_from start.entry)) es (next_state session.new no_input result)) }
+        (λ es. Goes (starting session.old options.now) es (next_state session.new no_input result)) }
     ensures cause { Caused (H.world.counts host.old) (H.world.counts host.new) result }
     ensures plain { IfOk result (λ end. IfSome end (λ e. IsEnd e)) }
-    ensures bad_name { IsNoName session.old.here (folder_name session.old (start_from start.entry))
+    ensures bad_name { IsNoName session.old.here (folder_name session.old options.now)
         → EndsOrOpens Status.NoFolder result }
 {
-    match expanded(alloc, session.desk(), start.word) {
-        Ok(name) => open_name(alloc, host, start, name.bytes(), session),
-        Err(Refusal::Fault { line }) => end_with(host, start, line.bytes(), Status::NoFolder),
+    match expanded(alloc, session.desk(), folder_word(options)) {
+        Ok(name) => open_name(alloc, host, options, name.bytes(), session),
+        Err(Refusal::Fault { line }) => end_with(host, options, line.bytes(), Status::NoFolder),
         Err(Refusal::Memory) => Err(Stop::Memory),
     }
 }
 
-/// Begins the draft that is to be sent, if one is; else opens the folder that the words name, or prints why not.
+/// Opens the folder that the words name, or prints why not; or begins the draft that is to be sent.
 pub(crate) fn open_or_begin<H: Host>(
     alloc: Global,
     host: &mut H,
-    start: Asked<'_>,
+    start: Start<'_>,
     session: &mut Session,
 ) -> Result<Option<Status>, Stop>
     ensures ran { Ran H.world host.old host.new
@@ -459,8 +467,8 @@ pub(crate) fn open_or_begin<H: Host>(
     ensures bad_name { OpensBadly (Opening (Some (start_from start.entry)) session.old)
         → EndsOrOpens Status.NoFolder result }
 {
-    match start.sends {
-        Some(options) => begin_draft(alloc, host, options, session),
-        None => open(alloc, host, start, session),
+    match start {
+        Start::Opens(options) => open(alloc, host, options, session),
+        Start::Sends(options) => begin_draft(alloc, host, options, session),
     }
 }

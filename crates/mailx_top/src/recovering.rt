@@ -1,13 +1,16 @@
 // What a stopped commit has left is recovered before all else.
+ghost use Rattle.std.specs.Prelude.{◌≡◌, Some};
 ghost use Rattle.host_port.specs.Ran.{Ran};
 ghost use Rattle.session_play.specs.Play.{Play, Ask, Recover, Goes, Caused};
 ghost use Rattle.mailx_top.specs.declared.environment.Environment.{Environment};
-ghost use Rattle.mailx_top.specs.Meaning.{recovered, recovered_unless, after_recovery};
+ghost use Rattle.mailx_top.specs.Meaning.{recovered, recovering, first_of, after_recovery};
 ghost use Rattle.mailx_top.specs.Usage.{StopsAtStart};
 ghost use Rattle.mailx_top.specs.Wants.{start_from};
+ghost use Rattle.mailx_top.specs.Words.{Opens};
 
 use crate::open::end_at_file;
-use crate::words::Asked;
+use crate::words::Start;
+use command_words::Options;
 use host_port::Host;
 use mailx_session::{Session, Status};
 use session_play::{RecoveryAnswer, Stop, recovery};
@@ -17,19 +20,26 @@ use std::alloc::Global;
 fn answered<H: Host>(
     alloc: Global,
     host: &mut H,
-    start: Asked<'_>,
+    options: &Options,
     answer: RecoveryAnswer,
 ) -> Result<Option<Status>, Stop>
     ensures ran { (env : Environment) → Ran H.world host.old host.new
-        (λ es. Goes (recovered env (start_from start.entry) answer) es
-        (after_recovery env (start_from start.entry) result)) }
+        (λ es. Goes (recovered env options.now answer) es
+        (after_recovery env (Opens options.now) result)) }
     ensures cause { Caused (H.world.counts host.old) (H.world.counts host.new) result }
     ensures stops { StopsAtStart result }
 {
     match answer {
         RecoveryAnswer::Done(_) => Ok(None),
         RecoveryAnswer::Busy { name } => {
-            end_at_file(alloc, host, start, name.bytes(), b": busy", Status::Refused)
+            end_at_file(
+                alloc,
+                host,
+                options,
+                name.bytes(),
+                b": busy",
+                Status::Refused,
+            )
         }
         RecoveryAnswer::NotARecord | RecoveryAnswer::TooLarge { .. } => Ok(Some(Status::BadRecord)),
     }
@@ -40,17 +50,17 @@ fn answered<H: Host>(
 fn recover_first<H: Host>(
     alloc: Global,
     host: &mut H,
-    start: Asked<'_>,
+    options: &Options,
     session: &Session,
 ) -> Result<Option<Status>, Stop>
     ensures ran { (env : Environment) → Ran H.world host.old host.new
-        (λ es. Goes (Ask (Recover session.now.actor session.now.token) (recovered env (start_from start.entry))) es
-        (after_recovery env (start_from start.entry) result)) }
+        (λ es. Goes (Ask (Recover session.now.actor session.now.token) (recovered env options.now)) es
+        (after_recovery env (Opens options.now) result)) }
     ensures cause { Caused (H.world.counts host.old) (H.world.counts host.new) result }
     ensures stops { StopsAtStart result }
 {
     match recovery(alloc, host, session.state().actor.bytes()) {
-        Ok(answer) => answered(alloc, host, start, answer),
+        Ok(answer) => answered(alloc, host, options, answer),
         Err(cause) => Err(cause),
     }
 }
@@ -59,17 +69,17 @@ fn recover_first<H: Host>(
 pub(crate) fn recover_unless_sending<H: Host>(
     alloc: Global,
     host: &mut H,
-    start: Asked<'_>,
+    start: Start<'_>,
     session: &Session,
 ) -> Result<Option<Status>, Stop>
-    ensures ran { (env : Environment) → Ran H.world host.old host.new
-        (λ es. Goes (recovered_unless (start_from start.entry).sends env (start_from start.entry) session.now.actor
-        session.now.token) es (after_recovery env (start_from start.entry) result)) }
+    ensures ran { (env : Environment) → session.now ≡ first_of env (Some (start_from start.entry))
+        → Ran H.world host.old host.new (λ es. Goes (recovering env (Some (start_from start.entry))) es
+        (after_recovery env (start_from start.entry) result)) }
     ensures cause { Caused (H.world.counts host.old) (H.world.counts host.new) result }
     ensures stops { StopsAtStart result }
 {
-    match start.sends {
-        Some(_) => Ok(None),
-        None => recover_first(alloc, host, start, session),
+    match start {
+        Start::Opens(options) => recover_first(alloc, host, options, session),
+        Start::Sends(_) => Ok(None),
     }
 }

@@ -1,13 +1,14 @@
 // The draft of send mode.
 ghost use Rattle.std.specs.Prelude.{◌≡◌, None, IfOk, unwrap_or, []};
-ghost use Rattle.std.specs.Option.{option_copied};
 ghost use Rattle.host_port.specs.Ran.{Ran};
 ghost use Rattle.session_play.specs.Input.{no_input};
 ghost use Rattle.session_play.specs.Play.{Play, Goes, Caused};
 ghost use Rattle.mailx_top.specs.Meaning.{sending, next_state};
 ghost use Rattle.mailx_top.specs.Sending.{draft_with, mode_with, names_of};
+ghost use Rattle.mailx_top.specs.Wants.{start_from};
 
 use crate::session::stop_of;
+use crate::words::Start;
 use command_desk::copies;
 use command_words::{Options, names_in};
 use draft_commands::writer;
@@ -20,13 +21,13 @@ use read_commands::Desk;
 use session_play::Stop;
 use std::alloc::Global;
 
-/// The mode of a run that begins a draft, or that doesn't.
-pub(crate) fn mode_with(sends: Option<&Options>) -> Mode
-    ensures { result ≡ mode_with (option_copied sends.entry) }
+/// The mode of a run that opens a folder, or that sends a draft.
+pub(crate) fn mode_with(start: Start<'_>) -> Mode
+    ensures { result ≡ mode_with (start_from start.entry) }
 {
-    match sends {
-        Some(_) => Mode::Send,
-        None => Mode::Receive,
+    match start {
+        Start::Opens(_) => Mode::Receive,
+        Start::Sends(_) => Mode::Send,
     }
 }
 

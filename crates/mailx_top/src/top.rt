@@ -16,7 +16,7 @@ ghost use Rattle.mailx_top.specs.Usage.{EndsAsNamed, EndsOr, EndsUnopened, IsBad
 ghost use Rattle.mailx_top.specs.Wants.{may_start, start_from};
 ghost use Rattle.folder_commit.specs.Safe.{MayCommit};
 ghost use Rattle.mailx_top.specs.Crash.{IsSafe};
-ghost use Rattle.mailx_top.specs.Words.{asked, may_say, start_of};
+ghost use Rattle.mailx_top.specs.Words.{asked, may_say, options_of, start_of};
 
 use crate::Environment;
 use crate::open::{end_with_usage, open_or_begin};
@@ -25,7 +25,7 @@ use crate::sending::mode_with;
 use crate::session::lines;
 use crate::startup::read_files;
 use crate::status::{stop_line, stop_status};
-use crate::words::{Asked, asked_by, may_say, start_of, wanted};
+use crate::words::{Start, asked_by, may_say, start_of, wanted};
 use commit_machine::record_name;
 use host_port::Host;
 use mail_text::{Items, Memory, Text};
@@ -38,7 +38,7 @@ use std::alloc::Global;
 fn open_session<H: Host>(
     alloc: Global,
     host: &mut H,
-    start: Asked<'_>,
+    start: Start<'_>,
     session: &mut Session,
 ) -> Result<Status, Stop>
     ensures ran { (env : Environment) → Ran H.world host.old host.new
@@ -59,18 +59,17 @@ fn open_session<H: Host>(
 fn read_session<H: Host>(
     alloc: Global,
     host: &mut H,
-    start: Asked<'_>,
+    start: Start<'_>,
     session: &mut Session,
 ) -> Result<Status, Stop>
     ensures ran { (env : Environment) → Ran H.world host.old host.new
         (λ es. Loop (round env) (Preparing (start_from start.entry) session.old
-        (files_with start.entry.no_system_file session.old.desk.places.rc)) es result) }
+        (files_with (options_of (start_from start.entry)).no_system_file session.old.desk.places.rc)) es result) }
     ensures cause { Caused (H.world.counts host.old) (H.world.counts host.new) result }
     ensures plain { IfOk result (λ e. IsEnd e) }
 {
-    match read_files(alloc, host, start.no_system_file, session) {
-        Ok(None) => open_session(alloc, host, start, session),
-        Ok(Some(end)) => Ok(end),
+    match read_files(alloc, host, start.options().no_system_file, session) {
+        Ok(()) => open_session(alloc, host, start, session),
         Err(cause) => Err(cause),
     }
 }
@@ -80,7 +79,7 @@ fn prepare_session<H: Host>(
     alloc: Global,
     host: &mut H,
     env: &Environment,
-    start: Asked<'_>,
+    start: Start<'_>,
     session: &mut Session,
 ) -> Result<Status, Stop>
     requires { session.old ≡ first_of env.now (Some (start_from start)) }
@@ -90,7 +89,7 @@ fn prepare_session<H: Host>(
     ensures plain { IfOk result (λ e. IsEnd e) }
     ensures bad_name { IsBadName env.now (Some (start_from start.entry)) → EndsOr Status.NoFolder result }
 {
-    if start.manner.is_silent() {
+    if start.options().exists {
         open_session(alloc, host, start, session)
     } else {
         read_session(alloc, host, start, session)
@@ -102,7 +101,7 @@ fn play_session<H: Host>(
     alloc: Global,
     host: &mut H,
     env: &Environment,
-    start: Asked<'_>,
+    start: Start<'_>,
     session: &mut Session,
 ) -> Result<Status, Stop>
     requires { session.old ≡ first_of env.now (Some (start_from start)) }
@@ -142,16 +141,17 @@ fn pairs_of_user(
 }
 
 // The session that a run begins with.
-fn first_session(alloc: Global, env: &Environment, start: Asked<'_>) -> Result<Session, Memory>
+fn first_session(alloc: Global, env: &Environment, start: Start<'_>) -> Result<Session, Memory>
     requires { knows_user env.now.pairs ≡ true }
     ensures { IfOk result (λ session. session ≡ first_of env.now (Some (start_from start.entry))) }
 {
-    let mode = mode_with(start.sends);
-    let by_recipient = start.by_recipient;
+    let mode = mode_with(start);
+    let options = start.options();
+    let by_recipient = options.named;
     let folder = env.folder.bytes();
-    match start.user {
+    match &options.user {
         Some(user) => {
-            let pairs = pairs_of_user(alloc, env.pairs.items(), user)?;
+            let pairs = pairs_of_user(alloc, env.pairs.items(), user.bytes())?;
             Session::new(
                 alloc,
                 folder,
@@ -178,7 +178,7 @@ fn start_session<H: Host>(
     alloc: Global,
     host: &mut H,
     env: &Environment,
-    start: Asked<'_>,
+    start: Start<'_>,
 ) -> Result<Status, Stop>
     requires { knows_user env.now.pairs ≡ true }
     ensures ran { Ran H.world host.old host.new
@@ -196,7 +196,7 @@ fn start_session<H: Host>(
 fn play<H: Host>(
     alloc: Global,
     host: &mut H,
-    asked: Option<Asked<'_>>,
+    asked: Option<Start<'_>>,
     env: &Environment,
 ) -> Result<Status, Stop>
     ensures ran { Ran H.world host.old host.new
@@ -257,7 +257,7 @@ fn end_of(alloc: Global, env: &Environment, status: Status) -> Result<End, Memor
 fn play_to_end<H: Host>(
     alloc: Global,
     host: &mut H,
-    asked: Option<Asked<'_>>,
+    asked: Option<Start<'_>>,
     env: &Environment,
 ) -> Result<End, Stop>
     ensures ran { Ran H.world host.old host.new
@@ -277,7 +277,7 @@ fn play_to_end<H: Host>(
 }
 
 // Prints a last line, if one may be printed.
-fn say_last<H: Host>(host: &mut H, asked: Option<Asked<'_>>, line: &[u8])
+fn say_last<H: Host>(host: &mut H, asked: Option<Start<'_>>, line: &[u8])
     ensures { Ran H.world host.old host.new (SaysLast (may_say (may_start asked.entry)) line.now) }
 {
     if may_say(asked) {
@@ -286,7 +286,7 @@ fn say_last<H: Host>(host: &mut H, asked: Option<Asked<'_>>, line: &[u8])
 }
 
 // Prints the line of an end, if there is one and it may be printed.
-fn say_end<H: Host>(host: &mut H, asked: Option<Asked<'_>>, end: &End)
+fn say_end<H: Host>(host: &mut H, asked: Option<Start<'_>>, end: &End)
     ensures { Ran H.world host.old host.new (SaysAtEnd (may_say (may_start asked.entry)) end.now.line) }
 {
     match &end.line {
@@ -296,7 +296,7 @@ fn say_end<H: Host>(host: &mut H, asked: Option<Asked<'_>>, end: &End)
 }
 
 // Prints why the run is cut off, if that may be printed.
-fn say_cut<H: Host>(host: &mut H, asked: Option<Asked<'_>>, cause: Stop)
+fn say_cut<H: Host>(host: &mut H, asked: Option<Start<'_>>, cause: Stop)
     ensures { Ran H.world host.old host.new (SaysLast (may_say (may_start asked.entry)) (line_at_stop cause)) }
 {
     if may_say(asked) {

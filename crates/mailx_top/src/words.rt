@@ -1,10 +1,10 @@
 // The words of the command line.
 ghost use Rattle.std.specs.Prelude.{◌≡◌, IfOk, IfSome, Some, true};
-ghost use Rattle.std.specs.Option.{option_and_then, option_copied};
+ghost use Rattle.std.specs.Option.{option_and_then};
 ghost use Rattle.command_words.specs.Readings.{reading};
 ghost use Rattle.mailx_vars.specs.Environment.{knows_user};
 ghost use Rattle.mailx_top.specs.Wants.{may_start, start_from};
-ghost use Rattle.mailx_top.specs.Words.{first_or, folder_word, is_silent, manner_of, may_say, start_by, start_of, start_with};
+ghost use Rattle.mailx_top.specs.Words.{first_or, folder_word, manner_of, may_say, options_of, start_by, start_of};
 
 use crate::Environment;
 use command_words::{Mode, Options, Wanted, WordsError, read_words};
@@ -25,33 +25,22 @@ pub(crate) enum Manner {
     Greeting,
 }
 
-/// What the words ask for.
+/// How to start, with the options of the words.
 #[derive(Clone, Copy)]
-pub(crate) struct Asked<'a> {
-    /// The word of the folder to open.
-    pub word: &'a [u8],
-    /// Whether `-f` asks for it; else it is the system mailbox.
-    pub named: bool,
-    /// The user whose mailbox that is, if it isn't the user's own.
-    pub user: Option<&'a [u8]>,
-    /// Whether the start-up file of the system is passed over.
-    pub no_system_file: bool,
-    /// Whether a draft is recorded in the file named after its first recipient.
-    pub by_recipient: bool,
-    /// What is printed once the folder is open.
-    pub manner: Manner,
-    /// What the draft begins with that is begun in the folder's place, if one is.
-    pub sends: Option<&'a Options>,
+pub(crate) enum Start<'a> {
+    /// A folder is opened.
+    Opens(&'a Options),
+    /// A draft is sent.
+    Sends(&'a Options),
 }
 
-impl Manner {
-    /// Whether nothing is printed in the run.
-    pub(crate) fn is_silent(self) -> bool
-        ensures { result ≡ is_silent self }
+impl<'a> Start<'a> {
+    /// The options with which a run starts.
+    pub(crate) fn options(self) -> &'a Options
+        ensures { result.now ≡ options_of (start_from self.entry) }
     {
         match self {
-            Manner::Silent => true,
-            Manner::Rows | Manner::Quiet | Manner::Greeting => false,
+            Start::Opens(options) | Start::Sends(options) => options,
         }
     }
 }
@@ -66,8 +55,8 @@ fn first_or<'a>(other: &'a [u8], words: &'a [Text]) -> &'a [u8]
     }
 }
 
-// The word of the folder.
-fn folder_word(options: &Options) -> &[u8]
+/// The word of the folder.
+pub(crate) fn folder_word(options: &Options) -> &[u8]
     ensures { result.now ≡ folder_word options.now }
 {
     if options.folder {
@@ -77,7 +66,8 @@ fn folder_word(options: &Options) -> &[u8]
     }
 }
 
-fn manner_of(options: &Options) -> Manner
+/// What is printed once the folder is open.
+pub(crate) fn manner_of(options: &Options) -> Manner
     ensures { result ≡ manner_of options.now }
 {
     if options.exists {
@@ -91,53 +81,19 @@ fn manner_of(options: &Options) -> Manner
     }
 }
 
-// The user of `-u`.
-fn user_of(options: &Options) -> Option<&[u8]>
-    ensures { option_copied result ≡ options.now.user }
-{
-    match &options.user {
-        Some(user) => Some(user.bytes()),
-        None => None,
-    }
-}
-
-fn start_with(options: &Options) -> Asked<'_>
-    ensures { start_from result ≡ start_with options.now }
-{
-    Asked {
-        word: folder_word(options),
-        named: options.folder,
-        user: user_of(options),
-        no_system_file: options.no_system_file,
-        by_recipient: options.named,
-        manner: manner_of(options),
-        sends: None,
-    }
-}
-
-// How to start if a draft is begun.
-fn send_with(options: &Options) -> Asked<'_>
-    ensures { start_from result ≡ record (start_with options.now) { sends = Some options.now } }
-{
-    Asked {
-        sends: Some(options),
-        ..start_with(options)
-    }
-}
-
 // How to start in a mode. What tries isn't built.
-fn start_by(wanted: &Wanted) -> Option<Asked<'_>>
+fn start_by(wanted: &Wanted) -> Option<Start<'_>>
     ensures { may_start result ≡ start_by wanted.now }
 {
     match wanted.mode {
-        Mode::Exists | Mode::Receive => Some(start_with(&wanted.options)),
-        Mode::Send => Some(send_with(&wanted.options)),
+        Mode::Exists | Mode::Receive => Some(Start::Opens(&wanted.options)),
+        Mode::Send => Some(Start::Sends(&wanted.options)),
         Mode::Try { .. } => None,
     }
 }
 
 /// What the words ask for. None if they are refused.
-pub(crate) fn asked_by(wanted: &Option<Wanted>) -> Option<Asked<'_>>
+pub(crate) fn asked_by(wanted: &Option<Wanted>) -> Option<Start<'_>>
     ensures { may_start result ≡ option_and_then start_by wanted.now }
 {
     match wanted {
@@ -158,17 +114,17 @@ pub(crate) fn wanted(alloc: Global, words: &[Text]) -> Result<Option<Wanted>, Me
 }
 
 /// Whether a last line may be printed.
-pub(crate) fn may_say(asked: Option<Asked<'_>>) -> bool
+pub(crate) fn may_say(asked: Option<Start<'_>>) -> bool
     ensures { result ≡ may_say (may_start asked.entry) }
 {
     match asked {
-        Some(asked) => !asked.manner.is_silent(),
+        Some(start) => !start.options().exists,
         None => false,
     }
 }
 
 /// How to start, or None if the words are refused or home folder and user aren't known.
-pub(crate) fn start_of<'a>(asked: Option<Asked<'a>>, env: &Environment) -> Option<Asked<'a>>
+pub(crate) fn start_of<'a>(asked: Option<Start<'a>>, env: &Environment) -> Option<Start<'a>>
     ensures wanted { may_start result ≡ start_of (may_start asked.entry) env.now.pairs }
     ensures known { IfSome result (λ a. knows_user env.now.pairs ≡ true) }
 {

@@ -36,6 +36,7 @@ use Rattle.child_commands.specs.Piping.{pipe}
 use Rattle.child_commands.specs.Listing.{folders}
 use Rattle.draft_commands.specs.Replying.{followup, followup_authors, reply, reply_authors}
 use Rattle.show_commands.specs.Telling.{from, size, number, echo, help}
+use Rattle.view_commands.specs.Viewing.{sort, thread}
 
 -- the whole name of the command that a word spells; a line without a word is one of `print`
 abbrev pub name_of : List ℕ → List ℕ
@@ -102,13 +103,13 @@ meaning_of command.Followup line desk = followup desk line.words
 meaning_of command.FollowupAuthors line desk = followup_authors desk line.words
 meaning_of command.Quit line desk = Ok (quit desk)
 meaning_of command.Exit line desk = exit
-meaning_of other line desk = Err (not_built (name_of line.word))
+meaning_of command.Sort line desk = sort line.words
+meaning_of command.Thread line desk = thread (name_of line.word)
+meaning_of command.Newmail line desk = Err (not_built (name_of line.word))
 
--- all commands but these are built
+-- all commands but this one are built
 abbrev pub is_built : Command → Bool
 is_built command.Newmail = false
-is_built command.Sort = false
-is_built command.Thread = false
 is_built other = true
 
 -- the commands that take no words
@@ -120,6 +121,7 @@ takes_no_words command.Help = true
 takes_no_words command.Number = true
 takes_no_words command.Quit = true
 takes_no_words command.Scroll = true
+takes_no_words command.Thread = true
 takes_no_words other = false
 
 -- the command takes no words, and is given some

@@ -1,5 +1,6 @@
 -- Where a line comes from, and the commands that may stand there.
-use Rattle.std.specs.Prelude.{ℕ, Bool, true, false, not, ◌&&◌, List, Option, is_some, if◌then◌else◌}
+use Rattle.std.specs.Prelude.{◌≡◌, ℕ, Bool, true, false, not, ◌&&◌, List, Option, IfOk, is_some, if◌then◌else◌}
+use Rattle.std.specs.List.{list_all}
 use Rattle.std.specs.declared.option.Option.TheVariants.{Some, None}
 use Rattle.std.specs.declared.result.Result.{Result}
 use Rattle.std.specs.declared.result.Result.TheVariants.{Ok, Err}
@@ -10,6 +11,8 @@ use Rattle.line_words.specs.declared.line.LineError.{LineError}
 use Rattle.line_words.specs.Line.{reading}
 use Rattle.rc_conditionals.specs.Turns.{is_live}
 use Rattle.command_desk.specs.declared.desk.Desk.{Desk}
+use Rattle.command_desk.specs.declared.steps.Ask as asked_of
+use Rattle.command_desk.specs.declared.steps.Ask.TheVariants as asks
 use Rattle.command_desk.specs.declared.steps.Steps.{Steps}
 use Rattle.command_desk.specs.Answers.{OrFault, next, unless, quietly}
 use Rattle.command_desk.specs.Effects.{unchanged}
@@ -37,6 +40,13 @@ is_of_startup command.Source = true
 is_of_startup command.Unalias = true
 is_of_startup command.Comment = true
 is_of_startup other = false
+
+-- a line of a start-up file may ask this: that bytes are printed, or for the lines of a file or of a macro
+abbrev pub is_startup_ask : asked_of.Ask → Bool
+is_startup_ask (asks.Say bytes) = true
+is_startup_ask (asks.Source name) = true
+is_startup_ask (asks.Lines text) = true
+is_startup_ask ask = false
 
 -- the command begins a draft, leaves the folder, or brings lines of its own, so a draft can't give it
 abbrev pub leaves_draft : Command → Bool
@@ -106,3 +116,7 @@ abbrev pub commanded : Origin → Desk → List ℕ → OrFault Steps
 commanded from desk line =
     if is_defining desk then definition_line desk line
     else commanded_outside from desk line
+
+-- what is carried out asks nothing else than a line of a start-up file may
+abbrev pub AsksLittle : OrFault Steps → Type 0
+AsksLittle meant = IfOk meant (λ steps. list_all is_startup_ask steps.asks ≡ true)

@@ -21,6 +21,7 @@ use naming_commands::{alias, alternates, ignore, retain, unalias};
 use setting_commands::{condition, set, source, unset};
 use show_commands::{echo, from, headers, help, number, print, print_following, scroll, size, top};
 use std::alloc::Global;
+use view_commands::{sort, thread};
 
 // The whole name of the command that a word spells. A line without a word is one of `print`.
 pub(crate) fn name_of(word: &[u8]) -> &'static [u8]
@@ -56,7 +57,8 @@ fn has_words_too_many(line: &CommandLine) -> bool
         | Command::Help
         | Command::Number
         | Command::Quit
-        | Command::Scroll => !line.words.items().is_empty(),
+        | Command::Scroll
+        | Command::Thread => !line.words.items().is_empty(),
         _ => false,
     }
 }
@@ -160,9 +162,9 @@ fn carry_out(alloc: Global, line: &CommandLine, desk: &Desk) -> Result<Steps, Re
         Command::Quit => Ok(quit(alloc, desk)?),
         Command::Exit => exit(alloc, desk),
         Command::Scroll => scroll(alloc, desk, line.word.bytes() == b"z-".as_slice()),
-        Command::Newmail | Command::Sort | Command::Thread => {
-            Err(fault(alloc, name_of(line.word.bytes()), b": not built"))
-        }
+        Command::Sort => sort(alloc, desk, words),
+        Command::Thread => thread(alloc, desk, name_of(line.word.bytes())),
+        Command::Newmail => Err(fault(alloc, name_of(line.word.bytes()), b": not built")),
     }
 }
 
@@ -170,7 +172,7 @@ fn carry_out(alloc: Global, line: &CommandLine, desk: &Desk) -> Result<Steps, Re
 pub(crate) fn is_built(command: Command) -> bool
     ensures { result ≡ is_built command }
 {
-    !matches!(command, Command::Newmail | Command::Sort | Command::Thread)
+    command != Command::Newmail
 }
 
 /// Reads a line, or refuses it by its form.

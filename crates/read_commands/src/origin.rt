@@ -1,12 +1,14 @@
 // Where a line comes from, and the commands that may stand there.
-ghost use Rattle.std.specs.Prelude.{◌≡◌, None, IfErr, IfOk, OnOk};
+ghost use Rattle.std.specs.Prelude.{◌≡◌, List, ℕ, None, IfErr, IfOk, OnOk};
 ghost use Rattle.line_words.specs.Line.{reading};
 ghost use Rattle.command_desk.specs.Answers.{Means, IsRefusedBy, next};
+ghost use Rattle.command_desk.specs.declared.desk.Desk.{Desk};
 ghost use Rattle.command_desk.specs.Desks.{IsDesk};
 ghost use Rattle.command_desk.specs.Effects.{effect};
 ghost use Rattle.macro_commands.specs.Defining.{definition_line};
+ghost use Rattle.read_commands.specs.declared.origin.Origin.{Origin};
 ghost use Rattle.read_commands.specs.Commands.{meaning};
-ghost use Rattle.read_commands.specs.Origins.{is_of_startup, leaves_draft, line_if_unbuilt, line_of_origin, read_from, is_defining, turns_lines, passes_over, commanded, commanded_outside};
+ghost use Rattle.read_commands.specs.Origins.{is_of_startup, leaves_draft, line_if_unbuilt, line_of_origin, read_from, is_defining, turns_lines, passes_over, commanded, commanded_outside, AsksLittle};
 
 use crate::dispatch::{command_line, is_built, name_of, perform};
 use command_desk::{Desk, Refusal, Steps, fault, quietly, unchanged};
@@ -198,3 +200,10 @@ pub fn perform_line(
         perform_command(alloc, origin, line, desk)
     }
 }
+
+/// A law: what a line of a start-up file comes to asks that bytes are printed, or for the lines of a file or of a
+/// macro, and nothing else: it changes no file, opens no folder, begins no draft, runs no command and doesn't end the
+/// run.
+pub fn startup_lines_ask_little()
+    ensures { (desk : Desk) → (line : List ℕ) → AsksLittle (commanded Origin.Startup desk line) }
+{}

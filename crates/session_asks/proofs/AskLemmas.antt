@@ -31,6 +31,8 @@ use Rattle.host_port.proofs.RanLemmas.{rose-back}
 use Rattle.compose_tilde.specs.Answering.{said_of}
 use Rattle.session_asks.specs.Calling.{called}
 use Rattle.session_asks.specs.Switching.{open_fault, switches}
+use Rattle.session_asks.specs.Viewing.{views}
+use Rattle.thread_view.specs.declared.view.ViewKind.{ViewKind}
 use Rattle.session_asks.specs.Asks.{asked, all_done}
 use Rattle.session_state.specs.Answers.{after_asks, in_play, stop_of, LineCaused}
 
@@ -48,6 +50,9 @@ asked-lines s ask text is = ap (asked s) is
 
 pub asked-open : (s : SessionState) (ask : asked_of.Ask) (name : List ℕ) (changes : List Change) (reply : List ℕ) → ask ≡ asks.Open name changes reply → asked s ask ≡ switches s name changes reply (open_fault s name changes)
 asked-open s ask name changes reply is = ap (asked s) is
+
+pub asked-view : (s : SessionState) (ask : asked_of.Ask) (kind : ViewKind) → ask ≡ asks.View kind → asked s ask ≡ views s kind
+asked-view s ask kind is = ap (asked s) is
 
 pub asked-draft : (s : SessionState) (ask : asked_of.Ask) (draft : Draft) (file : Option (List ℕ)) (current : Option ℕ) → ask ≡ asks.Draft draft file current → asked s ask ≡ beginning s draft file current (file_fault s file)
 asked-draft s ask draft file current is = ap (asked s) is

@@ -4,3 +4,4 @@ pub mod OpeningLemmas
 pub mod SourcingLemmas
 pub mod StateLemmas
 pub mod SwitchingLemmas
+pub mod ViewingLemmas

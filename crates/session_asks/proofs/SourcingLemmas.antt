@@ -1,8 +1,8 @@
 -- Lines that a command brings.
 use Rattle.std.proofs.Common.{◌≡◌, ◌+◌, ◌-◌, ◌*◌, ◌^◌, ◌<◌, ◌≤◌, ℕ, Bool, true, false, cond, List, [], ◌∷◌, ◌++◌, length, take, refl, sym, ◌∙◌, ap, subst, inl, arith, append_assoc}
-use Rattle.std.specs.Prelude.{◌||◌, nat_lt, codes, IfOk, IfErr, if◌then◌else◌}
+use Rattle.std.specs.Prelude.{◌||◌, ◌&&◌, nat_lt, codes, IfOk, IfErr, if◌then◌else◌}
 use Rattle.std.specs.Str.{bytes_eq}
-use Rattle.std.specs.List.{list_any}
+use Rattle.std.specs.List.{list_all, list_any}
 use Rattle.std.proofs.lemmas.Bool.{cond-true, ltb-true}
 use Rattle.std.proofs.lemmas.List.{append-nil, take_at}
 use Rattle.std.proofs.lemmas.List.Sums.{sum_by-append}
@@ -26,7 +26,7 @@ use Rattle.command_desk.specs.declared.steps.Ask as asked_of
 use Rattle.command_desk.specs.Answers.{quietly}
 use Rattle.command_desk.specs.Effects.{renames}
 use Rattle.macro_commands.specs.Defining.{or_macro_fault}
-use Rattle.read_commands.specs.Origins.{commanded, is_defining}
+use Rattle.read_commands.specs.Origins.{commanded, is_defining, is_startup_ask}
 use Rattle.read_commands.specs.declared.origin.Origin.{Origin}
 use Rattle.session_state.specs.declared.answers.Asked.{Asked}
 use Rattle.session_state.specs.declared.answers.Asked.TheVariants as answered
@@ -40,10 +40,11 @@ use Rattle.session_state.specs.Waits.{Pending}
 use Rattle.session_state.specs.Pending.{frame_of, lines_left}
 use Rattle.session_state.specs.Placing.{placed}
 use Rattle.session_state.specs.States.{IsState, with_desk, with_draft, with_file, with_frames, resumed, OnlyFrames, KeepsOthers}
-use Rattle.session_state.specs.Bringing.{is_source, is_call, sources, calls, source_limit, origin_at, with_lines, brings, brings_lines, room, weight, HasPlace, OnlyBrings}
+use Rattle.session_state.specs.Bringing.{is_source, is_call, sources, calls, source_limit, origin_at, with_lines, brings, brings_lines, room, weight, AllFrom, HasPlace, OnlyBrings}
+use Rattle.session_state.proofs.OriginLemmas.{origin-added, all-added}
 use Rattle.session_asks.specs.Sourcing.{source_fault}
 use Rattle.session_asks.specs.Calling.{called}
-use Rattle.session_state.specs.Answers.{after_asks, in_play, stop_of, LineCaused}
+use Rattle.session_state.specs.Answers.{after_asks, in_play, stop_of, LineCaused, EndsByAsk, EndsNoRun, IsNoDiskFault, AsksGoOn}
 use Rattle.session_asks.specs.Asks.{is_on, StaysUnlessOn, KeepsDesk}
 use Rattle.command_desk.specs.declared.desk.Desk.{Desk}
 
@@ -55,25 +56,29 @@ le-then a b c x y = omega arith
 
 -- nothing is brought
 pub brings_none : (s t : SessionState) → t ≡ s → OnlyBrings s t
-brings_none s t same = subst (λ (u : SessionState). OnlyBrings s u) (sym same) (record { rest = refl; inside = ([], sym (append-nil s.frames)); room = le-refl (room s.frames) })
+brings_none s t same = subst (λ (u : SessionState). OnlyBrings s u) (sym same) (record { rest = refl; inside = ([], tt, sym (append-nil s.frames)); room = le-refl (room s.frames) })
 
 -- what is brought after other lines
 pub brings-then : (a b c : SessionState) → OnlyBrings a b → OnlyBrings b c → OnlyBrings a c
 brings-then a b c x y = record {
   rest = y.rest ∙ ap (λ (s : SessionState). with_file (with_draft (with_frames (with_desk s c.desk) c.frames) c.draft) c.file) x.rest;
-  inside = (x.inside.0 ++ y.inside.0, y.inside.1 ∙ (ap (λ (fs : List Pending). fs ++ y.inside.0) x.inside.1 ∙ append_assoc a.frames x.inside.0 y.inside.0));
+  inside = (
+    x.inside.0 ++ y.inside.0,
+    all-added (origin_at a.frames) x.inside.0 y.inside.0 x.inside.1 (subst (λ (o : Origin). AllFrom o y.inside.0) (ap origin_at x.inside.2 ∙ origin-added a.frames x.inside.0 x.inside.1) y.inside.1),
+    y.inside.2 ∙ (ap (λ (fs : List Pending). fs ++ y.inside.0) x.inside.2 ∙ append_assoc a.frames x.inside.0 y.inside.0),
+  );
   room = le-then (room c.frames) (room b.frames) (room a.frames) y.room x.room;
 }
 
 -- without what was brought the state is as before, where the desk is
 pub cut-back : (s t : SessionState) (depth : ℕ) → OnlyBrings s t → OnlyFrames s t → depth ≡ length s.frames → with_frames t (take depth t.frames) ≡ s
 cut-back s t depth b same is =
-    let front : take depth t.frames ≡ s.frames = ap (take depth) b.inside.1 ∙ take_at s.frames b.inside.0 depth (sym is) in
+    let front : take depth t.frames ≡ s.frames = ap (take depth) b.inside.2 ∙ take_at s.frames b.inside.0 depth (sym is) in
     ap (with_frames t) front ∙ ap (λ (u : SessionState). with_frames u s.frames) same
 
 -- another desk is put
 pub brings-desk : (s : SessionState) (desk : Desk) → OnlyBrings s (with_desk s desk)
-brings-desk s desk = record { rest = refl; inside = ([], sym (append-nil s.frames)); room = le-refl (room s.frames) }
+brings-desk s desk = record { rest = refl; inside = ([], tt, sym (append-nil s.frames)); room = le-refl (room s.frames) }
 
 -- the state stays valid where its desk is
 pub valid-desk : (s : SessionState) (desk : Desk) → IsState s → IsDesk desk → IsState (with_desk s desk)
@@ -175,7 +180,7 @@ room-lines kinds.Startup fs origin nested text few small = absurd few
 pub brings-lines : (by : FrameKind) (s : SessionState) (text : List ℕ) → HasPlace by s.frames → length text < 2 ^ 64 → OnlyBrings s (with_lines by s text)
 brings-lines by s text few small = record {
   rest = refl;
-  inside = (frame_of (origin_at s.frames) by (length s.desk.conditions) text ∷ [], refl);
+  inside = (frame_of (origin_at s.frames) by (length s.desk.conditions) text ∷ [], (refl, tt), refl);
   room = room-lines by s.frames (origin_at s.frames) (length s.desk.conditions) text few small;
 }
 
@@ -186,6 +191,14 @@ quiet-parts a asks none = go (brings a) none
     go : (b : Bool) → (b || list_any brings asks) ≡ false → (b ≡ false) × (list_any brings asks ≡ false)
     go true h = absurd (cc h)
     go false h = (refl, h)
+
+-- the first of some asks that a start-up file may have, and those after it
+pub startup-parts : (a : asked_of.Ask) (asks : List asked_of.Ask) → list_all is_startup_ask (a ∷ asks) ≡ true → (is_startup_ask a ≡ true) × (list_all is_startup_ask asks ≡ true)
+startup-parts a asks all = go (is_startup_ask a) all
+  where
+    go : (b : Bool) → (b && list_all is_startup_ask asks) ≡ true → (b ≡ true) × (list_all is_startup_ask asks ≡ true)
+    go true h = (refl, h)
+    go false h = absurd (cc h)
 
 -- what answers leave where not all was done
 pub after-same : (s t : SessionState) (r : Result Asked RunError) → is_on r ≡ false → in_play (after_asks s) r ≡ in_play (after_asks t) r
@@ -272,3 +285,16 @@ called-caused a b (Ok asked) memory = tt
 called-caused a b (Err error.Memory) memory = tt
 called-caused a b (Err error.Output) memory = absurd (cc memory)
 called-caused a b (Err error.Disk) memory = absurd (cc memory)
+
+-- an ask that doesn't end the run ends it as a line may
+pub ends-by-ask : (r : Result Asked RunError) → IfOk r EndsNoRun → IfOk r EndsByAsk
+ends-by-ask (Ok answered.On) h = tt
+ends-by-ask (Ok answered.Over) h = tt
+ends-by-ask (Ok (answered.Refused line)) h = tt
+ends-by-ask (Ok (answered.Ended e)) h = absurd h
+ends-by-ask (Err e) h = tt
+
+-- and where memory alone cuts it off no fault of the disk does
+pub asks-go-on : (r : Result Asked RunError) → IfOk r EndsNoRun → IfErr r (λ e. e ≡ error.Memory) → AsksGoOn r
+asks-go-on (Ok a) h memory = h
+asks-go-on (Err e) h memory = subst IsNoDiskFault (sym memory) tt

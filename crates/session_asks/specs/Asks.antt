@@ -22,6 +22,7 @@ use Rattle.session_state.specs.Saving.{names_fault, saved}
 use Rattle.session_asks.specs.Sourcing.{source_fault, sourced}
 use Rattle.session_asks.specs.Calling.{called}
 use Rattle.session_asks.specs.Switching.{open_fault, switches}
+use Rattle.session_asks.specs.Viewing.{views}
 
 -- what is asked for, and what its answer leaves
 abbrev pub asked : SessionState → asked_of.Ask → Play (After SessionState Status)
@@ -30,6 +31,7 @@ asked s (asks.Commit changes) = saved s changes (names_fault s changes)
 asked s (asks.Source name) = sourced s name (source_fault s name)
 asked s (asks.Lines text) = Ret (called s text)
 asked s (asks.Open name changes reply) = switches s name changes reply (open_fault s name changes)
+asked s (asks.View kind) = views s kind
 asked s (asks.Draft draft file current) = beginning s draft file current (file_fault s file)
 asked s (asks.Child command input) = run_asked s command input
 asked s asks.Exit = Ret (Ended (status_of s.outcome))

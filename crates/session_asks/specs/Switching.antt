@@ -10,6 +10,7 @@ use Rattle.mailx_vars.specs.Settings.{is_set}
 use Rattle.message_state.specs.declared.row.Row.{Row}
 use Rattle.session_play.specs.declared.act.Found.{Found}
 use Rattle.session_play.specs.declared.act.Found.TheVariants as found
+use Rattle.session_play.specs.Knowing.{Rows}
 use Rattle.session_play.specs.Play.{Play, Ret, Ask, Try, Know, Say, bind}
 use Rattle.session_play.specs.Steps.{After, On, Over, Refused, Ended}
 use Rattle.command_desk.specs.declared.desk.Desk.{Desk}
@@ -64,7 +65,7 @@ switching s changes reply desk = bind (saved s changes None) (announced reply de
 -- what follows the load: the rows of the texts are known, or the load refuses the command
 abbrev pub switched_to : SessionState → List ℕ → List Change → List ℕ → OrFault (List ℕ) → Play (After SessionState Status)
 switched_to s name changes reply (Err line) = Ret (Refused line)
-switched_to s name changes reply (Ok bytes) = Ask (Know (texts_of bytes)) (λ rows. switching s changes reply (switched s name bytes rows))
+switched_to s name changes reply (Ok bytes) = Ask (Know (Rows (texts_of bytes))) (λ rows. switching s changes reply (switched s name bytes rows))
 
 -- The file of this name is loaded, unless something stands in the way; the changes are committed, whose outcome is what is opened if they
 -- are of that file; the folder is opened.

@@ -1,21 +1,23 @@
 // What a command asks for, in order, up to an answer that refuses what follows or ends the run.
-ghost use Rattle.std.specs.Prelude.{◌≡◌, false, IfOk};
-ghost use Rattle.std.specs.List.{list_any};
+ghost use Rattle.std.specs.Prelude.{◌≡◌, true, false, IfOk};
+ghost use Rattle.std.specs.List.{list_all, list_any};
 ghost use Rattle.host_port.specs.Calls.{NeverFall};
 ghost use Rattle.host_port.specs.Ran.{Ran};
 ghost use Rattle.session_play.specs.Play.{Say, Goes};
 ghost use Rattle.session_play.specs.Steps.{in_order};
+ghost use Rattle.read_commands.specs.Origins.{is_startup_ask};
 ghost use Rattle.session_state.specs.declared.state.SessionState.{SessionState};
 ghost use Rattle.session_state.specs.States.{IsState};
 ghost use Rattle.session_state.specs.Bringing.{brings, OnlyBrings};
 ghost use Rattle.session_asks.specs.Asks.{asked, all_done, is_on, StaysUnlessOn, KeepsDesk};
-ghost use Rattle.session_state.specs.Answers.{after_asks, in_play, LineCaused, EndsByAsk};
+ghost use Rattle.session_state.specs.Answers.{after_asks, in_play, LineCaused, EndsByAsk, AsksGoOn};
 
 use crate::beginning::begin_recorded;
 use crate::calling::call;
 use crate::running::run_asked;
 use crate::sourcing::source;
 use crate::switching::switch;
+use crate::viewing::view;
 use host_port::Host;
 use mail_text::Items;
 use read_commands::Ask as Wanted;
@@ -38,6 +40,7 @@ fn do_ask<H: Host>(
     ensures valid { IsState state.new }
     ensures desk { KeepsDesk state.old state.new result }
     ensures quiet { brings ask ≡ false → state.new ≡ state.old }
+    ensures goes_on { is_startup_ask ask ≡ true → AsksGoOn result }
     ensures done { IfOk result EndsByAsk }
     ensures cause { LineCaused (H.world.counts host.old) (H.world.counts host.new) result }
 {
@@ -51,6 +54,7 @@ fn do_ask<H: Host>(
             changes,
             reply,
         } => switch(alloc, state, host, name.bytes(), changes, &reply),
+        Wanted::View { kind } => view(alloc, state, kind),
         Wanted::Draft {
             draft,
             file,
@@ -86,6 +90,7 @@ fn ask_all<H: Host>(
     ensures valid { IsState state.new }
     ensures desk { KeepsDesk state.old state.new result }
     ensures quiet { list_any brings asks ≡ false → state.new ≡ state.old }
+    ensures goes_on { list_all is_startup_ask asks ≡ true → AsksGoOn result }
     ensures done { IfOk result EndsByAsk }
     ensures cause { LineCaused (H.world.counts host.old) (H.world.counts host.new) result }
 {
@@ -121,6 +126,7 @@ pub fn do_asks<H: Host>(
     ensures valid { IsState state.new }
     ensures desk { KeepsDesk state.old state.new result }
     ensures quiet { list_any brings asks ≡ false → state.new ≡ state.old }
+    ensures goes_on { list_all is_startup_ask asks ≡ true → AsksGoOn result }
     ensures stays { StaysUnlessOn state.old state.new result }
     ensures done { IfOk result EndsByAsk }
     ensures cause { LineCaused (H.world.counts host.old) (H.world.counts host.new) result }

@@ -3,7 +3,7 @@ ghost use Rattle.std.specs.Prelude.{◌≡◌, IfErr, IfOk};
 ghost use Rattle.session_state.specs.Bringing.{OnlyBrings};
 ghost use Rattle.session_asks.specs.Calling.{called};
 ghost use Rattle.session_state.specs.States.{OnlyFrames};
-ghost use Rattle.session_state.specs.Answers.{after_asks, EndsByAsk};
+ghost use Rattle.session_state.specs.Answers.{after_asks, EndsNoRun};
 
 use crate::bringing::bring;
 use mail_text::{Memory, Text};
@@ -18,7 +18,7 @@ fn call_lines(alloc: Global, state: &mut SessionState, text: &Text) -> Result<As
     ensures means { IfOk result (λ asked. after_asks state.new asked ≡ called state.old text.now) }
     ensures brings { OnlyBrings state.old state.new }
     ensures desk { OnlyFrames state.old state.new }
-    ensures end { IfOk result EndsByAsk }
+    ensures goes_on { IfOk result EndsNoRun }
 {
     if state.frames.calls() < CALL_LIMIT {
         let text = Text::copy(alloc, text.bytes())?;
@@ -34,7 +34,7 @@ pub(crate) fn call(alloc: Global, state: &mut SessionState, text: &Text) -> Resu
     ensures memory { IfErr result (λ e. e ≡ RunError.Memory) }
     ensures brings { OnlyBrings state.old state.new }
     ensures desk { OnlyFrames state.old state.new }
-    ensures end { IfOk result EndsByAsk }
+    ensures goes_on { IfOk result EndsNoRun }
 {
     match call_lines(alloc, state, text) {
         Ok(asked) => Ok(asked),

@@ -10,6 +10,7 @@ mod opening;
 mod running;
 mod sourcing;
 mod switching;
+mod viewing;
 
 pub use asks::do_asks;
 pub use beginning::{compose, view_as};

@@ -1,5 +1,5 @@
 // A file whose lines a command brings.
-ghost use Rattle.std.specs.Prelude.{◌≡◌, ◌<◌, true, None, IfOk};
+ghost use Rattle.std.specs.Prelude.{◌≡◌, ◌<◌, true, None, IfErr, IfOk};
 ghost use Rattle.host_port.specs.Calls.{NeverFall};
 ghost use Rattle.host_port.specs.Ran.{Ran};
 ghost use Rattle.session_play.specs.Play.{Play, Ask, Ret, Try, Goes};
@@ -7,7 +7,7 @@ ghost use Rattle.session_state.specs.Bringing.{source_limit, sources, OnlyBrings
 ghost use Rattle.mailx_vars.specs.Names.{is_short_name};
 ghost use Rattle.session_asks.specs.Sourcing.{source_fault, sourced, after_load};
 ghost use Rattle.session_state.specs.States.{OnlyFrames};
-ghost use Rattle.session_state.specs.Answers.{after_asks, in_play, LineCaused, EndsByAsk};
+ghost use Rattle.session_state.specs.Answers.{after_asks, in_play, EndsNoRun};
 
 use crate::bringing::bring;
 use command_desk::line_of;
@@ -46,7 +46,7 @@ fn after_load(
     ensures means { IfOk result (λ asked. after_asks state.new asked ≡ after_load state.old name.now found) }
     ensures brings { OnlyBrings state.old state.new }
     ensures desk { OnlyFrames state.old state.new }
-    ensures end { IfOk result EndsByAsk }
+    ensures goes_on { IfOk result EndsNoRun }
 {
     match found {
         Some(
@@ -77,8 +77,8 @@ fn load_file<H: Host>(
     ensures fall { NeverFall (H.world.counts host.old) (H.world.counts host.new) }
     ensures brings { OnlyBrings state.old state.new }
     ensures desk { OnlyFrames state.old state.new }
-    ensures end { IfOk result EndsByAsk }
-    ensures cause { LineCaused (H.world.counts host.old) (H.world.counts host.new) result }
+    ensures goes_on { IfOk result EndsNoRun }
+    ensures memory { IfErr result (λ e. e ≡ RunError.Memory) }
 {
     match try_load(alloc, host, file) {
         Ok(found) => match after_load(alloc, state, name, found) {
@@ -102,8 +102,8 @@ fn load_lines<H: Host>(
     ensures fall { NeverFall (H.world.counts host.old) (H.world.counts host.new) }
     ensures brings { OnlyBrings state.old state.new }
     ensures desk { OnlyFrames state.old state.new }
-    ensures end { IfOk result EndsByAsk }
-    ensures cause { LineCaused (H.world.counts host.old) (H.world.counts host.new) result }
+    ensures goes_on { IfOk result EndsNoRun }
+    ensures memory { IfErr result (λ e. e ≡ RunError.Memory) }
 {
     match placed(alloc, state.here.bytes(), name) {
         Ok(file) => load_file(alloc, state, host, name, file.bytes()),
@@ -124,8 +124,8 @@ pub(crate) fn source<H: Host>(
     ensures fall { NeverFall (H.world.counts host.old) (H.world.counts host.new) }
     ensures brings { OnlyBrings state.old state.new }
     ensures desk { OnlyFrames state.old state.new }
-    ensures end { IfOk result EndsByAsk }
-    ensures cause { LineCaused (H.world.counts host.old) (H.world.counts host.new) result }
+    ensures goes_on { IfOk result EndsNoRun }
+    ensures memory { IfErr result (λ e. e ≡ RunError.Memory) }
 {
     match source_fault(alloc, state, name) {
         Ok(Some(line)) => Ok(Asked::Refused { line }),

@@ -11,9 +11,8 @@ use Rattle.host_port.specs.declared.event.Seen.TheVariants as seen
 use Rattle.host_port.specs.declared.event.ChildAnswer.{ChildAnswer}
 use Rattle.host_port.specs.Calls.{Counts, Rose}
 use Rattle.mail_dates.specs.declared.moment.Moment.{Moment}
-use Rattle.message_state.specs.declared.row.Row.{Row}
 use Rattle.folder_commit.specs.declared.error.CommitError.TheVariants as error
-use Rattle.session_play.specs.Knowing.{AreRows}
+use Rattle.session_play.specs.Knowing.{Question, Fact, IsFact}
 use Rattle.folder_recovery.specs.declared.error.RecoverError.TheVariants as recover
 use Rattle.session_play.specs.Committing.{Commit, answer_as, IsCommitOf, FailsIn}
 use Rattle.session_play.specs.Recovering.{recovery_as, IsRecoveryOf}
@@ -29,7 +28,7 @@ use Rattle.session_play.specs.Moments.{IsMomentAt}
 -- What a run asks: the next line of its input; to print bytes; to load a file (a failure cuts the run off); to try to load one (a failure is
 -- an answer); to commit changes of files (a fault of the disk cuts the run off); to recover what a stopped commit of an actor has left (such a
 -- fault does so too); to run a program with arguments and an input (a failure is an answer); the moment that it is, in the zone of a TZ text;
--- and the rows of some texts, which it finds without the outside.
+-- and what it finds out without the outside.
 pub data Act : Type 0 where
   Line : Input → Act
   Say : List ℕ → Act
@@ -39,11 +38,11 @@ pub data Act : Type 0 where
   Recover : List ℕ → ℕ → Act
   Child : List ℕ → List (List ℕ) → List ℕ → Act
   Now : List ℕ → Act
-  Know : List (List ℕ) → Act
+  Know : Question → Act
 
 -- what it is answered: the line, or none at the end, with the input that is left; nothing; what the load found; the same, or none if the
 -- load failed; what the commit answers; what the recovery answers; what the program answers, or none if it could not be run; the moment;
--- the rows
+-- what is so
 abbrev pub Answer : Act → Type 0
 Answer (Line i) = Option (List ℕ) × Input
 Answer (Say bytes) = Unit {0}
@@ -53,7 +52,7 @@ Answer (Changes c) = Committed
 Answer (Recover actor token) = RecoveryAnswer
 Answer (Child program args input) = Option ChildAnswer
 Answer (Now tz) = Moment
-Answer (Know texts) = List Row
+Answer (Know q) = Fact q
 
 -- acts, each followed by what its answer calls for, to a result
 pub data Play (R : Type 0) : Type 0 where
@@ -98,7 +97,7 @@ Did (Changes c) a es = IsCommitOf c es (answer_as a)
 Did (Recover actor token) a es = IsRecoveryOf actor token es (recovery_as a)
 Did (Child program args input) a es = es ≡ event.Child program args input a (is_none a) ∷ []
 Did (Now tz) m es = (seconds : ℤ) × (es ≡ event.Now seconds ∷ []) × IsMomentAt tz seconds m
-Did (Know texts) rows es = (es ≡ []) × AreRows texts rows
+Did (Know q) fact es = (es ≡ []) × IsFact q fact
 
 -- bytes that fit the buffer and pass the limit
 abbrev pub IsTooMuch : Input → List ℕ → Type 0

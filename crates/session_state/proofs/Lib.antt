@@ -1,5 +1,6 @@
 pub mod ActorLemmas
 pub mod NameLemmas
+pub mod OriginLemmas
 pub mod PendingLemmas
 pub mod PlacingLemmas
 pub mod RestLemmas

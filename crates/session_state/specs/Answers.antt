@@ -1,4 +1,5 @@
 -- What the answers of a session are in a play, and which ends they may have.
+use Rattle.std.specs.Prelude.{◌≡◌, IfOk}
 use Rattle.std.specs.declared.result.Result.{Result}
 use Rattle.std.specs.declared.result.Result.TheVariants.{Ok, Err}
 use Rattle.host_port.specs.Calls.{Counts, Rose}
@@ -6,6 +7,8 @@ use Rattle.session_play.specs.declared.stop.Stop.{Stop}
 use Rattle.session_play.specs.declared.stop.Stop.TheVariants as stop
 use Rattle.session_play.specs.Play.{Next, Go, Last}
 use Rattle.session_play.specs.Steps.{After, On, Over, Refused, Ended}
+use Rattle.read_commands.specs.declared.origin.Origin.{Origin}
+use Rattle.read_commands.specs.declared.origin.Origin.TheVariants.{Startup}
 use Rattle.session_state.specs.declared.answers.Asked.{Asked}
 use Rattle.session_state.specs.declared.answers.Asked.TheVariants as answered
 use Rattle.session_state.specs.declared.error.RunError.{RunError}
@@ -55,3 +58,28 @@ EndsByLine (flow.End s) = IsLineEnd s
 abbrev pub EndsByAsk : Asked → Type 0
 EndsByAsk (answered.Ended s) = IsLineEnd s
 EndsByAsk a = Unit {0}
+
+-- no fault of the disk cuts it off
+abbrev pub IsNoDiskFault : RunError → Type 0
+IsNoDiskFault error.Disk = ⊥
+IsNoDiskFault e = Unit {0}
+
+-- an ask doesn't end the run
+abbrev pub EndsNoRun : Asked → Type 0
+EndsNoRun (answered.Ended e) = ⊥
+EndsNoRun a = Unit {0}
+
+-- asks don't end the run, and no fault of the disk cuts them off
+abbrev pub AsksGoOn : Result Asked RunError → Type 0
+AsksGoOn (Ok a) = EndsNoRun a
+AsksGoOn (Err e) = IsNoDiskFault e
+
+-- the session goes on, unless it is cut off, and that by no fault of the disk
+abbrev pub GoesOn : Result Flow RunError → Type 0
+GoesOn (Ok went) = went ≡ flow.Go
+GoesOn (Err e) = IsNoDiskFault e
+
+-- how a line from somewhere ends, if the run ends with it: after one of a start-up file the session goes on
+abbrev pub EndsFrom : Origin → Result Flow RunError → Type 0
+EndsFrom Startup result = GoesOn result
+EndsFrom other result = IfOk result EndsByLine

@@ -57,15 +57,25 @@ origin_of (Some f) = f.origin
 abbrev pub origin_at : List Pending → Origin
 origin_at frames = origin_of (slice_get frames (length frames - 1))
 
+-- lines that wait come all from there
+abbrev pub AllFrom : Origin → List Pending → Type 0
+AllFrom from [] = Unit {0}
+AllFrom from (f ∷ fs) = (f.origin ≡ from) × AllFrom from fs
+
+-- if all of them come from where the line does that is carried out, so do those that wait after it
+abbrev pub StaysAlike : List Pending → List Pending → Type 0
+StaysAlike old new = AllFrom (origin_at old) old → AllFrom (origin_at old) new
+
 -- lines that were brought so are put in front of those that wait; they come from where the command does
 abbrev pub with_lines : FrameKind → SessionState → List ℕ → SessionState
 with_lines kind s text = with_frames s (s.frames ++ frame_of (origin_at s.frames) kind (length s.desk.conditions) text ∷ [])
 
--- the ask brings something into the session: lines from elsewhere, another folder, or a draft
+-- the ask brings something into the session: lines from elsewhere, another folder or view, or a draft
 abbrev pub brings : asked_of.Ask → Bool
 brings (asks.Source name) = true
 brings (asks.Lines text) = true
 brings (asks.Open name changes reply) = true
+brings (asks.View kind) = true
 brings (asks.Draft draft file current) = true
 brings ask = false
 
@@ -79,10 +89,11 @@ brings_lines (Err line) = false
 abbrev pub room : List Pending → ℕ
 room frames = lines_left frames + ((source_limit - sources frames) + (call_limit - calls frames)) * 2 ^ 64
 
--- asks change the desk, the lines that wait and the draft alone: they may put frames inside of those that are there
+-- asks change the desk, the lines that wait and the draft alone: they may put frames inside of those that are there, whose lines come from where
+-- the line does that is carried out
 pub record OnlyBrings (old new : SessionState) : Type 0 where
   pub rest : KeepsOthers old new
-  pub inside : (more : List Pending) × (new.frames ≡ old.frames ++ more)
+  pub inside : (more : List Pending) × AllFrom (origin_at old.frames) more × (new.frames ≡ old.frames ++ more)
   pub room : room new.frames ≤ room old.frames
 
 -- what falls with each line from elsewhere: the commands that the line of the input may still give count for more than

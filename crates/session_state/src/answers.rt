@@ -1,11 +1,11 @@
 // What the answers to a command's asks leave, and what is printed.
-ghost use Rattle.std.specs.Prelude.{◌≡◌, IfOk};
+ghost use Rattle.std.specs.Prelude.{◌≡◌, IfErr, IfOk};
 ghost use Rattle.host_port.specs.Calls.{NeverFall};
 ghost use Rattle.host_port.specs.Ran.{Ran};
 ghost use Rattle.session_play.specs.Play.{Ask, Ret, Say, Goes};
 ghost use Rattle.session_play.specs.Steps.{refused};
 ghost use Rattle.session_state.specs.declared.state.SessionState.{SessionState};
-ghost use Rattle.session_state.specs.Answers.{after_asks, next_of, in_play, LineCaused, EndsByAsk};
+ghost use Rattle.session_state.specs.Answers.{after_asks, next_of, in_play, LineCaused, EndsByAsk, IsNoDiskFault, AsksGoOn};
 
 use crate::{Flow, RunError, SessionState, Status};
 use host_port::Host;
@@ -29,6 +29,7 @@ pub fn say<H: Host>(host: &mut H, bytes: &[u8]) -> Result<(), RunError>
     ensures ran { Ran H.world host.old host.new
         (λ es. Goes (Ask (Say bytes.now) Ret) es (in_play (λ u. u) result)) }
     ensures cause { LineCaused (H.world.counts host.old) (H.world.counts host.new) result }
+    ensures no_disk { IfErr result IsNoDiskFault }
 {
     match session_play::say(host, bytes) {
         Ok(()) => Ok(()),
@@ -42,6 +43,7 @@ pub fn say_line<H: Host>(host: &mut H, bytes: &Text) -> Result<Asked, RunError>
         (λ es. Goes (Ask (Say bytes.now) (λ _. Ret (after_asks s Asked.On))) es (in_play (after_asks s) result)) }
     ensures fall { NeverFall (H.world.counts host.old) (H.world.counts host.new) }
     ensures done { IfOk result EndsByAsk }
+    ensures goes_on { AsksGoOn result }
     ensures cause { LineCaused (H.world.counts host.old) (H.world.counts host.new) result }
 {
     match say(host, bytes.bytes()) {
@@ -55,6 +57,7 @@ pub fn refuse<H: Host>(state: &SessionState, host: &mut H, line: &Text) -> Resul
     ensures ran { Ran H.world host.old host.new
         (λ es. Goes (refused state.now line.now) es (in_play (next_of state.now) result)) }
     ensures go { IfOk result (λ flow. flow ≡ Flow.Go) }
+    ensures no_disk { IfErr result IsNoDiskFault }
     ensures cause { LineCaused (H.world.counts host.old) (H.world.counts host.new) result }
 {
     match say(host, line.bytes()) {

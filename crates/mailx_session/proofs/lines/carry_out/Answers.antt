@@ -1,4 +1,4 @@
-use Rattle.std.proofs.Common.{◌≡◌, List, [], refl, sym, subst}
+use Rattle.std.proofs.Common.{◌≡◌, List, [], refl, sym, ◌∙◌, subst}
 use Rattle.std.proofs.lemmas.List.{append-nil}
 use Rattle.std.specs.declared.result.Result.TheVariants.{Ok, Err}
 use Rattle.host_port.specs.declared.event.Event.{Event}
@@ -11,10 +11,11 @@ use Rattle.session_state.specs.declared.state.SessionState.{SessionState}
 use Rattle.command_desk.specs.declared.desk.Desk.{Desk}
 use Rattle.command_desk.specs.Desks.{IsDesk}
 use Rattle.command_desk.specs.Effects.{effect}
-use Rattle.session_state.specs.States.{settled}
+use Rattle.session_state.specs.States.{settled, OnlyFrames}
 use Rattle.session_asks.specs.Asks.{asked}
 use Rattle.session_state.specs.Answers.{in_play, next_of}
-use Rattle.session_asks.proofs.SourcingLemmas.{only-desk}
+use Rattle.session_asks.proofs.SourcingLemmas.{only-desk, brings_none, brings-then, brings-desk, cut-back}
+use Rattle.mailx_session.proofs.StartupLemmas.{goes-on-so, memory-only}
 use Rattle.mailx_session.proofs.lines.carry_out.Goals as goal
 
 -- memory may be wanted after a play
@@ -76,3 +77,27 @@ returns-in-Err-clause-ran g c =
     let s = c.args.state.now in
     Ran-map (goes-cut (in_order asked s c.args.steps.asks) (concluded s (λ (t : SessionState). settled t c.args.steps.effects)) _)
     c.in-Err.ensures.ran
+
+-- settled, a state has what was brought
+pub returns-in-Ok-clause-brings : goal.returns-in-Ok-clause-brings
+returns-in-Ok-clause-brings g c =
+    let t = c.do_asks.new.state in
+    let effects = c.args.steps.effects in
+    rw c.in-Ok.ensures.ok (brings-then c.args.state.now t (settled t effects) c.do_asks.ensures.brings (brings-desk t (effect t.desk effects)))
+
+-- where it can't be settled nothing was brought
+pub returns-in-Err-settle-clause-brings : goal.returns-in-Err-settle-clause-brings
+returns-in-Err-settle-clause-brings g c =
+    let s = c.args.state.now in
+    let t = c.do_asks.new.state in
+    let only : OnlyFrames s t = rw c.in-Ok-On.field-0-is at c.in-Ok-On.ensures.desk in
+    brings_none s c.settle.new.state (c.in-Err-settle.ensures.back ∙ cut-back s t c.depth-depth.result c.do_asks.ensures.brings only c.depth-depth.ensures)
+
+pub returns-in-Err-settle-clause-goes_on : goal.returns-in-Err-settle-clause-goes_on
+returns-in-Err-settle-clause-goes_on g c = λ little. memory-only c.in-Err-settle.error c.in-Err-settle.ensures.err
+
+pub returns-in-Ok-Refused-clause-goes_on : goal.returns-in-Ok-Refused-clause-goes_on
+returns-in-Ok-Refused-clause-goes_on g c = λ little. goes-on-so c.refuse.result c.refuse.ensures.go c.refuse.ensures.no_disk
+
+pub returns-in-Ok-Ended-clause-goes_on : goal.returns-in-Ok-Ended-clause-goes_on
+returns-in-Ok-Ended-clause-goes_on g c = λ little. absurd (rw c.in-Ok-Ended.field-0-is at (c.in-Ok-Ended.ensures.goes_on little))

@@ -9,6 +9,13 @@ use Rattle.mailx_session.proofs.RoundLemmas.{waits-none, waits-more, waits-ended
 use Rattle.session_state.proofs.RestLemmas.{no-both}
 use Rattle.session_state.specs.States.{is_drafting, rested}
 use Rattle.session_state.specs.Bringing.{weight}
+use Rattle.std.specs.declared.result.Result.TheVariants.{Ok, Err}
+use Rattle.read_commands.specs.declared.origin.Origin.{Origin}
+use Rattle.read_commands.specs.declared.origin.Origin.TheVariants.{Startup}
+use Rattle.session_state.specs.declared.flow.Flow.TheVariants as flow
+use Rattle.session_state.specs.Answers.{EndsFrom}
+use Rattle.session_state.proofs.OriginLemmas.{all-alike}
+use Rattle.mailx_session.proofs.StartupLemmas.{startup-next, ends-by-line}
 use Rattle.mailx_session.proofs.lines.waiting_lines.Goals as goal
 
 pub lines-init : goal.lines-init
@@ -20,6 +27,7 @@ lines-init g c = record {
   drafting = λ inside. refl;
   light = le-refl (weight c.args.state.now);
   lighter = λ out inside. absurd (no-both inside out);
+  startup = λ waits. waits;
 }
 
 pub returns-in-Ok-End-clause-ran : goal.returns-in-Ok-End-clause-ran
@@ -52,6 +60,9 @@ lines-preserved g c =
       drafting = λ inside. absurd (none-next c.args.state.now c.lines.state c.in-Ok-Some.line c.next_waiting.new.state.frames (c.lines.invariant.drafting inside) inside is.0);
       light = at-most _ _ _ less c.lines.invariant.light;
       lighter = λ out inside. below-most _ _ _ less c.lines.invariant.light;
+      startup = λ waits out.
+          let next = startup-next c.lines.state c.in-Ok-Some.line c.next_waiting.new.state.frames (c.lines.invariant.startup waits) is.0 in
+          all-alike Startup c.next_waiting.new.state.frames c.waiting_line.new.state.frames next.1 next.2 c.in-Ok-Go.ensures.alike;
     }
 
 pub returns-in-Ok-None-clause-ran : goal.returns-in-Ok-None-clause-ran
@@ -93,3 +104,18 @@ returns-in-Ok-End-clause-falls g c = λ out inside.
     less-then _ _ _ c.in-Ok-End.ensures.falls
     (subst (λ (s : SessionState). weight s < weight c.lines.state) (sym is.1) (weight-taken c.lines.state c.next_waiting.new.state.frames (next-fewer c.lines.state c.in-Ok-Some.line c.next_waiting.new.state.frames is.0))) in
     below-most _ _ _ less c.lines.invariant.light
+
+pub returns-in-Ok-End-clause-goes_on : goal.returns-in-Ok-End-clause-goes_on
+returns-in-Ok-End-clause-goes_on g c = λ waits.
+    let is = rw c.in-Ok-Some.field-0-is at c.in-Ok-Some.ensures.next in
+    let next = startup-next c.lines.state c.in-Ok-Some.line c.next_waiting.new.state.frames (c.lines.invariant.startup waits) is.0 in
+    subst (λ (o : Origin). EndsFrom o (Ok (flow.End c.in-Ok-End.status))) next.0 (rw c.in-Ok-End.field-0-is at c.in-Ok-End.ensures.done)
+
+pub returns-in-Ok-End-clause-done : goal.returns-in-Ok-End-clause-done
+returns-in-Ok-End-clause-done g c = ends-by-line c.in-Ok-Some.line.origin (Ok (flow.End c.in-Ok-End.status)) (rw c.in-Ok-End.field-0-is at c.in-Ok-End.ensures.done)
+
+pub returns-in-Err-waiting_line-clause-goes_on : goal.returns-in-Err-waiting_line-clause-goes_on
+returns-in-Err-waiting_line-clause-goes_on g c = λ waits.
+    let is = rw c.in-Ok-Some.field-0-is at c.in-Ok-Some.ensures.next in
+    let next = startup-next c.lines.state c.in-Ok-Some.line c.next_waiting.new.state.frames (c.lines.invariant.startup waits) is.0 in
+    subst (λ (o : Origin). EndsFrom o (Err c.in-Err-waiting_line.error)) next.0 c.in-Err-waiting_line.ensures.done

@@ -3,6 +3,7 @@ use Rattle.host_port.specs.Calls.{NeverFall}
 use Rattle.host_port.specs.Ran.{Ran}
 use Rattle.session_state.specs.States.{IsState, is_drafting}
 use Rattle.session_state.specs.Bringing.{weight}
+use Rattle.mailx_session.specs.Startup.{WaitsInStartup}
 use Rattle.mailx_session.proofs.RoundLemmas.{WaitsSoFar}
 use Rattle.mailx_session.proofs.lines.waiting_lines.Given as goal
 
@@ -14,6 +15,7 @@ invariant-lines g l = record {
   nothing : l.fn.state.frames ≡ [] → l.state ≡ l.fn.state;
   drafting : is_drafting l.fn.state ≡ true → l.state ≡ l.fn.state;
   light : weight l.state ≤ weight l.fn.state;
+  startup : WaitsInStartup l.fn.state → WaitsInStartup l.state;
   lighter : is_drafting l.fn.state ≡ false → is_drafting l.state ≡ true → weight l.state < weight l.fn.state;
 }
 

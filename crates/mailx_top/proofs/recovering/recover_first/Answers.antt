@@ -2,7 +2,7 @@ use Rattle.host_port.proofs.RanLemmas.{Ran-then, Ran-map}
 use Rattle.session_play.specs.Play.{Ask, Ret, Recover}
 use Rattle.session_play.proofs.PlayLemmas.{goes-then, goes-cut}
 use Rattle.mailx_top.specs.Meaning.{recovered, after_recovery}
-use Rattle.mailx_top.specs.Wants.{start_from}
+use Rattle.mailx_top.specs.Words.{Opens}
 use Rattle.mailx_top.proofs.EndLemmas.{load-stops, caused-since}
 use Rattle.mailx_top.proofs.recovering.recover_first.Goals as goal
 
@@ -15,8 +15,8 @@ recovery-requires-clause-no_zero g c = rw (c.bytes.ensures, c.state.ensures.stat
 pub returns-in-Ok-clause-ran : goal.returns-in-Ok-clause-ran
 returns-in-Ok-clause-ran g c = λ env.
     let s = c.args.session.now in
-    let start = start_from c.args.start in
-    Ran-then (goes-then (Ask (Recover s.actor s.token) Ret) (recovered env start) _ (after_recovery env start c.answered.result))
+    let o = c.args.options.now in
+    Ran-then (goes-then (Ask (Recover s.actor s.token) Ret) (recovered env o) _ (after_recovery env (Opens o) c.answered.result))
     (rw (c.bytes.ensures, c.state.ensures.state) at c.in-Ok.ensures.ran s.token) (c.answered.ensures.ran env)
 
 pub returns-in-Ok-clause-cause : goal.returns-in-Ok-clause-cause
@@ -27,8 +27,8 @@ returns-in-Ok-clause-cause g c =
 pub returns-in-Err-clause-ran : goal.returns-in-Err-clause-ran
 returns-in-Err-clause-ran g c = λ env.
     let s = c.args.session.now in
-    let start = start_from c.args.start in
-    Ran-map (goes-cut (Ask (Recover s.actor s.token) Ret) (recovered env start) _) (rw (c.bytes.ensures, c.state.ensures.state) at c.in-Err.ensures.ran s.token)
+    let o = c.args.options.now in
+    Ran-map (goes-cut (Ask (Recover s.actor s.token) Ret) (recovered env o) _) (rw (c.bytes.ensures, c.state.ensures.state) at c.in-Err.ensures.ran s.token)
 
 pub returns-in-Err-clause-stops : goal.returns-in-Err-clause-stops
 returns-in-Err-clause-stops g c = load-stops _ c.in-Err.ensures.only_disk

@@ -1,4 +1,6 @@
+use Rattle.std.specs.declared.option.Option.{Option}
 use Rattle.session_state.specs.declared.flow.Flow.{Flow}
+use Rattle.session_state.specs.declared.status.Status.{Status}
 use Rattle.mailx_top.proofs.EndLemmas.{caused-line}
 use Rattle.mailx_top.proofs.session.step.Goals as goal
 
@@ -12,4 +14,4 @@ pub returns-in-Err-clause-ran : goal.returns-in-Err-clause-ran
 returns-in-Err-clause-ran g c = rw c.stop_of.ensures c.in-Err.ensures.ran
 
 pub returns-in-Err-clause-cause : goal.returns-in-Err-clause-cause
-returns-in-Err-clause-cause g c = rw c.stop_of.ensures (caused-line Flow (g.H.Host.world.counts c.args.host.now) (g.H.Host.world.counts c.step.new.host) c.in-Err.error c.in-Err.ensures.cause)
+returns-in-Err-clause-cause g c = rw c.stop_of.ensures (caused-line Flow (Option Status) (g.H.Host.world.counts c.args.host.now) (g.H.Host.world.counts c.step.new.host) c.in-Err.error c.in-Err.ensures.cause)

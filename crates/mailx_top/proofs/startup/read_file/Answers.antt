@@ -1,11 +1,14 @@
 use Rattle.host_port.proofs.RanLemmas.{Ran-map}
-use Rattle.mailx_top.proofs.EndLemmas.{line-ends}
-use Rattle.mailx_top.proofs.WaitingLemmas.{file-leads}
+use Rattle.mailx_top.proofs.EndLemmas.{caused-line}
+use Rattle.mailx_top.proofs.WaitingLemmas.{file-goes}
 use Rattle.mailx_top.proofs.startup.read_file.Goals as goal
 
-pub returns-clause-ran : goal.returns-clause-ran
-returns-clause-ran g c = λ env start names.
-    Ran-map (file-leads env start c.args.session.now c.take_file.new.session c.args.name.now names c.take_file.result c.take_file.ensures.before) c.take_file.ensures.ran
+pub returns-in-Ok-clause-ran : goal.returns-in-Ok-clause-ran
+returns-in-Ok-clause-ran g c = λ env start names. Ran-map (λ es goes. file-goes env start c.args.session.now c.args.name.now names c.startup.ensures.before goes) c.in-Ok.ensures.ran
 
-pub returns-clause-plain : goal.returns-clause-plain
-returns-clause-plain g c = line-ends c.take_file.result c.take_file.ensures.line_end
+pub returns-in-Err-clause-ran : goal.returns-in-Err-clause-ran
+returns-in-Err-clause-ran g c = λ env start names.
+    rw c.stop_of.ensures (Ran-map (λ es goes. file-goes env start c.args.session.now c.args.name.now names c.startup.ensures.before goes) c.in-Err.ensures.ran)
+
+pub returns-in-Err-clause-cause : goal.returns-in-Err-clause-cause
+returns-in-Err-clause-cause g c = rw c.stop_of.ensures (caused-line (Unit {0}) (Unit {0}) (g.H.Host.world.counts c.args.host.now) (g.H.Host.world.counts c.startup.new.host) c.in-Err.error c.in-Err.ensures.cause)

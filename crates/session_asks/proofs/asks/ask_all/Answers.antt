@@ -1,11 +1,12 @@
 use Rattle.std.proofs.Common.{rules, ◌≡◌, false, List, [], ◌∷◌, length, refl, sym, ap, ◌∙◌}
-use Rattle.std.specs.List.{list_any}
+use Rattle.std.specs.List.{list_all, list_any}
 use Rattle.host_port.proofs.RanLemmas.{Ran-then, Ran-map, Ran-none}
 use Rattle.session_play.specs.Steps.{in_order}
 use Rattle.session_play.proofs.LeadLemmas.{leads-none}
+use Rattle.read_commands.specs.Origins.{is_startup_ask}
 use Rattle.session_state.specs.Bringing.{brings}
 use Rattle.session_asks.specs.Asks.{asked, all_done}
-use Rattle.session_asks.proofs.SourcingLemmas.{brings_none, brings-then, keeps-then, only-then, quiet-parts}
+use Rattle.session_asks.proofs.SourcingLemmas.{brings_none, brings-then, keeps-then, only-then, quiet-parts, startup-parts}
 use Rattle.session_asks.proofs.AskLemmas.{never-fall-none, never-fall-then, caused-later, done-on, left-on, left-all, left-off, nothing-left}
 use Rattle.session_asks.proofs.asks.ask_all.Goals as goal
 
@@ -19,6 +20,7 @@ loop-ask-init g c =
       brought = brings_none c.args.state.now c.args.state.now refl;
       desk = refl;
       quiet = λ none. (rw all none, refl);
+      little = λ little. rw all little;
     }
 
 pub loop-ask-preserved : goal.loop-ask-preserved
@@ -33,6 +35,7 @@ loop-ask-preserved g c =
       quiet = λ none.
           let before = c.loop-ask.invariant.quiet none in
           let parts = quiet-parts c.in-Some.ask c.next.new.self.rest.items (sym (ap (list_any brings) step) ∙ before.0) in (parts.1, c.do_ask-asked.ensures.quiet parts.0 ∙ before.1);
+      little = λ little. (startup-parts c.in-Some.ask c.next.new.self.rest.items (sym (ap (list_all is_startup_ask) step) ∙ c.loop-ask.invariant.little little)).1;
       ran =
           Ran-then (left-on c.args.state.now c.loop-ask.state c.do_ask-asked.new.state c.args.asks c.loop-ask.ask-iterator.rest.items c.next.new.self.rest.items c.in-Some.ask step) c.loop-ask.invariant.ran
           (rw on at c.do_ask-asked.ensures.ran);
@@ -51,6 +54,7 @@ loop-ask-preserved-else-not-all_done-2 g c =
       quiet = λ none.
           let before = c.loop-ask.invariant.quiet none in
           let parts = quiet-parts c.in-Some.ask c.next.new.self.rest.items (sym (ap (list_any brings) step) ∙ before.0) in (parts.1, c.do_ask-asked.ensures.quiet parts.0 ∙ before.1);
+      little = λ little. (startup-parts c.in-Some.ask c.next.new.self.rest.items (sym (ap (list_all is_startup_ask) step) ∙ c.loop-ask.invariant.little little)).1;
       ran =
           Ran-then (left-on c.args.state.now c.loop-ask.state c.do_ask-asked.new.state c.args.asks c.loop-ask.ask-iterator.rest.items c.next.new.self.rest.items c.in-Some.ask step) c.loop-ask.invariant.ran
           (rw on at c.do_ask-asked.ensures.ran);
@@ -78,6 +82,11 @@ returns-then-not-all_done-clause-quiet g c = λ none.
     let before = c.loop-ask.invariant.quiet none in
     let parts = quiet-parts c.in-Some.ask c.next.new.self.rest.items (sym (ap (list_any brings) step) ∙ before.0) in
     c.do_ask-asked.ensures.quiet parts.0 ∙ before.1
+
+pub returns-then-not-all_done-clause-goes_on : goal.returns-then-not-all_done-clause-goes_on
+returns-then-not-all_done-clause-goes_on g c = λ little.
+    let step : c.loop-ask.ask-iterator.rest.items ≡ c.in-Some.ask ∷ c.next.new.self.rest.items = c.in-Some.ensures.steps.0 in
+    c.do_ask-asked.ensures.goes_on (startup-parts c.in-Some.ask c.next.new.self.rest.items (sym (ap (list_all is_startup_ask) step) ∙ c.loop-ask.invariant.little little)).0
 
 pub returns-then-not-all_done-clause-cause : goal.returns-then-not-all_done-clause-cause
 returns-then-not-all_done-clause-cause g c =

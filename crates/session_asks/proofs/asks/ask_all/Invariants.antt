@@ -1,7 +1,8 @@
-use Rattle.std.specs.Prelude.{◌≡◌, false}
-use Rattle.std.specs.List.{list_any}
+use Rattle.std.specs.Prelude.{◌≡◌, true, false}
+use Rattle.std.specs.List.{list_all, list_any}
 use Rattle.host_port.specs.Calls.{NeverFall}
 use Rattle.host_port.specs.Ran.{Ran}
+use Rattle.read_commands.specs.Origins.{is_startup_ask}
 use Rattle.session_state.specs.Bringing.{brings, OnlyBrings}
 use Rattle.session_state.specs.States.{IsState, OnlyFrames}
 use Rattle.session_asks.proofs.AskLemmas.{LeftOf}
@@ -15,4 +16,5 @@ invariant-loop-ask g l = record {
   brought : OnlyBrings l.fn.state l.state;
   desk : OnlyFrames l.fn.state l.state;
   quiet : list_any brings l.fn.asks ≡ false → (list_any brings l.ask-iterator.rest.items ≡ false) × (l.state ≡ l.fn.state);
+  little : list_all is_startup_ask l.fn.asks ≡ true → list_all is_startup_ask l.ask-iterator.rest.items ≡ true;
 }

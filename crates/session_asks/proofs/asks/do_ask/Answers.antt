@@ -1,7 +1,8 @@
-use Rattle.std.proofs.Common.{refl, inl}
+use Rattle.std.proofs.Common.{refl, ap, inl}
 use Rattle.host_port.proofs.RanLemmas.{Ran-none, Ran-map}
-use Rattle.session_asks.proofs.AskLemmas.{asked-say, asked-commit, asked-source, asked-lines, asked-open, asked-draft, asked-child, asked-exit, run-asked-as}
-use Rattle.session_asks.proofs.SourcingLemmas.{kept-valid, keeps-desk, called-goes, called-caused}
+use Rattle.read_commands.specs.Origins.{is_startup_ask}
+use Rattle.session_asks.proofs.AskLemmas.{asked-say, asked-commit, asked-source, asked-lines, asked-open, asked-view, asked-draft, asked-child, asked-exit, run-asked-as}
+use Rattle.session_asks.proofs.SourcingLemmas.{kept-valid, keeps-desk, called-goes, called-caused, ends-by-ask, asks-go-on}
 use Rattle.session_asks.proofs.asks.do_ask.Goals as goal
 
 pub returns-in-Say-clause-ran : goal.returns-in-Say-clause-ran
@@ -19,6 +20,15 @@ returns-in-Source-clause-valid g c = kept-valid c.args.state.now c.source.new.st
 pub returns-in-Source-clause-desk : goal.returns-in-Source-clause-desk
 returns-in-Source-clause-desk g c = keeps-desk c.args.state.now c.source.new.state c.source.result c.source.ensures.desk
 
+pub returns-in-Source-clause-goes_on : goal.returns-in-Source-clause-goes_on
+returns-in-Source-clause-goes_on g c = λ little. asks-go-on c.source.result c.source.ensures.goes_on c.source.ensures.memory
+
+pub returns-in-Source-clause-done : goal.returns-in-Source-clause-done
+returns-in-Source-clause-done g c = ends-by-ask c.source.result c.source.ensures.goes_on
+
+pub returns-in-Source-clause-cause : goal.returns-in-Source-clause-cause
+returns-in-Source-clause-cause g c = called-caused (g.H.Host.world.counts c.args.host.now) (g.H.Host.world.counts c.source.new.host) c.source.result c.source.ensures.memory
+
 pub returns-in-Lines-clause-ran : goal.returns-in-Lines-clause-ran
 returns-in-Lines-clause-ran g c =
     rw (asked-lines c.args.state.now c.args.ask _ c.in-Lines.is)
@@ -33,8 +43,20 @@ returns-in-Lines-clause-desk g c = keeps-desk c.args.state.now c.call.new.state 
 pub returns-in-Lines-clause-cause : goal.returns-in-Lines-clause-cause
 returns-in-Lines-clause-cause g c = called-caused (g.H.Host.world.counts c.args.host.now) (g.H.Host.world.counts c.args.host.now) c.call.result c.call.ensures.memory
 
+pub returns-in-Lines-clause-goes_on : goal.returns-in-Lines-clause-goes_on
+returns-in-Lines-clause-goes_on g c = λ little. asks-go-on c.call.result c.call.ensures.goes_on c.call.ensures.memory
+
+pub returns-in-Lines-clause-done : goal.returns-in-Lines-clause-done
+returns-in-Lines-clause-done g c = ends-by-ask c.call.result c.call.ensures.goes_on
+
 pub returns-in-Open-clause-ran : goal.returns-in-Open-clause-ran
 returns-in-Open-clause-ran g c = rw (asked-open c.args.state.now c.args.ask _ _ _ c.in-Open.is) (rw c.bytes-in-Open.ensures at c.switch.ensures.ran)
+
+pub returns-in-View-clause-ran : goal.returns-in-View-clause-ran
+returns-in-View-clause-ran g c = rw (asked-view c.args.state.now c.args.ask _ c.in-View.is) (Ran-none c.view.ensures.goes)
+
+pub returns-in-View-clause-cause : goal.returns-in-View-clause-cause
+returns-in-View-clause-cause g c = called-caused (g.H.Host.world.counts c.args.host.now) (g.H.Host.world.counts c.args.host.now) c.view.result c.view.ensures.memory
 
 pub returns-in-Draft-clause-ran : goal.returns-in-Draft-clause-ran
 returns-in-Draft-clause-ran g c = rw (asked-draft c.args.state.now c.args.ask _ _ _ c.in-Draft.is) c.begin_recorded.ensures.ran
@@ -44,3 +66,21 @@ returns-in-Child-clause-ran g c = rw (asked-child c.args.state.now c.args.ask c.
 
 pub returns-in-Exit-clause-ran : goal.returns-in-Exit-clause-ran
 returns-in-Exit-clause-ran g c = rw (asked-exit c.args.state.now c.args.ask c.in-Exit.is) (rw c.status_of.ensures.status (Ran-none (refl, inl refl)))
+
+pub returns-in-Commit-clause-goes_on : goal.returns-in-Commit-clause-goes_on
+returns-in-Commit-clause-goes_on g c = λ little. absurd (cc (ap is_startup_ask c.in-Commit.is, little))
+
+pub returns-in-Open-clause-goes_on : goal.returns-in-Open-clause-goes_on
+returns-in-Open-clause-goes_on g c = λ little. absurd (cc (ap is_startup_ask c.in-Open.is, little))
+
+pub returns-in-Draft-clause-goes_on : goal.returns-in-Draft-clause-goes_on
+returns-in-Draft-clause-goes_on g c = λ little. absurd (cc (ap is_startup_ask c.in-Draft.is, little))
+
+pub returns-in-Child-clause-goes_on : goal.returns-in-Child-clause-goes_on
+returns-in-Child-clause-goes_on g c = λ little. absurd (cc (ap is_startup_ask c.in-Child.is, little))
+
+pub returns-in-Exit-clause-goes_on : goal.returns-in-Exit-clause-goes_on
+returns-in-Exit-clause-goes_on g c = λ little. absurd (cc (ap is_startup_ask c.in-Exit.is, little))
+
+pub returns-in-View-clause-goes_on : goal.returns-in-View-clause-goes_on
+returns-in-View-clause-goes_on g c = λ little. absurd (cc (ap is_startup_ask c.in-View.is, little))

@@ -1,0 +1,14 @@
+use Rattle.std.proofs.Common.{◌≡◌, length, map, vec_len, vec_capacity}
+use Rattle.std.specs.List.{range_with_len}
+use Rattle.thread_view.specs.Pairs.{value_of}
+use Rattle.thread_view.specs.Parents.{row_at}
+use Rattle.thread_view.specs.Sorting.{number_of}
+use Rattle.thread_view.proofs.sorting.by_value.Given as goal
+
+-- the messages so far with their keys
+abbrev pub invariant-loop-p : goal.invariant-loop-p
+invariant-loop-p l = record {
+  pairs : l.pairs.items ≡ map (λ k. (number_of (value_of l.fn.key) (row_at l.rows k), k)) (range_with_len 1 l.p);
+  count : vec_len l.pairs ≡ l.p;
+  room : vec_capacity l.pairs ≡ length l.rows;
+}

@@ -1,0 +1,10 @@
+pub mod Cycles
+pub mod Parents
+pub mod Threads
+pub mod Views
+pub mod Sorting
+pub mod Neighbours
+pub mod Arrays
+pub mod Naming
+pub mod Pairs
+pub mod ViewLaws
