@@ -9,7 +9,7 @@ ghost use Rattle.host_memory.specs.Views.{disk_of, steps_before, part_at};
 ghost use Rattle.host_port.specs.declared.event.Event.TheVariants as event;
 
 use crate::standing::copy_found;
-use crate::tape::{Tape, add_others};
+use crate::tape::{Tape, add_others, let_go};
 use host_port::{Event, ForeignStep, LoadAnswer, LoadError, Part, Seen};
 use mail_text::{Memory, Text};
 use std::alloc::Global;
@@ -40,8 +40,13 @@ pub fn tell(
     ensures ok { OnOk result (TapeAdds tape.old tape.new (steps_before plan.now call) event) }
     ensures start { tape.new.start ≡ tape.old.start }
 {
-    add_others(alloc, plan, call, tape)?;
-    tape.add(alloc, event)
+    match add_others(alloc, plan, call, tape) {
+        Ok(()) => tape.add(alloc, event),
+        Err(memory) => {
+            let_go(event);
+            Err(memory)
+        }
+    }
 }
 
 /// Tells that input was taken.

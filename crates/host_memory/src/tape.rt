@@ -13,6 +13,9 @@ use host_port::{Event, ForeignStep};
 use mail_text::{Items, Memory, Text};
 use std::alloc::Global;
 
+/// Lets an event go. A function that owns one when a call fails hands it over: to drop it in place is dear to prove.
+pub fn let_go(_event: Event) {}
+
 /// The events so far, with the disk that they make of the disk that stood at the start.
 #[derive(Drop)]
 pub struct Tape {
@@ -29,11 +32,21 @@ impl Tape {
         ensures err { OnErr result (self.new.trace.items ≡ self.old.trace.items) }
         ensures start { self.new.start ≡ self.old.start }
     {
-        self.trace.reserve(1)?;
-        effect(alloc, &mut self.standing, &event)?;
-        match self.trace.push(event) {
-            Ok(()) => Ok(()),
-            Err(_) => unreachable!(),
+        match self.trace.reserve(1) {
+            Ok(()) => match effect(alloc, &mut self.standing, &event) {
+                Ok(()) => {
+                    self.trace.push_reserved(event);
+                    Ok(())
+                }
+                Err(memory) => {
+                    let_go(event);
+                    Err(memory)
+                }
+            },
+            Err(_) => {
+                let_go(event);
+                Err(Memory)
+            }
         }
     }
 }
