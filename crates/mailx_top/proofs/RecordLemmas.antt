@@ -14,6 +14,7 @@ use Rattle.folder_commit.specs.Told.{end_told, TellsEnd}
 use Rattle.folder_commit.proofs.LookLemmas.{is-told}
 use Rattle.folder_recovery.specs.Told.{told_end}
 use Rattle.folder_recovery.proofs.ToldLemmas as recoveries
+use Rattle.session_play.specs.declared.changing.Attempt.TheVariants.{Made, Misnamed}
 use Rattle.session_play.specs.declared.changing.Committed.{Committed}
 use Rattle.session_play.specs.declared.changing.Committed.TheVariants as committed
 use Rattle.session_play.specs.declared.recovering.RecoveryAnswer.{RecoveryAnswer}
@@ -23,6 +24,7 @@ use Rattle.session_play.specs.declared.stop.Stop.{Stop}
 use Rattle.session_play.specs.Input.{Input}
 use Rattle.session_play.specs.Acts.{input_after}
 use Rattle.session_play.specs.Committing.{answer_as}
+use Rattle.session_play.proofs.NamingLemmas.{named-files}
 use Rattle.session_play.specs.Play.{Act, Answer, Line, Say, Read, Try, Changes, Recover, Child, Now, Know, Play, Ret, Ask, Did, Goes, Next, Go, Last, Loop, again, last, cut}
 use Rattle.session_play.proofs.ShapeLemmas.{came-same, goes-ends}
 use Rattle.play_safety.specs.Safe.{IsBy, OfCommit, NextKeeps}
@@ -41,7 +43,7 @@ use Rattle.session_state.specs.Outcomes.{status_of}
 use Rattle.mailx_top.specs.Leavings.{is_for_record}
 
 -- what a commit's own events tell of its end is what its answer says
-end-unreadable : (changes : List Change) (files : List (List ℕ)) (end : Ending) (a : Committed) → TellsEnd files end (answer_as a) → is_unreadable changes end ≡ answers_unreadable changes a
+end-unreadable : (changes : List Change) (files : List (List ℕ)) (end : Ending) (a : Committed) → TellsEnd files end (answer_as a) → is_unreadable changes end ≡ answers_unreadable changes (Made a)
 end-unreadable changes files end committed.Done is = ap (is_unreadable changes) is
 end-unreadable changes files end (committed.Busy name) is = ap (is_unreadable changes) is
 end-unreadable changes files end committed.NotARecord is = ap (is_unreadable changes) is
@@ -50,7 +52,7 @@ end-unreadable changes files end (committed.TooLarge name n) is = ap (is_unreada
 end-unreadable changes files end (committed.TooManyNames count) never = absurd never
 
 -- without an event a commit was done, or has too many files
-done-unreadable : (changes : List Change) (a : Committed) → answer_as a ≡ Ok tt → answers_unreadable changes a ≡ false
+done-unreadable : (changes : List Change) (a : Committed) → answer_as a ≡ Ok tt → answers_unreadable changes (Made a) ≡ false
 done-unreadable changes committed.Done is = refl
 done-unreadable changes (committed.Busy name) is = absurd (cc is)
 done-unreadable changes committed.NotARecord is = absurd (cc is)
@@ -58,7 +60,7 @@ done-unreadable changes (committed.Changed name at) is = absurd (cc is)
 done-unreadable changes (committed.TooLarge name n) is = absurd (cc is)
 done-unreadable changes (committed.TooManyNames count) is = absurd (cc is)
 
-many-unreadable : (changes : List Change) (n : ℕ) (a : Committed) → answer_as a ≡ Err (error.TooManyNames n) → answers_unreadable changes a ≡ false
+many-unreadable : (changes : List Change) (n : ℕ) (a : Committed) → answer_as a ≡ Err (error.TooManyNames n) → answers_unreadable changes (Made a) ≡ false
 many-unreadable changes n committed.Done is = absurd (cc is)
 many-unreadable changes n (committed.Busy name) is = absurd (cc is)
 many-unreadable changes n committed.NotARecord is = absurd (cc is)
@@ -79,7 +81,7 @@ none-told actor changes base es none = ap (λ (es : List Event). is_unreadable c
 
 -- an answered commit says what its own events tell
 changes-told : (actor : List ℕ) (token : ℕ) (changes : List Change) (base : List (List ℕ)) (es : List Event) (a : Committed) → token < 2 ^ 64 → AreFiles actor changes → IsCommit actor token changes base es (answer_as a)
-    → is_unreadable changes (end_told actor changes base es) ≡ answers_unreadable changes a
+    → is_unreadable changes (end_told actor changes base es) ≡ answers_unreadable changes (Made a)
 changes-told actor token [] base es a fits files (none, is) = none-told actor [] base es none ∙ sym (done-unreadable [] a is)
 changes-told actor token (c ∷ cs) base es a fits files (inl (many, (none, inl is))) = none-told actor (c ∷ cs) base es none ∙ sym (many-unreadable (c ∷ cs) _ a is)
 changes-told actor token (c ∷ cs) base es a fits files (inl (many, (none, inr is))) = no-memory a is
@@ -110,7 +112,8 @@ next_ends (Last e) = is_for_record e
 
 module _ (actor : List ℕ) (token : ℕ) (fits : token < 2 ^ 64) where
   act-told : (act : Act) (answer : Answer act) (es : List Event) → OfCommit (IsBy actor token) act → Did act answer es → met_unreadable act answer es ≡ unreadable_by act answer
-  act-told (Changes c) a es by did = changes-told c.actor c.token c.changes c.base es a (subst (λ (t : ℕ). t < 2 ^ 64) (sym by.token_is) fits) (subst (λ (n : List ℕ). AreFiles n c.changes) (sym by.actor_is) by.files) did
+  act-told (Changes c) (Made a) es by (well, did) = changes-told c.actor c.token c.changes c.base es a (subst (λ (t : ℕ). t < 2 ^ 64) (sym by.token_is) fits) (named-files c.actor c.changes well) did
+  act-told (Changes c) (Misnamed name fault) es by (is, none) = none-told c.actor c.changes c.base es none
   act-told (Line i) a es by did = refl
   act-told (Say bytes) a es by did = refl
   act-told (Read name) a es by did = refl
@@ -143,6 +146,7 @@ not-for-record : (o : Outcome) → is_for_record (status_of o) ≡ false
 not-for-record outcome.Fine = refl
 not-for-record (outcome.NotSent n) = refl
 not-for-record outcome.Refused = refl
+not-for-record outcome.Unrecorded = refl
 
 exits-free : (x : RunState) (e : Status) → ExitsFrom x e → is_for_record e ≡ false
 exits-free (Recovering start) e (opened, free, other) = free

@@ -5,12 +5,8 @@ use Rattle.std.specs.Prelude.{if◌then◌else◌, nat_lt}
 use Rattle.std.specs.declared.option.Option.{Option}
 use Rattle.std.specs.declared.option.Option.TheVariants.{Some, None}
 use Rattle.std.specs.declared.result.Result.TheVariants.{Ok, Err}
-use Rattle.std.proofs.lemmas.List.Elements.{All-nil}
 use Rattle.host_port.specs.declared.event.Event.{Event}
 use Rattle.mbox_scan.specs.Mailbox.{list_of, message_limit}
-use Rattle.folder_change.specs.Changes.{name_of}
-use Rattle.folder_change.specs.declared.change.Change.{Change}
-use Rattle.folder_commit.specs.Names.{is_file_name}
 use Rattle.session_play.specs.declared.act.Found.{Found}
 use Rattle.session_play.specs.declared.act.Found.TheVariants as found
 use Rattle.session_play.specs.declared.recovering.RecoveryAnswer.{RecoveryAnswer}
@@ -242,7 +238,7 @@ module _ (env : Environment) (actor : List ℕ) (token : ℕ) where
   recovering-obeys : (start : Option Start) → (actor_in env ≡ actor) × (env.token ≡ token) → Rounds false (λ y. Unit {0}) IsPlain (false, no_input) (recovering env start)
   recovering-obeys None of = (refl, of, tt)
   recovering-obeys (Some (words.Opens o)) of =
-      ((tt, refl, record { actor_is = of.0; token_is = of.1; files = All-nil (λ (c : Change). is_file_name actor (name_of c) ≡ true) }), λ a. recovered-obeys o a (actor-same env (words.Opens o) ∙ of.0, of.1))
+      ((tt, refl, record { actor_is = of.0; token_is = of.1 }), λ a. recovered-obeys o a (actor-same env (words.Opens o) ∙ of.0, of.1))
   recovering-obeys (Some (words.Sends o)) of = (refl, (actor-same env (words.Sends o) ∙ of.0, of.1), tt)
 
   -- ---- the opening
