@@ -10,9 +10,12 @@ mod session;
 mod startup;
 mod status;
 mod top;
+mod trial;
+mod trying;
 mod words;
 
 pub use environment::Environment;
 pub use laws::{appended_follows, decided_fit, quits_keep_appended, replies_follow};
 pub use mailx_session::Status;
 pub use top::run;
+pub use trying::try_host;
