@@ -11,7 +11,7 @@ use Rattle.session_play.specs.Acts.{AllActs, AllEnds}
 use Rattle.session_play.specs.Committing.{Commit}
 use Rattle.session_play.specs.Play.{Act, Answer, Changes, Recover, Play, Ret, Ask, bind}
 use Rattle.play_safety.specs.Safe.{OfCommit, EachCommit}
-use Rattle.session_state.specs.Saving.{is_changed, refuses}
+use Rattle.session_state.specs.Saving.{is_changed, is_refused}
 
 -- Rules say which act may be asked and which end may come as things stand, and how things stand after an answer.
 abbrev pub Obeys : {X R : Type 0} → (X → Act → Type 0) → (X → (act : Act) → Answer act → X) → (X → R → Type 0) → X → Play R → Type 0
@@ -64,11 +64,6 @@ unreadable_by (Changes c) a = answers_unreadable c.changes a
 unreadable_by (Recover actor token) a = found_unreadable a
 unreadable_by act a = false
 
--- the answer to an act refuses its changes
-abbrev pub refusal_by : (act : Act) → Answer act → Bool
-refusal_by (Changes c) a = refuses c.changes a
-refusal_by act a = false
-
 -- whether an answer so far was that a record can't be read, and whether one refused changes
 abbrev pub Met : Type 0
 Met = Bool × Bool
@@ -77,4 +72,4 @@ abbrev pub nothing_met : Met
 nothing_met = (false, false)
 
 abbrev pub met_by : Met → (act : Act) → Answer act → Met
-met_by met act answer = (unreadable_by act answer || met.0, refusal_by act answer || met.1)
+met_by met act answer = (unreadable_by act answer || met.0, is_refused act answer || met.1)

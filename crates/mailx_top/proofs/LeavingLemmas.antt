@@ -19,14 +19,15 @@ use Rattle.session_state.specs.Placing.{placed_changes}
 use Rattle.session_state.specs.declared.state.SessionState.{SessionState}
 use Rattle.session_state.specs.declared.status.Status.{Status}
 use Rattle.session_state.specs.declared.status.Status.TheVariants as status
-use Rattle.session_state.specs.Saving.{is_changed, after_commit, saved}
+use Rattle.session_state.specs.Saving.{is_changed, refuses, is_refused, after_commit, saved}
 use Rattle.session_asks.specs.Asks.{asked}
 use Rattle.mailx_session.specs.Leaving.{left_by}
 use Rattle.mailx_top.specs.Meaning.{RunState, last_round}
 use Rattle.session_state.specs.declared.outcome.Outcome.{Outcome}
 use Rattle.session_state.specs.declared.outcome.Outcome.TheVariants as outcome
 use Rattle.session_state.specs.Outcomes.{status_of}
-use Rattle.mailx_top.specs.Leavings.{first_answer, refuses, left_changes, is_quit_refused, is_refused_before}
+use Rattle.mailx_top.specs.Leavings.{first_answer, left_changes, is_quit_refused, is_refused_before}
+use Rattle.mailx_top.specs.Met.{some_act}
 
 -- a line ends the run by what became of drafts, or since the record can't be read
 abbrev pub EndsBy : Outcome → Status → Type 0
@@ -112,3 +113,18 @@ quit-ends s changes text es r (inr (cause, other, part)) = absurd (cc other)
 pub last-ends : (s : SessionState) (es : List Event) (r : Status) (goes : Goes (last_round s) es (Ok (Last r)))
     → EndsByQuit s.outcome (is_quit_refused s (first_answer (last_round s) es (Ok (Last r)) goes)) r
 last-ends s es r goes = quit-ends s (left_changes s) (left_reply s.desk) es r goes
+
+-- a quit that was refused met that in its round
+or-first : (a b : Bool) → a ≡ true → (a || b) ≡ true
+or-first true b is = refl
+or-first false b is = absurd (cc is)
+
+quit-meets : (s : SessionState) (changes : List Change) (text : List ℕ) (es : List Event) (r : Status) (goes : Goes (quit_of s changes (said text ++ asks.Exit ∷ [])) es (Ok (Last r)))
+    → option_map_or (refuses (placed_changes s.here changes)) (first_answer (quit_of s changes (said text ++ asks.Exit ∷ [])) es (Ok (Last r)) goes) false ≡ true
+    → some_act (λ act answer front. is_refused act answer) (quit_of s changes (said text ++ asks.Exit ∷ [])) es (Ok (Last r)) goes ≡ true
+quit-meets s changes text es r (inl (a, front, rest, is, did, goes)) refused = or-first (refuses (placed_changes s.here changes) a) _ refused
+quit-meets s changes text es r (inr (cause, other, part)) refused = absurd (cc other)
+
+pub quit-met : (s : SessionState) (es : List Event) (r : Status) (goes : Goes (last_round s) es (Ok (Last r)))
+    → is_quit_refused s (first_answer (last_round s) es (Ok (Last r)) goes) ≡ true → some_act (λ act answer front. is_refused act answer) (last_round s) es (Ok (Last r)) goes ≡ true
+quit-met s es r goes = quit-meets s (left_changes s) (left_reply s.desk) es r goes

@@ -35,8 +35,8 @@ use Rattle.mailx_top.specs.Words.{Start}
 use Rattle.mailx_top.specs.Meaning.{RunState, Recovering, Opening, Reading, Finishing, Leaving, round, input_of, is_opening, actor_in, Preparing}
 use Rattle.mailx_top.specs.Starts.{is_bad_record}
 use Rattle.mailx_top.specs.Unreadable.{is_unreadable, met_unreadable, some_unreadable, some_unreadable_in, IsRecordExplained}
-use Rattle.mailx_top.proofs.RoundLemmas.{StateOf, LeadsFrom, ExitsFrom, RoundEnds, Rounds, round-obeys, round-of}
-use Rattle.mailx_session.proofs.ObeyLemmas.{answers_unreadable, found_unreadable, unreadable_by, met_by}
+use Rattle.mailx_top.proofs.RoundLemmas.{StateOf, outcome_in, Leading, LeadsFrom, ExitsFrom, RoundEnds, Rounds, round-obeys, round-of}
+use Rattle.mailx_session.proofs.ObeyLemmas.{answers_unreadable, found_unreadable, unreadable_by, Met, nothing_met, met_by}
 use Rattle.session_state.specs.declared.outcome.Outcome.{Outcome}
 use Rattle.session_state.specs.declared.outcome.Outcome.TheVariants as outcome
 use Rattle.session_state.specs.Outcomes.{status_of}
@@ -96,13 +96,13 @@ recovery-told actor token es (recovery.Busy name) did = ap is_bad_record (recove
 recovery-told actor token es recovery.NotARecord did = ap is_bad_record (recoveries.is-told actor token es (recovery_as recovery.NotARecord) did)
 recovery-told actor token es (recovery.TooLarge name n) did = ap is_bad_record (recoveries.is-told actor token es (recovery_as (recovery.TooLarge name n)) did)
 
-or-moved : (met u s : Bool) → (met || (u || s)) ≡ ((u || met) || s)
+pub or-moved : (met u s : Bool) → (met || (u || s)) ≡ ((u || met) || s)
 or-moved true true s = refl
 or-moved true false s = refl
 or-moved false true s = refl
 or-moved false false s = refl
 
-or-none : (met : Bool) → (met || false) ≡ met
+pub or-none : (met : Bool) → (met || false) ≡ met
 or-none true = refl
 or-none false = refl
 
@@ -124,21 +124,21 @@ module _ (actor : List ℕ) (token : ℕ) (fits : token < 2 ^ 64) where
   act-told (Know texts) a es by did = refl
 
   -- a round that came to its end
-  module _ (env : Environment) (opens : Bool) (Leads : RunState → Type 0) (Exits : Status → Type 0) (free : (e : Status) → Exits e → is_for_record e ≡ false) where
-    end-told : (met : Bool) (i : Input) (n : Next RunState Status) → RoundEnds env actor token Leads Exits (met, i) n → next_ends n ≡ met
-    end-told true i (Go y) never = absurd never
-    end-told false i (Go y) is = refl
-    end-told true i (Last e) is = ap is_for_record is
-    end-told false i (Last e) is = free e is
+  module _ (env : Environment) (opens : Bool) (Leads : Bool → RunState → Type 0) (Exits : Status → Type 0) (free : (e : Status) → Exits e → is_for_record e ≡ false) where
+    end-told : (met : Met) (i : Input) (n : Next RunState Status) → RoundEnds env actor token Leads Exits (met, i) n → next_ends n ≡ met.0
+    end-told (true, b) i (Go y) never = absurd never
+    end-told (false, b) i (Go y) is = refl
+    end-told (true, b) i (Last e) is = ap is_for_record is
+    end-told (false, b) i (Last e) is = free e is
 
-    goes-told : (met : Bool) (i : Input) (p : Play (Next RunState Status)) (es : List Event) (n : Next RunState Status) → Rounds env actor token opens Leads Exits (met, i) p → (goes : Goes p es (Ok n))
-        → (met || some_unreadable p es (Ok n) goes) ≡ next_ends n
-    goes-told met i (Ret q) es n obeys (none, inl same) = or-none met ∙ (sym (end-told met i q obeys) ∙ ap next_ends (sym (came-same n q same)))
+    goes-told : (met : Met) (i : Input) (p : Play (Next RunState Status)) (es : List Event) (n : Next RunState Status) → Rounds env actor token opens Leads Exits (met, i) p → (goes : Goes p es (Ok n))
+        → (met.0 || some_unreadable p es (Ok n) goes) ≡ next_ends n
+    goes-told met i (Ret q) es n obeys (none, inl same) = or-none met.0 ∙ (sym (end-told met i q obeys) ∙ ap next_ends (sym (came-same n q same)))
     goes-told met i (Ret q) es n obeys (none, inr other) = absurd (cc other)
     goes-told met i (Ask act go) es n obeys (inl (answer, front, rest, is, did, goes)) =
         let later = some_unreadable (go answer) rest (Ok n) goes in
-        ap (λ (b : Bool). met || (b || later)) (act-told act answer front obeys.0.2 did)
-        ∙ (or-moved met (unreadable_by act answer) later ∙ goes-told (met_by met act answer) (input_after act answer i) (go answer) rest n (obeys.1 answer) goes)
+        ap (λ (b : Bool). met.0 || (b || later)) (act-told act answer front obeys.0.2 did)
+        ∙ (or-moved met.0 (unreadable_by act answer) later ∙ goes-told (met_by met act answer) (input_after act answer i) (go answer) rest n (obeys.1 answer) goes)
     goes-told met i (Ask act go) es n obeys (inr (cause, other, how)) = absurd (cc other)
 
 -- a run that nothing else ends doesn't end for its record
@@ -159,7 +159,7 @@ exits-free (Leaving s i) e (inr is) = ap is_for_record is
 
 round-told : (env : Environment) → env.token < 2 ^ 64 → (x : RunState) → StateOf env (actor_in env) env.token x → (es : List Event) (n : Next RunState Status) (goes : Goes (round env x) es (Ok n)) → some_unreadable (round env x) es (Ok n) goes ≡ next_ends n
 round-told env fits x of es n goes =
-    goes-told (actor_in env) env.token fits env (is_opening x) (LeadsFrom x) (ExitsFrom x) (exits-free x) false (input_of x) (round env x) es n (round-obeys env (actor_in env) env.token x of) goes
+    goes-told (actor_in env) env.token fits env (is_opening x) (Leading (outcome_in x) (LeadsFrom x)) (ExitsFrom x) (exits-free x) nothing_met (input_of x) (round env x) es n (round-obeys env (actor_in env) env.token x of) goes
 
 -- how the end of a loop tells of its commits
 abbrev EndTells : Result Status Stop → Bool → Type 0

@@ -15,7 +15,7 @@ use Rattle.session_play.specs.declared.naming.NameFault.{NameFault}
 use Rattle.session_play.specs.declared.naming.NameFault.TheVariants as fault
 use Rattle.session_play.specs.Committing.{Commit, wanted_of}
 use Rattle.session_play.specs.Naming.{misnamed}
-use Rattle.session_play.specs.Play.{Play, Ret, Ask, Changes}
+use Rattle.session_play.specs.Play.{Act, Answer, Play, Ret, Ask, Changes}
 use Rattle.session_play.specs.Steps.{After, On, Refused, Ended}
 use Rattle.command_desk.specs.Faults.{bad_name, reserved_name, busy, changed_at, too_large, too_many_names}
 use Rattle.session_state.specs.declared.state.SessionState.{SessionState}
@@ -55,6 +55,11 @@ refuses changes (Made (committed.Changed name at)) = true
 refuses changes (Made (committed.TooLarge name length)) = is_changed changes name
 refuses changes (Made (committed.TooManyNames count)) = true
 refuses changes (Misnamed name fault) = true
+
+-- the answer to an act refuses its changes
+abbrev pub is_refused : (act : Act) → Answer act → Bool
+is_refused (Changes c) answer = refuses c.changes answer
+is_refused act answer = false
 
 -- What follows these changes, of files that are said by these names. A record that can't be read ends the run; so does one, or a staged file,
 -- that is too large.

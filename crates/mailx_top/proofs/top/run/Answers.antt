@@ -5,6 +5,7 @@ use Rattle.host_port.proofs.RanLemmas.{Ran-since, Ran-none}
 use Rattle.command_words.specs.declared.reading.Wanted.{Wanted}
 use Rattle.command_words.specs.Readings.{reading}
 use Rattle.session_state.specs.declared.status.Status.TheVariants as status
+use Rattle.mailx_top.specs.Complete.{IsComplete}
 use Rattle.mailx_top.specs.Runs.{IsRun}
 use Rattle.mailx_top.specs.Trying.{Does, tries_of}
 use Rattle.mailx_top.specs.Usage.{IsBadName}
@@ -24,6 +25,9 @@ returns-in-Err-clause-safe g c = λ before es at to may.
     let r = Ran-since before es (returns-in-Err-clause-run g c) at to in
     let fits : c.args.env.now.token < 2 ^ 64 = omega arith in
     does-safely (tries_of (reading c.args.words.now) c.args.env.now.pairs) (asked c.args.words.now) c.args.env.now status.Memory _ es fits r.0 may r.1
+
+pub returns-in-Err-clause-complete : goal.returns-in-Err-clause-complete
+returns-in-Err-clause-complete g c = λ some still es run free. tt
 
 -- a trial
 pub returns-in-Some-clause-run : goal.returns-in-Some-clause-run
@@ -47,6 +51,13 @@ returns-in-Some-clause-usage_always g c = λ refused.
     c.in-Some.ensures ∙ ap (λ (w : Option Wanted). tries_of w c.args.env.now.pairs) c.in-Ok.ensures in
     let none = tries ∙ refused.0 in
     absurd (cc none)
+
+pub returns-in-Some-clause-complete : goal.returns-in-Some-clause-complete
+returns-in-Some-clause-complete g c = λ some.
+    let env = c.args.env.now in
+    let none : start_of (asked c.args.words.now) env.pairs ≡ None =
+    ap (λ (w : Option Wanted). start_of (option_and_then start_by w) env.pairs) (sym c.in-Ok.ensures) ∙ tries-start-none _ env.pairs _ (sym c.in-Some.ensures) in
+    absurd (some none)
 
 pub returns-in-Some-clause-bad_name : goal.returns-in-Some-clause-bad_name
 returns-in-Some-clause-bad_name g c = λ bad.
@@ -80,6 +91,12 @@ returns-in-None-clause-usage_only g c = λ is.
 pub returns-in-None-clause-usage_always : goal.returns-in-None-clause-usage_always
 returns-in-None-clause-usage_always g c = λ refused.
     c.carry_out.ensures.usage_always (ap (λ (w : Option Wanted). start_of (option_and_then start_by w) c.args.env.now.pairs) c.in-Ok.ensures ∙ refused.1)
+
+pub returns-in-None-clause-complete : goal.returns-in-None-clause-complete
+returns-in-None-clause-complete g c = λ some still es.
+    let env = c.args.env.now in
+    let C : Option Wanted → Type 0 = λ w. IsComplete (option_and_then start_by w) env c.carry_out.result es in
+    subst C c.in-Ok.ensures (c.carry_out.ensures.complete (λ none. some (ap (λ (w : Option Wanted). start_of (option_and_then start_by w) env.pairs) (sym c.in-Ok.ensures) ∙ none)) still es)
 
 pub returns-in-None-clause-bad_name : goal.returns-in-None-clause-bad_name
 returns-in-None-clause-bad_name g c = λ bad.
