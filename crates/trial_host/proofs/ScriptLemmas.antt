@@ -1,13 +1,13 @@
 -- What each call leaves of the lines.
-use Rattle.std.proofs.Common.{◌≡◌, ℕ, ℤ, zero, suc, Bool, true, false, List, [], ◌∷◌, ◌++◌, map, take, drop, length, min, refl, sym, ◌∙◌, ap, subst, append_assoc}
+use Rattle.std.proofs.Common.{◌≡◌, ◌≤◌, arith, ℕ, ℤ, zero, suc, Bool, true, false, List, [], ◌∷◌, ◌++◌, map, take, drop, length, refl, sym, ◌∙◌, ap, subst, append_assoc}
 use Rattle.std.specs.Prelude.{IfOk, OnErr}
-use Rattle.std.proofs.lemmas.List.{append-nil, append_cancel_left}
+use Rattle.std.proofs.lemmas.List.{append-nil, append_cancel_left, length-take-le}
 use Rattle.std.specs.declared.option.Option.{Option}
-use Rattle.std.specs.declared.option.Option.TheVariants.{Some, None}
+use Rattle.std.specs.declared.option.Option.TheVariants.{Some}
 use Rattle.std.specs.declared.result.Result.{Result}
 use Rattle.std.specs.declared.result.Result.TheVariants.{Ok, Err}
 use Rattle.host_port.specs.declared.event.Event.{Event}
-use Rattle.host_port.specs.declared.event.Event.TheVariants.{In, Foreign}
+use Rattle.host_port.specs.declared.event.Event.TheVariants.{Foreign}
 use Rattle.host_port.specs.declared.event.ForeignStep.{ForeignStep}
 use Rattle.host_port.specs.declared.event.LoadAnswer.{LoadAnswer}
 use Rattle.host_port.specs.declared.event.ChildAnswer.{ChildAnswer}
@@ -26,15 +26,14 @@ use Rattle.host_port.proofs.RanLemmas.{own-append}
 use Rattle.host_memory.specs.declared.memory.MemHost.{MemHost}
 use Rattle.host_memory.specs.MemHosts.{host_world, host_told, told_of, input_left, IsAsPlanned, IsDoneAsPlanned}
 use Rattle.host_memory.specs.Views.{next_call, steps_before, AddsOne}
-use Rattle.trial_host.specs.Texts.{trial_lines}
-use Rattle.trial_host.specs.Trials.{IsScripted, trial_plan, taken, taken_by}
+use Rattle.trial_host.specs.Trials.{IsScripted, taken, taken_by}
 
 -- a call adds its own event behind the steps that the plan has before it
 abbrev AddsAsPlanned : MemHost → MemHost → Type 0
 AddsAsPlanned old new = (es : List Event) → host_told new ≡ Some es → (e : Event) × AddsOne old.tape.trace.items es (steps_before old.plan.foreign (next_call old.calls)) e
 
 pub as-planned : (old new : MemHost) (failed : Bool) → IsAsPlanned old new failed → AddsAsPlanned old new
-as-planned old new failed planned = λ es told. (planned.told es told).1
+as-planned old new failed planned = λ es told. let p = planned.told es told in (p.1, p.2)
 
 pub done-as-planned : (old new : MemHost) (whole : Event) (part : Option Part) (failed : Bool) → IsDoneAsPlanned old new whole part failed → AddsAsPlanned old new
 done-as-planned old new whole part failed planned = λ es told. (_, (planned.told es told).is)
@@ -64,6 +63,14 @@ one-alone (s ∷ steps) e f is = absurd (not-nothing (map Foreign steps) e (tail
     tail : {x y : Event} {xs : List Event} → x ∷ xs ≡ y ∷ [] → xs ≡ []
     tail is = cc is
 
+-- a trace after a call: what was told before it, and its event
+record Parts (old : MemHost) (input : List ℕ) (es : List Event) : Type 0 where
+  before : List Event
+  one : Event
+  told : host_told old ≡ Some before
+  is : es ≡ before ++ one ∷ []
+  took : Took input one
+
 -- a call of a scripted host leaves one whose plan is the same, and whose input is shorter by what its event took
 pub scripted : (old new : MemHost) (input : List ℕ) (Happened : Disk → Event → Type 0) → IsScripted old → new.plan ≡ old.plan → AddsAsPlanned old new → Calls host_world old new Happened
     → ((d : Disk) (e : Event) → Happened d e → Took input e) → input ++ input_left new ≡ input_left old → IsScripted new
@@ -76,14 +83,7 @@ scripted old new input Happened was plan adds calls took left = record {
       ∙ ap (λ r. r ++ input_left new) (ap (λ r. taken p.before ++ r) (sym (append-nil input) ∙ ap (λ r. r ++ []) (sym p.took.is)) ∙ sym (taken-append p.before (p.one ∷ [])) ∙ ap taken (sym p.is));
 }
   where
-    record Parts (es : List Event) : Type 0 where
-      before : List Event
-      one : Event
-      told : host_told old ≡ Some before
-      is : es ≡ before ++ one ∷ []
-      took : Took input one
-
-    parts : (es : List Event) → host_told new ≡ Some es → Parts es
+    parts : (es : List Event) → host_told new ≡ Some es → Parts old input es
     parts es told =
         let c = calls.added es told in
         let call = c.2 in
@@ -168,3 +168,8 @@ pub filled-left : (r : Result ℕ InFault) (buf old new : List ℕ) (m : ℕ) �
 filled-left (Ok n) buf old new m long given left kept =
     ap (λ r. take n buf ++ r) (left ∙ ap (λ k. drop k old) (long ∙ ap length given)) ∙ ap (λ r. r ++ drop (length (take m old)) old) given ∙ front-and-rest m old
 filled-left (Err fault) buf old new m long given left kept = kept
+
+-- a filling gives no more bytes than the buffer has
+pub long-enough : (r : Result ℕ InFault) (buf : List ℕ) (room : ℕ) → IfOk r (λ n. n ≤ room) → length buf ≡ room → IfOk r (λ n. n ≡ length (take n buf))
+long-enough (Ok n) buf room le is = let within : n ≤ length buf = omega (arith, le, is) in sym (length-take-le n buf within)
+long-enough (Err fault) buf room le is = tt
