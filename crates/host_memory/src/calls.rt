@@ -9,7 +9,7 @@ ghost use Rattle.host_memory.specs.Views.{disk_of, steps_before, part_at};
 ghost use Rattle.host_port.specs.declared.event.Event.TheVariants as event;
 
 use crate::standing::copy_found;
-use crate::tape::{Tape, add_others, let_go};
+use crate::tape::{Tape, add_others};
 use host_port::{Event, ForeignStep, LoadAnswer, LoadError, Part, Seen};
 use mail_text::{Memory, Text};
 use std::alloc::Global;
@@ -43,7 +43,7 @@ pub fn tell(
     match add_others(alloc, plan, call, tape) {
         Ok(()) => tape.add(alloc, event),
         Err(memory) => {
-            let_go(event);
+            drop(event);
             Err(memory)
         }
     }

@@ -11,7 +11,7 @@ ghost use Rattle.host_port.specs.declared.event.Event.TheVariants as event;
 use crate::Plan;
 use crate::calls::failing;
 use crate::ending::{answer, settle};
-use crate::tape::{Tape, add_others, let_go};
+use crate::tape::{Tape, add_others};
 use host_port::{DiskFault, Event, Part};
 use mail_text::{Memory, Text};
 use std::alloc::Global;
@@ -40,7 +40,7 @@ fn tell_planned(
             }
         }
         Err(memory) => {
-            let_go(own);
+            drop(own);
             Err(memory)
         }
     }
@@ -71,7 +71,7 @@ pub fn tell_disk(
             }
         }
         Err(memory) => {
-            let_go(event);
+            drop(event);
             Err(memory)
         }
     }

@@ -13,9 +13,6 @@ use host_port::{Event, ForeignStep};
 use mail_text::{Items, Memory, Text};
 use std::alloc::Global;
 
-/// Lets an event go. A function that owns one when a call fails hands it over: to drop it in place is dear to prove.
-pub fn let_go(_event: Event) {}
-
 /// The events so far, with the disk that they make of the disk that stood at the start.
 #[derive(Drop)]
 pub struct Tape {
@@ -39,12 +36,12 @@ impl Tape {
                     Ok(())
                 }
                 Err(memory) => {
-                    let_go(event);
+                    drop(event);
                     Err(memory)
                 }
             },
             Err(_) => {
-                let_go(event);
+                drop(event);
                 Err(Memory)
             }
         }
