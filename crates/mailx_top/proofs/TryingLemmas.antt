@@ -22,7 +22,6 @@ use Rattle.command_words.specs.declared.mode.Mode.{Mode}
 use Rattle.command_words.specs.declared.mode.Mode.TheVariants as mode
 use Rattle.command_words.specs.declared.options.Options.{Options}
 use Rattle.command_words.specs.declared.reading.Wanted.{Wanted}
-use Rattle.command_words.specs.Readings.{reading}
 use Rattle.mailx_vars.specs.Environment.{Pairs, knows_user}
 use Rattle.session_play.specs.declared.stop.Stop.TheVariants as stop
 use Rattle.session_play.specs.Play.{Ret, Last, cut}
@@ -43,17 +42,14 @@ use Rattle.mailx_top.proofs.RunLemmas.{run-of}
 use Rattle.mailx_top.proofs.SafeLemmas.{safely}
 
 -- a run over a scripted host is a trial
-pub tried : (n : ℕ) (s : Status) (old new : Scripted) (m : MemHost) (wanted : Option Wanted) (words : List (List ℕ)) (env : Environment)
-    → Ran scripted_world old new (IsRun (option_and_then start_by wanted) env s) → host_start (memory_of old) ≡ trial_start n → host_told (memory_of old) ≡ Some []
-    → wanted ≡ reading words → words ≡ trial_words → env ≡ trial_env → m ≡ memory_of new → IsScripted m → HasTried n s m
-tried n s old new m wanted words env ran start told wanted_is words_is env_is same scripted = record {
+pub tried : (n : ℕ) (s : Status) (old new : Scripted) (m : MemHost) → Ran scripted_world old new (IsRun (asked trial_words) trial_env s) → host_start (memory_of old) ≡ trial_start n
+    → host_told (memory_of old) ≡ Some [] → m ≡ memory_of new → IsScripted m → HasTried n s m
+tried n s old new m ran start told same scripted = record {
   start = ap host_start same ∙ ran.start_is ∙ start;
   told = λ es is.
       let since = Ran-since [] es ran told (ap host_told (sym same) ∙ is) in
       record {
-        run =
-            subst (λ (e : Environment). IsRun (asked trial_words) e s (own es)) env_is
-            (subst (λ (w : Option Wanted). IsRun (option_and_then start_by w) env s (own es)) (wanted_is ∙ ap reading words_is) since.1);
+        run = since.1;
         alone = scripted.alone es is;
         honest = subst (λ (d : Disk). Honest d es) start since.0;
         left = input_left m;

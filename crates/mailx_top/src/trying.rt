@@ -3,9 +3,11 @@ ghost use Rattle.std.specs.Prelude.{◌≡◌, ℕ, [], IfOk, length, unwrap_or}
 ghost use Rattle.std.specs.Option.{option_copied};
 ghost use Rattle.host_port.specs.Calls.{Rose};
 ghost use Rattle.host_port.specs.Ran.{Ran};
-ghost use Rattle.mailx_top.specs.Runs.{AsFar};
+ghost use Rattle.mailx_top.specs.Runs.{AsFar, IsRun};
+ghost use Rattle.mailx_top.specs.Words.{asked};
+ghost use Rattle.trial_host.specs.Scripts.{scripted_world};
 ghost use Rattle.mailx_top.specs.Statuses.{line_at_stop};
-ghost use Rattle.mailx_top.specs.Trying.{HasTried, IsSummary, IsTriesEnd, Tries, messages_in, summary_of, tries_of};
+ghost use Rattle.mailx_top.specs.Trying.{HasTried, IsSummary, IsTriesEnd, Tries, messages_in, summary_of, trial_env, trial_words, tries_of};
 
 use crate::Environment;
 use crate::status::stop_line;
@@ -21,7 +23,7 @@ use mailx_vars::knows_user;
 use mbox_scan::{Folder, ScanError};
 use session_play::Stop;
 use std::alloc::Global;
-use trial_host::{put_numbered, trial_host};
+use trial_host::{Scripted, first_host, put_numbered};
 
 /// On how many messages a run tries itself, if its words ask for that.
 pub(crate) fn tries_of(wanted: &Option<Wanted>, env: &Environment) -> Option<u64>
@@ -36,20 +38,44 @@ pub(crate) fn tries_of(wanted: &Option<Wanted>, env: &Environment) -> Option<u64
     }
 }
 
+// A trial with these words in this environment.
+fn try_words(
+    alloc: Global,
+    words: &[Text],
+    env: &Environment,
+    host: &mut Scripted,
+) -> Result<Status, Memory>
+    ensures { IfOk result (λ s. Ran scripted_world host.old host.new (IsRun (asked words.now) env.now s)) }
+{
+    match wanted(alloc, words) {
+        Ok(wanted) => Ok(carry_out(alloc, &wanted, env, host)),
+        Err(memory) => Err(memory),
+    }
+}
+
+// A trial.
+fn try_over(alloc: Global, host: &mut Scripted) -> Result<Status, Memory>
+    ensures { IfOk result (λ s. Ran scripted_world host.old host.new (IsRun (asked trial_words) trial_env s)) }
+{
+    let words = trial_words(alloc)?;
+    let env = trial_env(alloc)?;
+    try_words(alloc, words.items(), &env, host)
+}
+
 /// A run of the words `-N -f box` over a host in memory, on a mailbox of this many messages: it shows threads, deletes
 /// the messages of one subject, saves those of one sender and quits. Gives that host as the run left it, and the run's
 /// status.
 pub fn try_host(alloc: Global, count: u64) -> Result<(MemHost, Status), Memory>
     ensures { IfOk result (λ r. HasTried count r.1 r.0) }
 {
-    let words = trial_words(alloc)?;
-    let env = trial_env(alloc)?;
-    let wanted = wanted(alloc, words.items())?;
-    match trial_host(alloc, count) {
-        Ok(mut host) => {
-            let status = carry_out(alloc, &wanted, &env, &mut host);
-            Ok((host.into_memory(), status))
-        }
+    match first_host(alloc, count) {
+        Ok(mut host) => match try_over(alloc, &mut host) {
+            Ok(status) => Ok((host.into_memory(), status)),
+            Err(memory) => {
+                drop(host);
+                Err(memory)
+            }
+        },
         Err(memory) => Err(memory),
     }
 }

@@ -7,4 +7,4 @@ mod trial;
 
 pub use scripted::Scripted;
 pub use texts::put_numbered;
-pub use trial::trial_host;
+pub use trial::first_host;

@@ -9,7 +9,7 @@ use mail_text::Memory;
 use std::alloc::Global;
 
 /// A host with the mailbox of this many messages and the lines of a trial, with no event so far.
-pub fn trial_host(alloc: Global, count: u64) -> Result<Scripted, Memory>
+pub fn first_host(alloc: Global, count: u64) -> Result<Scripted, Memory>
     ensures start { IfOk result (λ host. scripted_world.start host ≡ trial_start count) }
     ensures told { IfOk result (λ host. scripted_world.told host ≡ Some []) }
 {

@@ -2,7 +2,7 @@ use Rattle.std.proofs.Common.{◌∙◌, List, ℕ, [], ap, ◌∷◌, codes}
 use Rattle.host_memory.specs.MemHosts.{host_start}
 use Rattle.host_memory.specs.Views.{disk_of}
 use Rattle.trial_host.specs.Texts.{mailbox_of}
-use Rattle.trial_host.proofs.trial.trial_host.Goals as goal
+use Rattle.trial_host.proofs.trial.first_host.Goals as goal
 
 pub returns-in-Ok-clause-start : goal.returns-in-Ok-clause-start
 returns-in-Ok-clause-start c =
