@@ -11,3 +11,4 @@ pub mod WaitingLemmas
 pub mod RecoveringLemmas
 pub mod RecordLemmas
 pub mod UnsentLemmas
+pub mod AlikeLemmas

@@ -1,5 +1,5 @@
 -- A job does the same on one disk.
-use Rattle.std.proofs.Common.{◌≡◌, ◌⊎◌, ◌<◌, ℕ, Bool, true, false, List, [], ◌∷◌, length, refl, sym, ◌∙◌, ap, subst, inl, inr, arith, true≢false, lt-ltb, le-ltb, ltb}
+use Rattle.std.proofs.Common.{◌≡◌, ◌⊎◌, ◌<◌, ℕ, Bool, true, false, List, [], ◌∷◌, length, refl, sym, ◌∙◌, ap, subst, inl, inr, true≢false, lt-ltb, le-ltb}
 use Rattle.std.specs.Prelude.{nat_lt, is_some, is_none, if◌then◌else◌}
 use Rattle.std.proofs.lemmas.Bool.{cond-true, cond-false}
 use Rattle.std.specs.declared.option.Option.{Option}
@@ -11,7 +11,7 @@ use Rattle.host_port.specs.declared.event.Seen.TheVariants as seen
 use Rattle.host_port.specs.Disk.{Disk, after}
 use Rattle.host_port.specs.Calls.{load_limit, FitsLoad, IsTooLarge}
 use Rattle.host_port.specs.Ends.{is_owner, is_open}
-use Rattle.host_port.specs.Ran.{Agrees, AllowedBy, Honest}
+use Rattle.host_port.specs.Ran.{Agrees, Honest}
 use Rattle.commit_record.specs.declared.record.Record.{Record}
 use Rattle.commit_record.specs.declared.record.EntryKind.{EntryKind}
 use Rattle.commit_record.specs.declared.record.EntryKind.TheVariants.{Replace, Remove}
@@ -20,7 +20,7 @@ use Rattle.commit_machine.specs.Jobs.{Ending, Job}
 use Rattle.commit_machine.specs.Machine.{Then, GoOn, Answer, State, Seizing, Looking, Undoing, Placing, Testing, Removing, Discarding, Unlocking, Erasing, Clearing, Preparing, Publishing, Locking, Loading, Staging, Deciding, Committing, Checking, Releasing, Ended, Call, ToLoad, ToStage, ToPublish, ToErase, ToLock, ToUnlock, ToSeize, ToRelease, Reply, Went, Saw, Long, Short, Fault, unlocking, undoing, removing, place_one, placing, faulted, next, after_reply, refused}
 use Rattle.commit_machine.specs.Goes.{IsOf, loads, stages, stage_fails, publishes, erases, locks, unlocks, seizes, releases, IsNext, reply, Goes}
 use Rattle.play_likeness.specs.Loads.{Tells, LoadsTell}
-use Rattle.play_likeness.specs.Jobs.{is_hindered, GoesFrom, JobsAreAlike}
+use Rattle.play_likeness.specs.Jobs.{is_hindered, JobsAreAlike}
 
 -- ---- states from which a job ends hindered
 

@@ -1,5 +1,5 @@
 -- The own events of a job are fixed by the disk.
-use Rattle.std.specs.Prelude.{◌≡◌, ℕ, Bool, true, false, List}
+use Rattle.std.specs.Prelude.{◌≡◌, Bool, true, false, List}
 use Rattle.host_port.specs.declared.event.Event.{Event}
 use Rattle.host_port.specs.Disk.{Disk}
 use Rattle.host_port.specs.Ran.{Honest}

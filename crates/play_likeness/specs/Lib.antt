@@ -1,2 +1,4 @@
 pub mod Loads
 pub mod Jobs
+pub mod Outside
+pub mod Plays

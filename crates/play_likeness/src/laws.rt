@@ -1,7 +1,18 @@
 ghost use Rattle.play_likeness.specs.Jobs.{JobsAreAlike};
+ghost use Rattle.play_likeness.specs.Plays.{PlaysAreAlike, ViewsAreAlike};
+
+use message_state::a_text_has_one_row;
 
 /// The own events of one job from one disk are the same, with the same end, if each load told what stood, and the job
 /// ended neither by a failed call nor for want of memory.
 pub fn jobs_are_alike()
     ensures { JobsAreAlike }
 {}
+
+/// A play that takes no line of the input, and comes to its end, prints the same and leaves the same disk whenever it is
+/// carried out on one disk, with the same answers of children and of the clock.
+pub fn plays_are_alike()
+    ensures { ViewsAreAlike → PlaysAreAlike }
+{
+    a_text_has_one_row();
+}
