@@ -27,7 +27,7 @@ use Rattle.session_state.specs.declared.state.SessionState.{SessionState}
 use Rattle.session_state.specs.declared.status.Status.{Status}
 use Rattle.session_state.specs.States.{with_outcome, without_draft}
 use Rattle.session_state.specs.Outcomes.{not_sent}
-use Rattle.session_state.specs.Saving.{names_fault, saved}
+use Rattle.session_state.specs.Saving.{saved}
 
 -- a draft, and the moment at which it was done
 abbrev pub letter_of : Draft → Moment → Letter
@@ -37,12 +37,16 @@ letter_of draft m = record { draft = draft; moment = m }
 abbrev pub text_of : SessionState → Letter → List ℕ
 text_of s letter = mbox_text letter.draft s.desk.places.user letter.moment
 
--- the state once a draft wasn't sent, by a sender with this status if one was run; and once a record or a dead letter was refused
+-- the state once a draft wasn't sent, by a sender with this status if one was run; once a record or a dead letter was refused; and once the word
+-- for a record stood for no file
 abbrev pub unsent_by : Option ℤ → SessionState → SessionState
 unsent_by n s = with_outcome s (not_sent n s.outcome)
 
 abbrev pub refused_by : SessionState → SessionState
 refused_by s = with_outcome s outcome.Refused
+
+abbrev pub unrecorded : SessionState → SessionState
+unrecorded s = with_outcome s outcome.Unrecorded
 
 -- what is printed once a dead letter was put into the file of this name
 abbrev pub dead_reply : List ℕ → List ℕ
@@ -50,7 +54,7 @@ dead_reply name = reply name (codes "Dead") 1
 
 -- one change is committed
 abbrev pub saved_one : SessionState → Change → Play (After SessionState Status)
-saved_one s c = saved s (c ∷ []) (names_fault s (c ∷ []))
+saved_one s c = saved s (c ∷ [])
 
 -- what follows the commit of a dead letter: it is printed, or the line that refuses it, and then the text is dropped
 abbrev pub buried : SessionState → List ℕ → After SessionState Status → Play (Next SessionState Status)
@@ -101,7 +105,7 @@ after_record s letter names (Ended e) = Ret (Last e)
 
 -- the message is recorded first, where it is to be
 abbrev pub recording : SessionState → Letter → List (List ℕ) → OrFault (Option Change) → Play (Next SessionState Status)
-recording s letter names (Err line) = unsent (refused_by s) letter line
+recording s letter names (Err line) = unsent (unrecorded s) letter line
 recording s letter names (Ok None) = sending s letter names
 recording s letter names (Ok (Some c)) = bind (saved_one s c) (after_record s letter names)
 

@@ -9,8 +9,8 @@ ghost use Rattle.command_desk.specs.Answers.{OrFault, Means};
 ghost use Rattle.send_rules.specs.Addressing.{addressees};
 ghost use Rattle.send_rules.specs.Lines.{names_refused, sender_ended};
 ghost use Rattle.send_rules.specs.Recording.{dead, recorded};
-ghost use Rattle.draft_sending.specs.Sending.{addressing, after_record, after_sender, buried, burying, dead_reply, done, ended_draft, ended_with, given_up, letter_of, lost, lost_now, not_run, posting, quit_draft, recording, refused_by, saved_one, sending, text_of, unsent, unsent_by};
-ghost use Rattle.session_state.specs.States.{IsState, KeepsButDraft, KeepsButOutcome, without_draft};
+ghost use Rattle.draft_sending.specs.Sending.{addressing, after_record, after_sender, buried, burying, dead_reply, done, ended_draft, ended_with, given_up, letter_of, lost, lost_now, not_run, posting, quit_draft, recording, saved_one, sending, text_of, unsent, unsent_by};
+ghost use Rattle.session_state.specs.States.{IsState, KeepsButDraft, KeepsButOutcome, with_outcome, without_draft};
 ghost use Rattle.session_state.specs.Answers.{after_asks, in_play, next_of, LineCaused, EndsByAsk, EndsByLine};
 
 use draft_text::{Draft, mbox_text, message_text};
@@ -26,7 +26,7 @@ use send_rules::{
 };
 use sender_port::{SendError, send};
 use session_play::now;
-use session_state::{Asked, Flow, Outcome, RunError, SessionState, not_sent, refuse, save, say};
+use session_state::{Asked, Flow, Outcome, RunError, SessionState, commit, not_sent, refuse, say};
 use std::alloc::Global;
 
 /// A draft, and the moment at which it was done.
@@ -104,7 +104,7 @@ fn save_one<H: Host>(
 {
     let mut changes = Items::new(alloc);
     match changes.push(change) {
-        Ok(()) => save(alloc, state, host, changes),
+        Ok(()) => commit(alloc, state, host, changes),
         Err(_) => Err(RunError::Memory),
     }
 }
@@ -208,23 +208,25 @@ fn keep_unsent<H: Host>(
     keep(alloc, state, host, letter, line)
 }
 
-// Keeps a draft that could not be recorded.
+// Keeps a draft that could not be recorded, with what became of it.
 fn keep_unrecorded<H: Host>(
     alloc: Global,
     state: &mut SessionState,
     host: &mut H,
     letter: &Letter,
+    outcome: Outcome,
     line: &[u8],
 ) -> Result<Flow, RunError>
     requires state { IsState state.old }
     requires moment { IsPrintable letter.now.moment }
     ensures ran { Ran H.world host.old host.new
-        (λ es. Goes (unsent (refused_by state.old) letter.now line.now) es (in_play (next_of state.new) result)) }
+        (λ es. Goes (unsent (with_outcome state.old outcome) letter.now line.now) es
+        (in_play (next_of state.new) result)) }
     ensures keeps { KeepsButOutcome state.old state.new }
     ensures done { IfOk result EndsByLine }
     ensures cause { LineCaused (H.world.counts host.old) (H.world.counts host.new) result }
 {
-    state.outcome = Outcome::Refused;
+    state.outcome = outcome;
     keep(alloc, state, host, letter, line)
 }
 
@@ -333,7 +335,9 @@ fn after_record<H: Host>(
 {
     match asked {
         Asked::On | Asked::Over => deliver(alloc, state, host, letter, names),
-        Asked::Refused { line } => keep_unrecorded(alloc, state, host, letter, line.bytes()),
+        Asked::Refused { line } => {
+            keep_unrecorded(alloc, state, host, letter, Outcome::Refused, line.bytes())
+        }
         Asked::Ended(status) => Ok(Flow::End(status)),
     }
 }
@@ -384,7 +388,9 @@ fn record<H: Host>(
     match change {
         Ok(Some(change)) => record_first(alloc, state, host, letter, names, change),
         Ok(None) => deliver(alloc, state, host, letter, names),
-        Err(Refusal::Fault { line }) => keep_unrecorded(alloc, state, host, letter, line.bytes()),
+        Err(Refusal::Fault { line }) => {
+            keep_unrecorded(alloc, state, host, letter, Outcome::Unrecorded, line.bytes())
+        }
         Err(Refusal::Memory) => Err(RunError::Memory),
     }
 }

@@ -1,7 +1,8 @@
 -- One walk over all that a session does: a line of the input or from elsewhere, the end of a draft, a start-up file, and how the folder is left.
--- It tells what each may ask and how each may end, and that a run ends for its record exactly if a commit met one that can't be read.
-use Rattle.std.proofs.Common.{◌≡◌, ◌+◌, ◌||◌, ◌⊎◌, ℕ, Bool, true, false, List, [], ◌∷◌, length, refl, ap, subst, inl, inr, nat_le}
-use Rattle.std.specs.Prelude.{◌==◌, ◌++◌, nat_lt, not, if◌then◌else◌}
+-- It tells what each may ask and how each may end, that a run ends for its record exactly if a commit met one that can't be read, and that a draft
+-- counts as refused only if changes were.
+use Rattle.std.proofs.Common.{◌≡◌, ◌+◌, ◌||◌, ◌⊎◌, ℕ, Bool, true, false, List, [], ◌∷◌, length, refl, ap, subst, inl, inr, sym, ◌∙◌, nat_le}
+use Rattle.std.specs.Prelude.{◌==◌, ◌++◌, ℤ, nat_lt, not, if◌then◌else◌}
 use Rattle.std.specs.declared.option.Option.{Option}
 use Rattle.std.specs.declared.option.Option.TheVariants.{Some, None}
 use Rattle.std.specs.declared.result.Result.{Result}
@@ -10,10 +11,10 @@ use Rattle.host_port.specs.declared.event.ChildAnswer.{ChildAnswer}
 use Rattle.mail_dates.specs.declared.moment.Moment.{Moment}
 use Rattle.folder_change.specs.declared.change.Change.{Change}
 use Rattle.folder_change.specs.Changes.{name_of}
-use Rattle.folder_commit.specs.Plans.{AreFiles}
 use Rattle.session_play.specs.declared.act.Found.{Found}
 use Rattle.session_play.specs.declared.act.Found.TheVariants as found
-use Rattle.session_play.specs.declared.changing.Committed.{Committed}
+use Rattle.session_play.specs.declared.changing.Attempt.{Attempt}
+use Rattle.session_play.specs.declared.changing.Attempt.TheVariants.{Made, Misnamed}
 use Rattle.session_play.specs.declared.changing.Committed.TheVariants as committed
 use Rattle.session_play.specs.Acts.{AllEnds}
 use Rattle.session_play.specs.Play.{Act, Line, Say, Read, Try, Changes, Recover, Child, Now, Know, Play, Ret, Ask, Next, Go, Last, bind}
@@ -48,30 +49,29 @@ use Rattle.folder_commands.specs.Leaving.{quit}
 use Rattle.read_commands.specs.declared.origin.Origin.TheVariants as origin
 use Rattle.read_commands.specs.Origins.{commanded}
 use Rattle.session_state.specs.Bringing.{call_limit, calls, with_lines}
-use Rattle.session_state.specs.Outcomes.{status_of}
+use Rattle.session_state.specs.Outcomes.{not_sent, status_of}
 use Rattle.session_state.specs.Placing.{placed as file_of, placed_changes}
-use Rattle.session_state.specs.Saving.{names_fault, is_changed, commit_of, after_commit, saved}
+use Rattle.session_state.specs.Saving.{is_changed, commit_of, after_commit, saved}
 use Rattle.session_state.specs.States.{is_drafting, settled, with_draft, with_count, without_draft, at_rest, rested, command_limit}
 use Rattle.session_state.specs.declared.frames.WaitingLine.{WaitingLine}
 use Rattle.session_state.specs.declared.kinds.FrameKind.TheVariants as kinds
 use Rattle.session_state.specs.declared.outcome.Outcome.{Outcome}
+use Rattle.session_state.specs.declared.outcome.Outcome.TheVariants as outcome
 use Rattle.session_state.specs.declared.state.SessionState.{SessionState}
 use Rattle.session_state.specs.declared.status.Status.{Status}
 use Rattle.session_state.specs.declared.status.Status.TheVariants as status
-use Rattle.session_state.proofs.NameLemmas.{named-files}
 use Rattle.session_asks.specs.Asks.{asked}
 use Rattle.session_asks.specs.Beginning.{with_new_draft, subject_asked, view_in, begun, at_message, placed, file_fault, beginning}
 use Rattle.session_asks.specs.Running.{after_run}
 use Rattle.session_asks.specs.Sourcing.{source_fault, after_load, sourced}
 use Rattle.session_asks.specs.Switching.{open_fault, loaded_folder, switched, announced, switched_to, switches}
-use Rattle.session_asks.proofs.SwitchingLemmas.{open-fault-none}
-use Rattle.draft_sending.specs.Sending.{letter_of, text_of, unsent_by, refused_by, saved_one, buried, burying, lost, unsent, after_sender, sending, after_record, recording, posting, addressing, ended, ended_draft, quitted}
+use Rattle.draft_sending.specs.Sending.{letter_of, text_of, unsent_by, refused_by, unrecorded, saved_one, buried, burying, lost, unsent, after_sender, sending, after_record, recording, posting, addressing, ended, ended_draft, quitted}
 use Rattle.mailx_session.specs.Drafting.{released, told, took_answer, given, after_fetch, fetched, after_child, written, put, needed, took_line, drafted, draft_play}
 use Rattle.mailx_session.specs.Leaving.{left_by, leaving}
 use Rattle.mailx_session.specs.Rounds.{line_play, command_play, typed_play, dropped_play, counted_play, is_empty, outside_play, is_uncounted, waiting_play}
 use Rattle.mailx_session.specs.Sessions.{carried_out}
 use Rattle.mailx_session.specs.Startup.{after_startup, startup_play}
-use Rattle.mailx_session.proofs.ObeyLemmas.{Obeys, bind-obeys, obeys-ends, answers_unreadable, met_by}
+use Rattle.mailx_session.proofs.ObeyLemmas.{Obeys, bind-obeys, obeys-ends, Met, nothing_met, met_by}
 
 -- a state of this actor and this token
 abbrev pub IsOf : List ℕ → ℕ → SessionState → Type 0
@@ -80,6 +80,15 @@ IsOf actor token s = (s.actor ≡ actor) × (s.token ≡ token)
 -- such a state, in which drafts came to this
 abbrev pub IsLike : List ℕ → ℕ → Outcome → SessionState → Type 0
 IsLike actor token o s = IsOf actor token s × (s.outcome ≡ o)
+
+-- drafts that had come to this before count as refused now only if changes were refused
+abbrev pub CameFrom : Outcome → Bool → Outcome → Type 0
+CameFrom o true now = Unit {0}
+CameFrom o false now = now ≡ outcome.Refused → o ≡ outcome.Refused
+
+-- such a state, so
+abbrev pub IsAfter : List ℕ → ℕ → Outcome → Bool → SessionState → Type 0
+IsAfter actor token o refused s = IsOf actor token s × CameFrom o refused s.outcome
 
 abbrev pub NextOf : List ℕ → ℕ → Next SessionState Status → Type 0
 NextOf actor token (Go s) = IsOf actor token s
@@ -103,17 +112,26 @@ abbrev pub EndsSo : (Status → Type 0) → Bool → Status → Type 0
 EndsSo Exits true e = e ≡ status.BadRecord
 EndsSo Exits false e = Exits e
 
+-- nothing was met, and this holds
+abbrev Clear : Met → Type 0 → Type 0
+Clear (false, false) P = P
+Clear met P = ⊥
+
 -- how an ask ends: in a state of which this holds, by a line that refuses what follows, or with the run
-abbrev AskEnds : (SessionState → Type 0) → (Status → Type 0) → Bool → After SessionState Status → Type 0
-AskEnds Stays Exits met (On s) = Fine met (Stays s)
-AskEnds Stays Exits met (Over s) = Fine met (Stays s)
-AskEnds Stays Exits met (Refused line) = Fine met (Unit {0})
-AskEnds Stays Exits met (Ended e) = EndsSo Exits met e
+abbrev AskEnds : (SessionState → Type 0) → (Status → Type 0) → Met → After SessionState Status → Type 0
+AskEnds Stays Exits met (On s) = Clear met (Stays s)
+AskEnds Stays Exits met (Over s) = Clear met (Stays s)
+AskEnds Stays Exits met (Refused line) = Fine met.0 (Unit {0})
+AskEnds Stays Exits met (Ended e) = EndsSo Exits met.0 e
 
 -- and how a line does
-abbrev pub LineEnds : (SessionState → Type 0) → (Status → Type 0) → Bool → Next SessionState Status → Type 0
-LineEnds Stays Exits met (Go s) = Fine met (Stays s)
-LineEnds Stays Exits met (Last e) = EndsSo Exits met e
+abbrev pub LineEnds : (Bool → SessionState → Type 0) → (Status → Type 0) → Met → Next SessionState Status → Type 0
+LineEnds Stays Exits met (Go s) = Fine met.0 (Stays met.1 s)
+LineEnds Stays Exits met (Last e) = EndsSo Exits met.0 e
+
+-- a leaving ends the run so
+abbrev pub RunEnds : (Status → Type 0) → Met → Status → Type 0
+RunEnds Exits met e = EndsSo Exits met.0 e
 
 -- a run ends by what became of drafts; once the folder was to be left it may end refused too
 abbrev pub EndsAs : Outcome → Status → Type 0
@@ -127,11 +145,17 @@ abbrev begins : Bool → SessionState → Draft → Play (After SessionState Sta
 begins b s draft = bind (subject_asked b) (λ u. Ret (Over (with_new_draft s draft)))
 
 module _ (actor : List ℕ) (token : ℕ) (o : Outcome) where
-  abbrev pub Plays : {R : Type 0} → (Bool → R → Type 0) → Play R → Type 0
-  Plays E p = Obeys (λ (met : Bool). MayAsk actor token) met_by E false p
+  abbrev pub From : {R : Type 0} → Met → (Met → R → Type 0) → Play R → Type 0
+  From met E p = Obeys (λ (met : Met). MayAsk actor token) met_by E met p
+
+  abbrev pub Plays : {R : Type 0} → (Met → R → Type 0) → Play R → Type 0
+  Plays E p = From nothing_met E p
+
+  abbrev IsAt : Bool → SessionState → Type 0
+  IsAt refused s = IsAfter actor token o refused s
 
   abbrev Is : SessionState → Type 0
-  Is s = IsOf actor token s
+  Is s = IsAt false s
 
   abbrev Like : SessionState → Type 0
   Like s = IsLike actor token o s
@@ -140,51 +164,54 @@ module _ (actor : List ℕ) (token : ℕ) (o : Outcome) where
   Asks p = Plays (AskEnds Like (EndsAs o)) p
 
   abbrev pub Lines : Play (Next SessionState Status) → Type 0
-  Lines p = Plays (LineEnds Is (EndsAs o)) p
+  Lines p = Plays (LineEnds IsAt (EndsAs o)) p
+
+  -- a state in which drafts came to the same
+  same-came : (refused : Bool) (s : SessionState) → Like s → IsAt refused s
+  same-came true s like = (like.0, tt)
+  same-came false s like = (like.0, λ is. sym like.1 ∙ is)
 
   -- what follows an ask, by what that leaves
-  after-obeys : {B : Type 0} (Stays : SessionState → Type 0) (F : Bool → B → Type 0) (p : Play (After SessionState Status)) (k : After SessionState Status → Play B) → Plays (AskEnds Stays (EndsAs o)) p
-      → ((s : SessionState) → Stays s → Plays F (k (On s))) → ((s : SessionState) → Stays s → Plays F (k (Over s))) → ((line : List ℕ) → Plays F (k (Refused line)))
-      → ((met : Bool) (e : Status) → EndsSo (EndsAs o) met e → Obeys (λ (met : Bool). MayAsk actor token) met_by F met (k (Ended e))) → Plays F (bind p k)
-  after-obeys {B = B} Stays F p k obeys on over refused ended = bind-obeys (λ (met : Bool). MayAsk actor token) met_by (AskEnds Stays (EndsAs o)) F false p k obeys each
+  after-obeys : {B : Type 0} (Stays : SessionState → Type 0) (F : Met → B → Type 0) (p : Play (After SessionState Status)) (k : After SessionState Status → Play B) → Plays (AskEnds Stays (EndsAs o)) p
+      → ((s : SessionState) → Stays s → Plays F (k (On s))) → ((s : SessionState) → Stays s → Plays F (k (Over s))) → ((refused : Bool) (line : List ℕ) → From (false, refused) F (k (Refused line)))
+      → ((met : Met) (e : Status) → EndsSo (EndsAs o) met.0 e → From met F (k (Ended e))) → Plays F (bind p k)
+  after-obeys {B = B} Stays F p k obeys on over refused ended = bind-obeys (λ (met : Met). MayAsk actor token) met_by (AskEnds Stays (EndsAs o)) F nothing_met p k obeys each
     where
-      each : (met : Bool) (a : After SessionState Status) → AskEnds Stays (EndsAs o) met a → Obeys (λ (met : Bool). MayAsk actor token) met_by F met (k a)
-      each true (On s) never = absurd never
-      each false (On s) is = on s is
-      each true (Over s) never = absurd never
-      each false (Over s) is = over s is
-      each true (Refused line) never = absurd never
-      each false (Refused line) u = refused line
+      each : (met : Met) (a : After SessionState Status) → AskEnds Stays (EndsAs o) met a → From met F (k a)
+      each (true, b) (On s) never = absurd never
+      each (false, true) (On s) never = absurd never
+      each (false, false) (On s) is = on s is
+      each (true, b) (Over s) never = absurd never
+      each (false, true) (Over s) never = absurd never
+      each (false, false) (Over s) is = over s is
+      each (true, b) (Refused line) never = absurd never
+      each (false, b) (Refused line) u = refused b line
       each met (Ended e) is = ended met e is
 
   -- ---- asks
 
-  -- a change that is committed, or refused by its name
-  commit-by : (s : SessionState) (changes : List Change) → Is s → names_fault s changes ≡ None → IsBy actor token (commit_of s changes)
-  commit-by s changes of plain = record {
-    actor_is = of.0;
-    token_is = of.1;
-    files = subst (λ (a : List ℕ). AreFiles a (placed_changes s.here changes)) of.0 (named-files s changes plain);
-  }
+  -- changes that are committed, or refused
+  commit-by : (s : SessionState) (changes : List Change) → IsOf actor token s → IsBy actor token (commit_of s changes)
+  commit-by s changes of = record { actor_is = of.0; token_is = of.1 }
 
-  large-ends : (Stays : SessionState → Type 0) (b : Bool) (line : List ℕ) → AskEnds Stays (EndsAs o) (not b || false) (if b then Refused line else Ended status.BadRecord)
+  large-ends : (Stays : SessionState → Type 0) (b : Bool) (line : List ℕ) → AskEnds Stays (EndsAs o) (not b || false, b || false) (if b then Refused line else Ended status.BadRecord)
   large-ends Stays true line = tt
   large-ends Stays false line = refl
 
-  commit-ends : (Stays : SessionState → Type 0) (s : SessionState) (changes : List Change) (a : Committed) → Stays s → AskEnds Stays (EndsAs o) (answers_unreadable (placed_changes s.here changes) a || false) (after_commit s changes a)
-  commit-ends Stays s changes committed.Done is = is
-  commit-ends Stays s changes (committed.Busy name) is = tt
-  commit-ends Stays s changes committed.NotARecord is = refl
-  commit-ends Stays s changes (committed.Changed name at) is = tt
-  commit-ends Stays s changes (committed.TooLarge name length) is = large-ends Stays (is_changed (placed_changes s.here changes) name) (too_large _)
-  commit-ends Stays s changes (committed.TooManyNames count) is = tt
+  commit-ends : (Stays : SessionState → Type 0) (s : SessionState) (changes : List Change) (a : Attempt) → Stays s → AskEnds Stays (EndsAs o) (met_by nothing_met (Changes (commit_of s changes)) a) (after_commit s changes a)
+  commit-ends Stays s changes (Made committed.Done) is = is
+  commit-ends Stays s changes (Made (committed.Busy name)) is = tt
+  commit-ends Stays s changes (Made committed.NotARecord) is = refl
+  commit-ends Stays s changes (Made (committed.Changed name at)) is = tt
+  commit-ends Stays s changes (Made (committed.TooLarge name length)) is = large-ends Stays (is_changed (placed_changes s.here changes) name) (too_large _)
+  commit-ends Stays s changes (Made (committed.TooManyNames count)) is = tt
+  commit-ends Stays s changes (Misnamed file fault) is = tt
 
-  saved-obeys : (Stays : SessionState → Type 0) (s : SessionState) (changes : List Change) (fault : Option (List ℕ)) → names_fault s changes ≡ fault → Is s → Stays s → Plays (AskEnds Stays (EndsAs o)) (saved s changes fault)
-  saved-obeys Stays s changes (Some line) fault of is = tt
-  saved-obeys Stays s changes None fault of is = (commit-by s changes of fault, λ a. commit-ends Stays s changes a is)
+  saved-obeys : (s : SessionState) (changes : List Change) → Like s → Asks (saved s changes)
+  saved-obeys s changes like = (commit-by s changes like.0, λ a. commit-ends Like s changes a like)
 
   -- a file that is loaded, or refused before that
-  load-ends : (s : SessionState) (name : List ℕ) (f : Option Found) → Like s → AskEnds Like (EndsAs o) false (after_load s name f)
+  load-ends : (s : SessionState) (name : List ℕ) (f : Option Found) → Like s → AskEnds Like (EndsAs o) nothing_met (after_load s name f)
   load-ends s name None like = tt
   load-ends s name (Some (found.TooLarge n)) like = tt
   load-ends s name (Some (found.Bytes None held)) like = tt
@@ -195,20 +222,20 @@ module _ (actor : List ℕ) (token : ℕ) (o : Outcome) where
   sourced-obeys s name None like = (tt, λ f. load-ends s name f like)
 
   -- another file that is opened, or refused
-  switched-obeys : (s : SessionState) (name : List ℕ) (changes : List Change) (reply : List ℕ) (f : OrFault (List ℕ)) → names_fault s changes ≡ None → Like s → Asks (switched_to s name changes reply f)
-  switched-obeys s name changes reply (Err line) plain like = tt
-  switched-obeys s name changes reply (Ok bytes) plain like = (
+  switched-obeys : (s : SessionState) (name : List ℕ) (changes : List Change) (reply : List ℕ) (f : OrFault (List ℕ)) → Like s → Asks (switched_to s name changes reply f)
+  switched-obeys s name changes reply (Err line) like = tt
+  switched-obeys s name changes reply (Ok bytes) like = (
     tt,
     λ rows.
-        after-obeys Like (AskEnds Like (EndsAs o)) (saved s changes None) (announced reply (switched s name bytes rows)) (saved-obeys Like s changes None plain like.0 like)
-        (λ t l. (tt, λ u. l)) (λ t l. l) (λ line. tt) (λ met e is. is),
+        after-obeys Like (AskEnds Like (EndsAs o)) (saved s changes) (announced reply (switched s name bytes rows)) (saved-obeys s changes like)
+        (λ t l. (tt, λ u. l)) (λ t l. l) (λ refused line. tt) (λ met e is. is),
   )
 
-  switches-obeys : (s : SessionState) (name : List ℕ) (changes : List Change) (reply : List ℕ) (fault : Option (List ℕ)) → open_fault s name changes ≡ fault → Like s → Asks (switches s name changes reply fault)
-  switches-obeys s name changes reply (Some line) is like = tt
-  switches-obeys s name changes reply None is like = (tt, λ f. switched-obeys s name changes reply (loaded_folder s.desk changes name f) (open-fault-none s name changes is).1 like)
+  switches-obeys : (s : SessionState) (name : List ℕ) (changes : List Change) (reply : List ℕ) (fault : Option (List ℕ)) → Like s → Asks (switches s name changes reply fault)
+  switches-obeys s name changes reply (Some line) like = tt
+  switches-obeys s name changes reply None like = (tt, λ f. switched-obeys s name changes reply (loaded_folder s.desk changes name f) like)
 
-  called-ends : (b : Bool) (t : SessionState) → Like t → AskEnds Like (EndsAs o) false (if b then On t else Refused calls_too_deep)
+  called-ends : (b : Bool) (t : SessionState) → Like t → AskEnds Like (EndsAs o) nothing_met (if b then On t else Refused calls_too_deep)
   called-ends true t like = like
   called-ends false t like = tt
 
@@ -229,7 +256,7 @@ module _ (actor : List ℕ) (token : ℕ) (o : Outcome) where
   beginning-obeys s draft file current (Some line) like = tt
   beginning-obeys s draft file current None like =
       after-obeys Like (AskEnds Like (EndsAs o)) (begun s draft) (placed file current) (begins-obeys (asks_subject (new_machine (flattened draft)) (view_in s)) s draft like)
-      (λ t l. l) (λ t l. at-like t current l) (λ line. tt) (λ met e is. is)
+      (λ t l. l) (λ t l. at-like t current l) (λ refused line. tt) (λ met e is. is)
 
   run-obeys : (s : SessionState) (a : Option ChildAnswer) → Like s → Asks (after_run s a)
   run-obeys s None like = tt
@@ -238,10 +265,10 @@ module _ (actor : List ℕ) (token : ℕ) (o : Outcome) where
   -- one ask
   ask-obeys : (s : SessionState) (ask : asked_of.Ask) → Like s → Asks (asked s ask)
   ask-obeys s (asks.Say bytes) like = (tt, λ u. like)
-  ask-obeys s (asks.Commit changes) like = saved-obeys Like s changes (names_fault s changes) refl like.0 like
+  ask-obeys s (asks.Commit changes) like = saved-obeys s changes like
   ask-obeys s (asks.Source name) like = sourced-obeys s name (source_fault s name) like
   ask-obeys s (asks.Lines text) like = called-ends (nat_lt (calls s.frames) call_limit) (with_lines kinds.Call s text) like
-  ask-obeys s (asks.Open name changes reply) like = switches-obeys s name changes reply (open_fault s name changes) refl like
+  ask-obeys s (asks.Open name changes reply) like = switches-obeys s name changes reply (open_fault s name changes) like
   ask-obeys s (asks.View kind) like = (tt, λ view. like)
   ask-obeys s (asks.Draft draft file current) like = beginning-obeys s draft file current (file_fault s file) like
   ask-obeys s (asks.Child command input) like = (tt, λ a. run-obeys s a like)
@@ -252,23 +279,23 @@ module _ (actor : List ℕ) (token : ℕ) (o : Outcome) where
   order-obeys s [] like = like
   order-obeys s (a ∷ rest) like =
       after-obeys Like (AskEnds Like (EndsAs o)) (asked s a) (onward (λ (t : SessionState). in_order asked t rest)) (ask-obeys s a like)
-      (λ t l. order-obeys t rest l) (λ t l. l) (λ line. tt) (λ met e is. is)
+      (λ t l. order-obeys t rest l) (λ t l. l) (λ refused line. tt) (λ met e is. is)
 
   -- a command
   carried-obeys : (s : SessionState) (m : OrFault Steps) → Like s → Lines (carried_out s m)
   carried-obeys s (Ok steps) like =
-      after-obeys Like (LineEnds Is (EndsAs o)) (in_order asked s steps.asks) (concluded s (λ (t : SessionState). settled t steps.effects)) (order-obeys s steps.asks like)
-      (λ t l. l.0) (λ t l. l.0) (λ line. (tt, λ u. like.0)) (λ met e is. is)
-  carried-obeys s (Err line) like = (tt, λ u. like.0)
+      after-obeys Like (LineEnds IsAt (EndsAs o)) (in_order asked s steps.asks) (concluded s (λ (t : SessionState). settled t steps.effects)) (order-obeys s steps.asks like)
+      (λ t l. same-came false t l) (λ t l. same-came false t l) (λ refused line. (tt, λ u. same-came refused s like)) (λ met e is. is)
+  carried-obeys s (Err line) like = (tt, λ u. same-came false s like)
 
   -- ---- lines from elsewhere
 
   counted-obeys : (b : Bool) (s : SessionState) (line : WaitingLine) → Like s → Lines (if b then line_play line.origin (with_count s (s.count + 1)) line.text else dropped_play s)
   counted-obeys true s line like = carried-obeys (with_count s (s.count + 1)) (commanded line.origin s.desk line.text) like
-  counted-obeys false s line like = (tt, λ u. like.0)
+  counted-obeys false s line like = (tt, λ u. same-came false s like)
 
   outside-obeys : (b : Bool) (s : SessionState) (line : WaitingLine) → Like s → Lines (if b then Ret (Go s) else counted_play s line)
-  outside-obeys true s line like = like.0
+  outside-obeys true s line like = same-came false s like
   outside-obeys false s line like = counted-obeys (nat_lt s.count command_limit) s line like
 
   defining-obeys : (b : Bool) (s : SessionState) (line : WaitingLine) → Like s → Lines (if b then line_play line.origin s line.text else outside_play s line)
@@ -320,49 +347,71 @@ module _ (actor : List ℕ) (token : ℕ) (o : Outcome) where
 
   put-obeys : (s : SessionState) (name : OrFault (List ℕ)) (bytes : List ℕ) → Like s → Lines (put s name bytes)
   put-obeys s (Ok name) bytes like = carried-obeys s (Ok (written name bytes)) like
-  put-obeys s (Err line) bytes like = (tt, λ u. like.0)
+  put-obeys s (Err line) bytes like = (tt, λ u. same-came false s like)
 
   -- ---- the end of a draft
 
   -- one change is committed for a draft
-  file-obeys : (s : SessionState) (c : Change) (k : After SessionState Status → Play (Next SessionState Status)) → Is s → ((t : SessionState) → Is t → Lines (k (On t))) → ((t : SessionState) → Is t → Lines (k (Over t)))
-      → ((line : List ℕ) → Lines (k (Refused line))) → ((met : Bool) (e : Status) → EndsSo (EndsAs o) met e → Obeys (λ (met : Bool). MayAsk actor token) met_by (LineEnds Is (EndsAs o)) met (k (Ended e))) → Lines (bind (saved_one s c) k)
-  file-obeys s c k of on over refused ended =
-      after-obeys Is (LineEnds Is (EndsAs o)) (saved_one s c) k (saved-obeys Is s (c ∷ []) (names_fault s (c ∷ [])) refl of of) on over refused ended
+  file-obeys : (b : Bool) (s : SessionState) (c : Change) (k : After SessionState Status → Play (Next SessionState Status)) → IsOf actor token s → From (false, b) (LineEnds IsAt (EndsAs o)) (k (On s))
+      → ((line : List ℕ) → From (false, true) (LineEnds IsAt (EndsAs o)) (k (Refused line))) → From (true, b) (LineEnds IsAt (EndsAs o)) (k (Ended status.BadRecord)) → From (false, b) (LineEnds IsAt (EndsAs o)) (bind (saved_one s c) k)
+  file-obeys b s c k of on refused ended = (commit-by s (c ∷ []) of, each)
+    where
+      large : (t : Bool) (line : List ℕ) → From (not t || false, t || b) (LineEnds IsAt (EndsAs o)) (k (if t then Refused line else Ended status.BadRecord))
+      large true line = refused line
+      large false line = ended
 
-  burying-obeys : (s : SessionState) (c : Option Change) → Is s → Lines (burying s c)
-  burying-obeys s None of = of
-  burying-obeys s (Some c) of = file-obeys s c (buried s (name_of c)) of (λ t of. (tt, λ u. of)) (λ t of. (tt, λ u. of)) (λ line. (tt, λ u. of)) (λ met e is. is)
+      each : (a : Attempt) → From (met_by (false, b) (Changes (commit_of s (c ∷ []))) a) (LineEnds IsAt (EndsAs o)) (k (after_commit s (c ∷ []) a))
+      each (Made committed.Done) = on
+      each (Made (committed.Busy name)) = refused _
+      each (Made committed.NotARecord) = ended
+      each (Made (committed.Changed name at)) = refused _
+      each (Made (committed.TooLarge name length)) = large (is_changed (placed_changes s.here (c ∷ [])) name) _
+      each (Made (committed.TooManyNames count)) = refused _
+      each (Misnamed name fault) = refused _
 
-  lost-obeys : (s : SessionState) (d : Draft) (m : Moment) → Is s → Lines (lost s (letter_of d m))
-  lost-obeys s d m of = burying-obeys s (dead s.desk (text_of s (letter_of d m))) of
+  burying-obeys : (b : Bool) (s : SessionState) (c : Option Change) → IsAt b s → From (false, b) (LineEnds IsAt (EndsAs o)) (burying s c)
+  burying-obeys b s None of = of
+  burying-obeys b s (Some c) of = file-obeys b s c (buried s (name_of c)) of.0 (tt, λ u. of) (λ line. (tt, λ u. (of.0, tt))) refl
 
-  unsent-obeys : (s : SessionState) (d : Draft) (m : Moment) (line : List ℕ) → Is s → Lines (unsent s (letter_of d m) line)
-  unsent-obeys s d m line of = (tt, λ u. lost-obeys s d m of)
+  lost-obeys : (b : Bool) (s : SessionState) (d : Draft) (m : Moment) → IsAt b s → From (false, b) (LineEnds IsAt (EndsAs o)) (lost s (letter_of d m))
+  lost-obeys b s d m of = burying-obeys b s (dead s.desk (text_of s (letter_of d m))) of
+
+  unsent-obeys : (b : Bool) (s : SessionState) (d : Draft) (m : Moment) (line : List ℕ) → IsAt b s → From (false, b) (LineEnds IsAt (EndsAs o)) (unsent s (letter_of d m) line)
+  unsent-obeys b s d m line of = (tt, λ u. lost-obeys b s d m of)
+
+  -- a draft that wasn't sent wasn't refused by that
+  never-refused : (n : Option ℤ) (now : Outcome) → not_sent n now ≡ outcome.Refused → now ≡ outcome.Refused
+  never-refused n outcome.Fine is = absurd (cc is)
+  never-refused n (outcome.NotSent m) is = absurd (cc is)
+  never-refused n outcome.Refused is = refl
+  never-refused n outcome.Unrecorded is = absurd (cc is)
+
+  unsent-by-obeys : (n : Option ℤ) (s : SessionState) (d : Draft) (m : Moment) (line : List ℕ) → Is s → Lines (unsent (unsent_by n s) (letter_of d m) line)
+  unsent-by-obeys n s d m line of = unsent-obeys false (unsent_by n s) d m line (of.0, λ is. of.1 (never-refused n s.outcome is))
 
   sender-obeys : (s : SessionState) (d : Draft) (m : Moment) (x : Result (List ℕ) SendError) → Is s → Lines (after_sender s (letter_of d m) x)
   sender-obeys s d m (Ok output) of = (tt, λ u. of)
-  sender-obeys s d m (Err (send.Refused n output)) of = unsent-obeys (unsent_by (Some n) s) d m (output ++ sender_ended n) of
-  sender-obeys s d m (Err send.NoRecipients) of = unsent-obeys (unsent_by None s) d m sender_not_run of
-  sender-obeys s d m (Err (send.NotAnAddress name)) of = unsent-obeys (unsent_by None s) d m sender_not_run of
-  sender-obeys s d m (Err send.Child) of = unsent-obeys (unsent_by None s) d m sender_not_run of
-  sender-obeys s d m (Err send.Memory) of = unsent-obeys (unsent_by None s) d m sender_not_run of
+  sender-obeys s d m (Err (send.Refused n output)) of = unsent-by-obeys (Some n) s d m (output ++ sender_ended n) of
+  sender-obeys s d m (Err send.NoRecipients) of = unsent-by-obeys None s d m sender_not_run of
+  sender-obeys s d m (Err (send.NotAnAddress name)) of = unsent-by-obeys None s d m sender_not_run of
+  sender-obeys s d m (Err send.Child) of = unsent-by-obeys None s d m sender_not_run of
+  sender-obeys s d m (Err send.Memory) of = unsent-by-obeys None s d m sender_not_run of
 
   sending-obeys : (s : SessionState) (d : Draft) (m : Moment) (names : List (List ℕ)) → Is s → Lines (sending s (letter_of d m) names)
   sending-obeys s d m names of = (tt, λ a. sender-obeys s d m (sent a) of)
 
   recording-obeys : (s : SessionState) (d : Draft) (m : Moment) (names : List (List ℕ)) (c : OrFault (Option Change)) → Is s → Lines (recording s (letter_of d m) names c)
-  recording-obeys s d m names (Err line) of = unsent-obeys (refused_by s) d m line of
+  recording-obeys s d m names (Err line) of = unsent-obeys false (unrecorded s) d m line (of.0, λ is. absurd (cc is))
   recording-obeys s d m names (Ok None) of = sending-obeys s d m names of
   recording-obeys s d m names (Ok (Some c)) of =
-      file-obeys s c (after_record s (letter_of d m) names) of (λ t of. sending-obeys t d m names of) (λ t of. sending-obeys t d m names of) (λ line. unsent-obeys (refused_by s) d m line of) (λ met e is. is)
+      file-obeys false s c (after_record s (letter_of d m) names) of.0 (sending-obeys s d m names of) (λ line. unsent-obeys true (refused_by s) d m line (of.0, tt)) refl
 
   posting-obeys : (s : SessionState) (file : Option (List ℕ)) (d : Draft) (m : Moment) (names : List (List ℕ)) (line : Option (List ℕ)) → Is s → Lines (posting s file (letter_of d m) names line)
-  posting-obeys s file d m names (Some line) of = unsent-obeys (unsent_by None s) d m line of
+  posting-obeys s file d m names (Some line) of = unsent-by-obeys None s d m line of
   posting-obeys s file d m names None of = recording-obeys s d m names (recorded s.desk (text_of s (letter_of d m)) s.by_recipient file names) of
 
   addressing-obeys : (s : SessionState) (file : Option (List ℕ)) (draft : Draft) (m : Moment) (a : Option Recipients) → Is s → Lines (addressing s file draft m a)
-  addressing-obeys s file draft m None of = unsent-obeys (unsent_by None s) draft m too_many_recipients of
+  addressing-obeys s file draft m None of = unsent-by-obeys None s draft m too_many_recipients of
   addressing-obeys s file draft m (Some a) of = posting-obeys s file (addressed draft a) m a.all (names_refused a.all) of
 
   ended-as : (s : SessionState) (d : Option Machine) → Is s → Lines (ended s d)
@@ -374,7 +423,7 @@ module _ (actor : List ℕ) (token : ℕ) (o : Outcome) where
 
   given-up-obeys : (b : Bool) (s : SessionState) (draft : Draft) → Is s → Lines (if b then Ret (Go s) else Ask (Now s.desk.places.tz) (λ m. lost s (letter_of draft m)))
   given-up-obeys true s draft of = of
-  given-up-obeys false s draft of = (tt, λ m. lost-obeys s draft m of)
+  given-up-obeys false s draft of = (tt, λ m. lost-obeys false s draft m of)
 
   quitted-obeys : (s : SessionState) (d : Option Machine) → Is s → Lines (quitted s d)
   quitted-obeys s None of = of
@@ -383,23 +432,23 @@ module _ (actor : List ℕ) (token : ℕ) (o : Outcome) where
   -- ---- a line of the input
 
   needed-obeys : (s : SessionState) (n : Need) → Like s → Lines (needed s n)
-  needed-obeys s need.More like = like.0
-  needed-obeys s (need.Say bytes) like = (tt, λ u. like.0)
-  needed-obeys s (need.Load word) like = fetched-obeys s (expanded s.desk word) like.0
-  needed-obeys s need.Dead like = fetched-obeys s (Ok s.desk.places.dead) like.0
-  needed-obeys s (need.Child command input) like = (tt, λ a. child-obeys s a like.0)
+  needed-obeys s need.More like = same-came false s like
+  needed-obeys s (need.Say bytes) like = (tt, λ u. same-came false s like)
+  needed-obeys s (need.Load word) like = fetched-obeys s (expanded s.desk word) (same-came false s like)
+  needed-obeys s need.Dead like = fetched-obeys s (Ok s.desk.places.dead) (same-came false s like)
+  needed-obeys s (need.Child command input) like = (tt, λ a. child-obeys s a (same-came false s like))
   needed-obeys s (need.Command line) like = carried-obeys s (commanded origin.Draft s.desk line) like
   needed-obeys s (need.Put word bytes) like = put-obeys s (expanded s.desk word) bytes like
-  needed-obeys s need.Done like = ended-obeys s like.0
-  needed-obeys s need.Quit like = quitted-obeys s s.draft like.0
-  needed-obeys s need.Drop like = like.0
+  needed-obeys s need.Done like = ended-obeys s (same-came false s like)
+  needed-obeys s need.Quit like = quitted-obeys s s.draft (same-came false s like)
+  needed-obeys s need.Drop like = same-came false s like
 
   line-obeys : (s : SessionState) (r : Step) → Like s → Lines (took_line s r)
   line-obeys s (Ok step) like = needed-obeys (with_draft s (Some step.0)) step.1 like
-  line-obeys s (Err e) like = (tt, λ u. like.0)
+  line-obeys s (Err e) like = (tt, λ u. same-came false s like)
 
   drafted-obeys : (s : SessionState) (draft : Option Machine) (line : List ℕ) → Like s → Lines (drafted s draft line)
-  drafted-obeys s None line like = like.0
+  drafted-obeys s None line like = same-came false s like
   drafted-obeys s (Some m) line like = line-obeys s (line_step m line (view_in s)) like
 
   rested-as : (b : Bool) (s : SessionState) → Like s → Like (if b then s else at_rest s)
@@ -418,14 +467,14 @@ module _ (actor : List ℕ) (token : ℕ) (o : Outcome) where
 
   -- ---- the folder is left, and the start-up files
 
-  left-ended : (met : Bool) (e : Status) → EndsSo (EndsAs o) met e → EndsSo (LeavesAs o) met e
-  left-ended true e is = is
-  left-ended false e is = inl is
+  left-ended : (met : Met) (e : Status) → EndsSo (EndsAs o) met.0 e → EndsSo (LeavesAs o) met.0 e
+  left-ended (true, b) e is = is
+  left-ended (false, b) e is = inl is
 
-  pub leaving-obeys : (s : SessionState) → Like s → Plays (EndsSo (LeavesAs o)) (leaving s)
+  pub leaving-obeys : (s : SessionState) → Like s → Plays (RunEnds (LeavesAs o)) (leaving s)
   leaving-obeys s like =
-      after-obeys Like (EndsSo (LeavesAs o)) (in_order asked s (quit s.desk).asks) left_by (order-obeys s (quit s.desk).asks like)
-      (λ t l. inl (ap status_of l.1)) (λ t l. inl (ap status_of l.1)) (λ line. (tt, λ u. inr refl)) left-ended
+      after-obeys Like (RunEnds (LeavesAs o)) (in_order asked s (quit s.desk).asks) left_by (order-obeys s (quit s.desk).asks like)
+      (λ t l. inl (ap status_of l.1)) (λ t l. inl (ap status_of l.1)) (λ refused line. (tt, λ u. inr refl)) left-ended
 
   startup-ends : (s : SessionState) (name : List ℕ) (f : Option Found) → Is s → Lines (after_startup s name f)
   startup-ends s name None of = (tt, λ u. of)
@@ -442,14 +491,14 @@ module _ (actor : List ℕ) (token : ℕ) (o : Outcome) where
 
   -- ---- what is read off that
 
-  pub next-of : (met : Bool) (n : Next SessionState Status) → LineEnds Is (EndsAs o) met n → NextOf actor token n
-  next-of true (Go s) never = absurd never
-  next-of false (Go s) of = of
+  pub next-of : (met : Met) (n : Next SessionState Status) → LineEnds IsAt (EndsAs o) met n → NextOf actor token n
+  next-of (true, b) (Go s) never = absurd never
+  next-of (false, b) (Go s) of = of.0
   next-of met (Last e) is = tt
 
   -- a line leaves a state of its actor and token
   pub lines-of : (p : Play (Next SessionState Status)) → Lines p → AllEnds (NextOf actor token) p
-  lines-of p obeys = obeys-ends (λ (met : Bool). MayAsk actor token) met_by (LineEnds Is (EndsAs o)) (NextOf actor token) next-of false p obeys
+  lines-of p obeys = obeys-ends (λ (met : Met). MayAsk actor token) met_by (LineEnds IsAt (EndsAs o)) (NextOf actor token) next-of nothing_met p obeys
 
 -- a state at rest
 pub rested-of : (actor : List ℕ) (token : ℕ) (s : SessionState) → IsOf actor token s → IsOf actor token (rested s)

@@ -2,7 +2,8 @@
 use Rattle.std.proofs.Common.{◌≡◌, ◌||◌, Bool, true, false, List}
 use Rattle.std.specs.Prelude.{not}
 use Rattle.folder_change.specs.declared.change.Change.{Change}
-use Rattle.session_play.specs.declared.changing.Committed.{Committed}
+use Rattle.session_play.specs.declared.changing.Attempt.{Attempt}
+use Rattle.session_play.specs.declared.changing.Attempt.TheVariants.{Made}
 use Rattle.session_play.specs.declared.changing.Committed.TheVariants as committed
 use Rattle.session_play.specs.declared.recovering.RecoveryAnswer.{RecoveryAnswer}
 use Rattle.session_play.specs.declared.recovering.RecoveryAnswer.TheVariants as recovery
@@ -10,7 +11,7 @@ use Rattle.session_play.specs.Acts.{AllActs, AllEnds}
 use Rattle.session_play.specs.Committing.{Commit}
 use Rattle.session_play.specs.Play.{Act, Answer, Changes, Recover, Play, Ret, Ask, bind}
 use Rattle.play_safety.specs.Safe.{OfCommit, EachCommit}
-use Rattle.session_state.specs.Saving.{is_changed}
+use Rattle.session_state.specs.Saving.{is_changed, is_refused}
 
 -- Rules say which act may be asked and which end may come as things stand, and how things stand after an answer.
 abbrev pub Obeys : {X R : Type 0} → (X → Act → Type 0) → (X → (act : Act) → Answer act → X) → (X → R → Type 0) → X → Play R → Type 0
@@ -45,10 +46,10 @@ pub any-ends : {R : Type 0} (p : Play R) → AllEnds (λ (r : R). Unit {0}) p
 any-ends (Ret r) = tt
 any-ends (Ask act go) = λ a. any-ends (go a)
 
--- the answer to a commit of these changes is that the record can't be read
-abbrev pub answers_unreadable : List Change → Committed → Bool
-answers_unreadable changes committed.NotARecord = true
-answers_unreadable changes (committed.TooLarge name n) = not (is_changed changes name)
+-- the answer to these changes is that the record can't be read
+abbrev pub answers_unreadable : List Change → Attempt → Bool
+answers_unreadable changes (Made committed.NotARecord) = true
+answers_unreadable changes (Made (committed.TooLarge name n)) = not (is_changed changes name)
 answers_unreadable changes a = false
 
 -- so is the answer to a recovery
@@ -63,6 +64,12 @@ unreadable_by (Changes c) a = answers_unreadable c.changes a
 unreadable_by (Recover actor token) a = found_unreadable a
 unreadable_by act a = false
 
--- this act is answered so, or one before was
-abbrev pub met_by : Bool → (act : Act) → Answer act → Bool
-met_by met act answer = unreadable_by act answer || met
+-- whether an answer so far was that a record can't be read, and whether one refused changes
+abbrev pub Met : Type 0
+Met = Bool × Bool
+
+abbrev pub nothing_met : Met
+nothing_met = (false, false)
+
+abbrev pub met_by : Met → (act : Act) → Answer act → Met
+met_by met act answer = (unreadable_by act answer || met.0, is_refused act answer || met.1)

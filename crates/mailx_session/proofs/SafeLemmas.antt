@@ -43,8 +43,8 @@ use Rattle.mailx_session.specs.Rounds.{typed_play, is_uncounted, waiting_play, W
 use Rattle.mailx_session.specs.Rounds as rounds
 use Rattle.mailx_session.specs.Startup.{startup_play, StartupGoes, begun, unread}
 use Rattle.mailx_session.specs.Safe.{Turn, Composing, Typed, Starting, Waiting, Finishing, Leaving, TurnPlay, on_to, waiting_turn, finishing_turn, turn_play, IsStepSafe, IsSafeCall}
-use Rattle.mailx_session.proofs.ObeyLemmas.{Obeys, bind-obeys, obeys-commits, obeys-ends, met_by}
-use Rattle.mailx_session.proofs.LineLemmas.{IsOf, NextOf, MayAsk, EndsSo, LineEnds, EndsAs, LeavesAs, Lines, lines-of, typed-obeys, waiting-obeys, ended-obeys, rested-of, leaving-obeys, startup-obeys, commits-so}
+use Rattle.mailx_session.proofs.ObeyLemmas.{Obeys, bind-obeys, obeys-commits, obeys-ends, Met, nothing_met, met_by}
+use Rattle.mailx_session.proofs.LineLemmas.{IsOf, IsAfter, NextOf, MayAsk, RunEnds, LineEnds, EndsAs, LeavesAs, Lines, lines-of, typed-obeys, waiting-obeys, ended-obeys, rested-of, leaving-obeys, startup-obeys, commits-so}
 
 abbrev pub Ends : Type 0
 Ends = Result (Next SessionState Status) Stop
@@ -221,22 +221,22 @@ module _ (actor : List ℕ) (token : ℕ) where
   TurnOf (Finishing s) = IsOf actor token s
   TurnOf (Leaving s) = IsOf actor token s
 
-  abbrev MayTurn : Bool → Act → Type 0
+  abbrev MayTurn : Met → Act → Type 0
   MayTurn met act = MayAsk actor token act
 
-  abbrev TurnEnds : Bool → Next Turn (Next SessionState Status) → Type 0
+  abbrev TurnEnds : Met → Next Turn (Next SessionState Status) → Type 0
   TurnEnds met n = NextKeeps TurnOf n
 
   abbrev Turns : TurnPlay → Type 0
-  Turns p = Obeys MayTurn met_by TurnEnds false p
+  Turns p = Obeys MayTurn met_by TurnEnds nothing_met p
 
   -- a line, and the turn that follows it
   then-turns : (o : Outcome) (p : Play (Next SessionState Status)) (turn : SessionState → Turn) → ((s : SessionState) → IsOf actor token s → TurnOf (turn s)) → Lines actor token o p → Turns (bind p (on_to turn))
-  then-turns o p turn to obeys = bind-obeys MayTurn met_by (LineEnds (IsOf actor token) (EndsAs o)) TurnEnds false p (on_to turn) obeys each
+  then-turns o p turn to obeys = bind-obeys MayTurn met_by (LineEnds (IsAfter actor token o) (EndsAs o)) TurnEnds nothing_met p (on_to turn) obeys each
     where
-      each : (met : Bool) (n : Next SessionState Status) → LineEnds (IsOf actor token) (EndsAs o) met n → Obeys MayTurn met_by TurnEnds met (on_to turn n)
-      each true (Go s) never = absurd never
-      each false (Go s) of = to s of
+      each : (met : Met) (n : Next SessionState Status) → LineEnds (IsAfter actor token o) (EndsAs o) met n → Obeys MayTurn met_by TurnEnds met (on_to turn n)
+      each (true, b) (Go s) never = absurd never
+      each (false, b) (Go s) of = to s of.0
       each met (Last e) is = tt
 
   waits-of : (s : SessionState) (line : WaitingLine) (frames : List Pending) → IsOf actor token s → AllEnds (NextOf actor token) (waiting_play (resumed s frames) line)
@@ -251,7 +251,7 @@ module _ (actor : List ℕ) (token : ℕ) where
   waiting-turn-obeys s (Some p) of = waits-obeys s Waiting (λ t of. of) p.0 p.1 of
 
   ends-obeys : (b : Bool) (s : SessionState) → IsOf actor token s → Turns (if b then bind (ended_draft s) (on_to Finishing) else Ret (Go (Leaving (rested s))))
-  ends-obeys true s of = then-turns s.outcome (ended_draft s) Finishing (λ t of. of) (ended-obeys actor token s.outcome s of)
+  ends-obeys true s of = then-turns s.outcome (ended_draft s) Finishing (λ t of. of) (ended-obeys actor token s.outcome s (of, λ is. is))
   ends-obeys false s of = rested-of actor token s of
 
   finishing-turn-obeys : (s : SessionState) (next : Option (WaitingLine × List Pending)) → IsOf actor token s → Turns (finishing_turn s next)
@@ -270,26 +270,26 @@ module _ (actor : List ℕ) (token : ℕ) where
   turn-obeys : (x : Turn) → TurnOf x → Turns (turn_play x)
   turn-obeys (Composing s draft) of = composing-obeys (asks_subject (new_machine (flattened draft)) (view_in s)) (with_new_draft s draft)
   turn-obeys (Typed s line) of = then-turns s.outcome (typed_play s line) Waiting (λ t of. of) (typed-obeys actor token s.outcome s line (of, refl))
-  turn-obeys (Starting s name) of = then-turns s.outcome (startup_play s name) Waiting (λ t of. of) (startup-obeys actor token s.outcome s name of)
+  turn-obeys (Starting s name) of = then-turns s.outcome (startup_play s name) Waiting (λ t of. of) (startup-obeys actor token s.outcome s name (of, λ is. is))
   turn-obeys (Waiting s) of = waiting-turn-obeys s (next_waiting s) of
   turn-obeys (Finishing s) of = finishing-turn-obeys s (next_waiting s) of
   turn-obeys (Leaving s) of =
-      bind-obeys MayTurn met_by (EndsSo (LeavesAs s.outcome)) TurnEnds false (leaving s) (λ e. Ret (Last (Last e))) (leaving-obeys actor token s.outcome s (of, refl)) (λ met e is. tt)
+      bind-obeys MayTurn met_by (RunEnds (LeavesAs s.outcome)) TurnEnds nothing_met (leaving s) (λ e. Ret (Last (Last e))) (leaving-obeys actor token s.outcome s (of, refl)) (λ met e is. tt)
 
   turn-commits : (x : Turn) → TurnOf x → EachCommit (IsBy actor token) (turn_play x)
-  turn-commits x of = obeys-commits MayTurn met_by (IsBy actor token) TurnEnds (λ met. commits-so actor token) false (turn_play x) (turn-obeys x of)
+  turn-commits x of = obeys-commits MayTurn met_by (IsBy actor token) TurnEnds (λ met. commits-so actor token) nothing_met (turn_play x) (turn-obeys x of)
 
   turn-of : (x : Turn) → TurnOf x → AllEnds (NextKeeps TurnOf) (turn_play x)
-  turn-of x of = obeys-ends MayTurn met_by TurnEnds (NextKeeps TurnOf) (λ met n keeps. keeps) false (turn_play x) (turn-obeys x of)
+  turn-of x of = obeys-ends MayTurn met_by TurnEnds (NextKeeps TurnOf) (λ met n keeps. keeps) nothing_met (turn_play x) (turn-obeys x of)
 
   typed-of : (s : SessionState) (line : List ℕ) → IsOf actor token s → AllEnds (NextOf actor token) (typed_play s line)
   typed-of s line of = lines-of actor token s.outcome (typed_play s line) (typed-obeys actor token s.outcome s line (of, refl))
 
   ended-of : (s : SessionState) → IsOf actor token s → AllEnds (NextOf actor token) (ended_draft s)
-  ended-of s of = lines-of actor token s.outcome (ended_draft s) (ended-obeys actor token s.outcome s of)
+  ended-of s of = lines-of actor token s.outcome (ended_draft s) (ended-obeys actor token s.outcome s (of, λ is. is))
 
   startup-play-of : (s : SessionState) (name : List ℕ) → IsOf actor token s → AllEnds (NextOf actor token) (startup_play s name)
-  startup-play-of s name of = lines-of actor token s.outcome (startup_play s name) (startup-obeys actor token s.outcome s name of)
+  startup-play-of s name of = lines-of actor token s.outcome (startup_play s name) (startup-obeys actor token s.outcome s name (of, λ is. is))
 
   -- so is the state with which a call goes on
   abbrev GoesOnOf : Ends → Type 0

@@ -138,6 +138,10 @@ caused-since a b c (Err stop.Disk) fall rose = rose-back a.disks b.disks c.disks
 caused-since a b c (Err stop.TooMuch) fall u = tt
 caused-since a b c (Err stop.Memory) fall u = tt
 
+-- an environment, where any will do
+pub any-env : Environment
+any-env = record { pairs = []; folder = []; terminal = false; token = 0 }
+
 -- where a run has ended nothing is said of its going on
 pub ended-whatever : (r : Result (Option Status) Stop) (P : Type 0) → IfOk r IsSome → IfOk r (λ e. IfNone e P)
 ended-whatever (Ok (Some e)) P some = tt

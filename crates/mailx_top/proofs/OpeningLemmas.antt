@@ -32,7 +32,7 @@ use Rattle.session_play.proofs.SawLemmas.{Unseen, goes-unseen}
 use Rattle.session_play.proofs.ShapeLemmas.{came-same, goes-ends}
 use Rattle.session_state.specs.declared.outcome.Outcome.{Outcome}
 use Rattle.mailx_top.specs.Leavings.{first_answer, is_quit_refused, is_refused_before, is_refused_at, refused_at_end}
-use Rattle.mailx_session.proofs.ObeyLemmas.{obeys-acts, obeys-ends}
+use Rattle.mailx_session.proofs.ObeyLemmas.{obeys-acts, obeys-ends, nothing_met}
 use Rattle.mailx_top.proofs.LeavingLemmas.{EndsBy, end_at, opened_end, quit-end, last-ends}
 use Rattle.command_words.specs.declared.options.Options.{Options}
 use Rattle.mailx_top.proofs.RoundLemmas.{IsBefore, IsReadingState, Standing, after_act, May, OpenEnds, Opens, end_by, end_of, loaded-obeys, sent, asks_in, begun_in, sent-obeys, goes-on, goes-over}
@@ -124,18 +124,18 @@ continues-with b e p es out ends (inr (none, inl (r, is, goes))) = inr (none, su
 continues-with b e p es out ends (inr (none, inr (cause, is, goes))) = inr (none, subst (EndsLike e) (sym is) tt)
 
 -- so an opening leads on, whose ends are plain
-ends-with : (env : Environment) (s : SessionState) (e : Status) (p : Play (Next RunState Status)) → Opens env s.actor s.token e p → AllEnds (EndsWith e) p
-ends-with env s e p obeys = obeys-ends (May env s.actor s.token loads_nothing) after_act (OpenEnds env s.actor s.token e) (EndsWith e) so (false, no_input) p obeys
+ends-with : (env : Environment) (s : SessionState) (e : Status) (p : Play (Next RunState Status)) → Opens env s.actor s.token s.outcome e p → AllEnds (EndsWith e) p
+ends-with env s e p obeys = obeys-ends (May env s.actor s.token loads_nothing) after_act (OpenEnds env s.actor s.token s.outcome e) (EndsWith e) so (nothing_met, no_input) p obeys
   where
-    so : (x : Standing) (n : Next RunState Status) → OpenEnds env s.actor s.token e x n → EndsWith e n
-    so (true, i) (Go y) never = absurd never
-    so (false, i) (Go y) (same, of, reads, done) = (reads, done)
-    so (true, i) (Last r) never = absurd never
-    so (false, i) (Last r) (is, opened, free, other) = opened ∙ is
+    so : (x : Standing) (n : Next RunState Status) → OpenEnds env s.actor s.token s.outcome e x n → EndsWith e n
+    so ((true, b), i) (Go y) never = absurd never
+    so ((false, b), i) (Go y) (same, of, reads, done, came) = (reads, done)
+    so ((true, b), i) (Last r) never = absurd never
+    so ((false, b), i) (Last r) (is, opened, free, other) = opened ∙ is
 
 -- and loads nothing
-loads-none : (env : Environment) (s : SessionState) (e : Status) (p : Play (Next RunState Status)) → Opens env s.actor s.token e p → AllActs loads_nothing p
-loads-none env s e p obeys = obeys-acts (May env s.actor s.token loads_nothing) after_act loads_nothing (OpenEnds env s.actor s.token e) (λ x act may. may.1) (false, no_input) p obeys
+loads-none : (env : Environment) (s : SessionState) (e : Status) (p : Play (Next RunState Status)) → Opens env s.actor s.token s.outcome e p → AllActs loads_nothing p
+loads-none env s e p obeys = obeys-acts (May env s.actor s.token loads_nothing) after_act loads_nothing (OpenEnds env s.actor s.token s.outcome e) (λ x act may. may.1) (nothing_met, no_input) p obeys
 
 -- how an end and what was seen belong together
 record Matches (Bad : Type 0) (start : Option Start) (es : List Event) (e : Status) : Type 0 where

@@ -1,16 +1,12 @@
 -- One walk over the rounds of a run. It tells what each may ask and on which input, where it may lead and how it may end the run, and that the run
--- ends for its record exactly if the round met one that can't be read.
-use Rattle.std.proofs.Common.{◌≡◌, ◌⊎◌, ℕ, Bool, true, false, List, [], ◌∷◌, length, refl, ◌∙◌, inl, inr}
+-- ends for its record exactly if the round met one that can't be read, and that a draft counts as refused only if changes were.
+use Rattle.std.proofs.Common.{◌≡◌, ◌⊎◌, ℕ, Bool, true, false, List, [], ◌∷◌, length, refl, sym, ◌∙◌, inl, inr}
 use Rattle.std.specs.Prelude.{if◌then◌else◌, nat_lt}
 use Rattle.std.specs.declared.option.Option.{Option}
 use Rattle.std.specs.declared.option.Option.TheVariants.{Some, None}
 use Rattle.std.specs.declared.result.Result.TheVariants.{Ok, Err}
-use Rattle.std.proofs.lemmas.List.Elements.{All-nil}
 use Rattle.host_port.specs.declared.event.Event.{Event}
 use Rattle.mbox_scan.specs.Mailbox.{list_of, message_limit}
-use Rattle.folder_change.specs.Changes.{name_of}
-use Rattle.folder_change.specs.declared.change.Change.{Change}
-use Rattle.folder_commit.specs.Names.{is_file_name}
 use Rattle.session_play.specs.declared.act.Found.{Found}
 use Rattle.session_play.specs.declared.act.Found.TheVariants as found
 use Rattle.session_play.specs.declared.recovering.RecoveryAnswer.{RecoveryAnswer}
@@ -28,10 +24,11 @@ use Rattle.compose_tilde.specs.Lines.{asks_subject}
 use Rattle.command_words.specs.declared.options.Options.{Options}
 use Rattle.command_desk.specs.Answers.{OrFault}
 use Rattle.session_state.specs.Placing.{placed}
-use Rattle.session_state.specs.States.{is_drafting, next_waiting, resumed, rested}
+use Rattle.session_state.specs.States.{is_drafting, next_waiting, resumed, at_rest, rested}
 use Rattle.session_state.specs.Waits.{Pending}
 use Rattle.session_state.specs.declared.frames.WaitingLine.{WaitingLine}
 use Rattle.session_state.specs.declared.outcome.Outcome.{Outcome}
+use Rattle.session_state.specs.declared.outcome.Outcome.TheVariants as outcome
 use Rattle.session_state.specs.declared.state.SessionState.{SessionState}
 use Rattle.session_state.specs.declared.status.Status.{Status}
 use Rattle.session_state.specs.declared.status.Status.TheVariants as status
@@ -41,8 +38,8 @@ use Rattle.draft_sending.specs.Sending.{ended_draft}
 use Rattle.mailx_session.specs.Leaving.{leaving}
 use Rattle.mailx_session.specs.Rounds.{typed_play, waiting_play}
 use Rattle.mailx_session.specs.Startup.{startup_play}
-use Rattle.mailx_session.proofs.ObeyLemmas.{Obeys, obeys-weaker, obeys-acts, obeys-commits, obeys-ends, met_by}
-use Rattle.mailx_session.proofs.LineLemmas.{IsOf, MayAsk, Fine, EndsSo, LineEnds, EndsAs, LeavesAs, Lines, typed-obeys, waiting-obeys, ended-obeys, leaving-obeys, startup-obeys, rested-of}
+use Rattle.mailx_session.proofs.ObeyLemmas.{Obeys, obeys-weaker, obeys-acts, obeys-commits, obeys-ends, Met, nothing_met, met_by}
+use Rattle.mailx_session.proofs.LineLemmas.{IsOf, CameFrom, IsAfter, MayAsk, Fine, EndsSo, RunEnds, LineEnds, EndsAs, LeavesAs, Lines, typed-obeys, waiting-obeys, ended-obeys, leaving-obeys, startup-obeys, rested-of}
 use Rattle.mailx_top.specs.declared.environment.Environment.{Environment}
 use Rattle.mailx_top.specs.declared.words.Manner.{Manner}
 use Rattle.mailx_top.specs.declared.words.Manner.TheVariants.{Silent, Rows, Quiet, Greeting}
@@ -79,9 +76,10 @@ IsReadingState (Reading s i) = Unit {0}
 IsReadingState (Finishing s i) = Unit {0}
 IsReadingState (Leaving s i) = Unit {0}
 
--- an end that speaks of no draft
+-- an end that speaks of no draft, and of no cut
 abbrev pub IsOther : Status → Type 0
 IsOther (status.NotSent n) = ⊥
+IsOther status.InputLimit = ⊥
 IsOther e = Unit {0}
 
 -- an end that speaks of neither draft nor record
@@ -130,30 +128,43 @@ asks_in s o = asks_subject (new_machine (flattened (draft_with s.desk o))) (view
 abbrev pub begun_in : SessionState → Options → SessionState
 begun_in s o = with_new_draft s (draft_with s.desk o)
 
--- how things stand in a round: whether a record was met that can't be read, and the input that is left
+-- how things stand in a round: what was met, and the input that is left
 abbrev pub Standing : Type 0
-Standing = Bool × Input
+Standing = Met × Input
 
 abbrev pub after_act : Standing → (act : Act) → Answer act → Standing
 after_act x act answer = (met_by x.0 act answer, input_after act answer x.1)
+
+-- what became of drafts so far
+abbrev pub outcome_in : RunState → Outcome
+outcome_in (Recovering start) = outcome.Fine
+outcome_in (Preparing start s names) = s.outcome
+outcome_in (Opening start s) = s.outcome
+outcome_in (Reading s i) = s.outcome
+outcome_in (Finishing s i) = s.outcome
+outcome_in (Leaving s i) = s.outcome
+
+-- a round leads to such a state, in which a draft counts as refused only if it did before or changes were refused
+abbrev pub Leading : Outcome → (RunState → Type 0) → Bool → RunState → Type 0
+Leading o Leads refused y = Leads y × CameFrom o refused (outcome_in y)
 
 module _ (env : Environment) (actor : List ℕ) (token : ℕ) where
   -- a round takes its lines from the input that is left, its acts pass a test, and its commits are those of its actor and token
   abbrev pub May : (Act → Bool) → Standing → Act → Type 0
   May test x act = TakesFrom act x.1 × (test act ≡ true) × OfCommit (IsBy actor token) act
 
-  abbrev pub RoundEnds : (RunState → Type 0) → (Status → Type 0) → Standing → Next RunState Status → Type 0
-  RoundEnds Leads Exits x (Go y) = Fine x.0 ((x.1 ≡ input_of y) × StateOf env actor token y × Leads y)
-  RoundEnds Leads Exits x (Last e) = EndsSo Exits x.0 e
+  abbrev pub RoundEnds : (Bool → RunState → Type 0) → (Status → Type 0) → Standing → Next RunState Status → Type 0
+  RoundEnds Leads Exits x (Go y) = Fine x.0.0 ((x.1 ≡ input_of y) × StateOf env actor token y × Leads x.0.1 y)
+  RoundEnds Leads Exits x (Last e) = EndsSo Exits x.0.0 e
 
-  abbrev pub Rounds : Bool → (RunState → Type 0) → (Status → Type 0) → Standing → Play (Next RunState Status) → Type 0
+  abbrev pub Rounds : Bool → (Bool → RunState → Type 0) → (Status → Type 0) → Standing → Play (Next RunState Status) → Type 0
   Rounds opens Leads Exits x p = Obeys (May (may_load opens)) after_act (RoundEnds Leads Exits) x p
 
   -- ---- lines
 
   -- what a line does, in a round
-  lifted : {A : Type 0} (E : Bool → A → Type 0) (Leads : RunState → Type 0) (Exits : Status → Type 0) (met : Bool) (i : Input) (p : Play A) (k : A → Play (Next RunState Status))
-      → Obeys (λ (met : Bool). MayAsk actor token) met_by E met p → ((met : Bool) (a : A) → E met a → Rounds false Leads Exits (met, i) (k a)) → Rounds false Leads Exits (met, i) (bind p k)
+  lifted : {A : Type 0} (E : Met → A → Type 0) (Leads : Bool → RunState → Type 0) (Exits : Status → Type 0) (met : Met) (i : Input) (p : Play A) (k : A → Play (Next RunState Status))
+      → Obeys (λ (met : Met). MayAsk actor token) met_by E met p → ((met : Met) (a : A) → E met a → Rounds false Leads Exits (met, i) (k a)) → Rounds false Leads Exits (met, i) (bind p k)
   lifted E Leads Exits met i (Ret a) k obeys more = more met a obeys
   lifted E Leads Exits met i (Ask (Line j) go) k obeys more = absurd obeys.0
   lifted E Leads Exits met i (Ask (Say bytes) go) k obeys more = ((tt, refl, tt), λ a. lifted E Leads Exits met i (go a) k (obeys.1 a) more)
@@ -166,184 +177,199 @@ module _ (env : Environment) (actor : List ℕ) (token : ℕ) where
   lifted E Leads Exits met i (Ask (Know texts) go) k obeys more = ((tt, refl, tt), λ a. lifted E Leads Exits met i (go a) k (obeys.1 a) more)
 
   -- a line, and the round that follows it
-  then-rounds : (o : Outcome) (Leads : RunState → Type 0) (i : Input) (p : Play (Next SessionState Status)) (k : Next SessionState Status → Play (Next RunState Status)) → Lines actor token o p
-      → ((s : SessionState) → IsOf actor token s → Rounds false Leads (EndsAs o) (false, i) (k (Go s))) → ((met : Bool) (e : Status) → EndsSo (EndsAs o) met e → Rounds false Leads (EndsAs o) (met, i) (k (Last e)))
-      → Rounds false Leads (EndsAs o) (false, i) (bind p k)
-  then-rounds o Leads i p k obeys on over = lifted (LineEnds (IsOf actor token) (EndsAs o)) Leads (EndsAs o) false i p k obeys each
+  then-rounds : (o : Outcome) (Leads : Bool → RunState → Type 0) (i : Input) (p : Play (Next SessionState Status)) (k : Next SessionState Status → Play (Next RunState Status)) → Lines actor token o p
+      → ((b : Bool) (s : SessionState) → IsAfter actor token o b s → Rounds false Leads (EndsAs o) ((false, b), i) (k (Go s))) → ((met : Met) (e : Status) → EndsSo (EndsAs o) met.0 e → Rounds false Leads (EndsAs o) (met, i) (k (Last e)))
+      → Rounds false Leads (EndsAs o) (nothing_met, i) (bind p k)
+  then-rounds o Leads i p k obeys on over = lifted (LineEnds (IsAfter actor token o) (EndsAs o)) Leads (EndsAs o) nothing_met i p k obeys each
     where
-      each : (met : Bool) (n : Next SessionState Status) → LineEnds (IsOf actor token) (EndsAs o) met n → Rounds false Leads (EndsAs o) (met, i) (k n)
-      each true (Go s) never = absurd never
-      each false (Go s) of = on s of
+      each : (met : Met) (n : Next SessionState Status) → LineEnds (IsAfter actor token o) (EndsAs o) met n → Rounds false Leads (EndsAs o) (met, i) (k n)
+      each (true, b) (Go s) never = absurd never
+      each (false, b) (Go s) of = on b s of
       each met (Last e) is = over met e is
 
   -- a line that waits
-  waits-obeys : (Leads : RunState → Type 0) (s : SessionState) (i : Input) (p : WaitingLine × List Pending) (k : Next SessionState Status → Play (Next RunState Status)) → IsOf actor token s
-      → ((t : SessionState) → IsOf actor token t → Rounds false Leads (EndsAs s.outcome) (false, i) (k (Go t))) → ((met : Bool) (e : Status) → EndsSo (EndsAs s.outcome) met e → Rounds false Leads (EndsAs s.outcome) (met, i) (k (Last e)))
-      → Rounds false Leads (EndsAs s.outcome) (false, i) (bind (waiting_play (resumed s p.1) p.0) k)
+  waits-obeys : (Leads : Bool → RunState → Type 0) (s : SessionState) (i : Input) (p : WaitingLine × List Pending) (k : Next SessionState Status → Play (Next RunState Status)) → IsOf actor token s
+      → ((b : Bool) (t : SessionState) → IsAfter actor token s.outcome b t → Rounds false Leads (EndsAs s.outcome) ((false, b), i) (k (Go t)))
+      → ((met : Met) (e : Status) → EndsSo (EndsAs s.outcome) met.0 e → Rounds false Leads (EndsAs s.outcome) (met, i) (k (Last e)))
+      → Rounds false Leads (EndsAs s.outcome) (nothing_met, i) (bind (waiting_play (resumed s p.1) p.0) k)
   waits-obeys Leads s i p k of on over = let t = resumed s p.1 in then-rounds s.outcome Leads i (waiting_play t p.0) k (waiting-obeys actor token s.outcome t p.0 (of, refl)) on over
 
   -- ---- the input
 
-  abbrev Reads : Outcome → Input → Play (Next RunState Status) → Type 0
-  Reads o i p = Rounds false IsReadingState (EndsAs o) (false, i) p
+  -- at rest drafts have come to the same
+  rested-came : (s : SessionState) → (rested s).outcome ≡ outcome.Refused → s.outcome ≡ outcome.Refused
+  rested-came s = go (is_drafting s)
+    where
+      go : (b : Bool) → (if b then s else at_rest s).outcome ≡ outcome.Refused → s.outcome ≡ outcome.Refused
+      go true is = is
+      go false is = is
 
-  behind-obeys : (o : Outcome) (b : Bool) (s : SessionState) (j : Input) → IsOf actor token s → Reads o j (Ret (Go (if b then Finishing s j else Leaving (rested s) j)))
-  behind-obeys o true s j of = (refl, of, tt)
-  behind-obeys o false s j of = (refl, rested-of actor token s of, tt)
+  abbrev Reads : Outcome → Input → Play (Next RunState Status) → Type 0
+  Reads o i p = Rounds false (Leading o IsReadingState) (EndsAs o) (nothing_met, i) p
+
+  behind-obeys : (b : Bool) (s : SessionState) (j : Input) → IsOf actor token s → Reads s.outcome j (Ret (Go (if b then Finishing s j else Leaving (rested s) j)))
+  behind-obeys true s j of = (refl, of, (tt, λ is. is))
+  behind-obeys false s j of = (refl, rested-of actor token s of, (tt, rested-came s))
 
   turn-obeys : (s : SessionState) (j : Input) (line : Option (List ℕ)) → IsOf actor token s → Reads s.outcome j (turn s j line)
-  turn-obeys s j None of = behind-obeys s.outcome (is_drafting s) s j of
+  turn-obeys s j None of = behind-obeys (is_drafting s) s j of
   turn-obeys s j (Some line) of =
-      then-rounds s.outcome IsReadingState j (typed_play s line) (with_input j) (typed-obeys actor token s.outcome s line (of, refl)) (λ t of. (refl, of, tt)) (λ met e is. is)
+      then-rounds s.outcome (Leading s.outcome IsReadingState) j (typed_play s line) (with_input j) (typed-obeys actor token s.outcome s line (of, refl)) (λ b t of. (refl, of.0, (tt, of.1))) (λ met e is. is)
 
   next-obeys : (b : Bool) (s : SessionState) (i : Input) → IsOf actor token s → Reads s.outcome i (bind (prompted b s.desk) (λ u. Ask (Line i) (λ a. turn s a.1 a.0)))
   next-obeys true s i of = ((tt, refl, tt), λ u. ((refl, refl, tt), λ a. turn-obeys s a.1 a.0 of))
   next-obeys false s i of = ((refl, refl, tt), λ a. turn-obeys s a.1 a.0 of)
 
   unless-obeys : (b : Bool) (s : SessionState) (i : Input) → IsOf actor token s → Reads s.outcome i (next_unless b s i)
-  unless-obeys true s i of = (refl, rested-of actor token s of, tt)
+  unless-obeys true s i of = (refl, rested-of actor token s of, (tt, rested-came s))
   unless-obeys false s i of = next-obeys (at_prompt s) s i of
 
   line-obeys : (s : SessionState) (i : Input) (next : Option (WaitingLine × List Pending)) → IsOf actor token s → Reads s.outcome i (line_round s i next)
   line-obeys s i None of = unless-obeys (is_over s) s i of
-  line-obeys s i (Some p) of = waits-obeys IsReadingState s i p (with_input i) of (λ t of. (refl, of, tt)) (λ met e is. is)
+  line-obeys s i (Some p) of = waits-obeys (Leading s.outcome IsReadingState) s i p (with_input i) of (λ b t of. (refl, of.0, (tt, of.1))) (λ met e is. is)
 
   -- ---- the end of the input
 
   drafts-obey : (b : Bool) (s : SessionState) (i : Input) → IsOf actor token s → Reads s.outcome i (if b then bind (ended_draft s) (with_finishing i) else Ret (Go (Leaving (rested s) i)))
   drafts-obey true s i of =
-      then-rounds s.outcome IsReadingState i (ended_draft s) (with_finishing i) (ended-obeys actor token s.outcome s of) (λ t of. (refl, of, tt)) (λ met e is. is)
-  drafts-obey false s i of = (refl, rested-of actor token s of, tt)
+      then-rounds s.outcome (Leading s.outcome IsReadingState) i (ended_draft s) (with_finishing i) (ended-obeys actor token s.outcome s (of, λ is. is)) (λ b t of. (refl, of.0, (tt, of.1))) (λ met e is. is)
+  drafts-obey false s i of = (refl, rested-of actor token s of, (tt, rested-came s))
 
   finishing-obeys : (s : SessionState) (i : Input) (next : Option (WaitingLine × List Pending)) → IsOf actor token s → Reads s.outcome i (finishing_round s i next)
   finishing-obeys s i None of = drafts-obey (is_drafting s) s i of
-  finishing-obeys s i (Some p) of = waits-obeys IsReadingState s i p (with_finishing i) of (λ t of. (refl, of, tt)) (λ met e is. is)
+  finishing-obeys s i (Some p) of = waits-obeys (Leading s.outcome IsReadingState) s i p (with_finishing i) of (λ b t of. (refl, of.0, (tt, of.1))) (λ met e is. is)
 
   -- ---- the start-up files
 
-  files-obey : (o : Outcome) (start : Start) (s : SessionState) (names : List (List ℕ)) → IsOf actor token s → Rounds false (IsBefore start) (EndsAs o) (false, no_input) (next_file start s names)
-  files-obey o start s [] of = (refl, of, refl)
+  files-obey : (o : Outcome) (start : Start) (s : SessionState) (names : List (List ℕ)) → IsAfter actor token o false s
+      → Rounds false (Leading o (IsBefore start)) (EndsAs o) (nothing_met, no_input) (next_file start s names)
+  files-obey o start s [] of = (refl, of.0, (refl, of.1))
   files-obey o start s (name ∷ names) of =
-      then-rounds o (IsBefore start) no_input (startup_play s name) (with_files start names) (startup-obeys actor token o s name of) (λ t of. (refl, of, refl)) (λ met e is. is)
+      then-rounds o (Leading o (IsBefore start)) no_input (startup_play s name) (with_files start names) (startup-obeys actor token o s name of) (λ b t of. (refl, of.0, (refl, of.1))) (λ met e is. is)
 
   file-obeys : (start : Start) (s : SessionState) (names : List (List ℕ)) (next : Option (WaitingLine × List Pending)) → IsOf actor token s
-      → Rounds false (IsBefore start) (EndsAs s.outcome) (false, no_input) (file_round start s names next)
-  file-obeys start s names None of = files-obey s.outcome start (rested s) names (rested-of actor token s of)
-  file-obeys start s names (Some p) of = waits-obeys (IsBefore start) s no_input p (with_files start names) of (λ t of. (refl, of, refl)) (λ met e is. is)
+      → Rounds false (Leading s.outcome (IsBefore start)) (EndsAs s.outcome) (nothing_met, no_input) (file_round start s names next)
+  file-obeys start s names None of = files-obey s.outcome start (rested s) names (rested-of actor token s of, rested-came s)
+  file-obeys start s names (Some p) of = waits-obeys (Leading s.outcome (IsBefore start)) s no_input p (with_files start names) of (λ b t of. (refl, of.0, (refl, of.1))) (λ met e is. is)
 
   -- ---- the recovery
 
-  recovered-obeys : (o : Options) (a : RecoveryAnswer) → IsOf actor token (first_of env (Some (words.Opens o))) → Rounds false (λ y. Unit {0}) IsPlain (met_by false (Recover actor token) a, no_input) (recovered env o a)
-  recovered-obeys o (recovery.Done f) of = (refl, of, tt)
+  recovered-obeys : (o : Options) (a : RecoveryAnswer) → IsOf actor token (first_of env (Some (words.Opens o))) → Rounds false (Leading outcome.Fine (λ y. Unit {0})) IsPlain (met_by nothing_met (Recover actor token) a, no_input) (recovered env o a)
+  recovered-obeys o (recovery.Done f) of = (refl, of, (tt, λ is. is))
   recovered-obeys o (recovery.Busy name) of = ((tt, refl, tt), λ u. (refl, refl, tt))
   recovered-obeys o recovery.NotARecord of = refl
   recovered-obeys o (recovery.TooLarge name n) of = refl
 
-  recovering-obeys : (start : Option Start) → (actor_in env ≡ actor) × (env.token ≡ token) → Rounds false (λ y. Unit {0}) IsPlain (false, no_input) (recovering env start)
-  recovering-obeys None of = (refl, of, tt)
+  recovering-obeys : (start : Option Start) → (actor_in env ≡ actor) × (env.token ≡ token) → Rounds false (Leading outcome.Fine (λ y. Unit {0})) IsPlain (nothing_met, no_input) (recovering env start)
+  recovering-obeys None of = (refl, of, (tt, λ is. is))
   recovering-obeys (Some (words.Opens o)) of =
-      ((tt, refl, record { actor_is = of.0; token_is = of.1; files = All-nil (λ (c : Change). is_file_name actor (name_of c) ≡ true) }), λ a. recovered-obeys o a (actor-same env (words.Opens o) ∙ of.0, of.1))
-  recovering-obeys (Some (words.Sends o)) of = (refl, (actor-same env (words.Sends o) ∙ of.0, of.1), tt)
+      ((tt, refl, record { actor_is = of.0; token_is = of.1 }), λ a. recovered-obeys o a (actor-same env (words.Opens o) ∙ of.0, of.1))
+  recovering-obeys (Some (words.Sends o)) of = (refl, (actor-same env (words.Sends o) ∙ of.0, of.1), (tt, λ is. is))
 
   -- ---- the opening
 
-  -- an opening leads to this end; it is done if the folder is open
-  abbrev pub OpenEnds : Status → Standing → Next RunState Status → Type 0
-  OpenEnds w x (Go y) = Fine x.0 ((x.1 ≡ input_of y) × StateOf env actor token y × IsReadingState y × (w ≡ status.Done))
-  OpenEnds w x (Last e) = Fine x.0 ((e ≡ w) × (opened_end e ≡ e) × (is_for_record e ≡ false) × IsOther e)
+  -- an opening leads to this end; it is done if the folder is open, in a state in which drafts came to this
+  abbrev pub OpenEnds : Outcome → Status → Standing → Next RunState Status → Type 0
+  OpenEnds o w x (Go y) = Fine x.0.0 ((x.1 ≡ input_of y) × StateOf env actor token y × IsReadingState y × (w ≡ status.Done) × (outcome_in y ≡ o))
+  OpenEnds o w x (Last e) = Fine x.0.0 ((e ≡ w) × (opened_end e ≡ e) × (is_for_record e ≡ false) × IsOther e)
 
-  abbrev pub Opens : Status → Play (Next RunState Status) → Type 0
-  Opens w p = Obeys (May loads_nothing) after_act (OpenEnds w) (false, no_input) p
+  abbrev pub Opens : Outcome → Status → Play (Next RunState Status) → Type 0
+  Opens o w p = Obeys (May loads_nothing) after_act (OpenEnds o w) (nothing_met, no_input) p
 
-  greeted-obeys : (manner : Manner) (s : SessionState) → IsOf actor token s → Opens status.Done (greeted manner s)
+  greeted-obeys : (manner : Manner) (s : SessionState) → IsOf actor token s → Opens s.outcome status.Done (greeted manner s)
   greeted-obeys Silent s of = (refl, refl, refl, tt)
   greeted-obeys Rows s of = ((tt, refl, tt), λ u. (refl, refl, refl, tt))
-  greeted-obeys Quiet s of = (refl, of, tt, refl)
-  greeted-obeys Greeting s of = ((tt, refl, tt), λ u. (refl, of, tt, refl))
+  greeted-obeys Quiet s of = (refl, of, tt, refl, refl)
+  greeted-obeys Greeting s of = ((tt, refl, tt), λ u. (refl, of, tt, refl, refl))
 
   many-obeys : (b : Bool) (s : SessionState) (o : Options) (name bytes line : List ℕ) (texts : List (List ℕ)) → IsOf actor token s
-      → Opens (end_by false b) (if b then ends_with o line status.NoFolder else begun s o name bytes texts)
+      → Opens s.outcome (end_by false b) (if b then ends_with o line status.NoFolder else begun s o name bytes texts)
   many-obeys true s o name bytes line texts of = ((tt, refl, tt), λ u. (refl, refl, refl, tt))
   many-obeys false s o name bytes line texts of = ((tt, refl, tt), λ rows. greeted-obeys (manner_of o) (with_opened s name bytes rows) of)
 
-  list-obeys : (s : SessionState) (o : Options) (name bytes : List ℕ) (l : Option (List (List ℕ))) → IsOf actor token s → Opens (end_by false (is_no_list l)) (with_list s o name bytes l)
+  list-obeys : (s : SessionState) (o : Options) (name bytes : List ℕ) (l : Option (List (List ℕ))) → IsOf actor token s → Opens s.outcome (end_by false (is_no_list l)) (with_list s o name bytes l)
   list-obeys s o name bytes None of = ((tt, refl, tt), λ u. (refl, refl, refl, tt))
   list-obeys s o name bytes (Some texts) of = many-obeys (nat_lt message_limit (length texts)) s o name bytes _ texts of
 
-  unheld-obeys : (s : SessionState) (o : Options) (name : List ℕ) (bytes : Option (List ℕ)) (b : Bool) → IsOf actor token s → Opens (end_by b (is_no_folder bytes)) (unheld s o name bytes b)
+  unheld-obeys : (s : SessionState) (o : Options) (name : List ℕ) (bytes : Option (List ℕ)) (b : Bool) → IsOf actor token s → Opens s.outcome (end_by b (is_no_folder bytes)) (unheld s o name bytes b)
   unheld-obeys s o name bytes true of = ((tt, refl, tt), λ u. (refl, refl, refl, tt))
   unheld-obeys s o name None false of = ((tt, refl, tt), λ u. (refl, refl, refl, tt))
   unheld-obeys s o name (Some bytes) false of = list-obeys s o name bytes (list_of bytes) of
 
-  pub loaded-obeys : (s : SessionState) (o : Options) (name : List ℕ) (f : Found) → IsOf actor token s → Opens (end_of o.folder f) (loaded s o name f)
+  pub loaded-obeys : (s : SessionState) (o : Options) (name : List ℕ) (f : Found) → IsOf actor token s → Opens s.outcome (end_of o.folder f) (loaded s o name f)
   loaded-obeys s o name (found.Bytes bytes true) of = ((tt, refl, tt), λ u. (refl, refl, refl, tt))
   loaded-obeys s o name (found.Bytes bytes false) of = unheld-obeys s o name bytes (is_no_mail o.folder bytes) of
   loaded-obeys s o name (found.TooLarge n) of = ((tt, refl, tt), λ u. (refl, refl, refl, tt))
 
-  pub sent-obeys : (b : Bool) (t : SessionState) → IsOf actor token t → Opens status.Done (sent b t)
-  sent-obeys true t of = ((tt, refl, tt), λ u. (refl, of, tt, refl))
-  sent-obeys false t of = (refl, of, tt, refl)
+  pub sent-obeys : (b : Bool) (t : SessionState) → IsOf actor token t → Opens t.outcome status.Done (sent b t)
+  sent-obeys true t of = ((tt, refl, tt), λ u. (refl, of, tt, refl, refl))
+  sent-obeys false t of = (refl, of, tt, refl, refl)
+
+  -- drafts that have come to the same
+  same-came : (o : Outcome) (b : Bool) (now : Outcome) → now ≡ o → CameFrom o b now
+  same-came o true now same = tt
+  same-came o false now same = λ is. sym same ∙ is
 
   -- what an opening leads to, as a round
-  opens-so : (w : Status) (p : Play (Next RunState Status)) → Opens w p → Rounds true IsReadingState IsPlain (false, no_input) p
-  opens-so w p obeys =
-      obeys-weaker (May loads_nothing) after_act (May (may_load true)) (OpenEnds w) (RoundEnds IsReadingState IsPlain) (λ x act may. (may.0, may-all true act may.1, may.2)) ends (false, no_input) p obeys
+  opens-so : (o : Outcome) (w : Status) (p : Play (Next RunState Status)) → Opens o w p → Rounds true (Leading o IsReadingState) IsPlain (nothing_met, no_input) p
+  opens-so o w p obeys =
+      obeys-weaker (May loads_nothing) after_act (May (may_load true)) (OpenEnds o w) (RoundEnds (Leading o IsReadingState) IsPlain) (λ x act may. (may.0, may-all true act may.1, may.2)) ends (nothing_met, no_input) p obeys
     where
-      ends : (x : Standing) (n : Next RunState Status) → OpenEnds w x n → RoundEnds IsReadingState IsPlain x n
-      ends (true, i) (Go y) never = absurd never
-      ends (false, i) (Go y) (same, of, reads, done) = (same, of, reads)
-      ends (true, i) (Last e) never = absurd never
-      ends (false, i) (Last e) (is, opened, free, other) = (opened, free, other)
+      ends : (x : Standing) (n : Next RunState Status) → OpenEnds o w x n → RoundEnds (Leading o IsReadingState) IsPlain x n
+      ends ((true, b), i) (Go y) never = absurd never
+      ends ((false, b), i) (Go y) (same, of, reads, done, came) = (same, of, (reads, same-came o b (outcome_in y) came))
+      ends ((true, b), i) (Last e) never = absurd never
+      ends ((false, b), i) (Last e) (is, opened, free, other) = (opened, free, other)
 
   short-obeys : (b : Bool) (s : SessionState) (o : Options) (name line : List ℕ) → IsOf actor token s
-      → Rounds true IsReadingState IsPlain (false, no_input) (if b then Ask (Read (placed s.here name)) (loaded s o name) else ends_with o line status.NoFolder)
-  short-obeys true s o name line of = ((tt, refl, tt), λ f. opens-so (end_of o.folder f) (loaded s o name f) (loaded-obeys s o name f of))
+      → Rounds true (Leading s.outcome IsReadingState) IsPlain (nothing_met, no_input) (if b then Ask (Read (placed s.here name)) (loaded s o name) else ends_with o line status.NoFolder)
+  short-obeys true s o name line of = ((tt, refl, tt), λ f. opens-so s.outcome (end_of o.folder f) (loaded s o name f) (loaded-obeys s o name f of))
   short-obeys false s o name line of = ((tt, refl, tt), λ u. (refl, refl, tt))
 
-  named-obeys : (s : SessionState) (o : Options) (name : OrFault (List ℕ)) → IsOf actor token s → Rounds true IsReadingState IsPlain (false, no_input) (with_name_or_fault s o name)
+  named-obeys : (s : SessionState) (o : Options) (name : OrFault (List ℕ)) → IsOf actor token s → Rounds true (Leading s.outcome IsReadingState) IsPlain (nothing_met, no_input) (with_name_or_fault s o name)
   named-obeys s o (Ok name) of = short-obeys (is_short_name (placed s.here name)) s o name _ of
   named-obeys s o (Err line) of = ((tt, refl, tt), λ u. (refl, refl, tt))
 
-  opening-obeys : (start : Option Start) (s : SessionState) → IsOf actor token s → Rounds true IsReadingState IsPlain (false, no_input) (opening start s)
+  opening-obeys : (start : Option Start) (s : SessionState) → IsOf actor token s → Rounds true (Leading s.outcome IsReadingState) IsPlain (nothing_met, no_input) (opening start s)
   opening-obeys None s of = ((tt, refl, tt), λ u. (refl, refl, tt))
   opening-obeys (Some (words.Opens o)) s of = named-obeys s o (folder_name s o) of
-  opening-obeys (Some (words.Sends o)) s of = opens-so status.Done (sent (asks_in s o) (begun_in s o)) (sent-obeys (asks_in s o) (begun_in s o) of)
+  opening-obeys (Some (words.Sends o)) s of = opens-so s.outcome status.Done (sent (asks_in s o) (begun_in s o)) (sent-obeys (asks_in s o) (begun_in s o) of)
 
   -- ---- each round
 
-  pub round-obeys : (x : RunState) → StateOf env actor token x → Rounds (is_opening x) (LeadsFrom x) (ExitsFrom x) (false, input_of x) (round env x)
+  pub round-obeys : (x : RunState) → StateOf env actor token x → Rounds (is_opening x) (Leading (outcome_in x) (LeadsFrom x)) (ExitsFrom x) (nothing_met, input_of x) (round env x)
   round-obeys (Recovering start) of = recovering-obeys start of
   round-obeys (Preparing start s names) of = file-obeys start s names (next_waiting s) of
   round-obeys (Opening start s) of = opening-obeys start s of
   round-obeys (Reading s i) of = line-obeys s i (next_waiting s) of
   round-obeys (Finishing s i) of = finishing-obeys s i (next_waiting s) of
   round-obeys (Leaving s i) of =
-      lifted (EndsSo (LeavesAs s.outcome)) IsReadingState (LeavesAs s.outcome) false i (leaving s) (λ e. Ret (Last e)) (leaving-obeys actor token s.outcome s (of, refl)) (λ met e is. is)
+      lifted (RunEnds (LeavesAs s.outcome)) (Leading s.outcome IsReadingState) (LeavesAs s.outcome) nothing_met i (leaving s) (λ e. Ret (Last e)) (leaving-obeys actor token s.outcome s (of, refl)) (λ met e is. is)
 
   -- ---- what is read off that
 
   -- the input is handed on
-  obeys-threads : (opens : Bool) (Leads : RunState → Type 0) (Exits : Status → Type 0) (met : Bool) (i : Input) (p : Play (Next RunState Status)) → Rounds opens Leads Exits (met, i) p → Threads (NextFrom input_of) i p
-  obeys-threads opens Leads Exits true i (Ret (Go y)) never = absurd never
-  obeys-threads opens Leads Exits false i (Ret (Go y)) is = is.0
+  obeys-threads : (opens : Bool) (Leads : Bool → RunState → Type 0) (Exits : Status → Type 0) (met : Met) (i : Input) (p : Play (Next RunState Status)) → Rounds opens Leads Exits (met, i) p → Threads (NextFrom input_of) i p
+  obeys-threads opens Leads Exits (true, b) i (Ret (Go y)) never = absurd never
+  obeys-threads opens Leads Exits (false, b) i (Ret (Go y)) is = is.0
   obeys-threads opens Leads Exits met i (Ret (Last e)) is = tt
   obeys-threads opens Leads Exits met i (Ask act go) obeys = (obeys.0.0, λ a. obeys-threads opens Leads Exits (met_by met act a) (input_after act a i) (go a) (obeys.1 a))
 
   -- what a round leads to is a state of its actor and token
-  ends-of : (Leads : RunState → Type 0) (Exits : Status → Type 0) (x : Standing) (n : Next RunState Status) → RoundEnds Leads Exits x n → NextKeeps (StateOf env actor token) n
-  ends-of Leads Exits (true, i) (Go y) never = absurd never
-  ends-of Leads Exits (false, i) (Go y) is = is.1
+  ends-of : (Leads : Bool → RunState → Type 0) (Exits : Status → Type 0) (x : Standing) (n : Next RunState Status) → RoundEnds Leads Exits x n → NextKeeps (StateOf env actor token) n
+  ends-of Leads Exits ((true, b), i) (Go y) never = absurd never
+  ends-of Leads Exits ((false, b), i) (Go y) is = is.1
   ends-of Leads Exits x (Last e) is = tt
 
   -- it leads where it may, and ends the run as it may or for its record
-  ends-so : (r : RunState) (x : Standing) (n : Next RunState Status) → RoundEnds (LeadsFrom r) (ExitsFrom r) x n → EndsFrom r n
-  ends-so r (true, i) (Go y) never = absurd never
-  ends-so r (false, i) (Go y) (same, of, leads) = leads
-  ends-so r (true, i) (Last e) is = inr is
-  ends-so r (false, i) (Last e) is = inl is
+  ends-so : (r : RunState) (x : Standing) (n : Next RunState Status) → RoundEnds (Leading (outcome_in r) (LeadsFrom r)) (ExitsFrom r) x n → EndsFrom r n
+  ends-so r ((true, b), i) (Go y) never = absurd never
+  ends-so r ((false, b), i) (Go y) (same, of, leads) = leads.0
+  ends-so r ((true, b), i) (Last e) is = inr is
+  ends-so r ((false, b), i) (Last e) is = inl is
 
 -- each round, whoever's it is
-any-round : (env : Environment) (P : Type 0) (x : RunState) → ((actor : List ℕ) (token : ℕ) → StateOf env actor token x → P) → P
+pub any-round : (env : Environment) (P : Type 0) (x : RunState) → ((actor : List ℕ) (token : ℕ) → StateOf env actor token x → P) → P
 any-round env P (Recovering start) to = to (actor_in env) env.token (refl, refl)
 any-round env P (Preparing start s names) to = to s.actor s.token (refl, refl)
 any-round env P (Opening start s) to = to s.actor s.token (refl, refl)
@@ -353,19 +379,19 @@ any-round env P (Leaving s i) to = to s.actor s.token (refl, refl)
 
 pub threads-round : (env : Environment) (x : RunState) → Threads (NextFrom input_of) (input_of x) (round env x)
 threads-round env x = any-round env _ x (λ actor token of.
-    obeys-threads env actor token (is_opening x) (LeadsFrom x) (ExitsFrom x) false (input_of x) (round env x) (round-obeys env actor token x of))
+    obeys-threads env actor token (is_opening x) (Leading (outcome_in x) (LeadsFrom x)) (ExitsFrom x) nothing_met (input_of x) (round env x) (round-obeys env actor token x of))
 
 -- where a folder is opened each load that fails cuts the run off, and elsewhere none does
 pub loads-round : (env : Environment) (x : RunState) → AllActs (may_load (is_opening x)) (round env x)
 loads-round env x = any-round env _ x (λ actor token of.
-    obeys-acts (May env actor token (may_load (is_opening x))) after_act (may_load (is_opening x)) (RoundEnds env actor token (LeadsFrom x) (ExitsFrom x)) (λ y act may. may.1) (false, input_of x) (round env x)
+    obeys-acts (May env actor token (may_load (is_opening x))) after_act (may_load (is_opening x)) (RoundEnds env actor token (Leading (outcome_in x) (LeadsFrom x)) (ExitsFrom x)) (λ y act may. may.1) (nothing_met, input_of x) (round env x)
     (round-obeys env actor token x of))
 
 -- where a round leads, and how it ends the run
 ends-round : (env : Environment) (x : RunState) → AllEnds (EndsFrom x) (round env x)
 ends-round env x = any-round env _ x (λ actor token of.
-    obeys-ends (May env actor token (may_load (is_opening x))) after_act (RoundEnds env actor token (LeadsFrom x) (ExitsFrom x)) (EndsFrom x) (ends-so env actor token x)
-    (false, input_of x) (round env x) (round-obeys env actor token x of))
+    obeys-ends (May env actor token (may_load (is_opening x))) after_act (RoundEnds env actor token (Leading (outcome_in x) (LeadsFrom x)) (ExitsFrom x)) (EndsFrom x) (ends-so env actor token x)
+    (nothing_met, input_of x) (round env x) (round-obeys env actor token x of))
 
 pub goes-on : (env : Environment) (x y : RunState) (es : List Event) → Goes (round env x) es (Ok (Go y)) → LeadsFrom x y
 goes-on env x y es goes = goes-ends (EndsFrom x) (round env x) es (Go y) (ends-round env x) goes
@@ -376,11 +402,11 @@ goes-over env x es e goes = goes-ends (EndsFrom x) (round env x) es (Last e) (en
 -- each commit of a round is one of the run
 pub round-commits : (env : Environment) (actor : List ℕ) (token : ℕ) (x : RunState) → StateOf env actor token x → EachCommit (IsBy actor token) (round env x)
 round-commits env actor token x of =
-    obeys-commits (May env actor token (may_load (is_opening x))) after_act (IsBy actor token) (RoundEnds env actor token (LeadsFrom x) (ExitsFrom x)) (λ y act may. may.2) (false, input_of x) (round env x)
+    obeys-commits (May env actor token (may_load (is_opening x))) after_act (IsBy actor token) (RoundEnds env actor token (Leading (outcome_in x) (LeadsFrom x)) (ExitsFrom x)) (λ y act may. may.2) (nothing_met, input_of x) (round env x)
     (round-obeys env actor token x of)
 
 -- and each round leaves a state of its actor and token
 pub round-of : (env : Environment) (actor : List ℕ) (token : ℕ) (x : RunState) → StateOf env actor token x → AllEnds (NextKeeps (StateOf env actor token)) (round env x)
 round-of env actor token x of =
-    obeys-ends (May env actor token (may_load (is_opening x))) after_act (RoundEnds env actor token (LeadsFrom x) (ExitsFrom x)) (NextKeeps (StateOf env actor token)) (ends-of env actor token (LeadsFrom x) (ExitsFrom x))
-    (false, input_of x) (round env x) (round-obeys env actor token x of)
+    obeys-ends (May env actor token (may_load (is_opening x))) after_act (RoundEnds env actor token (Leading (outcome_in x) (LeadsFrom x)) (ExitsFrom x)) (NextKeeps (StateOf env actor token)) (ends-of env actor token (Leading (outcome_in x) (LeadsFrom x)) (ExitsFrom x))
+    (nothing_met, input_of x) (round env x) (round-obeys env actor token x of)

@@ -25,6 +25,7 @@ came-to : (o : Outcome) (n : Option ℤ) → status_of o ≡ status.NotSent n �
 came-to outcome.Fine n is = absurd (cc is)
 came-to (outcome.NotSent m) n is = cc is
 came-to outcome.Refused n is = absurd (cc is)
+came-to outcome.Unrecorded n is = absurd (cc is)
 
 -- a session that ends by its quit, or by a line
 by-quit : (o : Outcome) (b : Bool) (r : Status) → EndsByQuit o b r → IsUnsentExplained (Ok r) o (b || is_refused_before o r)

@@ -1,6 +1,6 @@
--- Whether the quit at the end of the input was refused, by what its commit was answered.
+-- Whether the quit at the end of the input was refused, by what its changes were answered.
 use Rattle.std.proofs.Common.{inl, inr}
-use Rattle.std.specs.Prelude.{◌≡◌, ◌||◌, ◌&&◌, not, ℤ, Bool, true, false, List, is_some}
+use Rattle.std.specs.Prelude.{◌≡◌, ◌||◌, ◌&&◌, not, ℤ, Bool, true, false, List}
 use Rattle.std.specs.Option.{option_map_or}
 use Rattle.std.specs.declared.option.Option.{Option}
 use Rattle.std.specs.declared.option.Option.TheVariants.{Some, None}
@@ -8,8 +8,7 @@ use Rattle.std.specs.declared.result.Result.{Result}
 use Rattle.std.specs.declared.result.Result.TheVariants.{Ok, Err}
 use Rattle.host_port.specs.declared.event.Event.{Event}
 use Rattle.folder_change.specs.declared.change.Change.{Change}
-use Rattle.session_play.specs.declared.changing.Committed.{Committed}
-use Rattle.session_play.specs.declared.changing.Committed.TheVariants as committed
+use Rattle.session_play.specs.declared.changing.Attempt.{Attempt}
 use Rattle.session_play.specs.declared.stop.Stop.{Stop}
 use Rattle.session_play.specs.Play.{Act, Answer, Changes, Play, Ret, Ask, Goes, Next, Last, Loop, again, last, cut}
 use Rattle.quit_rules.specs.Plans.{quit_changes}
@@ -19,44 +18,34 @@ use Rattle.session_state.specs.declared.outcome.Outcome.TheVariants as outcome
 use Rattle.session_state.specs.declared.status.Status.{Status}
 use Rattle.session_state.specs.declared.status.Status.TheVariants as status
 use Rattle.session_state.specs.Placing.{placed_changes}
-use Rattle.session_state.specs.Saving.{names_fault, is_changed}
+use Rattle.session_state.specs.Saving.{refuses}
 use Rattle.mailx_top.specs.Meaning.{RunState, Recovering, Preparing, Opening, Reading, Finishing, Leaving}
 
--- what an act was answered, if it commits; else a later answer
-abbrev pub or_answered : (act : Act) → Answer act → Option Committed → Option Committed
+-- what an act was answered, if it is one that changes files; else a later answer
+abbrev pub or_answered : (act : Act) → Answer act → Option Attempt → Option Attempt
 or_answered (Changes c) answer later = Some answer
 or_answered act answer later = later
 
--- what the first commit of a play was answered, if there is one
-abbrev pub first_answer : {R : Type 0} (p : Play R) (es : List Event) (out : Result R Stop) → Goes p es out → Option Committed
+-- what the first such act of a play was answered, if there is one
+abbrev pub first_answer : {R : Type 0} (p : Play R) (es : List Event) (out : Result R Stop) → Goes p es out → Option Attempt
 first_answer (Ret r) es out g = None
 first_answer (Ask act go) es out (inl (answer, front, rest, is, did, goes)) = or_answered act answer (first_answer (go answer) rest out goes)
 first_answer (Ask act go) es out (inr how) = None
-
--- The answer to a commit of these changes refuses it: another has the right or a lock, a file has changed, or one of theirs is or would be too
--- large, or they are too many.
-abbrev pub refuses : List Change → Committed → Bool
-refuses changes committed.Done = false
-refuses changes (committed.Busy name) = true
-refuses changes committed.NotARecord = false
-refuses changes (committed.Changed name at) = true
-refuses changes (committed.TooLarge name length) = is_changed changes name
-refuses changes (committed.TooManyNames count) = true
 
 -- what a quit changes in a state
 abbrev pub left_changes : SessionState → List Change
 left_changes s = quit_changes s.desk.folder s.desk.vars s.desk.places.mbox
 
--- a quit is refused, for the name of a file or by what its commit was answered
-abbrev pub is_quit_refused : SessionState → Option Committed → Bool
-is_quit_refused s answer =
-    is_some (names_fault s (left_changes s)) || option_map_or (refuses (placed_changes s.here (left_changes s))) answer false
+-- a quit is refused by what its changes were answered
+abbrev pub is_quit_refused : SessionState → Option Attempt → Bool
+is_quit_refused s answer = option_map_or (refuses (placed_changes s.here (left_changes s))) answer false
 
--- the record or the dead letter of a draft was refused
+-- the record or the dead letter of a draft was refused, or the word for a record stood for no file
 abbrev pub is_draft_refused : Outcome → Bool
 is_draft_refused outcome.Fine = false
 is_draft_refused (outcome.NotSent n) = false
 is_draft_refused outcome.Refused = true
+is_draft_refused outcome.Unrecorded = true
 
 -- a run ends for a record of commits that can't be read
 abbrev pub is_for_record : Status → Bool
@@ -68,7 +57,7 @@ abbrev pub is_refused_before : Outcome → Status → Bool
 is_refused_before o e = is_draft_refused o && not (is_for_record e)
 
 -- the round that ends the run refuses its quit, if it leaves the folder, or a draft was refused before it
-abbrev pub is_refused_at : RunState → Status → Option Committed → Bool
+abbrev pub is_refused_at : RunState → Status → Option Attempt → Bool
 is_refused_at (Recovering start) e answer = false
 is_refused_at (Preparing start s names) e answer = is_refused_before s.outcome e
 is_refused_at (Opening start s) e answer = false

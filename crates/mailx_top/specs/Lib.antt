@@ -5,11 +5,13 @@ pub mod Meaning
 pub mod Leavings
 pub mod Statuses
 pub mod Runs
+pub mod Complete
 pub mod Ends
 pub mod Usage
 pub mod Openings
 pub mod Quits
 pub mod Starts
+pub mod Met
 pub mod Unreadable
 pub mod Crash
 pub mod Appended

@@ -1,6 +1,5 @@
 -- Whether a run met a record of its actor that can't be read, by the own events of its commits and recoveries.
-use Rattle.std.proofs.Common.{inl, inr}
-use Rattle.std.specs.Prelude.{◌≡◌, ◌||◌, not, Bool, true, false, List}
+use Rattle.std.specs.Prelude.{◌≡◌, not, Bool, true, false, List}
 use Rattle.std.specs.declared.result.Result.{Result}
 use Rattle.std.specs.declared.result.Result.TheVariants.{Ok, Err}
 use Rattle.host_port.specs.declared.event.Event.{Event}
@@ -9,10 +8,11 @@ use Rattle.commit_machine.specs.Jobs.{Ending, Refused, NotARecord, TooLarge}
 use Rattle.folder_commit.specs.Told.{end_told}
 use Rattle.folder_recovery.specs.Told.{told_end}
 use Rattle.session_play.specs.declared.stop.Stop.{Stop}
-use Rattle.session_play.specs.Play.{Act, Answer, Changes, Recover, Play, Ret, Ask, Goes, Next, Go, Last, Loop, again, last, cut}
+use Rattle.session_play.specs.Play.{Act, Answer, Changes, Recover, Play, Goes, Next, Loop}
 use Rattle.session_state.specs.Saving.{is_changed}
 use Rattle.session_state.specs.declared.status.Status.{Status}
 use Rattle.session_state.specs.declared.status.Status.TheVariants as status
+use Rattle.mailx_top.specs.Met.{some_act, some_act_in}
 use Rattle.mailx_top.specs.Openings.{EndsOrIsCut}
 use Rattle.mailx_top.specs.Starts.{is_bad_record}
 
@@ -30,15 +30,11 @@ met_unreadable act answer es = false
 
 -- some act of a play met such a record
 abbrev pub some_unreadable : {R : Type 0} (p : Play R) (es : List Event) (out : Result R Stop) → Goes p es out → Bool
-some_unreadable (Ret r) es out g = false
-some_unreadable (Ask act go) es out (inl (answer, front, rest, is, did, goes)) = met_unreadable act answer front || some_unreadable (go answer) rest out goes
-some_unreadable (Ask act go) es out (inr (cause, is, how)) = false
+some_unreadable p es out goes = some_act met_unreadable p es out goes
 
 -- some act of a loop did
 abbrev pub some_unreadable_in : {X R : Type 0} {round : X → Play (Next X R)} {x : X} {es : List Event} {out : Result R Stop} → Loop round x es out → Bool
-some_unreadable_in {round = round} (again {x = x} {y = y} front rest is goes more) = some_unreadable (round x) front (Ok (Go y)) goes || some_unreadable_in more
-some_unreadable_in {round = round} (last {x = x} {es = es} {r = r} goes) = some_unreadable (round x) es (Ok (Last r)) goes
-some_unreadable_in {round = round} (cut {x = x} {es = es} {cause = cause} goes) = some_unreadable (round x) es (Err cause) goes
+some_unreadable_in loop = some_act_in met_unreadable loop
 
 -- A run ends for its record exactly when a commit or a recovery of it met one that can't be read, unless it is cut off.
 pub record IsRecordExplained (out : Result Status Stop) (met : Bool) : Type 0 where

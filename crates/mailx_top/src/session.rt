@@ -3,7 +3,6 @@ ghost use Rattle.std.specs.Prelude.{◌≡◌, ◌<◌, false, Some, None, IfOk,
 ghost use Rattle.mailx_vars.specs.Settings.{value_of};
 ghost use Rattle.host_port.specs.Ran.{Ran};
 ghost use Rattle.rc_conditionals.specs.Turns.{is_send};
-ghost use Rattle.host_port.specs.Calls.{NeverFall};
 ghost use Rattle.session_play.specs.Input.{Input, left, no_input};
 ghost use Rattle.session_play.specs.Play.{Play, Goes, Loop, Caused};
 ghost use Rattle.mailx_session.specs.Rounds.{LineGoes};
@@ -80,7 +79,6 @@ fn step<H: Host>(host: &mut H, session: &mut Session, line: &[u8]) -> Result<Opt
 fn end_of_input<H: Host>(host: &mut H, session: &mut Session) -> Result<Option<Status>, Stop>
     ensures ran { (env : Environment) → (j : Input) → Ran H.world host.old host.new
         (λ es. LeadsTo env (behind_input session.old j) es (next_state session.new j result)) }
-    ensures fall { NeverFall (H.world.counts host.old) (H.world.counts host.new) }
     ensures cause { Caused (H.world.counts host.old) (H.world.counts host.new) result }
     ensures ended { IfOk result IsSome }
     ensures line_end { IfOk result (λ end. IfSome end IsLineEnd) }
@@ -101,7 +99,6 @@ fn next_line<H: Host>(
     requires { AsksNext session.old }
     ensures ran { (env : Environment) → Ran H.world host.old host.new
         (λ es. LeadsAfterPrompt env session.old reader.old es (next_state session.new reader.new result)) }
-    ensures fall { NeverFall (H.world.counts host.old) (H.world.counts host.new) }
     ensures cause { Caused (H.world.counts host.old) (H.world.counts host.new) result }
     ensures progress { IfOk result (λ end. IfNone end (left reader.new < left reader.old)) }
     ensures plain { IfOk result (λ end. IfSome end IsEnd) }
@@ -123,7 +120,6 @@ fn one_line<H: Host>(
     requires { AsksNext session.old }
     ensures ran { (env : Environment) → Ran H.world host.old host.new
         (λ es. LeadsTo env (Reading session.old reader.old) es (next_state session.new reader.new result)) }
-    ensures fall { NeverFall (H.world.counts host.old) (H.world.counts host.new) }
     ensures cause { Caused (H.world.counts host.old) (H.world.counts host.new) result }
     ensures progress { IfOk result (λ end. IfNone end (left reader.new < left reader.old)) }
     ensures plain { IfOk result (λ end. IfSome end IsEnd) }
@@ -162,7 +158,6 @@ fn line_or_end<H: Host>(
 ) -> Result<Option<Status>, Stop>
     ensures ran { (env : Environment) → Ran H.world host.old host.new
         (λ es. LeadsTo env (Reading session.old reader.old) es (next_state session.new reader.new result)) }
-    ensures fall { NeverFall (H.world.counts host.old) (H.world.counts host.new) }
     ensures cause { Caused (H.world.counts host.old) (H.world.counts host.new) result }
     ensures progress { IfOk result (λ end. IfNone end (left reader.new < left reader.old)) }
     ensures plain { IfOk result (λ end. IfSome end IsEnd) }

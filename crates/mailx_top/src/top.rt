@@ -8,6 +8,7 @@ ghost use Rattle.session_play.specs.Play.{Play, Loop, Caused};
 ghost use Rattle.mailx_vars.specs.Environment.{knows_user};
 ghost use Rattle.mailx_top.specs.Meaning.{round, first_of, actor_in, files_with, prepared, Recovering, Preparing, Opening};
 ghost use Rattle.mailx_top.specs.Openings.{OpensBadly};
+ghost use Rattle.mailx_top.specs.Complete.{IsStill, IsComplete};
 ghost use Rattle.mailx_top.specs.Runs.{IsRun, SaysLast, SaysAtEnd};
 ghost use Rattle.mailx_top.specs.Ends.{ended_as};
 ghost use Rattle.mailx_top.specs.Statuses.{line_at_stop, line_at_end, not_a_record};
@@ -320,6 +321,11 @@ pub fn run<H: Host>(alloc: Global, words: &[Text], env: &Environment, host: &mut
     // The usage is answered exactly when the words or the environment are refused.
     ensures usage_only { result ≡ Status.Usage → start_of (asked words.now) env.now.pairs ≡ None }
     ensures usage_always { start_of (asked words.now) env.now.pairs ≡ None → IsOrCut Status.Usage result }
+    // If no fault is counted, and nothing stands in the way of what the words and lines mean, the run ends as they
+    // mean it, or memory ran out.
+    ensures complete { (start_of (asked words.now) env.now.pairs ≡ None → ⊥)
+        → IsStill (H.world.counts host.old) (H.world.counts host.new)
+        → (es : List Event) → IsComplete (asked words.now) env.now result es }
     // A folder whose word stands for no file, or for a name that no file can have, is none, whatever the host tells,
     // if no start-up file is read.
     ensures bad_name { IsBadName env.now (start_of (asked words.now) env.now.pairs) → IsUnopened result }

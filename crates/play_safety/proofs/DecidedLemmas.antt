@@ -1,10 +1,10 @@
 -- Each commit that was answered as done is decided in its own stretch, which holds no output, and one that was refused is not.
-use Rattle.std.proofs.Common.{◌≡◌, ℕ, ◌<◌, ◌^◌, List, [], ◌++◌, length, refl, ap, subst, inl, inr, append-nil}
+use Rattle.std.proofs.Common.{◌≡◌, ℕ, ◌<◌, ◌^◌, List, [], ◌++◌, length, refl, ap, sym, subst, inl, inr, append-nil}
 use Rattle.std.specs.declared.result.Result.{Result}
 use Rattle.std.specs.declared.result.Result.TheVariants.{Ok, Err}
 use Rattle.host_port.specs.declared.event.Event.{Event}
 use Rattle.host_port.specs.Disk.{Disk, disk}
-use Rattle.host_port.specs.Own.{own}
+use Rattle.host_port.specs.Own.{own, OnlyLooks}
 use Rattle.host_port.specs.Ran.{Honest}
 use Rattle.commit_machine.specs.Settled.{Files, Locks}
 use Rattle.commit_machine.specs.Jobs.{Edit}
@@ -13,29 +13,32 @@ use Rattle.commit_machine.specs.Due.{settled_files, settled_locks}
 use Rattle.commit_machine.specs.Rows.{first_job, run_files, run_locks}
 use Rattle.commit_machine.proofs.runs.Ends.{lawful_front}
 use Rattle.folder_commit.specs.declared.error.CommitError.TheVariants as error
-use Rattle.session_play.specs.declared.changing.Committed.{Committed}
+use Rattle.session_play.specs.declared.changing.Attempt.{Attempt}
+use Rattle.session_play.specs.declared.changing.Attempt.TheVariants.{Made, Misnamed}
 use Rattle.session_play.specs.declared.changing.Committed.TheVariants as committed
 use Rattle.session_play.specs.declared.stop.Stop.{Stop}
 use Rattle.session_play.specs.Acts.{AllEnds}
 use Rattle.session_play.specs.Committing.{Commit}
 use Rattle.session_play.specs.Play.{Act, Answer, Changes, Play, Ret, Ask, Did, Next, Go, Last, Line, Say, Read, Try, Recover, Child, Now, Know}
-use Rattle.play_safety.specs.Passes.{accepted_by, Commits, Passes, PassesAll, again, last, cut}
+use Rattle.play_safety.specs.Passes.{job_of, accepted_by, Commits, Passes, PassesAll, again, last, cut}
 use Rattle.play_safety.specs.Safe.{IsBy, OfCommit, EachCommit, NextKeeps, MayRun, queue_of, queue, IsDecidedAs, OfAnswer, AnswersAreDecided, AllAnswersAreDecided, DoneIsDecided}
 use Rattle.commit_machine.proofs.runs.OneJob.{Stands, after-piece, honest-back}
 use Rattle.play_safety.proofs.SafeLemmas.{passed-as, act-answered, play-passed, passes-ends, honest-front, lawful-back}
+use Rattle.play_safety.proofs.TraceLemmas.{looks-undecided}
 use Rattle.play_safety.proofs.LawLemmas.{done-decided, refused-decided}
 
 module _ (actor : List ℕ) (token : ℕ) (fits : token < 2 ^ 64) where
   may-run : (d : Disk) (files : Files) (owners : Locks) (es : List Event) → Stands actor token d files owners → Honest d es → OthersAreLawful actor token d es → MayRun actor token d es
   may-run d files owners es s honest lawful = record { fits = fits; fresh = s.fresh; sound = s.sound; honest = honest; lawful = lawful }
 
-  commit-decided : (c : Commit) (a : Committed) (d : Disk) (es : List Event) → IsBy actor token c → MayRun actor token d es → Did (Changes c) a (own es) → IsDecidedAs c a d es
-  commit-decided c committed.Done d es by may did = λ some. done-decided c actor token d es by may some did
-  commit-decided c (committed.Busy name) d es by may did = refused-decided (error.Busy name) c actor token d es by may did
-  commit-decided c committed.NotARecord d es by may did = refused-decided error.Record c actor token d es by may did
-  commit-decided c (committed.Changed name at) d es by may did = refused-decided (error.Changed name at) c actor token d es by may did
-  commit-decided c (committed.TooLarge name n) d es by may did = refused-decided (error.TooLarge name n) c actor token d es by may did
-  commit-decided c (committed.TooManyNames n) d es by may did = refused-decided (error.TooManyNames n) c actor token d es by may did
+  commit-decided : (c : Commit) (a : Attempt) (d : Disk) (es : List Event) → IsBy actor token c → MayRun actor token d es → Did (Changes c) a (own es) → IsDecidedAs c a d es
+  commit-decided c (Made committed.Done) d es by may did = λ some. done-decided c actor token d es by may some did
+  commit-decided c (Made (committed.Busy name)) d es by may (well, did) = refused-decided (error.Busy name) c actor token d es by may well did
+  commit-decided c (Made committed.NotARecord) d es by may (well, did) = refused-decided error.Record c actor token d es by may well did
+  commit-decided c (Made (committed.Changed name at)) d es by may (well, did) = refused-decided (error.Changed name at) c actor token d es by may well did
+  commit-decided c (Made (committed.TooLarge name n)) d es by may (well, did) = refused-decided (error.TooLarge name n) c actor token d es by may well did
+  commit-decided c (Made (committed.TooManyNames n)) d es by may (well, did) = refused-decided (error.TooManyNames n) c actor token d es by may well did
+  commit-decided c (Misnamed name fault) d es by may (is, none) = looks-undecided (job_of c) es d 0 (subst OnlyLooks (sym none) tt)
 
   act-decided : (act : Act) (a : Answer act) (d : Disk) (es : List Event) → OfCommit (IsBy actor token) act → MayRun actor token d es → Did act a (own es) → OfAnswer act a d es
   act-decided (Changes c) a d es by may did = commit-decided c a d es by may did

@@ -40,7 +40,9 @@ use Rattle.folder_commit.proofs.TellLemmas.{alike}
 use Rattle.session_play.specs.declared.stop.Stop.{Stop}
 use Rattle.session_play.specs.declared.stop.Stop.TheVariants as stop
 use Rattle.session_play.specs.Acts.{AllEnds}
-use Rattle.session_play.specs.Committing.{Commit, answer_as}
+use Rattle.session_play.specs.declared.changing.Attempt.TheVariants.{Made, Misnamed}
+use Rattle.session_play.specs.Committing.{Commit, answer_as, first_misnamed}
+use Rattle.session_play.proofs.NamingLemmas.{named-files}
 use Rattle.session_play.specs.Play.{Act, Answer, Changes, Play, Ret, Ask, Did, Partly, Next, Go, Last, Line, Say, Read, Try, Recover, Child, Now, Know}
 use Rattle.play_safety.specs.Passes.{decided_in, accepted_by, pending_by, Commits, Passes, PassesAll, again, last, cut}
 use Rattle.play_safety.specs.Safe.{IsBy, OfCommit, EachCommit, NextKeeps, MayRun, queue_of, queue}
@@ -168,21 +170,23 @@ module _ (actor : List ℕ) (token : ℕ) (fits : token < 2 ^ 64) where
   may-run d files owners es s honest lawful = record { fits = fits; fresh = s.fresh; sound = s.sound; honest = honest; lawful = lawful }
 
   -- what an answered or a cut commit's events carry out
-  changes-fit : (c : Commit) (d : Disk) (es : List Event) (answer : Result Unit CommitError) → IsBy actor token c → MayRun actor token d es → decisions any d 0 es ≡ length (accepted_by (Changes c) d es)
+  changes-fit : (c : Commit) (d : Disk) (es : List Event) (answer : Result Unit CommitError) → first_misnamed actor c.changes ≡ None → MayRun actor token d es → decisions any d 0 es ≡ length (accepted_by (Changes c) d es)
       → IsCommit actor token c.changes c.base (own es) answer → Fits (Changes c) d es
-  changes-fit c d es answer by may count h a b e at y =
+  changes-fit c d es answer well may count h a b e at y =
       let o = once c d es count a b e at y in
-      (c, o.0, o.1, commit-fits c.changes c.base d es answer by.files may h a b e at y)
+      (c, o.0, o.1, commit-fits c.changes c.base d es answer (named-files actor c.changes well) may h a b e at y)
 
   undecided-fit : (act : Act) (d : Disk) (es : List Event) → decisions any d 0 es ≡ 0 → Fits act d es
   undecided-fit act d es none a b e at y = absurd (none-here es a b e d none at y)
 
   act-fits : (act : Act) (answer : Answer act) (d : Disk) (files : Files) (owners : Locks) (es : List Event) → OfCommit (IsBy actor token) act → Stands actor token d files owners → Honest d es → OthersAreLawful actor token d es
       → Did act answer (own es) → Fits act d es
-  act-fits (Changes c) answer d files owners es by s honest lawful did =
-      let x = act-answered actor token fits (Changes c) answer d files owners es [] by s honest lawful did in
-      let P : Commit → Type 0 = λ c. Did (Changes c) answer (own es) in
-      changes-fit c d es (answer_as answer) by (may-run d files owners es s honest lawful) x.count (subst P (same-commit actor token fits c by) did)
+  act-fits (Changes c) (Made answer) d files owners es by s honest lawful did =
+      let x = act-answered actor token fits (Changes c) (Made answer) d files owners es [] by s honest lawful did in
+      let P : Commit → Type 0 = λ c. Did (Changes c) (Made answer) (own es) in
+      let mine = subst P (same-commit actor token fits c by) did in
+      changes-fit c d es (answer_as answer) mine.0 (may-run d files owners es s honest lawful) x.count mine.1
+  act-fits (Changes c) (Misnamed name fault) d files owners es by s honest lawful (is, none) = λ a b e at y. absurd (no-own es a b e d none at y)
   act-fits (Line i) answer d files owners es by s honest lawful did = undecided-fit (Line i) d es ((act-answered actor token fits (Line i) answer d files owners es [] by s honest lawful did).count)
   act-fits (Say bytes) answer d files owners es by s honest lawful did = undecided-fit (Say bytes) d es ((act-answered actor token fits (Say bytes) answer d files owners es [] by s honest lawful did).count)
   act-fits (Read name) answer d files owners es by s honest lawful did = undecided-fit (Read name) d es ((act-answered actor token fits (Read name) answer d files owners es [] by s honest lawful did).count)
@@ -192,20 +196,20 @@ module _ (actor : List ℕ) (token : ℕ) (fits : token < 2 ^ 64) where
   act-fits (Know texts) answer d files owners es by s honest lawful did = undecided-fit (Know texts) d es ((act-answered actor token fits (Know texts) answer d files owners es [] by s honest lawful did).count)
   act-fits (Recover o t) answer d files owners es by s honest lawful did = undecided-fit (Recover o t) d es ((act-answered actor token fits (Recover o t) answer d files owners es [] by s honest lawful did).count)
 
-  partly-fits : (c : Commit) (cause : Stop) (d : Disk) (es : List Event) → IsBy actor token c → MayRun actor token d es → decisions any d 0 es ≡ length (accepted_by (Changes c) d es)
+  partly-fits : (c : Commit) (cause : Stop) (d : Disk) (es : List Event) → MayRun actor token d es → decisions any d 0 es ≡ length (accepted_by (Changes c) d es)
       → Partly (Changes (own_commit actor token fits c.changes c.base)) cause (own es) → Fits (Changes c) d es
-  partly-fits c stop.Disk d es by may count (passed, h) = changes-fit c d es (Err (error.Disk passed)) by may count h
-  partly-fits c stop.Memory d es by may count h = changes-fit c d es (Err error.Memory) by may count h
-  partly-fits c stop.Input d es by may count never = absurd never
-  partly-fits c stop.Output d es by may count never = absurd never
-  partly-fits c stop.TooMuch d es by may count never = absurd never
+  partly-fits c stop.Disk d es may count (well, (passed, h)) = changes-fit c d es (Err (error.Disk passed)) well may count h
+  partly-fits c stop.Memory d es may count (well, h) = changes-fit c d es (Err error.Memory) well may count h
+  partly-fits c stop.Input d es may count never = absurd never
+  partly-fits c stop.Output d es may count never = absurd never
+  partly-fits c stop.TooMuch d es may count never = absurd never
 
   stopped-fits : (c : Commit) (cause : Stop) (d : Disk) (es : List Event) → IsBy actor token c → MayRun actor token d es → decisions any d 0 es ≡ length (accepted_by (Changes c) d es)
       → IsCutSo actor token fits (Changes c) cause (own es) → Fits (Changes c) d es
   stopped-fits c cause d es by may count (inl none) = λ a b e at y. absurd (no-own es a b e d none.1 at y)
   stopped-fits c cause d es by may count (inr part) =
       let P : Commit → Type 0 = λ c. Partly (Changes c) cause (own es) in
-      partly-fits c cause d es by may count (subst P (same-commit actor token fits c by) part)
+      partly-fits c cause d es may count (subst P (same-commit actor token fits c by) part)
 
   cut-fits : (act : Act) (cause : Stop) (d : Disk) (files : Files) (owners : Locks) (es : List Event) → OfCommit (IsBy actor token) act → Stands actor token d files owners → Honest d es → OthersAreLawful actor token d es
       → IsCutSo actor token fits act cause (own es) → Fits act d es

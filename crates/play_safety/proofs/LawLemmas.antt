@@ -31,10 +31,12 @@ use Rattle.folder_commit.specs.declared.error.CommitError.TheVariants as error
 use Rattle.folder_commit.specs.Safe.{DecidedSo}
 use Rattle.folder_commit.proofs.SafeLemmas.{decided-so}
 use Rattle.folder_commit.proofs.PlanLemmas.{is-job}
+use Rattle.session_play.specs.declared.changing.Attempt.TheVariants.{Made}
 use Rattle.session_play.specs.declared.changing.Committed.TheVariants as committed
+use Rattle.session_play.proofs.NamingLemmas.{named-files}
 use Rattle.session_play.specs.declared.stop.Stop.{Stop}
 use Rattle.session_play.specs.Acts.{AllActs, AllEnds, is_neutral}
-use Rattle.session_play.specs.Committing.{Commit, IsCommitOf}
+use Rattle.session_play.specs.Committing.{Commit, IsCommitOf, IsWellNamed}
 use Rattle.session_play.specs.Play.{Act, Changes, Play, Ret, Ask, Did, Partly, Goes, Next, Go, Last, Loop, Line, Say, Read, Try, Recover, Child, Now, Know}
 use Rattle.session_play.specs.Play as plays
 use Rattle.play_safety.specs.Passes.{decided_in, accepted_by, Commits, no_commits, behind, at_cut, Passes, PassesAll, again, last, cut}
@@ -212,17 +214,17 @@ same-commit c actor token by =
 
 -- a commit that is answered as done is decided in its events, which hold no output
 pub done-decided : (c : Commit) (actor : List ℕ) (token : ℕ) (d : Disk) (es : List Event) → IsBy actor token c → MayRun actor token d es → 0 < length c.changes
-    → Did (Changes c) committed.Done (own es) → (decided_in c d es ≡ 1) × (list_any is_output es ≡ false)
+    → Did (Changes c) (Made committed.Done) (own es) → (decided_in c d es ≡ 1) × (list_any is_output es ≡ false)
 done-decided c actor token d es by may some did =
-    let P : Commit → Type 0 = λ c. Did (Changes c) committed.Done (own es) → (decided_in c d es ≡ 1) × (list_any is_output es ≡ false) in
-    subst P (sym (same-commit c actor token by)) (λ h. done-of c.changes c.base actor token d es by.files may some h) did
+    let P : Commit → Type 0 = λ c. Did (Changes c) (Made committed.Done) (own es) → (decided_in c d es ≡ 1) × (list_any is_output es ≡ false) in
+    subst P (sym (same-commit c actor token by)) (λ h. done-of c.changes c.base actor token d es (named-files actor c.changes h.0) may some h.1) did
 
 -- a commit that fails is decided as often as its answer says
 pub refused-decided : (why : CommitError) (c : Commit) (actor : List ℕ) (token : ℕ) (d : Disk) (es : List Event) → IsBy actor token c → MayRun actor token d es
-    → IsCommitOf c (own es) (failed why) → DecidedSo (failed why) (decided_in c d es)
-refused-decided why c actor token d es by may did =
-    let P : Commit → Type 0 = λ c. IsCommitOf c (own es) (failed why) → DecidedSo (failed why) (decided_in c d es) in
-    subst P (sym (same-commit c actor token by)) (λ h. refused-of why c.changes c.base actor token d es by.files may h) did
+    → IsWellNamed c → IsCommitOf c (own es) (failed why) → DecidedSo (failed why) (decided_in c d es)
+refused-decided why c actor token d es by may well did =
+    let P : Commit → Type 0 = λ c. IsWellNamed c → IsCommitOf c (own es) (failed why) → DecidedSo (failed why) (decided_in c d es) in
+    subst P (sym (same-commit c actor token by)) (λ w h. refused-of why c.changes c.base actor token d es (named-files actor c.changes w) may h) well did
 
 -- acts that change nothing make no commit
 neutral-commit : (P : Commit → Type 0) (act : Act) → is_neutral act ≡ true → OfCommit P act

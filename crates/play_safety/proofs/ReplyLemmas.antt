@@ -13,7 +13,8 @@ use Rattle.commit_machine.specs.Laws.{decisions}
 use Rattle.commit_machine.proofs.runs.OneJob.{counted-no}
 use Rattle.session_play.specs.declared.stop.Stop.{Stop}
 use Rattle.session_play.specs.Committing.{Commit}
-use Rattle.session_play.specs.declared.changing.Committed.{Committed}
+use Rattle.session_play.specs.declared.changing.Attempt.{Attempt}
+use Rattle.session_play.specs.declared.changing.Attempt.TheVariants.{Made, Misnamed}
 use Rattle.session_play.specs.declared.changing.Committed.TheVariants as committed
 use Rattle.session_play.specs.Play.{Act, Answer, Changes, Play, Ret, Ask, Next, Go, Last, Line, Say, Read, Try, Recover, Child, Now, Know}
 use Rattle.play_safety.specs.Passes.{job_of, Commits, Passes, PassesAll, again, last, cut}
@@ -55,15 +56,16 @@ decided-before c d own later before rest bytes failed one silent (inr (between, 
       decides = f.4;
     }
 
-said-after : (c : Commit) (a : Committed) (d : Disk) (own later : List Event) → IsDecidedAs c a d own → IsSaidAfter c a d own later
-said-after c committed.Done d own later decided = λ some before rest bytes failed is.
+said-after : (c : Commit) (a : Attempt) (d : Disk) (own later : List Event) → IsDecidedAs c a d own → IsSaidAfter c a d own later
+said-after c (Made committed.Done) d own later decided = λ some before rest bytes failed is.
     let both = decided some in
     decided-before c d own later before rest bytes failed both.0 both.1 (stands-in own later before (Out bytes failed) rest is)
-said-after c (committed.Busy name) d own later decided = tt
-said-after c committed.NotARecord d own later decided = tt
-said-after c (committed.Changed name at) d own later decided = tt
-said-after c (committed.TooLarge name length) d own later decided = tt
-said-after c (committed.TooManyNames count) d own later decided = tt
+said-after c (Made (committed.Busy name)) d own later decided = tt
+said-after c (Made committed.NotARecord) d own later decided = tt
+said-after c (Made (committed.Changed name at)) d own later decided = tt
+said-after c (Made (committed.TooLarge name length)) d own later decided = tt
+said-after c (Made (committed.TooManyNames count)) d own later decided = tt
+said-after c (Misnamed name fault) d own later decided = tt
 
 reply-of : (act : Act) (a : Answer act) (d : Disk) (own later : List Event) → OfAnswer act a d own → OfReply act a d own later
 reply-of (Changes c) a d own later decided = said-after c a d own later decided

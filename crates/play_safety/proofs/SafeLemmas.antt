@@ -37,6 +37,8 @@ use Rattle.folder_commit.specs.Ends.{AnswersAs}
 use Rattle.folder_commit.specs.Plans.{AreFiles}
 use Rattle.folder_commit.proofs.PlanLemmas.{is-job}
 use Rattle.folder_commit.proofs.ToldLemmas.{tells-faults}
+use Rattle.session_play.specs.declared.changing.Attempt.{Attempt}
+use Rattle.session_play.specs.declared.changing.Attempt.TheVariants.{Made, Misnamed}
 use Rattle.session_play.specs.declared.changing.Committed.{Committed}
 use Rattle.session_play.specs.declared.changing.Committed.TheVariants as committed
 use Rattle.session_play.specs.declared.stop.Stop.{Stop}
@@ -49,6 +51,7 @@ use Rattle.session_play.specs.Acts.{is_neutral, AllEnds}
 use Rattle.session_play.proofs.ShapeLemmas.{came-same}
 use Rattle.session_play.specs.Play.{Act, Answer, Line, Say, Read, Try, Changes, Recover, Child, Now, Know, Play, Ret, Ask, Did, Partly, Next, Go, Last}
 use Rattle.session_play.proofs.CommitLemmas.{answer-fine}
+use Rattle.session_play.proofs.NamingLemmas.{named-files}
 use Rattle.session_play.proofs.LooksLemmas.{neutral-did, neutral-part}
 use Rattle.play_safety.specs.Passes.{decided_in, accepted_by, Commits, behind, at_cut, Passes, PassesAll, again, last, cut}
 use Rattle.play_safety.specs.Safe.{IsBy, OfCommit, EachCommit, queue_of, queue, IsCalm, NextKeeps}
@@ -127,7 +130,7 @@ module _ (actor : List ℕ) (token : ℕ) where
       }
 
   module _ (cs : List Change) (base : List (List ℕ)) (d : Disk) (files : Files) (owners : Locks) (es : List Event)
-      (fits : token < 2 ^ 64) (are : AreFiles actor cs) (s : Stands actor token d files owners) (honest : Honest d es) (lawful : OthersAreLawful actor token d es) where
+      (fits : token < 2 ^ 64) (s : Stands actor token d files owners) (honest : Honest d es) (lawful : OthersAreLawful actor token d es) where
     abbrev commit : Commit
     commit = record { actor = actor; token = token; changes = cs; base = base }
 
@@ -276,22 +279,27 @@ module _ (actor : List ℕ) (token : ℕ) where
 
     commit-answered : (cs : List Change) (base : List (List ℕ)) (d : Disk) (files : Files) (owners : Locks) (es : List Event) → AreFiles actor cs → Stands actor token d files owners → Honest d es → OthersAreLawful actor token d es
         → (a : Committed) (more : List (List Edit)) → IsCommit actor token cs base (own es) (answer_as a) → Answered (Changes (own_commit cs base)) d files owners es more
-    commit-answered [] base d files owners es are s honest lawful a more h = answered-none [] base d files owners es fits are s honest lawful more h.0
-    commit-answered (c ∷ cs) base d files owners es are s honest lawful a more (inl many) = answered-none (c ∷ cs) base d files owners es fits are s honest lawful more many.1.0
+    commit-answered [] base d files owners es are s honest lawful a more h = answered-none [] base d files owners es fits s honest lawful more h.0
+    commit-answered (c ∷ cs) base d files owners es are s honest lawful a more (inl many) = answered-none (c ∷ cs) base d files owners es fits s honest lawful more many.1.0
     commit-answered (c ∷ cs) base d files owners es are s honest lawful a more (inr (few_names, h)) =
         let j : IsJob (job_for actor token (c ∷ cs) base) = is-job actor token (c ∷ cs) base fits are (omega arith) few_names in
-        answered-so (c ∷ cs) base d files owners es fits are s honest lawful more h.end j h.goes (end-fine a (all_of (job_for actor token (c ∷ cs) base)) h.end h.is_as) (tells-faults (job_for actor token (c ∷ cs) base) (own es) (answer_as a) h ∙ answer-fine a)
-        (few (c ∷ cs) base d files owners es fits are s honest lawful h.end j h.goes)
+        answered-so (c ∷ cs) base d files owners es fits s honest lawful more h.end j h.goes (end-fine a (all_of (job_for actor token (c ∷ cs) base)) h.end h.is_as) (tells-faults (job_for actor token (c ∷ cs) base) (own es) (answer_as a) h ∙ answer-fine a)
+        (few (c ∷ cs) base d files owners es fits s honest lawful h.end j h.goes)
 
     commit-cut : (calm : Type 0) (cs : List Change) (base : List (List ℕ)) (d : Disk) (files : Files) (owners : Locks) (es : List Event) → AreFiles actor cs → Stands actor token d files owners → Honest d es → OthersAreLawful actor token d es
         → (answer : Result Unit CommitError) (more : List (List Edit)) → ((names : List (List ℕ)) (end : Ending) → AnswersAs names answer end → calm → MetNoFault end)
         → IsCommit actor token cs base (own es) answer → CutOff calm (Changes (own_commit cs base)) d files owners es more
-    commit-cut calm [] base d files owners es are s honest lawful answer more fine h = cut-none [] base d files owners es fits are s honest lawful more h.0
-    commit-cut calm (c ∷ cs) base d files owners es are s honest lawful answer more fine (inl many) = cut-none (c ∷ cs) base d files owners es fits are s honest lawful more many.1.0
+    commit-cut calm [] base d files owners es are s honest lawful answer more fine h = cut-none [] base d files owners es fits s honest lawful more h.0
+    commit-cut calm (c ∷ cs) base d files owners es are s honest lawful answer more fine (inl many) = cut-none (c ∷ cs) base d files owners es fits s honest lawful more many.1.0
     commit-cut calm (c ∷ cs) base d files owners es are s honest lawful answer more fine (inr (few_names, h)) =
         let j : IsJob (job_for actor token (c ∷ cs) base) = is-job actor token (c ∷ cs) base fits are (omega arith) few_names in
-        cut-so (c ∷ cs) base d files owners es fits are s honest lawful more h.end j h.goes (fine (all_of (job_for actor token (c ∷ cs) base)) h.end h.is_as)
-        (few (c ∷ cs) base d files owners es fits are s honest lawful h.end j h.goes)
+        cut-so (c ∷ cs) base d files owners es fits s honest lawful more h.end j h.goes (fine (all_of (job_for actor token (c ∷ cs) base)) h.end h.is_as)
+        (few (c ∷ cs) base d files owners es fits s honest lawful h.end j h.goes)
+
+    commit-attempted : (cs : List Change) (base : List (List ℕ)) (d : Disk) (files : Files) (owners : Locks) (es : List Event) → Stands actor token d files owners → Honest d es → OthersAreLawful actor token d es
+        → (a : Attempt) (more : List (List Edit)) → Did (Changes (own_commit cs base)) a (own es) → Answered (Changes (own_commit cs base)) d files owners es more
+    commit-attempted cs base d files owners es s honest lawful (Made a) more (well, h) = commit-answered cs base d files owners es (named-files actor cs well) s honest lawful a more h
+    commit-attempted cs base d files owners es s honest lawful (Misnamed name fault) more (is, none) = answered-none cs base d files owners es fits s honest lawful more none
 
     pub same-commit : (c : Commit) → IsBy actor token c → c ≡ own_commit c.changes c.base
     same-commit c by =
@@ -309,7 +317,7 @@ module _ (actor : List ℕ) (token : ℕ) where
     act-answered (Know texts) a d files owners es more by s honest lawful did = looks-passed d more files owners es s (neutral-did (Know texts) a (own es) refl did) lawful
     act-answered (Changes c) a d files owners es more by s honest lawful did =
         let P : Commit → Type 0 = λ c. Did (Changes c) a (own es) → Answered (Changes c) d files owners es more in
-        subst P (sym (same-commit c by)) (λ h. commit-answered c.changes c.base d files owners es by.files s honest lawful a more h) did
+        subst P (sym (same-commit c by)) (λ h. commit-attempted c.changes c.base d files owners es s honest lawful a more h) did
     act-answered (Recover b t) a d files owners es more by s honest lawful did =
         let P : List ℕ → ℕ → Type 0 = λ b t. IsRecoveryOf b t (own es) (recovery_as a) in
         recovery-answered d files owners es fits s honest lawful a more (subst (P actor) by.token_is (subst (λ (b : List ℕ). P b t) by.actor_is did))
@@ -332,17 +340,17 @@ module _ (actor : List ℕ) (token : ℕ) where
 
     commit-cut-by : (c : Commit) (cause : Stop) (d : Disk) (files : Files) (owners : Locks) (es : List Event) (more : List (List Edit)) → IsBy actor token c → Stands actor token d files owners → Honest d es → OthersAreLawful actor token d es
         → Partly (Changes (own_commit c.changes c.base)) cause (own es) → CutOff (calm_at cause) (Changes (own_commit c.changes c.base)) d files owners es more
-    commit-cut-by c stop.Disk d files owners es more by s honest lawful (passed, h) =
-        commit-cut ⊥ c.changes c.base d files owners es by.files s honest lawful (Err (error.Disk passed)) more (λ names end is never. absurd never) h
-    commit-cut-by c stop.Memory d files owners es more by s honest lawful h =
-        commit-cut (Unit {0}) c.changes c.base d files owners es by.files s honest lawful (Err error.Memory) more (λ names end is calm. memory-fine names end is) h
+    commit-cut-by c stop.Disk d files owners es more by s honest lawful (well, (passed, h)) =
+        commit-cut ⊥ c.changes c.base d files owners es (named-files actor c.changes well) s honest lawful (Err (error.Disk passed)) more (λ names end is never. absurd never) h
+    commit-cut-by c stop.Memory d files owners es more by s honest lawful (well, h) =
+        commit-cut (Unit {0}) c.changes c.base d files owners es (named-files actor c.changes well) s honest lawful (Err error.Memory) more (λ names end is calm. memory-fine names end is) h
     commit-cut-by c stop.Input d files owners es more by s honest lawful never = absurd never
     commit-cut-by c stop.Output d files owners es more by s honest lawful never = absurd never
     commit-cut-by c stop.TooMuch d files owners es more by s honest lawful never = absurd never
 
     commit-stopped : (c : Commit) (cause : Stop) (d : Disk) (files : Files) (owners : Locks) (es : List Event) (more : List (List Edit)) → IsBy actor token c → Stands actor token d files owners → Honest d es → OthersAreLawful actor token d es
         → IsCutSo (Changes (own_commit c.changes c.base)) cause (own es) → CutOff (calm_at cause) (Changes (own_commit c.changes c.base)) d files owners es more
-    commit-stopped c cause d files owners es more by s honest lawful (inl none) = cut-none c.changes c.base d files owners es fits by.files s honest lawful more none.1
+    commit-stopped c cause d files owners es more by s honest lawful (inl none) = cut-none c.changes c.base d files owners es fits s honest lawful more none.1
     commit-stopped c cause d files owners es more by s honest lawful (inr part) = commit-cut-by c cause d files owners es more by s honest lawful part
 
     recovery-cut-by : (cause : Stop) (d : Disk) (files : Files) (owners : Locks) (es : List Event) (more : List (List Edit)) → Stands actor token d files owners → Honest d es → OthersAreLawful actor token d es

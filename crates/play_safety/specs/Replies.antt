@@ -9,7 +9,8 @@ use Rattle.host_port.specs.Disk.{Disk, disk}
 use Rattle.commit_machine.specs.Due.{is_decision}
 use Rattle.session_play.specs.declared.stop.Stop.{Stop}
 use Rattle.session_play.specs.Committing.{Commit}
-use Rattle.session_play.specs.declared.changing.Committed.{Committed}
+use Rattle.session_play.specs.declared.changing.Attempt.{Attempt}
+use Rattle.session_play.specs.declared.changing.Attempt.TheVariants.{Made}
 use Rattle.session_play.specs.declared.changing.Committed.TheVariants as committed
 use Rattle.session_play.specs.Play.{Act, Answer, Changes, Play, Ret, Ask, Next, Go, Last}
 use Rattle.play_safety.specs.Passes.{job_of, Commits, Passes, PassesAll, again, last, cut}
@@ -26,8 +27,8 @@ pub record IsDecidedIn (c : Commit) (d : Disk) (own all : List Event) : Type 0 w
   pub decides : is_decision (job_of c) decision (disk d front) ≡ true
 
 -- Of a commit with changes that is answered as done: before each output, in its own events and in the later ones, stands its decision.
-abbrev pub IsSaidAfter : Commit → Committed → Disk → List Event → List Event → Type 0
-IsSaidAfter c committed.Done d own later =
+abbrev pub IsSaidAfter : Commit → Attempt → Disk → List Event → List Event → Type 0
+IsSaidAfter c (Made committed.Done) d own later =
     0 < length c.changes → (before rest : List Event) (bytes : List ℕ) (failed : Bool) → own ++ later ≡ before ++ Out bytes failed ∷ rest → IsDecidedIn c d own before
 IsSaidAfter c refused d own later = Unit {0}
 

@@ -19,20 +19,19 @@ use Rattle.commit_machine.specs.Lawful.{IsSound, IsFresh, OthersAreLawful, stand
 use Rattle.commit_machine.specs.Due.{settled_files}
 use Rattle.commit_machine.specs.Laws.{in_flight, decisions}
 use Rattle.commit_machine.specs.Rows.{first_job, run_files, IsRunDue}
-use Rattle.folder_commit.specs.Plans.{AreFiles}
 use Rattle.session_play.specs.declared.stop.Stop.{Stop}
 use Rattle.session_play.specs.declared.stop.Stop.TheVariants as stop
 use Rattle.session_play.specs.Committing.{Commit, wanted_of}
-use Rattle.session_play.specs.declared.changing.Committed.{Committed}
+use Rattle.session_play.specs.declared.changing.Attempt.{Attempt}
+use Rattle.session_play.specs.declared.changing.Attempt.TheVariants.{Made}
 use Rattle.session_play.specs.declared.changing.Committed.TheVariants as committed
 use Rattle.session_play.specs.Play.{Act, Answer, Changes, Recover, Play, Ret, Ask, Goes, Next, Go, Last}
 use Rattle.play_safety.specs.Passes.{decided_in, Commits, Passes, PassesAll, again, last, cut}
 
--- a commit of this actor under this token, of files that it may change
+-- a commit of this actor under this token
 pub record IsBy (actor : List ℕ) (token : ℕ) (c : Commit) : Type 0 where
   pub actor_is : c.actor ≡ actor
   pub token_is : c.token ≡ token
-  pub files : AreFiles actor c.changes
 
 -- the event of an output
 abbrev pub is_output : Event → Bool
@@ -101,8 +100,8 @@ TracesAreRead = (p : Play (Unit {0})) (d : Disk) (es : List Event) (out : Result
 
 -- A commit that was answered as done is decided in these events, and they hold no output; without a change there is nothing to decide. One that
 -- was refused isn't decided in them. A recovery decides nothing.
-abbrev pub IsDecidedAs : Commit → Committed → Disk → List Event → Type 0
-IsDecidedAs c committed.Done d es = 0 < length c.changes → (decided_in c d es ≡ 1) × (list_any is_output es ≡ false)
+abbrev pub IsDecidedAs : Commit → Attempt → Disk → List Event → Type 0
+IsDecidedAs c (Made committed.Done) d es = 0 < length c.changes → (decided_in c d es ≡ 1) × (list_any is_output es ≡ false)
 IsDecidedAs c refused d es = decided_in c d es ≡ 0
 
 abbrev pub OfAnswer : (act : Act) → Answer act → Disk → List Event → Type 0

@@ -20,7 +20,7 @@ use Rattle.command_desk.specs.declared.steps.Ask as asked_of
 use Rattle.command_desk.specs.declared.steps.Ask.TheVariants as asks
 use Rattle.folder_change.specs.declared.change.Change.{Change}
 use Rattle.session_state.specs.Outcomes.{status_of}
-use Rattle.session_state.specs.Saving.{names_fault, saved}
+use Rattle.session_state.specs.Saving.{saved}
 use Rattle.session_asks.specs.Sourcing.{source_fault, sourced}
 use Rattle.draft_text.specs.declared.draft.Draft.{Draft}
 use Rattle.session_asks.specs.Beginning.{beginning, file_fault}
@@ -39,7 +39,7 @@ use Rattle.session_state.specs.Answers.{after_asks, in_play, stop_of, LineCaused
 pub asked-say : (s : SessionState) (ask : asked_of.Ask) (bytes : List ℕ) → ask ≡ asks.Say bytes → asked s ask ≡ Ask (Say bytes) (λ _. Ret (On s))
 asked-say s ask bytes is = ap (asked s) is
 
-pub asked-commit : (s : SessionState) (ask : asked_of.Ask) (changes : List Change) → ask ≡ asks.Commit changes → asked s ask ≡ saved s changes (names_fault s changes)
+pub asked-commit : (s : SessionState) (ask : asked_of.Ask) (changes : List Change) → ask ≡ asks.Commit changes → asked s ask ≡ saved s changes
 asked-commit s ask changes is = ap (asked s) is
 
 pub asked-source : (s : SessionState) (ask : asked_of.Ask) (name : List ℕ) → ask ≡ asks.Source name → asked s ask ≡ sourced s name (source_fault s name)

@@ -31,23 +31,22 @@ use Rattle.session_asks.specs.Openings.{opened, IsOpening}
 use Rattle.session_asks.specs.Switching.{open_fault, switched, laid_as, announced, switching, switched_to}
 use Rattle.session_asks.proofs.OpeningLemmas.{laid-is}
 
--- where nothing stands in the way of a load, neither the name nor those of the changes are at fault
-pub open-fault-none : (s : SessionState) (name : List ℕ) (changes : List Change) → open_fault s name changes ≡ None
-    → (is_short_name (placed s.here name) ≡ true) × (names_fault s changes ≡ None)
+-- where nothing stands in the way of a load the name isn't at fault
+pub open-fault-none : (s : SessionState) (name : List ℕ) (changes : List Change) → open_fault s name changes ≡ None → is_short_name (placed s.here name) ≡ true
 open-fault-none s name changes plain = go (is_short_name (placed s.here name)) (names_fault s changes) plain
   where
-    go : (short : Bool) (fault : Option (List ℕ)) → (if short then fault else Some (bad_name name)) ≡ None → (short ≡ true) × (fault ≡ None)
-    go true fault h = (refl, h)
+    go : (short : Bool) (fault : Option (List ℕ)) → (if short then fault else Some (bad_name name)) ≡ None → short ≡ true
+    go true fault h = refl
     go false fault h = absurd (cc h)
 
 -- where not all of the changes were committed, what that left stays
 pub announced-off : (s : SessionState) (changes : List Change) (reply : List ℕ) (desk : Desk) (r : Result Asked RunError) → all_done r ≡ false
-    → (es : List Event) → Goes (saved s changes None) es (in_play (after_asks s) r) → Goes (switching s changes reply desk) es (in_play (after_asks s) r)
+    → (es : List Event) → Goes (saved s changes) es (in_play (after_asks s) r) → Goes (switching s changes reply desk) es (in_play (after_asks s) r)
 announced-off s changes reply desk (Ok answered.On) off es went = absurd (cc off)
-announced-off s changes reply desk (Ok answered.Over) off es went = goes-as (saved s changes None) (announced reply desk) (Over s) (Over s) es refl went
-announced-off s changes reply desk (Ok (answered.Refused line)) off es went = goes-as (saved s changes None) (announced reply desk) (Refused line) (Refused line) es refl went
-announced-off s changes reply desk (Ok (answered.Ended e)) off es went = goes-as (saved s changes None) (announced reply desk) (Ended e) (Ended e) es refl went
-announced-off s changes reply desk (Err e) off es went = goes-cut (saved s changes None) (announced reply desk) (stop_of e) es went
+announced-off s changes reply desk (Ok answered.Over) off es went = goes-as (saved s changes) (announced reply desk) (Over s) (Over s) es refl went
+announced-off s changes reply desk (Ok (answered.Refused line)) off es went = goes-as (saved s changes) (announced reply desk) (Refused line) (Refused line) es refl went
+announced-off s changes reply desk (Ok (answered.Ended e)) off es went = goes-as (saved s changes) (announced reply desk) (Ended e) (Ended e) es refl went
+announced-off s changes reply desk (Err e) off es went = goes-cut (saved s changes) (announced reply desk) (stop_of e) es went
 
 -- the desk with what is to be put on it is the one that is opened
 laid-switched : (s : SessionState) (name bytes : List ℕ) (o : Opening) (previous : List ℕ) (is : IsOpening s name bytes o) → previous ≡ s.desk.folder.name

@@ -18,7 +18,7 @@ use Rattle.session_state.specs.States.{OnlyFrames}
 use Rattle.session_asks.specs.Beginning.{beginning, file_fault}
 use Rattle.session_state.specs.Outcomes.{status_of}
 use Rattle.session_asks.specs.Running.{run_asked}
-use Rattle.session_state.specs.Saving.{names_fault, saved}
+use Rattle.session_state.specs.Saving.{saved}
 use Rattle.session_asks.specs.Sourcing.{source_fault, sourced}
 use Rattle.session_asks.specs.Calling.{called}
 use Rattle.session_asks.specs.Switching.{open_fault, switches}
@@ -27,7 +27,7 @@ use Rattle.session_asks.specs.Viewing.{views}
 -- what is asked for, and what its answer leaves
 abbrev pub asked : SessionState → asked_of.Ask → Play (After SessionState Status)
 asked s (asks.Say bytes) = Ask (Say bytes) (λ _. Ret (On s))
-asked s (asks.Commit changes) = saved s changes (names_fault s changes)
+asked s (asks.Commit changes) = saved s changes
 asked s (asks.Source name) = sourced s name (source_fault s name)
 asked s (asks.Lines text) = Ret (called s text)
 asked s (asks.Open name changes reply) = switches s name changes reply (open_fault s name changes)

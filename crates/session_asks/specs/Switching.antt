@@ -60,7 +60,7 @@ announced reply desk (Ended e) = Ret (Ended e)
 
 -- the changes are committed
 abbrev pub switching : SessionState → List Change → List ℕ → Desk → Play (After SessionState Status)
-switching s changes reply desk = bind (saved s changes None) (announced reply desk)
+switching s changes reply desk = bind (saved s changes) (announced reply desk)
 
 -- what follows the load: the rows of the texts are known, or the load refuses the command
 abbrev pub switched_to : SessionState → List ℕ → List Change → List ℕ → OrFault (List ℕ) → Play (After SessionState Status)

@@ -1,7 +1,6 @@
 // What a command asks for, in order, up to an answer that refuses what follows or ends the run.
 ghost use Rattle.std.specs.Prelude.{◌≡◌, true, false, IfOk};
 ghost use Rattle.std.specs.List.{list_all, list_any};
-ghost use Rattle.host_port.specs.Calls.{NeverFall};
 ghost use Rattle.host_port.specs.Ran.{Ran};
 ghost use Rattle.session_play.specs.Play.{Say, Goes};
 ghost use Rattle.session_play.specs.Steps.{in_order};
@@ -21,7 +20,7 @@ use crate::viewing::view;
 use host_port::Host;
 use mail_text::Items;
 use read_commands::Ask as Wanted;
-use session_state::{Asked, RunError, SessionState, Status, save, say_line, status_of};
+use session_state::{Asked, RunError, SessionState, Status, commit, say_line, status_of};
 use std::alloc::Global;
 
 // Does one thing that is asked for. The state stays, but for the lines, the folder and the draft that this brings.
@@ -35,7 +34,6 @@ fn do_ask<H: Host>(
     requires { IsState state.old }
     ensures ran { Ran H.world host.old host.new
         (λ es. Goes (asked state.old ask) es (in_play (after_asks state.new) result)) }
-    ensures fall { NeverFall (H.world.counts host.old) (H.world.counts host.new) }
     ensures brings { OnlyBrings state.old state.new }
     ensures valid { IsState state.new }
     ensures desk { KeepsDesk state.old state.new result }
@@ -46,7 +44,7 @@ fn do_ask<H: Host>(
 {
     match ask {
         Wanted::Say(bytes) => say_line(host, &bytes),
-        Wanted::Commit { changes } => save(alloc, state, host, changes),
+        Wanted::Commit { changes } => commit(alloc, state, host, changes),
         Wanted::Source { name } => source(alloc, state, host, name.bytes()),
         Wanted::Lines { text } => call(alloc, state, &text),
         Wanted::Open {
@@ -85,7 +83,6 @@ fn ask_all<H: Host>(
     requires { IsState state.old }
     ensures ran { Ran H.world host.old host.new
         (λ es. Goes (in_order asked state.old asks) es (in_play (after_asks state.new) result)) }
-    ensures fall { NeverFall (H.world.counts host.old) (H.world.counts host.new) }
     ensures brings { OnlyBrings state.old state.new }
     ensures valid { IsState state.new }
     ensures desk { KeepsDesk state.old state.new result }
@@ -121,7 +118,6 @@ pub fn do_asks<H: Host>(
     requires { IsState state.old }
     ensures ran { Ran H.world host.old host.new
         (λ es. Goes (in_order asked state.old asks) es (in_play (after_asks state.new) result)) }
-    ensures fall { NeverFall (H.world.counts host.old) (H.world.counts host.new) }
     ensures brings { OnlyBrings state.old state.new }
     ensures valid { IsState state.new }
     ensures desk { KeepsDesk state.old state.new result }

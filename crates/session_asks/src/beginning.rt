@@ -1,6 +1,5 @@
 // A draft that begins.
 ghost use Rattle.std.specs.Prelude.{◌≡◌, None, Some, IfOk, OnOk};
-ghost use Rattle.host_port.specs.Calls.{NeverFall};
 ghost use Rattle.host_port.specs.Ran.{Ran};
 ghost use Rattle.session_play.specs.Play.{Play, Goes};
 ghost use Rattle.compose_tilde.specs.Views.{view_of, IsView};
@@ -65,7 +64,6 @@ fn begin_with<H: Host>(
     requires { IsState state.old }
     ensures ran { Ran H.world host.old host.new
         (λ es. Goes (begun_with state.old compose) es (in_play (after_asks state.new) result)) }
-    ensures fall { NeverFall (H.world.counts host.old) (H.world.counts host.new) }
     ensures brings { OnlyBrings state.old state.new }
     ensures valid { IsState state.new }
     ensures desk { KeepsDesk state.old state.new result }
@@ -93,7 +91,6 @@ pub(crate) fn begin<H: Host>(
     requires { IsState state.old }
     ensures ran { Ran H.world host.old host.new
         (λ es. Goes (begun state.old draft.now) es (in_play (after_asks state.new) result)) }
-    ensures fall { NeverFall (H.world.counts host.old) (H.world.counts host.new) }
     ensures brings { OnlyBrings state.old state.new }
     ensures valid { IsState state.new }
     ensures desk { KeepsDesk state.old state.new result }
@@ -189,7 +186,6 @@ fn begin_placed<H: Host>(
     requires { IsState state.old }
     ensures ran { Ran H.world host.old host.new
         (λ es. Goes (beginning state.old draft.now file.now current None) es (in_play (after_asks state.new) result)) }
-    ensures fall { NeverFall (H.world.counts host.old) (H.world.counts host.new) }
     ensures brings { OnlyBrings state.old state.new }
     ensures valid { IsState state.new }
     ensures desk { KeepsDesk state.old state.new result }
@@ -224,7 +220,6 @@ pub(crate) fn begin_recorded<H: Host>(
     ensures ran { Ran H.world host.old host.new
         (λ es. Goes (beginning state.old draft.now file.now current (file_fault state.old file.now)) es
         (in_play (after_asks state.new) result)) }
-    ensures fall { NeverFall (H.world.counts host.old) (H.world.counts host.new) }
     ensures brings { OnlyBrings state.old state.new }
     ensures valid { IsState state.new }
     ensures desk { KeepsDesk state.old state.new result }

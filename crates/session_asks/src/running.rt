@@ -1,6 +1,5 @@
 // Commands that the shell runs.
 ghost use Rattle.std.specs.Prelude.{◌≡◌, IfOk};
-ghost use Rattle.host_port.specs.Calls.{NeverFall};
 ghost use Rattle.host_port.specs.Ran.{Ran};
 ghost use Rattle.session_play.specs.Play.{Ask, Ret, Say, Goes};
 ghost use Rattle.compose_tilde.specs.Answering.{said_of};
@@ -36,7 +35,6 @@ pub fn by_shell<H: Host>(
 ) -> Result<Option<ChildAnswer>, RunError>
     ensures ran { Ran H.world host.old host.new
         (λ es. Goes (Ask (by_shell desk.now command.now input.now) Ret) es (in_play (λ a. a) result)) }
-    ensures fall { NeverFall (H.world.counts host.old) (H.world.counts host.new) }
     ensures cause { LineCaused (H.world.counts host.old) (H.world.counts host.new) result }
 {
     let args = match shell_args(alloc, command) {
@@ -53,7 +51,6 @@ pub fn by_shell<H: Host>(
 fn say_of<H: Host>(host: &mut H, child: ChildAnswer) -> Result<Asked, RunError>
     ensures ran { (s : SessionState) → Ran H.world host.old host.new
         (λ es. Goes (Ask (Say (said_of child)) (λ _. Ret (after_asks s Asked.On))) es (in_play (after_asks s) result)) }
-    ensures fall { NeverFall (H.world.counts host.old) (H.world.counts host.new) }
     ensures done { IfOk result EndsByAsk }
     ensures cause { LineCaused (H.world.counts host.old) (H.world.counts host.new) result }
 {
@@ -71,7 +68,6 @@ fn after_run<H: Host>(
 ) -> Result<Asked, RunError>
     ensures ran { (s : SessionState) → Ran H.world host.old host.new
         (λ es. Goes (after_run s answer) es (in_play (after_asks s) result)) }
-    ensures fall { NeverFall (H.world.counts host.old) (H.world.counts host.new) }
     ensures done { IfOk result EndsByAsk }
     ensures cause { LineCaused (H.world.counts host.old) (H.world.counts host.new) result }
 {
@@ -95,7 +91,6 @@ pub(crate) fn run_asked<H: Host>(
 ) -> Result<Asked, RunError>
     ensures ran { Ran H.world host.old host.new
         (λ es. Goes (run_asked state.now command.now input.now) es (in_play (after_asks state.now) result)) }
-    ensures fall { NeverFall (H.world.counts host.old) (H.world.counts host.new) }
     ensures done { IfOk result EndsByAsk }
     ensures cause { LineCaused (H.world.counts host.old) (H.world.counts host.new) result }
 {

@@ -1,6 +1,5 @@
 // A file whose lines a command brings.
 ghost use Rattle.std.specs.Prelude.{◌≡◌, ◌<◌, true, None, IfErr, IfOk};
-ghost use Rattle.host_port.specs.Calls.{NeverFall};
 ghost use Rattle.host_port.specs.Ran.{Ran};
 ghost use Rattle.session_play.specs.Play.{Play, Ask, Ret, Try, Goes};
 ghost use Rattle.session_state.specs.Bringing.{source_limit, sources, OnlyBrings};
@@ -74,7 +73,6 @@ fn load_file<H: Host>(
     ensures ran { Ran H.world host.old host.new
         (λ es. Goes (Ask (Try file.now) (λ a. Ret (after_load state.old name.now a))) es
         (in_play (after_asks state.new) result)) }
-    ensures fall { NeverFall (H.world.counts host.old) (H.world.counts host.new) }
     ensures brings { OnlyBrings state.old state.new }
     ensures desk { OnlyFrames state.old state.new }
     ensures goes_on { IfOk result EndsNoRun }
@@ -99,7 +97,6 @@ fn load_lines<H: Host>(
     requires { source_fault state.old name.now ≡ None }
     ensures ran { Ran H.world host.old host.new
         (λ es. Goes (sourced state.old name.now None) es (in_play (after_asks state.new) result)) }
-    ensures fall { NeverFall (H.world.counts host.old) (H.world.counts host.new) }
     ensures brings { OnlyBrings state.old state.new }
     ensures desk { OnlyFrames state.old state.new }
     ensures goes_on { IfOk result EndsNoRun }
@@ -121,7 +118,6 @@ pub(crate) fn source<H: Host>(
     ensures ran { Ran H.world host.old host.new
         (λ es. Goes (sourced state.old name.now (source_fault state.old name.now)) es
         (in_play (after_asks state.new) result)) }
-    ensures fall { NeverFall (H.world.counts host.old) (H.world.counts host.new) }
     ensures brings { OnlyBrings state.old state.new }
     ensures desk { OnlyFrames state.old state.new }
     ensures goes_on { IfOk result EndsNoRun }

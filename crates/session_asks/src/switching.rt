@@ -1,6 +1,6 @@
 // Another file, which is opened in place of the folder.
 ghost use Rattle.std.specs.Prelude.{◌≡◌, ◌++◌, ◌<◌, true, None, Ok, IfOk, IfSome};
-ghost use Rattle.host_port.specs.Calls.{Counts, NeverFall};
+ghost use Rattle.host_port.specs.Calls.{Counts};
 ghost use Rattle.host_port.specs.Ran.{Ran};
 ghost use Rattle.session_play.specs.Play.{Play, Ask, Ret, Say, Try, Goes};
 ghost use Rattle.session_play.specs.Steps.{On};
@@ -9,7 +9,6 @@ ghost use Rattle.command_desk.specs.Desks.{IsDesk};
 ghost use Rattle.show_commands.specs.Paging.{page_size};
 ghost use Rattle.session_state.specs.States.{IsState};
 ghost use Rattle.mailx_vars.specs.Names.{is_short_name};
-ghost use Rattle.session_state.specs.Saving.{names_fault};
 ghost use Rattle.session_asks.specs.Openings.{IsKnownSize, IsOpening, with_folder};
 ghost use Rattle.session_state.specs.Bringing.{OnlyBrings};
 ghost use Rattle.session_asks.specs.Switching.{open_fault, loaded_folder, laid_as, announcement, announced, switching, switched_to, switches, with_laid, laid_on};
@@ -188,7 +187,6 @@ fn leave_for<H: Host>(
     previous: Text,
 ) -> Result<Asked, RunError>
     requires state { IsState state.old }
-    requires names { names_fault state.old changes ≡ None }
     requires size { IsKnownSize (page_size state.old.desk) opening.size }
     requires some { IfSome opening.size (λ n. 0 < n) }
     requires desk { IsDesk (with_folder state.old.desk opening.folder opening.shown) }
@@ -236,7 +234,6 @@ fn switch_to<H: Host>(
     folder: Folder,
 ) -> Result<Asked, RunError>
     requires state { IsState state.old }
-    requires names { names_fault state.old changes ≡ None }
     ensures ran { Ran H.world host.old host.new
         (λ es. Goes (switched_to state.old name.now changes reply.now (Ok folder)) es
         (in_play (after_asks state.new) result)) }
@@ -277,7 +274,6 @@ fn switch_found<H: Host>(
     found: Option<Found>,
 ) -> Result<Asked, RunError>
     requires state { IsState state.old }
-    requires names { names_fault state.old changes ≡ None }
     ensures ran { Ran H.world host.old host.new (λ es.
         Goes (switched_to state.old name.now changes reply.now
         (loaded_folder state.old.desk changes name.now found))
@@ -306,7 +302,6 @@ fn load_file<H: Host>(
 ) -> Result<Asked, RunError>
     requires state { IsState state.old }
     requires file { is_short_name file.now ≡ true }
-    requires names { names_fault state.old changes ≡ None }
     ensures ran { Ran H.world host.old host.new (λ es. Goes (Ask (Try file.now) (λ f.
         switched_to state.old name.now changes reply.now (loaded_folder state.old.desk changes name.now f)))
         es (in_play (after_asks state.new) result)) }
@@ -361,7 +356,6 @@ pub(crate) fn switch<H: Host>(
     ensures ran { let fault = open_fault state.old name.now changes in Ran H.world host.old host.new
         (λ es. Goes (switches state.old name.now changes reply.now fault) es
         (in_play (after_asks state.new) result)) }
-    ensures fall { NeverFall (H.world.counts host.old) (H.world.counts host.new) }
     ensures brings { OnlyBrings state.old state.new }
     ensures valid { IsState state.new }
     ensures desk { KeepsDesk state.old state.new result }

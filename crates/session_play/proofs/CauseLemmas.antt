@@ -18,9 +18,10 @@ use Rattle.std.specs.List.{list_any}
 use Rattle.std.specs.Prelude.{◌||◌}
 use Rattle.commit_machine.specs.Restraints as calls
 use Rattle.folder_commit.specs.declared.error.CommitError.TheVariants as error
-use Rattle.session_play.proofs.CommitLemmas.{HasNoStreams, commit-streams, commit-failed, answer-fine}
+use Rattle.session_play.proofs.CommitLemmas.{HasNoStreams, none-streams, commit-streams, commit-failed, answer-fine}
 use Rattle.folder_recovery.specs.declared.error.RecoverError.TheVariants as recover
 use Rattle.session_play.proofs.RecoveryLemmas.{recovery-streams, recovery-fine, recovery-failed, recovery-short}
+use Rattle.session_play.specs.declared.changing.Attempt.TheVariants.{Made, Misnamed}
 use Rattle.session_play.specs.Committing.{answer_as}
 use Rattle.session_play.specs.Recovering.{recovery_as}
 use Rattle.session_play.proofs.SawLemmas.{saw-append, Unseen, unseen-none, unseen-did, unseen-cut}
@@ -164,8 +165,8 @@ cut-by (Try name) stop.Disk es i le same never = absurd never
 cut-by (Try name) stop.Input es i le same never = absurd never
 cut-by (Try name) stop.Output es i le same never = absurd never
 cut-by (Try name) stop.TooMuch es i le same never = absurd never
-cut-by (Changes c) stop.Disk es i le same (passed, h) = let s = commit-streams c es _ h in streams-cut stop.Disk es i refl refl (let b = s.bytes in omega (arith, b)) s
-cut-by (Changes c) stop.Memory es i le same h = let s = commit-streams c es _ h in streams-cut stop.Memory es i refl refl (let b = s.bytes in omega (arith, b)) s
+cut-by (Changes c) stop.Disk es i le same (well, (passed, h)) = let s = commit-streams c es _ h in streams-cut stop.Disk es i refl refl (let b = s.bytes in omega (arith, b)) s
+cut-by (Changes c) stop.Memory es i le same (well, h) = let s = commit-streams c es _ h in streams-cut stop.Memory es i refl refl (let b = s.bytes in omega (arith, b)) s
 cut-by (Changes c) stop.Input es i le same never = absurd never
 cut-by (Changes c) stop.Output es i le same never = absurd never
 cut-by (Changes c) stop.TooMuch es i le same never = absurd never
@@ -222,7 +223,8 @@ did-clean (Line k) a es i le same did = line-clean i a es le (subst (λ (k : Inp
 did-clean (Say bytes) u es i le same did = says-clean bytes es i le did
 did-clean (Read name) f es i le same did = load-clean name (Some f) es i le did
 did-clean (Try name) f es i le same did = load-clean name f es i le did
-did-clean (Changes c) a es i le same did = streams-clean es i le (commit-streams c es (answer_as a) did)
+did-clean (Changes c) (Made a) es i le same (well, did) = streams-clean es i le (commit-streams c es (answer_as a) did)
+did-clean (Changes c) (Misnamed name fault) es i le same (is, none) = streams-clean es i le (none-streams es none)
 did-clean (Recover actor token) a es i le same did = streams-clean es i le (recovery-streams actor token es (recovery_as a) did)
 did-clean (Child program args input) a es i le same did = event-clean _ es i le did (record { in_ok = refl; out_ok = refl; bytes = omega arith; within = le })
 did-clean (Now tz) m es i le same did = event-clean _ es i le did.1 (record { in_ok = refl; out_ok = refl; bytes = omega arith; within = le })
@@ -277,7 +279,8 @@ load-found name (found.Bytes bytes held) = refl
 load-found name (found.TooLarge n) = refl
 
 did-quiet : (b : Bool) (act : Act) (a : Answer act) (es : List Event) → may_load b act ≡ true → Did act a es → Quiet b es (of_commit act es)
-did-quiet false (Changes c) a es may did = commit-failed c es (answer_as a) did ∙ answer-fine a
+did-quiet false (Changes c) (Made a) es may (well, did) = commit-failed c es (answer_as a) did ∙ answer-fine a
+did-quiet false (Changes c) (Misnamed name fault) es may (is, none) = ap (list_any calls.is_failed) none
 did-quiet false (Recover actor token) a es may did = recovery-fine actor token a es did
 did-quiet false (Line i) a es may did = refl
 did-quiet false (Say bytes) u es may did = refl
@@ -326,8 +329,8 @@ cut-loads false (Try name) stop.Input es may never = absurd never
 cut-loads false (Try name) stop.Output es may never = absurd never
 cut-loads false (Try name) stop.TooMuch es may never = absurd never
 cut-loads true (Changes c) cause es may part = absurd (cc may)
-cut-loads false (Changes c) stop.Disk es may (passed, h) = commit-failed c es (Err (error.Disk passed)) h
-cut-loads false (Changes c) stop.Memory es may h = commit-failed c es (Err error.Memory) h
+cut-loads false (Changes c) stop.Disk es may (well, (passed, h)) = commit-failed c es (Err (error.Disk passed)) h
+cut-loads false (Changes c) stop.Memory es may (well, h) = commit-failed c es (Err error.Memory) h
 cut-loads false (Changes c) stop.Input es may never = absurd never
 cut-loads false (Changes c) stop.Output es may never = absurd never
 cut-loads false (Changes c) stop.TooMuch es may never = absurd never

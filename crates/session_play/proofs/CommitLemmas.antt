@@ -23,32 +23,31 @@ use Rattle.folder_commit.specs.Told.{is_fault}
 use Rattle.folder_commit.proofs.ToldLemmas.{tells-faults}
 use Rattle.folder_commit.specs.Ends.{CommitCause}
 use Rattle.folder_commit.specs.Commits.{IsCommit}
+use Rattle.session_play.specs.declared.changing.Attempt.{Attempt}
+use Rattle.session_play.specs.declared.changing.Attempt.TheVariants.{Made, Misnamed}
 use Rattle.session_play.specs.declared.changing.Committed.{Committed}
 use Rattle.session_play.specs.declared.changing.Committed.TheVariants as committed
+use Rattle.session_play.specs.declared.naming.NameFault.{NameFault}
 use Rattle.session_play.specs.declared.stop.Stop.TheVariants as stop
 use Rattle.session_play.specs.Causes.{some_in_failed, some_out_failed, bytes_in}
-use Rattle.session_play.specs.Committing.{answer_as, Commit, IsCommitOf, taken}
+use Rattle.session_play.specs.Committing.{answer_as, Commit, IsCommitOf, IsWellNamed, first_misnamed, taken}
 use Rattle.session_play.specs.Play.{Ask, Ret, Changes, Goes, Caused}
 
-did : (c : Commit) (es : List Event) (a : Committed) (answer : Result Unit CommitError) → taken answer ≡ Ok a → IsCommitOf c es answer → Goes {R = Committed} (Ask (Changes c) Ret) es (taken answer)
-did c es a (Ok u) is h = inl (committed.Done, es, [], sym (append-nil es), h, (refl, inl refl))
-did c es a (Err (error.Busy name)) is h = inl (committed.Busy name, es, [], sym (append-nil es), h, (refl, inl refl))
-did c es a (Err error.Record) is h = inl (committed.NotARecord, es, [], sym (append-nil es), h, (refl, inl refl))
-did c es a (Err (error.Changed name at)) is h = inl (committed.Changed name at, es, [], sym (append-nil es), h, (refl, inl refl))
-did c es a (Err (error.TooLarge name n)) is h = inl (committed.TooLarge name n, es, [], sym (append-nil es), h, (refl, inl refl))
-did c es a (Err (error.TooManyNames n)) is h = inl (committed.TooManyNames n, es, [], sym (append-nil es), h, (refl, inl refl))
-did c es a (Err (error.Disk passed)) is h = absurd (cc is)
-did c es a (Err error.Memory) is h = absurd (cc is)
+did : (c : Commit) → IsWellNamed c → (es : List Event) (a : Committed) → IsCommitOf c es (answer_as a) → Goes {R = Attempt} (Ask (Changes c) Ret) es (Ok (Made a))
+did c well es a h = inl (Made a, es, [], sym (append-nil es), (well, h), (refl, inl refl))
 
-pub commit-goes : (c : Commit) (answer : Result Unit CommitError) (es : List Event) → IsCommitOf c es answer → Goes {R = Committed} (Ask (Changes c) Ret) es (taken answer)
-commit-goes c (Ok u) es h = did c es committed.Done (Ok u) refl h
-commit-goes c (Err (error.Busy name)) es h = did c es (committed.Busy name) (Err (error.Busy name)) refl h
-commit-goes c (Err error.Record) es h = did c es committed.NotARecord (Err error.Record) refl h
-commit-goes c (Err (error.Changed name at)) es h = did c es (committed.Changed name at) (Err (error.Changed name at)) refl h
-commit-goes c (Err (error.TooLarge name n)) es h = did c es (committed.TooLarge name n) (Err (error.TooLarge name n)) refl h
-commit-goes c (Err (error.TooManyNames n)) es h = did c es (committed.TooManyNames n) (Err (error.TooManyNames n)) refl h
-commit-goes c (Err (error.Disk passed)) es h = inr (stop.Disk, refl, inr (passed, h))
-commit-goes c (Err error.Memory) es h = inr (stop.Memory, refl, inr h)
+pub commit-goes : (c : Commit) → IsWellNamed c → (answer : Result Unit CommitError) (es : List Event) → IsCommitOf c es answer → Goes {R = Attempt} (Ask (Changes c) Ret) es (taken answer)
+commit-goes c well (Ok u) es h = did c well es committed.Done h
+commit-goes c well (Err (error.Busy name)) es h = did c well es (committed.Busy name) h
+commit-goes c well (Err error.Record) es h = did c well es committed.NotARecord h
+commit-goes c well (Err (error.Changed name at)) es h = did c well es (committed.Changed name at) h
+commit-goes c well (Err (error.TooLarge name n)) es h = did c well es (committed.TooLarge name n) h
+commit-goes c well (Err (error.TooManyNames n)) es h = did c well es (committed.TooManyNames n) h
+commit-goes c well (Err (error.Disk passed)) es h = inr (stop.Disk, refl, inr (well, (passed, h)))
+commit-goes c well (Err error.Memory) es h = inr (stop.Memory, refl, inr (well, h))
+
+pub misnamed-goes : (c : Commit) (name : List ℕ) (fault : NameFault) → first_misnamed c.actor c.changes ≡ Some (name, fault) → Goes {R = Attempt} (Ask (Changes c) Ret) [] (Ok (Misnamed name fault))
+misnamed-goes c name fault is = inl (Misnamed name fault, [], [], refl, (is, refl), (refl, inl refl))
 
 pub commit-caused : (old now : Counts) (answer : Result Unit CommitError) → CommitCause old now answer → Caused old now (taken answer)
 commit-caused old now (Ok u) h = tt
@@ -118,7 +117,7 @@ pub machine-streams : (j : Job) (s : State) (es : List Event) (last : State) →
 machine-streams j s [] last g = no-streams
 machine-streams j s (e ∷ es) last g = next-streams (next j g.0) e es g.2 (machine-streams j (after_reply j g.0 (reply e)) es last g.3)
 
-none-streams : (es : List Event) → es ≡ [] → HasNoStreams es
+pub none-streams : (es : List Event) → es ≡ [] → HasNoStreams es
 none-streams es is = subst HasNoStreams (sym is) no-streams
 
 changes-streams : (actor : List ℕ) (token : ℕ) (cs : List Change) (base : List (List ℕ)) (es : List Event) (answer : Result Unit CommitError) → IsCommit actor token cs base es answer → HasNoStreams es

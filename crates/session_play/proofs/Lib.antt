@@ -1,4 +1,5 @@
 pub mod PlayLemmas
+pub mod NamingLemmas
 pub mod CommitLemmas
 pub mod RecoveryLemmas
 pub mod ActLemmas

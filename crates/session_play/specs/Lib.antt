@@ -1,5 +1,6 @@
 pub mod Input
 pub mod Knowing
+pub mod Naming
 pub mod Committing
 pub mod Recovering
 pub mod Moments

@@ -11,12 +11,11 @@ use Rattle.host_port.specs.declared.event.Seen.TheVariants as seen
 use Rattle.host_port.specs.declared.event.ChildAnswer.{ChildAnswer}
 use Rattle.host_port.specs.Calls.{Counts, Rose}
 use Rattle.mail_dates.specs.declared.moment.Moment.{Moment}
-use Rattle.folder_commit.specs.declared.error.CommitError.TheVariants as error
 use Rattle.session_play.specs.Knowing.{Question, Fact, IsFact}
 use Rattle.folder_recovery.specs.declared.error.RecoverError.TheVariants as recover
-use Rattle.session_play.specs.Committing.{Commit, answer_as, IsCommitOf, FailsIn}
+use Rattle.session_play.specs.Committing.{Commit, Attempted, FailsIn, RunsOutIn}
 use Rattle.session_play.specs.Recovering.{recovery_as, IsRecoveryOf}
-use Rattle.session_play.specs.declared.changing.Committed.{Committed}
+use Rattle.session_play.specs.declared.changing.Attempt.{Attempt}
 use Rattle.session_play.specs.declared.recovering.RecoveryAnswer.{RecoveryAnswer}
 use Rattle.session_play.specs.declared.act.Found.{Found}
 use Rattle.session_play.specs.declared.act.Found.TheVariants as found
@@ -41,14 +40,14 @@ pub data Act : Type 0 where
   Know : Question → Act
 
 -- what it is answered: the line, or none at the end, with the input that is left; nothing; what the load found; the same, or none if the
--- load failed; what the commit answers; what the recovery answers; what the program answers, or none if it could not be run; the moment;
+-- load failed; what came of the changes; what the recovery answers; what the program answers, or none if it could not be run; the moment;
 -- what is so
 abbrev pub Answer : Act → Type 0
 Answer (Line i) = Option (List ℕ) × Input
 Answer (Say bytes) = Unit {0}
 Answer (Read name) = Found
 Answer (Try name) = Option Found
-Answer (Changes c) = Committed
+Answer (Changes c) = Attempt
 Answer (Recover actor token) = RecoveryAnswer
 Answer (Child program args input) = Option ChildAnswer
 Answer (Now tz) = Moment
@@ -93,7 +92,7 @@ Did (Line i) a es = (j : Input) × Reads i es j × (next_line j ≡ Some a)
 Did (Say bytes) u es = Says bytes es
 Did (Read name) f es = es ≡ event.Load name (seen_of f) ∷ []
 Did (Try name) f es = es ≡ event.Load name (seen_at f) ∷ []
-Did (Changes c) a es = IsCommitOf c es (answer_as a)
+Did (Changes c) a es = Attempted c a es
 Did (Recover actor token) a es = IsRecoveryOf actor token es (recovery_as a)
 Did (Child program args input) a es = es ≡ event.Child program args input a (is_none a) ∷ []
 Did (Now tz) m es = (seconds : ℤ) × (es ≡ event.Now seconds ∷ []) × IsMomentAt tz seconds m
@@ -119,7 +118,7 @@ Partly (Read name) stop.Disk es = es ≡ event.Load name seen.Failed ∷ []
 Partly (Read name) stop.Memory es = es ≡ event.Load name seen.Memory ∷ []
 Partly (Try name) stop.Memory es = es ≡ event.Load name seen.Memory ∷ []
 Partly (Changes c) stop.Disk es = FailsIn c es
-Partly (Changes c) stop.Memory es = IsCommitOf c es (Err error.Memory)
+Partly (Changes c) stop.Memory es = RunsOutIn c es
 Partly (Recover actor token) stop.Disk es = IsRecoveryOf actor token es (Err recover.Disk)
 Partly (Recover actor token) stop.Memory es = IsRecoveryOf actor token es (Err recover.Memory)
 Partly (Child program args input) stop.Memory es = es ≡ event.Child program args input None false ∷ []

@@ -1,20 +1,19 @@
 // Changes of files, by a commit.
-ghost use Rattle.std.specs.Prelude.{◌≡◌, ◌≤◌, true, length, All, IsTrue, IsSome, IfErr, option_copied};
+ghost use Rattle.std.specs.Prelude.{◌≡◌, ◌≤◌, true, length, All, IsTrue, IsSome, IfErr, IfOk, option_copied};
 ghost use Rattle.host_port.specs.Names.{has_no_zero};
 ghost use Rattle.host_port.specs.Ran.{Ran};
 ghost use Rattle.folder_change.specs.Changes.{is_rewrite};
 ghost use Rattle.folder_change.specs.Outcomes.{base_list};
 ghost use Rattle.commit_machine.specs.Names.{actor_limit};
-ghost use Rattle.folder_commit.specs.Plans.{AreFiles};
-ghost use Rattle.session_play.specs.Committing.{wanted_of, taken};
+ghost use Rattle.session_play.specs.Committing.{wanted_of, first_misnamed, taken};
 ghost use Rattle.session_play.specs.Cuts.{IsLoadCut};
 ghost use Rattle.session_play.specs.Play.{Play, Ask, Ret, Changes, Goes, Caused};
 
-use crate::Stop;
-use folder_change::Change;
+use crate::{NameFault, Stop, misnamed};
+use folder_change::{Change, change_name};
 use folder_commit::{CommitError, commit};
 use host_port::Host;
-use mail_text::Text;
+use mail_text::{Memory, Text};
 use mbox_scan::Folder;
 use std::alloc::Global;
 
@@ -35,25 +34,52 @@ pub enum Committed {
     TooManyNames { count: u64 },
 }
 
-// What a run makes of a commit's answer.
-fn taken(answer: Result<(), CommitError>) -> Result<Committed, Stop>
-    ensures { result ≡ taken answer }
-{
-    match answer {
-        Ok(()) => Ok(Committed::Done),
-        Err(CommitError::Busy { name }) => Ok(Committed::Busy { name }),
-        Err(CommitError::Record) => Ok(Committed::NotARecord),
-        Err(CommitError::Changed { name, at }) => Ok(Committed::Changed { name, at }),
-        Err(CommitError::TooLarge { name, length }) => Ok(Committed::TooLarge { name, length }),
-        Err(CommitError::TooManyNames { count }) => Ok(Committed::TooManyNames { count }),
-        Err(CommitError::Disk { passed: _ }) => Err(Stop::Disk),
-        Err(CommitError::Memory) => Err(Stop::Memory),
-    }
+/// What came of changes of files.
+#[derive(Drop, Debug)]
+pub enum Attempt {
+    /// They were committed, or that was refused.
+    Made { answer: Committed },
+    /// Nothing was done, since the name of one of the files is at fault.
+    Misnamed { name: Text, fault: NameFault },
 }
 
-/// Makes changes of up to 16 files as one commit of this actor, under a token that no other run has. `base` is the
-/// folder that a rewrite among them was made for. A fault of the disk and running out of memory cut the run off; all
-/// else is an answer.
+// What a run makes of a commit's answer.
+fn taken(answer: Result<(), CommitError>) -> Result<Attempt, Stop>
+    ensures { result ≡ taken answer }
+{
+    let answer = match answer {
+        Ok(()) => Committed::Done,
+        Err(CommitError::Busy { name }) => Committed::Busy { name },
+        Err(CommitError::Record) => Committed::NotARecord,
+        Err(CommitError::Changed { name, at }) => Committed::Changed { name, at },
+        Err(CommitError::TooLarge { name, length }) => Committed::TooLarge { name, length },
+        Err(CommitError::TooManyNames { count }) => Committed::TooManyNames { count },
+        Err(CommitError::Disk { passed: _ }) => return Err(Stop::Disk),
+        Err(CommitError::Memory) => return Err(Stop::Memory),
+    };
+    Ok(Attempt::Made { answer })
+}
+
+// The first of these changes' files whose name is at fault.
+fn first_misnamed(
+    alloc: Global,
+    actor: &[u8],
+    changes: &[Change],
+) -> Result<Option<(Text, NameFault)>, Memory>
+    ensures { IfOk result (λ found. found ≡ first_misnamed actor.now changes.now) }
+{
+    for change in changes {
+        let name = change_name(change);
+        if let Some(fault) = misnamed(actor, name) {
+            return Ok(Some((Text::copy(alloc, name)?, fault)));
+        }
+    }
+    Ok(None)
+}
+
+/// Makes changes of up to 16 files as one commit of this actor, under a token that no other run has, unless the name
+/// of a file is at fault. `base` is the folder that a rewrite among them was made for. A fault of the disk and running
+/// out of memory cut the run off; all else is an answer.
 pub fn change<H: Host>(
     alloc: Global,
     host: &mut H,
@@ -61,15 +87,18 @@ pub fn change<H: Host>(
     token: u64,
     changes: &[Change],
     base: Option<&Folder>,
-) -> Result<Committed, Stop>
+) -> Result<Attempt, Stop>
     requires short { length actor.now ≤ actor_limit }
     requires no_zero { has_no_zero actor.now ≡ true }
-    requires files { AreFiles actor.now changes.now }
     requires based { All (λ c. IsTrue (is_rewrite c) → IsSome base) changes.now }
     ensures ran { let wanted = wanted_of actor.now token changes.now (base_list (option_copied base.entry)) in
         Ran H.world host.old host.new (λ es. Goes (Ask (Changes wanted) Ret) es result) }
     ensures cause { Caused (H.world.counts host.old) (H.world.counts host.new) result }
     ensures only_disk { IfErr result IsLoadCut }
 {
-    taken(commit(alloc, actor, token, changes, base, host))
+    match first_misnamed(alloc, actor, changes) {
+        Ok(Some((name, fault))) => Ok(Attempt::Misnamed { name, fault }),
+        Ok(None) => taken(commit(alloc, actor, token, changes, base, host)),
+        Err(Memory) => Err(Stop::Memory),
+    }
 }

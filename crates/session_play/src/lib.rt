@@ -3,12 +3,14 @@
 
 mod act;
 mod changing;
+mod naming;
 mod reader;
 mod recovering;
 mod stop;
 
 pub use act::{Found, load, now, run_child, say, try_load};
-pub use changing::{Committed, change};
+pub use changing::{Attempt, Committed, change};
+pub use naming::{NameFault, misnamed};
 pub use reader::Reader;
 pub use recovering::{RecoveryAnswer, recovery};
 pub use stop::Stop;

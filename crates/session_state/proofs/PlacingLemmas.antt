@@ -3,7 +3,7 @@ use Rattle.std.proofs.Common.{◌≡◌, ℕ, Bool, true, false, List, [], ◌�
 use Rattle.std.specs.Prelude.{◌==◌, if◌then◌else◌}
 use Rattle.folder_change.specs.declared.change.Change.{Change}
 use Rattle.folder_change.specs.declared.change.Change.TheVariants.{Rewrite, Add, Front, AddRaw}
-use Rattle.folder_change.specs.Changes.{name_of, is_rewrite}
+use Rattle.folder_change.specs.Changes.{is_rewrite}
 use Rattle.session_state.specs.Placing.{placed, placed_change}
 
 -- where nothing stands in front each name stands for itself
@@ -14,13 +14,6 @@ placed-nowhere (b ∷ bs) = go (b == 47)
     go : (t : Bool) → (if t then b ∷ bs else [] ++ b ∷ bs) ≡ b ∷ bs
     go true = refl
     go false = refl
-
--- the file of a change is the one that its name stands for
-pub name-placed : (here : List ℕ) (c : Change) → name_of (placed_change here c) ≡ placed here (name_of c)
-name-placed here (Rewrite name list keep) = refl
-name-placed here (Add name texts) = refl
-name-placed here (Front name texts) = refl
-name-placed here (AddRaw name bytes) = refl
 
 pub rewrite-placed : (here : List ℕ) (c : Change) → is_rewrite (placed_change here c) ≡ is_rewrite c
 rewrite-placed here (Rewrite name list keep) = refl

@@ -5,7 +5,7 @@ use Rattle.std.specs.declared.option.Option.TheVariants.{Some, None}
 use Rattle.std.specs.declared.result.Result.{Result}
 use Rattle.std.specs.declared.result.Result.TheVariants.{Ok, Err}
 use Rattle.folder_change.specs.declared.change.Change.{Change}
-use Rattle.session_play.specs.declared.changing.Committed.{Committed}
+use Rattle.session_play.specs.declared.changing.Attempt.{Attempt}
 use Rattle.session_play.specs.declared.stop.Stop.{Stop}
 use Rattle.session_state.specs.declared.answers.Asked.{Asked}
 use Rattle.session_state.specs.declared.error.RunError.{RunError}
@@ -18,7 +18,7 @@ use Rattle.session_state.specs.Answers.{after_asks, stop_of}
 
 -- an answered commit of changes, of files that are said by these names, leaves what it is to leave, unless memory runs out; one that was cut off
 -- is that cut
-abbrev pub Follows : SessionState → List (List ℕ) → List Change → Result Committed Stop → Result Asked RunError → Type 0
+abbrev pub Follows : SessionState → List (List ℕ) → List Change → Result Attempt Stop → Result Asked RunError → Type 0
 Follows s names changes (Ok answer) (Ok asked) = after_asks s asked ≡ after_placed s names changes answer
 Follows s names changes (Ok answer) (Err error.Memory) = Unit {0}
 Follows s names changes (Ok answer) (Err e) = ⊥

@@ -1,6 +1,5 @@
 // What the answers to a command's asks leave, and what is printed.
 ghost use Rattle.std.specs.Prelude.{◌≡◌, IfErr, IfOk};
-ghost use Rattle.host_port.specs.Calls.{NeverFall};
 ghost use Rattle.host_port.specs.Ran.{Ran};
 ghost use Rattle.session_play.specs.Play.{Ask, Ret, Say, Goes};
 ghost use Rattle.session_play.specs.Steps.{refused};
@@ -41,7 +40,6 @@ pub fn say<H: Host>(host: &mut H, bytes: &[u8]) -> Result<(), RunError>
 pub fn say_line<H: Host>(host: &mut H, bytes: &Text) -> Result<Asked, RunError>
     ensures ran { (s : SessionState) → Ran H.world host.old host.new
         (λ es. Goes (Ask (Say bytes.now) (λ _. Ret (after_asks s Asked.On))) es (in_play (after_asks s) result)) }
-    ensures fall { NeverFall (H.world.counts host.old) (H.world.counts host.new) }
     ensures done { IfOk result EndsByAsk }
     ensures goes_on { AsksGoOn result }
     ensures cause { LineCaused (H.world.counts host.old) (H.world.counts host.new) result }

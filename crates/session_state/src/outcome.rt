@@ -13,8 +13,10 @@ pub enum Outcome {
     /// One wasn't sent: its names were refused, or the sender could not be run, or ended with this status. The last
     /// such status is kept.
     NotSent { status: Option<i32> },
-    /// The record or the dead letter of one was refused.
+    /// The commit of the record or the dead letter of one was refused.
     Refused,
+    /// One could not be recorded, since the word for its record stands for no file.
+    Unrecorded,
 }
 
 // A sender's status, or if there is none that of an earlier one.
@@ -37,6 +39,7 @@ pub fn not_sent(status: Option<i32>, outcome: Outcome) -> Outcome
             status: or_earlier(status, earlier),
         },
         Outcome::Refused => Outcome::Refused,
+        Outcome::Unrecorded => Outcome::Unrecorded,
     }
 }
 
@@ -49,6 +52,6 @@ pub fn status_of(outcome: Outcome) -> Status
     match outcome {
         Outcome::Fine => Status::Done,
         Outcome::NotSent { status } => Status::NotSent { status },
-        Outcome::Refused => Status::Refused,
+        Outcome::Refused | Outcome::Unrecorded => Status::Refused,
     }
 }

@@ -1,16 +1,14 @@
 // Changes of files that a command asks for, as one commit.
-ghost use Rattle.std.specs.Prelude.{◌≡◌, ◌++◌, List, map, None, IfOk, IfErr};
+ghost use Rattle.std.specs.Prelude.{◌≡◌, ◌++◌, List, map, IfOk, IfErr};
 ghost use Rattle.mail_text.specs.Lines.{with_feed};
-ghost use Rattle.host_port.specs.Calls.{NeverFall};
 ghost use Rattle.host_port.specs.Ran.{Ran};
 ghost use Rattle.session_play.specs.Play.{Play, Goes};
 ghost use Rattle.command_desk.specs.Faults.{busy, changed_at};
 ghost use Rattle.folder_change.specs.Changes.{name_of};
-ghost use Rattle.folder_commit.specs.Plans.{AreFiles};
 ghost use Rattle.session_state.specs.Placing.{placed_changes, said_as};
 ghost use Rattle.session_state.specs.declared.state.SessionState.{SessionState};
 ghost use Rattle.session_state.specs.States.{IsState};
-ghost use Rattle.session_state.specs.Saving.{name_fault, names_fault, is_changed, after_placed, saved};
+ghost use Rattle.session_state.specs.Saving.{misnamed_line, name_fault, names_fault, is_changed, after_placed, saved};
 ghost use Rattle.session_state.specs.Follows.{Follows};
 ghost use Rattle.session_play.specs.Cuts.{IsLoadCut};
 ghost use Rattle.session_state.specs.Answers.{after_asks, in_play, stop_of, LineCaused, EndsByAsk};
@@ -19,25 +17,30 @@ use crate::placing::{Targets, place, placed, said_as};
 use crate::{Asked, RunError, SessionState, Status};
 use command_desk::line_of;
 use folder_change::{Change, change_name};
-use folder_commit::is_file_name;
 use host_port::Host;
 use itoa::Buffer;
 use mail_text::{Items, Memory, Text};
-use mailx_vars::is_short_name;
-use session_play::{Committed, Stop, change};
+use session_play::{Attempt, Committed, NameFault, Stop, change, misnamed};
 use std::alloc::Global;
+
+// The line of what is wrong with a name.
+fn misnamed_line(alloc: Global, name: &[u8], fault: NameFault) -> Result<Text, Memory>
+    ensures { IfOk result (λ line. line ≡ misnamed_line name.now fault) }
+{
+    match fault {
+        NameFault::Bad => line_of(alloc, name, b": bad name"),
+        NameFault::Reserved => line_of(alloc, name, b": reserved name"),
+    }
+}
 
 /// What is wrong with a name, for a file that a commit is to change.
 pub fn name_fault(alloc: Global, state: &SessionState, name: &[u8]) -> Result<Option<Text>, Memory>
     ensures { IfOk result (λ fault. fault ≡ name_fault state.now name.now) }
 {
     let file = placed(alloc, state.here.bytes(), name)?;
-    if !is_short_name(file.bytes()) {
-        Ok(Some(line_of(alloc, name, b": bad name")?))
-    } else if !is_file_name(state.actor.bytes(), file.bytes()) {
-        Ok(Some(line_of(alloc, name, b": reserved name")?))
-    } else {
-        Ok(None)
+    match misnamed(state.actor.bytes(), file.bytes()) {
+        Some(fault) => Ok(Some(misnamed_line(alloc, name, fault)?)),
+        None => Ok(None),
     }
 }
 
@@ -85,7 +88,7 @@ fn too_large(
     length: u64,
 ) -> Result<Asked, Memory>
     ensures means { IfOk result (λ asked. after_asks state.now asked
-        ≡ after_placed state.now targets.now.names targets.now.changes (Committed.TooLarge file length)) }
+        ≡ after_placed state.now targets.now.names targets.now.changes (Attempt.Made (Committed.TooLarge file length))) }
     ensures end { IfOk result EndsByAsk }
 {
     if is_changed(targets.changes.items(), file.bytes()) {
@@ -121,6 +124,22 @@ fn changed(alloc: Global, here: &[u8], names: &[Text], file: Text, at: u64) -> R
     Ok(Asked::Refused { line })
 }
 
+// Refuses by a file whose name is at fault.
+fn misnamed_file(
+    alloc: Global,
+    here: &[u8],
+    names: &[Text],
+    file: Text,
+    fault: NameFault,
+) -> Result<Asked, Memory>
+    ensures { IfOk result
+        (λ asked. asked ≡ Asked.Refused (misnamed_line (said_as here.now names.now file) fault)) }
+{
+    let name = said_as(alloc, here, names, file)?;
+    let line = misnamed_line(alloc, name.bytes(), fault)?;
+    Ok(Asked::Refused { line })
+}
+
 // What the answer to a commit of these changes leaves.
 fn after_commit(
     alloc: Global,
@@ -129,7 +148,7 @@ fn after_commit(
     answer: Committed,
 ) -> Result<Asked, Memory>
     ensures means { IfOk result (λ asked. after_asks state.now asked
-        ≡ after_placed state.now targets.now.names targets.now.changes answer) }
+        ≡ after_placed state.now targets.now.names targets.now.changes (Attempt.Made answer)) }
     ensures end { IfOk result EndsByAsk }
 {
     let here = state.here.bytes();
@@ -141,6 +160,25 @@ fn after_commit(
         Committed::Changed { name, at } => changed(alloc, here, names, name, at),
         Committed::TooLarge { name, length } => too_large(alloc, state, targets, name, length),
         Committed::TooManyNames { .. } => refused(alloc, b"too many names", b""),
+    }
+}
+
+// What changes leave by what came of them.
+fn after_attempt(
+    alloc: Global,
+    state: &SessionState,
+    targets: &Targets,
+    attempt: Attempt,
+) -> Result<Asked, Memory>
+    ensures means { IfOk result (λ asked. after_asks state.now asked
+        ≡ after_placed state.now targets.now.names targets.now.changes attempt) }
+    ensures end { IfOk result EndsByAsk }
+{
+    match attempt {
+        Attempt::Made { answer } => after_commit(alloc, state, targets, answer),
+        Attempt::Misnamed { name, fault } => {
+            misnamed_file(alloc, state.here.bytes(), targets.names.items(), name, fault)
+        }
     }
 }
 
@@ -161,14 +199,14 @@ fn followed(
     alloc: Global,
     state: &SessionState,
     targets: &Targets,
-    answer: Result<Committed, Stop>,
+    answer: Result<Attempt, Stop>,
 ) -> Result<Asked, RunError>
     requires { IfErr answer IsLoadCut }
     ensures follows { Follows state.now targets.now.names targets.now.changes answer result }
     ensures end { IfOk result EndsByAsk }
 {
     match answer {
-        Ok(answer) => match after_commit(alloc, state, targets, answer) {
+        Ok(attempt) => match after_attempt(alloc, state, targets, attempt) {
             Ok(asked) => Ok(asked),
             Err(Memory) => Err(RunError::Memory),
         },
@@ -184,11 +222,9 @@ fn commit_placed<H: Host>(
     targets: &Targets,
 ) -> Result<Asked, RunError>
     requires state { IsState state.now }
-    requires files { AreFiles state.now.actor targets.now.changes }
     ensures ran { (changes : List Change) → targets.now.names ≡ map name_of changes
         → targets.now.changes ≡ placed_changes state.now.here changes → Ran H.world host.old host.new
-        (λ es. Goes (saved state.now changes None) es (in_play (after_asks state.now) result)) }
-    ensures fall { NeverFall (H.world.counts host.old) (H.world.counts host.new) }
+        (λ es. Goes (saved state.now changes) es (in_play (after_asks state.now) result)) }
     ensures end { IfOk result EndsByAsk }
     ensures cause { LineCaused (H.world.counts host.old) (H.world.counts host.new) result }
 {
@@ -205,29 +241,8 @@ fn commit_placed<H: Host>(
     followed(alloc, state, targets, answer)
 }
 
-/// Commits changes of files whose names were tested.
-pub fn commit<H: Host>(
-    alloc: Global,
-    state: &SessionState,
-    host: &mut H,
-    changes: Items<Change>,
-) -> Result<Asked, RunError>
-    requires state { IsState state.now }
-    requires names { names_fault state.now changes ≡ None }
-    ensures ran { Ran H.world host.old host.new
-        (λ es. Goes (saved state.now changes None) es (in_play (after_asks state.now) result)) }
-    ensures fall { NeverFall (H.world.counts host.old) (H.world.counts host.new) }
-    ensures end { IfOk result EndsByAsk }
-    ensures cause { LineCaused (H.world.counts host.old) (H.world.counts host.new) result }
-{
-    match place(alloc, state.here.bytes(), changes) {
-        Ok(targets) => commit_placed(alloc, state, host, &targets),
-        Err(Memory) => Err(RunError::Memory),
-    }
-}
-
 /// Commits changes, unless the name of a file is at fault.
-pub fn save<H: Host>(
+pub fn commit<H: Host>(
     alloc: Global,
     state: &SessionState,
     host: &mut H,
@@ -235,15 +250,12 @@ pub fn save<H: Host>(
 ) -> Result<Asked, RunError>
     requires { IsState state.now }
     ensures ran { Ran H.world host.old host.new
-        (λ es. Goes (saved state.now changes (names_fault state.now changes)) es
-        (in_play (after_asks state.now) result)) }
-    ensures fall { NeverFall (H.world.counts host.old) (H.world.counts host.new) }
+        (λ es. Goes (saved state.now changes) es (in_play (after_asks state.now) result)) }
     ensures end { IfOk result EndsByAsk }
     ensures cause { LineCaused (H.world.counts host.old) (H.world.counts host.new) result }
 {
-    match names_fault(alloc, state, changes.items()) {
-        Ok(Some(line)) => Ok(Asked::Refused { line }),
-        Ok(None) => commit(alloc, state, host, changes),
+    match place(alloc, state.here.bytes(), changes) {
+        Ok(targets) => commit_placed(alloc, state, host, &targets),
         Err(Memory) => Err(RunError::Memory),
     }
 }

@@ -12,9 +12,6 @@ returns-then-is_over-clause-ran g c = λ env.
     Ran-map (over-ends env c.args.session.now c.args.reader.now _ c.is_over.ensures.idle (sym c.is_over.ensures.over ∙ c.if-is_over.true))
     (c.end_of_input.ensures.ran env c.args.reader.now)
 
-pub returns-then-is_over-clause-fall : goal.returns-then-is_over-clause-fall
-returns-then-is_over-clause-fall g c = c.end_of_input.ensures.fall
-
 pub returns-then-is_over-clause-progress : goal.returns-then-is_over-clause-progress
 returns-then-is_over-clause-progress g c = ended-whatever c.end_of_input.result _ c.end_of_input.ensures.ended
 

@@ -1,5 +1,4 @@
 use Rattle.host_port.proofs.RanLemmas.{Ran-then, Ran-map}
-use Rattle.session_asks.proofs.AskLemmas.{never-fall-then}
 use Rattle.mailx_top.proofs.EndLemmas.{ended-whatever, line-ends}
 use Rattle.mailx_top.proofs.WaitingLemmas.{step-leads, end-leads, take-cut-leads}
 use Rattle.mailx_top.proofs.session.next_line.Goals as goal
@@ -26,9 +25,3 @@ returns-in-Ok-None-clause-plain g c = line-ends c.end_of_input.result c.end_of_i
 pub returns-in-Err-clause-ran : goal.returns-in-Err-clause-ran
 returns-in-Err-clause-ran g c = λ env.
     Ran-map (take-cut-leads env c.args.session.now c.args.reader.now c.in-Err.cause c.requires) (rw c.in-Err.is at c.line.ensures.ran)
-
-pub returns-in-Ok-Some-clause-fall : goal.returns-in-Ok-Some-clause-fall
-returns-in-Ok-Some-clause-fall g c = never-fall-then _ _ _ c.line.ensures.ran.never_fall c.step.ensures.ran.never_fall
-
-pub returns-in-Ok-None-clause-fall : goal.returns-in-Ok-None-clause-fall
-returns-in-Ok-None-clause-fall g c = never-fall-then _ _ _ c.line.ensures.ran.never_fall c.end_of_input.ensures.fall

@@ -1,5 +1,4 @@
 use Rattle.host_port.proofs.RanLemmas.{Ran-then, Ran-map}
-use Rattle.session_asks.proofs.AskLemmas.{never-fall-then}
 use Rattle.mailx_top.proofs.WaitingLemmas.{prompt-cut-leads}
 use Rattle.mailx_top.proofs.session.one_line.Goals as goal
 
@@ -9,5 +8,3 @@ returns-in-Ok-clause-ran g c = λ env. Ran-then (λ said es says leads. leads sa
 pub returns-in-Err-clause-ran : goal.returns-in-Err-clause-ran
 returns-in-Err-clause-ran g c = λ env. Ran-map (prompt-cut-leads env c.args.session.now c.args.reader.now c.in-Err.cause c.requires) c.in-Err.ensures.ran
 
-pub returns-in-Ok-clause-fall : goal.returns-in-Ok-clause-fall
-returns-in-Ok-clause-fall g c = never-fall-then _ _ _ c.in-Ok.ensures.ran.never_fall c.next_line.ensures.fall

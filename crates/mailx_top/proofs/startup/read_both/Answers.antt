@@ -1,16 +1,12 @@
 use Rattle.std.proofs.Common.{[], ◌∷◌, false}
 use Rattle.std.specs.declared.option.Option.TheVariants.{None}
 use Rattle.host_port.proofs.RanLemmas.{Ran-then}
-use Rattle.mailx_top.specs.declared.environment.Environment.{Environment}
 use Rattle.command_words.specs.declared.options.Options.{Options}
 use Rattle.mailx_top.specs.Words.{Start, Opens}
 use Rattle.mailx_top.specs.Meaning.{Preparing, system_file}
-use Rattle.mailx_top.proofs.EndLemmas.{caused-since}
+use Rattle.mailx_top.proofs.EndLemmas.{any-env, caused-since}
 use Rattle.mailx_top.proofs.WaitingLemmas.{leads-then}
 use Rattle.mailx_top.proofs.startup.read_both.Goals as goal
-
-any-env : Environment
-any-env = record { pairs = []; folder = []; terminal = false; token = 0 }
 
 any-options : Options
 any-options = record {

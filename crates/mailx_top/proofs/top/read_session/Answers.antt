@@ -1,12 +1,7 @@
-use Rattle.std.proofs.Common.{[], false}
 use Rattle.host_port.proofs.RanLemmas.{Ran-then}
-use Rattle.mailx_top.specs.declared.environment.Environment.{Environment}
 use Rattle.mailx_top.specs.Wants.{start_from}
-use Rattle.mailx_top.proofs.EndLemmas.{caused-since}
+use Rattle.mailx_top.proofs.EndLemmas.{any-env, caused-since}
 use Rattle.mailx_top.proofs.top.read_session.Goals as goal
-
-any-env : Environment
-any-env = record { pairs = []; folder = []; terminal = false; token = 0 }
 
 pub returns-in-Ok-clause-ran : goal.returns-in-Ok-clause-ran
 returns-in-Ok-clause-ran g c = λ env.

@@ -8,10 +8,12 @@ use Rattle.session_play.specs.Play.{cut}
 use Rattle.session_play.proofs.PlayLemmas.{at-memory}
 use Rattle.mailx_top.specs.Meaning.{recovering}
 use Rattle.mailx_top.specs.Runs.{IsRun}
-use Rattle.mailx_top.specs.Usage.{IsBadName}
+use Rattle.mailx_top.specs.Usage.{IsBadName, EndsAsNamed}
 use Rattle.mailx_top.specs.Wants.{may_start}
 use Rattle.mailx_top.specs.Words.{Start, asked, start_by, start_of}
 use Rattle.mailx_top.proofs.EndLemmas.{cut-said, cut-unless-idle, only-usage, bad-ended, bad-cut}
+use Rattle.mailx_top.specs.declared.top.End.{End}
+use Rattle.mailx_top.proofs.CompleteLemmas.{complete-end, complete-cut}
 use Rattle.mailx_top.proofs.SafeLemmas.{safely}
 use Rattle.mailx_top.proofs.RunLemmas.{run-of}
 use Rattle.mailx_top.proofs.top.run.Goals as goal
@@ -45,6 +47,21 @@ returns-in-Ok-play_to_end-clause-usage_only g c = λ is.
     let env = c.args.env.now in
     let same : may_start c.asked_by-asked.result ≡ asked c.args.words.now = c.asked_by-asked.ensures ∙ ap (option_and_then start_by) c.in-Ok.ensures in
     subst (λ (a : Option Start). start_of a env.pairs ≡ None) same (only-usage env _ _ c.in-Ok-play_to_end.ensures.named is)
+
+pub returns-in-Err-clause-complete : goal.returns-in-Err-clause-complete
+returns-in-Err-clause-complete g c = λ some still es run free. tt
+
+pub returns-in-Ok-play_to_end-clause-complete : goal.returns-in-Ok-play_to_end-clause-complete
+returns-in-Ok-play_to_end-clause-complete g c = λ some still es.
+    let env = c.args.env.now in
+    let same : may_start c.asked_by-asked.result ≡ asked c.args.words.now = c.asked_by-asked.ensures ∙ ap (option_and_then start_by) c.in-Ok.ensures in
+    let s = c.in-Ok-play_to_end.«end».status in
+    complete-end (asked c.args.words.now) env s (subst (λ (a : Option Start). EndsAsNamed env (start_of a env.pairs) (Ok s)) same c.in-Ok-play_to_end.ensures.named) some es
+
+pub returns-clause-complete : goal.returns-clause-complete
+returns-clause-complete g c = λ some still es.
+    rw c.stop_status.ensures (complete-cut (asked c.args.words.now) c.args.env.now End c.in-Err-play_to_end.cause (g.H.Host.world.counts c.args.host.now) (g.H.Host.world.counts c.play_to_end.new.host)
+    (g.H.Host.world.counts c.say_cut.new.host) c.in-Err-play_to_end.ensures.cause c.say_cut.ensures.never_fall still es)
 
 pub returns-in-Ok-play_to_end-clause-bad_name : goal.returns-in-Ok-play_to_end-clause-bad_name
 returns-in-Ok-play_to_end-clause-bad_name g c = λ bad.

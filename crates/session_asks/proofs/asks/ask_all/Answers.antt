@@ -30,7 +30,7 @@ loop-ask-preserved g c =
     record {
       state = c.do_ask-asked.ensures.valid;
       desk = only-then c.args.state.now c.loop-ask.state c.do_ask-asked.new.state c.loop-ask.invariant.desk (rw on at c.do_ask-asked.ensures.desk);
-      fall = never-fall-then _ _ _ c.loop-ask.invariant.fall c.do_ask-asked.ensures.fall;
+      fall = never-fall-then _ _ _ c.loop-ask.invariant.fall c.do_ask-asked.ensures.ran.never_fall;
       brought = brings-then c.args.state.now c.loop-ask.state c.do_ask-asked.new.state c.loop-ask.invariant.brought c.do_ask-asked.ensures.brings;
       quiet = λ none.
           let before = c.loop-ask.invariant.quiet none in
@@ -49,7 +49,7 @@ loop-ask-preserved-else-not-all_done-2 g c =
     record {
       state = c.do_ask-asked.ensures.valid;
       desk = only-then c.args.state.now c.loop-ask.state c.do_ask-asked.new.state c.loop-ask.invariant.desk (rw on at c.do_ask-asked.ensures.desk);
-      fall = never-fall-then _ _ _ c.loop-ask.invariant.fall c.do_ask-asked.ensures.fall;
+      fall = never-fall-then _ _ _ c.loop-ask.invariant.fall c.do_ask-asked.ensures.ran.never_fall;
       brought = brings-then c.args.state.now c.loop-ask.state c.do_ask-asked.new.state c.loop-ask.invariant.brought c.do_ask-asked.ensures.brings;
       quiet = λ none.
           let before = c.loop-ask.invariant.quiet none in
@@ -66,9 +66,6 @@ returns-then-not-all_done-clause-ran g c =
     let step : c.loop-ask.ask-iterator.rest.items ≡ c.in-Some.ask ∷ c.next.new.self.rest.items = c.in-Some.ensures.steps.0 in
     Ran-then (left-off c.args.state.now c.loop-ask.state c.do_ask-asked.new.state c.do_ask-asked.result c.args.asks c.loop-ask.ask-iterator.rest.items c.next.new.self.rest.items c.in-Some.ask step off)
     c.loop-ask.invariant.ran c.do_ask-asked.ensures.ran
-
-pub returns-then-not-all_done-clause-fall : goal.returns-then-not-all_done-clause-fall
-returns-then-not-all_done-clause-fall g c = never-fall-then _ _ _ c.loop-ask.invariant.fall c.do_ask-asked.ensures.fall
 
 pub returns-then-not-all_done-clause-brings : goal.returns-then-not-all_done-clause-brings
 returns-then-not-all_done-clause-brings g c = brings-then c.args.state.now c.loop-ask.state c.do_ask-asked.new.state c.loop-ask.invariant.brought c.do_ask-asked.ensures.brings

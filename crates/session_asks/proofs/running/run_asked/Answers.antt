@@ -2,7 +2,6 @@ use Rattle.host_port.proofs.RanLemmas.{Ran-then, Ran-map}
 use Rattle.session_play.specs.Play.{Ask, Ret}
 use Rattle.session_play.proofs.PlayLemmas.{goes-then, goes-cut}
 use Rattle.session_asks.specs.Running.{after_run, by_shell}
-use Rattle.session_asks.proofs.AskLemmas.{never-fall-then}
 use Rattle.session_asks.proofs.running.run_asked.Goals as goal
 
 pub returns-in-Ok-clause-ran : goal.returns-in-Ok-clause-ran
@@ -16,5 +15,3 @@ returns-in-Err-clause-ran g c =
     let s = c.args.state.now in
     Ran-map (goes-cut (Ask (by_shell s.desk c.args.command.now c.args.input.now) Ret) (after_run s) _) c.in-Err.ensures.ran
 
-pub returns-in-Ok-clause-fall : goal.returns-in-Ok-clause-fall
-returns-in-Ok-clause-fall g c = never-fall-then _ _ _ c.by_shell.ensures.fall c.after_run.ensures.fall

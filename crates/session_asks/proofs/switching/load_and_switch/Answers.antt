@@ -7,10 +7,7 @@ use Rattle.session_asks.proofs.switching.load_and_switch.Goals as goal
 
 pub load_file-requires-clause-file : goal.load_file-requires-clause-file
 load_file-requires-clause-file g c =
-    rw (c.bytes-in-Ok.ensures, c.in-Ok.ensures, c.bytes.ensures) (open-fault-none c.args.state.now c.args.name.now c.args.changes c.requires.names).0
-
-pub load_file-requires-clause-names : goal.load_file-requires-clause-names
-load_file-requires-clause-names g c = (open-fault-none c.args.state.now c.args.name.now c.args.changes c.requires.names).1
+    rw (c.bytes-in-Ok.ensures, c.in-Ok.ensures, c.bytes.ensures) (open-fault-none c.args.state.now c.args.name.now c.args.changes c.requires.names)
 
 pub returns-in-Ok-clause-ran : goal.returns-in-Ok-clause-ran
 returns-in-Ok-clause-ran g c = rw (c.bytes-in-Ok.ensures, c.in-Ok.ensures, c.bytes.ensures) at c.load_file.ensures.ran

@@ -2,9 +2,6 @@ use Rattle.host_port.proofs.RanLemmas.{Ran-map}
 use Rattle.session_state.proofs.SavingLemmas.{commit-follows, commit-caused}
 use Rattle.session_state.proofs.saving.commit_placed.Goals as goal
 
-pub change-answer-requires-clause-files : goal.change-answer-requires-clause-files
-change-answer-requires-clause-files g c = rw (c.bytes-actor.ensures, c.items.ensures) c.requires.files
-
 pub returns-clause-ran : goal.returns-clause-ran
 returns-clause-ran g c = λ changes names placed.
     Ran-map (commit-follows c.args.state.now changes c.change-answer.result c.followed.result (rw (names, placed) at c.followed.ensures.follows))
