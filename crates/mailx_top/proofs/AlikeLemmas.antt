@@ -43,7 +43,7 @@ use Rattle.draft_sending.specs.Sending.{ended_draft}
 use Rattle.mailx_session.specs.Leaving.{leaving}
 use Rattle.mailx_session.specs.Rounds.{typed_play, waiting_play}
 use Rattle.mailx_session.specs.Startup.{startup_play}
-use Rattle.mailx_session.proofs.ObeyLemmas.{Obeys, obeys-acts, met_by}
+use Rattle.mailx_session.proofs.ObeyLemmas.{obeys-acts, Met, nothing_met, met_by}
 use Rattle.mailx_session.proofs.LineLemmas.{MayAsk, Plays, typed-obeys, waiting-obeys, ended-obeys, leaving-obeys, startup-obeys}
 use Rattle.mailx_top.specs.declared.environment.Environment.{Environment}
 use Rattle.mailx_top.specs.declared.words.Manner.{Manner}
@@ -78,8 +78,8 @@ asks-no-line actor token (Child program args input) u = refl
 asks-no-line actor token (Now tz) u = refl
 asks-no-line actor token (Know q) u = refl
 
-no-line : {R : Type 0} (actor : List ℕ) (token : ℕ) (o : Outcome) (E : Bool → R → Type 0) (p : Play R) → Plays actor token o E p → AllActs takes_no_line p
-no-line actor token o E p obeys = obeys-acts (λ (met : Bool). MayAsk actor token) met_by takes_no_line E (λ met act may. asks-no-line actor token act may) false p obeys
+no-line : {R : Type 0} (actor : List ℕ) (token : ℕ) (o : Outcome) (E : Met → R → Type 0) (p : Play R) → Plays actor token o E p → AllActs takes_no_line p
+no-line actor token o E p obeys = obeys-acts (λ (met : Met). MayAsk actor token) met_by takes_no_line E (λ met act may. asks-no-line actor token act may) nothing_met p obeys
 
 typed-none : (s : SessionState) (l : List ℕ) → AllActs takes_no_line (typed_play s l)
 typed-none s l = no-line s.actor s.token s.outcome _ (typed_play s l) (typed-obeys s.actor s.token s.outcome s l ((refl, refl), refl))
@@ -88,10 +88,10 @@ waiting-none : (s : SessionState) (l : WaitingLine) → AllActs takes_no_line (w
 waiting-none s l = no-line s.actor s.token s.outcome _ (waiting_play s l) (waiting-obeys s.actor s.token s.outcome s l ((refl, refl), refl))
 
 ended-none : (s : SessionState) → AllActs takes_no_line (ended_draft s)
-ended-none s = no-line s.actor s.token s.outcome _ (ended_draft s) (ended-obeys s.actor s.token s.outcome s (refl, refl))
+ended-none s = no-line s.actor s.token s.outcome _ (ended_draft s) (ended-obeys s.actor s.token s.outcome s ((refl, refl), λ is. is))
 
 startup-none : (s : SessionState) (name : List ℕ) → AllActs takes_no_line (startup_play s name)
-startup-none s name = no-line s.actor s.token s.outcome _ (startup_play s name) (startup-obeys s.actor s.token s.outcome s name (refl, refl))
+startup-none s name = no-line s.actor s.token s.outcome _ (startup_play s name) (startup-obeys s.actor s.token s.outcome s name ((refl, refl), λ is. is))
 
 leaving-none : (s : SessionState) → AllActs takes_no_line (leaving s)
 leaving-none s = no-line s.actor s.token s.outcome _ (leaving s) (leaving-obeys s.actor s.token s.outcome s ((refl, refl), refl))

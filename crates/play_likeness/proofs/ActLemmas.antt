@@ -28,7 +28,9 @@ use Rattle.thread_view.specs.declared.view.ViewKind.{ViewKind}
 use Rattle.thread_view.specs.Views.{IsViewOf}
 use Rattle.session_play.specs.declared.act.Found.{Found}
 use Rattle.session_play.specs.declared.act.Found.TheVariants as found
-use Rattle.session_play.specs.Committing.{answer_as}
+use Rattle.session_play.specs.Committing.{Commit, answer_as, Attempted}
+use Rattle.session_play.specs.declared.changing.Attempt.{Attempt}
+use Rattle.session_play.specs.declared.changing.Attempt.TheVariants.{Made, Misnamed}
 use Rattle.session_play.specs.Input.{Input}
 use Rattle.session_play.specs.Moments.{IsMomentAt}
 use Rattle.session_play.specs.Knowing.{Question, Rows, Viewed, Fact, IsFact}
@@ -36,7 +38,7 @@ use Rattle.session_play.specs.Play.{Act, Answer, Line, Say, Read, Try, Changes, 
 use Rattle.play_likeness.specs.Outside.{Outside, Gives, said}
 use Rattle.play_likeness.specs.Plays.{IsGiven, takes_no_line}
 use Rattle.play_likeness.proofs.JobLemmas.{load_on, load-seen}
-use Rattle.play_likeness.proofs.AnswerLemmas.{IsFrom, commit-same, recovery-same, recovery-goes}
+use Rattle.play_likeness.proofs.AnswerLemmas.{IsFrom, attempt-same, recovery-same, recovery-goes}
 use Rattle.play_likeness.proofs.MomentLemmas.{moment-same}
 
 -- the same is still to come, on both sides
@@ -125,6 +127,10 @@ changes-gives : (actor : List ℕ) (token : ℕ) (cs : List Change) (base : List
 changes-gives actor token [] base es r o p h gives = none-gives es o p h.0 gives
 changes-gives actor token (c ∷ cs) base es r o p (inl many) gives = none-gives es o p many.1.0 gives
 changes-gives actor token (c ∷ cs) base es r o p (inr (few, h)) gives = machine-gives (job_for actor token (c ∷ cs) base) Seizing es (Ended h.end) o p h.goes gives
+
+attempt-gives : (c : Commit) (a : Attempt) (es : List Event) (o p : Outside) → Attempted c a es → Gives o es p → o ≡ p
+attempt-gives c (Made a) es o p h gives = changes-gives c.actor c.token c.changes c.base es (answer_as a) o p h.1 gives
+attempt-gives c (Misnamed name fault) es o p h gives = none-gives es o p h.1 gives
 
 from-given : (d : Disk) (o p : Outside) (es : List Event) → IsGiven d o p es → IsFrom d es
 from-given d o p es g = record { honest = g.honest; tell = g.tell }
@@ -218,9 +224,9 @@ module _ (one_row : OneRow) (one_view : (kind : ViewKind) (rows : List Row) (v w
     did-same (Try name) free a b one two =
         let l = load-same name a b one two in same-events (Try name) a b l.0 l.1 l.2 l.3
     did-same (Changes c) free a b one two =
-        let same = commit-same d es fs (from-given d o m es given) (from-given d p n fs also) c a b one two in
+        let same = attempt-same d es fs (from-given d o m es given) (from-given d p n fs also) c a b one two in
         same-events (Changes c) a b same.1 same.0
-        (changes-gives c.actor c.token c.changes c.base es (answer_as a) o m one given.gives) (changes-gives c.actor c.token c.changes c.base fs (answer_as b) p n two also.gives)
+        (attempt-gives c a es o m one given.gives) (attempt-gives c b fs p n two also.gives)
     did-same (Recover actor token) free a b one two =
         let same = recovery-same d es fs (from-given d o m es given) (from-given d p n fs also) actor token a b one two in
         same-events (Recover actor token) a b same.1 same.0

@@ -16,7 +16,12 @@ use Rattle.folder_commit.specs.declared.error.CommitError.{CommitError}
 use Rattle.folder_commit.specs.declared.error.CommitError.TheVariants as error
 use Rattle.folder_commit.specs.Commits.{IsCommit}
 use Rattle.folder_commit.specs.Ends.{AnswersAs}
-use Rattle.session_play.specs.Committing.{Commit, answer_as, IsCommitOf, taken}
+use Rattle.session_play.specs.Committing.{Commit, answer_as, IsCommitOf, Attempted, taken}
+use Rattle.session_play.specs.declared.changing.Attempt.{Attempt}
+use Rattle.session_play.specs.declared.changing.Attempt.TheVariants.{Made, Misnamed}
+use Rattle.session_play.specs.declared.naming.NameFault.{NameFault}
+use Rattle.std.specs.declared.option.Option.{Option}
+use Rattle.std.specs.declared.option.Option.TheVariants.{Some, None}
 use Rattle.session_play.specs.Recovering.{recovery_as, IsRecoveryOf}
 use Rattle.session_play.specs.declared.changing.Committed.{Committed}
 use Rattle.session_play.specs.declared.changing.Committed.TheVariants as committed
@@ -53,7 +58,7 @@ end-answer files (committed.Changed name at) end is = ap answer_of is
 end-answer files (committed.TooLarge name n) end is = ap answer_of is
 end-answer files (committed.TooManyNames n) end never = absurd never
 
-taken-answer : (a : Committed) → taken (answer_as a) ≡ Ok a
+taken-answer : (a : Committed) → taken (answer_as a) ≡ Ok (Made a)
 taken-answer committed.Done = refl
 taken-answer (committed.Busy name) = refl
 taken-answer committed.NotARecord = refl
@@ -61,8 +66,8 @@ taken-answer (committed.Changed name at) = refl
 taken-answer (committed.TooLarge name n) = refl
 taken-answer (committed.TooManyNames n) = refl
 
-abbrev came : Committed → Result Committed Stop
-came a = Ok a
+abbrev came : Committed → Result Attempt Stop
+came a = Ok (Made a)
 
 came-same : (a b : Committed) → came a ≡ came b → a ≡ b
 came-same a b e = cc
@@ -75,6 +80,12 @@ no-memory a is = never (sym (taken-answer a) ∙ ap taken is)
   where
     never : came a ≡ taken (Err error.Memory) → ⊥
     never e = cc
+
+none-some : {A : Type 0} {a : A} → None ≡ Some a → ⊥
+none-some e = cc
+
+some-same : {A : Type 0} (a b : A) → Some a ≡ Some b → a ≡ b
+some-same a b e = cc
 
 -- own events from a disk
 pub record IsFrom (d : Disk) (es : List Event) : Type 0 where
@@ -112,6 +123,13 @@ module _ (d : Disk) (es fs : List Event) (from : IsFrom d es) (of : IsFrom d fs)
 
   pub commit-same : (c : Commit) (a b : Committed) → IsCommitOf c es (answer_as a) → IsCommitOf c fs (answer_as b) → (es ≡ fs) × (a ≡ b)
   commit-same c a b one two = changes-same c.actor c.token c.changes c.base a b one two
+
+  pub attempt-same : (c : Commit) (a b : Attempt) → Attempted c a es → Attempted c b fs → (es ≡ fs) × (a ≡ b)
+  attempt-same c (Made a) (Made b) one two = let same = commit-same c a b one.1 two.1 in (same.0, ap Made same.1)
+  attempt-same c (Made a) (Misnamed name fault) one two = absurd (none-some (sym one.0 ∙ two.0))
+  attempt-same c (Misnamed name fault) (Made b) one two = absurd (none-some (sym two.0 ∙ one.0))
+  attempt-same c (Misnamed name fault) (Misnamed other blame) one two =
+      (both-none es fs one.1 two.1, ap (λ (p : List ℕ × NameFault). Misnamed p.0 p.1) (some-same (name, fault) (other, blame) (sym one.0 ∙ two.0)))
 
 -- ---- a recovery
 
