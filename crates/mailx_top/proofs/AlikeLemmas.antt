@@ -21,7 +21,7 @@ use Rattle.session_play.specs.Causes.{some_out_failed}
 use Rattle.session_play.specs.Input.{Input, no_input}
 use Rattle.session_play.specs.Play.{Act, Answer, Line, Say, Read, Try, Changes, Recover, Child, Now, Know, Play, Ret, Ask, Next, Go, Last, bind}
 use Rattle.play_likeness.specs.Outside.{Outside, said}
-use Rattle.play_likeness.specs.Plays.{IsGiven, takes_no_line, AreAlike, ViewsAreAlike}
+use Rattle.play_likeness.specs.Plays.{IsGiven, takes_no_line, AreAlike}
 use Rattle.play_likeness.proofs.AlikeLemmas.{Alike, ret, ask, line, then-alike, NextAlike, loop-alike, level-first, given-apart, alike-then}
 use Rattle.mailx_vars.specs.Names.{is_short_name}
 use Rattle.draft_text.specs.Texts.{flattened}
@@ -241,17 +241,16 @@ end-same : (may : Bool) (l : Option (List ℕ)) (es fs : List Event) → SaysAtE
 end-same may None es fs is was ok fine = is ∙ sym was
 end-same may (Some bytes) es fs is was ok fine = last-same may bytes es fs is was ok fine
 
-module _ (one_row : OneRow) (one_view : ViewsAreAlike) where
-  pub runs_are_alike : RunsAreAlike
-  runs_are_alike start env d o s t es fs one two =
-      let w = one.run.whole in
-      let v = two.run.whole in
-      let g = given-apart d o one.left es w.front w.behind w.is one.given in
-      let h = given-apart d o two.left fs v.front v.behind v.is two.given in
-      let gone = loop-alike one_row one_view (round env) Same (λ x y i j same. round-alike env same) w.plays v.plays s t one.ended two.ended no_input no_input recovers d o g.between o h.between (level-first o) g.first h.first in
-      let ending : SaysAtEnd (may_say start) (line_at_end (actor_in env) s) w.behind = (subst (λ (out : Result Status Stop). Ending (actor_in env) (may_say start) s out w.behind) one.ended w.ending).1 in
-      let other : SaysAtEnd (may_say start) (line_at_end (actor_in env) t) v.behind = (subst (λ (out : Result Status Stop). Ending (actor_in env) (may_say start) t out v.behind) two.ended v.ending).1 in
-      let behind : w.behind ≡ v.behind = end-same (may_say start) (line_at_end (actor_in env) s) w.behind v.behind ending
-      (subst (λ (e : Status). SaysAtEnd (may_say start) (line_at_end (actor_in env) e) v.behind) (sym gone.end) other)
-      (printed-behind w.front w.behind (sym (ap some_out_failed w.is) ∙ one.printed)) (printed-behind v.front v.behind (sym (ap some_out_failed v.is) ∙ two.printed)) in
-      (gone.end, alike-then d es w.front w.behind fs v.front v.behind w.is v.is gone.alike.says gone.alike.leaves (record { says = ap said behind; leaves = ap (disk (disk d w.front)) behind }))
+pub runs_are_alike : OneRow → RunsAreAlike
+runs_are_alike one_row start env d o s t es fs one two =
+    let w = one.run.whole in
+    let v = two.run.whole in
+    let g = given-apart d o one.left es w.front w.behind w.is one.given in
+    let h = given-apart d o two.left fs v.front v.behind v.is two.given in
+    let gone = loop-alike one_row (round env) Same (λ x y i j same. round-alike env same) w.plays v.plays s t one.ended two.ended no_input no_input recovers d o g.between o h.between (level-first o) g.first h.first in
+    let ending : SaysAtEnd (may_say start) (line_at_end (actor_in env) s) w.behind = (subst (λ (out : Result Status Stop). Ending (actor_in env) (may_say start) s out w.behind) one.ended w.ending).1 in
+    let other : SaysAtEnd (may_say start) (line_at_end (actor_in env) t) v.behind = (subst (λ (out : Result Status Stop). Ending (actor_in env) (may_say start) t out v.behind) two.ended v.ending).1 in
+    let behind : w.behind ≡ v.behind = end-same (may_say start) (line_at_end (actor_in env) s) w.behind v.behind ending
+    (subst (λ (e : Status). SaysAtEnd (may_say start) (line_at_end (actor_in env) e) v.behind) (sym gone.end) other)
+    (printed-behind w.front w.behind (sym (ap some_out_failed w.is) ∙ one.printed)) (printed-behind v.front v.behind (sym (ap some_out_failed v.is) ∙ two.printed)) in
+    (gone.end, alike-then d es w.front w.behind fs v.front v.behind w.is v.is gone.alike.says gone.alike.leaves (record { says = ap said behind; leaves = ap (disk (disk d w.front)) behind }))

@@ -3,7 +3,6 @@ ghost use Rattle.mailx_top.specs.Appended.{RunsKeepAppended};
 ghost use Rattle.mailx_top.specs.Fitting.{RunsFit};
 ghost use Rattle.mailx_top.specs.Quits.{QuitsKeepAppended};
 ghost use Rattle.mailx_top.specs.Replies.{RunsReplyAfter};
-ghost use Rattle.play_likeness.specs.Plays.{ViewsAreAlike};
 
 use message_state::a_text_has_one_row;
 
@@ -38,7 +37,7 @@ pub fn replies_follow()
 /// one start, without steps of others, end with the same status, print the same bytes and leave the same disk, however
 /// their input was cut into pieces.
 pub fn runs_are_alike()
-    ensures { ViewsAreAlike → RunsAreAlike }
+    ensures { RunsAreAlike }
 {
     a_text_has_one_row();
 }

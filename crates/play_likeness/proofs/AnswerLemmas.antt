@@ -20,7 +20,6 @@ use Rattle.session_play.specs.Committing.{Commit, answer_as, IsCommitOf, Attempt
 use Rattle.session_play.specs.declared.changing.Attempt.{Attempt}
 use Rattle.session_play.specs.declared.changing.Attempt.TheVariants.{Made, Misnamed}
 use Rattle.session_play.specs.declared.naming.NameFault.{NameFault}
-use Rattle.std.specs.declared.option.Option.{Option}
 use Rattle.std.specs.declared.option.Option.TheVariants.{Some, None}
 use Rattle.session_play.specs.Recovering.{recovery_as, IsRecoveryOf}
 use Rattle.session_play.specs.declared.changing.Committed.{Committed}

@@ -4,10 +4,6 @@ use Rattle.std.specs.declared.result.Result.TheVariants.{Ok}
 use Rattle.host_port.specs.declared.event.Event.{Event}
 use Rattle.host_port.specs.Disk.{Disk, disk}
 use Rattle.host_port.specs.Ran.{Honest}
-use Rattle.message_state.specs.declared.row.Row.{Row}
-use Rattle.thread_view.specs.declared.view.View.{View}
-use Rattle.thread_view.specs.declared.view.ViewKind.{ViewKind}
-use Rattle.thread_view.specs.Views.{IsViewOf}
 use Rattle.session_play.specs.Acts.{AllActs}
 use Rattle.session_play.specs.Play.{Act, Line, Play, Goes}
 use Rattle.play_likeness.specs.Loads.{LoadsTell}
@@ -33,6 +29,3 @@ pub record AreAlike (d : Disk) (es fs : List Event) : Type 0 where
 abbrev pub PlaysAreAlike : Type 0
 PlaysAreAlike = (p : Play (Unit {0})) (d : Disk) (o a b : Outside) (es fs : List Event) → AllActs takes_no_line p
     → IsGiven d o a es → IsGiven d o b fs → Goes p es (Ok tt) → Goes p fs (Ok tt) → AreAlike d es fs
-
-abbrev pub ViewsAreAlike : Type 0
-ViewsAreAlike = (kind : ViewKind) (rows : List Row) (v w : View) → IsViewOf kind rows v → IsViewOf kind rows w → v ≡ w
