@@ -389,7 +389,14 @@ fn record<H: Host>(
         Ok(Some(change)) => record_first(alloc, state, host, letter, names, change),
         Ok(None) => deliver(alloc, state, host, letter, names),
         Err(Refusal::Fault { line }) => {
-            keep_unrecorded(alloc, state, host, letter, Outcome::Unrecorded, line.bytes())
+            keep_unrecorded(
+                alloc,
+                state,
+                host,
+                letter,
+                Outcome::Unrecorded,
+                line.bytes(),
+            )
         }
         Err(Refusal::Memory) => Err(RunError::Memory),
     }

@@ -177,7 +177,13 @@ fn after_attempt(
     match attempt {
         Attempt::Made { answer } => after_commit(alloc, state, targets, answer),
         Attempt::Misnamed { name, fault } => {
-            misnamed_file(alloc, state.here.bytes(), targets.names.items(), name, fault)
+            misnamed_file(
+                alloc,
+                state.here.bytes(),
+                targets.names.items(),
+                name,
+                fault,
+            )
         }
     }
 }

@@ -7,4 +7,3 @@ returns-in-Ok-clause-ran g c = λ env. Ran-then (λ said es says leads. leads sa
 
 pub returns-in-Err-clause-ran : goal.returns-in-Err-clause-ran
 returns-in-Err-clause-ran g c = λ env. Ran-map (prompt-cut-leads env c.args.session.now c.args.reader.now c.in-Err.cause c.requires) c.in-Err.ensures.ran
-

@@ -14,4 +14,3 @@ pub returns-in-Err-clause-ran : goal.returns-in-Err-clause-ran
 returns-in-Err-clause-ran g c =
     let s = c.args.state.now in
     Ran-map (goes-cut (Ask (by_shell s.desk c.args.command.now c.args.input.now) Ret) (after_run s) _) c.in-Err.ensures.ran
-
