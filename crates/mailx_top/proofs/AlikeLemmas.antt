@@ -44,7 +44,7 @@ use Rattle.mailx_session.specs.Leaving.{leaving}
 use Rattle.mailx_session.specs.Rounds.{typed_play, waiting_play}
 use Rattle.mailx_session.specs.Startup.{startup_play}
 use Rattle.mailx_session.proofs.ObeyLemmas.{obeys-acts, Met, nothing_met, met_by}
-use Rattle.mailx_session.proofs.LineLemmas.{MayAsk, Plays, typed-obeys, waiting-obeys, ended-obeys, leaving-obeys, startup-obeys}
+use Rattle.mailx_session.proofs.LineLemmas.{MayAsk, IsAfter, LineEnds, EndsAs, LeavesAs, RunEnds, Plays, Lines, typed-obeys, waiting-obeys, ended-obeys, leaving-obeys, startup-obeys}
 use Rattle.mailx_top.specs.declared.environment.Environment.{Environment}
 use Rattle.mailx_top.specs.declared.words.Manner.{Manner}
 use Rattle.mailx_top.specs.declared.words.Manner.TheVariants.{Silent, Rows, Quiet, Greeting}
@@ -81,20 +81,23 @@ asks-no-line actor token (Know q) u = refl
 no-line : {R : Type 0} (actor : List ℕ) (token : ℕ) (o : Outcome) (E : Met → R → Type 0) (p : Play R) → Plays actor token o E p → AllActs takes_no_line p
 no-line actor token o E p obeys = obeys-acts (λ (met : Met). MayAsk actor token) met_by takes_no_line E (λ met act may. asks-no-line actor token act may) nothing_met p obeys
 
+lines-none : (s : SessionState) (p : Play (Next SessionState Status)) → Lines s.actor s.token s.outcome p → AllActs takes_no_line p
+lines-none s p obeys = no-line s.actor s.token s.outcome (LineEnds (IsAfter s.actor s.token s.outcome) (EndsAs s.outcome)) p obeys
+
 typed-none : (s : SessionState) (l : List ℕ) → AllActs takes_no_line (typed_play s l)
-typed-none s l = no-line s.actor s.token s.outcome _ (typed_play s l) (typed-obeys s.actor s.token s.outcome s l ((refl, refl), refl))
+typed-none s l = lines-none s (typed_play s l) (typed-obeys s.actor s.token s.outcome s l ((refl, refl), refl))
 
 waiting-none : (s : SessionState) (l : WaitingLine) → AllActs takes_no_line (waiting_play s l)
-waiting-none s l = no-line s.actor s.token s.outcome _ (waiting_play s l) (waiting-obeys s.actor s.token s.outcome s l ((refl, refl), refl))
+waiting-none s l = lines-none s (waiting_play s l) (waiting-obeys s.actor s.token s.outcome s l ((refl, refl), refl))
 
 ended-none : (s : SessionState) → AllActs takes_no_line (ended_draft s)
-ended-none s = no-line s.actor s.token s.outcome _ (ended_draft s) (ended-obeys s.actor s.token s.outcome s ((refl, refl), λ is. is))
+ended-none s = lines-none s (ended_draft s) (ended-obeys s.actor s.token s.outcome s ((refl, refl), λ is. is))
 
 startup-none : (s : SessionState) (name : List ℕ) → AllActs takes_no_line (startup_play s name)
-startup-none s name = no-line s.actor s.token s.outcome _ (startup_play s name) (startup-obeys s.actor s.token s.outcome s name ((refl, refl), λ is. is))
+startup-none s name = lines-none s (startup_play s name) (startup-obeys s.actor s.token s.outcome s name ((refl, refl), λ is. is))
 
 leaving-none : (s : SessionState) → AllActs takes_no_line (leaving s)
-leaving-none s = no-line s.actor s.token s.outcome _ (leaving s) (leaving-obeys s.actor s.token s.outcome s ((refl, refl), refl))
+leaving-none s = no-line s.actor s.token s.outcome (RunEnds (LeavesAs s.outcome)) (leaving s) (leaving-obeys s.actor s.token s.outcome s ((refl, refl), refl))
 
 -- ---- lines
 
