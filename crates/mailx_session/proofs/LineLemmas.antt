@@ -1,7 +1,7 @@
 -- One walk over all that a session does: a line of the input or from elsewhere, the end of a draft, a start-up file, and how the folder is left.
 -- It tells what each may ask and how each may end, that a run ends for its record exactly if a commit met one that can't be read, and that a draft
 -- counts as refused only if changes were.
-use Rattle.std.proofs.Common.{◌≡◌, ◌+◌, ◌||◌, ◌⊎◌, ℕ, Bool, true, false, List, [], ◌∷◌, length, refl, ap, subst, inl, inr, sym, ◌∙◌, nat_le}
+use Rattle.std.proofs.Common.{◌≡◌, ◌+◌, ◌||◌, ◌⊎◌, ℕ, Bool, true, false, List, [], ◌∷◌, length, refl, ap, inl, inr, sym, ◌∙◌, nat_le}
 use Rattle.std.specs.Prelude.{◌==◌, ◌++◌, ℤ, nat_lt, not, if◌then◌else◌}
 use Rattle.std.specs.declared.option.Option.{Option}
 use Rattle.std.specs.declared.option.Option.TheVariants.{Some, None}

@@ -1,5 +1,5 @@
 -- A run that nothing stands in the way of is answered.
-use Rattle.std.proofs.Common.{◌≡◌, ◌⊎◌, ◌||◌, ◌<◌, ℕ, Bool, true, false, List, [], ◌∷◌, refl, sym, ◌∙◌, ap, subst, inl, inr}
+use Rattle.std.proofs.Common.{◌≡◌, ◌⊎◌, ◌||◌, ℕ, Bool, true, false, List, refl, sym, ◌∙◌, ap, subst, inl, inr}
 use Rattle.std.specs.declared.option.Option.{Option}
 use Rattle.std.specs.declared.option.Option.TheVariants.{Some, None}
 use Rattle.std.specs.declared.result.Result.{Result}
@@ -22,14 +22,14 @@ use Rattle.session_state.specs.declared.outcome.Outcome.TheVariants as outcome
 use Rattle.session_state.specs.declared.status.Status.{Status}
 use Rattle.session_state.specs.declared.status.Status.TheVariants as status
 use Rattle.mailx_session.proofs.ObeyLemmas.{Met, nothing_met, met_by}
-use Rattle.mailx_session.proofs.LineLemmas.{CameFrom, Fine, EndsAs}
+use Rattle.mailx_session.proofs.LineLemmas.{CameFrom, Fine}
 use Rattle.mailx_top.specs.declared.environment.Environment.{Environment}
 use Rattle.session_state.specs.Statuses.{IsEnd}
 use Rattle.mailx_top.specs.Complete.{IsStill, some_refused_in, IsUnhindered, IsComplete}
 use Rattle.mailx_top.specs.Leavings.{first_answer, is_quit_refused, is_refused_before, is_refused_at, refused_at_end, last_outcome, outcome_before}
 use Rattle.mailx_top.specs.Meaning.{RunState, Recovering, Preparing, Opening, Reading, Finishing, Leaving, round, input_of, is_opening, is_recovering, actor_in}
 use Rattle.mailx_top.specs.Met.{some_act}
-use Rattle.mailx_top.specs.Openings.{saw_held, IsOpeningExplained}
+use Rattle.mailx_top.specs.Openings.{saw_held}
 use Rattle.mailx_top.specs.Runs.{Ending, IsRun}
 use Rattle.mailx_top.specs.Starts.{is_right_busy, is_recovered, IsExplainedFrom}
 use Rattle.mailx_top.specs.Statuses.{status_at_stop}
@@ -38,7 +38,7 @@ use Rattle.mailx_top.specs.Words as words
 use Rattle.mailx_top.specs.Words.{Start, start_of, may_say}
 use Rattle.mailx_top.proofs.LeavingLemmas.{quit-met}
 use Rattle.mailx_top.proofs.RecordLemmas.{or-moved, or-none}
-use Rattle.mailx_top.proofs.RoundLemmas.{ExitsFrom, IsOther, LeadsFrom, Leading, RoundEnds, Rounds, StateOf, any-round, goes-over, outcome_in, round-obeys}
+use Rattle.mailx_top.proofs.RoundLemmas.{ExitsFrom, IsOther, LeadsFrom, Leading, RoundEnds, Rounds, any-round, goes-over, outcome_in, round-obeys}
 
 abbrev refused_test : (act : Act) → Answer act → List Event → Bool
 refused_test act answer es = is_refused act answer

@@ -15,7 +15,7 @@ use Rattle.session_state.specs.declared.status.Status.{Status}
 use Rattle.session_state.specs.declared.status.Status.TheVariants as status
 use Rattle.mailx_top.specs.declared.environment.Environment.{Environment}
 use Rattle.mailx_top.specs.Leavings.{last_outcome}
-use Rattle.mailx_top.specs.Meaning.{RunState, actor_in, is_opening, is_recovering}
+use Rattle.mailx_top.specs.Meaning.{actor_in, is_opening, is_recovering}
 use Rattle.mailx_top.specs.Met.{some_act_in}
 use Rattle.mailx_top.specs.Openings.{saw_held}
 use Rattle.mailx_top.specs.Runs.{IsRun}

@@ -1,7 +1,7 @@
 -- Whether a run met a record of its actor that can't be read, by the own events of its commits and recoveries.
 use Rattle.std.specs.Prelude.{◌≡◌, not, Bool, true, false, List}
 use Rattle.std.specs.declared.result.Result.{Result}
-use Rattle.std.specs.declared.result.Result.TheVariants.{Ok, Err}
+use Rattle.std.specs.declared.result.Result.TheVariants.{Ok}
 use Rattle.host_port.specs.declared.event.Event.{Event}
 use Rattle.folder_change.specs.declared.change.Change.{Change}
 use Rattle.commit_machine.specs.Jobs.{Ending, Refused, NotARecord, TooLarge}

@@ -1,5 +1,5 @@
 -- What a name stands for: the file that the host is told.
-use Rattle.std.specs.Prelude.{◌==◌, ◌&&◌, ◌++◌, nat_le, ℕ, Bool, true, false, List, [], ◌∷◌, length, map, codes, if◌then◌else◌}
+use Rattle.std.specs.Prelude.{◌==◌, ◌&&◌, ◌++◌, nat_le, ℕ, Bool, false, List, [], ◌∷◌, length, map, codes, if◌then◌else◌}
 use Rattle.std.specs.Str.{bytes_eq}
 use Rattle.commit_machine.specs.Names.{actor_limit}
 use Rattle.folder_change.specs.declared.change.Change.{Change}
