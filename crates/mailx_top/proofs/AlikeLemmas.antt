@@ -1,5 +1,5 @@
 -- Rounds are the same from states that are the same but for their input, and so are whole runs.
-use Rattle.std.proofs.Common.{◌≡◌, ◌⊎◌, ℕ, Bool, true, false, List, [], ◌∷◌, ◌++◌, refl, sym, ◌∙◌, ap, subst, inl, inr}
+use Rattle.std.proofs.Common.{◌≡◌, ◌⊎◌, ℕ, Bool, true, false, List, [], ◌∷◌, ◌++◌, refl, sym, ◌∙◌, ap, subst, inl, inr, true≢false}
 use Rattle.std.specs.Prelude.{if◌then◌else◌, nat_lt, take, length}
 use Rattle.std.specs.declared.option.Option.{Option}
 use Rattle.std.specs.declared.option.Option.TheVariants.{Some, None}
@@ -227,14 +227,14 @@ round-alike env (leaves {s = s} {i = i} {j = j}) = then-alike (NextAlike Same) i
 
 printed-behind : (es fs : List Event) → some_out_failed (es ++ fs) ≡ false → some_out_failed fs ≡ false
 printed-behind [] fs ok = ok
-printed-behind (event.Out bytes true ∷ es) fs ok = absurd (cc ok)
+printed-behind (event.Out bytes true ∷ es) fs ok = absurd (true≢false ok)
 printed-behind (event.Out bytes false ∷ es) fs ok = printed-behind es fs ok
 printed-behind (e ∷ es) fs ok = printed-behind es fs ok
 
 far-same : (bytes : List ℕ) (es fs : List Event) → AsFar bytes es → AsFar bytes fs → some_out_failed es ≡ false → some_out_failed fs ≡ false → es ≡ fs
 far-same bytes es fs (inl is) (inl was) ok fine = is ∙ sym was
-far-same bytes es fs (inr (n, is)) was ok fine = absurd (cc (sym (ap some_out_failed is) ∙ ok))
-far-same bytes es fs (inl is) (inr (n, was)) ok fine = absurd (cc (sym (ap some_out_failed was) ∙ fine))
+far-same bytes es fs (inr (n, is)) was ok fine = absurd (true≢false (sym (ap some_out_failed is) ∙ ok))
+far-same bytes es fs (inl is) (inr (n, was)) ok fine = absurd (true≢false (sym (ap some_out_failed was) ∙ fine))
 
 last-same : (may : Bool) (bytes : List ℕ) (es fs : List Event) → SaysLast may bytes es → SaysLast may bytes fs → some_out_failed es ≡ false → some_out_failed fs ≡ false → es ≡ fs
 last-same true bytes es fs is was ok fine = far-same bytes es fs is was ok fine
