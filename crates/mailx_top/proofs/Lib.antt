@@ -12,3 +12,4 @@ pub mod WaitingLemmas
 pub mod RecoveringLemmas
 pub mod RecordLemmas
 pub mod UnsentLemmas
+pub mod AlikeLemmas

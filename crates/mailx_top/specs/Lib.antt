@@ -17,3 +17,4 @@ pub mod Crash
 pub mod Appended
 pub mod Fitting
 pub mod Replies
+pub mod Alike
