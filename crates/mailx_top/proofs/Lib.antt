@@ -12,4 +12,5 @@ pub mod WaitingLemmas
 pub mod RecoveringLemmas
 pub mod RecordLemmas
 pub mod UnsentLemmas
+pub mod AlikeLemmas
 pub mod TryingLemmas

@@ -17,4 +17,5 @@ pub mod Crash
 pub mod Appended
 pub mod Fitting
 pub mod Replies
+pub mod Alike
 pub mod Trying

@@ -1,7 +1,10 @@
+ghost use Rattle.mailx_top.specs.Alike.{RunsAreAlike};
 ghost use Rattle.mailx_top.specs.Appended.{RunsKeepAppended};
 ghost use Rattle.mailx_top.specs.Fitting.{RunsFit};
 ghost use Rattle.mailx_top.specs.Quits.{QuitsKeepAppended};
 ghost use Rattle.mailx_top.specs.Replies.{RunsReplyAfter};
+
+use message_state::a_text_has_one_row;
 
 /// In a run that is safe each accepted commit has its decision. If it rewrites a file of which it has no other
 /// change, what others appended meanwhile follows the rewritten messages, from the decision on, at each moment and at
@@ -29,3 +32,12 @@ pub fn quits_keep_appended()
 pub fn replies_follow()
     ensures { RunsReplyAfter }
 {}
+
+/// A run is a function of its disk, its input, and what children and the clock answer: two that come to their ends from
+/// one start, without steps of others, end with the same status, print the same bytes and leave the same disk, however
+/// their input was cut into pieces.
+pub fn runs_are_alike()
+    ensures { RunsAreAlike }
+{
+    a_text_has_one_row();
+}

@@ -15,7 +15,9 @@ mod trying;
 mod words;
 
 pub use environment::Environment;
-pub use laws::{appended_follows, decided_fit, quits_keep_appended, replies_follow};
+pub use laws::{
+    appended_follows, decided_fit, quits_keep_appended, replies_follow, runs_are_alike,
+};
 pub use mailx_session::Status;
 pub use top::run;
 pub use trying::try_host;

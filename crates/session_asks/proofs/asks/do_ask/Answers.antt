@@ -9,7 +9,7 @@ pub returns-in-Say-clause-ran : goal.returns-in-Say-clause-ran
 returns-in-Say-clause-ran g c = rw (asked-say c.args.state.now c.args.ask _ c.in-Say.is) (c.say_line.ensures.ran c.args.state.now)
 
 pub returns-in-Commit-clause-ran : goal.returns-in-Commit-clause-ran
-returns-in-Commit-clause-ran g c = rw (asked-commit c.args.state.now c.args.ask _ c.in-Commit.is) c.save.ensures.ran
+returns-in-Commit-clause-ran g c = rw (asked-commit c.args.state.now c.args.ask _ c.in-Commit.is) c.commit.ensures.ran
 
 pub returns-in-Source-clause-ran : goal.returns-in-Source-clause-ran
 returns-in-Source-clause-ran g c = rw (asked-source c.args.state.now c.args.ask _ c.in-Source.is) (rw c.bytes-in-Source.ensures at c.source.ensures.ran)

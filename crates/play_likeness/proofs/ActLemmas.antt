@@ -1,0 +1,236 @@
+-- An act that takes free line is carried out in one way on one disk with one outside.
+use Rattle.std.proofs.Common.{◌≡◌, ℕ, true, false, List, [], ◌∷◌, ◌++◌, refl, sym, ◌∙◌, ap, subst, inl, inr, true≢false}
+use Rattle.std.specs.Prelude.{ℤ, is_none}
+use Rattle.std.specs.List.{AllZip}
+use Rattle.std.specs.declared.option.Option.{Option}
+use Rattle.std.specs.declared.option.Option.TheVariants.{Some, None}
+use Rattle.std.specs.declared.result.Result.{Result}
+use Rattle.host_port.specs.declared.event.Event.{Event}
+use Rattle.host_port.specs.declared.event.Event.TheVariants as event
+use Rattle.host_port.specs.declared.event.Seen.{Seen}
+use Rattle.host_port.specs.declared.event.Seen.TheVariants as seen
+use Rattle.host_port.specs.declared.event.ChildAnswer.{ChildAnswer}
+use Rattle.host_port.specs.Disk.{Disk, disk}
+use Rattle.commit_machine.specs.Jobs.{Job}
+use Rattle.commit_machine.specs.Machine.{State, Call, next, after_reply, Seizing, Ended}
+use Rattle.commit_machine.specs.Goes.{IsOf, loads, stages, stage_fails, publishes, erases, locks, unlocks, seizes, releases, IsNext, reply}
+use Rattle.commit_machine.specs.Goes as machine
+use Rattle.commit_machine.specs.Edits.{job_for, recovery_for}
+use Rattle.folder_change.specs.declared.change.Change.{Change}
+use Rattle.folder_commit.specs.declared.error.CommitError.{CommitError}
+use Rattle.folder_commit.specs.Commits.{IsCommit}
+use Rattle.mail_dates.specs.declared.moment.Moment.{Moment}
+use Rattle.message_state.specs.declared.row.Row.{Row}
+use Rattle.message_state.specs.Rows.{IsRow}
+use Rattle.message_state.specs.RowLaws.{OneRow}
+use Rattle.session_play.specs.declared.act.Found.{Found}
+use Rattle.session_play.specs.declared.act.Found.TheVariants as found
+use Rattle.session_play.specs.Committing.{Commit, answer_as, Attempted}
+use Rattle.session_play.specs.declared.changing.Attempt.{Attempt}
+use Rattle.session_play.specs.declared.changing.Attempt.TheVariants.{Made, Misnamed}
+use Rattle.session_play.specs.Input.{Input}
+use Rattle.session_play.specs.Moments.{IsMomentAt}
+use Rattle.session_play.specs.Knowing.{Question, Rows, Viewed, Fact, IsFact}
+use Rattle.session_play.specs.Play.{Act, Answer, Line, Say, Read, Try, Changes, Recover, Child, Now, Know, Says, seen_at, Did}
+use Rattle.play_likeness.specs.Outside.{Outside, Gives, said}
+use Rattle.play_likeness.specs.Plays.{IsGiven, takes_no_line}
+use Rattle.play_likeness.proofs.JobLemmas.{load_on, load-seen}
+use Rattle.play_likeness.proofs.AnswerLemmas.{IsFrom, attempt-same, recovery-same, recovery-goes}
+use Rattle.play_likeness.proofs.MomentLemmas.{moment-same}
+use Rattle.play_likeness.proofs.ViewLemmas.{views_are_alike}
+
+-- the same is still to come, on both sides
+pub record Level (i : Input) (o : Outside) (j : Input) (p : Outside) : Type 0 where
+  pub text : i.rest ++ o.text ≡ j.rest ++ p.text
+  pub children : o.children ≡ p.children
+  pub times : o.times ≡ p.times
+  pub end : i.ended ≡ true → o.text ≡ []
+  pub other_end : j.ended ≡ true → p.text ≡ []
+
+-- an act was answered the same, by events that say the same and leave the same disk
+pub record DidSame (act : Act) (a b : Answer act) (d : Disk) (es fs : List Event) (i : Input) (o : Outside) (j : Input) (p : Outside) : Type 0 where
+  pub answer : a ≡ b
+  pub says : said es ≡ said fs
+  pub leaves : disk d es ≡ disk d fs
+  pub level : Level i o j p
+
+still-level : (i j : Input) (o m p n : Outside) → o ≡ m → p ≡ n → Level i o j p → Level i m j n
+still-level i j o m p n is also l = subst (λ (m : Outside). Level i m j n) is (subst (λ (n : Outside). Level i o j n) also l)
+
+-- ---- output
+
+says-said : (bytes : List ℕ) (es : List Event) → Says bytes es → said es ≡ bytes
+says-said bytes [] is = sym is
+says-said bytes (event.Out front false ∷ es) (rest, is, more) = ap (λ (r : List ℕ). front ++ r) (says-said rest es more) ∙ sym is
+says-said bytes (e ∷ es) never = absurd never
+
+says-disk : (bytes : List ℕ) (es : List Event) (d : Disk) → Says bytes es → disk d es ≡ d
+says-disk bytes [] d is = refl
+says-disk bytes (event.Out front false ∷ es) d (rest, is, more) = says-disk rest es d more
+says-disk bytes (e ∷ es) d never = absurd never
+
+says-gives : (bytes : List ℕ) (es : List Event) (o p : Outside) → Says bytes es → Gives o es p → o ≡ p
+says-gives bytes [] o p is gives = gives
+says-gives bytes (event.Out front false ∷ es) o p (rest, is, more) gives = says-gives rest es o p more gives
+says-gives bytes (e ∷ es) o p never gives = absurd never
+
+-- ---- loads
+
+found_by : Seen → Option Found
+found_by (seen.Bytes bytes held) = Some (found.Bytes bytes held)
+found_by (seen.TooLarge n) = Some (found.TooLarge n)
+found_by s = None
+
+by-seen : (a : Option Found) → found_by (seen_at a) ≡ a
+unfolding found_by
+by-seen (Some (found.Bytes bytes held)) = refl
+by-seen (Some (found.TooLarge n)) = refl
+by-seen None = refl
+
+some-same : {A : Type 0} (a b : A) → Some a ≡ Some b → a ≡ b
+some-same a b e = cc
+
+-- the events are this one
+given-one : (d : Disk) (o p : Outside) (es : List Event) (e : Event) → es ≡ e ∷ [] → IsGiven d o p es → IsGiven d o p (e ∷ [])
+given-one d o p es e is given = subst (IsGiven d o p) is given
+
+load-told : (d : Disk) (name : List ℕ) (s : Seen) (o p : Outside) (es : List Event) → es ≡ event.Load name s ∷ [] → IsGiven d o p es → (s ≡ load_on d name) × (o ≡ p)
+load-told d name s o p es is given = let g = given-one d o p es (event.Load name s) is given in (load-seen d name s g.honest.0 g.tell.0, g.gives)
+
+-- ---- commits
+
+call-gives : (c : Call) (e : Event) (es : List Event) (o p : Outside) → IsOf c e → Gives o (e ∷ es) p → Gives o es p
+call-gives c e es o p loads g = g
+call-gives c e es o p stages g = g
+call-gives c e es o p stage_fails g = g
+call-gives c e es o p publishes g = g
+call-gives c e es o p erases g = g
+call-gives c e es o p locks g = g
+call-gives c e es o p unlocks g = g
+call-gives c e es o p seizes g = g
+call-gives c e es o p releases g = g
+
+next-gives : (c : Option Call) (e : Event) (es : List Event) (o p : Outside) → IsNext c e → Gives o (e ∷ es) p → Gives o es p
+next-gives None e es o p never g = absurd never
+next-gives (Some c) e es o p of g = call-gives c e es o p of g
+
+machine-gives : (j : Job) (s : State) (es : List Event) (last : State) (o p : Outside) → machine.Goes j s es last → Gives o es p → o ≡ p
+machine-gives j s [] last o p goes gives = gives
+machine-gives j s (e ∷ es) last o p g gives = machine-gives j (after_reply j g.0 (reply e)) es last o p g.3 (next-gives (next j g.0) e es o p g.2 gives)
+
+none-gives : (es : List Event) (o p : Outside) → es ≡ [] → Gives o es p → o ≡ p
+none-gives es o p is gives = subst (λ (es : List Event). Gives o es p) is gives
+
+changes-gives : (actor : List ℕ) (token : ℕ) (cs : List Change) (base : List (List ℕ)) (es : List Event) (r : Result Unit CommitError) (o p : Outside) → IsCommit actor token cs base es r → Gives o es p → o ≡ p
+changes-gives actor token [] base es r o p h gives = none-gives es o p h.0 gives
+changes-gives actor token (c ∷ cs) base es r o p (inl many) gives = none-gives es o p many.1.0 gives
+changes-gives actor token (c ∷ cs) base es r o p (inr (few, h)) gives = machine-gives (job_for actor token (c ∷ cs) base) Seizing es (Ended h.end) o p h.goes gives
+
+attempt-gives : (c : Commit) (a : Attempt) (es : List Event) (o p : Outside) → Attempted c a es → Gives o es p → o ≡ p
+attempt-gives c (Made a) es o p h gives = changes-gives c.actor c.token c.changes c.base es (answer_as a) o p h.1 gives
+attempt-gives c (Misnamed name fault) es o p h gives = none-gives es o p h.1 gives
+
+from-given : (d : Disk) (o p : Outside) (es : List Event) → IsGiven d o p es → IsFrom d es
+from-given d o p es g = record { honest = g.honest; tell = g.tell }
+
+-- ---- what children and the clock answer
+
+heads-same : {A : Type 0} (a b : A) (xs ys : List A) → a ∷ xs ≡ b ∷ ys → a ≡ b
+heads-same a b xs ys e = cc
+
+tails-same : {A : Type 0} (a b : A) (xs ys : List A) → a ∷ xs ≡ b ∷ ys → xs ≡ ys
+tails-same a b xs ys e = cc
+
+with-children : (i j : Input) (o p : Outside) (xs ys : List (Option ChildAnswer)) → xs ≡ ys → Level i o j p → Level i (record o { children = xs }) j (record p { children = ys })
+with-children i j o p xs ys same l = record { text = l.text; children = same; times = l.times; end = l.end; other_end = l.other_end }
+
+with-times : (i j : Input) (o p : Outside) (xs ys : List ℤ) → xs ≡ ys → Level i o j p → Level i (record o { times = xs }) j (record p { times = ys })
+with-times i j o p xs ys same l = record { text = l.text; children = l.children; times = same; end = l.end; other_end = l.other_end }
+
+module _ (one_row : OneRow) where
+  rows-same : (texts : List (List ℕ)) (rows more : List Row) → AllZip IsRow texts rows → AllZip IsRow texts more → rows ≡ more
+  rows-same [] [] [] one two = refl
+  rows-same [] [] (s ∷ more) one two = absurd two
+  rows-same [] (r ∷ rows) more one two = absurd one
+  rows-same (t ∷ texts) [] more one two = absurd one
+  rows-same (t ∷ texts) (r ∷ rows) [] one two = absurd two
+  rows-same (t ∷ texts) (r ∷ rows) (s ∷ more) one two =
+      let rest = rows-same texts rows more one.1 two.1 in
+      let first = one_row t r s one.0 two.0 in
+      (λ i. first i ∷ rest i)
+
+  fact-same : (q : Question) (f g : Fact q) → IsFact q f → IsFact q g → f ≡ g
+  fact-same (Rows texts) f g one two = rows-same texts f g one two
+  fact-same (Viewed kind rows) f g one two = views_are_alike kind rows f g one two
+
+  module _ (d : Disk) (es fs : List Event) (i j : Input) (o m p n : Outside) (given : IsGiven d o m es) (also : IsGiven d p n fs) (level : Level i o j p) where
+    -- the events are the same, and the outside is left as it was
+    same-events : (act : Act) (a b : Answer act) → a ≡ b → es ≡ fs → o ≡ m → p ≡ n → DidSame act a b d es fs i m j n
+    same-events act a b answers events is was = record {
+      answer = answers;
+      says = ap said events;
+      leaves = ap (disk d) events;
+      level = still-level i j o m p n is was level;
+    }
+
+    load-same : (name : List ℕ) (a b : Option Found) → es ≡ event.Load name (seen_at a) ∷ [] → fs ≡ event.Load name (seen_at b) ∷ [] → (a ≡ b) × (es ≡ fs) × (o ≡ m) × (p ≡ n)
+    load-same name a b is was =
+        let one = load-told d name (seen_at a) o m es is given in
+        let two = load-told d name (seen_at b) p n fs was also in
+        let same : seen_at a ≡ seen_at b = one.0 ∙ sym two.0 in
+        (sym (by-seen a) ∙ ap found_by same ∙ by-seen b, is ∙ ap (λ (s : Seen). event.Load name s ∷ []) same ∙ sym was, one.1, two.1)
+
+    child-same : (program : List ℕ) (args : List (List ℕ)) (input : List ℕ) (a b : Option ChildAnswer) → es ≡ event.Child program args input a (is_none a) ∷ [] → fs ≡ event.Child program args input b (is_none b) ∷ []
+        → DidSame (Child program args input) a b d es fs i m j n
+    child-same program args input a b is was =
+        let one = (given-one d o m es _ is given).gives in
+        let two = (given-one d p n fs _ was also).gives in
+        let lists : a ∷ one.0 ≡ b ∷ two.0 = sym one.1 ∙ level.children ∙ two.1 in
+        let same : a ≡ b = heads-same a b one.0 two.0 lists in
+        let events : es ≡ fs = is ∙ ap (λ (c : Option ChildAnswer). event.Child program args input c (is_none c) ∷ []) same ∙ sym was in
+        record {
+          answer = same;
+          says = ap said events;
+          leaves = ap (disk d) events;
+          level = still-level i j _ m _ n one.2 two.2 (with-children i j o p one.0 two.0 (tails-same a b one.0 two.0 lists) level);
+        }
+
+    now-same : (tz : List ℕ) (a b : Moment) → Did (Now tz) a es → Did (Now tz) b fs → DidSame (Now tz) a b d es fs i m j n
+    now-same tz a b (s, is, at) (t, was, by) =
+        let one = (given-one d o m es _ is given).gives in
+        let two = (given-one d p n fs _ was also).gives in
+        let lists : s ∷ one.0 ≡ t ∷ two.0 = sym one.1 ∙ level.times ∙ two.1 in
+        let same : s ≡ t = heads-same s t one.0 two.0 lists in
+        let events : es ≡ fs = is ∙ ap (λ (c : ℤ). event.Now c ∷ []) same ∙ sym was in
+        record {
+          answer = moment-same tz t a b (subst (λ (c : ℤ). IsMomentAt tz c a) same at) by;
+          says = ap said events;
+          leaves = ap (disk d) events;
+          level = still-level i j _ m _ n one.2 two.2 (with-times i j o p one.0 two.0 (tails-same s t one.0 two.0 lists) level);
+        }
+
+    pub did-same : (act : Act) → takes_no_line act ≡ true → (a b : Answer act) → Did act a es → Did act b fs → DidSame act a b d es fs i m j n
+    did-same (Line k) free a b one two = absurd (true≢false (sym free))
+    did-same (Say bytes) free a b one two = record {
+      answer = refl;
+      says = says-said bytes es one ∙ sym (says-said bytes fs two);
+      leaves = says-disk bytes es d one ∙ sym (says-disk bytes fs d two);
+      level = still-level i j o m p n (says-gives bytes es o m one given.gives) (says-gives bytes fs p n two also.gives) level;
+    }
+    did-same (Read name) free a b one two =
+        let l = load-same name (Some a) (Some b) one two in same-events (Read name) a b (some-same a b l.0) l.1 l.2 l.3
+    did-same (Try name) free a b one two =
+        let l = load-same name a b one two in same-events (Try name) a b l.0 l.1 l.2 l.3
+    did-same (Changes c) free a b one two =
+        let same = attempt-same d es fs (from-given d o m es given) (from-given d p n fs also) c a b one two in
+        same-events (Changes c) a b same.1 same.0
+        (attempt-gives c a es o m one given.gives) (attempt-gives c b fs p n two also.gives)
+    did-same (Recover actor token) free a b one two =
+        let same = recovery-same d es fs (from-given d o m es given) (from-given d p n fs also) actor token a b one two in
+        same-events (Recover actor token) a b same.1 same.0
+        (machine-gives (recovery_for actor token) Seizing es _ o m (recovery-goes actor token es a one) given.gives)
+        (machine-gives (recovery_for actor token) Seizing fs _ p n (recovery-goes actor token fs b two) also.gives)
+    did-same (Child program args input) free a b one two = child-same program args input a b one two
+    did-same (Now tz) free a b one two = now-same tz a b one two
+    did-same (Know q) free a b one two =
+        same-events (Know q) a b (fact-same q a b one.1 two.1) (one.0 ∙ sym two.0) (none-gives es o m one.0 given.gives) (none-gives fs p n two.0 also.gives)

@@ -1,0 +1,5 @@
+pub mod Loads
+pub mod Jobs
+pub mod Outside
+pub mod Views
+pub mod Plays

@@ -1,0 +1,6 @@
+//! What a run does is fixed by the disk, the bytes of its input, and what children and the clock answer.
+#![tactic(auto)]
+
+mod laws;
+
+pub use laws::{jobs_are_alike, plays_are_alike, views_are_alike};
