@@ -37,13 +37,13 @@ returns-in-Some-clause-run g c =
     subst (λ (t : Option ℕ). Ran g.H.Host.world c.args.host.now c.try_out.new.host (Does t (asked c.args.words.now) env c.try_out.result)) tries c.try_out.ensures.tries
 
 pub returns-in-Some-clause-input_fault : goal.returns-in-Some-clause-input_fault
-returns-in-Some-clause-input_fault g c = λ is. absurd (tries-end _ status.InputFault c.try_out.ensures.ends is (λ no. no))
+returns-in-Some-clause-input_fault g c = λ is. absurd (tries-end _ status.InputFault c.try_out.ensures.ends is (λ never. never))
 
 pub returns-in-Some-clause-disk_fault : goal.returns-in-Some-clause-disk_fault
-returns-in-Some-clause-disk_fault g c = λ is. absurd (tries-end _ status.DiskFault c.try_out.ensures.ends is (λ no. no))
+returns-in-Some-clause-disk_fault g c = λ is. absurd (tries-end _ status.DiskFault c.try_out.ensures.ends is (λ never. never))
 
 pub returns-in-Some-clause-usage_only : goal.returns-in-Some-clause-usage_only
-returns-in-Some-clause-usage_only g c = λ is. absurd (tries-end _ status.Usage c.try_out.ensures.ends is (λ no. no))
+returns-in-Some-clause-usage_only g c = λ is. absurd (tries-end _ status.Usage c.try_out.ensures.ends is (λ never. never))
 
 pub returns-in-Some-clause-usage_always : goal.returns-in-Some-clause-usage_always
 returns-in-Some-clause-usage_always g c = λ refused.
@@ -73,38 +73,38 @@ returns-in-Some-clause-safe g c = λ before es at to may.
     does-safely (tries_of (reading c.args.words.now) c.args.env.now.pairs) (asked c.args.words.now) c.args.env.now c.try_out.result _ es fits r.0 may r.1
 
 -- no trial
-pub returns-in-None-clause-run : goal.returns-in-None-clause-run
-returns-in-None-clause-run g c =
+pub returns-clause-run : goal.returns-clause-run
+returns-clause-run g c =
     let env = c.args.env.now in
     let s = c.carry_out.result in
     let tries : None ≡ tries_of (reading c.args.words.now) env.pairs = c.in-None.ensures ∙ ap (λ (w : Option Wanted). tries_of w env.pairs) c.in-Ok.ensures in
     subst (λ (t : Option ℕ). Ran g.H.Host.world c.args.host.now c.carry_out.new.host (Does t (asked c.args.words.now) env s)) tries
     (subst (λ (w : Option Wanted). Ran g.H.Host.world c.args.host.now c.carry_out.new.host (IsRun (option_and_then start_by w) env s)) c.in-Ok.ensures c.carry_out.ensures.run)
 
-pub returns-in-None-clause-usage_only : goal.returns-in-None-clause-usage_only
-returns-in-None-clause-usage_only g c = λ is.
+pub returns-clause-usage_only : goal.returns-clause-usage_only
+returns-clause-usage_only g c = λ is.
     let env = c.args.env.now in (
       sym (c.in-None.ensures ∙ ap (λ (w : Option Wanted). tries_of w env.pairs) c.in-Ok.ensures),
       subst (λ (w : Option Wanted). start_of (option_and_then start_by w) env.pairs ≡ None) c.in-Ok.ensures (c.carry_out.ensures.usage_only is),
     )
 
-pub returns-in-None-clause-usage_always : goal.returns-in-None-clause-usage_always
-returns-in-None-clause-usage_always g c = λ refused.
+pub returns-clause-usage_always : goal.returns-clause-usage_always
+returns-clause-usage_always g c = λ refused.
     c.carry_out.ensures.usage_always (ap (λ (w : Option Wanted). start_of (option_and_then start_by w) c.args.env.now.pairs) c.in-Ok.ensures ∙ refused.1)
 
-pub returns-in-None-clause-complete : goal.returns-in-None-clause-complete
-returns-in-None-clause-complete g c = λ some still es.
+pub returns-clause-complete : goal.returns-clause-complete
+returns-clause-complete g c = λ some still es.
     let env = c.args.env.now in
     let C : Option Wanted → Type 0 = λ w. IsComplete (option_and_then start_by w) env c.carry_out.result es in
     subst C c.in-Ok.ensures (c.carry_out.ensures.complete (λ none. some (ap (λ (w : Option Wanted). start_of (option_and_then start_by w) env.pairs) (sym c.in-Ok.ensures) ∙ none)) still es)
 
-pub returns-in-None-clause-bad_name : goal.returns-in-None-clause-bad_name
-returns-in-None-clause-bad_name g c = λ bad.
+pub returns-clause-bad_name : goal.returns-clause-bad_name
+returns-clause-bad_name g c = λ bad.
     let env = c.args.env.now in
     c.carry_out.ensures.bad_name (subst (λ (w : Option Wanted). IsBadName env (start_of (option_and_then start_by w) env.pairs)) (sym c.in-Ok.ensures) bad)
 
-pub returns-in-None-clause-safe : goal.returns-in-None-clause-safe
-returns-in-None-clause-safe g c = λ before es at to may.
-    let r = Ran-since before es (returns-in-None-clause-run g c) at to in
+pub returns-clause-safe : goal.returns-clause-safe
+returns-clause-safe g c = λ before es at to may.
+    let r = Ran-since before es (returns-clause-run g c) at to in
     let fits : c.args.env.now.token < 2 ^ 64 = omega arith in
     does-safely (tries_of (reading c.args.words.now) c.args.env.now.pairs) (asked c.args.words.now) c.args.env.now c.carry_out.result _ es fits r.0 may r.1
