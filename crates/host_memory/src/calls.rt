@@ -40,8 +40,13 @@ pub fn tell(
     ensures ok { OnOk result (TapeAdds tape.old tape.new (steps_before plan.now call) event) }
     ensures start { tape.new.start ≡ tape.old.start }
 {
-    add_others(alloc, plan, call, tape)?;
-    tape.add(alloc, event)
+    match add_others(alloc, plan, call, tape) {
+        Ok(()) => tape.add(alloc, event),
+        Err(memory) => {
+            drop(event);
+            Err(memory)
+        }
+    }
 }
 
 /// Tells that input was taken.

@@ -1,19 +1,50 @@
 // What the calls on the disk of a host in memory add to its tape.
-ghost use Rattle.std.specs.Prelude.{◌≡◌, Some, None, true, false, IfOk, is_err};
+ghost use Rattle.std.specs.Prelude.{◌≡◌, ◌++◌, ◌∷◌, [], Some, None, true, false, IfOk, is_err};
 ghost use Rattle.host_port.specs.Disk.{disk};
 ghost use Rattle.host_port.specs.Calls.{Staged, Published, Erased, Locked, Unlocked, Seized};
-ghost use Rattle.host_memory.specs.Plans.{Ended, TapeAddsCall, TapeAddsPlanned};
+ghost use Rattle.std.specs.Option.{option_copied};
+ghost use Rattle.host_memory.specs.Plans.{Ended, TapeAddsCall, TapeAddsPlanned, answer_of, as_planned};
+ghost use Rattle.host_memory.specs.Standings.{disk_now};
 ghost use Rattle.host_memory.specs.Views.{steps_before, part_at};
 ghost use Rattle.host_port.specs.declared.event.Event.TheVariants as event;
 
 use crate::Plan;
 use crate::calls::failing;
 use crate::ending::{answer, settle};
-use crate::standing::copy_found;
 use crate::tape::{Tape, add_others};
-use host_port::{DiskFault, Event};
+use host_port::{DiskFault, Event, Part};
 use mail_text::{Memory, Text};
 use std::alloc::Global;
+
+// Tells an event as a plan has it, and gives its answer.
+fn tell_planned(
+    alloc: Global,
+    tape: &mut Tape,
+    event: Event,
+    part: Option<&Part>,
+) -> Result<bool, Memory>
+    ensures told { IfOk result
+        (λ _. tape.new.trace.items
+        ≡ tape.old.trace.items ++ as_planned (disk_now tape.old.standing) event (option_copied part.entry) ∷ []) }
+    ensures answer { IfOk result
+        (λ r. r ≡ answer_of (as_planned (disk_now tape.old.standing) event (option_copied part.entry))) }
+    ensures start { tape.new.start ≡ tape.old.start }
+{
+    let mut own = event;
+    match settle(alloc, &tape.standing, &mut own, part) {
+        Ok(()) => {
+            let answer = answer(&own);
+            match tape.add(alloc, own) {
+                Ok(()) => Ok(answer),
+                Err(memory) => Err(memory),
+            }
+        }
+        Err(memory) => {
+            drop(own);
+            Err(memory)
+        }
+    }
+}
 
 /// The steps of others before a call on the disk, and its own event as the plan has it.
 pub fn tell_disk(
@@ -30,15 +61,19 @@ pub fn tell_disk(
         (part_at plan.entry.now.fails call) (is_err r)) }
     ensures start { tape.new.start ≡ tape.old.start }
 {
-    add_others(alloc, plan.foreign.items(), call, tape)?;
-    let part = failing(plan.fails.items(), call);
-    let mut own = event;
-    settle(alloc, &tape.standing, &mut own, part)?;
-    let answer = answer(&own);
-    tape.add(alloc, own)?;
-    match part {
-        None => Ok(Ok(answer)),
-        Some(_) => Ok(Err(DiskFault)),
+    match add_others(alloc, plan.foreign.items(), call, tape) {
+        Ok(()) => {
+            let part = failing(plan.fails.items(), call);
+            let answer = tell_planned(alloc, tape, event, part)?;
+            match part {
+                None => Ok(Ok(answer)),
+                Some(_) => Ok(Err(DiskFault)),
+            }
+        }
+        Err(memory) => {
+            drop(event);
+            Err(memory)
+        }
     }
 }
 

@@ -1,5 +1,6 @@
 // A host in memory, which tells its trace.
 ghost use Rattle.std.specs.Prelude.{◌≡◌, ◌<◌, ◌≤◌, ◌+◌, ◌++◌, ◌∷◌, [], List, Some, None, true, false, length, take, drop, IfOk, OnErr, is_err, IsTrue, ◌↔◌};
+ghost use Rattle.std.specs.Option.{option_copied};
 ghost use Rattle.host_port.specs.Disk.{disk};
 ghost use Rattle.host_port.specs.Ends.{stopped};
 ghost use Rattle.host_port.specs.Names.{IsFileName};
@@ -99,6 +100,14 @@ impl MemHost {
         ensures once { IfOk result (λ v. NamesOnce v.files × NamesOnce v.locks) }
     {
         show(self.alloc, &self.tape.standing)
+    }
+
+    /// The file of a name as it stands. Which it gives on a lost host is open. It takes no memory.
+    pub fn file(&self, name: &[u8]) -> Option<&Text>
+        ensures { (trace : List Event) → host_told self.now ≡ Some trace
+            → option_copied result ≡ (disk (host_start self.now) trace).files name.now }
+    {
+        self.tape.standing.files.get(name)
     }
 
     /// The image of a stop inside the event of this number, counted from 1, of which this part was done: what

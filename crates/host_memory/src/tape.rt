@@ -29,11 +29,21 @@ impl Tape {
         ensures err { OnErr result (self.new.trace.items ≡ self.old.trace.items) }
         ensures start { self.new.start ≡ self.old.start }
     {
-        self.trace.reserve(1)?;
-        effect(alloc, &mut self.standing, &event)?;
-        match self.trace.push(event) {
-            Ok(()) => Ok(()),
-            Err(_) => unreachable!(),
+        match self.trace.reserve(1) {
+            Ok(()) => match effect(alloc, &mut self.standing, &event) {
+                Ok(()) => {
+                    self.trace.push_reserved(event);
+                    Ok(())
+                }
+                Err(memory) => {
+                    drop(event);
+                    Err(memory)
+                }
+            },
+            Err(_) => {
+                drop(event);
+                Err(Memory)
+            }
         }
     }
 }

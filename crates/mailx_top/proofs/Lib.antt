@@ -13,3 +13,4 @@ pub mod RecoveringLemmas
 pub mod RecordLemmas
 pub mod UnsentLemmas
 pub mod AlikeLemmas
+pub mod TryingLemmas

@@ -18,3 +18,4 @@ pub mod Appended
 pub mod Fitting
 pub mod Replies
 pub mod Alike
+pub mod Trying

@@ -10,6 +10,8 @@ mod session;
 mod startup;
 mod status;
 mod top;
+mod trial;
+mod trying;
 mod words;
 
 pub use environment::Environment;
@@ -18,3 +20,4 @@ pub use laws::{
 };
 pub use mailx_session::Status;
 pub use top::run;
+pub use trying::try_host;

@@ -17,7 +17,10 @@ ghost use Rattle.mailx_top.specs.Usage.{EndsAsNamed, EndsOr, EndsUnopened, IsBad
 ghost use Rattle.mailx_top.specs.Wants.{may_start, start_from};
 ghost use Rattle.folder_commit.specs.Safe.{MayCommit};
 ghost use Rattle.mailx_top.specs.Crash.{IsSafe};
-ghost use Rattle.mailx_top.specs.Words.{asked, may_say, options_of, start_of};
+ghost use Rattle.mailx_top.specs.Words.{asked, may_say, options_of, start_by, start_of};
+ghost use Rattle.mailx_top.specs.Trying.{Does, DoesSafely, IsRefused, tries_of};
+ghost use Rattle.std.specs.Option.{option_and_then};
+ghost use Rattle.command_words.specs.Readings.{reading};
 
 use crate::Environment;
 use crate::open::{end_with_usage, open_or_begin};
@@ -26,7 +29,9 @@ use crate::sending::mode_with;
 use crate::session::lines;
 use crate::startup::read_files;
 use crate::status::{stop_line, stop_status};
+use crate::trying::{tries_of, try_out};
 use crate::words::{Start, asked_by, may_say, start_of, wanted};
+use command_words::Wanted;
 use commit_machine::record_name;
 use host_port::Host;
 use mail_text::{Items, Memory, Text};
@@ -305,12 +310,57 @@ fn say_cut<H: Host>(host: &mut H, asked: Option<Start<'_>>, cause: Stop)
     }
 }
 
+/// Carries out what the words ask for, if that is no trial.
+pub(crate) fn carry_out<H: Host>(
+    alloc: Global,
+    wanted: &Option<Wanted>,
+    env: &Environment,
+    host: &mut H,
+) -> Status
+    ensures run { Ran H.world host.old host.new (IsRun (option_and_then start_by wanted.now) env.now result) }
+    ensures input_fault { result ≡ Status.InputFault
+        → Rose (H.world.counts host.old).ins (H.world.counts host.new).ins }
+    ensures output_fault { result ≡ Status.OutputFault
+        → Rose (H.world.counts host.old).outs (H.world.counts host.new).outs }
+    ensures disk_fault { result ≡ Status.DiskFault
+        → Rose (H.world.counts host.old).disks (H.world.counts host.new).disks }
+    ensures usage_only { result ≡ Status.Usage
+        → start_of (option_and_then start_by wanted.now) env.now.pairs ≡ None }
+    ensures usage_always { start_of (option_and_then start_by wanted.now) env.now.pairs ≡ None
+        → IsOrCut Status.Usage result }
+    ensures complete { (start_of (option_and_then start_by wanted.now) env.now.pairs ≡ None → ⊥)
+        → IsStill (H.world.counts host.old) (H.world.counts host.new)
+        → (es : List Event) → IsComplete (option_and_then start_by wanted.now) env.now result es }
+    ensures bad_name { IsBadName env.now (start_of (option_and_then start_by wanted.now) env.now.pairs)
+        → IsUnopened result }
+    ensures safe { (before es : List Event) → H.world.told host.old ≡ Some before
+        → H.world.told host.new ≡ Some (before ++ es)
+        → MayCommit (actor_in env.now) env.now.token (disk (H.world.start host.old) before) es
+        → IsSafe (option_and_then start_by wanted.now) env.now result (disk (H.world.start host.old) before) es }
+{
+    // the clause `safe` speaks of a token of 64 bits
+    let _token = env.token;
+    let asked = asked_by(wanted);
+    match play_to_end(alloc, host, asked, env) {
+        Ok(end) => {
+            say_end(host, asked, &end);
+            end.status
+        }
+        Err(cause) => {
+            say_cut(host, asked, cause);
+            stop_status(cause)
+        }
+    }
+}
+
 /// All that the program does: it reads the words of the command line without the program's own name, recovers what a
 /// stopped run has left and opens the folder that they ask for, or begins the draft that they ask for, carries out the
-/// lines of its input, and answers how it ended. The status' cause is the clause of its name.
+/// lines of its input, and answers how it ended. Or, if they ask for that, it tries itself on a mailbox in memory. The
+/// status' cause is the clause of its name.
 pub fn run<H: Host>(alloc: Global, words: &[Text], env: &Environment, host: &mut H) -> Status
-    // The own events are those of the command meaning, and output and status are its.
-    ensures run { Ran H.world host.old host.new (IsRun (asked words.now) env.now result) }
+    // The own events are those of the command meaning, or the summary of a trial; output and status are its.
+    ensures run { Ran H.world host.old host.new
+        (Does (tries_of (reading words.now) env.now.pairs) (asked words.now) env.now result) }
     // A fault is answered only if the host's count of it rose.
     ensures input_fault { result ≡ Status.InputFault
         → Rose (H.world.counts host.old).ins (H.world.counts host.new).ins }
@@ -319,8 +369,10 @@ pub fn run<H: Host>(alloc: Global, words: &[Text], env: &Environment, host: &mut
     ensures disk_fault { result ≡ Status.DiskFault
         → Rose (H.world.counts host.old).disks (H.world.counts host.new).disks }
     // The usage is answered exactly when the words or the environment are refused.
-    ensures usage_only { result ≡ Status.Usage → start_of (asked words.now) env.now.pairs ≡ None }
-    ensures usage_always { start_of (asked words.now) env.now.pairs ≡ None → IsOrCut Status.Usage result }
+    ensures usage_only { result ≡ Status.Usage
+        → IsRefused (tries_of (reading words.now) env.now.pairs) (start_of (asked words.now) env.now.pairs) }
+    ensures usage_always { IsRefused (tries_of (reading words.now) env.now.pairs)
+        (start_of (asked words.now) env.now.pairs) → IsOrCut Status.Usage result }
     // If no fault is counted, and nothing stands in the way of what the words and lines mean, the run ends as they
     // mean it, or memory ran out.
     ensures complete { (start_of (asked words.now) env.now.pairs ≡ None → ⊥)
@@ -334,7 +386,8 @@ pub fn run<H: Host>(alloc: Global, words: &[Text], env: &Environment, host: &mut
     ensures safe { (before es : List Event) → H.world.told host.old ≡ Some before
         → H.world.told host.new ≡ Some (before ++ es)
         → MayCommit (actor_in env.now) env.now.token (disk (H.world.start host.old) before) es
-        → IsSafe (asked words.now) env.now result (disk (H.world.start host.old) before) es }
+        → DoesSafely (tries_of (reading words.now) env.now.pairs) (asked words.now) env.now result
+        (disk (H.world.start host.old) before) es }
 {
     // the clause `safe` speaks of a token of 64 bits
     let _token = env.token;
@@ -342,15 +395,8 @@ pub fn run<H: Host>(alloc: Global, words: &[Text], env: &Environment, host: &mut
         Ok(wanted) => wanted,
         Err(Memory) => return Status::Memory,
     };
-    let asked = asked_by(&wanted);
-    match play_to_end(alloc, host, asked, env) {
-        Ok(end) => {
-            say_end(host, asked, &end);
-            end.status
-        }
-        Err(cause) => {
-            say_cut(host, asked, cause);
-            stop_status(cause)
-        }
+    match tries_of(&wanted, env) {
+        Some(count) => try_out(alloc, count, host),
+        None => carry_out(alloc, &wanted, env, host),
     }
 }

@@ -11,6 +11,7 @@
 //! | `folder NAME` | the working folder; without it that isn't known |
 //! | `terminal` | the input is a terminal |
 //! | `token N` | the word that no other run has; without it 1 |
+//! | `trial N` | the run is a trial on N messages; the disk counts as changed from that of the case |
 //! | `children` | what each child that ran was given is told |
 //!
 //! A run is its output in lines `|TEXT` (the last `:TEXT` if it has no line feed), with `children` a line `ran <PROGRAM>

@@ -3,11 +3,11 @@ use case_blocks::{Answer, Case, Tells, host, is_case, is_plain, number, put_disk
 use host_memory::MemHost;
 use host_port::Event;
 use mail_text::{Items, Memory, Text};
-use mailx_top::{Environment, run};
+use mailx_top::{Environment, run, try_host};
 
 /// The heads of lines that say something of a run.
-const HEADS: [&str; 6] = [
-    "words ", "env ", "folder ", "terminal", "token ", "children",
+const HEADS: [&str; 7] = [
+    "words ", "env ", "folder ", "terminal", "token ", "children", "trial ",
 ];
 
 fn words(case: Case<'_>, out: &mut Answer) -> Items<Text> {
@@ -89,8 +89,8 @@ fn put_children(host: &MemHost, out: &mut Answer) {
     }
 }
 
-fn put_run(case: Case<'_>, host: &mut MemHost, out: &mut Answer) {
-    let status = ended(case, host, out);
+// What a run left that answered the status of this number.
+fn put_left(case: Case<'_>, host: &MemHost, status: u8, out: &mut Answer) {
     put_said(host, out);
     if value(case, "children").is_some() {
         put_children(host, out);
@@ -100,6 +100,30 @@ fn put_run(case: Case<'_>, host: &mut MemHost, out: &mut Answer) {
     out.put_plain(b"\n");
     let before = view(case, out);
     put_disk(&before, host, out);
+}
+
+fn put_run(case: Case<'_>, host: &mut MemHost, out: &mut Answer) {
+    let status = ended(case, host, out);
+    put_left(case, host, status, out);
+}
+
+// The right that a run took before all else.
+fn put_first_right(host: &MemHost, out: &mut Answer) {
+    if let Some(Event::Seize { name, .. }) = host.trace().first() {
+        out.put_plain(b"seized first ");
+        out.put_in_angles(name.bytes());
+        out.put_plain(b"\n");
+    }
+}
+
+fn put_trial(case: Case<'_>, count: u64, out: &mut Answer) {
+    match try_host(out.alloc(), count) {
+        Ok((host, status)) => {
+            put_first_right(&host, out);
+            put_left(case, &host, status.number(), out);
+        }
+        Err(Memory) => out.lack(),
+    }
 }
 
 fn is_known(line: &str) -> bool {
@@ -123,9 +147,12 @@ impl Tells for Runs {
     fn tell(&self, case: Case<'_>, out: &mut Answer) {
         put_unknown(case.own, out);
         if is_case(case) {
-            match host(case, out) {
-                Ok(mut host) => put_run(case, &mut host, out),
-                Err(Memory) => out.lack(),
+            match value(case, "trial ") {
+                Some(count) => put_trial(case, number(count), out),
+                None => match host(case, out) {
+                    Ok(mut host) => put_run(case, &mut host, out),
+                    Err(Memory) => out.lack(),
+                },
             }
         }
     }

@@ -12,12 +12,12 @@ pub returns-in-Some-clause-planned : goal.returns-in-Some-clause-planned
 returns-in-Some-clause-planned c =
     let before = c.args.tape.now.trace.items in
     let call = c.args.call in
-    let same_part = ap (λ f. part_at f call) c.items-2.ensures in
+    let same_part = ap (λ f. part_at f call) c.items-in-Ok.ensures in
     record {
       fails = ap is_some (c.in-Some.ensures ∙ same_part);
       is =
-          told-as-planned _ _ _ before _ _ (steps_before c.args.plan.now.foreign call) _ _ (part_at c.args.plan.now.fails call) _ (ap (λ (v : DiskView). disk_of v.files v.locks) c.in_ok-add_others.ensures.start)
-          (c.in_ok-add_others.ensures.ok ∙ ap (λ f. before ++ map Foreign (steps_before f call)) c.items.ensures) c.add_others.new.tape.shows c.in_ok-settle.ensures (c.failing-part.ensures ∙ same_part) c.in_ok-add.ensures.ok;
+          told-as-planned _ _ _ before _ _ (steps_before c.args.plan.now.foreign call) _ _ (part_at c.args.plan.now.fails call) _ (ap (λ (v : DiskView). disk_of v.files v.locks) c.in-Ok.ensures.start)
+          (c.in-Ok.ensures.ok ∙ ap (λ f. before ++ map Foreign (steps_before f call)) c.items.ensures) c.add_others.new.tape.shows refl (c.failing-part.ensures ∙ same_part) c.in_ok-answer-in-Ok.ensures.told;
     }
 
 pub returns-in-Some-clause-ok : goal.returns-in-Some-clause-ok
@@ -30,7 +30,7 @@ returns-in-Some-clause-ok c =
     record {
       own = cut_short there c.args.event part;
       is =
-          told-as-planned _ _ _ before _ _ (steps_before c.args.plan.now.foreign call) _ _ (Some part) _ (ap (λ (v : DiskView). disk_of v.files v.locks) c.in_ok-add_others.ensures.start)
-          (c.in_ok-add_others.ensures.ok ∙ ap (λ f. before ++ map Foreign (steps_before f call)) c.items.ensures) c.add_others.new.tape.shows c.in_ok-settle.ensures (c.failing-part.ensures ∙ sym c.in-Some.ensures) c.in_ok-add.ensures.ok;
+          told-as-planned _ _ _ before _ _ (steps_before c.args.plan.now.foreign call) _ _ (Some part) _ (ap (λ (v : DiskView). disk_of v.files v.locks) c.in-Ok.ensures.start)
+          (c.in-Ok.ensures.ok ∙ ap (λ f. before ++ map Foreign (steps_before f call)) c.items.ensures) c.add_others.new.tape.shows refl (c.failing-part.ensures ∙ sym c.in-Some.ensures) c.in_ok-answer-in-Ok.ensures.told;
       happened = (part, refl);
     }

@@ -1,99 +1,110 @@
-use Rattle.std.proofs.Common.{◌<◌, ◌^◌, ◌≡◌, ◌∙◌, arith, ap, [], refl, sym, subst, inr, Option, None, Ok, Err}
+use Rattle.std.proofs.Common.{◌<◌, ◌^◌, ◌≡◌, ◌∙◌, ℕ, arith, ap, sym, subst, Option, Some, None}
 use Rattle.std.specs.Option.{option_and_then}
 use Rattle.host_port.specs.Ran.{Ran}
-use Rattle.host_port.proofs.RanLemmas.{Ran-then, Ran-since, Ran-none}
-use Rattle.session_play.specs.declared.stop.Stop.TheVariants as stop
+use Rattle.host_port.proofs.RanLemmas.{Ran-since, Ran-none}
+use Rattle.command_words.specs.declared.reading.Wanted.{Wanted}
+use Rattle.command_words.specs.Readings.{reading}
 use Rattle.session_state.specs.declared.status.Status.TheVariants as status
-use Rattle.session_play.specs.Play.{cut}
-use Rattle.session_play.proofs.PlayLemmas.{at-memory}
-use Rattle.mailx_top.specs.Meaning.{recovering}
+use Rattle.mailx_top.specs.Complete.{IsComplete}
 use Rattle.mailx_top.specs.Runs.{IsRun}
-use Rattle.mailx_top.specs.Usage.{IsBadName, EndsAsNamed}
-use Rattle.mailx_top.specs.Wants.{may_start}
-use Rattle.mailx_top.specs.Words.{Start, asked, start_by, start_of}
-use Rattle.mailx_top.proofs.EndLemmas.{cut-said, cut-unless-idle, only-usage, bad-ended, bad-cut}
-use Rattle.mailx_top.specs.declared.top.End.{End}
-use Rattle.mailx_top.proofs.CompleteLemmas.{complete-end, complete-cut}
-use Rattle.mailx_top.proofs.SafeLemmas.{safely}
-use Rattle.mailx_top.proofs.RunLemmas.{run-of}
+use Rattle.mailx_top.specs.Trying.{Does, tries_of}
+use Rattle.mailx_top.specs.Usage.{IsBadName}
+use Rattle.mailx_top.specs.Words.{asked, start_by, start_of}
+use Rattle.mailx_top.proofs.TryingLemmas.{does-safely, memory-does, tries-end, tries-start-none}
 use Rattle.mailx_top.proofs.top.run.Goals as goal
 
 -- memory was wanting for the words
 pub returns-in-Err-clause-run : goal.returns-in-Err-clause-run
 returns-in-Err-clause-run g c =
     let env = c.args.env.now in
-    let start = asked c.args.words.now in
     let fits : env.token < 2 ^ 64 = omega arith in
-    Ran-none (run-of start env fits status.Memory (Err stop.Memory) [] [] (cut (at-memory (recovering env (start_of start env.pairs)))) (refl, inr refl) (λ may none. refl))
+    Ran-none (memory-does (tries_of (reading c.args.words.now) env.pairs) (asked c.args.words.now) env fits)
 
 pub returns-in-Err-clause-safe : goal.returns-in-Err-clause-safe
 returns-in-Err-clause-safe g c = λ before es at to may.
     let r = Ran-since before es (returns-in-Err-clause-run g c) at to in
     let fits : c.args.env.now.token < 2 ^ 64 = omega arith in
-    safely (asked c.args.words.now) c.args.env.now status.Memory _ es fits r.0 may r.1
-
-pub returns-in-Ok-play_to_end-clause-run : goal.returns-in-Ok-play_to_end-clause-run
-returns-in-Ok-play_to_end-clause-run g c =
-    let env = c.args.env.now in
-    let fits : env.token < 2 ^ 64 = omega arith in
-    let same : may_start c.asked_by-asked.result ≡ asked c.args.words.now = c.asked_by-asked.ensures ∙ ap (option_and_then start_by) c.in-Ok.ensures in
-    let s = c.in-Ok-play_to_end.«end».status in
-    subst (λ (a : Option Start). Ran g.H.Host.world c.args.host.now c.say_end.new.host (IsRun a env s)) same
-    (Ran-then (λ front rest loop said. run-of (may_start c.asked_by-asked.result) env fits s (Ok s) front rest loop (refl, rw c.in-Ok-play_to_end.ensures.line at said) tt)
-    c.in-Ok-play_to_end.ensures.ran c.say_end.ensures)
-
-pub returns-in-Ok-play_to_end-clause-usage_only : goal.returns-in-Ok-play_to_end-clause-usage_only
-returns-in-Ok-play_to_end-clause-usage_only g c = λ is.
-    let env = c.args.env.now in
-    let same : may_start c.asked_by-asked.result ≡ asked c.args.words.now = c.asked_by-asked.ensures ∙ ap (option_and_then start_by) c.in-Ok.ensures in
-    subst (λ (a : Option Start). start_of a env.pairs ≡ None) same (only-usage env _ _ c.in-Ok-play_to_end.ensures.named is)
+    does-safely (tries_of (reading c.args.words.now) c.args.env.now.pairs) (asked c.args.words.now) c.args.env.now status.Memory _ es fits r.0 may r.1
 
 pub returns-in-Err-clause-complete : goal.returns-in-Err-clause-complete
 returns-in-Err-clause-complete g c = λ some still es run free. tt
 
-pub returns-in-Ok-play_to_end-clause-complete : goal.returns-in-Ok-play_to_end-clause-complete
-returns-in-Ok-play_to_end-clause-complete g c = λ some still es.
+-- a trial
+pub returns-in-Some-clause-run : goal.returns-in-Some-clause-run
+returns-in-Some-clause-run g c =
     let env = c.args.env.now in
-    let same : may_start c.asked_by-asked.result ≡ asked c.args.words.now = c.asked_by-asked.ensures ∙ ap (option_and_then start_by) c.in-Ok.ensures in
-    let s = c.in-Ok-play_to_end.«end».status in
-    complete-end (asked c.args.words.now) env s (subst (λ (a : Option Start). EndsAsNamed env (start_of a env.pairs) (Ok s)) same c.in-Ok-play_to_end.ensures.named) some es
+    let tries : Some c.in-Some.count ≡ tries_of (reading c.args.words.now) env.pairs = c.in-Some.ensures ∙ ap (λ (w : Option Wanted). tries_of w env.pairs) c.in-Ok.ensures in
+    subst (λ (t : Option ℕ). Ran g.H.Host.world c.args.host.now c.try_out.new.host (Does t (asked c.args.words.now) env c.try_out.result)) tries c.try_out.ensures.tries
 
-pub returns-clause-complete : goal.returns-clause-complete
-returns-clause-complete g c = λ some still es.
-    rw c.stop_status.ensures (complete-cut (asked c.args.words.now) c.args.env.now End c.in-Err-play_to_end.cause (g.H.Host.world.counts c.args.host.now) (g.H.Host.world.counts c.play_to_end.new.host)
-    (g.H.Host.world.counts c.say_cut.new.host) c.in-Err-play_to_end.ensures.cause c.say_cut.ensures.never_fall still es)
+pub returns-in-Some-clause-input_fault : goal.returns-in-Some-clause-input_fault
+returns-in-Some-clause-input_fault g c = λ is. absurd (tries-end _ status.InputFault c.try_out.ensures.ends is (λ no. no))
 
-pub returns-in-Ok-play_to_end-clause-bad_name : goal.returns-in-Ok-play_to_end-clause-bad_name
-returns-in-Ok-play_to_end-clause-bad_name g c = λ bad.
+pub returns-in-Some-clause-disk_fault : goal.returns-in-Some-clause-disk_fault
+returns-in-Some-clause-disk_fault g c = λ is. absurd (tries-end _ status.DiskFault c.try_out.ensures.ends is (λ no. no))
+
+pub returns-in-Some-clause-usage_only : goal.returns-in-Some-clause-usage_only
+returns-in-Some-clause-usage_only g c = λ is. absurd (tries-end _ status.Usage c.try_out.ensures.ends is (λ no. no))
+
+pub returns-in-Some-clause-usage_always : goal.returns-in-Some-clause-usage_always
+returns-in-Some-clause-usage_always g c = λ refused.
+    let tries : Some c.in-Some.count ≡ tries_of (reading c.args.words.now) c.args.env.now.pairs =
+    c.in-Some.ensures ∙ ap (λ (w : Option Wanted). tries_of w c.args.env.now.pairs) c.in-Ok.ensures in
+    let none = tries ∙ refused.0 in
+    absurd (cc none)
+
+pub returns-in-Some-clause-complete : goal.returns-in-Some-clause-complete
+returns-in-Some-clause-complete g c = λ some.
     let env = c.args.env.now in
-    let same : may_start c.asked_by-asked.result ≡ asked c.args.words.now = c.asked_by-asked.ensures ∙ ap (option_and_then start_by) c.in-Ok.ensures in
-    bad-ended env _ _ c.in-Ok-play_to_end.ensures.named (subst (λ (a : Option Start). IsBadName env (start_of a env.pairs)) (sym same) bad)
+    let none : start_of (asked c.args.words.now) env.pairs ≡ None =
+    ap (λ (w : Option Wanted). start_of (option_and_then start_by w) env.pairs) (sym c.in-Ok.ensures) ∙ tries-start-none _ env.pairs _ (sym c.in-Some.ensures) in
+    absurd (some none)
 
-pub returns-in-Ok-play_to_end-clause-safe : goal.returns-in-Ok-play_to_end-clause-safe
-returns-in-Ok-play_to_end-clause-safe g c = λ before es at to may.
-    let r = Ran-since before es (returns-in-Ok-play_to_end-clause-run g c) at to in
+pub returns-in-Some-clause-bad_name : goal.returns-in-Some-clause-bad_name
+returns-in-Some-clause-bad_name g c = λ bad.
+    let env = c.args.env.now in
+    let none : start_of (asked c.args.words.now) env.pairs ≡ None =
+    ap (λ (w : Option Wanted). start_of (option_and_then start_by w) env.pairs) (sym c.in-Ok.ensures) ∙ tries-start-none _ env.pairs _ (sym c.in-Some.ensures) in
+    absurd (subst (IsBadName env) none bad)
+
+pub returns-in-Some-clause-safe : goal.returns-in-Some-clause-safe
+returns-in-Some-clause-safe g c = λ before es at to may.
+    let r = Ran-since before es (returns-in-Some-clause-run g c) at to in
     let fits : c.args.env.now.token < 2 ^ 64 = omega arith in
-    safely (asked c.args.words.now) c.args.env.now c.in-Ok-play_to_end.«end».status _ es fits r.0 may r.1
+    does-safely (tries_of (reading c.args.words.now) c.args.env.now.pairs) (asked c.args.words.now) c.args.env.now c.try_out.result _ es fits r.0 may r.1
 
-pub returns-clause-run : goal.returns-clause-run
-returns-clause-run g c =
+-- no trial
+pub returns-in-None-clause-run : goal.returns-in-None-clause-run
+returns-in-None-clause-run g c =
     let env = c.args.env.now in
-    let fits : env.token < 2 ^ 64 = omega arith in
-    let same : may_start c.asked_by-asked.result ≡ asked c.args.words.now = c.asked_by-asked.ensures ∙ ap (option_and_then start_by) c.in-Ok.ensures in
-    let cause = c.in-Err-play_to_end.cause in
-    let s = c.stop_status.result in
-    subst (λ (a : Option Start). Ran g.H.Host.world c.args.host.now c.say_cut.new.host (IsRun a env s)) same
-    (Ran-then (λ front rest loop said. run-of (may_start c.asked_by-asked.result) env fits s (Err cause) front rest loop (c.stop_status.ensures, cut-said _ cause rest said) (cut-unless-idle _ _ cause front rest said))
-    c.in-Err-play_to_end.ensures.ran c.say_cut.ensures)
+    let s = c.carry_out.result in
+    let tries : None ≡ tries_of (reading c.args.words.now) env.pairs = c.in-None.ensures ∙ ap (λ (w : Option Wanted). tries_of w env.pairs) c.in-Ok.ensures in
+    subst (λ (t : Option ℕ). Ran g.H.Host.world c.args.host.now c.carry_out.new.host (Does t (asked c.args.words.now) env s)) tries
+    (subst (λ (w : Option Wanted). Ran g.H.Host.world c.args.host.now c.carry_out.new.host (IsRun (option_and_then start_by w) env s)) c.in-Ok.ensures c.carry_out.ensures.run)
 
-pub returns-clause-bad_name : goal.returns-clause-bad_name
-returns-clause-bad_name g c = λ bad.
+pub returns-in-None-clause-usage_only : goal.returns-in-None-clause-usage_only
+returns-in-None-clause-usage_only g c = λ is.
+    let env = c.args.env.now in (
+      sym (c.in-None.ensures ∙ ap (λ (w : Option Wanted). tries_of w env.pairs) c.in-Ok.ensures),
+      subst (λ (w : Option Wanted). start_of (option_and_then start_by w) env.pairs ≡ None) c.in-Ok.ensures (c.carry_out.ensures.usage_only is),
+    )
+
+pub returns-in-None-clause-usage_always : goal.returns-in-None-clause-usage_always
+returns-in-None-clause-usage_always g c = λ refused.
+    c.carry_out.ensures.usage_always (ap (λ (w : Option Wanted). start_of (option_and_then start_by w) c.args.env.now.pairs) c.in-Ok.ensures ∙ refused.1)
+
+pub returns-in-None-clause-complete : goal.returns-in-None-clause-complete
+returns-in-None-clause-complete g c = λ some still es.
     let env = c.args.env.now in
-    let same : may_start c.asked_by-asked.result ≡ asked c.args.words.now = c.asked_by-asked.ensures ∙ ap (option_and_then start_by) c.in-Ok.ensures in
-    rw c.stop_status.ensures (bad-cut env _ _ c.in-Err-play_to_end.ensures.named (subst (λ (a : Option Start). IsBadName env (start_of a env.pairs)) (sym same) bad))
+    let C : Option Wanted → Type 0 = λ w. IsComplete (option_and_then start_by w) env c.carry_out.result es in
+    subst C c.in-Ok.ensures (c.carry_out.ensures.complete (λ none. some (ap (λ (w : Option Wanted). start_of (option_and_then start_by w) env.pairs) (sym c.in-Ok.ensures) ∙ none)) still es)
 
-pub returns-clause-safe : goal.returns-clause-safe
-returns-clause-safe g c = λ before es at to may.
-    let r = Ran-since before es (returns-clause-run g c) at to in
+pub returns-in-None-clause-bad_name : goal.returns-in-None-clause-bad_name
+returns-in-None-clause-bad_name g c = λ bad.
+    let env = c.args.env.now in
+    c.carry_out.ensures.bad_name (subst (λ (w : Option Wanted). IsBadName env (start_of (option_and_then start_by w) env.pairs)) (sym c.in-Ok.ensures) bad)
+
+pub returns-in-None-clause-safe : goal.returns-in-None-clause-safe
+returns-in-None-clause-safe g c = λ before es at to may.
+    let r = Ran-since before es (returns-in-None-clause-run g c) at to in
     let fits : c.args.env.now.token < 2 ^ 64 = omega arith in
-    safely (asked c.args.words.now) c.args.env.now c.stop_status.result _ es fits r.0 may r.1
+    does-safely (tries_of (reading c.args.words.now) c.args.env.now.pairs) (asked c.args.words.now) c.args.env.now c.carry_out.result _ es fits r.0 may r.1
