@@ -1,12 +1,14 @@
 -- A run that tries itself.
 use Rattle.std.proofs.Common.{◌≡◌, ◌<◌, ◌^◌, ℕ, Bool, true, false, List, [], ◌∷◌, ◌++◌, take, refl, sym, ◌∙◌, ap, subst, inl, inr}
-use Rattle.std.specs.Prelude.{◌↔◌, if◌then◌else◌, IsTrue, codes}
+use Rattle.std.specs.Prelude.{◌↔◌, if◌then◌else◌, IfOk, IsTrue, codes}
 use Rattle.std.specs.Option.{option_and_then}
 use Rattle.std.specs.declared.option.Option.{Option}
 use Rattle.std.specs.declared.option.Option.TheVariants.{Some, None}
+use Rattle.std.specs.declared.result.Result.{Result}
 use Rattle.std.specs.declared.result.Result.TheVariants.{Ok, Err}
 use Rattle.host_port.specs.declared.event.Event.{Event}
 use Rattle.host_port.specs.declared.event.Event.TheVariants as event
+use Rattle.host_port.specs.declared.host.OutFault.{OutFault}
 use Rattle.host_port.specs.Calls.{Said}
 use Rattle.host_port.specs.Disk.{Disk, disk}
 use Rattle.host_port.specs.Own.{own, OnlyLooks}
@@ -32,14 +34,12 @@ use Rattle.play_safety.specs.Passes.{no_commits, last}
 use Rattle.play_safety.specs.Safe.{IsCrashSafe}
 use Rattle.play_safety.proofs.LawLemmas.{run-safe}
 use Rattle.mailx_top.specs.declared.environment.Environment.{Environment}
-use Rattle.mailx_top.specs.Meaning.{actor_in, recovering}
+use Rattle.mailx_top.specs.Meaning.{actor_in}
 use Rattle.mailx_top.specs.Runs.{AsFar, IsRun}
 use Rattle.mailx_top.specs.Statuses.{line_at_stop}
 use Rattle.mailx_top.specs.Trying.{tries_in, tries_by, tries_of, trial_words, trial_env, IsTrial, HasTried, summary_of, IsSummary, Tries, IsTriesEnd, Does, DoesSafely}
 use Rattle.mailx_top.specs.Words.{Start, asked, start_by, start_in, start_of}
 use Rattle.mailx_top.proofs.EndLemmas.{last-looks, cut-looks}
-use Rattle.mailx_top.proofs.RunLemmas.{run-of}
-use Rattle.mailx_top.proofs.SafeLemmas.{safely}
 
 -- a run over a scripted host is a trial
 pub tried : (n : ℕ) (s : Status) (old new : Scripted) (m : MemHost) → Ran scripted_world old new (IsRun (asked trial_words) trial_env s) → host_start (memory_of old) ≡ trial_start n
@@ -62,6 +62,10 @@ pub told-or-lost : (told : Option (List Event)) (lost : Bool) → IsTrue lost �
 told-or-lost None lost iff f = absurd (let t = iff.1 refl in cc (t, f))
 told-or-lost (Some es) lost iff f = (es, refl)
 
+pub if-ok : {X E : Type 0} {P Q : X → Type 0} (r : Result X E) → ((x : X) → P x → Q x) → IfOk r P → IfOk r Q
+if-ok (Ok x) to p = to x p
+if-ok (Err e) to p = p
+
 -- what was printed of the files of a host that has tried is a summary
 pub summed : (n : ℕ) (s : Status) (m : MemHost) (text : List ℕ) (box saved : Option (List ℕ)) (es : List Event) → HasTried n s m → s ≡ status.Done → host_told m ≡ Some es
     → box ≡ (disk (host_start m) es).files (codes "box") → saved ≡ (disk (host_start m) es).files (codes "saved") → text ≡ summary_of n box saved → IsSummary n text
@@ -83,7 +87,7 @@ summary-said n text sum u d e is =
 abbrev pub PrintedFront : List ℕ → List Event → Type 0
 PrintedFront text es = (k : ℕ) × (es ≡ event.Out (take k text) true ∷ [])
 
-pub front-printed : (text : List ℕ) {X : Type 0} (x : X) (d : Disk) (e : Event) → Said (Err x) text d e → Agrees d e × PrintedFront text (own (e ∷ []))
+pub front-printed : (text : List ℕ) (x : OutFault) (d : Disk) (e : Event) → Said (Err x) text d e → Agrees d e × PrintedFront text (own (e ∷ []))
 front-printed text x d e is =
     let P : Event → Type 0 = λ e. Agrees d e × PrintedFront text (own (e ∷ [])) in
     subst P (sym is.1) (tt, (is.0, refl))
@@ -92,10 +96,8 @@ pub front-tries : (n : ℕ) (text : List ℕ) → IsSummary n text → (front re
 front-tries n text sum front rest printed far = (text, sum, printed.0, rest, ap (λ f. f ++ rest) printed.1, far)
 
 tries-looks : (n : ℕ) (s : Status) (es : List Event) → Tries n s es → OnlyLooks es
-tries-looks n status.Done es t = subst OnlyLooks (sym t.2.1) (refl, tt)
-tries-looks n status.OutputFault es t =
-    let rest = t.2.2.1 in
-    subst OnlyLooks (sym t.2.2.2.0) (refl, last-looks true (line_at_stop stop.Output) rest t.2.2.2.1)
+tries-looks n status.Done es t = subst OnlyLooks (sym t.2) (refl, tt)
+tries-looks n status.OutputFault es t = subst OnlyLooks (sym t.4) (refl, last-looks true (line_at_stop stop.Output) t.3 t.5)
 tries-looks n status.Memory es t = cut-looks true stop.Memory es t
 tries-looks n s es t = absurd t
 
@@ -106,20 +108,9 @@ tries-safe n env s d es fits honest may t =
     run-safe {X = Unit {0}} {R = Status} (λ x. Ret (Last s)) tt (actor_in env) env.token d [] es no_commits (Ok s) (λ x. Unit {0}) (λ y k. tt) (λ y k. tt) tt
     (record { fits = fits; fresh = may.fresh; sound = may.sound; honest = honest; lawful = may.lawful }) (last (refl, refl, inl refl)) (tries-looks n s (own es) t)
 
-pub does-safely : (tries : Option ℕ) (start : Option Start) (env : Environment) (s : Status) (d : Disk) (es : List Event) → env.token < 2 ^ 64 → Honest d es → MayCommit (actor_in env) env.token d es
-    → Does tries start env s (own es) → DoesSafely tries start env s d es
-does-safely (Some n) start env s d es fits honest may does = tries-safe n env s d es fits honest may does
-does-safely None start env s d es fits honest may does = safely start env s d es fits honest may does
-
--- memory was wanting for the words
-pub memory-does : (tries : Option ℕ) (start : Option Start) (env : Environment) → env.token < 2 ^ 64 → Does tries start env status.Memory []
-memory-does (Some n) start env fits = inr refl
-memory-does None start env fits =
-    run-of start env fits status.Memory (Err stop.Memory) [] [] (cut (at-memory (recovering env (start_of start env.pairs)))) (refl, inr refl) (λ may none. refl)
-
 -- a run that tries itself ends with no other status
 pub tries-end : (s other : Status) → IsTriesEnd s → s ≡ other → (IsTriesEnd other → ⊥) → ⊥
-tries-end s other ends is no = no (subst IsTriesEnd is ends)
+tries-end s other ends is never = never (subst IsTriesEnd is ends)
 
 -- words that ask for a trial start nothing else
 pub tries-start-none : (wanted : Option Wanted) (pairs : Pairs) (n : ℕ) → tries_of wanted pairs ≡ Some n → start_of (option_and_then start_by wanted) pairs ≡ None
