@@ -34,12 +34,14 @@ use Rattle.play_safety.specs.Passes.{no_commits, last}
 use Rattle.play_safety.specs.Safe.{IsCrashSafe}
 use Rattle.play_safety.proofs.LawLemmas.{run-safe}
 use Rattle.mailx_top.specs.declared.environment.Environment.{Environment}
-use Rattle.mailx_top.specs.Meaning.{actor_in}
+use Rattle.mailx_top.specs.Meaning.{actor_in, recovering}
 use Rattle.mailx_top.specs.Runs.{AsFar, IsRun}
 use Rattle.mailx_top.specs.Statuses.{line_at_stop}
 use Rattle.mailx_top.specs.Trying.{tries_in, tries_by, tries_of, trial_words, trial_env, IsTrial, HasTried, summary_of, IsSummary, Tries, IsTriesEnd, Does, DoesSafely}
 use Rattle.mailx_top.specs.Words.{Start, asked, start_by, start_in, start_of}
 use Rattle.mailx_top.proofs.EndLemmas.{last-looks, cut-looks}
+use Rattle.mailx_top.proofs.RunLemmas.{run-of}
+use Rattle.mailx_top.proofs.SafeLemmas.{safely}
 
 -- a run over a scripted host is a trial
 pub tried : (n : ℕ) (s : Status) (old new : Scripted) (m : MemHost) → Ran scripted_world old new (IsRun (asked trial_words) trial_env s) → host_start (memory_of old) ≡ trial_start n
@@ -62,10 +64,6 @@ pub told-or-lost : (told : Option (List Event)) (lost : Bool) → IsTrue lost �
 told-or-lost None lost iff f = absurd (let t = iff.1 refl in cc (t, f))
 told-or-lost (Some es) lost iff f = (es, refl)
 
-pub if-ok : {X E : Type 0} {P Q : X → Type 0} (r : Result X E) → ((x : X) → P x → Q x) → IfOk r P → IfOk r Q
-if-ok (Ok x) to p = to x p
-if-ok (Err e) to p = p
-
 -- what was printed of the files of a host that has tried is a summary
 pub summed : (n : ℕ) (s : Status) (m : MemHost) (text : List ℕ) (box saved : Option (List ℕ)) (es : List Event) → HasTried n s m → s ≡ status.Done → host_told m ≡ Some es
     → box ≡ (disk (host_start m) es).files (codes "box") → saved ≡ (disk (host_start m) es).files (codes "saved") → text ≡ summary_of n box saved → IsSummary n text
@@ -76,6 +74,10 @@ summed n s m text box saved es has done told box_is saved_is is = record {
       is ∙ ap (λ b. summary_of n b saved) (box_is ∙ ap (λ (d : Disk). (disk d es).files (codes "box")) has.start)
       ∙ ap (summary_of n ((disk (trial_start n) es).files (codes "box"))) (saved_is ∙ ap (λ (d : Disk). (disk d es).files (codes "saved")) has.start);
 }
+
+pub if-ok : {X E : Type 0} {P Q : X → Type 0} (r : Result X E) → ((x : X) → P x → Q x) → IfOk r P → IfOk r Q
+if-ok (Ok x) to p = to x p
+if-ok (Err e) to p = p
 
 -- a summary is printed
 pub summary-said : (n : ℕ) (text : List ℕ) → IsSummary n text → (u : Unit {0}) (d : Disk) (e : Event) → Said (Ok u) text d e → Agrees d e × Tries n status.Done (own (e ∷ []))
@@ -107,6 +109,17 @@ tries-safe : (n : ℕ) (env : Environment) (s : Status) (d : Disk) (es : List Ev
 tries-safe n env s d es fits honest may t =
     run-safe {X = Unit {0}} {R = Status} (λ x. Ret (Last s)) tt (actor_in env) env.token d [] es no_commits (Ok s) (λ x. Unit {0}) (λ y k. tt) (λ y k. tt) tt
     (record { fits = fits; fresh = may.fresh; sound = may.sound; honest = honest; lawful = may.lawful }) (last (refl, refl, inl refl)) (tries-looks n s (own es) t)
+
+pub does-safely : (tries : Option ℕ) (start : Option Start) (env : Environment) (s : Status) (d : Disk) (es : List Event) → env.token < 2 ^ 64 → Honest d es → MayCommit (actor_in env) env.token d es
+    → Does tries start env s (own es) → DoesSafely tries start env s d es
+does-safely (Some n) start env s d es fits honest may does = tries-safe n env s d es fits honest may does
+does-safely None start env s d es fits honest may does = safely start env s d es fits honest may does
+
+-- memory was wanting for the words
+pub memory-does : (tries : Option ℕ) (start : Option Start) (env : Environment) → env.token < 2 ^ 64 → Does tries start env status.Memory []
+memory-does (Some n) start env fits = inr refl
+memory-does None start env fits =
+    run-of start env fits status.Memory (Err stop.Memory) [] [] (cut (at-memory (recovering env (start_of start env.pairs)))) (refl, inr refl) (λ may none. refl)
 
 -- a run that tries itself ends with no other status
 pub tries-end : (s other : Status) → IsTriesEnd s → s ≡ other → (IsTriesEnd other → ⊥) → ⊥
