@@ -1,15 +1,14 @@
 -- Rounds are the same from states that are the same but for their input, and so are whole runs.
-use Rattle.std.proofs.Common.{◌≡◌, ◌⊎◌, ℕ, Bool, true, false, List, [], ◌∷◌, ◌++◌, refl, sym, ◌∙◌, ap, subst, inl, inr, true≢false}
-use Rattle.std.specs.Prelude.{if◌then◌else◌, nat_lt, take, length}
+use Rattle.std.proofs.Common.{◌≡◌, ℕ, Bool, true, false, List, [], ◌∷◌, ◌++◌, refl, sym, ◌∙◌, ap, subst, inl, inr, true≢false}
+use Rattle.std.specs.Prelude.{if◌then◌else◌, nat_lt, length}
 use Rattle.std.specs.declared.option.Option.{Option}
 use Rattle.std.specs.declared.option.Option.TheVariants.{Some, None}
 use Rattle.std.specs.declared.result.Result.{Result}
 use Rattle.std.specs.declared.result.Result.TheVariants.{Ok, Err}
 use Rattle.host_port.specs.declared.event.Event.{Event}
 use Rattle.host_port.specs.declared.event.Event.TheVariants as event
-use Rattle.host_port.specs.Disk.{Disk, disk}
+use Rattle.host_port.specs.Disk.{disk}
 use Rattle.mbox_scan.specs.Mailbox.{list_of, message_limit}
-use Rattle.message_state.specs.declared.row.Row.{Row}
 use Rattle.message_state.specs.RowLaws.{OneRow}
 use Rattle.session_play.specs.declared.act.Found.{Found}
 use Rattle.session_play.specs.declared.act.Found.TheVariants as found
@@ -19,9 +18,9 @@ use Rattle.session_play.specs.declared.stop.Stop.{Stop}
 use Rattle.session_play.specs.Acts.{AllActs}
 use Rattle.session_play.specs.Causes.{some_out_failed}
 use Rattle.session_play.specs.Input.{Input, no_input}
-use Rattle.session_play.specs.Play.{Act, Answer, Line, Say, Read, Try, Changes, Recover, Child, Now, Know, Play, Ret, Ask, Next, Go, Last, bind}
-use Rattle.play_likeness.specs.Outside.{Outside, said}
-use Rattle.play_likeness.specs.Plays.{IsGiven, takes_no_line, AreAlike}
+use Rattle.session_play.specs.Play.{Act, Line, Say, Read, Try, Changes, Recover, Child, Now, Know, Play, Ret, Ask, Next, Go, Last, bind}
+use Rattle.play_likeness.specs.Outside.{said}
+use Rattle.play_likeness.specs.Plays.{takes_no_line}
 use Rattle.play_likeness.proofs.AlikeLemmas.{Alike, ret, ask, line, then-alike, NextAlike, loop-alike, level-first, given-apart, alike-then}
 use Rattle.mailx_vars.specs.Names.{is_short_name}
 use Rattle.draft_text.specs.Texts.{flattened}
@@ -48,13 +47,13 @@ use Rattle.mailx_session.proofs.LineLemmas.{MayAsk, IsAfter, LineEnds, EndsAs, L
 use Rattle.mailx_top.specs.declared.environment.Environment.{Environment}
 use Rattle.mailx_top.specs.declared.words.Manner.{Manner}
 use Rattle.mailx_top.specs.declared.words.Manner.TheVariants.{Silent, Rows, Quiet, Greeting}
-use Rattle.mailx_top.specs.Alike.{IsRunFrom, RunsAreAlike}
+use Rattle.mailx_top.specs.Alike.{RunsAreAlike}
 use Rattle.mailx_top.specs.Meaning.{RunState, at_prompt, is_over, next_unless, recovered, recovering, Recovering, Preparing, with_files, next_file, file_round, Opening, opening, folder_name, with_name_or_fault, ends_with, begun, loaded, unheld, is_no_mail, with_list, greeted, Reading, Finishing, Leaving, round, turn, line_round, finishing_round, with_input, with_finishing, prompted, actor_in}
 use Rattle.mailx_top.specs.Runs.{AsFar, SaysLast, SaysAtEnd, Ending}
 use Rattle.mailx_top.specs.Sending.{draft_with}
 use Rattle.mailx_top.specs.Statuses.{line_at_end}
 use Rattle.mailx_top.specs.Words as words
-use Rattle.mailx_top.specs.Words.{Start, manner_of, may_say, start_of}
+use Rattle.mailx_top.specs.Words.{Start, manner_of, may_say}
 
 -- a state at one input, and the same state at another
 pub data Same : RunState → Input → RunState → Input → Type 0 where

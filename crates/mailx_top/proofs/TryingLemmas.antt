@@ -79,6 +79,10 @@ summed n s m text box saved es has done told box_is saved_is is = record {
       ∙ ap (summary_of n ((disk (trial_start n) es).files (codes "box"))) (saved_is ∙ ap (λ (d : Disk). (disk d es).files (codes "saved")) has.start);
 }
 
+pub if-ok : {X E : Type 0} {P Q : X → Type 0} (r : Result X E) → ((x : X) → P x → Q x) → IfOk r P → IfOk r Q
+if-ok (Ok x) to p = to x p
+if-ok (Err e) to p = p
+
 -- a summary is printed
 pub summary-said : (n : ℕ) (text : List ℕ) → IsSummary n text → (u : Unit {0}) (d : Disk) (e : Event) → Said (Ok u) text d e → Agrees d e × Tries n status.Done (own (e ∷ []))
 summary-said n text sum u d e is =
