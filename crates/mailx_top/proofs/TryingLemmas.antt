@@ -64,10 +64,6 @@ pub told-or-lost : (told : Option (List Event)) (lost : Bool) → IsTrue lost �
 told-or-lost None lost iff f = absurd (let t = iff.1 refl in cc (t, f))
 told-or-lost (Some es) lost iff f = (es, refl)
 
-pub if-ok : {X E : Type 0} {P Q : X → Type 0} (r : Result X E) → ((x : X) → P x → Q x) → IfOk r P → IfOk r Q
-if-ok (Ok x) to p = to x p
-if-ok (Err e) to p = p
-
 -- what was printed of the files of a host that has tried is a summary
 pub summed : (n : ℕ) (s : Status) (m : MemHost) (text : List ℕ) (box saved : Option (List ℕ)) (es : List Event) → HasTried n s m → s ≡ status.Done → host_told m ≡ Some es
     → box ≡ (disk (host_start m) es).files (codes "box") → saved ≡ (disk (host_start m) es).files (codes "saved") → text ≡ summary_of n box saved → IsSummary n text
