@@ -3,3 +3,4 @@ pub mod TextLemmas
 pub mod MailboxLemmas
 pub mod SpanLemmas
 pub mod JoinLemmas
+pub mod GrowthLemmas

@@ -46,7 +46,7 @@ list_of-some b l h = ⊎_elim
     (cases_Bool (is_mailbox b))
 
 -- ---- the texts are proper
-first_break : (b : List ℕ) (n : ℕ) → Nowhere (OccursAt b break_mark) 0 n ⊎ ((at : ℕ) × OccursAt b break_mark at × Nowhere (OccursAt b break_mark) 0 at)
+pub first_break : (b : List ℕ) (n : ℕ) → Nowhere (OccursAt b break_mark) 0 n ⊎ ((at : ℕ) × OccursAt b break_mark at × Nowhere (OccursAt b break_mark) 0 at)
 first_break b zero = inl (λ k low high. absurd (omega arith))
 first_break b (suc n) = ⊎_elim
     (λ none. ⊎_elim

@@ -1,22 +1,13 @@
 -- The spans of a folder, one more at a time.
 use Rattle.std.proofs.Common.{◌≡◌, ℕ, ◌+◌, ◌-◌, ◌≤◌, ◌<◌, true, List, [], ◌∷◌, ◌++◌, Some, length, take, drop, get_or, slice_get, map, option_map, refl, sym, ap, ◌∙◌, arith, append_assoc, drop-drop, length-append, length-drop}
-use Rattle.std.specs.List.{All}
 use Rattle.std.proofs.lemmas.List.{map-append, append-nil, length-map}
 use Rattle.std.proofs.lemmas.Option.{slice_get-map, slice_get_read}
 use Rattle.std.proofs.lemmas.List.Elements.{All-push, All-same}
 use Rattle.mbox_scan.specs.declared.span.Span.{Span}
 use Rattle.mbox_scan.specs.Mailbox.{is_mailbox, texts_of, starts, message_limit}
-use Rattle.mbox_scan.specs.Spans.{text_at, IsWithin, IsScanned}
+use Rattle.mbox_scan.specs.Spans.{text_at, IsWithin, IsScanned, IsScannedTo}
 use Rattle.mbox_scan.proofs.TextLemmas.{length-texts}
-use Rattle.mbox_scan.proofs.MailboxLemmas.{texts-end}
-
--- the spans of the messages before a place, and the messages from there on
-pub record IsScannedTo (b : List ℕ) (spans : List Span) (start : ℕ) : Type 0 where
-  pub start_within : start ≤ length b
-  pub mailbox : is_mailbox (drop start b) ≡ true
-  pub so_far : map (text_at b) spans ++ texts_of (drop start b) ≡ texts_of b
-  pub within : All (IsWithin b) spans
-  pub few : length spans ≤ message_limit
+use Rattle.mbox_scan.proofs.MailboxLemmas.{texts-end, texts-some}
 
 pub span-more : (b rest : List ℕ) (spans more : List Span) (start end next : ℕ) → IsScannedTo b spans start → rest ≡ drop start b → length spans < message_limit
     → texts_of rest ≡ take end rest ∷ texts_of (drop next rest) → is_mailbox (drop next rest) ≡ true → end ≤ next → next ≤ length rest
@@ -58,6 +49,13 @@ starts-count b rest spans start h part =
     let all : length (map (text_at b) spans ++ texts_of (drop start b)) ≡ length (starts b) = ap (λ (l : List (List ℕ)). length l) h.so_far ∙ length-texts b in
     let same : length (texts_of rest) ≡ length (texts_of (drop start b)) = ap (λ (l : List ℕ). length (texts_of l)) part in
     omega (arith, length-append (map (text_at b) spans) (texts_of (drop start b)), length-map spans (text_at b))
+
+-- where bytes are left, a text is left
+pub one-more : (b rest : List ℕ) (spans : List Span) (start : ℕ) → IsScannedTo b spans start → rest ≡ drop start b → 0 < length rest → length spans < length (texts_of b)
+one-more b rest spans start h part some =
+    let mailbox : is_mailbox rest ≡ true = ap is_mailbox part ∙ h.mailbox in
+    let count = starts-count b rest spans start h part in
+    omega (arith, texts-some rest mailbox some, length-texts b)
 
 -- the text at a span that was read
 pub text-read : (b bytes : List ℕ) (spans : List Span) (k : ℕ) (s : Span) → IsScanned b spans → bytes ≡ b → k < length (texts_of b) → s ≡ get_or spans k s

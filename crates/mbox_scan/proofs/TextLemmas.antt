@@ -101,7 +101,7 @@ range-whole : (b r : List ℕ) (p : ℕ) → p < length b → slice_range (b ++ 
 range-whole b r p l =
     ap (take (length b + 0 - p)) (drop-left b r p (omega arith)) ∙ take_at (drop p b) r (length b + 0 - p) (omega (arith, length-drop p b))
 
-drop-right : (b r : List ℕ) (j : ℕ) → drop (length b + j) (b ++ r) ≡ drop j r
+pub drop-right : (b r : List ℕ) (j : ℕ) → drop (length b + j) (b ++ r) ≡ drop j r
 drop-right b r j = sym (drop-drop j (length b) (b ++ r)) ∙ ap (drop j) (drop_at b r (length b) refl)
 
 range-right : (b r : List ℕ) (i j : ℕ) → slice_range (b ++ r) (length b + i) (length b + j) ≡ slice_range r i j
@@ -175,7 +175,7 @@ pub record IsFirstBreak (b : List ℕ) (at : ℕ) : Type 0 where
   pub there : OccursAt b break_mark at
   pub none : Nowhere (OccursAt b break_mark) 0 at
 
-feed-at : (b : List ℕ) (at : ℕ) → OccursAt b break_mark at → get_or b at 0 ≡ 10
+pub feed-at : (b : List ℕ) (at : ℕ) → OccursAt b break_mark at → get_or b at 0 ≡ 10
 feed-at b at h = let e : at ≡ at + 0 = omega arith in ap (λ (i : ℕ). get_or b i 0) e ∙ h.reads 0 (omega arith)
 
 pub front-begins : (b : List ℕ) (at : ℕ) → IsFirstBreak b at → OccursAt (take at b) from_mark 0

@@ -52,6 +52,14 @@ is_mailbox b = length b == 0 || is_start b 0
 unfoldable pub list_of : List ℕ → Option (List (List ℕ))
 list_of b = if is_mailbox b then Some (texts_of b) else None
 
+-- bytes that come after those of a mailbox only add messages: the joined bytes have a list, which begins with the mailbox's
+abbrev pub Adds : List ℕ → List ℕ → Type 0
+Adds b tail = (came : List (List ℕ)) × (list_of (b ++ tail) ≡ Some (texts_of b ++ came))
+
+-- the texts of the first bytes are the first texts of the others, which have n more
+abbrev pub HasMore : List ℕ → List ℕ → ℕ → Type 0
+HasMore b grown n = (came : List (List ℕ)) × (texts_of grown ≡ texts_of b ++ came) × (length came ≡ n)
+
 -- a text as it is written: two line feeds follow it
 abbrev pub written : List ℕ → List ℕ
 written t = t ++ two_feeds

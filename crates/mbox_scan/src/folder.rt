@@ -1,46 +1,19 @@
-ghost use Rattle.std.specs.Prelude.{◌≡◌, ◌+◌, ◌<◌, ◌≤◌, ◌↔◌, [], ◌∷◌, ◌++◌, ℕ, Some, None, Err, IsTrue, IfOk, OnOk, length, take, slice_get};
-ghost use Rattle.mbox_scan.specs.Mailbox.{is_mailbox, starts, texts_of, list_of, message_limit};
-ghost use Rattle.mbox_scan.specs.Spans.{IsScanned};
+ghost use Rattle.std.specs.Prelude.{◌≡◌, ◌+◌, ◌<◌, ◌≤◌, ◌↔◌, [], ◌∷◌, ◌++◌, ℕ, Some, None, Err, IfOk, OnOk, OnErr, length, take, slice_get};
+ghost use Rattle.mbox_scan.specs.Mailbox.{starts, texts_of, list_of, message_limit, Adds, HasMore};
 
-use crate::ScanError;
-use crate::scan::{BREAK, count_messages, first_message, is_mailbox};
-use crate::span::Span;
+use crate::growth::add_tail;
+use crate::scan::is_mailbox;
+use crate::span::{Span, push_spans};
+use crate::{GrowError, ScanError};
 use mail_text::Text;
-use memchr::memmem::Finder;
 use std::alloc::Global;
 use std::marker::Model;
 
 /// The most messages that a folder may have.
 pub const MOST_MESSAGES: usize = 1_000_000;
 
-/// The spans of a mailbox's texts, in order.
-fn find_spans(alloc: Global, bytes: &[u8]) -> Result<Vec<Span>, ScanError>
-    requires { IsTrue (is_mailbox bytes.now) }
-    ensures ok { IfOk result (λ spans. IsScanned bytes.now spans.items) }
-    ensures too_many { (count : ℕ) → result ≡ Err (ScanError.TooMany count)
-        → (count ≡ length (starts bytes.now)) × (message_limit < count) }
-    ensures defined { result ≡ Err ScanError.NotAMailbox → ⊥ }
-{
-    let finder = Finder::new(BREAK);
-    let mut spans = Vec::new(alloc);
-    let mut start = 0;
-    while start < bytes.len() {
-        let (_, rest) = bytes.split_at(start);
-        if spans.len() >= MOST_MESSAGES {
-            let count = spans.len() + count_messages(&finder, rest);
-            return Err(ScanError::TooMany {
-                count: count as u64,
-            });
-        }
-        let first = first_message(&finder, rest);
-        spans.push(Span {
-            start,
-            len: first.end,
-        })?;
-        start += first.next;
-    }
-    Ok(spans)
-}
+/// The most bytes that a folder may have, so that each place in them has 32 bits. No host loads so many.
+pub(crate) const MOST_BYTES: usize = u32::MAX as usize;
 
 /// The bytes of a mailbox with the places of its messages, at most 1,000,000. Contracts see the
 /// bytes; `texts_of` of them is the list of the messages' texts.
@@ -64,7 +37,7 @@ impl Model for Folder {
 impl Folder {
     /// Opens the bytes of a mailbox. `NotAMailbox` if there are bytes and no message starts at
     /// the first of them; else `TooMany`, with their number, if more than 1,000,000 messages
-    /// start; or `Memory`.
+    /// start; or `Memory`, for 4 GiB of bytes too.
     pub fn open(alloc: Global, bytes: Text) -> Result<Folder, ScanError>
         ensures ok { IfOk result (λ f. f ≡ bytes) }
         ensures listed { OnOk result (list_of bytes ≡ Some (texts_of bytes)) }
@@ -76,8 +49,19 @@ impl Folder {
         if !is_mailbox(bytes.bytes()) {
             return Err(ScanError::NotAMailbox);
         }
-        let spans = find_spans(alloc, bytes.bytes())?;
+        if bytes.bytes().len() > MOST_BYTES {
+            return Err(ScanError::Memory);
+        }
+        let mut spans = Vec::new(alloc);
+        push_spans(bytes.bytes(), 0, &mut spans)?;
         Ok(Folder { bytes, spans })
+    }
+
+    /// The bytes. It takes no memory.
+    pub fn bytes(&self) -> &[u8]
+        ensures { result.now ≡ self.now }
+    {
+        self.bytes.bytes()
     }
 
     /// How many messages there are. It takes no memory.
@@ -96,10 +80,27 @@ impl Folder {
         ensures front { take (k + 1) (texts_of self.now) ≡ take k (texts_of self.now) ++ result ∷ [] }
     {
         let span = self.spans[k];
+        let start = span.start as usize;
         let bytes = self.bytes.bytes();
         MessageRef {
-            text: &bytes[span.start..span.start + span.len],
+            text: &bytes[start..start + span.len as usize],
         }
+    }
+
+    /// Puts bytes that came after the folder's own at the end, and tells how many messages they bring. The messages
+    /// before them stay as they are. `NotAMessage` if the bytes don't only add messages; else `TooMany`, with the number
+    /// of all, if more than 1,000,000 would start; or `Memory`. After a refusal the folder is as before.
+    pub fn grow(&mut self, tail: &[u8]) -> Result<usize, GrowError>
+        ensures ok { OnOk result (self.new ≡ self.old ++ tail.now) }
+        ensures more { IfOk result (HasMore self.old self.new) }
+        ensures listed { list_of self.new ≡ Some (texts_of self.new) }
+        ensures few { length (texts_of self.new) ≤ message_limit }
+        ensures refused { OnErr result (self.new ≡ self.old) }
+        ensures not_a_message { (result ≡ Err GrowError.NotAMessage) ↔ ¬ (Adds self.old tail.now) }
+        ensures too_many { (count : ℕ) → result ≡ Err (GrowError.TooMany count)
+            → (count ≡ length (starts (self.old ++ tail.now))) × (message_limit < count) }
+    {
+        add_tail(&mut self.bytes, &mut self.spans, tail)
     }
 }
 

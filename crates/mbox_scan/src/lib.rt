@@ -4,12 +4,13 @@
 
 mod error;
 mod folder;
+mod growth;
 mod laws;
 mod scan;
 mod span;
 mod texts;
 
-pub use error::ScanError;
+pub use error::{GrowError, ScanError};
 pub use folder::{Folder, MOST_MESSAGES, MessageRef};
 pub use laws::{list_of_join, texts_are_proper};
 pub use scan::{is_mailbox, trimmed_len};

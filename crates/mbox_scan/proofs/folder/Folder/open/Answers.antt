@@ -9,11 +9,16 @@ returns-then-not-is_mailbox-clause-not_a_mailbox c =
     let m : is_mailbox c.args.bytes ≡ false = ap is_mailbox (sym c.bytes-2.ensures) ∙ sym c.is_mailbox.ensures ∙ c.if-not-is_mailbox.true in
     (λ e. list_of-none c.args.bytes m, λ e. refl)
 
-pub returns-in_err-spans-clause-not_a_mailbox : goal.returns-in_err-spans-clause-not_a_mailbox
-returns-in_err-spans-clause-not_a_mailbox c =
+pub returns-then-bytes-gt-MOST_BYTES-clause-not_a_mailbox : goal.returns-then-bytes-gt-MOST_BYTES-clause-not_a_mailbox
+returns-then-bytes-gt-MOST_BYTES-clause-not_a_mailbox c =
+    let m : is_mailbox c.args.bytes ≡ true = ap is_mailbox (sym c.bytes-2.ensures) ∙ sym c.is_mailbox.ensures ∙ c.if-not-is_mailbox.false in
+    (λ e. (cc), λ none. absurd (list_of-not c.args.bytes m none))
+
+pub returns-in_err-push_spans-clause-not_a_mailbox : goal.returns-in_err-push_spans-clause-not_a_mailbox
+returns-in_err-push_spans-clause-not_a_mailbox c =
     let m : is_mailbox c.args.bytes ≡ true = ap is_mailbox (sym c.bytes-2.ensures) ∙ sym c.is_mailbox.ensures ∙ c.if-not-is_mailbox.false in
     let p = err_from_is_err_and c.from_residual.result c.from_residual.ensures.1 in
-    (λ e. absurd (c.find_spans.ensures.defined (let w = c.in_err-spans.was in cc (p.1, p.2))), λ none. absurd (list_of-not c.args.bytes m none))
+    (λ e. absurd (c.push_spans.ensures.defined (let w = c.in_err-push_spans.was in cc (p.1, p.2))), λ none. absurd (list_of-not c.args.bytes m none))
 
 pub returns-clause-listed : goal.returns-clause-listed
 returns-clause-listed c =
