@@ -1,14 +1,13 @@
--- The parts that a header is kept as.
-use Rattle.std.specs.Prelude.{◌≡◌, ℕ, List, [], ◌∷◌, if◌then◌else◌}
-use Rattle.mail_headers.specs.Header.{from_line, header_lines, has_two_feeds}
-use Rattle.mail_headers.specs.Cutting.{head_lines}
+-- The parts of a text that a header knows.
+use Rattle.std.specs.Prelude.{◌≡◌, ℕ, ◌≤◌, List, [], ◌∷◌, length, drop, Option, Some, None, if◌then◌else◌}
+use Rattle.mail_headers.specs.Header.{has_two_feeds, body_of}
 
 -- what stands before the first two line feeds in a row, or all
 unfoldable pub head_of : List ℕ → List ℕ
 head_of [] = []
 head_of (b ∷ bs) = if has_two_feeds (b ∷ bs) then [] else b ∷ head_of bs
 
--- the From line of the text, and the bytes after it
-pub record HasParts (text from rest : List ℕ) : Type 0 where
-  pub from_line : from ≡ from_line text
-  pub header_lines : head_lines rest ≡ header_lines text
+-- the body of the text starts at the place, and without a place it has none
+abbrev pub IsBodyPlace : List ℕ → Option ℕ → Type 0
+IsBodyPlace text None = body_of text ≡ None
+IsBodyPlace text (Some place) = (place ≤ length text) × (body_of text ≡ Some (drop place text))

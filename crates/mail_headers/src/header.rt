@@ -1,6 +1,6 @@
-ghost use Rattle.std.specs.Prelude.{◌≡◌, ◌≤◌, Ok, length, drop};
-ghost use Rattle.std.specs.Option.{option_copied};
-ghost use Rattle.mail_headers.specs.Header.{has_two_feeds, body_of};
+ghost use Rattle.std.specs.Prelude.{◌≡◌, ◌+◌, ◌≤◌, true, Ok, length, drop};
+ghost use Rattle.mail_headers.specs.Header.{from_line, entries_of, has_two_feeds};
+ghost use Rattle.mail_headers.specs.Parts.{IsBodyPlace};
 
 use crate::cut::{after_line, line_length};
 use crate::{Entries, FieldRef, Fields};
@@ -13,20 +13,19 @@ use std::marker::Model;
 #[derive(Drop)]
 pub struct Header<'a> {
     text: &'a [u8],
-    from_line: &'a [u8],
-    // what follows the From line
-    rest: &'a [u8],
+    // where the body starts, if there is one
+    body: Option<usize>,
 }
 
 impl<'a> Model for Header<'a> {
     ghost use Rattle.std.specs.Prelude.{List, ℕ};
-    ghost use Rattle.mail_headers.specs.Parts.{HasParts};
+    ghost use Rattle.mail_headers.specs.Parts.{IsBodyPlace};
 
     ghost Value = { List ℕ };
 
     ghost view = { λ h. h.text.now };
 
-    ghost invariant = { λ h. HasParts h.text.now h.from_line.now h.rest.now };
+    ghost invariant = { λ h. IsBodyPlace h.text.now h.body };
 }
 
 impl<'a> Header<'a> {
@@ -38,12 +37,9 @@ impl<'a> Header<'a> {
     pub fn read(_alloc: Global, text: &'a [u8]) -> Result<Header<'a>, Memory>
         ensures { result ≡ Ok text.now }
     {
-        let end = line_length(text);
-        let (from_line, _) = text.split_at(end);
         Ok(Header {
             text,
-            from_line,
-            rest: after_line(text, end),
+            body: body_place(text),
         })
     }
 
@@ -51,14 +47,14 @@ impl<'a> Header<'a> {
     pub fn from_line(&self) -> &'a [u8]
         ensures { result.now ≡ from_line self.now }
     {
-        self.from_line
+        from_line_in(self.text)
     }
 
     /// The entries of the header in order: each field with its folded lines, and each line that is no field.
     pub fn entries(&self) -> Entries<'a>
         ensures { result ≡ entries_of self.now }
     {
-        Entries::of(self.rest)
+        entries_in(self.text)
     }
 
     /// The fields of the header in order.
@@ -79,31 +75,48 @@ impl<'a> Header<'a> {
     pub fn has_body(&self) -> bool
         ensures { result ≡ is_some (body_of self.now) }
     {
-        body_of(self.text).is_some()
+        self.body.is_some()
     }
 
     /// The body, what follows the first empty line after the From line; empty if there is none.
     pub fn body(&self) -> &'a [u8]
         ensures { result.now ≡ unwrap_or (body_of self.now) [] }
     {
-        match body_of(self.text) {
-            Some(body) => body,
+        match self.body {
+            Some(place) => {
+                let (_, body) = self.text.split_at(place);
+                body
+            }
             None => &[],
         }
     }
 }
 
-// What follows the first two line feeds in a row, if there are any.
-fn body_of(text: &[u8]) -> Option<&[u8]>
-    ensures { option_copied result ≡ body_of text.now }
+/// The From line of a text, its first line, without its line feed. It takes no memory.
+pub fn from_line_in(text: &[u8]) -> &[u8]
+    ensures { result.now ≡ from_line text.now }
+{
+    let (line, _) = text.split_at(line_length(text));
+    line
+}
+
+/// The entries of a text's header in order, without a look for its body. It takes no memory.
+pub fn entries_in(text: &[u8]) -> Entries<'_>
+    ensures { result ≡ entries_of text.now }
+{
+    Entries::of(after_line(text, line_length(text)))
+}
+
+// What follows the first two line feeds in a row starts at this place, if there are any.
+fn body_place(text: &[u8]) -> Option<usize>
+    ensures { IsBodyPlace text.now result }
 {
     let mut start = 0;
     while start < text.len() {
         let (_, rest) = text.split_at(start);
         let feed = start + line_length(rest);
         if has_two_feeds_at(text, feed) {
-            let (_, body) = text.split_at(feed + 2);
-            return Some(body);
+            return Some(feed + 2);
         }
         start = feed + 1;
     }
@@ -113,7 +126,8 @@ fn body_of(text: &[u8]) -> Option<&[u8]>
 // Whether two line feeds stand there.
 fn has_two_feeds_at(text: &[u8], at: usize) -> bool
     requires { at ≤ length text.now }
-    ensures { result ≡ has_two_feeds (drop at text.now) }
+    ensures two { result ≡ has_two_feeds (drop at text.now) }
+    ensures within { result ≡ true → at + 2 ≤ length text.now }
 {
     let (_, rest) = text.split_at(at);
     match rest {

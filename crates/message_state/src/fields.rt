@@ -1,7 +1,7 @@
 ghost use Rattle.std.specs.Prelude.{◌≡◌};
 ghost use Rattle.message_state.specs.Fields.{name_length, or_entry, AreFieldsOf, AreWithEntry};
 
-use mail_headers::{EntryRef, FieldRef, Header};
+use mail_headers::{EntryRef, FieldRef, entries_in};
 use mail_text::same_ascii;
 
 // The fields that a row is made from: the first of each name.
@@ -17,9 +17,9 @@ pub(crate) struct RowFields<'a> {
     pub(crate) reply: Option<FieldRef<'a>>,
 }
 
-// The fields of a header that a row is made from, in one walk over it.
-pub(crate) fn row_fields<'a>(header: &Header<'a>) -> RowFields<'a>
-    ensures { AreFieldsOf header.now result }
+// The fields of a text's header that a row is made from, in one walk over it.
+pub(crate) fn row_fields(text: &[u8]) -> RowFields<'_>
+    ensures { AreFieldsOf text.now result }
 {
     let mut fields = RowFields {
         status: None,
@@ -31,7 +31,7 @@ pub(crate) fn row_fields<'a>(header: &Header<'a>) -> RowFields<'a>
         references: None,
         reply: None,
     };
-    for entry in header.entries() {
+    for entry in entries_in(text) {
         take_entry(&mut fields, &entry);
     }
     fields

@@ -5,18 +5,18 @@ use Rattle.message_state.proofs.fields.row_fields.Goals as goal
 
 pub returns : goal.returns
 returns c =
-    let left = λ (es : List Entry). AreFound c.args.header.now es c.loop-entry.fields in
-    are_found_last c.args.header.now c.loop-entry.fields (subst left c.in-None.ensures.steps.0 c.loop-entry.invariant.2)
+    let left = λ (es : List Entry). AreFound c.args.text.now es c.loop-entry.fields in
+    are_found_last c.args.text.now c.loop-entry.fields (subst left c.in-None.ensures.steps.0 c.loop-entry.invariant.2)
 
 pub loop-entry-init : goal.loop-entry-init
 loop-entry-init c = (
   tt,
   tt,
-  are_found_first c.args.header.now _ (c.into_iter-entry-iterator.ensures.into_iter_gives ∙ c.entries-entry-items.ensures),
+  are_found_first c.args.text.now _ (c.into_iter-entry-iterator.ensures.into_iter_gives ∙ c.entries_in-entry-items.ensures),
 )
 
 pub loop-entry-preserved : goal.loop-entry-preserved
 loop-entry-preserved c =
-    let left = λ (es : List Entry). AreFound c.args.header.now es c.loop-entry.fields in
+    let left = λ (es : List Entry). AreFound c.args.text.now es c.loop-entry.fields in
     let before = subst left c.in-Some.ensures.steps c.loop-entry.invariant.2 in
-    (tt, tt, are_found_step c.args.header.now c.loop-entry.fields c.take_entry.new.fields c.in-Some.entry c.next.new.self c.take_entry.ensures before)
+    (tt, tt, are_found_step c.args.text.now c.loop-entry.fields c.take_entry.new.fields c.in-Some.entry c.next.new.self c.take_entry.ensures before)

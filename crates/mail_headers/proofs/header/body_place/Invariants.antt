@@ -1,6 +1,6 @@
 use Rattle.std.proofs.Common.{◌-◌, length}
 use Rattle.mail_headers.proofs.PartsLemmas.{NoneBefore}
-use Rattle.mail_headers.proofs.header.body_of.Given as goal
+use Rattle.mail_headers.proofs.header.body_place.Given as goal
 
 abbrev pub invariant-loop-start : goal.invariant-loop-start
 invariant-loop-start l = NoneBefore l.text l.start

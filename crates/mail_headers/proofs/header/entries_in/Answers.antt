@@ -1,0 +1,11 @@
+use Rattle.std.proofs.Common.{◌∙◌, ap, false}
+use Rattle.std.specs.List.{take_while}
+use Rattle.mail_headers.specs.Header.{entries_from, has_bytes}
+use Rattle.mail_headers.specs.Cutting.{head_lines}
+use Rattle.mail_headers.proofs.CutLemmas.{HasFirstLine-at}
+use Rattle.mail_headers.proofs.header.entries_in.Goals as goal
+
+pub returns : goal.returns
+returns c =
+    let cut = HasFirstLine-at c.args.text.now c.line_length.result c.line_length.ensures in
+    c.of.ensures ∙ ap (entries_from false) (ap head_lines c.after_line.ensures ∙ ap (take_while has_bytes) cut.later)
