@@ -14,6 +14,8 @@ pub fn put(case: &[Text], out: &mut Answer) {
             put_texts(bytes, out);
         }
         "count" => put_count(bytes, out),
+        "grow" => put_growth(bytes, field(case, 3), true, out),
+        "room" => put_growth(bytes, field(case, 3), false, out),
         "trimmed" => out.put_shown(&trimmed_len(bytes)),
         _ => out.put_bad(),
     }
@@ -61,4 +63,34 @@ fn put_count(bytes: &[u8], out: &mut Answer) {
         Ok(folder) => out.put_shown(&folder.count()),
         Err(error) => out.put_shown(&error),
     }
+}
+
+// How many messages a folder has, and how many others bring or why they don't come; then the lengths of all texts, or
+// how many there are.
+fn put_growth(bytes: &[u8], tail: &[u8], lengths: bool, out: &mut Answer) {
+    match folder_of(out.alloc(), bytes) {
+        Ok(folder) => put_grown(folder, tail, lengths, out),
+        Err(error) => out.put_shown(&error),
+    }
+}
+
+fn put_grown(folder: Folder, tail: &[u8], lengths: bool, out: &mut Answer) {
+    let mut folder = folder;
+    out.put_shown(&folder.count());
+    out.put(b", ");
+    match folder.grow(tail) {
+        Ok(came) => out.put_shown(&came),
+        Err(error) => out.put_shown(&error),
+    }
+    if lengths {
+        out.put(b":");
+        for k in 0..folder.count() {
+            put_length(out, folder.message(k).text());
+        }
+    } else {
+        out.put(b", ");
+        out.put_shown(&folder.count());
+    }
+    out.put(b" of ");
+    out.put_shown(&folder.bytes().len());
 }

@@ -20,6 +20,9 @@ fn put_of(rows: &[Row], case: &[Text], out: &mut Answer) {
     if rows.len() > 100 {
         return out.put_bad();
     }
+    if words(case, 1) == "grow" {
+        return put_grown(rows, case, out);
+    }
     match view_of(out.alloc(), rows, words(case, 2)) {
         Ok(view) => put_view(&view, case, out),
         Err(Memory) => out.lack(),
@@ -42,14 +45,38 @@ fn view_of(alloc: Global, rows: &[Row], name: &str) -> Result<View, Memory>
     }
 }
 
+// The view of the first messages, so many, made anew for all.
+fn put_grown(rows: &[Row], case: &[Text], out: &mut Answer)
+    requires { length rows.now ≤ 100 }
+{
+    let count = (number(case, 3) as usize).min(rows.len());
+    let (front, _) = rows.split_at(count);
+    match view_of(out.alloc(), front, words(case, 2)) {
+        Ok(view) => put_anew(view, rows, out),
+        Err(Memory) => out.lack(),
+    }
+}
+
+fn put_anew(view: View, rows: &[Row], out: &mut Answer)
+    requires { length rows.now ≤ 100 }
+{
+    let mut view = view;
+    match view.grow(out.alloc(), rows) {
+        Ok(()) => put_order(&view, out),
+        Err(Memory) => out.lack(),
+    }
+}
+
+fn put_order(view: &View, out: &mut Answer) {
+    out.put_numbers(view.order.items());
+    out.put(b" / ");
+    out.put_numbers(view.depth.items());
+}
+
 // The order with the depths, or what stands beside a message.
 fn put_view(view: &View, case: &[Text], out: &mut Answer) {
     match words(case, 1) {
-        "order" => {
-            out.put_numbers(view.order.items());
-            out.put(b" / ");
-            out.put_numbers(view.depth.items());
-        }
+        "order" => put_order(view, out),
         "kind" => out.put_debug(&view.kind),
         "near" => put_near(view, number(case, 3), out),
         _ => out.put_bad(),

@@ -1,5 +1,5 @@
 // A view by its kind.
-ghost use Rattle.std.specs.Prelude.{◌≤◌, length, IfOk};
+ghost use Rattle.std.specs.Prelude.{◌≡◌, ◌≤◌, length, IfOk, OnOk, OnErr};
 ghost use Rattle.mbox_scan.specs.Mailbox.{message_limit};
 ghost use Rattle.thread_view.specs.Views.{IsViewOf};
 
@@ -17,5 +17,18 @@ pub fn view_of(alloc: Global, rows: &[Row], kind: ViewKind) -> Result<View, Memo
         ViewKind::Plain => View::plain(alloc, rows.len() as u32),
         ViewKind::Threads => View::threads(alloc, rows),
         ViewKind::By(key) => View::sorted(alloc, rows, key),
+    }
+}
+
+impl View {
+    /// Makes the view anew for these rows, by its kind: those that there were, and those that came. If memory runs out,
+    /// the view is as before.
+    pub fn grow(&mut self, alloc: Global, rows: &[Row]) -> Result<(), Memory>
+        requires { length rows.now ≤ message_limit }
+        ensures ok { OnOk result (IsViewOf self.old.kind rows.now self.new) }
+        ensures err { OnErr result (self.new ≡ self.old) }
+    {
+        *self = view_of(alloc, rows, self.kind)?;
+        Ok(())
     }
 }
