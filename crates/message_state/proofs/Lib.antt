@@ -11,3 +11,4 @@ pub mod StampLawLemmas
 pub mod TextLines
 pub mod LiveLemmas
 pub mod OrderLemmas
+pub mod PlaceLemmas

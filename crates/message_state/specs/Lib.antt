@@ -12,3 +12,4 @@ pub mod StampLaws
 pub mod RowLaws
 pub mod CommentLaws
 pub mod ProperLaw
+pub mod Orders
