@@ -18,7 +18,7 @@ use Rattle.thread_view.specs.Views.{IsViewOf}
 abbrev once : List Row → View → Type 0
 once rows view = IsPermutation (range_with_len 1 (length rows)) view.order
 
-sorted-once : (k : Key) (rows : List Row) (order : List ℕ) → IsSortedBy k rows order → IsPermutation (range_with_len 1 (length rows)) order
+pub sorted-once : (k : Key) (rows : List Row) (order : List ℕ) → IsSortedBy k rows order → IsPermutation (range_with_len 1 (length rows)) order
 sorted-once key.Date rows order is = is.once
 sorted-once key.From rows order is = is.once
 sorted-once key.Size rows order is = is.once

@@ -1,7 +1,7 @@
-ghost use Rattle.std.specs.Prelude.{◌≡◌, ◌≤◌, ◌<◌, ◌==◌, length, position, replicate, IfOk, IfSome};
+ghost use Rattle.std.specs.Prelude.{◌≡◌, ◌≤◌, length, replicate, IfOk};
 ghost use Rattle.std.specs.List.{range_with_len};
 ghost use Rattle.mbox_scan.specs.Mailbox.{message_limit};
-ghost use Rattle.thread_view.specs.Neighbours.{place_in, next_in, previous_in, at_place};
+ghost use Rattle.thread_view.specs.Neighbours.{next_in, previous_in, at_place};
 ghost use Rattle.thread_view.specs.Sorting.{IsSortedBy};
 ghost use Rattle.thread_view.specs.Threads.{IsThreaded};
 
@@ -85,8 +85,9 @@ impl View {
         ensures kind { IfOk result (λ view. view.kind ≡ ViewKind.Threads) }
     {
         let (order, depth) = threaded(alloc, rows)?;
+        let order = Order::listed(alloc, Items::of(order))?;
         Ok(View {
-            order: Order::of(Items::of(order)),
+            order,
             depth: Items::of(depth),
             kind: ViewKind::Threads,
         })
@@ -101,27 +102,20 @@ impl View {
         ensures kind { IfOk result (λ view. view.kind ≡ ViewKind.By key) }
     {
         let order = sorted_numbers(alloc, rows, key)?;
+        let order = Order::listed(alloc, Items::of(order))?;
         let depth = zeros(alloc, rows.len())?;
         Ok(View {
-            order: Order::of(Items::of(order)),
+            order,
             depth,
             kind: ViewKind::By(key),
         })
-    }
-
-    // The place of message `k`, from 0. In an order by number it is found without a walk.
-    fn place(&self, k: u32) -> Option<usize>
-        ensures place { result ≡ place_in self.now.order k }
-        ensures within { IfSome result (λ p. p < length self.now.order) }
-    {
-        place_in(self.order.items(), k)
     }
 
     /// The message after message `k`. None exactly if `k` is the last, or isn't in the view. It takes no memory.
     pub fn next(&self, k: u32) -> Option<u32>
         ensures { result ≡ next_in self.now.order k }
     {
-        match self.place(k) {
+        match self.order.place(k) {
             Some(p) => self.order.items().get(p + 1).copied(),
             None => None,
         }
@@ -131,7 +125,7 @@ impl View {
     pub fn previous(&self, k: u32) -> Option<u32>
         ensures { result ≡ previous_in self.now.order k }
     {
-        match self.place(k) {
+        match self.order.place(k) {
             Some(0) => None,
             Some(p) => self.order.items().get(p - 1).copied(),
             None => None,
@@ -142,17 +136,9 @@ impl View {
     pub fn depth(&self, k: u32) -> Option<u32>
         ensures { result ≡ at_place self.now.order self.now.depth k }
     {
-        match self.place(k) {
+        match self.order.place(k) {
             Some(p) => self.depth.items().get(p).copied(),
             None => None,
         }
     }
-}
-
-// The first place of these messages where message `k` stands.
-fn place_in(messages: &[u32], k: u32) -> Option<usize>
-    ensures place { result ≡ position (λ m. m == k) messages.now }
-    ensures within { IfSome result (λ p. p < length messages.now) }
-{
-    messages.iter().position(|m| *m == k)
 }
