@@ -1,41 +1,10 @@
 -- Facts on lists of numbers that differ, and on the first place where a test passes.
-use Rattle.std.proofs.Common.{◌≡◌, ◌≢◌, ℕ, zero, suc, ◌<◌, ◌&&◌, ◌||◌, Bool, true, false, nat_eq, cond, nat_lt, inl, inr, List, [], ◌∷◌, length, get_or, Some, None, refl, sym, ap, ◌∙◌, arith, subst, position, take, drop, ◌++◌, append-nil}
-use Rattle.std.specs.List.{list_any, find, filter, position_or_len, IsDistinct, range_with_len}
-use Rattle.std.specs.List.Sorted.{IsPermutation}
-use Rattle.std.proofs.lemmas.Bool.{cond-true, cond-false, lt-ltb, le-ltb, eq-eqb, ne_eqb, cases_eq, cases_Bool, and_left, and_right, and_from, or_cases, or_left, or_right, false≢true}
+use Rattle.std.proofs.Common.{◌≡◌, ◌≢◌, ℕ, zero, suc, ◌<◌, ◌&&◌, ◌||◌, Bool, true, false, inl, inr, List, [], ◌∷◌, length, get_or, Some, None, refl, sym, ap, ◌∙◌, arith, subst, take, drop, ◌++◌, append-nil}
+use Rattle.std.specs.List.{list_any, find, filter}
+use Rattle.std.proofs.lemmas.Bool.{cond-true, cond-false, cases_Bool, and_left, and_right, and_from, or_cases, or_left, or_right, false≢true}
 use Rattle.std.proofs.lemmas.List.{take_all, drop_all}
-use Rattle.std.proofs.lemmas.List.Sums.{position_or_len_is}
 use Rattle.std.proofs.lemmas.List.Folds.{list_any_at, list_any_none}
 use Rattle.std.proofs.lemmas.List.Elements.{All-from_get_or}
-use Rattle.std.proofs.lemmas.List.FromFn.{length-range_with_len, get_or-range_with_len}
-use Rattle.std.proofs.lemmas.Map.Keys.{IsDistinct-from_apart, IsDistinct-IsPermutation, apart_from_distinct}
-
--- the first place where a test passes
-pub position_found : {X : Type 0} (p : X → Bool) (xs : List X) (i : ℕ) (d : X) → i < length xs → ((k : ℕ) → k < i → p (get_or xs k d) ≡ false) → p (get_or xs i d) ≡ true → position p xs ≡ Some i
-position_found p xs i d lt before here =
-    let at : position_or_len p xs ≡ i = position_or_len_is p xs i d (omega arith) before (λ _. here) in
-    ap (λ (n : ℕ). cond (nat_lt n (length xs)) (Some n) None) at ∙ cond-true _ _ _ (lt-ltb i (length xs) lt)
-
--- no place where a test passes
-pub position_missed : {X : Type 0} (p : X → Bool) (xs : List X) (d : X) → ((k : ℕ) → k < length xs → p (get_or xs k d) ≡ false) → position p xs ≡ None
-position_missed p xs d none =
-    let at : position_or_len p xs ≡ length xs = position_or_len_is p xs (length xs) d (omega arith) none (λ lt. absurd (omega arith)) in
-    ap (λ (n : ℕ). cond (nat_lt n (length xs)) (Some n) None) at ∙ cond-false _ _ _ (le-ltb (length xs) (length xs) (omega arith))
-
-eqb_flips : (a b : ℕ) → nat_eq a b ≡ nat_eq b a
-eqb_flips a b =
-    elim (cases_eq a b) [
-      | inl e ↦ eq-eqb a b e ∙ sym (eq-eqb b a (sym e))
-      | inr n ↦ ne_eqb a b n ∙ sym (ne_eqb b a (λ e. n (sym e)))
-    ]
-
--- two places of a list in which each number from 1 on stands once
-pub apart_places : (n : ℕ) (xs : List ℕ) → IsPermutation (range_with_len 1 n) xs → (i j : ℕ) → i < j → j < length xs → get_or xs i 0 ≢ get_or xs j 0
-apart_places n xs all i j lt within e =
-    let range : IsDistinct nat_eq (range_with_len 1 n) = IsDistinct-from_apart nat_eq (range_with_len 1 n)
-    (λ a b d below high. ne_eqb _ _ (λ same. let last : b < n = omega (arith, length-range_with_len 1 n) in let one = get_or-range_with_len 1 n a d (omega arith) in let two = get_or-range_with_len 1 n b d last in omega arith)) in
-    let distinct = IsDistinct-IsPermutation nat_eq eqb_flips (range_with_len 1 n) xs all range in
-    false≢true (sym (apart_from_distinct nat_eq xs i j 0 distinct lt within) ∙ eq-eqb _ _ e)
 
 -- the first element that passes
 pub find_first : {X : Type 0} (p : X → Bool) (xs : List X) (i : ℕ) (d : X) → i < length xs → ((k : ℕ) → k < i → p (get_or xs k d) ≡ false) → p (get_or xs i d) ≡ true → find p xs ≡ Some (get_or xs i d)

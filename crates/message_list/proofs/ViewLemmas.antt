@@ -13,7 +13,7 @@ use Rattle.message_list.specs.declared.list.Purpose.{Purpose}
 use Rattle.message_state.specs.declared.shown.Shown.{Shown}
 use Rattle.message_state.specs.ShownRows.{IsShown}
 use Rattle.message_list.specs.Places.{is_for, in_base, place_of}
-use Rattle.message_list.proofs.ListFacts.{position_found, position_missed, apart_places}
+use Rattle.message_state.proofs.PlaceLemmas.{position_found, position_missed, apart_places}
 
 -- a message stands at one place
 pub place_at : (shown : Shown) → IsShown shown → (i n : ℕ) → i < length shown.order → get_or shown.order i 0 ≡ n → place_of shown n ≡ Some i

@@ -1,4 +1,4 @@
-ghost use Rattle.std.specs.Prelude.{◌≡◌, ◌<◌, ◌≤◌, ◌+◌, ◌-◌, ◌==◌, length, reverse, position, IfSome};
+ghost use Rattle.std.specs.Prelude.{◌≡◌, ◌<◌, ◌≤◌, ◌+◌, ◌-◌, length, reverse, IfSome};
 ghost use Rattle.std.specs.Option.{option_copied};
 ghost use Rattle.std.specs.List.{find};
 ghost use Rattle.message_state.specs.LiveRows.{is_live};
@@ -17,7 +17,7 @@ pub fn is_live(mark: Mark) -> bool
     mark.state != State::Deleted
 }
 
-/// The place of message `k` in the view, from 0. In a view by number it is found without a walk.
+/// The place of message `k` in the view, from 0.
 pub fn place_of(shown: &Shown, k: u32) -> Option<usize>
     requires { IsShown shown.now }
     ensures { result ≡ place_of shown.now k }
@@ -109,25 +109,10 @@ pub(crate) fn find_place(shown: &Shown, k: u64) -> Option<usize>
     ensures place { result ≡ place_of shown.now k }
     ensures within { IfSome result (λ p. p < length shown.now.order) }
 {
-    let order = shown.order.items();
-    let guess = k.saturating_sub(1) as usize;
-    if guess < order.len() && u64::from(order[guess]) == k {
-        return Some(guess);
+    if k > u64::from(u32::MAX) {
+        return None;
     }
-    position_in(order, k)
-}
-
-// The first place of these messages where message `k` stands.
-fn position_in(messages: &[u32], k: u64) -> Option<usize>
-    ensures place { result ≡ position (λ m. m == k) messages.now }
-    ensures within { IfSome result (λ p. p < length messages.now) }
-{
-    for (p, n) in messages.iter().enumerate() {
-        if u64::from(*n) == k {
-            return Some(p);
-        }
-    }
-    None
+    shown.order.place(k as u32)
 }
 
 // The first message of the base set in the view.
