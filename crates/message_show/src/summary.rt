@@ -1,4 +1,4 @@
-ghost use Rattle.std.specs.Prelude.{◌≡◌, ◌+◌, ◌-◌, ◌<◌, ◌≤◌, ◌++◌, All, ℕ, length, take, slice_index, IfOk, OnOk};
+ghost use Rattle.std.specs.Prelude.{◌≡◌, ◌+◌, ◌-◌, ◌<◌, ◌≤◌, ◌++◌, All, length, take, slice_index, IfOk, OnOk};
 ghost use Rattle.mail_text.specs.Lines.{with_feed};
 ghost use Rattle.message_state.specs.ShownRows.{IsShown};
 ghost use Rattle.message_show.specs.Summary.{summary, summaries, page_text, with_current};
@@ -19,12 +19,11 @@ pub fn summary_line(alloc: Global, shown: &Shown, k: u32, width: usize) -> Resul
     requires width { 2 ≤ width }
     ensures { IfOk result (λ t. t ≡ summary shown.now k width) }
 {
-    let place = place_of(shown, k, 0);
+    let place = place_of(shown, k);
     summary_at(alloc, shown, shown.current, place, width)
 }
 
-/// The summary lines of these messages in this order, each ended by one line feed. Numbers that stand in the order
-/// of the view are found in one walk over it. Fails only if memory runs out.
+/// The summary lines of these messages in this order, each ended by one line feed. Fails only if memory runs out.
 pub fn summary_lines(
     alloc: Global,
     shown: &Shown,
@@ -37,9 +36,8 @@ pub fn summary_lines(
     ensures { IfOk result (λ t. t ≡ summaries shown.now numbers.now width) }
 {
     let mut text = Text::new(alloc);
-    let mut place = 0;
     for k in numbers {
-        place = place_of(shown, *k, place);
+        let place = place_of(shown, *k);
         push_summary(alloc, &mut text, shown, shown.current, place, width)?;
     }
     Ok(text)
@@ -141,34 +139,15 @@ fn cut(alloc: Global, columns: Text, subject: &[u8], most: usize) -> Result<Text
     }
 }
 
-// The place of message `k` in the view: that of its number if no view is sorted, else one from the place
-// `from` on, or one before.
-fn place_of(shown: &Shown, k: u32, from: usize) -> usize
+// The place of message `k` in the view.
+fn place_of(shown: &Shown, k: u32) -> usize
     requires valid { IsShown shown.now }
     requires first { 1 ≤ k }
     requires last { k ≤ length shown.now.rows }
     ensures within { result < length shown.now.order }
     ensures found { slice_index shown.now.order result ≡ k }
 {
-    let order = shown.order.items();
-    let own = k as usize - 1;
-    if order[own] == k {
-        return own;
-    }
-    let (before, after) = order.split_at(from.min(order.len()));
-    match after.iter().position(|number| *number == k) {
-        Some(place) => before.len() + place,
-        None => first_place(order, k),
-    }
-}
-
-// The first place of a number.
-fn first_place(order: &[u32], k: u32) -> usize
-    requires { (place : ℕ) × (place < length order.now) × (slice_index order.now place ≡ k) }
-    ensures within { result < length order.now }
-    ensures found { slice_index order.now result ≡ k }
-{
-    match order.iter().position(|number| *number == k) {
+    match shown.order.place(k) {
         Some(place) => place,
         None => unreachable!(),
     }
