@@ -1,5 +1,5 @@
 -- A disk, and what the events of a trace do to it.
-use Rattle.std.specs.Prelude.{◌≡◌, ◌==◌, ℕ, true, List, [], ◌∷◌, if◌then◌else◌}
+use Rattle.std.specs.Prelude.{◌≡◌, ◌==◌, ℕ, true, false, List, [], ◌∷◌, if◌then◌else◌}
 use Rattle.std.specs.declared.option.Option.{Option}
 use Rattle.std.specs.declared.option.Option.TheVariants.{Some, None}
 use Rattle.std.specs.Str.{bytes_eq}
@@ -68,15 +68,24 @@ after_step d (Release name) = record d { rights = with_at d.rights name (without
 
 -- what an event makes of a disk, by what it says was done
 abbrev pub after : Disk → Event → Disk
+after d (event.In bytes failed) = d
+after d (event.Out bytes failed) = d
+after d (event.Load name seen) = d
 after d (event.Stage name bytes failed) = record d { files = with_at d.files name bytes }
 after d (event.Publish from to true failed) = record d { files = with_at (with_at d.files from None) to (d.files from) }
+after d (event.Publish from to false failed) = d
 after d (event.Erase name true failed) = record d { files = with_at d.files name None }
+after d (event.Erase name false failed) = d
 after d (event.Lock name token true failed) = record d { locks = with_at d.locks name (Some token) }
+after d (event.Lock name token false failed) = d
 after d (event.Unlock name token true failed) = record d { locks = with_at d.locks name None }
+after d (event.Unlock name token false failed) = d
 after d (event.Seize name true failed) = record d { rights = with_at d.rights name (Some Own) }
+after d (event.Seize name false failed) = d
 after d (event.Release name) = record d { rights = with_at d.rights name (without_own (d.rights name)) }
+after d (event.Child program args input answer failed) = d
+after d (event.Now seconds) = d
 after d (event.Foreign step) = after_step d step
-after d e = d
 
 -- the disk after a list of events
 abbrev pub disk : Disk → List Event → Disk

@@ -3,7 +3,7 @@ use Rattle.std.specs.Prelude.{◌≡◌, ◌==◌, ◌&&◌, ℕ, Bool, true, fa
 use Rattle.std.specs.declared.option.Option.{Option}
 use Rattle.std.specs.declared.option.Option.TheVariants.{Some, None}
 use Rattle.host_port.specs.declared.event.Event.{Event}
-use Rattle.host_port.specs.declared.event.Event.TheVariants.{Stage, Publish, Erase, Lock, Unlock, Seize, Foreign}
+use Rattle.host_port.specs.declared.event.Event.TheVariants.{In, Out, Load, Stage, Publish, Erase, Lock, Unlock, Seize, Release, Child, Now, Foreign}
 use Rattle.host_port.specs.declared.event.Part.{Part}
 use Rattle.host_port.specs.declared.event.Part.TheVariants.{Before, After, Bytes, Nothing}
 use Rattle.host_port.specs.declared.event.Holder.{Holder}
@@ -24,13 +24,19 @@ is_open (Some Other) = false
 -- The event of a call that is carried out on a disk. It is done exactly if the disk allows it: a rename if its
 -- file stands, a lock if none stands, an unlock if the lock is the caller's, a seizure if no other has the right.
 abbrev pub carried_out : Disk → Event → Event
+carried_out d (In bytes failed) = In bytes failed
+carried_out d (Out bytes failed) = Out bytes failed
+carried_out d (Load name seen) = Load name seen
 carried_out d (Stage name bytes failed) = Stage name bytes false
 carried_out d (Publish from to done failed) = Publish from to (is_some (d.files from)) false
 carried_out d (Erase name done failed) = Erase name true false
 carried_out d (Lock name token got failed) = Lock name token (is_none (d.locks name)) false
 carried_out d (Unlock name token done failed) = Unlock name token (is_owner token (d.locks name)) false
 carried_out d (Seize name got failed) = Seize name (is_open (d.rights name)) false
-carried_out d e = e
+carried_out d (Release name) = Release name
+carried_out d (Child program args input answer failed) = Child program args input answer failed
+carried_out d (Now seconds) = Now seconds
+carried_out d (Foreign step) = Foreign step
 
 -- all of the call was done
 abbrev pub is_after : Part → Bool
@@ -47,13 +53,19 @@ left old whole Nothing = None
 -- The failing form of an event, with the part of the call that was done. What is written whole may be left as any bytes
 -- or as none; every other call is done or not, and done only if the disk allows it.
 abbrev pub cut_short : Disk → Event → Part → Event
+cut_short d (In bytes failed) part = In bytes failed
+cut_short d (Out bytes failed) part = Out bytes failed
+cut_short d (Load name seen) part = Load name seen
 cut_short d (Stage name bytes failed) part = Stage name (left (d.files name) bytes part) true
 cut_short d (Publish from to done failed) part = Publish from to (is_after part && is_some (d.files from)) true
 cut_short d (Erase name done failed) part = Erase name (is_after part) true
 cut_short d (Lock name token got failed) part = Lock name token (is_after part && is_none (d.locks name)) true
 cut_short d (Unlock name token done failed) part = Unlock name token (is_after part && is_owner token (d.locks name)) true
 cut_short d (Seize name got failed) part = Seize name (is_after part && is_open (d.rights name)) true
-cut_short d e part = e
+cut_short d (Release name) part = Release name
+cut_short d (Child program args input answer failed) part = Child program args input answer failed
+cut_short d (Now seconds) part = Now seconds
+cut_short d (Foreign step) part = Foreign step
 
 -- an event is a failing form of another
 abbrev pub IsCutShort : Disk → Event → Event → Type 0

@@ -1,7 +1,7 @@
 -- The events of this run, and those of others.
 use Rattle.std.specs.Prelude.{◌≡◌, Bool, true, false, List, [], ◌∷◌}
 use Rattle.host_port.specs.declared.event.Event.{Event}
-use Rattle.host_port.specs.declared.event.Event.TheVariants.{Stage, Publish, Erase, Lock, Unlock, Seize, Release, Foreign}
+use Rattle.host_port.specs.declared.event.Event.TheVariants.{In, Out, Load, Stage, Publish, Erase, Lock, Unlock, Seize, Release, Child, Now, Foreign}
 
 -- the events that are this run's own
 abbrev pub own : List Event → List Event
@@ -17,6 +17,9 @@ of_others (e ∷ es) = of_others es
 
 -- events of the calls that may change the disk
 abbrev pub may_change : Event → Bool
+may_change (In bytes failed) = false
+may_change (Out bytes failed) = false
+may_change (Load name seen) = false
 may_change (Stage name bytes failed) = true
 may_change (Publish from to done failed) = true
 may_change (Erase name done failed) = true
@@ -24,7 +27,9 @@ may_change (Lock name token got failed) = true
 may_change (Unlock name token done failed) = true
 may_change (Seize name got failed) = true
 may_change (Release name) = true
-may_change e = false
+may_change (Child program args input answer failed) = false
+may_change (Now seconds) = false
+may_change (Foreign step) = false
 
 -- none of these events is of a call that may change the disk
 abbrev pub OnlyLooks : List Event → Type 0

@@ -2,7 +2,7 @@
 use Rattle.std.specs.Prelude.{◌≡◌, Bool, true, false, List, [], ◌∷◌, ◌++◌, is_some, is_none}
 use Rattle.std.specs.declared.option.Option.TheVariants.{Some}
 use Rattle.host_port.specs.declared.event.Event.{Event}
-use Rattle.host_port.specs.declared.event.Event.TheVariants.{In, Out, Load, Stage, Publish, Erase, Lock, Unlock, Seize, Child}
+use Rattle.host_port.specs.declared.event.Event.TheVariants.{In, Out, Load, Stage, Publish, Erase, Lock, Unlock, Seize, Release, Child, Now, Foreign}
 use Rattle.host_port.specs.declared.event.Seen.TheVariants as seen
 use Rattle.host_port.specs.Disk.{Disk, disk, after}
 use Rattle.host_port.specs.Calls.{Counts, World, NeverFall, Rose, IsTooLarge}
@@ -16,20 +16,31 @@ AllowedBy allowed done true = done ≡ true → allowed ≡ true
 
 -- what an event says of the disk just before it is so
 abbrev pub Agrees : Disk → Event → Type 0
+Agrees d (In bytes failed) = Unit {0}
+Agrees d (Out bytes failed) = Unit {0}
 Agrees d (Load name (seen.Bytes bytes held)) = (bytes ≡ d.files name) × (held ≡ is_some (d.locks name))
 Agrees d (Load name (seen.TooLarge n)) = IsTooLarge (d.files name) n
+Agrees d (Load name seen.Failed) = Unit {0}
+Agrees d (Load name seen.Memory) = Unit {0}
+Agrees d (Stage name bytes failed) = Unit {0}
 Agrees d (Publish from to done failed) = AllowedBy (is_some (d.files from)) done failed
 Agrees d (Erase name done failed) = AllowedBy true done failed
 Agrees d (Lock name token got failed) = AllowedBy (is_none (d.locks name)) got failed
 Agrees d (Unlock name token done failed) = AllowedBy (is_owner token (d.locks name)) done failed
 Agrees d (Seize name got failed) = AllowedBy (is_open (d.rights name)) got failed
-Agrees d e = Unit {0}
+Agrees d (Release name) = Unit {0}
+Agrees d (Child program args input answer failed) = Unit {0}
+Agrees d (Now seconds) = Unit {0}
+Agrees d (Foreign step) = Unit {0}
 
 -- a call that failed did so only if the count of its kind rose
 abbrev pub IsCounted : Counts → Counts → Event → Type 0
 IsCounted old new (In bytes failed) = failed ≡ true → Rose old.ins new.ins
 IsCounted old new (Out bytes failed) = failed ≡ true → Rose old.outs new.outs
+IsCounted old new (Load name (seen.Bytes bytes held)) = Unit {0}
+IsCounted old new (Load name (seen.TooLarge n)) = Unit {0}
 IsCounted old new (Load name seen.Failed) = Rose old.disks new.disks
+IsCounted old new (Load name seen.Memory) = Unit {0}
 IsCounted old new (Stage name bytes failed) = failed ≡ true → Rose old.disks new.disks
 IsCounted old new (Publish from to done failed) = failed ≡ true → Rose old.disks new.disks
 IsCounted old new (Erase name done failed) = failed ≡ true → Rose old.disks new.disks
@@ -37,7 +48,9 @@ IsCounted old new (Lock name token got failed) = failed ≡ true → Rose old.di
 IsCounted old new (Unlock name token done failed) = failed ≡ true → Rose old.disks new.disks
 IsCounted old new (Seize name got failed) = failed ≡ true → Rose old.disks new.disks
 IsCounted old new (Child program args input answer failed) = failed ≡ true → Rose old.children new.children
-IsCounted old new e = Unit {0}
+IsCounted old new (Release name) = Unit {0}
+IsCounted old new (Now seconds) = Unit {0}
+IsCounted old new (Foreign step) = Unit {0}
 
 abbrev pub AreCounted : Counts → Counts → List Event → Type 0
 AreCounted old new [] = Unit {0}
