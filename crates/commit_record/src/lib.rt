@@ -6,6 +6,7 @@ mod laws;
 mod reader;
 mod record;
 mod valid;
+mod way;
 mod writer;
 
 pub use error::RecordError;
@@ -13,4 +14,5 @@ pub use laws::a_text_has_one_record;
 pub use reader::read;
 pub use record::{Entry, EntryKind, Phase, Record};
 pub use valid::{is_lawful, is_valid};
+pub use way::{Way, entry_for, way_of};
 pub use writer::write;
