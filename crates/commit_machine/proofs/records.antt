@@ -3,5 +3,6 @@ pub mod Same
 pub mod Names
 pub mod InFile
 pub mod Front
+pub mod OfItems
 pub mod OfJob
 pub mod Edits

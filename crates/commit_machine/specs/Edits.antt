@@ -2,7 +2,7 @@
 use Rattle.std.specs.Prelude.{◌≡◌, ℕ, List, [], ◌∷◌, map, Option, Some, None, if◌then◌else◌}
 use Rattle.std.specs.Option.{option_map}
 use Rattle.std.specs.Str.{bytes_eq}
-use Rattle.commit_record.specs.declared.record.EntryKind.TheVariants.{Replace, Remove}
+use Rattle.commit_record.specs.declared.way.Way.TheVariants.{Replace, Remove}
 use Rattle.folder_change.specs.declared.change.Change.{Change}
 use Rattle.folder_change.specs.Changes.{name_of}
 use Rattle.folder_change.specs.Apply.{apply}

@@ -2,11 +2,12 @@
 use Rattle.std.specs.Prelude.{◌≡◌, ◌<◌, ◌^◌, ℕ, true, false, List, [], ◌∷◌, map, Option, Some, None, if◌then◌else◌}
 use Rattle.std.specs.Str.{bytes_eq}
 use Rattle.commit_record.specs.Format.{is_valid}
+use Rattle.commit_record.specs.Ways.{entry_for}
 use Rattle.commit_record.specs.declared.record.Phase.TheVariants.{Prepare, Go}
-use Rattle.commit_record.specs.declared.record.EntryKind.{EntryKind}
-use Rattle.commit_record.specs.declared.record.EntryKind.TheVariants.{Replace}
 use Rattle.commit_record.specs.declared.record.Entry.{Entry}
 use Rattle.commit_record.specs.declared.record.Record.{Record}
+use Rattle.commit_record.specs.declared.way.Way.{Way}
+use Rattle.commit_record.specs.declared.way.Way.TheVariants.{Replace}
 use Rattle.commit_machine.specs.Names.{is_record_name}
 use Rattle.commit_machine.specs.Settled.{Files, Mem, put_in}
 
@@ -44,7 +45,7 @@ pub data Ending : Type 0 where
 
 -- what becomes of a file that was loaded: how it is done, and what is staged for it
 pub data Outcome : Type 0 where
-  Puts : EntryKind → List ℕ → Outcome
+  Puts : Way → List ℕ → Outcome
 
 -- an edit of one file
 pub record Edit : Type 0 where
@@ -62,7 +63,7 @@ pub record Job : Type 0 where
 pub record Made : Type 0 where
   pub edit : Edit
   pub seen : Option (List ℕ)
-  pub kind : EntryKind
+  pub way : Way
   pub content : List ℕ
 
 abbrev pub edits_of : Job → List Edit
@@ -75,8 +76,8 @@ all_names es = map (λ e. e.name) es
 abbrev pub all_of : Job → List (List ℕ)
 all_of j = all_names (edits_of j)
 
-abbrev pub entries_for : (List ℕ → EntryKind) → List (List ℕ) → List Entry
-entries_for kind names = map (λ n. record { kind = kind n; name = n }) names
+abbrev pub entries_for : (List ℕ → Way) → List (List ℕ) → List Entry
+entries_for way names = map (λ n. entry_for (way n) n) names
 
 -- the record before the decision
 abbrev pub prepare_of : Job → Record
@@ -87,9 +88,9 @@ abbrev pub made_at : List Made → List ℕ → Option Made
 made_at [] n = None
 made_at (x ∷ xs) n = if bytes_eq n x.edit.name then Some x else made_at xs n
 
-abbrev pub kind_made : Option Made → EntryKind
-kind_made None = Replace
-kind_made (Some x) = x.kind
+abbrev pub way_made : Option Made → Way
+way_made None = Replace
+way_made (Some x) = x.way
 
 abbrev pub seen_of : Option Made → Option (List ℕ)
 seen_of None = None
@@ -101,10 +102,10 @@ seen_files made n = seen_of (made_at made n)
 
 -- the record of the decision
 abbrev pub go_of : Job → List Made → Record
-go_of j made = record { phase = Go; token = j.token; entries = entries_for (λ n. kind_made (made_at made n)) (all_of j) }
+go_of j made = record { phase = Go; token = j.token; entries = entries_for (λ n. way_made (made_at made n)) (all_of j) }
 
 abbrev pub file_after : Option (List ℕ) → Outcome → Option (List ℕ)
-file_after seen (Puts kind content) = put_in kind seen (Some content)
+file_after seen (Puts way content) = put_in way seen (Some content)
 
 -- what an edit makes of a file
 abbrev pub outcome_of : Edit → Option (List ℕ) → Option (List ℕ)

@@ -2,6 +2,7 @@ pub mod Names
 pub mod Records
 pub mod Settled
 pub mod Jobs
+pub mod Items
 pub mod Machine
 pub mod Goes
 pub mod Lawful

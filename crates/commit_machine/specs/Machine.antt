@@ -3,11 +3,12 @@ use Rattle.std.specs.Prelude.{ℕ, Bool, true, false, ◌&&◌, ◌==◌, nat_eq
 use Rattle.std.specs.List.{starts_with}
 use Rattle.commit_record.specs.Format.{line, phase_word, token_digits, written}
 use Rattle.commit_record.specs.declared.record.Phase.TheVariants.{Go}
-use Rattle.commit_record.specs.declared.record.EntryKind.{EntryKind}
-use Rattle.commit_record.specs.declared.record.EntryKind.TheVariants.{Replace, Remove}
 use Rattle.commit_record.specs.declared.record.Record.{Record}
+use Rattle.commit_record.specs.declared.way.Way.{Way}
+use Rattle.commit_record.specs.declared.way.Way.TheVariants.{Replace, Remove}
 use Rattle.commit_machine.specs.Names.{record_name, new_name, right_name, staged_name}
-use Rattle.commit_machine.specs.Records.{record_of, is_go, names_of, kind_of}
+use Rattle.commit_machine.specs.Records.{record_of, is_go, names_of}
+use Rattle.commit_machine.specs.Items.{Item, found_items, made_items}
 use Rattle.commit_machine.specs.Jobs.{Passed, Before, After, Unknown, Found, Nothing, RolledBack, Finished, Busy, NotARecord, TooLarge, Ending, Done, Recovered, Refused, Failed, NoMemory, Refusal, Outcome, Puts, Edit, Job, Made, edits_of, all_of, seen_files, prepare_of, go_of}
 
 -- what follows when a record is done with: the rest of the job, or the end
@@ -20,12 +21,13 @@ pub data State : Type 0 where
   Looking : State
   -- a record, the name that is next, the names after it, and the names to unlock then
   Undoing : Record → List ℕ → List (List ℕ) → List (List ℕ) → Then → State
-  Placing : Record → List ℕ → List (List ℕ) → List (List ℕ) → Then → State
-  -- A record, the name of a file that is removed, the names after it, and the names to unlock then. If the record was found, the staged
-  -- file is looked for first; then the file is taken away, and then its staged file.
-  Testing : Record → List ℕ → List (List ℕ) → List (List ℕ) → State
-  Removing : Record → List ℕ → List (List ℕ) → List (List ℕ) → Then → State
-  Discarding : Record → List ℕ → List (List ℕ) → List (List ℕ) → Then → State
+  -- a record, what is next put in place, what after it, and the names to unlock then
+  Placing : Record → Item → List Item → List (List ℕ) → Then → State
+  -- A file that is removed. If the record was found, the staged file is looked for first; then the file is taken away, and then its
+  -- staged file.
+  Testing : Record → Item → List Item → List (List ℕ) → State
+  Removing : Record → Item → List Item → List (List ℕ) → Then → State
+  Discarding : Record → Item → List Item → List (List ℕ) → Then → State
   Unlocking : Record → List ℕ → List (List ℕ) → Then → State
   Erasing : Record → Then → State
   -- what a recovery found
@@ -70,22 +72,22 @@ undoing r [] ls th = unlocking r ls th
 undoing r (n ∷ ns) ls th = Undoing r n ns ls th
 
 -- a removal of a record that was found may be done already
-abbrev pub removing : Record → List ℕ → List (List ℕ) → List (List ℕ) → Then → State
-removing r n ns ls GoOn = Testing r n ns ls
-removing r n ns ls (Answer e) = Removing r n ns ls (Answer e)
+abbrev pub removing : Record → Item → List Item → List (List ℕ) → Then → State
+removing r x xs ls GoOn = Testing r x xs ls
+removing r x xs ls (Answer e) = Removing r x xs ls (Answer e)
 
-abbrev pub place_one : EntryKind → Record → List ℕ → List (List ℕ) → List (List ℕ) → Then → State
-place_one Replace r n ns ls th = Placing r n ns ls th
-place_one Remove r n ns ls th = removing r n ns ls th
+abbrev pub place_one : Way → Record → Item → List Item → List (List ℕ) → Then → State
+place_one Replace r x xs ls th = Placing r x xs ls th
+place_one Remove r x xs ls th = removing r x xs ls th
 
-abbrev pub placing : Record → List (List ℕ) → List (List ℕ) → Then → State
+abbrev pub placing : Record → List Item → List (List ℕ) → Then → State
 placing r [] ls th = unlocking r ls th
-placing r (n ∷ ns) ls th = place_one (kind_of r n) r n ns ls th
+placing r (x ∷ xs) ls th = place_one x.way r x xs ls th
 
 -- a removal whose staged file is gone was done before
-abbrev pub tested : Record → List ℕ → List (List ℕ) → List (List ℕ) → Option (List ℕ) → State
-tested r n ns ls None = placing r ns ls GoOn
-tested r n ns ls (Some bytes) = Removing r n ns ls GoOn
+abbrev pub tested : Record → Item → List Item → List (List ℕ) → Option (List ℕ) → State
+tested r x xs ls None = placing r xs ls GoOn
+tested r x xs ls (Some bytes) = Removing r (record x { staged = Some bytes }) xs ls GoOn
 
 abbrev pub staging : List (List ℕ) → List Made → List Made → State
 staging ns done [] = Deciding done
@@ -102,7 +104,7 @@ none_stands (Some es) = Preparing
 
 -- a record stands
 abbrev pub mending : Record → State
-mending r = if is_go r then placing r (names_of r) (names_of r) GoOn else undoing r (names_of r) (names_of r) GoOn
+mending r = if is_go r then placing r (found_items r) (names_of r) GoOn else undoing r (names_of r) (names_of r) GoOn
 
 abbrev pub found_of : Record → Found
 found_of r = if is_go r then Finished else RolledBack
@@ -133,17 +135,17 @@ locking j ls [] = loading j [] (edits_of j)
 locking j ls (e ∷ left) = Locking ls e left
 
 abbrev pub loaded : Job → List Made → Edit → List Edit → Option (List ℕ) → Outcome → State
-loaded j done e left seen (Puts kind content) = loading j (done ++ (record { edit = e; seen = seen; kind = kind; content = content } ∷ [])) left
+loaded j done e left seen (Puts way content) = loading j (done ++ (record { edit = e; seen = seen; way = way; content = content } ∷ [])) left
 
 -- the next call; none at the end
 abbrev pub next : Job → State → Option Call
 next j Seizing = Some (ToSeize (right_name j.actor))
 next j Looking = Some (ToLoad (record_name j.actor))
 next j (Undoing r n ns ls th) = Some (ToErase (staged_name r.token n))
-next j (Placing r n ns ls th) = Some (ToPublish (staged_name r.token n) n)
-next j (Testing r n ns ls) = Some (ToLoad (staged_name r.token n))
-next j (Removing r n ns ls th) = Some (ToErase n)
-next j (Discarding r n ns ls th) = Some (ToErase (staged_name r.token n))
+next j (Placing r x xs ls th) = Some (ToPublish (staged_name r.token x.name) x.name)
+next j (Testing r x xs ls) = Some (ToLoad (staged_name r.token x.name))
+next j (Removing r x xs ls th) = Some (ToErase x.name)
+next j (Discarding r x xs ls th) = Some (ToErase (staged_name r.token x.name))
 next j (Unlocking r n ns th) = Some (ToUnlock n r.token)
 next j (Erasing r th) = Some (ToErase (record_name j.actor))
 next j (Clearing found) = Some (ToErase (new_name j.actor))
@@ -169,9 +171,9 @@ passed_then GoOn = Before
 passed_then (Answer e) = passed_ending e
 
 abbrev pub passed_at : State → Passed
-passed_at (Placing r n ns ls th) = passed_then th
-passed_at (Removing r n ns ls th) = passed_then th
-passed_at (Discarding r n ns ls th) = passed_then th
+passed_at (Placing r x xs ls th) = passed_then th
+passed_at (Removing r x xs ls th) = passed_then th
+passed_at (Discarding r x xs ls th) = passed_then th
 passed_at (Unlocking r n ns th) = passed_then th
 passed_at (Erasing r th) = passed_then th
 passed_at (Releasing e) = passed_ending e
@@ -199,14 +201,14 @@ passed_by j (Some bytes) = if starts_with nat_eq bytes (go_front j.token) then A
 
 abbrev pub saw : Job → State → Option (List ℕ) → State
 saw j Looking c = looked j c
-saw j (Testing r n ns ls) c = tested r n ns ls c
+saw j (Testing r x xs ls) c = tested r x xs ls c
 saw j (Loading done e left) c = loaded j done e left c (e.by c)
 saw j Checking c = Releasing (Failed (passed_by j c))
 saw j s c = Releasing (Failed (passed_at s))
 
 abbrev pub too_long : Job → State → ℕ → State
 too_long j Looking n = Releasing (Refused (TooLarge (record_name j.actor) n))
-too_long j (Testing r m ns ls) n = Releasing (Refused (TooLarge (staged_name r.token m) n))
+too_long j (Testing r x xs ls) n = Releasing (Refused (TooLarge (staged_name r.token x.name) n))
 too_long j (Loading done e left) n = refusing j [] (all_of j) (Refused (TooLarge e.name n))
 too_long j s n = Releasing (Failed (passed_at s))
 
@@ -214,9 +216,9 @@ abbrev pub went_on : Job → State → Bool → State
 went_on j Seizing true = Looking
 went_on j Seizing false = Ended (Refused (Busy (right_name j.actor)))
 went_on j (Undoing r n ns ls th) b = undoing r ns ls th
-went_on j (Placing r n ns ls th) b = placing r ns ls th
-went_on j (Removing r n ns ls th) b = Discarding r n ns ls th
-went_on j (Discarding r n ns ls th) b = placing r ns ls th
+went_on j (Placing r x xs ls th) b = placing r xs ls th
+went_on j (Removing r x xs ls th) b = Discarding r x xs ls th
+went_on j (Discarding r x xs ls th) b = placing r xs ls th
 went_on j (Unlocking r n ns th) b = unlocking r ns th
 went_on j (Erasing r GoOn) b = Clearing (found_of r)
 went_on j (Erasing r (Answer why)) b = Releasing why
@@ -228,7 +230,7 @@ went_on j (Locking ls e left) true = locking j (ls ++ (e.name ∷ [])) left
 went_on j (Locking ls e left) false = refusing j [] ls (Refused (Busy e.name))
 went_on j (Staging ns done x left) b = staging (ns ++ (x.edit.name ∷ [])) done left
 went_on j (Deciding done) b = Committing done
-went_on j (Committing done) true = placing (go_of j done) (all_of j) (all_of j) (Answer Done)
+went_on j (Committing done) true = placing (go_of j done) (made_items j done) (all_of j) (Answer Done)
 went_on j (Committing done) false = Releasing (Refused NotARecord)
 went_on j (Releasing why) b = Ended why
 went_on j s b = Releasing (Failed (passed_at s))
@@ -238,10 +240,10 @@ abbrev pub refused : Job → State → State
 refused j Seizing = Ended NoMemory
 refused j Looking = Releasing NoMemory
 refused j (Undoing r n ns ls GoOn) = Releasing NoMemory
-refused j (Placing r n ns ls GoOn) = Releasing NoMemory
-refused j (Testing r n ns ls) = Releasing NoMemory
-refused j (Removing r n ns ls GoOn) = Releasing NoMemory
-refused j (Discarding r n ns ls GoOn) = Releasing NoMemory
+refused j (Placing r x xs ls GoOn) = Releasing NoMemory
+refused j (Testing r x xs ls) = Releasing NoMemory
+refused j (Removing r x xs ls GoOn) = Releasing NoMemory
+refused j (Discarding r x xs ls GoOn) = Releasing NoMemory
 refused j (Unlocking r n ns GoOn) = Releasing NoMemory
 refused j (Erasing r GoOn) = Releasing NoMemory
 refused j (Clearing found) = Releasing NoMemory

@@ -4,12 +4,13 @@ use Rattle.std.specs.Option.{option_and_then}
 use Rattle.std.specs.Str.{bytes_eq}
 use Rattle.commit_record.specs.Format.{is_valid, written}
 use Rattle.commit_record.specs.Reading.{record_at}
+use Rattle.commit_record.specs.Ways.{way_of}
 use Rattle.commit_record.specs.declared.record.Phase.{Phase}
 use Rattle.commit_record.specs.declared.record.Phase.TheVariants.{Prepare, Go}
-use Rattle.commit_record.specs.declared.record.EntryKind.{EntryKind}
-use Rattle.commit_record.specs.declared.record.EntryKind.TheVariants.{Replace}
 use Rattle.commit_record.specs.declared.record.Entry.{Entry}
 use Rattle.commit_record.specs.declared.record.Record.{Record}
+use Rattle.commit_record.specs.declared.way.Way.{Way}
+use Rattle.commit_record.specs.declared.way.Way.TheVariants.{Replace}
 
 -- the bytes are the text of this record
 abbrev pub is_text_of : List ℕ → Record → Bool
@@ -38,13 +39,13 @@ is_go r = is_go_phase r.phase
 abbrev pub names_of : Record → List (List ℕ)
 names_of r = map (λ e. e.name) r.entries
 
-abbrev pub kind_in : List Entry → List ℕ → EntryKind
-kind_in [] name = Replace
-kind_in (e ∷ es) name = if bytes_eq name e.name then e.kind else kind_in es name
+abbrev pub way_in : List Entry → List ℕ → Way
+way_in [] name = Replace
+way_in (e ∷ es) name = if bytes_eq name e.name then way_of e else way_in es name
 
--- what becomes of the file of this name
-abbrev pub kind_of : Record → List ℕ → EntryKind
-kind_of r name = kind_in r.entries name
+-- how the file of this name comes to be
+abbrev pub way_at : Record → List ℕ → Way
+way_at r name = way_in r.entries name
 
 -- whether the name is among these
 abbrev pub has : List (List ℕ) → List ℕ → Bool

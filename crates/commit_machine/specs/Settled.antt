@@ -2,11 +2,11 @@
 use Rattle.std.specs.Prelude.{◌≡◌, ◌⊎◌, ℕ, Bool, true, false, ◌&&◌, ◌||◌, ◌==◌, List, [], ◌∷◌, Option, Some, None, if◌then◌else◌, is_some}
 use Rattle.std.specs.List.{list_any}
 use Rattle.std.specs.Str.{bytes_eq}
-use Rattle.commit_record.specs.declared.record.EntryKind.{EntryKind}
-use Rattle.commit_record.specs.declared.record.EntryKind.TheVariants.{Replace, Remove}
 use Rattle.commit_record.specs.declared.record.Record.{Record}
+use Rattle.commit_record.specs.declared.way.Way.{Way}
+use Rattle.commit_record.specs.declared.way.Way.TheVariants.{Replace, Remove}
 use Rattle.commit_machine.specs.Names.{record_name, staged_name, is_record_name}
-use Rattle.commit_machine.specs.Records.{record_in, is_go, names_of, kind_of, has}
+use Rattle.commit_machine.specs.Records.{record_in, is_go, names_of, way_at, has}
 
 abbrev pub Files : Type 0
 Files = List ℕ → Option (List ℕ)
@@ -24,15 +24,15 @@ hides actor None name = is_record_name actor name
 hides actor (Some r) name = is_record_name actor name || is_staged_of r name
 
 -- a file with its staged file put in place, if that one stands; for a removal that takes the file away
-abbrev pub put_in : EntryKind → Option (List ℕ) → Option (List ℕ) → Option (List ℕ)
-put_in kind file None = file
+abbrev pub put_in : Way → Option (List ℕ) → Option (List ℕ) → Option (List ℕ)
+put_in way file None = file
 put_in Replace file (Some bytes) = Some bytes
 put_in Remove file (Some bytes) = None
 
 -- if the commit was decided, each staged file is put in place
 abbrev pub placed : Option Record → Files → List ℕ → Option (List ℕ)
 placed None files name = files name
-placed (Some r) files name = if is_go r && has (names_of r) name then put_in (kind_of r name) (files name) (files (staged_name r.token name)) else files name
+placed (Some r) files name = if is_go r && has (names_of r) name then put_in (way_at r name) (files name) (files (staged_name r.token name)) else files name
 
 -- the files, once recovery by this actor is done
 abbrev pub settled : List ℕ → Files → Files

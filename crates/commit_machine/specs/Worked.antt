@@ -2,10 +2,11 @@
 use Rattle.std.specs.Prelude.{◌≡◌, ℕ, zero, suc, true, false, List, [], ◌∷◌, ◌++◌, codes, take, is_some}
 use Rattle.std.specs.declared.option.Option.TheVariants.{Some, None}
 use Rattle.commit_record.specs.Format.{written}
+use Rattle.commit_record.specs.Ways.{entry_for}
 use Rattle.commit_record.specs.declared.record.Phase.{Phase}
 use Rattle.commit_record.specs.declared.record.Phase.TheVariants.{Prepare, Go}
-use Rattle.commit_record.specs.declared.record.EntryKind.TheVariants.{Replace, Remove}
 use Rattle.commit_record.specs.declared.record.Record.{Record}
+use Rattle.commit_record.specs.declared.way.Way.TheVariants.{Replace, Remove}
 use Rattle.host_port.specs.declared.event.Event.{Event}
 use Rattle.host_port.specs.declared.event.Event.TheVariants.{Load, Stage, Publish, Erase, Lock, Unlock, Seize, Release, Foreign}
 use Rattle.host_port.specs.declared.event.ForeignStep.TheVariants as step
@@ -91,7 +92,7 @@ out_stands = record nothing { files = with_at nothing.files out (Some (codes "ol
 
 -- the record of its decision
 abbrev pub removal_record : Record
-removal_record = record { phase = Go; token = 1; entries = record { kind = Replace; name = mbox } ∷ record { kind = Remove; name = out } ∷ [] }
+removal_record = record { phase = Go; token = 1; entries = entry_for Replace mbox ∷ entry_for Remove out ∷ [] }
 
 -- a commit of one file has thirteen events, the ninth the decision
 abbrev pub commit_of_one : List Event

@@ -4,15 +4,17 @@ use Rattle.std.proofs.lemmas.Bool.{and_parts}
 use Rattle.std.specs.Str.{bytes_eq}
 use Rattle.commit_record.specs.Format.{is_valid}
 use Rattle.commit_record.specs.Names.{is_lawful}
-use Rattle.commit_record.specs.declared.record.EntryKind.{EntryKind}
-use Rattle.commit_record.specs.declared.record.EntryKind.TheVariants.{Replace}
+use Rattle.commit_record.specs.Ways.{way_of, entry_for}
 use Rattle.commit_record.specs.declared.record.Entry.{Entry}
+use Rattle.commit_record.specs.declared.way.Way.{Way}
+use Rattle.commit_record.specs.declared.way.Way.TheVariants.{Replace}
 use Rattle.commit_machine.specs.Names.{is_record_name}
-use Rattle.commit_machine.specs.Records.{kind_in}
+use Rattle.commit_machine.specs.Records.{way_in}
 use Rattle.commit_machine.specs.Settled.{Mem}
-use Rattle.commit_machine.specs.Jobs.{Edit, Job, Made, IsJob, edits_of, all_names, all_of, entries_for, prepare_of, go_of, made_at, kind_made}
+use Rattle.commit_machine.specs.Jobs.{Edit, Job, Made, IsJob, edits_of, all_names, all_of, entries_for, prepare_of, go_of, made_at, way_made}
 use Rattle.commit_machine.proofs.records.Same.{same_refl, same_or_not}
 use Rattle.commit_machine.proofs.records.InFile.{valid-lawful}
+use Rattle.commit_machine.proofs.records.OfItems.{name-entry_for, way-entry_for}
 use Rattle.commit_machine.proofs.standing.Decided.{IsDistinct, names_Mem}
 use Rattle.commit_machine.proofs.standing.KnownNext.{names-prepare}
 use Rattle.std.specs.List.{list_all, list_any}
@@ -21,32 +23,40 @@ use Rattle.commit_record.specs.declared.record.Phase.TheVariants.{Prepare}
 use Rattle.std.proofs.Common.{not, nat_lt, nat_le, ◌||◌}
 use Rattle.std.proofs.lemmas.Bool.{or_left, or_right}
 
-length-entries : (k l : List ℕ → EntryKind) (ns : List (List ℕ)) → length (entries_for k ns) ≡ length (entries_for l ns)
+length-entries : (k l : List ℕ → Way) (ns : List (List ℕ)) → length (entries_for k ns) ≡ length (entries_for l ns)
 length-entries k l [] = refl
 length-entries k l (n ∷ ns) = let e = length-entries k l ns in omega (arith, e)
 
-lawful-entries : (k l : List ℕ → EntryKind) (ns : List (List ℕ)) → list_all (λ (e : Entry). is_lawful e.name) (entries_for k ns) ≡ list_all (λ (e : Entry). is_lawful e.name) (entries_for l ns)
+lawful-entries : (k l : List ℕ → Way) (ns : List (List ℕ)) → list_all (λ (e : Entry). is_lawful e.name) (entries_for k ns) ≡ list_all (λ (e : Entry). is_lawful e.name) (entries_for l ns)
 lawful-entries k l [] = refl
-lawful-entries k l (n ∷ ns) = ap (λ (b : Bool). is_lawful n && b) (lawful-entries k l ns)
+lawful-entries k l (n ∷ ns) =
+    let name : (entry_for (k n) n).name ≡ (entry_for (l n) n).name = name-entry_for (k n) n ∙ sym (name-entry_for (l n) n) in
+    ap (λ (b : Bool). is_lawful (entry_for (k n) n).name && b) (lawful-entries k l ns)
+    ∙ ap (λ (m : List ℕ). is_lawful m && list_all (λ (e : Entry). is_lawful e.name) (entries_for l ns)) name
 
-any-entries : (k l : List ℕ → EntryKind) (m : List ℕ) (ns : List (List ℕ)) → list_any (λ (e : Entry). bytes_eq m e.name) (entries_for k ns) ≡ list_any (λ (e : Entry). bytes_eq m e.name) (entries_for l ns)
+any-entries : (k l : List ℕ → Way) (m : List ℕ) (ns : List (List ℕ)) → list_any (λ (e : Entry). bytes_eq m e.name) (entries_for k ns) ≡ list_any (λ (e : Entry). bytes_eq m e.name) (entries_for l ns)
 any-entries k l m [] = refl
-any-entries k l m (n ∷ ns) = ap (λ (b : Bool). bytes_eq m n || b) (any-entries k l m ns)
+any-entries k l m (n ∷ ns) =
+    let name : (entry_for (k n) n).name ≡ (entry_for (l n) n).name = name-entry_for (k n) n ∙ sym (name-entry_for (l n) n) in
+    ap (λ (b : Bool). bytes_eq m (entry_for (k n) n).name || b) (any-entries k l m ns)
+    ∙ ap (λ (o : List ℕ). bytes_eq m o || list_any (λ (e : Entry). bytes_eq m e.name) (entries_for l ns)) name
 
-distinct-entries : (k l : List ℕ → EntryKind) (ns : List (List ℕ)) → are_distinct (entries_for k ns) ≡ are_distinct (entries_for l ns)
+distinct-entries : (k l : List ℕ → Way) (ns : List (List ℕ)) → are_distinct (entries_for k ns) ≡ are_distinct (entries_for l ns)
 distinct-entries k l [] = refl
 distinct-entries k l (n ∷ ns) =
-    ap (λ (b : Bool). not b && are_distinct (entries_for k ns)) (any-entries k l n ns)
-    ∙ ap (λ (b : Bool). not (list_any (λ (e : Entry). bytes_eq n e.name) (entries_for l ns)) && b) (distinct-entries k l ns)
+    let name : (entry_for (k n) n).name ≡ (entry_for (l n) n).name = name-entry_for (k n) n ∙ sym (name-entry_for (l n) n) in
+    ap (λ (b : Bool). not b && are_distinct (entries_for k ns)) (any-entries k l (entry_for (k n) n).name ns)
+    ∙ ap (λ (b : Bool). not (list_any (λ (e : Entry). bytes_eq (entry_for (k n) n).name e.name) (entries_for l ns)) && b) (distinct-entries k l ns)
+    ∙ ap (λ (m : List ℕ). not (list_any (λ (e : Entry). bytes_eq m e.name) (entries_for l ns)) && are_distinct (entries_for l ns)) name
 
 abbrev pub tests : ℕ → Bool → Bool → Bool
 tests n a b = nat_lt 0 n && (nat_le n 16 && (a && b))
 
--- the tests of a decision's record on entries of these kinds
-abbrev passes : (List ℕ → EntryKind) → List (List ℕ) → Bool
+-- the tests of a decision's record on entries of these ways
+abbrev passes : (List ℕ → Way) → List (List ℕ) → Bool
 passes k ns = tests (length (entries_for k ns)) (list_all (λ (e : Entry). is_lawful e.name) (entries_for k ns)) (are_distinct (entries_for k ns) && true)
 
-valid-entries : (k l : List ℕ → EntryKind) (ns : List (List ℕ)) → passes k ns ≡ passes l ns
+valid-entries : (k l : List ℕ → Way) (ns : List (List ℕ)) → passes k ns ≡ passes l ns
 valid-entries k l ns =
     ap (λ (n : ℕ). tests n (list_all (λ (e : Entry). is_lawful e.name) (entries_for k ns)) (are_distinct (entries_for k ns) && true)) (length-entries k l ns)
     ∙ ap (λ (b : Bool). tests (length (entries_for l ns)) b (are_distinct (entries_for k ns) && true)) (lawful-entries k l ns)
@@ -67,7 +77,7 @@ any-phase n a b c h = under (nat_lt 0 n) (nat_le n 16 && (a && (b && c))) (nat_l
 -- the record of the decision is valid as the one before it is
 pub valid-go : (j : Job) (made : List Made) → is_valid (prepare_of j) ≡ true → is_valid (go_of j made) ≡ true
 valid-go j made h =
-    valid-entries (λ n. kind_made (made_at made n)) (λ n. Replace) (all_of j)
+    valid-entries (λ n. way_made (made_at made n)) (λ n. Replace) (all_of j)
     ∙ any-phase (length (prepare_of j).entries) (list_all (λ (e : Entry). is_lawful e.name) (prepare_of j).entries) (are_distinct (prepare_of j).entries) (fit_phase Prepare (prepare_of j).entries) h
 
 any_name : (n : List ℕ) (es : List Edit) (x : Edit) → Mem x es → n ≡ x.name → list_any (λ (e : Entry). bytes_eq n e.name) (entries_for (λ m. Replace) (all_names es)) ≡ true
@@ -108,11 +118,18 @@ made_first (y ∷ ys) w h = elim (same_or_not w.edit.name y.edit.name) [ inl p �
     later p more (inl e) = absurd (p.0 (ap (λ (z : Made). z.edit.name) e))
     later p more (inr h) = let q = more h in (q.0, inr q.1, q.2, rw p.1 q.3)
 
--- an entry has the kind that it was made with
-pub kind_of_entries : (ns : List (List ℕ)) (f : List ℕ → EntryKind) (n : List ℕ) → Mem n ns → kind_in (entries_for f ns) n ≡ f n
-kind_of_entries [] f n h = absurd h
-kind_of_entries (m ∷ ms) f n h = elim (same_or_not n m) [ inl p ↦ rw p.1 (ap f (sym p.0)) | inr p ↦ later p (kind_of_entries ms f n) h ]
+-- an entry has the way that it was made with
+pub way_of_entries : (ns : List (List ℕ)) (f : List ℕ → Way) (n : List ℕ) → Mem n ns → way_in (entries_for f ns) n ≡ f n
+way_of_entries [] f n h = absurd h
+way_of_entries (m ∷ ms) f n h = elim (same_or_not n m) [ inl p ↦ here p | inr p ↦ later p (way_of_entries ms f n) h ]
   where
-    later : ((n ≢ m) × (bytes_eq n m ≡ false)) → (Mem n ms → kind_in (entries_for f ms) n ≡ f n) → Mem n (m ∷ ms) → kind_in (entries_for f (m ∷ ms)) n ≡ f n
+    here : ((n ≡ m) × (bytes_eq n m ≡ true)) → way_in (entries_for f (m ∷ ms)) n ≡ f n
+    here p =
+        let same : bytes_eq n (entry_for (f m) m).name ≡ true = subst (λ (z : List ℕ). bytes_eq n z ≡ true) (sym (name-entry_for (f m) m)) p.1 in
+        rw same (way-entry_for (f m) m ∙ ap f (sym p.0))
+
+    later : ((n ≢ m) × (bytes_eq n m ≡ false)) → (Mem n ms → way_in (entries_for f ms) n ≡ f n) → Mem n (m ∷ ms) → way_in (entries_for f (m ∷ ms)) n ≡ f n
     later p more (inl e) = absurd (p.0 e)
-    later p more (inr h) = rw p.1 (more h)
+    later p more (inr h) =
+        let other : bytes_eq n (entry_for (f m) m).name ≡ false = subst (λ (z : List ℕ). bytes_eq n z ≡ false) (sym (name-entry_for (f m) m)) p.1 in
+        rw other (more h)

@@ -53,10 +53,10 @@ module _ (j : Job) (job : IsJob j) where
   own_step d files owners settles locked sound Seizing e is agrees k = Right.step_seizing j job d files owners settles locked sound is k
   own_step d files owners settles locked sound Looking e is agrees k = Right.step_looking j job d files owners settles locked sound is agrees k
   own_step d files owners settles locked sound (Undoing r n ns ls th) e is agrees k = Mending.step_undoing j job d files owners settles locked sound r n ns ls th is agrees k
-  own_step d files owners settles locked sound (Placing r n ns ls th) e is agrees k = Mending.step_placing j job d files owners settles locked sound r n ns ls th is agrees k
-  own_step d files owners settles locked sound (Testing r n ns ls) e is agrees k = Removals.step_testing j job d files owners settles locked sound r n ns ls is agrees k
-  own_step d files owners settles locked sound (Removing r n ns ls th) e is agrees k = Removals.step_removing j job d files owners settles locked sound r n ns ls th is agrees k
-  own_step d files owners settles locked sound (Discarding r n ns ls th) e is agrees k = Removals.step_discarding j job d files owners settles locked sound r n ns ls th is agrees k
+  own_step d files owners settles locked sound (Placing r x xs ls th) e is agrees k = Mending.step_placing j job d files owners settles locked sound r x xs ls th is agrees k
+  own_step d files owners settles locked sound (Testing r x xs ls) e is agrees k = Removals.step_testing j job d files owners settles locked sound r x xs ls is agrees k
+  own_step d files owners settles locked sound (Removing r x xs ls th) e is agrees k = Removals.step_removing j job d files owners settles locked sound r x xs ls th is agrees k
+  own_step d files owners settles locked sound (Discarding r x xs ls th) e is agrees k = Removals.step_discarding j job d files owners settles locked sound r x xs ls th is agrees k
   own_step d files owners settles locked sound (Unlocking r n ns th) e is agrees k = Closing.step_unlocking j job d files owners settles locked sound r n ns th is agrees k
   own_step d files owners settles locked sound (Erasing r th) e is agrees k = Closing.step_erasing j job d files owners settles locked sound r th is agrees k
   own_step d files owners settles locked sound (Clearing found) e is agrees k = OwnRecord.step_clearing j job d files owners settles locked sound found is agrees k

@@ -7,7 +7,7 @@ use Rattle.std.specs.Str.{bytes_eq}
 use Rattle.commit_record.specs.Names.{is_lawful}
 use Rattle.commit_record.specs.declared.record.Record.{Record}
 use Rattle.commit_machine.specs.Names.{record_name, new_name, staged_name, is_record_name}
-use Rattle.commit_machine.specs.Records.{record_in, is_go, names_of, kind_of, has}
+use Rattle.commit_machine.specs.Records.{record_in, is_go, names_of, way_at, has}
 use Rattle.commit_machine.specs.Settled.{Files, Mem, hides, is_staged_of, placed, put_in, settled}
 use Rattle.commit_machine.specs.Jobs.{Edit, all_names, outcome_of}
 use Rattle.commit_machine.specs.Due.{applied}
@@ -59,13 +59,13 @@ module _ (actor : List ℕ) (f : Files) where
   stands_then : (g : Record) → record_in (f (new_name actor)) ≡ Some g → record_in (renamed f (new_name actor) (record_name actor) (record_name actor)) ≡ Some g
   stands_then g new = ap record_in (renamed_to f (new_name actor) (record_name actor)) ∙ new
 
-  commit_at : (g : Record) (n : List ℕ) → record_in (f (new_name actor)) ≡ Some g → is_go g ≡ true → is_record_name actor n ≡ false → is_lawful n ≡ true → has (names_of g) n ≡ true → settled actor (renamed f (new_name actor) (record_name actor)) n ≡ put_in (kind_of g n) (f n) (f (staged_name g.token n))
+  commit_at : (g : Record) (n : List ℕ) → record_in (f (new_name actor)) ≡ Some g → is_go g ≡ true → is_record_name actor n ≡ false → is_lawful n ≡ true → has (names_of g) n ≡ true → settled actor (renamed f (new_name actor) (record_name actor)) n ≡ put_in (way_at g n) (f n) (f (staged_name g.token n))
   commit_at g n new go plain law mem =
       settled_at actor (renamed f (new_name actor) (record_name actor)) n (Some g) (stands_then g new)
       ∙ rw (not_hidden actor g n plain law) refl
       ∙ placed-in g (renamed f (new_name actor) (record_name actor)) n go mem
-      ∙ ap (λ (z : Option (List ℕ)). put_in (kind_of g n) z (renamed f (new_name actor) (record_name actor) (staged_name g.token n))) (moved_file n plain)
-      ∙ ap (put_in (kind_of g n) (f n)) (moved_staged g.token n)
+      ∙ ap (λ (z : Option (List ℕ)). put_in (way_at g n) z (renamed f (new_name actor) (record_name actor) (staged_name g.token n))) (moved_file n plain)
+      ∙ ap (put_in (way_at g n) (f n)) (moved_staged g.token n)
 
   pub commit_before : (q : Record) (n : List ℕ) → record_in (f (record_name actor)) ≡ Some q → is_go q ≡ false → is_record_name actor n ≡ false → is_lawful n ≡ true → settled actor f n ≡ f n
   commit_before q n e go plain law =
@@ -93,7 +93,7 @@ module _ (actor : List ℕ) (f : Files) where
           rw (nay, z) (placed-out g (renamed f (new_name actor) (record_name actor)) n nowhere ∙ renamed_other f (new_name actor) (record_name actor) n s.not_new s.not_record ∙ sym (placed-prepare q f n go))
 
   -- the settled files after the decision, where each edit's outcome is staged
-  pub decided : (q g : Record) (es : List Edit) (n : List ℕ) → record_in (f (record_name actor)) ≡ Some q → is_go q ≡ false → record_in (f (new_name actor)) ≡ Some g → is_go g ≡ true → q.token ≡ g.token → names_of q ≡ names_of g → names_of g ≡ all_names es → IsDistinct es → ((e : Edit) → Mem e es → (is_record_name actor e.name ≡ false) × (is_lawful e.name ≡ true)) → ((e : Edit) → Mem e es → put_in (kind_of g e.name) (f e.name) (f (staged_name g.token e.name)) ≡ outcome_of e (f e.name)) → settled actor (renamed f (new_name actor) (record_name actor)) n ≡ applied es (settled actor f) n
+  pub decided : (q g : Record) (es : List Edit) (n : List ℕ) → record_in (f (record_name actor)) ≡ Some q → is_go q ≡ false → record_in (f (new_name actor)) ≡ Some g → is_go g ≡ true → q.token ≡ g.token → names_of q ≡ names_of g → names_of g ≡ all_names es → IsDistinct es → ((e : Edit) → Mem e es → (is_record_name actor e.name ≡ false) × (is_lawful e.name ≡ true)) → ((e : Edit) → Mem e es → put_in (way_at g e.name) (f e.name) (f (staged_name g.token e.name)) ≡ outcome_of e (f e.name)) → settled actor (renamed f (new_name actor) (record_name actor)) n ≡ applied es (settled actor f) n
   decided q g es n e qgo new ggo t ns all distinct plain made = elim (cases_Bool (has (names_of g) n)) [ inl y ↦ among y | inr y ↦ other y ]
     where
       among : has (names_of g) n ≡ true → settled actor (renamed f (new_name actor) (record_name actor)) n ≡ applied es (settled actor f) n
@@ -102,7 +102,7 @@ module _ (actor : List ℕ) (f : Files) where
           let p : is_record_name actor n ≡ false = subst (λ (z : List ℕ). is_record_name actor z ≡ false) is (plain x mem).0 in
           let l : is_lawful n ≡ true = subst (λ (z : List ℕ). is_lawful z ≡ true) is (plain x mem).1 in
           commit_at g n new ggo p l y
-          ∙ ap (λ (z : List ℕ). put_in (kind_of g z) (f z) (f (staged_name g.token z))) (sym is)
+          ∙ ap (λ (z : List ℕ). put_in (way_at g z) (f z) (f (staged_name g.token z))) (sym is)
           ∙ made x mem
           ∙ ap (outcome_of x) (sym (commit_before q x.name e qgo (plain x mem).0 (plain x mem).1))
           ∙ sym (applied_at es x (settled actor f) distinct mem)

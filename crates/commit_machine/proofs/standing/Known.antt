@@ -1,12 +1,13 @@
 -- What a run knows of the disk at each state.
 use Rattle.std.proofs.Common.{◌≡◌, ◌≢◌, ◌⊎◌, ℕ, true, false, List, [], ◌∷◌, Option, Some, None, is_some}
 use Rattle.commit_record.specs.Format.{written, IsWritten}
-use Rattle.commit_record.specs.declared.record.EntryKind.TheVariants.{Replace, Remove}
 use Rattle.commit_record.specs.declared.record.Record.{Record}
+use Rattle.commit_record.specs.declared.way.Way.TheVariants.{Replace, Remove}
 use Rattle.host_port.specs.Disk.{Disk}
 use Rattle.commit_machine.specs.Names.{record_name, new_name, staged_name, is_record_name}
-use Rattle.commit_machine.specs.Records.{is_go, names_of, kind_of, AreDistinct}
-use Rattle.commit_machine.specs.Settled.{Mem}
+use Rattle.commit_machine.specs.Records.{is_go, names_of, way_at, AreDistinct}
+use Rattle.commit_machine.specs.Settled.{Mem, put_in}
+use Rattle.commit_machine.specs.Items.{Item, item_names}
 use Rattle.commit_machine.specs.Jobs.{Ending, Done, Recovered, Refused, Failed, NoMemory, Puts, Edit, Job, Made, edits_of, all_of, prepare_of, go_of}
 use Rattle.commit_machine.specs.Machine.{Then, GoOn, Answer, State, Seizing, Looking, Undoing, Placing, Testing, Removing, Discarding, Unlocking, Erasing, Clearing, Preparing, Publishing, Locking, Loading, Staging, Deciding, Committing, Checking, Releasing, Ended}
 use Rattle.commit_machine.specs.Lawful.{standing, HasRight, IsGuarded, IsFresh}
@@ -89,7 +90,7 @@ pub record Subset (xs ys : List (List ℕ)) : Type 0 where
 
 -- facts on lists alone
 pub record Covers (j : Job) (made : List Made) (left : List Edit) : Type 0 where
-  pub each : (x : Made) → Mem x made → Mem x.edit (edits_of j) × (x.edit.by x.seen ≡ Puts x.kind x.content)
+  pub each : (x : Made) → Mem x made → Mem x.edit (edits_of j) × (x.edit.by x.seen ≡ Puts x.way x.content)
   pub all : (e : Edit) → Mem e (edits_of j) → Mem e left ⊎ ((x : Made) × Mem x made × (x.edit ≡ e))
   pub within : (e : Edit) → Mem e left → Mem e (edits_of j)
 
@@ -103,19 +104,24 @@ pub record LocksLeft (j : Job) (ls : List (List ℕ)) (left : List Edit) : Type 
 pub record Among (left made : List Made) : Type 0 where
   pub each : (x : Made) → Mem x left → Mem x made
 
--- All staged files of the own record stand when it is decided; of a record that was found it isn't known.
-abbrev pub AreStaged : Then → Record → List (List ℕ) → Disk → Type 0
-AreStaged GoOn r ns d = Unit {0}
-AreStaged (Answer e) r ns d = (m : List ℕ) → Mem m ns → is_some (d.files (staged_name r.token m)) ≡ true
+-- the staged file of this one stands, as it is known
+abbrev pub IsStaged : Record → Item → Disk → Type 0
+IsStaged r x d = (d.files (staged_name r.token x.name) ≡ x.staged) × (is_some x.staged ≡ true)
 
--- A decided record whose names but ns are in place.
-pub record PartPlaced (actor : List ℕ) (r : Record) (ns ls : List (List ℕ)) (th : Then) (d : Disk) : Type 0 where
-  pub closing : Closing actor r ns ls d
+-- All staged files of the own record stand when it is decided; of a record that was found it isn't known.
+abbrev pub AreStaged : Then → Record → List Item → Disk → Type 0
+AreStaged GoOn r xs d = Unit {0}
+AreStaged (Answer e) r xs d = (x : Item) → Mem x xs → IsStaged r x d
+
+-- A decided record of which all but these files are in place.
+pub record PartPlaced (actor : List ℕ) (r : Record) (xs : List Item) (ls : List (List ℕ)) (th : Then) (d : Disk) : Type 0 where
+  pub closing : Closing actor r (item_names xs) ls d
   pub go : is_go r ≡ true
-  pub within : Subset ns (names_of r)
+  pub within : Subset (item_names xs) (names_of r)
   pub locks_within : Subset ls (names_of r)
-  pub distinct : AreDistinct ns
-  pub staged : AreStaged th r ns d
+  pub distinct : AreDistinct (item_names xs)
+  pub ways : (x : Item) → Mem x xs → way_at r x.name ≡ x.way
+  pub staged : AreStaged th r xs d
 
 -- A change by others: what the run's own places and guarded names are stays.
 pub record Keeps (actor : List ℕ) (t : ℕ) (d d' : Disk) : Type 0 where
@@ -131,10 +137,10 @@ abbrev pub Knows : Job → State → Disk → Type 0
 Knows j Seizing d = IsFresh j.actor j.token d
 Knows j Looking d = Clean j d
 Knows j (Undoing r n ns ls th) d = Closing j.actor r (n ∷ ns) ls d × (is_go r ≡ false) × Subset (n ∷ ns) (names_of r) × Subset ls (names_of r) × ThenOk j r th d
-Knows j (Placing r n ns ls th) d = PartPlaced j.actor r (n ∷ ns) ls th d × ThenOk j r th d × (kind_of r n ≡ Replace)
-Knows j (Testing r n ns ls) d = PartPlaced j.actor r (n ∷ ns) ls GoOn d × ThenOk j r GoOn d × (kind_of r n ≡ Remove)
-Knows j (Removing r n ns ls th) d = PartPlaced j.actor r (n ∷ ns) ls th d × ThenOk j r th d × (kind_of r n ≡ Remove) × (is_some (d.files (staged_name r.token n)) ≡ true)
-Knows j (Discarding r n ns ls th) d = PartPlaced j.actor r (n ∷ ns) ls th d × ThenOk j r th d × (kind_of r n ≡ Remove) × (d.locks n ≡ Some r.token) × (d.files n ≡ None)
+Knows j (Placing r x xs ls th) d = PartPlaced j.actor r (x ∷ xs) ls th d × ThenOk j r th d × (x.way ≡ Replace)
+Knows j (Testing r x xs ls) d = PartPlaced j.actor r (x ∷ xs) ls GoOn d × ThenOk j r GoOn d × (x.way ≡ Remove)
+Knows j (Removing r x xs ls th) d = PartPlaced j.actor r (x ∷ xs) ls th d × ThenOk j r th d × (x.way ≡ Remove) × IsStaged r x d
+Knows j (Discarding r x xs ls th) d = PartPlaced j.actor r (x ∷ xs) ls th d × ThenOk j r th d × (d.locks x.name ≡ Some r.token) × (put_in x.way (d.files x.name) (d.files (staged_name r.token x.name)) ≡ d.files x.name)
 Knows j (Unlocking r n ns th) d = Closing j.actor r [] (n ∷ ns) d × Subset (n ∷ ns) (names_of r) × ThenOk j r th d
 Knows j (Erasing r th) d = Closing j.actor r [] [] d × ThenOk j r th d
 Knows j (Clearing found) d = Idle j None d

@@ -1,22 +1,19 @@
 -- What is known at the state that a list of names leads to.
 use Rattle.std.proofs.Common.{◌≡◌, ℕ, Bool, true, false, List, [], ◌∷◌, map, Option, Some, None, if◌then◌else◌, refl, ap, sym, subst, inl, inr}
-use Rattle.commit_record.specs.declared.record.EntryKind.{EntryKind}
-use Rattle.commit_record.specs.declared.record.EntryKind.TheVariants.{Replace, Remove}
 use Rattle.commit_record.specs.declared.record.Record.{Record}
+use Rattle.commit_record.specs.declared.way.Way.{Way}
+use Rattle.commit_record.specs.declared.way.Way.TheVariants.{Replace, Remove}
 use Rattle.host_port.specs.Disk.{Disk}
 use Rattle.commit_machine.specs.Names.{record_name, new_name}
-use Rattle.commit_machine.specs.Records.{record_in, record_of, is_go, names_of, kind_of}
+use Rattle.commit_machine.specs.Records.{record_in, record_of, is_go, names_of, AreDistinct}
 use Rattle.commit_machine.specs.Settled.{Mem}
+use Rattle.commit_machine.specs.Items.{Item, found_items}
 use Rattle.commit_machine.specs.Jobs.{Ending, Refused, NoMemory, Found, Refusal, seen_files, Edit, Job, Made, edits_of, all_of, entries_for, prepare_of, IsJob}
 use Rattle.commit_machine.specs.Machine.{Then, GoOn, Answer, State, Seizing, Looking, Undoing, Placing, Testing, Removing, Discarding, Unlocking, Erasing, Clearing, Preparing, Publishing, Locking, Loading, Staging, Deciding, Committing, Checking, Releasing, Ended, unlocking, undoing, removing, place_one, placing, staging, judged, loading, locking, mended, none_stands, mending, record_seen, looked, refusing, refused, wanted}
 use Rattle.commit_machine.specs.Lawful.{standing}
 use Rattle.commit_machine.proofs.records.InFile.{stands-distinct}
+use Rattle.commit_machine.proofs.records.OfItems.{names-entries_for, names-found, ways-found}
 use Rattle.commit_machine.proofs.standing.Known.{Closing, Own, Clean, Idle, IsValid, IsOwnEnd, ThenOk, Subset, Covers, LocksLeft, Among, PartPlaced, Knows}
-
--- the names of entries are those that they were made for
-pub names-entries_for : (kind : List ℕ → EntryKind) (ns : List (List ℕ)) → map (λ e. e.name) (entries_for kind ns) ≡ ns
-names-entries_for kind [] = refl
-names-entries_for kind (n ∷ ns) = ap (λ (z : List (List ℕ)). n ∷ z) (names-entries_for kind ns)
 
 pub names-prepare : (j : Job) → names_of (prepare_of j) ≡ all_of j
 names-prepare j = names-entries_for (λ n. Replace) (all_of j)
@@ -29,17 +26,17 @@ module _ (j : Job) (d : Disk) where
   knows_unlocking r [] th k sub t = (k, t)
   knows_unlocking r (n ∷ ns) th k sub t = (k, sub, t)
 
-  knows_removing : (r : Record) (n : List ℕ) (ns ls : List (List ℕ)) (th : Then) → kind_of r n ≡ Remove → PartPlaced j.actor r (n ∷ ns) ls th d → ThenOk j r th d → Knows j (removing r n ns ls th) d
-  knows_removing r n ns ls GoOn kind k t = (k, t, kind)
-  knows_removing r n ns ls (Answer e) kind k t = (k, t, kind, k.staged n (inl refl))
+  knows_removing : (r : Record) (x : Item) (xs : List Item) (ls : List (List ℕ)) (th : Then) → x.way ≡ Remove → PartPlaced j.actor r (x ∷ xs) ls th d → ThenOk j r th d → Knows j (removing r x xs ls th) d
+  knows_removing r x xs ls GoOn way k t = (k, t, way)
+  knows_removing r x xs ls (Answer e) way k t = (k, t, way, k.staged x (inl refl))
 
-  knows_place_one : (kind : EntryKind) (r : Record) (n : List ℕ) (ns ls : List (List ℕ)) (th : Then) → kind_of r n ≡ kind → PartPlaced j.actor r (n ∷ ns) ls th d → ThenOk j r th d → Knows j (place_one kind r n ns ls th) d
-  knows_place_one Replace r n ns ls th is k t = (k, t, is)
-  knows_place_one Remove r n ns ls th is k t = knows_removing r n ns ls th is k t
+  knows_place_one : (way : Way) (r : Record) (x : Item) (xs : List Item) (ls : List (List ℕ)) (th : Then) → x.way ≡ way → PartPlaced j.actor r (x ∷ xs) ls th d → ThenOk j r th d → Knows j (place_one way r x xs ls th) d
+  knows_place_one Replace r x xs ls th is k t = (k, t, is)
+  knows_place_one Remove r x xs ls th is k t = knows_removing r x xs ls th is k t
 
-  pub knows_placing : (r : Record) (ns ls : List (List ℕ)) (th : Then) → PartPlaced j.actor r ns ls th d → ThenOk j r th d → Knows j (placing r ns ls th) d
+  pub knows_placing : (r : Record) (xs : List Item) (ls : List (List ℕ)) (th : Then) → PartPlaced j.actor r xs ls th d → ThenOk j r th d → Knows j (placing r xs ls th) d
   knows_placing r [] ls th k t = knows_unlocking r ls th k.closing k.locks_within t
-  knows_placing r (n ∷ ns) ls th k t = knows_place_one (kind_of r n) r n ns ls th refl k t
+  knows_placing r (x ∷ xs) ls th k t = knows_place_one x.way r x xs ls th refl k t
 
   pub knows_undoing : (r : Record) (ns ls : List (List ℕ)) (th : Then) → Closing j.actor r ns ls d → is_go r ≡ false → Subset ns (names_of r) → Subset ls (names_of r) → ThenOk j r th d → Knows j (undoing r ns ls th) d
   knows_undoing r [] ls th k go sub sub2 t = knows_unlocking r ls th k sub2 t
@@ -93,9 +90,24 @@ module _ (j : Job) (d : Disk) where
       whole : Closing j.actor r (names_of r) (names_of r) d
       whole = record { right = k.right; stands = e; gone = λ m h. inl h; free = λ m h. inl h }
 
+      distinct : AreDistinct (names_of r)
+      distinct = stands-distinct (d.files (record_name j.actor)) r e
+
+      -- all of it is to be put in place
+      placed : is_go r ≡ true → PartPlaced j.actor r (found_items r) (names_of r) GoOn d
+      placed g = record {
+        closing = subst (λ (ns : List (List ℕ)). Closing j.actor r ns (names_of r) d) (sym (names-found r)) whole;
+        go = g;
+        within = subst (λ (ns : List (List ℕ)). Subset ns (names_of r)) (sym (names-found r)) (same_set r);
+        locks_within = same_set r;
+        distinct = subst AreDistinct (sym (names-found r)) distinct;
+        ways = ways-found r distinct;
+        staged = tt;
+      }
+
       go : (b : Bool) → is_go r ≡ b → Knows j (mending r) d
-      go true g = subst (λ (b : Bool). Knows j (if b then placing r (names_of r) (names_of r) GoOn else undoing r (names_of r) (names_of r) GoOn) d) (sym g) (knows_placing r (names_of r) (names_of r) GoOn (record { closing = whole; go = g; within = same_set r; locks_within = same_set r; distinct = stands-distinct (d.files (record_name j.actor)) r e; staged = tt }) k.fresh)
-      go false g = subst (λ (b : Bool). Knows j (if b then placing r (names_of r) (names_of r) GoOn else undoing r (names_of r) (names_of r) GoOn) d) (sym g) (knows_undoing r (names_of r) (names_of r) GoOn whole g (same_set r) (same_set r) k.fresh)
+      go true g = subst (λ (b : Bool). Knows j (if b then placing r (found_items r) (names_of r) GoOn else undoing r (names_of r) (names_of r) GoOn) d) (sym g) (knows_placing r (found_items r) (names_of r) GoOn (placed g) k.fresh)
+      go false g = subst (λ (b : Bool). Knows j (if b then placing r (found_items r) (names_of r) GoOn else undoing r (names_of r) (names_of r) GoOn) d) (sym g) (knows_undoing r (names_of r) (names_of r) GoOn whole g (same_set r) (same_set r) k.fresh)
 
   knows_record : (o : Option Record) → Clean j d → standing j.actor d ≡ o → Knows j (record_seen o) d
   knows_record None k e = k.fresh
@@ -131,13 +143,13 @@ module _ (j : Job) (d : Disk) where
   knows_refused Looking k = k.fresh
   knows_refused (Undoing r n ns ls GoOn) k = k.4
   knows_refused (Undoing r n ns ls (Answer a)) k = k
-  knows_refused (Placing r n ns ls GoOn) k = k.1
-  knows_refused (Placing r n ns ls (Answer a)) k = k
-  knows_refused (Testing r n ns ls) k = k.1
-  knows_refused (Removing r n ns ls GoOn) k = k.1
-  knows_refused (Removing r n ns ls (Answer a)) k = k
-  knows_refused (Discarding r n ns ls GoOn) k = k.1
-  knows_refused (Discarding r n ns ls (Answer a)) k = k
+  knows_refused (Placing r x xs ls GoOn) k = k.1
+  knows_refused (Placing r x xs ls (Answer a)) k = k
+  knows_refused (Testing r x xs ls) k = k.1
+  knows_refused (Removing r x xs ls GoOn) k = k.1
+  knows_refused (Removing r x xs ls (Answer a)) k = k
+  knows_refused (Discarding r x xs ls GoOn) k = k.1
+  knows_refused (Discarding r x xs ls (Answer a)) k = k
   knows_refused (Unlocking r n ns GoOn) k = k.2
   knows_refused (Unlocking r n ns (Answer a)) k = k
   knows_refused (Erasing r GoOn) k = k.1
@@ -160,10 +172,10 @@ module _ (j : Job) (d : Disk) where
   knows_wanted Looking k = knows_refused Looking k
   knows_wanted (Loading made e left) k = knows_refused (Loading made e left) k
   knows_wanted (Undoing r n ns ls th) k = knows_refused (Undoing r n ns ls th) k
-  knows_wanted (Placing r n ns ls th) k = knows_refused (Placing r n ns ls th) k
-  knows_wanted (Testing r n ns ls) k = knows_refused (Testing r n ns ls) k
-  knows_wanted (Removing r n ns ls th) k = knows_refused (Removing r n ns ls th) k
-  knows_wanted (Discarding r n ns ls th) k = knows_refused (Discarding r n ns ls th) k
+  knows_wanted (Placing r x xs ls th) k = knows_refused (Placing r x xs ls th) k
+  knows_wanted (Testing r x xs ls) k = knows_refused (Testing r x xs ls) k
+  knows_wanted (Removing r x xs ls th) k = knows_refused (Removing r x xs ls th) k
+  knows_wanted (Discarding r x xs ls th) k = knows_refused (Discarding r x xs ls th) k
   knows_wanted (Unlocking r n ns th) k = knows_refused (Unlocking r n ns th) k
   knows_wanted (Erasing r th) k = knows_refused (Erasing r th) k
   knows_wanted (Clearing found) k = knows_refused (Clearing found) k

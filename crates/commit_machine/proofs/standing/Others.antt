@@ -1,16 +1,17 @@
 -- A change by others keeps what the run knows at each state.
-use Rattle.std.proofs.Common.{◌≡◌, ℕ, true, List, [], ◌∷◌, Option, Some, None, is_some, refl, ap, inl, inr, ◌∙◌}
+use Rattle.std.proofs.Common.{◌≡◌, ℕ, true, List, [], ◌∷◌, Option, Some, None, refl, ap, sym, inl, inr, ◌∙◌}
 use Rattle.commit_record.specs.Format.{written}
 use Rattle.commit_record.specs.declared.record.Record.{Record}
 use Rattle.host_port.specs.Disk.{Disk}
 use Rattle.commit_machine.specs.Names.{record_name, new_name, staged_name, is_record_name}
 use Rattle.commit_machine.specs.Records.{record_in}
-use Rattle.commit_machine.specs.Settled.{Mem}
+use Rattle.commit_machine.specs.Settled.{Mem, put_in}
+use Rattle.commit_machine.specs.Items.{Item, item_names}
 use Rattle.commit_machine.specs.Jobs.{Ending, Done, Recovered, Refused, Failed, NoMemory, Job, Made, edits_of, all_of, prepare_of}
 use Rattle.commit_machine.specs.Machine.{Then, GoOn, Answer, State, Seizing, Looking, Undoing, Placing, Testing, Removing, Discarding, Unlocking, Erasing, Clearing, Preparing, Publishing, Locking, Loading, Staging, Deciding, Committing, Checking, Releasing, Ended}
 use Rattle.commit_machine.specs.Lawful.{standing, HasRight, IsGuarded, IsFresh}
 use Rattle.commit_machine.proofs.standing.Decided.{names_Mem}
-use Rattle.commit_machine.proofs.standing.Known.{Closing, Rest, Own, Clean, Idle, ThenOk, AllDone, Over, Ends, AreStaged, PartPlaced, Keeps, Knows}
+use Rattle.commit_machine.proofs.standing.Known.{Closing, Rest, Own, Clean, Idle, ThenOk, AllDone, Over, Ends, IsStaged, AreStaged, PartPlaced, Keeps, Knows}
 use Rattle.commit_machine.proofs.records.Same.{same_refl}
 use Rattle.std.proofs.lemmas.Bool.{or_left, or_right}
 
@@ -77,19 +78,25 @@ module _ (j : Job) (d d' : Disk) (keep : Keeps j.actor j.token d d') where
   guards : (r : Record) → standing j.actor d ≡ Some r → IsGuarded j.actor j.token d r.token
   guards r e = inr (r, e, refl)
 
-  others_some : (r : Record) (m : List ℕ) → standing j.actor d ≡ Some r → is_some (d.files (staged_name r.token m)) ≡ true → is_some (d'.files (staged_name r.token m)) ≡ true
-  others_some r m e h = ap is_some (keep.staged r.token m (guards r e)) ∙ h
+  others_one : (r : Record) (x : Item) → standing j.actor d ≡ Some r → IsStaged r x d → IsStaged r x d'
+  others_one r x e h = (keep.staged r.token x.name (guards r e) ∙ h.0, h.1)
 
-  others_staged : (r : Record) (ns : List (List ℕ)) (th : Then) → standing j.actor d ≡ Some r → AreStaged th r ns d → AreStaged th r ns d'
-  others_staged r ns GoOn e h = tt
-  others_staged r ns (Answer a) e h = λ m mem. others_some r m e (h m mem)
+  others_staged : (r : Record) (xs : List Item) (th : Then) → standing j.actor d ≡ Some r → AreStaged th r xs d → AreStaged th r xs d'
+  others_staged r xs GoOn e h = tt
+  others_staged r xs (Answer a) e h = λ x mem. others_one r x e (h x mem)
 
-  others_placed : (r : Record) (ns ls : List (List ℕ)) (th : Then) → PartPlaced j.actor r ns ls th d → PartPlaced j.actor r ns ls th d'
-  others_placed r ns ls th k = record { closing = others_closing r ns ls k.closing; go = k.go; within = k.within; locks_within = k.locks_within; distinct = k.distinct; staged = others_staged r ns th k.closing.stands k.staged }
+  others_placed : (r : Record) (xs : List Item) (ls : List (List ℕ)) (th : Then) → PartPlaced j.actor r xs ls th d → PartPlaced j.actor r xs ls th d'
+  others_placed r xs ls th k = record { closing = others_closing r (item_names xs) ls k.closing; go = k.go; within = k.within; locks_within = k.locks_within; distinct = k.distinct; ways = k.ways; staged = others_staged r xs th k.closing.stands k.staged }
 
-  -- a file that is locked with the record's token stays gone
-  others_gone : (r : Record) (n : List ℕ) → standing j.actor d ≡ Some r → d.locks n ≡ Some r.token → d.files n ≡ None → d'.files n ≡ None
-  others_gone r n e lock gone = keep.file r.token n (guards r e) lock ∙ gone
+  -- a file that is locked with the record's token stays what it has become
+  others_become : (r : Record) (x : Item) → standing j.actor d ≡ Some r → d.locks x.name ≡ Some r.token → put_in x.way (d.files x.name) (d.files (staged_name r.token x.name)) ≡ d.files x.name
+      → put_in x.way (d'.files x.name) (d'.files (staged_name r.token x.name)) ≡ d'.files x.name
+  others_become r x e lock done =
+      let file : d'.files x.name ≡ d.files x.name = keep.file r.token x.name (guards r e) lock in
+      ap (λ (c : Option (List ℕ)). put_in x.way c (d'.files (staged_name r.token x.name))) file
+      ∙ ap (put_in x.way (d.files x.name)) (keep.staged r.token x.name (guards r e))
+      ∙ done
+      ∙ sym file
 
   others_done : HasRight j.actor d → AllDone j d → AllDone j d'
   others_done right k = record { fresh = others_fresh k.fresh; none = record_stays right ∙ k.none }
@@ -112,10 +119,10 @@ module _ (j : Job) (d d' : Disk) (keep : Keeps j.actor j.token d d') where
   others_knows Seizing k = others_fresh k
   others_knows Looking k = others_clean k
   others_knows (Undoing r n ns ls th) k = (others_closing r (n ∷ ns) ls k.0, k.1, k.2, k.3, others_then r th k.4)
-  others_knows (Placing r n ns ls th) k = (others_placed r (n ∷ ns) ls th k.0, others_then r th k.1, k.2)
-  others_knows (Testing r n ns ls) k = (others_placed r (n ∷ ns) ls GoOn k.0, others_fresh k.1, k.2)
-  others_knows (Removing r n ns ls th) k = (others_placed r (n ∷ ns) ls th k.0, others_then r th k.1, k.2, others_some r n k.0.closing.stands k.3)
-  others_knows (Discarding r n ns ls th) k = (others_placed r (n ∷ ns) ls th k.0, others_then r th k.1, k.2, keep.lock r.token n (guards r k.0.closing.stands) k.3, others_gone r n k.0.closing.stands k.3 k.4)
+  others_knows (Placing r x xs ls th) k = (others_placed r (x ∷ xs) ls th k.0, others_then r th k.1, k.2)
+  others_knows (Testing r x xs ls) k = (others_placed r (x ∷ xs) ls GoOn k.0, others_fresh k.1, k.2)
+  others_knows (Removing r x xs ls th) k = (others_placed r (x ∷ xs) ls th k.0, others_then r th k.1, k.2, others_one r x k.0.closing.stands k.3)
+  others_knows (Discarding r x xs ls th) k = (others_placed r (x ∷ xs) ls th k.0, others_then r th k.1, keep.lock r.token x.name (guards r k.0.closing.stands) k.2, others_become r x k.0.closing.stands k.2 k.3)
   others_knows (Unlocking r n ns th) k = (others_closing r [] (n ∷ ns) k.0, k.1, others_then r th k.2)
   others_knows (Erasing r th) k = (others_closing r [] [] k.0, others_then r th k.1)
   others_knows (Clearing found) k = others_idle None k

@@ -5,11 +5,11 @@ use Rattle.std.specs.List.{list_any}
 use Rattle.std.specs.Str.{bytes_eq}
 use Rattle.host_port.specs.Disk.{with_at}
 use Rattle.commit_record.specs.Names.{is_lawful}
-use Rattle.commit_record.specs.declared.record.EntryKind.{EntryKind}
-use Rattle.commit_record.specs.declared.record.EntryKind.TheVariants.{Replace, Remove}
 use Rattle.commit_record.specs.declared.record.Record.{Record}
+use Rattle.commit_record.specs.declared.way.Way.{Way}
+use Rattle.commit_record.specs.declared.way.Way.TheVariants.{Replace, Remove}
 use Rattle.commit_machine.specs.Names.{record_name, new_name, staged_name, is_record_name}
-use Rattle.commit_machine.specs.Records.{record_in, is_go, names_of, kind_of, has}
+use Rattle.commit_machine.specs.Records.{record_in, is_go, names_of, way_at, has}
 use Rattle.commit_machine.specs.Settled.{Files, Mem, hides, is_staged_of, placed, put_in, settled}
 use Rattle.commit_machine.proofs.records.Same.{same_refl, same_true, same_or_not, put_here, put_there, has_Mem, Mem_has}
 use Rattle.commit_machine.proofs.records.Names.{record-new, staged-one, staged-record, staged-new, lawful-staged}
@@ -73,7 +73,7 @@ placed-out r f n h = rw h refl
 pub placed-prepare : (r : Record) (f : Files) (n : List ℕ) → is_go r ≡ false → placed (Some r) f n ≡ f n
 placed-prepare r f n h = placed-out r f n (ap (λ (b : Bool). b && has (names_of r) n) h)
 
-pub placed-in : (r : Record) (f : Files) (n : List ℕ) → is_go r ≡ true → has (names_of r) n ≡ true → placed (Some r) f n ≡ put_in (kind_of r n) (f n) (f (staged_name r.token n))
+pub placed-in : (r : Record) (f : Files) (n : List ℕ) → is_go r ≡ true → has (names_of r) n ≡ true → placed (Some r) f n ≡ put_in (way_at r n) (f n) (f (staged_name r.token n))
 placed-in r f n g h = let both : (is_go r && has (names_of r) n) ≡ true = rw (g, h) refl in rw both refl
 
 placed_same : (o : Option Record) (f g : Files) (n : List ℕ) → g n ≡ f n → ((r : Record) → o ≡ Some r → is_go r ≡ true → Mem n (names_of r) → g (staged_name r.token n) ≡ f (staged_name r.token n)) → placed o g n ≡ placed o f n
@@ -84,8 +84,8 @@ placed_same (Some r) f g n e h = elim (cases_Bool (is_go r && has (names_of r) n
     among y =
         let p = and_parts (is_go r) (has (names_of r) n) y in
         placed-in r g n p.0 p.1
-        ∙ ap (λ (z : Option (List ℕ)). put_in (kind_of r n) z (g (staged_name r.token n))) e
-        ∙ ap (put_in (kind_of r n) (f n)) (h r refl p.0 (has_Mem (names_of r) n p.1))
+        ∙ ap (λ (z : Option (List ℕ)). put_in (way_at r n) z (g (staged_name r.token n))) e
+        ∙ ap (put_in (way_at r n) (f n)) (h r refl p.0 (has_Mem (names_of r) n p.1))
         ∙ sym (placed-in r f n p.0 p.1)
 
 -- a write to the staging of the record
@@ -114,28 +114,28 @@ renamed_from f from to ne = put_there (with_at f from None) to from (f from) ne 
 pub renamed_other : (f : Files) (from to n : List ℕ) → n ≢ from → n ≢ to → renamed f from to n ≡ f n
 renamed_other f from to n a b = put_there (with_at f from None) to n (f from) b ∙ put_there f from n None a
 
-put_in_none : (k : EntryKind) (file : Option (List ℕ)) → put_in k file None ≡ file
-put_in_none k file = refl
+put_in_none : (w : Way) (file : Option (List ℕ)) → put_in w file None ≡ file
+put_in_none w file = refl
 
-put_in_replace : (k : EntryKind) (file staged : Option (List ℕ)) → is_some staged ≡ true → k ≡ Replace → put_in k file staged ≡ staged
+put_in_replace : (w : Way) (file staged : Option (List ℕ)) → is_some staged ≡ true → w ≡ Replace → put_in w file staged ≡ staged
 put_in_replace Replace file None h e = absurd (cc)
 put_in_replace Replace file (Some b) h e = refl
 put_in_replace Remove file staged h e = absurd (cc)
 
-pub put_in_remove : (k : EntryKind) (file staged : Option (List ℕ)) → is_some staged ≡ true → k ≡ Remove → put_in k file staged ≡ None
+pub put_in_remove : (w : Way) (file staged : Option (List ℕ)) → is_some staged ≡ true → w ≡ Remove → put_in w file staged ≡ None
 put_in_remove Remove file None h e = absurd (cc)
 put_in_remove Remove file (Some b) h e = refl
 put_in_remove Replace file staged h e = absurd (cc)
 
 -- a file that is gone stays so
-pub put_in_gone : (k : EntryKind) (staged : Option (List ℕ)) → k ≡ Remove → put_in k None staged ≡ None
+pub put_in_gone : (w : Way) (staged : Option (List ℕ)) → w ≡ Remove → put_in w None staged ≡ None
 put_in_gone Remove None e = refl
 put_in_gone Remove (Some b) e = refl
 put_in_gone Replace staged e = absurd (cc)
 
 -- the staged file of a decided record is put in place
-pub keep_place : (actor : List ℕ) (f : Files) (r : Record) (m n : List ℕ) → record_in (f (record_name actor)) ≡ Some r → is_go r ≡ true → Mem m (names_of r) → m ≢ record_name actor → is_lawful m ≡ true → kind_of r m ≡ Replace → is_some (f (staged_name r.token m)) ≡ true → settled actor (renamed f (staged_name r.token m) m) n ≡ settled actor f n
-keep_place actor f r m n e go mem plain law kind stands = same_settled actor f g n (Some r) e (renamed_other f staged m (record_name actor) (record-staged r.token m actor) (λ p. plain (sym p))) (λ s. put s (same_or_not n m))
+pub keep_place : (actor : List ℕ) (f : Files) (r : Record) (m n : List ℕ) → record_in (f (record_name actor)) ≡ Some r → is_go r ≡ true → Mem m (names_of r) → m ≢ record_name actor → is_lawful m ≡ true → way_at r m ≡ Replace → is_some (f (staged_name r.token m)) ≡ true → settled actor (renamed f (staged_name r.token m) m) n ≡ settled actor f n
+keep_place actor f r m n e go mem plain law way stands = same_settled actor f g n (Some r) e (renamed_other f staged m (record_name actor) (record-staged r.token m actor) (λ p. plain (sym p))) (λ s. put s (same_or_not n m))
   where
     staged : List ℕ
     staged = staged_name r.token m
@@ -149,10 +149,10 @@ keep_place actor f r m n e go mem plain law kind stands = same_settled actor f g
         let there : g (staged_name r.token n) ≡ None = ap (λ (z : List ℕ). g (staged_name r.token z)) p.0 ∙ renamed_from f (staged_name r.token m) m (λ q. lawful-staged m r.token m law (sym q)) in
         let here : g n ≡ f (staged_name r.token m) = ap g p.0 ∙ renamed_to f (staged_name r.token m) m in
         placed-in r g n go h
-        ∙ ap (put_in (kind_of r n) (g n)) there
+        ∙ ap (put_in (way_at r n) (g n)) there
         ∙ here
-        ∙ sym (put_in_replace (kind_of r n) (f n) (f (staged_name r.token m)) stands (ap (kind_of r) p.0 ∙ kind))
-        ∙ ap (λ (z : List ℕ). put_in (kind_of r n) (f n) (f (staged_name r.token z))) (sym p.0)
+        ∙ sym (put_in_replace (way_at r n) (f n) (f (staged_name r.token m)) stands (ap (way_at r) p.0 ∙ way))
+        ∙ ap (λ (z : List ℕ). put_in (way_at r n) (f n) (f (staged_name r.token z))) (sym p.0)
         ∙ sym (placed-in r f n go h)
     put s (inr p) = placed_same (Some r) f g n (renamed_other f (staged_name r.token m) m n (s.not_staged r m refl mem) p.0)
         (λ q e2 go2 mem2.
@@ -161,7 +161,7 @@ keep_place actor f r m n e go mem plain law kind stands = same_settled actor f g
         (renamed_other f (staged_name r.token m) m (staged_name r.token n) (λ w. p.0 (staged-one r.token n m w)) (λ w. lawful-staged m r.token n law (sym w))))
 
 -- the file of an entry of a decided record is changed on its way to what it becomes
-pub keep_file : (actor : List ℕ) (f : Files) (r : Record) (c : Option (List ℕ)) (m n : List ℕ) → record_in (f (record_name actor)) ≡ Some r → is_go r ≡ true → Mem m (names_of r) → m ≢ record_name actor → is_lawful m ≡ true → put_in (kind_of r m) c (f (staged_name r.token m)) ≡ put_in (kind_of r m) (f m) (f (staged_name r.token m)) → settled actor (with_at f m c) n ≡ settled actor f n
+pub keep_file : (actor : List ℕ) (f : Files) (r : Record) (c : Option (List ℕ)) (m n : List ℕ) → record_in (f (record_name actor)) ≡ Some r → is_go r ≡ true → Mem m (names_of r) → m ≢ record_name actor → is_lawful m ≡ true → put_in (way_at r m) c (f (staged_name r.token m)) ≡ put_in (way_at r m) (f m) (f (staged_name r.token m)) → settled actor (with_at f m c) n ≡ settled actor f n
 keep_file actor f r c m n e go mem plain law way = same_settled actor f g n (Some r) e (put_there f m (record_name actor) c (λ p. plain (sym p))) (λ s. put (same_or_not n m))
   where
     g : Files
@@ -174,8 +174,8 @@ keep_file actor f r c m n e go mem plain law way = same_settled actor f g n (Som
     here =
         let h : has (names_of r) m ≡ true = Mem_has (names_of r) m mem in
         placed-in r g m go h
-        ∙ ap (λ (z : Option (List ℕ)). put_in (kind_of r m) z (g (staged_name r.token m))) (put_here f m c)
-        ∙ ap (put_in (kind_of r m) c) (staged_same m)
+        ∙ ap (λ (z : Option (List ℕ)). put_in (way_at r m) z (g (staged_name r.token m))) (put_here f m c)
+        ∙ ap (put_in (way_at r m) c) (staged_same m)
         ∙ way
         ∙ sym (placed-in r f m go h)
 
@@ -187,7 +187,7 @@ keep_file actor f r c m n e go mem plain law way = same_settled actor f g n (Som
         subst (λ (z : Record). g (staged_name z.token n) ≡ f (staged_name z.token n)) same (staged_same n))
 
 -- the staged file of an entry of a decided record is taken away once the file is what it becomes
-pub keep_clear : (actor : List ℕ) (f : Files) (r : Record) (m n : List ℕ) → record_in (f (record_name actor)) ≡ Some r → is_go r ≡ true → Mem m (names_of r) → put_in (kind_of r m) (f m) (f (staged_name r.token m)) ≡ f m → settled actor (with_at f (staged_name r.token m) None) n ≡ settled actor f n
+pub keep_clear : (actor : List ℕ) (f : Files) (r : Record) (m n : List ℕ) → record_in (f (record_name actor)) ≡ Some r → is_go r ≡ true → Mem m (names_of r) → put_in (way_at r m) (f m) (f (staged_name r.token m)) ≡ f m → settled actor (with_at f (staged_name r.token m) None) n ≡ settled actor f n
 keep_clear actor f r m n e go mem done = same_settled actor f g n (Some r) e (put_there f (staged_name r.token m) (record_name actor) None (record-staged r.token m actor)) (λ s. put s (same_or_not n m))
   where
     g : Files
@@ -197,9 +197,9 @@ keep_clear actor f r m n e go mem done = same_settled actor f g n (Some r) e (pu
     put s (inl p) =
         let h : has (names_of r) n ≡ true = Mem_has (names_of r) n (subst (λ (z : List ℕ). Mem z (names_of r)) (sym p.0) mem) in
         let there : g (staged_name r.token n) ≡ None = ap (λ (z : List ℕ). g (staged_name r.token z)) p.0 ∙ put_here f (staged_name r.token m) None in
-        let is_done : put_in (kind_of r n) (f n) (f (staged_name r.token n)) ≡ f n = subst (λ (z : List ℕ). put_in (kind_of r z) (f z) (f (staged_name r.token z)) ≡ f z) (sym p.0) done in
+        let is_done : put_in (way_at r n) (f n) (f (staged_name r.token n)) ≡ f n = subst (λ (z : List ℕ). put_in (way_at r z) (f z) (f (staged_name r.token z)) ≡ f z) (sym p.0) done in
         placed-in r g n go h
-        ∙ ap (put_in (kind_of r n) (g n)) there
+        ∙ ap (put_in (way_at r n) (g n)) there
         ∙ put_there f (staged_name r.token m) n None (s.not_staged r m refl mem)
         ∙ sym is_done
         ∙ sym (placed-in r f n go h)
@@ -227,7 +227,7 @@ keep_erase actor f r n e gone =
 
     placed_gone : placed (Some r) f n ≡ f n
     placed_gone = elim (cases_Bool (is_go r && has (names_of r) n)) [
-      | inl y ↦ (let p = and_parts (is_go r) (has (names_of r) n) y in placed-in r f n p.0 p.1 ∙ ap (put_in (kind_of r n) (f n)) (gone n (has_Mem (names_of r) n p.1)))
+      | inl y ↦ (let p = and_parts (is_go r) (has (names_of r) n) y in placed-in r f n p.0 p.1 ∙ ap (put_in (way_at r n) (f n)) (gone n (has_Mem (names_of r) n p.1)))
       | inr nay ↦ placed-out r f n nay
     ]
 

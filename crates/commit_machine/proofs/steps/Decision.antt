@@ -8,23 +8,25 @@ use Rattle.host_port.specs.declared.event.Event.TheVariants as event
 use Rattle.host_port.specs.Disk.{Disk, with_at, after}
 use Rattle.host_port.specs.Ran.{Agrees}
 use Rattle.commit_machine.specs.Names.{record_name, new_name, staged_name, is_record_name}
-use Rattle.commit_machine.specs.Records.{record_in, is_go, names_of, kind_of, AreDistinct}
+use Rattle.commit_machine.specs.Records.{record_in, is_go, names_of, way_at, AreDistinct}
 use Rattle.commit_machine.specs.Settled.{Files, Locks, Mem, put_in, IsSoundAt}
-use Rattle.commit_machine.specs.Jobs.{Puts, Edit, Job, Made, IsJob, edits_of, all_of, prepare_of, go_of, Done, made_at, kind_made, file_after, outcome_of}
+use Rattle.commit_machine.specs.Items.{Item, item_names, made_item, made_items, content_made}
+use Rattle.commit_machine.specs.Jobs.{Puts, Edit, Job, Made, IsJob, edits_of, all_of, prepare_of, go_of, Done, made_at, way_made, file_after, outcome_of}
 use Rattle.commit_machine.specs.Machine.{Deciding, Committing, ToStage, ToPublish, Answer, placing}
 use Rattle.commit_machine.specs.Goes.{IsOf, stages, stage_fails, publishes}
 use Rattle.commit_machine.specs.Lawful.{standing, IsSound}
 use Rattle.commit_machine.specs.Due.{settled_files, settled_locks, files_then, applied}
-use Rattle.commit_machine.proofs.standing.Known.{Knows, Subset}
+use Rattle.commit_machine.proofs.standing.Known.{IsStaged, Knows, Subset}
 use Rattle.commit_machine.proofs.records.Same.{same_refl, put_here, put_there}
 use Rattle.commit_machine.proofs.records.Names.{record-new, staged-record, staged-new}
 use Rattle.commit_machine.proofs.records.InFile.{record_of-written, stands-valid, stands-distinct}
 use Rattle.commit_machine.proofs.standing.Settled.{renamed, renamed_to, renamed_other, record_name-not}
 use Rattle.commit_machine.proofs.standing.Sound.{lock_commit}
 use Rattle.commit_machine.proofs.standing.Decided.{named, names_Mem, decided}
-use Rattle.commit_machine.proofs.standing.KnownNext.{names-prepare, names-entries_for, knows_placing}
-use Rattle.commit_machine.proofs.records.OfJob.{valid-distinct, valid-plain, one_edit, valid-go, made_first, kind_of_entries}
-use Rattle.commit_record.specs.declared.record.EntryKind.{EntryKind}
+use Rattle.commit_machine.proofs.standing.KnownNext.{names-prepare, knows_placing}
+use Rattle.commit_machine.proofs.records.OfJob.{valid-distinct, valid-plain, one_edit, valid-go, made_first, way_of_entries}
+use Rattle.commit_machine.proofs.records.OfItems.{names-entries_for, names-made, made-is}
+use Rattle.commit_record.specs.declared.way.Way.{Way}
 use Rattle.commit_machine.proofs.steps.Shown.{Shows, Kept, none_left}
 use Rattle.commit_machine.proofs.steps.OwnRecord
 
@@ -68,7 +70,7 @@ module _ (j : Job) (job : IsJob j) (d : Disk) (files : Files) (owners : Locks) (
     prepare_valid = (stands-valid (d.files (record_name j.actor)) (prepare_of j) k.0.closing.stands).0
 
     names_go : names_of (go_of j made) ≡ all_of j
-    names_go = names-entries_for (λ n. kind_made (made_at made n)) (all_of j)
+    names_go = names-entries_for (λ n. way_made (made_at made n)) (all_of j)
 
     pub new_go : record_in (d.files (new_name j.actor)) ≡ Some (go_of j made)
     new_go = ap record_in k.2 ∙ record_of-written (written (go_of j made)) (go_of j made) (record { valid = valid-go j made (stands-valid (d.files (record_name j.actor)) (prepare_of j) k.0.closing.stands).0; token_fits = job.token_fits; is = refl })
@@ -86,15 +88,15 @@ module _ (j : Job) (job : IsJob j) (d : Disk) (files : Files) (owners : Locks) (
           (x, x_in, one, ap (made_at made) (sym (ap (λ (z : Edit). z.name) w.2)) ∙ found)
     ]
 
-    outcomes : (e : Edit) → Mem e (edits_of j) → put_in (kind_of (go_of j made) e.name) (d.files e.name) (d.files (staged_name j.token e.name)) ≡ outcome_of e (d.files e.name)
+    outcomes : (e : Edit) → Mem e (edits_of j) → put_in (way_at (go_of j made) e.name) (d.files e.name) (d.files (staged_name j.token e.name)) ≡ outcome_of e (d.files e.name)
     outcomes e m =
         let (x, x_in, is, first) = made_for e m in
         let name : x.edit.name ≡ e.name = ap (λ (z : Edit). z.name) is in
         let file : d.files e.name ≡ x.seen = ap d.files (sym name) ∙ k.0.seen x x_in in
         let staged : d.files (staged_name j.token e.name) ≡ Some x.content = ap (λ (z : List ℕ). d.files (staged_name j.token z)) (sym name) ∙ none_left x _ (k.0.staged x x_in) in
-        let kind : kind_of (go_of j made) e.name ≡ x.kind = kind_of_entries (all_of j) (λ n. kind_made (made_at made n)) e.name (names_Mem (edits_of j) e m) ∙ ap kind_made first in
-        let by : e.by (d.files e.name) ≡ Puts x.kind x.content = ap e.by file ∙ ap (λ (z : Edit). z.by x.seen) (sym is) ∙ (k.1.each x x_in).1 in
-        ap (λ (z : EntryKind). put_in z (d.files e.name) (d.files (staged_name j.token e.name))) kind ∙ ap (put_in x.kind (d.files e.name)) staged ∙ sym (ap (file_after (d.files e.name)) by)
+        let way : way_at (go_of j made) e.name ≡ x.way = way_of_entries (all_of j) (λ n. way_made (made_at made n)) e.name (names_Mem (edits_of j) e m) ∙ ap way_made first in
+        let by : e.by (d.files e.name) ≡ Puts x.way x.content = ap e.by file ∙ ap (λ (z : Edit). z.by x.seen) (sym is) ∙ (k.1.each x x_in).1 in
+        ap (λ (z : Way). put_in z (d.files e.name) (d.files (staged_name j.token e.name))) way ∙ ap (put_in x.way (d.files e.name)) staged ∙ sym (ap (file_after (d.files e.name)) by)
 
     commit_files : (q : List ℕ) → settled_files j.actor (after d (event.Publish (new_name j.actor) (record_name j.actor) true false)) q ≡ applied (edits_of j) (settled_files j.actor d) q
     commit_files q = decided j.actor d.files (prepare_of j) (go_of j made) (edits_of j) q k.0.closing.stands refl new_go refl refl (names-prepare j ∙ sym names_go) names_go (valid-distinct j prepare_valid) (valid-plain j job prepare_valid) outcomes
@@ -127,28 +129,40 @@ module _ (j : Job) (job : IsJob j) (d : Disk) (files : Files) (owners : Locks) (
     commit_staged : (m : List ℕ) → renamed d.files (new_name j.actor) (record_name j.actor) (staged_name j.token m) ≡ d.files (staged_name j.token m)
     commit_staged m = renamed_other d.files (new_name j.actor) (record_name j.actor) (staged_name j.token m) (staged-new j.token m j.actor) (staged-record j.token m j.actor)
 
-    all_staged : (m : List ℕ) → Mem m (all_of j) → is_some (renamed d.files (new_name j.actor) (record_name j.actor) (staged_name j.token m)) ≡ true
-    all_staged m h =
+    -- the file is staged as it was made
+    name_staged : (m : List ℕ) → Mem m (all_of j) → (renamed d.files (new_name j.actor) (record_name j.actor) (staged_name j.token m) ≡ content_made (made_at made m)) × (is_some (content_made (made_at made m)) ≡ true)
+    name_staged m h =
         let (e, e_in, is) = named (edits_of j) m h in
-        elim (k.1.all e e_in) [
-          | inl a ↦ absurd a
-          | inr w ↦
-              let name : w.0.edit.name ≡ m = ap (λ (z : Edit). z.name) w.2 ∙ is in
-              let staged : d.files (staged_name j.token m) ≡ Some w.0.content = ap (λ (z : List ℕ). d.files (staged_name j.token z)) (sym name) ∙ none_left w.0 _ (k.0.staged w.0 w.1) in
-              ap is_some (commit_staged m ∙ staged)
-        ]
+        let (x, x_in, one, first) = made_for e e_in in
+        let name : x.edit.name ≡ m = ap (λ (z : Edit). z.name) one ∙ is in
+        let staged : d.files (staged_name j.token m) ≡ Some x.content = ap (λ (z : List ℕ). d.files (staged_name j.token z)) (sym name) ∙ none_left x _ (k.0.staged x x_in) in
+        let made_so : content_made (made_at made m) ≡ Some x.content = ap content_made (ap (made_at made) (sym is) ∙ first) in
+        (commit_staged m ∙ staged ∙ sym made_so, ap is_some made_so)
+
+    all_staged : (x : Item) → Mem x (made_items j made) → IsStaged (go_of j made) x (after d (event.Publish (new_name j.actor) (record_name j.actor) true false))
+    all_staged x h =
+        let w = made-is made (all_of j) x h in
+        let p = name_staged x.name w.0 in
+        let known : x.staged ≡ content_made (made_at made x.name) = ap (λ (z : Item). z.staged) w.1 in
+        (p.0 ∙ sym known, ap is_some known ∙ p.1)
+
+    all_ways : (x : Item) → Mem x (made_items j made) → way_at (go_of j made) x.name ≡ x.way
+    all_ways x h =
+        let w = made-is made (all_of j) x h in
+        way_of_entries (all_of j) (λ n. way_made (made_at made n)) x.name w.0 ∙ sym (ap (λ (z : Item). z.way) w.1)
 
     in_go : Subset (all_of j) (names_of (go_of j made))
     in_go = record { each = λ m h. subst (Mem m) (sym names_go) h }
 
-    commit_knows : Knows j (placing (go_of j made) (all_of j) (all_of j) (Answer Done)) (after d (event.Publish (new_name j.actor) (record_name j.actor) true false))
-    commit_knows = knows_placing j (after d (event.Publish (new_name j.actor) (record_name j.actor) true false)) (go_of j made) (all_of j) (all_of j) (Answer Done)
+    commit_knows : Knows j (placing (go_of j made) (made_items j made) (all_of j) (Answer Done)) (after d (event.Publish (new_name j.actor) (record_name j.actor) true false))
+    commit_knows = knows_placing j (after d (event.Publish (new_name j.actor) (record_name j.actor) true false)) (go_of j made) (made_items j made) (all_of j) (Answer Done)
         (record {
-          closing = record { right = k.0.closing.right; stands = go_stands; gone = λ m h. inl (subst (Mem m) names_go h); free = λ m h. inl (subst (Mem m) names_go h) };
+          closing = record { right = k.0.closing.right; stands = go_stands; gone = λ m h. inl (subst (Mem m) (sym (names-made j made)) (subst (Mem m) names_go h)); free = λ m h. inl (subst (Mem m) names_go h) };
           go = refl;
-          within = in_go;
+          within = subst (λ (ns : List (List ℕ)). Subset ns (names_of (go_of j made))) (sym (names-made j made)) in_go;
           locks_within = in_go;
-          distinct = subst AreDistinct (names-prepare j) (stands-distinct (d.files (record_name j.actor)) (prepare_of j) k.0.closing.stands);
+          distinct = subst AreDistinct (sym (names-made j made)) (subst AreDistinct (names-prepare j) (stands-distinct (d.files (record_name j.actor)) (prepare_of j) k.0.closing.stands));
+          ways = all_ways;
           staged = all_staged;
         })
         (record {

@@ -97,17 +97,17 @@ module _ (j : Job) (job : IsJob j) (d : Disk) (files : Files) (owners : Locks) (
 
   module _ (made : List Made) (x : Edit) (left : List Edit) (k : Knows j (Loading made x left) d) where
     load_knows : (c : Option (List ℕ)) (v : Outcome) → d.files x.name ≡ c → x.by c ≡ v → Knows j (loaded j made x left c v) d
-    load_knows c (Puts kind content) is e = knows_loading j d (made ++ (record { edit = x; seen = c; kind = kind; content = content } ∷ [])) left
+    load_knows c (Puts way content) is e = knows_loading j d (made ++ (record { edit = x; seen = c; way = way; content = content } ∷ [])) left
         (record {
           closing = k.0.closing;
           rest = k.0.rest;
           locked = k.0.locked;
-          seen = λ y h. elim (end_or_before made (record { edit = x; seen = c; kind = kind; content = content }) y h) [ inl p ↦ subst (λ (z : Made). d.files z.edit.name ≡ z.seen) (sym p) is | inr a ↦ k.0.seen y a ];
+          seen = λ y h. elim (end_or_before made (record { edit = x; seen = c; way = way; content = content }) y h) [ inl p ↦ subst (λ (z : Made). d.files z.edit.name ≡ z.seen) (sym p) is | inr a ↦ k.0.seen y a ];
           staged = λ y h. inl h;
         })
         (record {
-          each = λ y h. elim (end_or_before made (record { edit = x; seen = c; kind = kind; content = content }) y h) [ inl p ↦ subst (λ (z : Made). Mem z.edit (edits_of j) × (z.edit.by z.seen ≡ Puts z.kind z.content)) (sym p) (k.1.within x (inl refl), e) | inr a ↦ k.1.each y a ];
-          all = λ z m. elim (k.1.all z m) [ inl a ↦ elim a [ inl p ↦ inr (record { edit = x; seen = c; kind = kind; content = content }, at_end made (record { edit = x; seen = c; kind = kind; content = content }) (record { edit = x; seen = c; kind = kind; content = content }) refl, sym p) | inr q ↦ inl q ] | inr w ↦ inr (w.0, before_end made (record { edit = x; seen = c; kind = kind; content = content }) w.0 w.1, w.2) ];
+          each = λ y h. elim (end_or_before made (record { edit = x; seen = c; way = way; content = content }) y h) [ inl p ↦ subst (λ (z : Made). Mem z.edit (edits_of j) × (z.edit.by z.seen ≡ Puts z.way z.content)) (sym p) (k.1.within x (inl refl), e) | inr a ↦ k.1.each y a ];
+          all = λ z m. elim (k.1.all z m) [ inl a ↦ elim a [ inl p ↦ inr (record { edit = x; seen = c; way = way; content = content }, at_end made (record { edit = x; seen = c; way = way; content = content }) (record { edit = x; seen = c; way = way; content = content }) refl, sym p) | inr q ↦ inl q ] | inr w ↦ inr (w.0, before_end made (record { edit = x; seen = c; way = way; content = content }) w.0 w.1, w.2) ];
           within = λ z m. k.1.within z (inr m);
         })
 
@@ -148,7 +148,7 @@ module _ (j : Job) (job : IsJob j) (d : Disk) (files : Files) (owners : Locks) (
     stage_rest m (inr p) (inr b) = inr (still_there m p.0 ∙ b)
 
     content_of : Outcome → Option (List ℕ)
-    content_of (Puts kind content) = Some content
+    content_of (Puts way content) = Some content
 
     stage_stays : (y : Made) → Mem y made → d.files (staged_name j.token y.edit.name) ≡ Some y.content → ((y.edit.name ≡ x.edit.name) × (bytes_eq y.edit.name x.edit.name ≡ true)) ⊎ ((y.edit.name ≢ x.edit.name) × (bytes_eq y.edit.name x.edit.name ≡ false)) → with_at d.files (staged_name j.token x.edit.name) (Some x.content) (staged_name j.token y.edit.name) ≡ Some y.content
     unfolding content_of
@@ -158,7 +158,7 @@ module _ (j : Job) (job : IsJob j) (d : Disk) (files : Files) (owners : Locks) (
         let one : y.edit ≡ x.edit = one_edit (edits_of j) y.edit x.edit (valid-distinct j (stands-valid (d.files (record_name j.actor)) (prepare_of j) k.0.closing.stands).0) (k.1.each y h).0 (k.1.each x x_in).0 p.0 in
         let see : y.seen ≡ x.seen = sym (k.0.seen y h) ∙ ap d.files p.0 ∙ k.0.seen x x_in in
         let by : y.edit.by y.seen ≡ x.edit.by x.seen = ap (λ (z : Edit). z.by y.seen) one ∙ ap x.edit.by see in
-        let same : Puts y.kind y.content ≡ Puts x.kind x.content = sym (k.1.each y h).1 ∙ by ∙ (k.1.each x x_in).1 in
+        let same : Puts y.way y.content ≡ Puts x.way x.content = sym (k.1.each y h).1 ∙ by ∙ (k.1.each x x_in).1 in
         let content : Some y.content ≡ Some x.content = ap content_of same in
         ap (λ (z : List ℕ). with_at d.files (staged_name j.token x.edit.name) (Some x.content) (staged_name j.token z)) p.0 ∙ put_here d.files (staged_name j.token x.edit.name) (Some x.content) ∙ sym content
 

@@ -4,16 +4,17 @@ use Rattle.std.proofs.lemmas.Bool.{cases_Bool}
 use Rattle.std.proofs.lemmas.Grind.{common_steps}
 use Rattle.std.specs.Str.{bytes_eq}
 use Rattle.commit_record.specs.Format.{written}
-use Rattle.commit_record.specs.declared.record.EntryKind.{EntryKind}
-use Rattle.commit_record.specs.declared.record.EntryKind.TheVariants.{Replace, Remove}
 use Rattle.commit_record.specs.declared.record.Record.{Record}
+use Rattle.commit_record.specs.declared.way.Way.{Way}
+use Rattle.commit_record.specs.declared.way.Way.TheVariants.{Replace, Remove}
 use Rattle.host_port.specs.declared.event.Event.{Event}
 use Rattle.host_port.specs.declared.event.Event.TheVariants as event
 use Rattle.host_port.specs.declared.event.Seen.TheVariants as seen
 use Rattle.host_port.specs.Disk.{Disk, after}
 use Rattle.host_port.specs.Ran.{Agrees}
 use Rattle.commit_machine.specs.Names.{record_name, new_name, staged_name}
-use Rattle.commit_machine.specs.Records.{record_in, is_go, names_of, kind_of}
+use Rattle.commit_machine.specs.Records.{record_in, is_go, names_of}
+use Rattle.commit_machine.specs.Items.{Item, found_items, made_items}
 use Rattle.commit_machine.specs.Jobs.{Ending, Done, Recovered, Refused, Failed, NoMemory, Found, Busy, TooLarge, Outcome, Puts, Edit, Job, Made, IsJob, edits_of, all_of, prepare_of, go_of}
 use Rattle.commit_machine.specs.Machine.{Then, GoOn, Answer, State, Seizing, Looking, Undoing, Placing, Testing, Removing, Discarding, Unlocking, Erasing, Clearing, Preparing, Publishing, Locking, Loading, Staging, Deciding, Committing, Checking, Releasing, Ended, ToLoad, ToPublish, after_reply, undoing, placing, unlocking, locking, loaded, loading, judged, staging}
 use Rattle.commit_machine.specs.Goes.{IsOf, loads, stages, stage_fails, publishes, erases, locks, unlocks, seizes, releases, reply}
@@ -53,9 +54,9 @@ Looks j d n = ((n ≡ 1) × (passed_by j (d.files (record_name j.actor)) ≡ Aft
 
 abbrev pub Told : Job → State → Disk → ℕ → Type 0
 Told j (Undoing r m ns ls th) d n = (n ≡ 0) × told_then th n
-Told j (Placing r m ns ls th) d n = told_then th n
-Told j (Removing r m ns ls th) d n = told_then th n
-Told j (Discarding r m ns ls th) d n = told_then th n
+Told j (Placing r x xs ls th) d n = told_then th n
+Told j (Removing r x xs ls th) d n = told_then th n
+Told j (Discarding r x xs ls th) d n = told_then th n
 Told j (Unlocking r m ns th) d n = told_then th n
 Told j (Erasing r th) d n = told_then th n
 Told j Checking d n = HasRight j.actor d × Looks j d n
@@ -83,9 +84,9 @@ then_passed (Answer e) n t = tells_passed e n t
 module _ (j : Job) (d : Disk) (n : ℕ) where
   told_fault : (s : State) → IsPlain s → Told j s d n → TellsDecisions (Failed (passed_at s)) n
   told_fault (Undoing r m ns ls th) plain t = t.0
-  told_fault (Placing r m ns ls th) plain t = then_passed th n t
-  told_fault (Removing r m ns ls th) plain t = then_passed th n t
-  told_fault (Discarding r m ns ls th) plain t = then_passed th n t
+  told_fault (Placing r x xs ls th) plain t = then_passed th n t
+  told_fault (Removing r x xs ls th) plain t = then_passed th n t
+  told_fault (Discarding r x xs ls th) plain t = then_passed th n t
   told_fault (Unlocking r m ns th) plain t = then_passed th n t
   told_fault (Erasing r th) plain t = then_passed th n t
   told_fault (Releasing e) plain t = tells_passed e n t
@@ -106,17 +107,17 @@ module _ (j : Job) (d : Disk) (n : ℕ) where
   told_undoing r [] ls th z t = told_unlocking r ls th t
   told_undoing r (m ∷ ns) ls th z t = (z, t)
 
-  told_removing : (r : Record) (m : List ℕ) (ns ls : List (List ℕ)) (th : Then) → told_then th n → Told j (removing r m ns ls th) d n
-  told_removing r m ns ls GoOn t = t
-  told_removing r m ns ls (Answer e) t = t
+  told_removing : (r : Record) (x : Item) (xs : List Item) (ls : List (List ℕ)) (th : Then) → told_then th n → Told j (removing r x xs ls th) d n
+  told_removing r x xs ls GoOn t = t
+  told_removing r x xs ls (Answer e) t = t
 
-  told_place_one : (kind : EntryKind) (r : Record) (m : List ℕ) (ns ls : List (List ℕ)) (th : Then) → told_then th n → Told j (place_one kind r m ns ls th) d n
-  told_place_one Replace r m ns ls th t = t
-  told_place_one Remove r m ns ls th t = told_removing r m ns ls th t
+  told_place_one : (way : Way) (r : Record) (x : Item) (xs : List Item) (ls : List (List ℕ)) (th : Then) → told_then th n → Told j (place_one way r x xs ls th) d n
+  told_place_one Replace r x xs ls th t = t
+  told_place_one Remove r x xs ls th t = told_removing r x xs ls th t
 
-  told_placing : (r : Record) (ns ls : List (List ℕ)) (th : Then) → told_then th n → Told j (placing r ns ls th) d n
+  told_placing : (r : Record) (xs : List Item) (ls : List (List ℕ)) (th : Then) → told_then th n → Told j (placing r xs ls th) d n
   told_placing r [] ls th t = told_unlocking r ls th t
-  told_placing r (m ∷ ns) ls th t = told_place_one (kind_of r m) r m ns ls th t
+  told_placing r (x ∷ xs) ls th t = told_place_one x.way r x xs ls th t
 
   told_staging : (ns : List (List ℕ)) (made left : List Made) → n ≡ 0 → Told j (staging ns made left) d n
   told_staging ns made [] t = t
@@ -134,8 +135,8 @@ module _ (j : Job) (d : Disk) (n : ℕ) where
   told_locking ls [] t = told_loading [] (edits_of j) t
   told_locking ls (e ∷ left) t = t
 
-  told_mending : (r : Record) (b : Bool) → n ≡ 0 → Told j (if b then placing r (names_of r) (names_of r) GoOn else undoing r (names_of r) (names_of r) GoOn) d n
-  told_mending r true t = told_placing r (names_of r) (names_of r) GoOn t
+  told_mending : (r : Record) (b : Bool) → n ≡ 0 → Told j (if b then placing r (found_items r) (names_of r) GoOn else undoing r (names_of r) (names_of r) GoOn) d n
+  told_mending r true t = told_placing r (found_items r) (names_of r) GoOn t
   told_mending r false t = told_undoing r (names_of r) (names_of r) GoOn t t
 
   told_record : (o : Option Record) → n ≡ 0 → Told j (record_seen o) d n
@@ -150,26 +151,26 @@ module _ (j : Job) (d : Disk) (n : ℕ) where
   told_mended found None t = t
   told_mended found (Some es) t = t
 
-  told_tested : (r : Record) (m : List ℕ) (ns ls : List (List ℕ)) (c : Option (List ℕ)) → n ≡ 0 → Told j (tested r m ns ls c) d n
-  told_tested r m ns ls None t = told_placing r ns ls GoOn t
-  told_tested r m ns ls (Some bytes) t = t
+  told_tested : (r : Record) (x : Item) (xs : List Item) (ls : List (List ℕ)) (c : Option (List ℕ)) → n ≡ 0 → Told j (tested r x xs ls c) d n
+  told_tested r x xs ls None t = told_placing r xs ls GoOn t
+  told_tested r x xs ls (Some bytes) t = t
 
   told_looked : (c : Option (List ℕ)) → n ≡ 0 → Told j (looked j c) d n
   told_looked None t = told_none j.edits t
   told_looked (Some bytes) t = told_record (record_of bytes) t
 
   told_loaded : (made : List Made) (x : Edit) (left : List Edit) (c : Option (List ℕ)) (v : Outcome) → n ≡ 0 → Told j (loaded j made x left c v) d n
-  told_loaded made x left c (Puts kind content) t = told_loading _ left t
+  told_loaded made x left c (Puts way content) t = told_loading _ left t
 
   told_refused : (s : State) → Told j s d n → Told j (refused j s) d n
   told_refused (Undoing r m ns ls GoOn) t = t.0
   told_refused (Undoing r m ns ls (Answer a)) t = t
-  told_refused (Placing r m ns ls GoOn) t = t
-  told_refused (Placing r m ns ls (Answer a)) t = t
-  told_refused (Removing r m ns ls GoOn) t = t
-  told_refused (Removing r m ns ls (Answer a)) t = t
-  told_refused (Discarding r m ns ls GoOn) t = t
-  told_refused (Discarding r m ns ls (Answer a)) t = t
+  told_refused (Placing r x xs ls GoOn) t = t
+  told_refused (Placing r x xs ls (Answer a)) t = t
+  told_refused (Removing r x xs ls GoOn) t = t
+  told_refused (Removing r x xs ls (Answer a)) t = t
+  told_refused (Discarding r x xs ls GoOn) t = t
+  told_refused (Discarding r x xs ls (Answer a)) t = t
   told_refused (Unlocking r m ns GoOn) t = t
   told_refused (Unlocking r m ns (Answer a)) t = t
   told_refused (Erasing r GoOn) t = t
@@ -188,14 +189,14 @@ module _ (j : Job) (d : Disk) (n : ℕ) where
 
   told_saw : (s : State) (c : Option (List ℕ)) → IsPlain s → Told j s d n → Told j (saw j s c) d n
   told_saw Looking c plain t = told_looked c t
-  told_saw (Testing r m ns ls) c plain t = told_tested r m ns ls c t
+  told_saw (Testing r x xs ls) c plain t = told_tested r x xs ls c t
   told_saw (Loading made x left) c plain t = told_loaded made x left c (x.by c) t
   told_saw Checking c plain t = absurd plain
   told_saw s c plain t = told_fault s plain t
 
   told_long : (s : State) (m : ℕ) → IsPlain s → Told j s d n → Told j (too_long j s m) d n
   told_long Looking m plain t = t
-  told_long (Testing r k ns ls) m plain t = t
+  told_long (Testing r x xs ls) m plain t = t
   told_long (Loading made x left) m plain t = told_undoing (prepare_of j) [] (all_of j) (Answer (Refused (TooLarge x.name m))) t t
   told_long s m plain t = told_fault s plain t
 
@@ -203,9 +204,9 @@ module _ (j : Job) (d : Disk) (n : ℕ) where
   told_went Seizing true plain t = t
   told_went Seizing false plain t = t
   told_went (Undoing r m ns ls th) b plain t = told_undoing r ns ls th t.0 t.1
-  told_went (Placing r m ns ls th) b plain t = told_placing r ns ls th t
-  told_went (Removing r m ns ls th) b plain t = t
-  told_went (Discarding r m ns ls th) b plain t = told_placing r ns ls th t
+  told_went (Placing r x xs ls th) b plain t = told_placing r xs ls th t
+  told_went (Removing r x xs ls th) b plain t = t
+  told_went (Discarding r x xs ls th) b plain t = told_placing r xs ls th t
   told_went (Unlocking r m ns th) b plain t = told_unlocking r ns th t
   told_went (Erasing r GoOn) b plain t = t
   told_went (Erasing r (Answer why)) b plain t = t
@@ -232,9 +233,9 @@ told_any : (j : Job) (d d' : Disk) (n : ℕ) (s : State) → IsPlain s → Told 
 told_any j d d' n (Committing made) plain t = absurd plain
 told_any j d d' n Checking plain t = absurd plain
 told_any j d d' n (Undoing r m ns ls th) plain t = t
-told_any j d d' n (Placing r m ns ls th) plain t = t
-told_any j d d' n (Removing r m ns ls th) plain t = t
-told_any j d d' n (Discarding r m ns ls th) plain t = t
+told_any j d d' n (Placing r x xs ls th) plain t = t
+told_any j d d' n (Removing r x xs ls th) plain t = t
+told_any j d d' n (Discarding r x xs ls th) plain t = t
 told_any j d d' n (Unlocking r m ns th) plain t = t
 told_any j d d' n (Erasing r th) plain t = t
 told_any j d d' n (Releasing e) plain t = t
@@ -265,11 +266,11 @@ module _ (j : Job) (job : IsJob j) (d : Disk) where
   plain_event Seizing _ plain seizes k = refl
   plain_event Looking _ plain loads k = refl
   plain_event (Undoing r m ns ls th) _ plain erases k = refl
-  plain_event (Placing r m ns ls th) _ plain (publishes {done = true} {failed = failed}) k = from_other j d (staged_name r.token m) m failed (staged-new r.token m j.actor)
-  plain_event (Placing r m ns ls th) _ plain (publishes {done = false} {failed = failed}) k = refl
-  plain_event (Testing r m ns ls) _ plain loads k = refl
-  plain_event (Removing r m ns ls th) _ plain erases k = refl
-  plain_event (Discarding r m ns ls th) _ plain erases k = refl
+  plain_event (Placing r x xs ls th) _ plain (publishes {done = true} {failed = failed}) k = from_other j d (staged_name r.token x.name) x.name failed (staged-new r.token x.name j.actor)
+  plain_event (Placing r x xs ls th) _ plain (publishes {done = false} {failed = failed}) k = refl
+  plain_event (Testing r x xs ls) _ plain loads k = refl
+  plain_event (Removing r x xs ls th) _ plain erases k = refl
+  plain_event (Discarding r x xs ls th) _ plain erases k = refl
   plain_event (Unlocking r m ns th) _ plain unlocks k = refl
   plain_event (Erasing r th) _ plain erases k = refl
   plain_event (Clearing found) _ plain erases k = refl
@@ -305,7 +306,7 @@ module _ (j : Job) (job : IsJob j) (d : Disk) (n : ℕ) (sound : IsSound j.actor
   committing_told made (publishes {done = false} {failed = false}) k t = t
   committing_told made (publishes {done = true} {failed = false}) k t =
       let one : (if is_decision j (event.Publish (new_name j.actor) (record_name j.actor) true false) d then suc n else n) ≡ 1 = ap (λ (b : Bool). if b then suc n else n) (of_go j d (go_of j made) false (new_go j job d (settled_files j.actor d) (settled_locks j.actor d) (λ m. refl) (λ m. refl) sound made k) refl refl) ∙ ap suc t in
-      told_placing j (after d (event.Publish (new_name j.actor) (record_name j.actor) true false)) (if is_decision j (event.Publish (new_name j.actor) (record_name j.actor) true false) d then suc n else n) (go_of j made) (all_of j) (all_of j) (Answer Done) one
+      told_placing j (after d (event.Publish (new_name j.actor) (record_name j.actor) true false)) (if is_decision j (event.Publish (new_name j.actor) (record_name j.actor) true false) d then suc n else n) (go_of j made) (made_items j made) (all_of j) (Answer Done) one
 
   by_record : (c : Option (List ℕ)) → c ≡ d.files (record_name j.actor) → Looks j d n → TellsDecisions (Failed (passed_by j c)) n
   by_record c is (inl p) = subst (λ (w : Passed). TellsDecisions (Failed w) n) (sym (ap (passed_by j) is ∙ p.1)) p.0
@@ -367,9 +368,9 @@ then_few (Answer e) n t = tells_few e n t
 
 told_few : (j : Job) (s : State) (d : Disk) (n : ℕ) → Told j s d n → (n ≡ 0) ⊎ (n ≡ 1)
 told_few j (Undoing r m ns ls th) d n t = inl t.0
-told_few j (Placing r m ns ls th) d n t = then_few th n t
-told_few j (Removing r m ns ls th) d n t = then_few th n t
-told_few j (Discarding r m ns ls th) d n t = then_few th n t
+told_few j (Placing r x xs ls th) d n t = then_few th n t
+told_few j (Removing r x xs ls th) d n t = then_few th n t
+told_few j (Discarding r x xs ls th) d n t = then_few th n t
 told_few j (Unlocking r m ns th) d n t = then_few th n t
 told_few j (Erasing r th) d n t = then_few th n t
 told_few j Checking d n t = elim t.1 [ inl p ↦ inr p.0 | inr p ↦ inl p.0 ]

@@ -68,10 +68,10 @@ module _ (j : Job) (d : Disk) where
   new_stands : (s : State) (to : List ℕ) (done failed : Bool) → IsNext (next j s) (event.Publish (new_name j.actor) to done failed) → Knows j s d → is_some (d.files (new_name j.actor)) ≡ true
   new_stands Publishing to done failed is k = ap is_some (k.0.new (written (prepare_of j)) refl)
   new_stands (Committing made) to done failed is k = ap is_some k.2
-  new_stands (Placing r m ns ls th) to done failed is k =
-      let p = publish_call (ToPublish (staged_name r.token m) m) (new_name j.actor) to done failed is in
-      let q : staged_name r.token m ≡ new_name j.actor = cc in
-      absurd (staged-new r.token m j.actor q)
+  new_stands (Placing r x xs ls th) to done failed is k =
+      let p = publish_call (ToPublish (staged_name r.token x.name) x.name) (new_name j.actor) to done failed is in
+      let q : staged_name r.token x.name ≡ new_name j.actor = cc in
+      absurd (staged-new r.token x.name j.actor q)
   new_stands s to done failed is k = let w : is_publication (next j s) ≡ true = publish_only (next j s) (new_name j.actor) to done failed is in absurd (cc)
 
   others : (owner : Option ℕ) → false ≡ is_none owner → owner ≢ Some j.token → IsOthers j.token owner

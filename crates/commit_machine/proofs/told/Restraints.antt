@@ -1,7 +1,7 @@
 -- What a run never does, by its states.
 use Rattle.std.proofs.Common.{◌≡◌, ◌≢◌, ◌⊎◌, ℕ, Bool, true, false, List, [], ◌∷◌, ◌++◌, Option, Some, None, if◌then◌else◌, refl, ap, sym, subst, inl, inr, ◌∙◌}
-use Rattle.commit_record.specs.declared.record.EntryKind.{EntryKind}
-use Rattle.commit_record.specs.declared.record.EntryKind.TheVariants as kind
+use Rattle.commit_record.specs.declared.way.Way.{Way}
+use Rattle.commit_record.specs.declared.way.Way.TheVariants as way
 use Rattle.commit_record.specs.declared.record.Record.{Record}
 use Rattle.host_port.specs.declared.event.Event.{Event}
 use Rattle.host_port.specs.declared.event.Event.TheVariants as event
@@ -12,7 +12,8 @@ use Rattle.host_port.specs.declared.event.Holder.TheVariants.{Own, Other}
 use Rattle.host_port.specs.Disk.{Disk, disk, after, after_step, with_at, taken, without_other, without_own}
 use Rattle.host_port.specs.Own.{own}
 use Rattle.commit_machine.specs.Names.{right_name}
-use Rattle.commit_machine.specs.Records.{record_of, is_go, names_of, kind_of}
+use Rattle.commit_machine.specs.Records.{record_of, is_go, names_of}
+use Rattle.commit_machine.specs.Items.{Item, found_items, made_items}
 use Rattle.commit_machine.specs.Jobs.{Ending, Refused, NoMemory, Found, Busy, TooLarge, Refusal, Outcome, Puts, Edit, Job, Made, edits_of, all_of, seen_files, prepare_of, go_of, Done}
 use Rattle.commit_machine.specs.Machine.{Then, GoOn, Answer, State, Seizing, Looking, Undoing, Placing, Testing, Removing, Discarding, Unlocking, Erasing, Clearing, Preparing, Publishing, Locking, Loading, Staging, Deciding, Committing, Checking, Releasing, Ended, ToSeize, ToRelease, Reply, Went, Saw, Long, Short, Fault, next, after_reply, unlocking, undoing, removing, tested, place_one, placing, staging, judged, loading, locking, loaded, mended, none_stands, record_seen, looked, faulted, saw, too_long, went_on, refused, wanted}
 use Rattle.commit_machine.specs.Goes.{IsOf, IsNext, Goes, seizes, releases, reply}
@@ -45,17 +46,17 @@ module _ (Q : Disk → Type 0) (j : Job) (d : Disk) where
   fair_undoing r [] ls th = fair_unlocking r ls th
   fair_undoing r (m ∷ ns) ls th = tt
 
-  fair_removing : (r : Record) (m : List ℕ) (ns ls : List (List ℕ)) (th : Then) → Fair Q j (removing r m ns ls th) d
-  fair_removing r m ns ls GoOn = tt
-  fair_removing r m ns ls (Answer e) = tt
+  fair_removing : (r : Record) (x : Item) (xs : List Item) (ls : List (List ℕ)) (th : Then) → Fair Q j (removing r x xs ls th) d
+  fair_removing r x xs ls GoOn = tt
+  fair_removing r x xs ls (Answer e) = tt
 
-  fair_place_one : (k : EntryKind) (r : Record) (m : List ℕ) (ns ls : List (List ℕ)) (th : Then) → Fair Q j (place_one k r m ns ls th) d
-  fair_place_one kind.Replace r m ns ls th = tt
-  fair_place_one kind.Remove r m ns ls th = fair_removing r m ns ls th
+  fair_place_one : (w : Way) (r : Record) (x : Item) (xs : List Item) (ls : List (List ℕ)) (th : Then) → Fair Q j (place_one w r x xs ls th) d
+  fair_place_one way.Replace r x xs ls th = tt
+  fair_place_one way.Remove r x xs ls th = fair_removing r x xs ls th
 
-  fair_placing : (r : Record) (ns ls : List (List ℕ)) (th : Then) → Fair Q j (placing r ns ls th) d
+  fair_placing : (r : Record) (xs : List Item) (ls : List (List ℕ)) (th : Then) → Fair Q j (placing r xs ls th) d
   fair_placing r [] ls th = fair_unlocking r ls th
-  fair_placing r (m ∷ ns) ls th = fair_place_one (kind_of r m) r m ns ls th
+  fair_placing r (x ∷ xs) ls th = fair_place_one x.way r x xs ls th
 
   fair_staging : (ns : List (List ℕ)) (made left : List Made) → j.refusal (seen_files made) ≡ None → Fair Q j (staging ns made left) d
   fair_staging ns made [] e = e
@@ -73,8 +74,8 @@ module _ (Q : Disk → Type 0) (j : Job) (d : Disk) where
   fair_locking ls [] = fair_loading [] (edits_of j)
   fair_locking ls (e ∷ left) = tt
 
-  fair_mending : (r : Record) (b : Bool) → Fair Q j (if b then placing r (names_of r) (names_of r) GoOn else undoing r (names_of r) (names_of r) GoOn) d
-  fair_mending r true = fair_placing r (names_of r) (names_of r) GoOn
+  fair_mending : (r : Record) (b : Bool) → Fair Q j (if b then placing r (found_items r) (names_of r) GoOn else undoing r (names_of r) (names_of r) GoOn) d
+  fair_mending r true = fair_placing r (found_items r) (names_of r) GoOn
   fair_mending r false = fair_undoing r (names_of r) (names_of r) GoOn
 
   fair_record : (o : Option Record) → Fair Q j (record_seen o) d
@@ -89,27 +90,27 @@ module _ (Q : Disk → Type 0) (j : Job) (d : Disk) where
   fair_mended found None = tt
   fair_mended found (Some es) = tt
 
-  fair_tested : (r : Record) (m : List ℕ) (ns ls : List (List ℕ)) (c : Option (List ℕ)) → Fair Q j (tested r m ns ls c) d
-  fair_tested r m ns ls None = fair_placing r ns ls GoOn
-  fair_tested r m ns ls (Some bytes) = tt
+  fair_tested : (r : Record) (x : Item) (xs : List Item) (ls : List (List ℕ)) (c : Option (List ℕ)) → Fair Q j (tested r x xs ls c) d
+  fair_tested r x xs ls None = fair_placing r xs ls GoOn
+  fair_tested r x xs ls (Some bytes) = tt
 
   fair_looked : (c : Option (List ℕ)) → Fair Q j (looked j c) d
   fair_looked None = fair_none j.edits
   fair_looked (Some bytes) = fair_record (record_of bytes)
 
   fair_loaded : (made : List Made) (x : Edit) (left : List Edit) (c : Option (List ℕ)) (v : Outcome) → Fair Q j (loaded j made x left c v) d
-  fair_loaded made x left c (Puts kind content) = fair_loading _ left
+  fair_loaded made x left c (Puts way content) = fair_loading _ left
 
   fair_refused : (s : State) → Fair Q j s d → Fair Q j (refused j s) d
   fair_refused (Undoing r m ns ls GoOn) k = tt
   fair_refused (Undoing r m ns ls (Answer a)) k = tt
-  fair_refused (Placing r m ns ls GoOn) k = tt
-  fair_refused (Placing r m ns ls (Answer a)) k = tt
-  fair_refused (Testing r m ns ls) k = tt
-  fair_refused (Removing r m ns ls GoOn) k = tt
-  fair_refused (Removing r m ns ls (Answer a)) k = tt
-  fair_refused (Discarding r m ns ls GoOn) k = tt
-  fair_refused (Discarding r m ns ls (Answer a)) k = tt
+  fair_refused (Placing r x xs ls GoOn) k = tt
+  fair_refused (Placing r x xs ls (Answer a)) k = tt
+  fair_refused (Testing r x xs ls) k = tt
+  fair_refused (Removing r x xs ls GoOn) k = tt
+  fair_refused (Removing r x xs ls (Answer a)) k = tt
+  fair_refused (Discarding r x xs ls GoOn) k = tt
+  fair_refused (Discarding r x xs ls (Answer a)) k = tt
   fair_refused (Unlocking r m ns GoOn) k = tt
   fair_refused (Unlocking r m ns (Answer a)) k = tt
   fair_refused (Erasing r GoOn) k = tt
@@ -135,23 +136,23 @@ module _ (Q : Disk → Type 0) (j : Job) (d : Disk) where
 
   fair_saw : (s : State) (c : Option (List ℕ)) → Fair Q j (saw j s c) d
   fair_saw Looking c = fair_looked c
-  fair_saw (Testing r m ns ls) c = fair_tested r m ns ls c
+  fair_saw (Testing r x xs ls) c = fair_tested r x xs ls c
   fair_saw (Loading made x left) c = fair_loaded made x left c (x.by c)
   fair_saw Checking c = tt
   fair_saw s c = tt
 
   fair_long : (s : State) (m : ℕ) → Fair Q j (too_long j s m) d
   fair_long Looking m = tt
-  fair_long (Testing r k ns ls) m = tt
+  fair_long (Testing r x xs ls) m = tt
   fair_long (Loading made x left) m = fair_undoing (prepare_of j) [] (all_of j) (Answer (Refused (TooLarge x.name m)))
   fair_long s m = tt
 
   fair_went : (s : State) (b : Bool) → IsBetween s → Fair Q j s d → Fair Q j (went_on j s b) d
   fair_went Seizing b between k = absurd between
   fair_went (Undoing r m ns ls th) b between k = fair_undoing r ns ls th
-  fair_went (Placing r m ns ls th) b between k = fair_placing r ns ls th
-  fair_went (Removing r m ns ls th) b between k = tt
-  fair_went (Discarding r m ns ls th) b between k = fair_placing r ns ls th
+  fair_went (Placing r x xs ls th) b between k = fair_placing r xs ls th
+  fair_went (Removing r x xs ls th) b between k = tt
+  fair_went (Discarding r x xs ls th) b between k = fair_placing r xs ls th
   fair_went (Unlocking r m ns th) b between k = fair_unlocking r ns th
   fair_went (Erasing r GoOn) b between k = tt
   fair_went (Erasing r (Answer why)) b between k = tt
@@ -163,7 +164,7 @@ module _ (Q : Disk → Type 0) (j : Job) (d : Disk) where
   fair_went (Locking ls e left) false between k = fair_undoing (prepare_of j) [] ls (Answer (Refused (Busy e.name)))
   fair_went (Staging ns made x left) b between k = fair_staging (ns ++ (x.edit.name ∷ [])) made left k
   fair_went (Deciding made) b between k = k
-  fair_went (Committing made) true between k = fair_placing (go_of j made) (all_of j) (all_of j) (Answer Done)
+  fair_went (Committing made) true between k = fair_placing (go_of j made) (made_items j made) (all_of j) (Answer Done)
   fair_went (Committing made) false between k = tt
   fair_went (Releasing why) b between k = absurd between
   fair_went (Ended why) b between k = absurd between
