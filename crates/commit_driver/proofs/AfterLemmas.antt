@@ -12,6 +12,7 @@ use Rattle.folder_change.specs.declared.change.Change.{Change}
 use Rattle.commit_record.specs.Format.{is_valid}
 use Rattle.commit_record.specs.declared.record.Entry.{Entry}
 use Rattle.commit_record.specs.declared.record.Record.{Record}
+use Rattle.commit_record.specs.declared.way.Way.{Way}
 use Rattle.commit_machine.specs.Names.{staged_name}
 use Rattle.commit_machine.specs.Records.{is_go, names_of}
 use Rattle.commit_machine.specs.Jobs.{Ending, NoMemory, Edit, Job, Made, edits_of}
@@ -32,7 +33,7 @@ use Rattle.commit_driver.specs.declared.place.Plan.{Plan}
 use Rattle.commit_driver.specs.declared.place.Place.{Place}
 use Rattle.commit_driver.specs.Steps.{call_at, Fits, weight, tested_at, went_at, faulted_at, long_at, short_at}
 use Rattle.commit_driver.specs.Judging.{TroubleFits}
-use Rattle.commit_driver.specs.Places.{files_of, entries_of, kinds_in, kinds_of, made_from, state_as, Holds, IsPlan, IsPlace, IsSafe, StandsFor}
+use Rattle.commit_driver.specs.Places.{files_of, entries_of, ways_in, ways_of, made_from, state_as, Holds, IsPlan, IsPlace, IsSafe, StandsFor}
 use Rattle.commit_driver.specs.Answers.{IsAnswer, reply_as, mending_at, judged_at, Finds, PassedSo, LooksAt, Looks, Takes, SawSo, Answered, at_step, IsCommitOf, Follows, is_long, is_settled, Caused, ReplyCaused, IsAfter}
 use Rattle.commit_driver.proofs.StateLemmas.{unlocking-all, drop-some}
 use Rattle.commit_driver.proofs.NextLemmas.{files-long, edits-long}
@@ -98,11 +99,11 @@ module _ (plan : Plan) (old : Place) (q : IsPlace plan old) (safe : IsSafe plan)
 
   after-went : (b : Bool) → IsAnswer (call_at old.step) (reply.Went b) → (now : Place) → Answered plan (reply.Went b) changes base old now → After (reply.Went b) now
   after-went b a now is =
-      let ks = kinds_of old in
-      let s = went_at ks plan.commits n m (is_go old.found) old.step b in
-      by-step (reply.Went b) s (fits-went ks plan.commits n m (is_go old.found) old.step b (λ e. safe.some e) q.fits a) (lighter-went ks plan.commits n m (is_go old.found) old.step b safe.few q.few q.fits a)
-      (λ e. (settled-went ks plan.commits n m (is_go old.found) old.step b a e, refl))
-      (λ before after c x. caused-went before after ks plan.commits n m (is_go old.found) old.step b a c)
+      let ws = ways_of old in
+      let s = went_at ws plan.commits n m (is_go old.found) old.step b in
+      by-step (reply.Went b) s (fits-went ws plan.commits n m (is_go old.found) old.step b (λ e. safe.some e) q.fits a) (lighter-went ws plan.commits n m (is_go old.found) old.step b safe.few q.few q.fits a)
+      (λ e. (settled-went ws plan.commits n m (is_go old.found) old.step b a e, refl))
+      (λ before after c x. caused-went before after ws plan.commits n m (is_go old.found) old.step b a c)
       (λ j t p for st. (
         went_on j t b,
         inl refl,
@@ -154,7 +155,7 @@ module _ (plan : Plan) (old : Place) (q : IsPlace plan old) (safe : IsSafe plan)
       now is
 
   -- a load that runs out of memory
-  short-follows : (j : Job) (s : Step) (t : State) (hidden : Ending) (made : List Made) → IsPlan j plan → Fits n m s → Loads s → state_as j hidden made old.found old.files s ≡ t → StandsFor j (at_step old (short_at n s)) (wanted j t)
+  short-follows : (j : Job) (s : Step) (t : State) (hidden : Ending) (made : List Made) → IsPlan j plan → Fits n m s → Loads s → state_as j hidden made old.found old.seen old.files s ≡ t → StandsFor j (at_step old (short_at n s)) (wanted j t)
   short-follows j step.Looking t hidden made p f l is =
       record { hidden = NoMemory; wanted = inl refl; made = made; holds = tt; is = ap (wanted j) is }
   short-follows j (step.Testing at) t hidden made p f l is =
@@ -168,7 +169,7 @@ module _ (plan : Plan) (old : Place) (q : IsPlace plan old) (safe : IsSafe plan)
         wanted = inl refl;
         made = made;
         holds = holds-short j plan old NoMemory made p q (step.Loading at);
-        is = unlocking-all j NoMemory made old.found old.files n (then.Answer end.NoMemory) (files-long j plan p) ∙ sym (ap (λ (xs : List Edit). wanted j (loading j ms xs)) w.1) ∙ ap (wanted j) is;
+        is = unlocking-all j NoMemory made old.found old.seen old.files n (then.Answer end.NoMemory) (files-long j plan p) ∙ sym (ap (λ (xs : List Edit). wanted j (loading j ms xs)) w.1) ∙ ap (wanted j) is;
       }
   short-follows j step.Checking t hidden made p f l is = record { hidden = NoMemory; wanted = inl refl; made = made; holds = tt; is = ap (wanted j) is }
   short-follows j s t hidden made p f l is = absurd l
@@ -185,7 +186,7 @@ module _ (plan : Plan) (old : Place) (q : IsPlace plan old) (safe : IsSafe plan)
   -- what a load of the record saw
   module _ (looking : old.step ≡ step.Looking) where
     at-looking : (j : Job) (t : State) → StandsFor j old t → Looking ≡ t
-    at-looking j t st = sym (ap (state_as j st.hidden st.made old.found old.files) looking) ∙ st.is
+    at-looking j t st = sym (ap (state_as j st.hidden st.made old.found old.seen old.files) looking) ∙ st.is
 
     look-goes : (file : Option (List ℕ)) (now : Place) → Looks plan file old now → (j : Job) (t : State) → IsPlan j plan → (j.edits ≡ None) ⊎ IsCommitOf j changes base → StandsFor j old t → Follows j now (saw j t file)
     look-goes file now l j t p for st = subst (λ (z : State). Follows j now (saw j z file)) (at-looking j t st) (look-follows j plan old p q st.hidden st.wanted st.made file now l)
@@ -212,7 +213,7 @@ module _ (plan : Plan) (old : Place) (q : IsPlace plan old) (safe : IsSafe plan)
         let valid = finds.0.valid in
         let le : length r.entries ≤ length r.entries = omega arith in
         record {
-          fits = of-if (Fits n (length r.entries)) (is_go r) _ _ (λ e. fits-placing (kinds_in r.entries []) n (length r.entries) 0 then.GoOn tt) (λ e. fits-undoing n (length r.entries) 0 (length r.entries) (length r.entries) then.GoOn le le tt);
+          fits = of-if (Fits n (length r.entries)) (is_go r) _ _ (λ e. fits-placing (ways_in r.entries []) n (length r.entries) 0 then.GoOn tt) (λ e. fits-undoing n (length r.entries) 0 (length r.entries) (length r.entries) then.GoOn le le tt);
           staged_are = finds.1 ∙ names-staged r.token r.entries;
           few = valid-few r valid;
           distinct = valid-names r valid;
@@ -222,7 +223,7 @@ module _ (plan : Plan) (old : Place) (q : IsPlace plan old) (safe : IsSafe plan)
         }
 
     mending-light : (r : Record) → length r.entries ≤ 16 → weight (mending_at r) < 19 * 51
-    mending-light r few = of-if (λ (s : Step). weight s < 19 * 51) (is_go r) _ _ (λ e. under-placing (kinds_in r.entries []) (19 * 51) 0 (length r.entries) then.GoOn (omega arith)) (λ e. under-undoing (19 * 51) 0 (length r.entries) (length r.entries) then.GoOn few (omega arith))
+    mending-light r few = of-if (λ (s : Step). weight s < 19 * 51) (is_go r) _ _ (λ e. under-placing (ways_in r.entries []) (19 * 51) 0 (length r.entries) then.GoOn (omega arith)) (λ e. under-undoing (19 * 51) 0 (length r.entries) (length r.entries) then.GoOn few (omega arith))
 
     after-found : (bytes : List ℕ) (result : Result Found End) (now : Place) → Finds bytes result → LooksAt result old now → Looks plan (Some bytes) old now → After (reply.Saw (Some bytes)) now
     after-found bytes (Ok found) now finds is looks =
@@ -232,7 +233,7 @@ module _ (plan : Plan) (old : Place) (q : IsPlace plan old) (safe : IsSafe plan)
           lighter = subst (λ (z : Place). weight z.step < weight old.step) (sym is) (lighter-than (mending_at r) (mending-light r (valid-few r finds.0.valid)));
           settled = λ e. (was-open, refl);
           caused = λ before after x y. subst (λ (z : Place). Caused before after z.step) (sym is)
-              (of-if (Caused before after) (is_go r) _ _ (λ e. caused-placing before after (kinds_in r.entries []) 0 (length r.entries) then.GoOn tt) (λ e. caused-undoing before after 0 (length r.entries) (length r.entries) then.GoOn tt));
+              (of-if (Caused before after) (is_go r) _ _ (λ e. caused-placing before after (ways_in r.entries []) 0 (length r.entries) then.GoOn tt) (λ e. caused-undoing before after 0 (length r.entries) (length r.entries) then.GoOn tt));
           follows = look-goes (Some bytes) now looks;
         }
     after-found bytes (Err end.NotARecord) now finds is looks = look-step (Some bytes) (step.Releasing end.NotARecord) now tt (omega arith) (λ before after. tt) is looks
@@ -252,10 +253,10 @@ module _ (plan : Plan) (old : Place) (q : IsPlace plan old) (safe : IsSafe plan)
 
     load-goes : (file : Option (List ℕ)) (now : Place) → Takes plan at file changes base old now → (j : Job) (t : State) → IsPlan j plan → (j.edits ≡ None) ⊎ IsCommitOf j changes base → StandsFor j old t → Follows j now (saw j t file)
     load-goes file now takes j t p (inl none) st =
-        let some : is_some j.edits ≡ true = subst (Holds j st.made old.files old.go) at-loading st.holds in
+        let some : is_some j.edits ≡ true = subst (Holds j st.made old.files old.ways old.go) at-loading st.holds in
         absurd (false-true (sym some ∙ ap is_some none))
     load-goes file now takes j t p (inr of) st =
-        let is = sym (ap (state_as j st.hidden st.made old.found old.files) at-loading) ∙ st.is in
+        let is = sym (ap (state_as j st.hidden st.made old.found old.seen old.files) at-loading) ∙ st.is in
         subst (λ (z : State). Follows j now (saw j z file)) is (take-follows j plan old p q st.hidden st.wanted st.made changes base of named at file now at-some takes)
 
     load-open : is_settled old.step ≡ false
@@ -279,12 +280,12 @@ module _ (plan : Plan) (old : Place) (q : IsPlace plan old) (safe : IsSafe plan)
     judged-caused before after (Err (trouble.TooLarge k x)) t = caused-unlocking before after 0 n (then.Answer (end.TooLarge k x)) t.1
     judged-caused before after (Err trouble.Memory) t = caused-unlocking before after 0 n (then.Answer end.NoMemory) tt
 
-    load-place : (s : Step) (fs : List (Option (List ℕ))) (go : List ℕ) → Fits n m s → length fs ≡ n → IsPlace plan (record old { step = s; files = fs; go = go })
-    load-place s fs go f l = record { fits = f; staged_are = q.staged_are; few = q.few; files_are = l; distinct = q.distinct; names = q.names; staged = q.staged }
+    load-place : (s : Step) (fs : List (Option (List ℕ))) (ws : List Way) (go : List ℕ) → Fits n m s → length fs ≡ n → IsPlace plan (record old { step = s; files = fs; ways = ws; go = go })
+    load-place s fs ws go f l = record { fits = f; staged_are = q.staged_are; few = q.few; files_are = l; distinct = q.distinct; names = q.names; staged = q.staged }
 
-    load-step : (file : Option (List ℕ)) (s : Step) (fs : List (Option (List ℕ))) (go : List ℕ) (now : Place) → Fits n m s → length fs ≡ n → weight s < 9 * 51 + (16 - at) → ((before after : ℕ) → Caused before after s) → now ≡ record old { step = s; files = fs; go = go } → Takes plan at file changes base old now → After (reply.Saw file) now
-    load-step file s fs go now f l w c is takes = record {
-      place = subst (IsPlace plan) (sym is) (load-place s fs go f l);
+    load-step : (file : Option (List ℕ)) (s : Step) (fs : List (Option (List ℕ))) (ws : List Way) (go : List ℕ) (now : Place) → Fits n m s → length fs ≡ n → weight s < 9 * 51 + (16 - at) → ((before after : ℕ) → Caused before after s) → now ≡ record old { step = s; files = fs; ways = ws; go = go } → Takes plan at file changes base old now → After (reply.Saw file) now
+    load-step file s fs ws go now f l w c is takes = record {
+      place = subst (IsPlace plan) (sym is) (load-place s fs ws go f l);
       lighter = subst (λ (z : Place). weight z.step < weight old.step) (sym is) (subst (λ (z : Step). weight s < weight z) (sym at-loading) w);
       settled = λ e. (load-open, refl);
       caused = λ before after x y. subst (λ (z : Place). Caused before after z.step) (sym is) (c before after);
@@ -293,10 +294,10 @@ module _ (plan : Plan) (old : Place) (q : IsPlace plan old) (safe : IsSafe plan)
 
     after-loading : (file : Option (List ℕ)) (now : Place) → Takes plan at file changes base old now → After (reply.Saw file) now
     after-loading file now (inl more) =
-        load-step file (step.Loading (at + 1)) (slice_set old.files at file) old.go now more.0 (length-set old.files at file ∙ q.files_are) (omega (arith, at-some, safe.few)) (λ before after. tt) more.1 (inl more)
+        load-step file (step.Loading (at + 1)) (slice_set old.files at file) old.ways old.go now more.0 (length-set old.files at file ∙ q.files_are) (omega (arith, at-some, safe.few)) (λ before after. tt) more.1 (inl more)
     after-loading file now (inr over) =
         let t = over.1 in
-        load-step file (judged_at n t.result) t.made t.go now (judged-fits t.result t.fits) (t.long ∙ length-set old.files at file ∙ q.files_are) (judged-light t.result) (λ before after. judged-caused before after t.result t.fits) t.is (inr over)
+        load-step file (judged_at n t.result) t.made t.ways t.go now (judged-fits t.result t.fits) (t.long ∙ length-set old.files at file ∙ q.files_are) (judged-light t.result) (λ before after. judged-caused before after t.result t.fits) t.is (inr over)
 
   -- what a look at the record after a failed decision saw
   after-checking : (file : Option (List ℕ)) (now : Place) → old.step ≡ step.Checking → (x : Passed) → PassedSo old.go file x → now ≡ at_step old (step.Releasing (end.Failed x)) → After (reply.Saw file) now
@@ -304,24 +305,25 @@ module _ (plan : Plan) (old : Place) (q : IsPlace plan old) (safe : IsSafe plan)
       by-step (reply.Saw file) (step.Releasing (end.Failed x)) tt (subst (λ (z : Step). 51 < weight z) (sym at) (omega arith)) (λ e. absurd (false-true e))
       (λ before after c y. subst (Caused before after) at c)
       (λ j t p for st.
-      let same = sym (ap (state_as j st.hidden st.made old.found old.files) at) ∙ st.is in
-      let front : take 47 old.go ≡ go_front j.token = subst (Holds j st.made old.files old.go) at st.holds in
+      let same = sym (ap (state_as j st.hidden st.made old.found old.seen old.files) at) ∙ st.is in
+      let front : take 47 old.go ≡ go_front j.token = subst (Holds j st.made old.files old.ways old.go) at st.holds in
       subst (λ (z : State). Follows j (at_step old (step.Releasing (end.Failed x))) (saw j z file)) same (check-follows j plan old p q st.hidden st.wanted st.made file (at_step old (step.Releasing (end.Failed x))) x front so refl))
       now is
 
   -- what a look for the staged file of a removal saw
-  after-testing : (at : ℕ) (file : Option (List ℕ)) (now : Place) → old.step ≡ step.Testing at → now ≡ at_step old (tested_at (kinds_of old) m at (is_some file)) → After (reply.Saw file) now
+  after-testing : (at : ℕ) (file : Option (List ℕ)) (now : Place) → old.step ≡ step.Testing at → now ≡ record old { step = tested_at (ways_of old) m at (is_some file); seen = file } → After (reply.Saw file) now
   after-testing at file now e is =
-      let s = tested_at (kinds_of old) m at (is_some file) in
+      let s = tested_at (ways_of old) m at (is_some file) in
       let l : at < m = subst (Fits n m) e q.fits in
-      by-step (reply.Saw file) s (fits-tested (kinds_of old) n m at (is_some file) l)
-      (subst (λ (z : Step). weight s < weight z) (sym e) (under-tested (kinds_of old) m at (is_some file) l q.few))
-      (λ u. (ap is_settled e, refl))
-      (λ before after c y. caused-tested before after (kinds_of old) m at (is_some file))
-      (λ j t p for st.
-      let same = sym (ap (state_as j st.hidden st.made old.found old.files) e) ∙ st.is in
-      subst (λ (z : State). Follows j (at_step old s) (saw j z file)) same (test-follows j plan old p q st.hidden st.wanted st.made at file (at_step old s) l refl))
-      now is
+      subst (After (reply.Saw file)) (sym is) (record {
+        place = record { fits = fits-tested (ways_of old) n m at (is_some file) l; staged_are = q.staged_are; few = q.few; files_are = q.files_are; distinct = q.distinct; names = q.names; staged = q.staged };
+        lighter = subst (λ (z : Step). weight s < weight z) (sym e) (under-tested (ways_of old) m at (is_some file) l q.few);
+        settled = λ u. (ap is_settled e, refl);
+        caused = λ before after c y. caused-tested before after (ways_of old) m at (is_some file);
+        follows = λ j t p for st.
+            let same = sym (ap (state_as j st.hidden st.made old.found old.seen old.files) e) ∙ st.is in
+            subst (λ (z : State). Follows j (record old { step = s; seen = file }) (saw j z file)) same (test-follows j plan old p q st.hidden st.wanted st.made at file (record old { step = s; seen = file }) l refl);
+      })
 
   after-saw : (file : Option (List ℕ)) (s : Step) (now : Place) → old.step ≡ s → IsAnswer (call_at s) (reply.Saw file) → SawSo plan file changes base old s now → After (reply.Saw file) now
   after-saw file step.Looking now e a is = after-looking e file now is

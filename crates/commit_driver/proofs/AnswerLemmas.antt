@@ -1,9 +1,13 @@
 -- The state after an answer is the machine's.
-use Rattle.std.proofs.Common.{◌≡◌, ℕ, ◌+◌, ◌<◌, Bool, true, false, List, [], ◌∷◌, ◌++◌, Option, Some, None, length, map, take, drop, is_some, refl, ap, sym, subst, inl, inr, ◌∙◌, arith, if◌then◌else◌}
+use Rattle.std.proofs.Common.{◌≡◌, ℕ, ◌+◌, ◌<◌, Bool, true, false, List, [], ◌∷◌, ◌++◌, Option, Some, None, length, map, take, drop, get_or, is_some, refl, ap, sym, subst, inl, inr, ◌∙◌, arith, if◌then◌else◌}
 use Rattle.commit_record.specs.declared.record.Record.{Record}
+use Rattle.commit_record.specs.declared.way.Way.{Way}
+use Rattle.commit_record.specs.declared.way.Way.TheVariants.{Replace}
+use Rattle.commit_machine.specs.Names.{staged_name}
 use Rattle.commit_machine.specs.Records.{is_go, names_of, AreDistinct}
-use Rattle.commit_machine.specs.Jobs.{Ending, Edit, Job, Made, edits_of, all_of, prepare_of, go_of, made_at, kind_made}
+use Rattle.commit_machine.specs.Jobs.{Ending, Edit, Job, Made, edits_of, all_of, prepare_of, go_of, made_at, way_made}
 use Rattle.commit_machine.specs.Jobs as jobs
+use Rattle.commit_machine.specs.Items.{Item, found_items}
 use Rattle.commit_machine.specs.Machine.{State, locking, loading, staging, unlocking, tested, refusing, went_on, faulted, too_long, mended, none_stands}
 use Rattle.commit_machine.specs.Machine as machine
 use Rattle.commit_driver.specs.declared.step.Recovered.{Recovered}
@@ -17,13 +21,12 @@ use Rattle.commit_driver.specs.declared.step.Step.TheVariants.{Seizing, Looking,
 use Rattle.commit_driver.specs.declared.answers.Reply.TheVariants as reply
 use Rattle.commit_driver.specs.declared.place.Plan.{Plan}
 use Rattle.commit_driver.specs.declared.place.Place.{Place}
-use Rattle.commit_driver.specs.Steps.{Kinds, call_at, count_at, passed_end, passed_then, unlocking_at, undoing_at, placing_at, tested_at, faulted_at, long_at, short_at, closed_at, went_at, Fits}
-use Rattle.commit_driver.specs.Places.{nth, files_of, entries_of, kinds_of, PlacesSo, passed_as, found_as, end_as, then_as, made_from, names_as, state_as, WantedAs, IsMade, Holds, IsPlan, IsPlace}
+use Rattle.commit_driver.specs.Steps.{Ways, call_at, count_at, passed_end, passed_then, unlocking_at, undoing_at, placing_at, tested_at, faulted_at, long_at, short_at, closed_at, went_at, Fits}
+use Rattle.commit_driver.specs.Places.{nth, files_of, entries_of, ways_of, items_as, nth_item, PlacesSo, passed_as, found_as, end_as, then_as, made_from, names_as, state_as, WantedAs, IsMade, Holds, IsPlan, IsPlace}
 use Rattle.commit_driver.specs.Answers.{IsAnswer}
-use Rattle.commit_driver.proofs.StateLemmas.{drop-some, drop-map, nth-map, take-next, unlocking-view, undoing-view, KindsAre, unlocking-is, unlocking-all, undoing-is, placing-is, locking-is, staging-is}
+use Rattle.commit_driver.proofs.StateLemmas.{drop-some, drop-map, nth-map, take-next, unlocking-view, undoing-view, WaysAre, unlocking-is, unlocking-all, undoing-is, placing-is, locking-is, staging-is}
 use Rattle.commit_machine.proofs.records.Front.{front-taken}
-use Rattle.commit_machine.proofs.records.OfJob.{kind_of_entries}
-use Rattle.commit_driver.proofs.KindLemmas.{kind-nth, kind-made, nth-Mem}
+use Rattle.commit_driver.proofs.WayLemmas.{way-found, way-made, item-made, name-found}
 use Rattle.commit_driver.proofs.NextLemmas.{files-long, edits-long, made-long, names-count}
 use Rattle.commit_driver.proofs.FitLemmas.{of-if, of-unlocking, of-undoing, of-placing, of-locking, of-staging, Loads}
 
@@ -54,7 +57,7 @@ module _ (j : Job) (plan : Plan) (place : Place) (hidden : Ending) (made : List 
   found = place.found
 
   abbrev pub at_step : Step → State
-  at_step s = state_as j hidden made found place.files s
+  at_step s = state_as j hidden made found place.seen place.files s
 
   count : (th : Then) → count_at (files_of plan) (entries_of place) th ≡ length (names_as j found th)
   count th = names-count j plan place hidden made p q th
@@ -80,22 +83,23 @@ module _ (j : Job) (plan : Plan) (place : Place) (hidden : Ending) (made : List 
   looked-none None e = ap (λ (b : Bool). at_step (if b then Preparing else Clearing recovered.Nothing)) e
   looked-none (Some es) e = ap (λ (b : Bool). at_step (if b then Preparing else Clearing recovered.Nothing)) e
 
-  -- the kinds of entries that are put in place are those of their record
-  kinds-are : (th : Then) → PlacesSo j made place.files place.go th → KindsAre j hidden made found place.files (kinds_of place) th (count_at (files_of plan) (entries_of place) th)
-  kinds-are GoOn h at l = kind-nth found.entries at q.distinct l
-  kinds-are (Answer end.Done) h at l =
-      kind-made made place.files at (subst AreDistinct (sym h.names_are) h.distinct) h.kinds_are (omega (arith, l, made-long j plan made place.files place.go p h))
-      ∙ ap (λ (ns : List (List ℕ)). kind_made (made_at made (nth ns at))) h.names_are
-      ∙ sym (kind_of_entries (all_of j) (λ n. kind_made (made_at made n)) (nth (all_of j) at) (nth-Mem (all_of j) at (omega (arith, l, n-is))))
-  kinds-are (Answer (end.Recovered f)) h at l = absurd h
-  kinds-are (Answer e) h at l = absurd h
+  -- the ways of entries that are put in place are those of their record
+  ways-are : (th : Then) → PlacesSo j made place.files place.ways place.go th → WaysAre j hidden made found place.seen place.files (ways_of place) th (count_at (files_of plan) (entries_of place) th)
+  ways-are GoOn h at l = way-found found.entries at
+  ways-are (Answer end.Done) h at l =
+      ap (λ (ws : List Way). get_or ws at Replace) h.ways_are
+      ∙ way-made made at (subst AreDistinct (sym h.names_are) h.distinct) (omega (arith, l, made-long j plan made place.files place.ways place.go p h))
+      ∙ ap (λ (ns : List (List ℕ)). way_made (made_at made (nth ns at))) h.names_are
+      ∙ sym (ap (λ (x : Item). x.way) (item-made made (all_of j) at (omega (arith, l, n-is))))
+  ways-are (Answer (end.Recovered f)) h at l = absurd h
+  ways-are (Answer e) h at l = absurd h
 
-  pub tested-same : (at : ℕ) (file : Option (List ℕ)) → at < entries_of place → at_step (tested_at (kinds_of place) (entries_of place) at (is_some file)) ≡ tested found (nth (names_of found) at) (drop (at + 1) (names_of found)) (names_of found) file
-  tested-same at None l = placing-is j hidden made found place.files (kinds_of place) (at + 1) (entries_of place) GoOn (count GoOn) (kinds-are GoOn tt)
+  pub tested-same : (at : ℕ) (file : Option (List ℕ)) → at < entries_of place → state_as j hidden made found file place.files (tested_at (ways_of place) (entries_of place) at (is_some file)) ≡ tested found (nth_item (found_items found) at) (drop (at + 1) (found_items found)) (names_of found) file
+  tested-same at None l = placing-is j hidden made found None place.files (ways_of place) (at + 1) (entries_of place) GoOn (count GoOn) (λ k m. way-found found.entries k)
   tested-same at (Some bytes) l = refl
 
   abbrev Went : Step → Bool → Type 0
-  Went s b = at_step (went_at (kinds_of place) plan.commits (files_of plan) (entries_of place) (is_go found) s b) ≡ went_on j (at_step s) b
+  Went s b = at_step (went_at (ways_of place) plan.commits (files_of plan) (entries_of place) (is_go found) s b) ≡ went_on j (at_step s) b
 
   went-erasing : (th : Then) (b : Bool) → Went (Erasing th) b
   went-erasing GoOn b = ap machine.Clearing (found-same (is_go found))
@@ -104,47 +108,47 @@ module _ (j : Job) (plan : Plan) (place : Place) (hidden : Ending) (made : List 
   went-locking : (at : ℕ) (b : Bool) → at < files_of plan → Went (Locking at) b
   went-locking at true l =
       let w = edit-at at l in
-      locking-is j hidden made found place.files (at + 1) (files_of plan) n-is
+      locking-is j hidden made found place.seen place.files (at + 1) (files_of plan) n-is
       ∙ ap (λ (ls : List (List ℕ)). locking j ls (drop (at + 1) (edits_of j))) (edit-taken at w.0 (drop (at + 1) (edits_of j)) w.1)
       ∙ sym (ap (λ (es : List Edit). went_on j (locking j (take at (all_of j)) es) true) w.1)
   went-locking at false l =
       let w = edit-at at l in
-      unlocking-is j hidden made found place.files 0 at (Answer (end.Busy at)) (omega (arith, l, n-is))
+      unlocking-is j hidden made found place.seen place.files 0 at (Answer (end.Busy at)) (omega (arith, l, n-is))
       ∙ ap (λ (n : List ℕ). unlocking (prepare_of j) (take at (all_of j)) (machine.Answer (jobs.Refused (jobs.Busy n)))) (edit-name at w.0 (drop (at + 1) (edits_of j)) w.1)
       ∙ sym (ap (λ (es : List Edit). went_on j (locking j (take at (all_of j)) es) false) w.1)
 
-  went-staging : (at : ℕ) (b : Bool) → at < files_of plan → IsMade j made place.files place.go → Went (Staging at) b
+  went-staging : (at : ℕ) (b : Bool) → at < files_of plan → IsMade j made place.files place.ways place.go → Went (Staging at) b
   went-staging at b l m =
-      let long = made-long j plan made place.files place.go p m in
+      let long = made-long j plan made place.files place.ways place.go p m in
       let w = drop-some made at (omega (arith, l, long)) in
       let taken = take-next (all_of j) at w.0.edit.name (map (λ (x : Made). x.edit.name) (drop (at + 1) made)) (ap (drop at) (sym m.names_are) ∙ drop-map (λ (x : Made). x.edit.name) made at ∙ ap (map (λ (x : Made). x.edit.name)) w.1) in
-      staging-is j hidden made found place.files (at + 1) (files_of plan) long
+      staging-is j hidden made found place.seen place.files (at + 1) (files_of plan) long
       ∙ ap (λ (ns : List (List ℕ)). staging ns made (drop (at + 1) made)) taken
       ∙ sym (ap (λ (ms : List Made). went_on j (staging (take at (all_of j)) made ms) b) w.1)
 
-  pub went-same : (s : Step) (b : Bool) → Fits (files_of plan) (entries_of place) s → Holds j made place.files place.go s → IsAnswer (call_at s) (reply.Went b) → Went s b
+  pub went-same : (s : Step) (b : Bool) → Fits (files_of plan) (entries_of place) s → Holds j made place.files place.ways place.go s → IsAnswer (call_at s) (reply.Went b) → Went s b
   went-same Seizing true f h a = refl
   went-same Seizing false f h a = refl
   went-same (Undoing at e locks th) b f h a =
       let c = count th in
-      undoing-is j hidden made found place.files (at + 1) e locks th (omega (arith, f.1, c)) (omega (arith, f.2, c))
-      ∙ sym (ap (λ (s : State). went_on j s b) (undoing-view j hidden made found place.files at e locks th f.0 (omega (arith, f.1, c))))
-  went-same (Placing at th) b f h a = placing-is j hidden made found place.files (kinds_of place) (at + 1) (count_at (files_of plan) (entries_of place) th) th (count th) (kinds-are th h)
+      undoing-is j hidden made found place.seen place.files (at + 1) e locks th (omega (arith, f.1, c)) (omega (arith, f.2, c))
+      ∙ sym (ap (λ (s : State). went_on j s b) (undoing-view j hidden made found place.seen place.files at e locks th f.0 (omega (arith, f.1, c))))
+  went-same (Placing at th) b f h a = placing-is j hidden made found place.seen place.files (ways_of place) (at + 1) (count_at (files_of plan) (entries_of place) th) th (count th) (ways-are th h)
   went-same (Removing at th) b f h a = refl
-  went-same (Discarding at th) b f h a = placing-is j hidden made found place.files (kinds_of place) (at + 1) (count_at (files_of plan) (entries_of place) th) th (count th) (kinds-are th h)
+  went-same (Discarding at th) b f h a = placing-is j hidden made found place.seen place.files (ways_of place) (at + 1) (count_at (files_of plan) (entries_of place) th) th (count th) (ways-are th h)
   went-same (Unlocking at e th) b f h a =
       let c = count th in
-      unlocking-is j hidden made found place.files (at + 1) e th (omega (arith, f.1, c))
-      ∙ sym (ap (λ (s : State). went_on j s b) (unlocking-view j hidden made found place.files at e th f.0 (omega (arith, f.1, c))))
+      unlocking-is j hidden made found place.seen place.files (at + 1) e th (omega (arith, f.1, c))
+      ∙ sym (ap (λ (s : State). went_on j s b) (unlocking-view j hidden made found place.seen place.files at e th f.0 (omega (arith, f.1, c))))
   went-same (Erasing th) b f h a = went-erasing th b
   went-same (Clearing c) b f h a = went-clearing c j.edits p.commits_is
   went-same Preparing b f h a = refl
-  went-same Publishing true f h a = locking-is j hidden made found place.files 0 (files_of plan) n-is
+  went-same Publishing true f h a = locking-is j hidden made found place.seen place.files 0 (files_of plan) n-is
   went-same Publishing false f h a = refl
   went-same (Locking at) b f h a = went-locking at b f
   went-same (Staging at) b f h a = went-staging at b f h
   went-same Deciding b f h a = refl
-  went-same Committing true f h a = placing-is j hidden made found place.files (kinds_of place) 0 (files_of plan) (Answer end.Done) n-is (kinds-are (Answer end.Done) h)
+  went-same Committing true f h a = placing-is j hidden made found place.seen place.files (ways_of place) 0 (files_of plan) (Answer end.Done) n-is (ways-are (Answer end.Done) h)
   went-same Committing false f h a = refl
   went-same (Releasing e) b f h a = refl
   went-same Looking b f h a = absurd a
@@ -160,22 +164,22 @@ module _ (j : Job) (plan : Plan) (place : Place) (hidden : Ending) (made : List 
     failed-then : (th : Then) → machine.Releasing (jobs.Failed (passed_as (passed_then th))) ≡ machine.Releasing (jobs.Failed (machine.passed_then (then_as j hidden found th)))
     failed-then th = ap (λ (x : jobs.Passed). machine.Releasing (jobs.Failed x)) (then-passed j hidden (all_of j) found th wanted)
 
-    pub fault-same : (s : Step) → Fits (files_of plan) (entries_of place) s → Holds j made place.files place.go s → IsAnswer (call_at s) reply.Fault → Faults s
+    pub fault-same : (s : Step) → Fits (files_of plan) (entries_of place) s → Holds j made place.files place.ways place.go s → IsAnswer (call_at s) reply.Fault → Faults s
     fault-same Seizing f h a = refl
     fault-same Looking f h a = refl
-    fault-same (Undoing at e locks th) f h a = let c = count th in sym (ap faulted (undoing-view j hidden made found place.files at e locks th f.0 (omega (arith, f.1, c))))
+    fault-same (Undoing at e locks th) f h a = let c = count th in sym (ap faulted (undoing-view j hidden made found place.seen place.files at e locks th f.0 (omega (arith, f.1, c))))
     fault-same (Placing at th) f h a = failed-then th
     fault-same (Testing at) f h a = refl
     fault-same (Removing at th) f h a = failed-then th
     fault-same (Discarding at th) f h a = failed-then th
-    fault-same (Unlocking at e th) f h a = let c = count th in failed-then th ∙ sym (ap faulted (unlocking-view j hidden made found place.files at e th f.0 (omega (arith, f.1, c))))
+    fault-same (Unlocking at e th) f h a = let c = count th in failed-then th ∙ sym (ap faulted (unlocking-view j hidden made found place.seen place.files at e th f.0 (omega (arith, f.1, c))))
     fault-same (Erasing th) f h a = failed-then th
     fault-same (Clearing c) f h a = refl
     fault-same Preparing f h a = refl
     fault-same Publishing f h a = refl
     fault-same (Locking at) f h a = let w = edit-at at f in sym (ap (λ (es : List Edit). faulted (locking j (take at (all_of j)) es)) w.1)
     fault-same (Loading at) f h a = let w = edit-at at f in sym (ap (λ (es : List Edit). faulted (loading j (made_from (edits_of j) (take at place.files)) es)) w.1)
-    fault-same (Staging at) f h a = let w = drop-some made at (omega (arith, f, made-long j plan made place.files place.go p h)) in sym (ap (λ (ms : List Made). faulted (staging (take at (all_of j)) made ms)) w.1)
+    fault-same (Staging at) f h a = let w = drop-some made at (omega (arith, f, made-long j plan made place.files place.ways place.go p h)) in sym (ap (λ (ms : List Made). faulted (staging (take at (all_of j)) made ms)) w.1)
     fault-same Deciding f h a = refl
     fault-same Committing f h a = refl
     fault-same Checking f h a = refl
@@ -184,10 +188,10 @@ module _ (j : Job) (plan : Plan) (place : Place) (hidden : Ending) (made : List 
 
   pub long-same : (s : Step) (k : ℕ) → Fits (files_of plan) (entries_of place) s → Loads s → at_step (long_at (files_of plan) s k) ≡ too_long j (at_step s) k
   long-same Looking k f l = refl
-  long-same (Testing at) k f l = refl
+  long-same (Testing at) k f l = ap (λ (n : List ℕ). machine.Releasing (jobs.Refused (jobs.TooLarge (staged_name found.token n) k))) (sym (name-found found.entries at))
   long-same (Loading at) k f l =
       let w = edit-at at f in
-      unlocking-all j hidden made found place.files (files_of plan) (Answer (end.TooLarge at k)) n-is
+      unlocking-all j hidden made found place.seen place.files (files_of plan) (Answer (end.TooLarge at k)) n-is
       ∙ ap (λ (n : List ℕ). refusing j [] (all_of j) (jobs.Refused (jobs.TooLarge n k))) (edit-name at w.0 (drop (at + 1) (edits_of j)) w.1)
       ∙ sym (ap (λ (es : List Edit). too_long j (loading j (made_from (edits_of j) (take at place.files)) es) k) w.1)
   long-same Checking k f l = refl
@@ -195,43 +199,43 @@ module _ (j : Job) (plan : Plan) (place : Place) (hidden : Ending) (made : List 
 
   -- what a step takes for granted holds at the next
   abbrev Held : Step → Type 0
-  Held s = Holds j made place.files place.go s
+  Held s = Holds j made place.files place.ways place.go s
 
   pub holds-undoing : (at e locks : ℕ) (th : Then) → Held (undoing_at at e locks th)
-  holds-undoing at e locks th = of-undoing (Holds j made place.files place.go) at e locks th (λ x. tt) (λ x. tt) tt
+  holds-undoing at e locks th = of-undoing (Holds j made place.files place.ways place.go) at e locks th (λ x. tt) (λ x. tt) tt
 
-  pub holds-placing : (kinds : Kinds) (at e : ℕ) (th : Then) → PlacesSo j made place.files place.go th → Held (placing_at kinds at e th)
-  holds-placing kinds at e th h = of-placing (Holds j made place.files place.go) kinds at e th (λ x. record { places = h; tests = λ e. tt; removes = h }) (λ x. tt) tt
+  pub holds-placing : (ways : Ways) (at e : ℕ) (th : Then) → PlacesSo j made place.files place.ways place.go th → Held (placing_at ways at e th)
+  holds-placing ways at e th h = of-placing (Holds j made place.files place.ways place.go) ways at e th (λ x. record { places = h; tests = λ e. tt; removes = h }) (λ x. tt) tt
 
-  pub holds-tested : (kinds : Kinds) (m at : ℕ) (stands : Bool) → Held (tested_at kinds m at stands)
-  holds-tested kinds m at true = tt
-  holds-tested kinds m at false = holds-placing kinds (at + 1) m GoOn tt
+  pub holds-tested : (ways : Ways) (m at : ℕ) (stands : Bool) → Held (tested_at ways m at stands)
+  holds-tested ways m at true = tt
+  holds-tested ways m at false = holds-placing ways (at + 1) m GoOn tt
 
   pub holds-unlocking : (at e : ℕ) (th : Then) → Held (unlocking_at at e th)
-  holds-unlocking at e th = of-unlocking (Holds j made place.files place.go) at e th (λ x. tt) tt
+  holds-unlocking at e th = of-unlocking (Holds j made place.files place.ways place.go) at e th (λ x. tt) tt
 
   holds-closed : (decided : Bool) (th : Then) → Held (closed_at decided th)
   holds-closed decided GoOn = tt
   holds-closed decided (Answer e) = tt
 
-  pub holds-went : (decided : Bool) (s : Step) (b : Bool) → Held s → IsAnswer (call_at s) (reply.Went b) → Held (went_at (kinds_of place) plan.commits (files_of plan) (entries_of place) decided s b)
+  pub holds-went : (decided : Bool) (s : Step) (b : Bool) → Held s → IsAnswer (call_at s) (reply.Went b) → Held (went_at (ways_of place) plan.commits (files_of plan) (entries_of place) decided s b)
   holds-went decided Seizing true h a = tt
   holds-went decided Seizing false h a = tt
   holds-went decided (Undoing at e locks th) b h a = holds-undoing (at + 1) e locks th
-  holds-went decided (Placing at th) b h a = holds-placing (kinds_of place) (at + 1) (count_at (files_of plan) (entries_of place) th) th h
+  holds-went decided (Placing at th) b h a = holds-placing (ways_of place) (at + 1) (count_at (files_of plan) (entries_of place) th) th h
   holds-went decided (Removing at th) b h a = h
-  holds-went decided (Discarding at th) b h a = holds-placing (kinds_of place) (at + 1) (count_at (files_of plan) (entries_of place) th) th h
+  holds-went decided (Discarding at th) b h a = holds-placing (ways_of place) (at + 1) (count_at (files_of plan) (entries_of place) th) th h
   holds-went decided (Unlocking at e th) b h a = holds-unlocking (at + 1) e th
   holds-went decided (Erasing th) b h a = holds-closed decided th
-  holds-went decided (Clearing c) b h a = of-if (Holds j made place.files place.go) plan.commits Preparing _ (λ e. sym p.commits_is ∙ e) (λ e. tt)
+  holds-went decided (Clearing c) b h a = of-if (Holds j made place.files place.ways place.go) plan.commits Preparing _ (λ e. sym p.commits_is ∙ e) (λ e. tt)
   holds-went decided Preparing b h a = h
-  holds-went decided Publishing true h a = of-locking (Holds j made place.files place.go) 0 (files_of plan) (λ x. h) h
+  holds-went decided Publishing true h a = of-locking (Holds j made place.files place.ways place.go) 0 (files_of plan) (λ x. h) h
   holds-went decided Publishing false h a = tt
-  holds-went decided (Locking at) true h a = of-locking (Holds j made place.files place.go) (at + 1) (files_of plan) (λ x. h) h
+  holds-went decided (Locking at) true h a = of-locking (Holds j made place.files place.ways place.go) (at + 1) (files_of plan) (λ x. h) h
   holds-went decided (Locking at) false h a = holds-unlocking 0 at (Answer (end.Busy at))
-  holds-went decided (Staging at) b h a = of-staging (Holds j made place.files place.go) (at + 1) (files_of plan) (λ x. h) h
+  holds-went decided (Staging at) b h a = of-staging (Holds j made place.files place.ways place.go) (at + 1) (files_of plan) (λ x. h) h
   holds-went decided Deciding b h a = h
-  holds-went decided Committing true h a = holds-placing (kinds_of place) 0 (files_of plan) (Answer end.Done) h
+  holds-went decided Committing true h a = holds-placing (ways_of place) 0 (files_of plan) (Answer end.Done) h
   holds-went decided Committing false h a = tt
   holds-went decided (Releasing e) b h a = tt
   holds-went decided Looking b h a = absurd a

@@ -56,10 +56,10 @@ same-after j (Unlocking r n ns th) a b h = ap (after_reply j (Unlocking r n ns t
 same-after j Seizing a b h = ap (after_reply j Seizing) h
 same-after j Looking a b h = ap (after_reply j Looking) h
 same-after j (Undoing r n ns ls th) a b h = ap (after_reply j (Undoing r n ns ls th)) h
-same-after j (Placing r n ns ls th) a b h = ap (after_reply j (Placing r n ns ls th)) h
-same-after j (Testing r n ns ls) a b h = ap (after_reply j (Testing r n ns ls)) h
-same-after j (Removing r n ns ls th) a b h = ap (after_reply j (Removing r n ns ls th)) h
-same-after j (Discarding r n ns ls th) a b h = ap (after_reply j (Discarding r n ns ls th)) h
+same-after j (Placing r x xs ls th) a b h = ap (after_reply j (Placing r x xs ls th)) h
+same-after j (Testing r x xs ls) a b h = ap (after_reply j (Testing r x xs ls)) h
+same-after j (Removing r x xs ls th) a b h = ap (after_reply j (Removing r x xs ls th)) h
+same-after j (Discarding r x xs ls th) a b h = ap (after_reply j (Discarding r x xs ls th)) h
 same-after j (Erasing r th) a b h = ap (after_reply j (Erasing r th)) h
 same-after j (Clearing f) a b h = ap (after_reply j (Clearing f)) h
 same-after j Preparing a b h = ap (after_reply j Preparing) h
@@ -187,7 +187,7 @@ no-call (step.Releasing e) h = absurd (cc)
 pub finished : (j : Job) (place : Place) (e : End) (es : List Event) → place.step ≡ step.Ended e → Reached j place es → Drives j place.found es e
 finished j place e es is r =
     let st = r.stands in
-    let to : Ended (end_as j st.hidden place.found e) ≡ r.state = sym (ap (state_as j st.hidden st.made place.found place.files) is) ∙ st.is in
+    let to : Ended (end_as j st.hidden place.found e) ≡ r.state = sym (ap (state_as j st.hidden st.made place.found place.seen place.files) is) ∙ st.is in
     record {
       hidden = st.hidden;
       wanted = st.wanted;

@@ -1,15 +1,15 @@
 -- The numbers of steps: they fit, each answer leaves less to do, and an end stays settled and caused.
 use Rattle.std.proofs.Common.{◌≡◌, ℕ, ◌+◌, ◌-◌, ◌*◌, ◌<◌, ◌≤◌, Bool, true, false, refl, sym, subst, inl, inr, ◌∙◌, arith, if◌then◌else◌}
 use Rattle.host_port.specs.Calls.{Rose, load_limit}
-use Rattle.commit_record.specs.declared.record.EntryKind.{EntryKind}
-use Rattle.commit_record.specs.declared.record.EntryKind.TheVariants.{Replace, Remove}
+use Rattle.commit_record.specs.declared.way.Way.{Way}
+use Rattle.commit_record.specs.declared.way.Way.TheVariants.{Replace, Remove}
 use Rattle.commit_driver.specs.declared.step.End.TheVariants as end
 use Rattle.commit_driver.specs.declared.step.Then.{Then}
 use Rattle.commit_driver.specs.declared.step.Then.TheVariants.{GoOn, Answer}
 use Rattle.commit_driver.specs.declared.step.Step.{Step}
 use Rattle.commit_driver.specs.declared.step.Step.TheVariants.{Seizing, Looking, Undoing, Placing, Testing, Removing, Discarding, Unlocking, Erasing, Clearing, Preparing, Publishing, Locking, Loading, Staging, Deciding, Committing, Checking, Releasing, Ended}
 use Rattle.commit_driver.specs.declared.answers.Reply.TheVariants as reply
-use Rattle.commit_driver.specs.Steps.{Kinds, call_at, count_at, ThenFits, Fits, unlocking_at, undoing_at, removing_at, place_at, placing_at, tested_at, locking_at, staging_at, faulted_at, long_at, short_at, closed_at, went_at, then_rank, weight}
+use Rattle.commit_driver.specs.Steps.{Ways, call_at, count_at, ThenFits, Fits, unlocking_at, undoing_at, removing_at, place_at, placing_at, tested_at, locking_at, staging_at, faulted_at, long_at, short_at, closed_at, went_at, then_rank, weight}
 use Rattle.commit_driver.specs.Answers.{IsAnswer, settled_then, is_settled, ThenCaused, Caused}
 use Rattle.commit_driver.proofs.StateLemmas.{lt-or}
 
@@ -31,12 +31,12 @@ module _ (P : Step → Type 0) where
   of-removing at GoOn s = s.tests refl
   of-removing at (Answer e) s = s.removes
 
-  of-place : (kind : EntryKind) (at : ℕ) (th : Then) → Starts at th → P (place_at kind at th)
+  of-place : (way : Way) (at : ℕ) (th : Then) → Starts at th → P (place_at way at th)
   of-place Replace at th s = s.places
   of-place Remove at th s = of-removing at th s
 
-  pub of-placing : (kinds : Kinds) (at end : ℕ) (th : Then) → (at < end → Starts at th) → (0 < end → P (Unlocking 0 end th)) → P (Erasing th) → P (placing_at kinds at end th)
-  of-placing kinds at end th more unlock done = elim (lt-or at end) [ inl y ↦ rw y.1 (of-place (kinds th at) at th (more y.0)) | inr n ↦ rw n.1 (of-unlocking 0 end th unlock done) ]
+  pub of-placing : (ways : Ways) (at end : ℕ) (th : Then) → (at < end → Starts at th) → (0 < end → P (Unlocking 0 end th)) → P (Erasing th) → P (placing_at ways at end th)
+  of-placing ways at end th more unlock done = elim (lt-or at end) [ inl y ↦ rw y.1 (of-place (ways th at) at th (more y.0)) | inr n ↦ rw n.1 (of-unlocking 0 end th unlock done) ]
 
   pub of-locking : (at n : ℕ) → (at < n → P (Locking at)) → P (Loading 0) → P (locking_at at n)
   of-locking at n more done = elim (lt-or at n) [ inl y ↦ rw y.1 (more y.0) | inr m ↦ rw m.1 done ]
@@ -58,12 +58,12 @@ fits-undoing n m at end locks th l k t = of-undoing (Fits n m) at end locks th (
 found-count : (n m at : ℕ) (th : Then) → at < count_at n m th → th ≡ GoOn → at < m
 found-count n m at th l e = subst (λ (z : Then). at < count_at n m z) e l
 
-pub fits-placing : (kinds : Kinds) (n m at : ℕ) (th : Then) → ThenFits n m th → Fits n m (placing_at kinds at (count_at n m th) th)
-fits-placing kinds n m at th t = of-placing (Fits n m) kinds at (count_at n m th) th (λ a. record { places = (a, t); tests = found-count n m at th a; removes = (a, t) }) (λ a. (a, omega arith, t)) t
+pub fits-placing : (ways : Ways) (n m at : ℕ) (th : Then) → ThenFits n m th → Fits n m (placing_at ways at (count_at n m th) th)
+fits-placing ways n m at th t = of-placing (Fits n m) ways at (count_at n m th) th (λ a. record { places = (a, t); tests = found-count n m at th a; removes = (a, t) }) (λ a. (a, omega arith, t)) t
 
-pub fits-tested : (kinds : Kinds) (n m at : ℕ) (stands : Bool) → at < m → Fits n m (tested_at kinds m at stands)
-fits-tested kinds n m at true l = (l, tt)
-fits-tested kinds n m at false l = fits-placing kinds n m (at + 1) GoOn tt
+pub fits-tested : (ways : Ways) (n m at : ℕ) (stands : Bool) → at < m → Fits n m (tested_at ways m at stands)
+fits-tested ways n m at true l = (l, tt)
+fits-tested ways n m at false l = fits-placing ways n m (at + 1) GoOn tt
 
 pub fits-staging : (n m at : ℕ) → Fits n m (staging_at at n)
 fits-staging n m at = of-staging (Fits n m) at n (λ a. a) tt
@@ -72,31 +72,31 @@ fits-closed : (n m : ℕ) (decided : Bool) (th : Then) → ThenFits n m th → F
 fits-closed n m decided GoOn t = tt
 fits-closed n m decided (Answer e) t = t
 
-pub fits-went : (kinds : Kinds) (commits : Bool) (n m : ℕ) (decided : Bool) (s : Step) (did : Bool) → (commits ≡ true → 0 < n) → Fits n m s → IsAnswer (call_at s) (reply.Went did) → Fits n m (went_at kinds commits n m decided s did)
-fits-went kinds commits n m decided Seizing true some f a = tt
-fits-went kinds commits n m decided Seizing false some f a = tt
-fits-went kinds commits n m decided (Undoing at end locks th) did some f a = fits-undoing n m (at + 1) end locks th f.1 f.2 f.3
-fits-went kinds commits n m decided (Placing at th) did some f a = fits-placing kinds n m (at + 1) th f.1
-fits-went kinds commits n m decided (Removing at th) did some f a = f
-fits-went kinds commits n m decided (Discarding at th) did some f a = fits-placing kinds n m (at + 1) th f.1
-fits-went kinds commits n m decided (Unlocking at end th) did some f a = fits-unlocking n m (at + 1) end th f.1 f.2
-fits-went kinds commits n m decided (Erasing th) did some f a = fits-closed n m decided th f
-fits-went kinds commits n m decided (Clearing x) did some f a = of-if (Fits n m) commits Preparing _ some (λ e. tt)
-fits-went kinds commits n m decided Preparing did some f a = f
-fits-went kinds commits n m decided Publishing true some f a = of-locking (Fits n m) 0 n (λ l. l) f
-fits-went kinds commits n m decided Publishing false some f a = tt
-fits-went kinds commits n m decided (Locking at) true some f a = of-locking (Fits n m) (at + 1) n (λ l. l) (omega (arith, f))
-fits-went kinds commits n m decided (Locking at) false some f a = fits-unlocking n m 0 at (Answer (end.Busy at)) (omega (arith, f)) f
-fits-went kinds commits n m decided (Staging at) did some f a = fits-staging n m (at + 1)
-fits-went kinds commits n m decided Deciding did some f a = tt
-fits-went kinds commits n m decided Committing true some f a = fits-placing kinds n m 0 (Answer end.Done) tt
-fits-went kinds commits n m decided Committing false some f a = tt
-fits-went kinds commits n m decided (Releasing e) did some f a = f
-fits-went kinds commits n m decided Looking did some f a = absurd a
-fits-went kinds commits n m decided (Loading at) did some f a = absurd a
-fits-went kinds commits n m decided (Testing at) did some f a = absurd a
-fits-went kinds commits n m decided Checking did some f a = absurd a
-fits-went kinds commits n m decided (Ended e) did some f a = absurd a
+pub fits-went : (ways : Ways) (commits : Bool) (n m : ℕ) (decided : Bool) (s : Step) (did : Bool) → (commits ≡ true → 0 < n) → Fits n m s → IsAnswer (call_at s) (reply.Went did) → Fits n m (went_at ways commits n m decided s did)
+fits-went ways commits n m decided Seizing true some f a = tt
+fits-went ways commits n m decided Seizing false some f a = tt
+fits-went ways commits n m decided (Undoing at end locks th) did some f a = fits-undoing n m (at + 1) end locks th f.1 f.2 f.3
+fits-went ways commits n m decided (Placing at th) did some f a = fits-placing ways n m (at + 1) th f.1
+fits-went ways commits n m decided (Removing at th) did some f a = f
+fits-went ways commits n m decided (Discarding at th) did some f a = fits-placing ways n m (at + 1) th f.1
+fits-went ways commits n m decided (Unlocking at end th) did some f a = fits-unlocking n m (at + 1) end th f.1 f.2
+fits-went ways commits n m decided (Erasing th) did some f a = fits-closed n m decided th f
+fits-went ways commits n m decided (Clearing x) did some f a = of-if (Fits n m) commits Preparing _ some (λ e. tt)
+fits-went ways commits n m decided Preparing did some f a = f
+fits-went ways commits n m decided Publishing true some f a = of-locking (Fits n m) 0 n (λ l. l) f
+fits-went ways commits n m decided Publishing false some f a = tt
+fits-went ways commits n m decided (Locking at) true some f a = of-locking (Fits n m) (at + 1) n (λ l. l) (omega (arith, f))
+fits-went ways commits n m decided (Locking at) false some f a = fits-unlocking n m 0 at (Answer (end.Busy at)) (omega (arith, f)) f
+fits-went ways commits n m decided (Staging at) did some f a = fits-staging n m (at + 1)
+fits-went ways commits n m decided Deciding did some f a = tt
+fits-went ways commits n m decided Committing true some f a = fits-placing ways n m 0 (Answer end.Done) tt
+fits-went ways commits n m decided Committing false some f a = tt
+fits-went ways commits n m decided (Releasing e) did some f a = f
+fits-went ways commits n m decided Looking did some f a = absurd a
+fits-went ways commits n m decided (Loading at) did some f a = absurd a
+fits-went ways commits n m decided (Testing at) did some f a = absurd a
+fits-went ways commits n m decided Checking did some f a = absurd a
+fits-went ways commits n m decided (Ended e) did some f a = absurd a
 
 pub fits-fault : (n m : ℕ) (s : Step) → Fits n m (faulted_at s)
 fits-fault n m Committing = tt
@@ -132,12 +132,12 @@ under-testing : (k at : ℕ) (th : Then) → (then_rank th + 5) * 51 + (3 * (16 
 under-testing k at GoOn u e = u
 under-testing k at (Answer a) u e = absurd (cc)
 
-pub under-placing : (kinds : Kinds) (k at end : ℕ) (th : Then) → (then_rank th + 5) * 51 + (3 * (16 - at) + 2) < k → Under k (placing_at kinds at end th)
-under-placing kinds k at end th u = of-placing (Under k) kinds at end th (λ a. record { places = u; tests = under-testing k at th u; removes = omega (arith, u) }) (λ a. omega (arith, u)) (omega (arith, u))
+pub under-placing : (ways : Ways) (k at end : ℕ) (th : Then) → (then_rank th + 5) * 51 + (3 * (16 - at) + 2) < k → Under k (placing_at ways at end th)
+under-placing ways k at end th u = of-placing (Under k) ways at end th (λ a. record { places = u; tests = under-testing k at th u; removes = omega (arith, u) }) (λ a. omega (arith, u)) (omega (arith, u))
 
-pub under-tested : (kinds : Kinds) (m at : ℕ) (stands : Bool) → at < m → m ≤ 16 → Under (weight (Testing at)) (tested_at kinds m at stands)
-under-tested kinds m at true l few = omega arith
-under-tested kinds m at false l few = under-placing kinds (weight (Testing at)) (at + 1) m GoOn (omega (arith, l, few))
+pub under-tested : (ways : Ways) (m at : ℕ) (stands : Bool) → at < m → m ≤ 16 → Under (weight (Testing at)) (tested_at ways m at stands)
+under-tested ways m at true l few = omega arith
+under-tested ways m at false l few = under-placing ways (weight (Testing at)) (at + 1) m GoOn (omega (arith, l, few))
 
 pub under-staging : (k at n : ℕ) → 8 * 51 + (16 - at) < k → Under k (staging_at at n)
 under-staging k at n u = of-staging (Under k) at n (λ a. u) (omega (arith, u))
@@ -153,35 +153,35 @@ lighter-closed : (decided : Bool) (th : Then) → Under (weight (Erasing th)) (c
 lighter-closed decided GoOn = omega arith
 lighter-closed decided (Answer e) = omega arith
 
-pub lighter-went : (kinds : Kinds) (commits : Bool) (n m : ℕ) (decided : Bool) (s : Step) (did : Bool) → n ≤ 16 → m ≤ 16 → Fits n m s → IsAnswer (call_at s) (reply.Went did) → weight (went_at kinds commits n m decided s did) < weight s
-lighter-went kinds commits n m decided Seizing true fn fm f a = omega arith
-lighter-went kinds commits n m decided Seizing false fn fm f a = omega arith
-lighter-went kinds commits n m decided (Undoing at end locks th) did fn fm f a =
+pub lighter-went : (ways : Ways) (commits : Bool) (n m : ℕ) (decided : Bool) (s : Step) (did : Bool) → n ≤ 16 → m ≤ 16 → Fits n m s → IsAnswer (call_at s) (reply.Went did) → weight (went_at ways commits n m decided s did) < weight s
+lighter-went ways commits n m decided Seizing true fn fm f a = omega arith
+lighter-went ways commits n m decided Seizing false fn fm f a = omega arith
+lighter-went ways commits n m decided (Undoing at end locks th) did fn fm f a =
     let few = count-few n m th fn fm in let lt = f.0 in let le = f.1 in under-undoing (weight (Undoing at end locks th)) (at + 1) end locks th (omega (arith, few, le)) (omega (arith, few, le, lt))
-lighter-went kinds commits n m decided (Placing at th) did fn fm f a =
-    let few = count-few n m th fn fm in let lt = f.0 in under-placing kinds (weight (Placing at th)) (at + 1) (count_at n m th) th (omega (arith, few, lt))
-lighter-went kinds commits n m decided (Removing at th) did fn fm f a = omega arith
-lighter-went kinds commits n m decided (Discarding at th) did fn fm f a =
-    let few = count-few n m th fn fm in let lt = f.0 in under-placing kinds (weight (Discarding at th)) (at + 1) (count_at n m th) th (omega (arith, few, lt))
-lighter-went kinds commits n m decided (Unlocking at end th) did fn fm f a =
+lighter-went ways commits n m decided (Placing at th) did fn fm f a =
+    let few = count-few n m th fn fm in let lt = f.0 in under-placing ways (weight (Placing at th)) (at + 1) (count_at n m th) th (omega (arith, few, lt))
+lighter-went ways commits n m decided (Removing at th) did fn fm f a = omega arith
+lighter-went ways commits n m decided (Discarding at th) did fn fm f a =
+    let few = count-few n m th fn fm in let lt = f.0 in under-placing ways (weight (Discarding at th)) (at + 1) (count_at n m th) th (omega (arith, few, lt))
+lighter-went ways commits n m decided (Unlocking at end th) did fn fm f a =
     let few = count-few n m th fn fm in let lt = f.0 in let le = f.1 in under-unlocking (weight (Unlocking at end th)) (at + 1) end th (omega (arith, few, le)) (omega (arith, few, le, lt))
-lighter-went kinds commits n m decided (Erasing th) did fn fm f a = lighter-closed decided th
-lighter-went kinds commits n m decided (Clearing x) did fn fm f a = of-if (Under (weight (Clearing x))) commits Preparing _ (λ e. omega arith) (λ e. omega arith)
-lighter-went kinds commits n m decided Preparing did fn fm f a = omega arith
-lighter-went kinds commits n m decided Publishing true fn fm f a = under-locking (weight Publishing) 0 n (omega arith)
-lighter-went kinds commits n m decided Publishing false fn fm f a = omega arith
-lighter-went kinds commits n m decided (Locking at) true fn fm f a = under-locking (weight (Locking at)) (at + 1) n (omega (arith, f, fn))
-lighter-went kinds commits n m decided (Locking at) false fn fm f a = under-unlocking (weight (Locking at)) 0 at (Answer (end.Busy at)) (omega (arith, f, fn)) (omega (arith, f, fn))
-lighter-went kinds commits n m decided (Staging at) did fn fm f a = under-staging (weight (Staging at)) (at + 1) n (omega (arith, f, fn))
-lighter-went kinds commits n m decided Deciding did fn fm f a = omega arith
-lighter-went kinds commits n m decided Committing true fn fm f a = under-placing kinds (weight Committing) 0 n (Answer end.Done) (omega arith)
-lighter-went kinds commits n m decided Committing false fn fm f a = omega arith
-lighter-went kinds commits n m decided (Releasing e) did fn fm f a = omega arith
-lighter-went kinds commits n m decided Looking did fn fm f a = absurd a
-lighter-went kinds commits n m decided (Loading at) did fn fm f a = absurd a
-lighter-went kinds commits n m decided (Testing at) did fn fm f a = absurd a
-lighter-went kinds commits n m decided Checking did fn fm f a = absurd a
-lighter-went kinds commits n m decided (Ended e) did fn fm f a = absurd a
+lighter-went ways commits n m decided (Erasing th) did fn fm f a = lighter-closed decided th
+lighter-went ways commits n m decided (Clearing x) did fn fm f a = of-if (Under (weight (Clearing x))) commits Preparing _ (λ e. omega arith) (λ e. omega arith)
+lighter-went ways commits n m decided Preparing did fn fm f a = omega arith
+lighter-went ways commits n m decided Publishing true fn fm f a = under-locking (weight Publishing) 0 n (omega arith)
+lighter-went ways commits n m decided Publishing false fn fm f a = omega arith
+lighter-went ways commits n m decided (Locking at) true fn fm f a = under-locking (weight (Locking at)) (at + 1) n (omega (arith, f, fn))
+lighter-went ways commits n m decided (Locking at) false fn fm f a = under-unlocking (weight (Locking at)) 0 at (Answer (end.Busy at)) (omega (arith, f, fn)) (omega (arith, f, fn))
+lighter-went ways commits n m decided (Staging at) did fn fm f a = under-staging (weight (Staging at)) (at + 1) n (omega (arith, f, fn))
+lighter-went ways commits n m decided Deciding did fn fm f a = omega arith
+lighter-went ways commits n m decided Committing true fn fm f a = under-placing ways (weight Committing) 0 n (Answer end.Done) (omega arith)
+lighter-went ways commits n m decided Committing false fn fm f a = omega arith
+lighter-went ways commits n m decided (Releasing e) did fn fm f a = omega arith
+lighter-went ways commits n m decided Looking did fn fm f a = absurd a
+lighter-went ways commits n m decided (Loading at) did fn fm f a = absurd a
+lighter-went ways commits n m decided (Testing at) did fn fm f a = absurd a
+lighter-went ways commits n m decided Checking did fn fm f a = absurd a
+lighter-went ways commits n m decided (Ended e) did fn fm f a = absurd a
 
 pub lighter-fault : (s : Step) → IsAnswer (call_at s) reply.Fault → weight (faulted_at s) < weight s
 lighter-fault Committing a = omega arith
@@ -235,24 +235,24 @@ kept-testing : (at : ℕ) (th : Then) → th ≡ GoOn → Kept th (Testing at)
 kept-testing at GoOn e = refl
 kept-testing at (Answer a) e = absurd (cc)
 
-kept-placing : (kinds : Kinds) (at end : ℕ) (th : Then) → is_settled (placing_at kinds at end th) ≡ false → settled_then th ≡ false
-kept-placing kinds at end th e = sym (of-placing (Kept th) kinds at end th (λ x. record { places = refl; tests = kept-testing at th; removes = refl }) (λ x. refl) refl) ∙ e
+kept-placing : (ways : Ways) (at end : ℕ) (th : Then) → is_settled (placing_at ways at end th) ≡ false → settled_then th ≡ false
+kept-placing ways at end th e = sym (of-placing (Kept th) ways at end th (λ x. record { places = refl; tests = kept-testing at th; removes = refl }) (λ x. refl) refl) ∙ e
 
 kept-closed : (decided : Bool) (th : Then) → Kept th (closed_at decided th)
 kept-closed decided GoOn = refl
 kept-closed decided (Answer e) = refl
 
-pub settled-went : (kinds : Kinds) (commits : Bool) (n m : ℕ) (decided : Bool) (s : Step) (did : Bool) → IsAnswer (call_at s) (reply.Went did) → is_settled (went_at kinds commits n m decided s did) ≡ false → is_settled s ≡ false
-settled-went kinds commits n m decided (Undoing at end locks th) did a e = sym (of-undoing (Kept th) (at + 1) end locks th (λ x. refl) (λ x. refl) refl) ∙ e
-settled-went kinds commits n m decided (Placing at th) did a e = kept-placing kinds (at + 1) (count_at n m th) th e
-settled-went kinds commits n m decided (Removing at th) did a e = e
-settled-went kinds commits n m decided (Discarding at th) did a e = kept-placing kinds (at + 1) (count_at n m th) th e
-settled-went kinds commits n m decided (Unlocking at end th) did a e = sym (of-unlocking (Kept th) (at + 1) end th (λ x. refl) refl) ∙ e
-settled-went kinds commits n m decided (Erasing th) did a e = sym (kept-closed decided th) ∙ e
-settled-went kinds commits n m decided (Releasing x) did a e = e
-settled-went kinds commits n m decided Checking did a e = absurd a
-settled-went kinds commits n m decided (Ended x) did a e = absurd a
-settled-went kinds commits n m decided s did a e = refl
+pub settled-went : (ways : Ways) (commits : Bool) (n m : ℕ) (decided : Bool) (s : Step) (did : Bool) → IsAnswer (call_at s) (reply.Went did) → is_settled (went_at ways commits n m decided s did) ≡ false → is_settled s ≡ false
+settled-went ways commits n m decided (Undoing at end locks th) did a e = sym (of-undoing (Kept th) (at + 1) end locks th (λ x. refl) (λ x. refl) refl) ∙ e
+settled-went ways commits n m decided (Placing at th) did a e = kept-placing ways (at + 1) (count_at n m th) th e
+settled-went ways commits n m decided (Removing at th) did a e = e
+settled-went ways commits n m decided (Discarding at th) did a e = kept-placing ways (at + 1) (count_at n m th) th e
+settled-went ways commits n m decided (Unlocking at end th) did a e = sym (of-unlocking (Kept th) (at + 1) end th (λ x. refl) refl) ∙ e
+settled-went ways commits n m decided (Erasing th) did a e = sym (kept-closed decided th) ∙ e
+settled-went ways commits n m decided (Releasing x) did a e = e
+settled-went ways commits n m decided Checking did a e = absurd a
+settled-went ways commits n m decided (Ended x) did a e = absurd a
+settled-went ways commits n m decided s did a e = refl
 
 pub settled-fault : (s : Step) → is_settled (faulted_at s) ≡ true
 settled-fault Committing = refl
@@ -279,42 +279,42 @@ module _ (before after : ℕ) where
   pub caused-undoing : (at end locks : ℕ) (th : Then) → ThenCaused before after th → Caused before after (undoing_at at end locks th)
   caused-undoing at end locks th c = of-undoing (Caused before after) at end locks th (λ x. c) (λ x. c) c
 
-  pub caused-placing : (kinds : Kinds) (at end : ℕ) (th : Then) → ThenCaused before after th → Caused before after (placing_at kinds at end th)
-  caused-placing kinds at end th c = of-placing (Caused before after) kinds at end th (λ x. record { places = c; tests = λ e. tt; removes = c }) (λ x. c) c
+  pub caused-placing : (ways : Ways) (at end : ℕ) (th : Then) → ThenCaused before after th → Caused before after (placing_at ways at end th)
+  caused-placing ways at end th c = of-placing (Caused before after) ways at end th (λ x. record { places = c; tests = λ e. tt; removes = c }) (λ x. c) c
 
-  pub caused-tested : (kinds : Kinds) (m at : ℕ) (stands : Bool) → Caused before after (tested_at kinds m at stands)
-  caused-tested kinds m at true = tt
-  caused-tested kinds m at false = caused-placing kinds (at + 1) m GoOn tt
+  pub caused-tested : (ways : Ways) (m at : ℕ) (stands : Bool) → Caused before after (tested_at ways m at stands)
+  caused-tested ways m at true = tt
+  caused-tested ways m at false = caused-placing ways (at + 1) m GoOn tt
 
   caused-closed : (decided : Bool) (th : Then) → ThenCaused before after th → Caused before after (closed_at decided th)
   caused-closed decided GoOn c = tt
   caused-closed decided (Answer e) c = c
 
-  pub caused-went : (kinds : Kinds) (commits : Bool) (n m : ℕ) (decided : Bool) (s : Step) (did : Bool) → IsAnswer (call_at s) (reply.Went did) → Caused before after s → Caused before after (went_at kinds commits n m decided s did)
-  caused-went kinds commits n m decided Seizing true a c = tt
-  caused-went kinds commits n m decided Seizing false a c = tt
-  caused-went kinds commits n m decided (Undoing at end locks th) did a c = caused-undoing (at + 1) end locks th c
-  caused-went kinds commits n m decided (Placing at th) did a c = caused-placing kinds (at + 1) (count_at n m th) th c
-  caused-went kinds commits n m decided (Removing at th) did a c = c
-  caused-went kinds commits n m decided (Discarding at th) did a c = caused-placing kinds (at + 1) (count_at n m th) th c
-  caused-went kinds commits n m decided (Unlocking at end th) did a c = caused-unlocking (at + 1) end th c
-  caused-went kinds commits n m decided (Erasing th) did a c = caused-closed decided th c
-  caused-went kinds commits n m decided (Clearing x) did a c = of-if (Caused before after) commits Preparing _ (λ e. tt) (λ e. tt)
-  caused-went kinds commits n m decided Preparing did a c = tt
-  caused-went kinds commits n m decided Publishing true a c = of-locking (Caused before after) 0 n (λ l. tt) tt
-  caused-went kinds commits n m decided Publishing false a c = tt
-  caused-went kinds commits n m decided (Locking at) true a c = of-locking (Caused before after) (at + 1) n (λ l. tt) tt
-  caused-went kinds commits n m decided (Locking at) false a c = caused-unlocking 0 at (Answer (end.Busy at)) tt
-  caused-went kinds commits n m decided (Staging at) did a c = of-staging (Caused before after) (at + 1) n (λ l. tt) tt
-  caused-went kinds commits n m decided Deciding did a c = tt
-  caused-went kinds commits n m decided Committing true a c = caused-placing kinds 0 n (Answer end.Done) tt
-  caused-went kinds commits n m decided Committing false a c = tt
-  caused-went kinds commits n m decided (Releasing e) did a c = c
-  caused-went kinds commits n m decided Looking did a c = absurd a
-  caused-went kinds commits n m decided (Loading at) did a c = absurd a
-  caused-went kinds commits n m decided (Testing at) did a c = absurd a
-  caused-went kinds commits n m decided Checking did a c = absurd a
-  caused-went kinds commits n m decided (Ended e) did a c = absurd a
+  pub caused-went : (ways : Ways) (commits : Bool) (n m : ℕ) (decided : Bool) (s : Step) (did : Bool) → IsAnswer (call_at s) (reply.Went did) → Caused before after s → Caused before after (went_at ways commits n m decided s did)
+  caused-went ways commits n m decided Seizing true a c = tt
+  caused-went ways commits n m decided Seizing false a c = tt
+  caused-went ways commits n m decided (Undoing at end locks th) did a c = caused-undoing (at + 1) end locks th c
+  caused-went ways commits n m decided (Placing at th) did a c = caused-placing ways (at + 1) (count_at n m th) th c
+  caused-went ways commits n m decided (Removing at th) did a c = c
+  caused-went ways commits n m decided (Discarding at th) did a c = caused-placing ways (at + 1) (count_at n m th) th c
+  caused-went ways commits n m decided (Unlocking at end th) did a c = caused-unlocking (at + 1) end th c
+  caused-went ways commits n m decided (Erasing th) did a c = caused-closed decided th c
+  caused-went ways commits n m decided (Clearing x) did a c = of-if (Caused before after) commits Preparing _ (λ e. tt) (λ e. tt)
+  caused-went ways commits n m decided Preparing did a c = tt
+  caused-went ways commits n m decided Publishing true a c = of-locking (Caused before after) 0 n (λ l. tt) tt
+  caused-went ways commits n m decided Publishing false a c = tt
+  caused-went ways commits n m decided (Locking at) true a c = of-locking (Caused before after) (at + 1) n (λ l. tt) tt
+  caused-went ways commits n m decided (Locking at) false a c = caused-unlocking 0 at (Answer (end.Busy at)) tt
+  caused-went ways commits n m decided (Staging at) did a c = of-staging (Caused before after) (at + 1) n (λ l. tt) tt
+  caused-went ways commits n m decided Deciding did a c = tt
+  caused-went ways commits n m decided Committing true a c = caused-placing ways 0 n (Answer end.Done) tt
+  caused-went ways commits n m decided Committing false a c = tt
+  caused-went ways commits n m decided (Releasing e) did a c = c
+  caused-went ways commits n m decided Looking did a c = absurd a
+  caused-went ways commits n m decided (Loading at) did a c = absurd a
+  caused-went ways commits n m decided (Testing at) did a c = absurd a
+  caused-went ways commits n m decided Checking did a c = absurd a
+  caused-went ways commits n m decided (Ended e) did a c = absurd a
 
   pub caused-fault : (s : Step) → Rose before after → Caused before after (faulted_at s)
   caused-fault Committing r = r

@@ -1,6 +1,6 @@
 pub mod CallLemmas
 pub mod StateLemmas
-pub mod KindLemmas
+pub mod WayLemmas
 pub mod NextLemmas
 pub mod FitLemmas
 pub mod AnswerLemmas

@@ -4,6 +4,7 @@ use Rattle.std.specs.Option.{option_map}
 use Rattle.folder_change.specs.Outcomes.{bytes_of}
 use Rattle.commit_record.specs.declared.record.Entry.{Entry}
 use Rattle.commit_record.specs.declared.record.Record.{Record}
+use Rattle.commit_record.specs.declared.way.Way.{Way}
 use Rattle.commit_machine.specs.Names.{record_name, new_name, staged_name}
 use Rattle.commit_machine.specs.Records.{names_of}
 use Rattle.commit_machine.specs.Jobs.{Ending, Edit, Job, Made, edits_of, all_of}
@@ -18,8 +19,9 @@ use Rattle.commit_driver.specs.declared.step.Step.TheVariants.{Seizing, Looking,
 use Rattle.commit_driver.specs.declared.place.Plan.{Plan}
 use Rattle.commit_driver.specs.declared.place.Place.{Place}
 use Rattle.commit_driver.specs.Steps.{call_at, count_at, staged_at, file_at, Fits}
-use Rattle.commit_driver.specs.Places.{nth, name_in, content_at, call_in, files_of, entries_of, made_from, own_record, record_as, names_as, state_as, IsMade, Holds, IsPlan, IsPlace, NextOf}
+use Rattle.commit_driver.specs.Places.{nth, name_in, content_at, call_in, files_of, entries_of, made_from, own_record, record_as, names_as, items_as, nth_item, item_seen, state_as, IsMade, Holds, IsPlan, IsPlace, NextOf}
 use Rattle.commit_driver.proofs.StateLemmas.{drop-some, nth-drop, nth-map, length-map, unlocking-view, undoing-view}
+use Rattle.commit_driver.proofs.WayLemmas.{name-found, name-made}
 
 pub nth-of : (f : List ℕ → List ℕ) (xs : List (List ℕ)) (at : ℕ) → at < length xs → nth (map f xs) at ≡ f (nth xs at)
 nth-of f xs at l = let w = drop-some xs at l in nth-map f xs at w.0 (drop (at + 1) xs) w.1 ∙ ap f (sym (nth-drop xs at w.0 (drop (at + 1) xs) w.1))
@@ -42,15 +44,15 @@ files-long j plan p = sym (names-long plan.value) ∙ ap length p.names_are
 pub edits-long : (j : Job) (plan : Plan) → IsPlan j plan → files_of plan ≡ length (edits_of j)
 edits-long j plan p = files-long j plan p ∙ length-map (λ (e : Edit). e.name) (edits_of j)
 
-pub made-long : (j : Job) (plan : Plan) (made : List Made) (files : List (Option (List ℕ))) (go : List ℕ) → IsPlan j plan → IsMade j made files go → files_of plan ≡ length made
-made-long j plan made files go p m = files-long j plan p ∙ ap length (sym m.names_are) ∙ length-map (λ (x : Made). x.edit.name) made
+pub made-long : (j : Job) (plan : Plan) (made : List Made) (files : List (Option (List ℕ))) (ways : List Way) (go : List ℕ) → IsPlan j plan → IsMade j made files ways go → files_of plan ≡ length made
+made-long j plan made files ways go p m = files-long j plan p ∙ ap length (sym m.names_are) ∙ length-map (λ (x : Made). x.edit.name) made
 
 module _ (j : Job) (plan : Plan) (place : Place) (hidden : Ending) (made : List Made) (p : IsPlan j plan) (q : IsPlace plan place) where
   abbrev found : Record
   found = place.found
 
   abbrev at_state : Step → State
-  at_state s = state_as j hidden made found place.files s
+  at_state s = state_as j hidden made found place.seen place.files s
 
   abbrev Same : Step → Type 0
   Same s = option_map (call_in plan place) (call_at s) ≡ next j (at_state s)
@@ -68,32 +70,42 @@ module _ (j : Job) (plan : Plan) (place : Place) (hidden : Ending) (made : List 
   file-is GoOn at = refl
   file-is (Answer e) at = ap (λ (ns : List (List ℕ)). nth ns at) p.names_are
 
+  -- the name of what is put in place
+  item-name : (th : Then) (at : ℕ) → (nth_item (items_as j made found th) at).name ≡ nth (names_as j found th) at
+  item-name GoOn at = name-found found.entries at
+  item-name (Answer e) at = name-made made (all_of j) at
+
+  seen-name : (th : Then) (at : ℕ) → (item_seen th place.seen (nth_item (items_as j made found th) at)).name ≡ nth (names_as j found th) at
+  seen-name GoOn at = item-name GoOn at
+  seen-name (Answer e) at = item-name (Answer e) at
+
   own-file : (at : ℕ) → nth (names_of plan.value) at ≡ nth (all_of j) at
   own-file at = ap (λ (ns : List (List ℕ)). nth ns at) p.names_are
 
   next-undoing : (at end locks : ℕ) (th : Then) → at < end → end ≤ length (names_as j found th) → Same (Undoing at end locks th)
-  next-undoing at end locks th l m = ap (λ (n : List ℕ). Some (machine.ToErase n)) (staged-is th at (omega (arith, l, m))) ∙ sym (ap (next j) (undoing-view j hidden made found place.files at end locks th l m))
+  next-undoing at end locks th l m = ap (λ (n : List ℕ). Some (machine.ToErase n)) (staged-is th at (omega (arith, l, m))) ∙ sym (ap (next j) (undoing-view j hidden made found place.seen place.files at end locks th l m))
 
   next-placing : (at : ℕ) (th : Then) → at < length (names_as j found th) → Same (Placing at th)
   next-placing at th l =
       ap (λ (n : List ℕ). Some (machine.ToPublish n (name_in plan place (file_at th at)))) (staged-is th at l)
       ∙ ap (λ (n : List ℕ). Some (machine.ToPublish (staged_name (record_as j made found th).token (nth (names_as j found th) at)) n)) (file-is th at)
+      ∙ sym (ap (λ (n : List ℕ). Some (machine.ToPublish (staged_name (record_as j made found th).token n) n)) (item-name th at))
 
   next-testing : (at : ℕ) → at < length (names_of found) → Same (Testing at)
-  next-testing at l = ap (λ (n : List ℕ). Some (machine.ToLoad n)) (staged-is GoOn at l)
+  next-testing at l = ap (λ (n : List ℕ). Some (machine.ToLoad n)) (staged-is GoOn at l) ∙ sym (ap (λ (n : List ℕ). Some (machine.ToLoad (staged_name found.token n))) (item-name GoOn at))
 
   next-removing : (at : ℕ) (th : Then) → Same (Removing at th)
-  next-removing at th = ap (λ (n : List ℕ). Some (machine.ToErase n)) (file-is th at)
+  next-removing at th = ap (λ (n : List ℕ). Some (machine.ToErase n)) (file-is th at ∙ sym (seen-name th at))
 
   next-discarding : (at : ℕ) (th : Then) → at < length (names_as j found th) → Same (Discarding at th)
-  next-discarding at th l = ap (λ (n : List ℕ). Some (machine.ToErase n)) (staged-is th at l)
+  next-discarding at th l = ap (λ (n : List ℕ). Some (machine.ToErase n)) (staged-is th at l ∙ sym (ap (staged_name (record_as j made found th).token) (seen-name th at)))
 
   next-unlocking : (at end : ℕ) (th : Then) → at < end → end ≤ length (names_as j found th) → Same (Unlocking at end th)
-  next-unlocking at end GoOn l m = sym (ap (next j) (unlocking-view j hidden made found place.files at end GoOn l m))
+  next-unlocking at end GoOn l m = sym (ap (next j) (unlocking-view j hidden made found place.seen place.files at end GoOn l m))
   next-unlocking at end (Answer e) l m =
       ap (λ (n : List ℕ). Some (machine.ToUnlock n plan.value.token)) (own-file at)
       ∙ ap (λ (t : ℕ). Some (machine.ToUnlock (nth (all_of j) at) t)) (p.token_is (omega (arith, l, m, files-long j plan p)) ∙ sym (own-token j made e))
-      ∙ sym (ap (next j) (unlocking-view j hidden made found place.files at end (Answer e) l m))
+      ∙ sym (ap (next j) (unlocking-view j hidden made found place.seen place.files at end (Answer e) l m))
 
   next-locking : (at : ℕ) → at < files_of plan → Same (Locking at)
   next-locking at l =
@@ -108,9 +120,9 @@ module _ (j : Job) (plan : Plan) (place : Place) (hidden : Ending) (made : List 
       ap (λ (n : List ℕ). Some (machine.ToLoad n)) (own-file at ∙ nth-map (λ (e : Edit). e.name) (edits_of j) at w.0 (drop (at + 1) (edits_of j)) w.1)
       ∙ sym (ap (λ (es : List Edit). next j (loading j (made_from (edits_of j) (take at place.files)) es)) w.1)
 
-  next-staging : (at : ℕ) → at < files_of plan → IsMade j made place.files place.go → Same (Staging at)
+  next-staging : (at : ℕ) → at < files_of plan → IsMade j made place.files place.ways place.go → Same (Staging at)
   next-staging at l m =
-      let w = drop-some made at (omega (arith, l, made-long j plan made place.files place.go p m)) in
+      let w = drop-some made at (omega (arith, l, made-long j plan made place.files place.ways place.go p m)) in
       let name : nth plan.staged at ≡ staged_name j.token w.0.edit.name =
       ap (λ (ns : List (List ℕ)). nth ns at) p.staged_are
       ∙ nth-of (staged_name j.token) (all_of j) at (omega (arith, l, files-long j plan p))
@@ -129,7 +141,7 @@ module _ (j : Job) (plan : Plan) (place : Place) (hidden : Ending) (made : List 
   to-stage : (a b : List ℕ) → a ≡ b → Some (machine.ToStage plan.new a) ≡ Some (machine.ToStage (new_name j.actor) b)
   to-stage a b e = ap (λ (n : List ℕ). Some (machine.ToStage n a)) p.new_is ∙ ap (λ (c : List ℕ). Some (machine.ToStage (new_name j.actor) c)) e
 
-  next-same : (s : Step) → Fits (files_of plan) (entries_of place) s → Holds j made place.files place.go s → Same s
+  next-same : (s : Step) → Fits (files_of plan) (entries_of place) s → Holds j made place.files place.ways place.go s → Same s
   next-same Seizing f h = ap (λ (n : List ℕ). Some (machine.ToSeize n)) p.right_is
   next-same Looking f h = ap (λ (n : List ℕ). Some (machine.ToLoad n)) p.record_is
   next-same (Undoing at end locks th) f h = next-undoing at end locks th f.0 (omega (arith, f.1, names-count th))

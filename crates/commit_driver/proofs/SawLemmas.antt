@@ -19,13 +19,14 @@ use Rattle.commit_machine.specs.Refusals.{ChangeRefusal, ChangedAt, TooLong, fir
 use Rattle.folder_change.proofs.ApplyLemmas.{apply-alone}
 use Rattle.commit_record.specs.Format.{IsWritten, written}
 use Rattle.commit_record.specs.declared.record.Phase.TheVariants.{Go}
-use Rattle.commit_record.specs.declared.record.EntryKind.{EntryKind}
-use Rattle.commit_record.specs.declared.record.EntryKind.TheVariants.{Replace, Remove}
 use Rattle.commit_record.specs.declared.record.Entry.{Entry}
 use Rattle.commit_record.specs.declared.record.Record.{Record}
-use Rattle.commit_machine.specs.Records.{is_go, names_of, kind_of, record_of, has, AreDistinct}
+use Rattle.commit_record.specs.declared.way.Way.{Way}
+use Rattle.commit_record.specs.declared.way.Way.TheVariants.{Replace, Remove}
+use Rattle.commit_machine.specs.Records.{is_go, names_of, record_of, has, AreDistinct}
+use Rattle.commit_machine.specs.Items.{Item, found_items}
 use Rattle.commit_machine.specs.Settled.{Files, Mem}
-use Rattle.commit_machine.specs.Jobs.{Ending, NoMemory, Refused, Edit, Job, Made, edits_of, all_of, go_of, made_at, kind_made, entries_for, seen_files}
+use Rattle.commit_machine.specs.Jobs.{Ending, NoMemory, Refused, Edit, Job, Made, edits_of, all_of, go_of, made_at, way_made, entries_for, seen_files}
 use Rattle.commit_machine.specs.Jobs as jobs
 use Rattle.commit_machine.specs.Edits.{first_names, edit_for, edits_for, outcome_for, cause_of}
 use Rattle.commit_machine.specs.Machine.{State, GoOn, loading, staging, unlocking, undoing, placing, place_one, tested, refusing, judged, mending, record_seen, looked, saw, refused, none_stands, passed_by, go_front}
@@ -46,10 +47,10 @@ use Rattle.commit_driver.specs.declared.place.Plan.{Plan}
 use Rattle.commit_driver.specs.declared.place.Place.{Place}
 use Rattle.commit_driver.specs.Steps.{unlocking_at, tested_at}
 use Rattle.commit_driver.specs.Judging.{JudgesSo}
-use Rattle.commit_driver.specs.Places.{nth, files_of, entries_of, file_kind, kinds_in, kinds_of, decided_entries, decided_record, outcome_kind, passed_as, made_by, made_from, outcome_content, state_as, end_as, own_record, MayHide, WantedAs, IsMade, Holds, IsPlan, IsPlace, StandsFor}
+use Rattle.commit_driver.specs.Places.{nth, files_of, entries_of, file_way, ways_in, ways_of, nth_item, decided_entries, decided_record, outcome_way, passed_as, made_by, made_from, outcome_content, state_as, end_as, own_record, MayHide, WantedAs, IsMade, Holds, IsPlan, IsPlace, StandsFor}
 use Rattle.commit_driver.specs.Answers.{mending_at, judged_at, Finds, PassedSo, at_step, LooksAt, Looks, TakesAll, Takes, IsCommitOf, Follows}
 use Rattle.commit_driver.proofs.StateLemmas.{drop-some, length-map, none-left, loaded-by, made-more, placing-is, undoing-is, unlocking-all, staging-is}
-use Rattle.commit_driver.proofs.KindLemmas.{kind-nth, kinds-by-name, decided-are}
+use Rattle.commit_driver.proofs.WayLemmas.{way-found, ways-by-name, decided-are}
 use Rattle.commit_driver.proofs.NextLemmas.{names-long, files-long, edits-long}
 use Rattle.commit_driver.proofs.FitLemmas.{of-if, of-unlocking, of-staging}
 use Rattle.commit_driver.proofs.AnswerLemmas.{looked-none, holds-placing, holds-undoing, holds-tested, tested-same}
@@ -63,16 +64,16 @@ refused-undoing : (j : Job) (r : Record) (ns ls : List (List ℕ)) → refused j
 refused-undoing j r [] ls = refused-unlocking j r ls
 refused-undoing j r (n ∷ ns) ls = refl
 
-refused-one : (j : Job) (kind : EntryKind) (r : Record) (n : List ℕ) (ns ls : List (List ℕ)) → refused j (place_one kind r n ns ls GoOn) ≡ machine.Releasing NoMemory
-refused-one j Replace r n ns ls = refl
-refused-one j Remove r n ns ls = refl
+refused-one : (j : Job) (way : Way) (r : Record) (x : Item) (xs : List Item) (ls : List (List ℕ)) → refused j (place_one way r x xs ls GoOn) ≡ machine.Releasing NoMemory
+refused-one j Replace r x xs ls = refl
+refused-one j Remove r x xs ls = refl
 
-refused-placing : (j : Job) (r : Record) (ns ls : List (List ℕ)) → refused j (placing r ns ls GoOn) ≡ machine.Releasing NoMemory
+refused-placing : (j : Job) (r : Record) (xs : List Item) (ls : List (List ℕ)) → refused j (placing r xs ls GoOn) ≡ machine.Releasing NoMemory
 refused-placing j r [] ls = refused-unlocking j r ls
-refused-placing j r (n ∷ ns) ls = refused-one j (kind_of r n) r n ns ls
+refused-placing j r (x ∷ xs) ls = refused-one j x.way r x xs ls
 
 refused-mending : (j : Job) (r : Record) → refused j (mending r) ≡ machine.Releasing NoMemory
-refused-mending j r = elim (cases_Bool (is_go r)) [ inl y ↦ rw y (refused-placing j r (names_of r) (names_of r)) | inr nay ↦ rw nay (refused-undoing j r (names_of r) (names_of r)) ]
+refused-mending j r = elim (cases_Bool (is_go r)) [ inl y ↦ rw y (refused-placing j r (found_items r) (names_of r)) | inr nay ↦ rw nay (refused-undoing j r (names_of r) (names_of r)) ]
 
 none-written : (bytes : List ℕ) → ((r : Record) → IsWritten bytes r → ⊥) → record_of bytes ≡ None
 none-written bytes none = go (record_of bytes) refl
@@ -82,21 +83,21 @@ none-written bytes none = go (record_of bytes) refl
     go (Some r) is = absurd (none r (record_of-is bytes r is))
 
 -- a record that was found is closed from its first step on
-mending-is : (j : Job) (hidden : Ending) (made : List Made) (r : Record) (files : List (Option (List ℕ))) → AreDistinct (names_of r) → state_as j hidden made r files (mending_at r) ≡ mending r
-mending-is j hidden made r files distinct = elim (cases_Bool (is_go r)) [
-  | inl y ↦ rw y (placing-is j hidden made r files (kinds_in r.entries []) 0 (length r.entries) then.GoOn (sym (names-long r)) (λ at l. kind-nth r.entries at distinct l))
+mending-is : (j : Job) (hidden : Ending) (made : List Made) (r : Record) (seen : Option (List ℕ)) (files : List (Option (List ℕ))) → state_as j hidden made r seen files (mending_at r) ≡ mending r
+mending-is j hidden made r seen files = elim (cases_Bool (is_go r)) [
+  | inl y ↦ rw y (placing-is j hidden made r seen files (ways_in r.entries []) 0 (length r.entries) then.GoOn (sym (names-long r)) (λ at l. way-found r.entries at))
   | inr nay ↦ rw nay (
       let le : length r.entries ≤ length (names_of r) = omega (arith, names-long r) in
       let all = take_all (length r.entries) (names_of r) (omega (arith, names-long r)) in
-      undoing-is j hidden made r files 0 (length r.entries) (length r.entries) then.GoOn le le ∙ ap (λ (ns : List (List ℕ)). undoing r ns ns GoOn) all)
+      undoing-is j hidden made r seen files 0 (length r.entries) (length r.entries) then.GoOn le le ∙ ap (λ (ns : List (List ℕ)). undoing r ns ns GoOn) all)
 ]
 
-holds-mending : (j : Job) (plan : Plan) (place : Place) (made : List Made) (p : IsPlan j plan) (q : IsPlace plan place) (r : Record) → Holds j made place.files place.go (mending_at r)
+holds-mending : (j : Job) (plan : Plan) (place : Place) (made : List Made) (p : IsPlan j plan) (q : IsPlace plan place) (r : Record) → Holds j made place.files place.ways place.go (mending_at r)
 holds-mending j plan place made p q r =
-    of-if (Holds j made place.files place.go) (is_go r) _ _ (λ e. holds-placing j plan place NoMemory made p q (kinds_in r.entries []) 0 (length r.entries) then.GoOn tt) (λ e. holds-undoing j plan place NoMemory made p q 0 (length r.entries) (length r.entries) then.GoOn)
+    of-if (Holds j made place.files place.ways place.go) (is_go r) _ _ (λ e. holds-placing j plan place NoMemory made p q (ways_in r.entries []) 0 (length r.entries) then.GoOn tt) (λ e. holds-undoing j plan place NoMemory made p q 0 (length r.entries) (length r.entries) then.GoOn)
 
 module _ (j : Job) (plan : Plan) (old : Place) (p : IsPlan j plan) (q : IsPlace plan old) (hidden : Ending) (wanted : WantedAs (all_of j) hidden) (made : List Made) where
-  stands : (w : Ending) (s : Step) → WantedAs (all_of j) w → Holds j made old.files old.go s → StandsFor j (at_step old s) (state_as j w made old.found old.files s)
+  stands : (w : Ending) (s : Step) → WantedAs (all_of j) w → Holds j made old.files old.ways old.go s → StandsFor j (at_step old s) (state_as j w made old.found old.seen old.files s)
   stands w s is holds = record { hidden = w; wanted = is; made = made; holds = holds; is = refl }
 
   follows : (now : Place) (s : State) → StandsFor j now s → Follows j now s
@@ -116,7 +117,7 @@ module _ (j : Job) (plan : Plan) (old : Place) (p : IsPlan j plan) (q : IsPlace 
   look-found bytes (Ok found) now finds is =
       let r = found.value in
       subst (λ (x : Place). Follows j x (looked j (Some bytes))) (sym is)
-      (mending r, inl (sym (ap record_seen (record_of-written bytes r finds.0))), record { hidden = hidden; wanted = wanted; made = made; holds = holds-mending j plan old made p q r; is = mending-is j hidden made r old.files (valid-names r finds.0.valid) })
+      (mending r, inl (sym (ap record_seen (record_of-written bytes r finds.0))), record { hidden = hidden; wanted = wanted; made = made; holds = holds-mending j plan old made p q r; is = mending-is j hidden made r old.seen old.files })
   look-found bytes (Err e) now finds is = subst (λ (x : Place). Follows j x (looked j (Some bytes))) (sym is) (look-end bytes e finds)
 
   pub look-follows : (file : Option (List ℕ)) (now : Place) → Looks plan file old now → Follows j now (looked j file)
@@ -128,7 +129,7 @@ module _ (j : Job) (plan : Plan) (old : Place) (p : IsPlan j plan) (q : IsPlace 
           hidden = hidden;
           wanted = wanted;
           made = made;
-          holds = of-if (Holds j made old.files old.go) plan.commits step.Preparing _ (λ e. sym p.commits_is ∙ e) (λ e. tt);
+          holds = of-if (Holds j made old.files old.ways old.go) plan.commits step.Preparing _ (λ e. sym p.commits_is ∙ e) (λ e. tt);
           is = looked-none j plan old hidden made p q j.edits p.commits_is;
         },
       )
@@ -142,12 +143,13 @@ module _ (j : Job) (plan : Plan) (old : Place) (p : IsPlan j plan) (q : IsPlace 
       choose true = refl
       choose false = refl
 
-  pub test-follows : (at : ℕ) (file : Option (List ℕ)) (now : Place) → at < entries_of old → now ≡ at_step old (tested_at (kinds_of old) (entries_of old) at (is_some file)) → Follows j now (tested old.found (nth (names_of old.found) at) (drop (at + 1) (names_of old.found)) (names_of old.found) file)
+  pub test-follows : (at : ℕ) (file : Option (List ℕ)) (now : Place) → at < entries_of old → now ≡ record old { step = tested_at (ways_of old) (entries_of old) at (is_some file); seen = file }
+      → Follows j now (tested old.found (nth_item (found_items old.found) at) (drop (at + 1) (found_items old.found)) (names_of old.found) file)
   test-follows at file now l is =
-      let s = tested_at (kinds_of old) (entries_of old) at (is_some file) in
-      let w = tested old.found (nth (names_of old.found) at) (drop (at + 1) (names_of old.found)) (names_of old.found) file in
+      let s = tested_at (ways_of old) (entries_of old) at (is_some file) in
+      let w = tested old.found (nth_item (found_items old.found) at) (drop (at + 1) (found_items old.found)) (names_of old.found) file in
       subst (λ (x : Place). Follows j x w) (sym is)
-      (w, inl refl, record { hidden = hidden; wanted = wanted; made = made; holds = holds-tested j plan old hidden made p q (kinds_of old) (entries_of old) at (is_some file); is = tested-same j plan old hidden made p q at file l })
+      (w, inl refl, record { hidden = hidden; wanted = wanted; made = made; holds = holds-tested j plan old hidden made p q (ways_of old) (entries_of old) at (is_some file); is = tested-same j plan old hidden made p q at file l })
 
   pub check-follows : (file : Option (List ℕ)) (now : Place) (x : Passed) → take 47 old.go ≡ go_front j.token → PassedSo old.go file x → now ≡ at_step old (step.Releasing (end.Failed x)) → Follows j now (machine.Releasing (jobs.Failed (passed_by j file)))
   check-follows file now x front so is =
@@ -193,16 +195,16 @@ seen-all (e ∷ es) (f ∷ fs) l d =
     let one : seen_files (x ∷ xs) e.name ≡ f = rw (same_refl e.name) refl in
     ap (λ (gs : List (Option (List ℕ))). f ∷ gs) (seen-all es fs (omega (arith, l)) d.1 ∙ sym (seen-later x xs names d.0)) ∙ ap (λ (g : Option (List ℕ)). g ∷ map (seen_files (x ∷ xs)) names) (sym one)
 
-kind-is : (o : Option (List ℕ)) → outcome_kind (outcome_for o) ≡ file_kind o
-kind-is None = refl
-kind-is (Some b) = refl
+way-is : (o : Option (List ℕ)) → outcome_way (outcome_for o) ≡ file_way o
+way-is None = refl
+way-is (Some b) = refl
 
--- what becomes of files is what the changes make of them
-kinds-are : (changes : List Change) (base : List (List ℕ)) (files : Files) (ns : List (List ℕ)) → map file_kind (map (apply changes base files) ns) ≡ map (λ (x : Made). x.kind) (made_from (map (edit_for changes base) ns) (map files ns))
-kinds-are changes base files [] = refl
-kinds-are changes base files (n ∷ ns) =
-    ap (λ (k : EntryKind). k ∷ map file_kind (map (apply changes base files) ns)) (ap file_kind (apply-alone changes base files (λ m. files n) n refl) ∙ sym (kind-is (apply changes base (λ m. files n) n)))
-    ∙ ap (λ (ks : List EntryKind). outcome_kind (outcome_for (apply changes base (λ m. files n) n)) ∷ ks) (kinds-are changes base files ns)
+-- how files come to be is by what the changes make of them
+ways-are : (changes : List Change) (base : List (List ℕ)) (files : Files) (ns : List (List ℕ)) → map file_way (map (apply changes base files) ns) ≡ map (λ (x : Made). x.way) (made_from (map (edit_for changes base) ns) (map files ns))
+ways-are changes base files [] = refl
+ways-are changes base files (n ∷ ns) =
+    ap (λ (k : Way). k ∷ map file_way (map (apply changes base files) ns)) (ap file_way (apply-alone changes base files (λ m. files n) n refl) ∙ sym (way-is (apply changes base (λ m. files n) n)))
+    ∙ ap (λ (ks : List Way). outcome_way (outcome_for (apply changes base (λ m. files n) n)) ∷ ks) (ways-are changes base files ns)
 
 content-is : (o : Option (List ℕ)) → outcome_content (outcome_for o) ≡ bytes_of o
 content-is None = refl
@@ -282,54 +284,55 @@ module _ (j : Job) (plan : Plan) (old : Place) (p : IsPlan j plan) (q : IsPlace 
         ∙ ap (λ (fs : List (Option (List ℕ))). map (λ (x : Made). x.content) (made_from (map (edit_for cs base) (first_names cs)) fs)) (sym (seen-are ∙ ap (map F) all-are))
         ∙ ap (λ (es : List Edit). map (λ (x : Made). x.content) (made_from es files)) (sym edits-are)
 
-    kinds-made : (now : List (Option (List ℕ))) → now ≡ map (apply cs base F) (all_of j) → map file_kind now ≡ map (λ (x : Made). x.kind) all-made
-    kinds-made now is =
-        ap (map file_kind) (is ∙ ap (map (apply cs base F)) all-are)
-        ∙ kinds-are cs base F (first_names cs)
-        ∙ ap (λ (fs : List (Option (List ℕ))). map (λ (x : Made). x.kind) (made_from (map (edit_for cs base) (first_names cs)) fs)) (sym (seen-are ∙ ap (map F) all-are))
-        ∙ ap (λ (es : List Edit). map (λ (x : Made). x.kind) (made_from es files)) (sym edits-are)
+    ways-made : (now : List (Option (List ℕ))) → now ≡ map (apply cs base F) (all_of j) → map file_way now ≡ map (λ (x : Made). x.way) all-made
+    ways-made now is =
+        ap (map file_way) (is ∙ ap (map (apply cs base F)) all-are)
+        ∙ ways-are cs base F (first_names cs)
+        ∙ ap (λ (fs : List (Option (List ℕ))). map (λ (x : Made). x.way) (made_from (map (edit_for cs base) (first_names cs)) fs)) (sym (seen-are ∙ ap (map F) all-are))
+        ∙ ap (λ (es : List Edit). map (λ (x : Made). x.way) (made_from es files)) (sym edits-are)
 
     -- the record of the decision is that of what was made
-    go-made : (now : List (Option (List ℕ))) → length now ≡ files_of plan → now ≡ map (apply cs base F) (all_of j) → 0 < files_of plan → decided_record plan.value now ≡ go_of j all-made
-    go-made now size is some =
-        let K : List ℕ → EntryKind = λ n. kind_made (made_at all-made n) in
+    go-made : (ways : List Way) → ways ≡ map (λ (x : Made). x.way) all-made → 0 < files_of plan → decided_record plan.value ways ≡ go_of j all-made
+    go-made ways is some =
+        let K : List ℕ → Way = λ n. way_made (made_at all-made n) in
         let distinct : AreDistinct (map (λ (x : Made). x.edit.name) all-made) = subst AreDistinct (sym names-made) (p.texts_are some-edits).distinct in
         let named_so : map K (map (λ (x : Made). x.edit.name) all-made) ≡ map K (names_of plan.value) = ap (map K) (names-made ∙ sym p.names_are) in
-        let kinds : map file_kind now ≡ map K (names_of plan.value) = kinds-made now is ∙ kinds-by-name all-made distinct ∙ named_so in
-        let entries : decided_entries plan.value.entries now ≡ entries_for K (all_of j) = decided-are K plan.value.entries now size kinds ∙ ap (entries_for K) p.names_are in
-        ap (λ (t : ℕ). (let r : Record = record { phase = Go; token = t; entries = decided_entries plan.value.entries now } in r)) (p.token_is some)
+        let by_name : ways ≡ map K (names_of plan.value) = is ∙ ways-by-name all-made distinct ∙ named_so in
+        let entries : decided_entries plan.value.entries ways ≡ entries_for K (all_of j) = decided-are K plan.value.entries ways by_name ∙ ap (entries_for K) p.names_are in
+        ap (λ (t : ℕ). (let r : Record = record { phase = Go; token = t; entries = decided_entries plan.value.entries ways } in r)) (p.token_is some)
         ∙ ap (λ (es : List Entry). (let r : Record = record { phase = Go; token = j.token; entries = es } in r)) entries
 
     -- the place once all files are loaded and judged
-    abbrev Now : Step → List (Option (List ℕ)) → List ℕ → Place
-    Now s fs go = record old { step = s; files = fs; go = go }
+    abbrev Now : Step → List (Option (List ℕ)) → List Way → List ℕ → Place
+    Now s fs ws go = record old { step = s; files = fs; ways = ws; go = go }
 
     abbrev Judged : Option jobs.Refusal → State
     Judged o = judged j all-made o
 
-    refused-step : (e : End) (w : Ending) (fs : List (Option (List ℕ))) (go : List ℕ) → WantedAs (all_of j) w → StandsFor j (Now (unlocking_at 0 (files_of plan) (then.Answer e)) fs go) (unlocking (own_record j all-made e) (all_of j) (machine.Answer (end_as j w old.found e)))
-    refused-step e w fs go is = record {
+    refused-step : (e : End) (w : Ending) (fs : List (Option (List ℕ))) (ws : List Way) (go : List ℕ) → WantedAs (all_of j) w → StandsFor j (Now (unlocking_at 0 (files_of plan) (then.Answer e)) fs ws go) (unlocking (own_record j all-made e) (all_of j) (machine.Answer (end_as j w old.found e)))
+    refused-step e w fs ws go is = record {
       hidden = w;
       wanted = is;
       made = all-made;
-      holds = of-unlocking (Holds j all-made fs go) 0 (files_of plan) (then.Answer e) (λ x. tt) tt;
-      is = unlocking-all j w all-made old.found fs (files_of plan) (then.Answer e) (files-long j plan p);
+      holds = of-unlocking (Holds j all-made fs ws go) 0 (files_of plan) (then.Answer e) (λ x. tt) tt;
+      is = unlocking-all j w all-made old.found old.seen fs (files_of plan) (then.Answer e) (files-long j plan p);
     }
 
     no-memory : (done left : List Made) → 0 < length left → refused j (staging [] done left) ≡ refusing j [] (all_of j) NoMemory
     no-memory done [] l = absurd (omega (arith, l))
     no-memory done (x ∷ left) l = refl
 
-    judged-follows : (result : Result Unit Trouble) (fs : List (Option (List ℕ))) (go : List ℕ) → length fs ≡ files_of plan → (result ≡ Ok tt → go ≡ written (decided_record plan.value fs)) → 0 < files_of plan → JudgesSo cs base (names_of plan.value) F result fs → Follows j (Now (judged_at (files_of plan) result) fs go) (Judged (j.refusal F))
-    judged-follows (Ok u) fs go size go_is some so =
+    judged-follows : (result : Result Unit Trouble) (fs : List (Option (List ℕ))) (ws : List Way) (go : List ℕ) → (result ≡ Ok tt → ws ≡ map file_way fs) → (result ≡ Ok tt → go ≡ written (decided_record plan.value ws)) → 0 < files_of plan → JudgesSo cs base (names_of plan.value) F result fs → Follows j (Now (judged_at (files_of plan) result) fs ws go) (Judged (j.refusal F))
+    judged-follows (Ok u) fs ws go ways_are go_is some so =
         let none : j.refusal F ≡ None = refusal-is ∙ ap (option_map cause_of) so.0 in
         let made_so : fs ≡ map (apply cs base F) (all_of j) = so.1 ∙ ap (map (apply cs base F)) p.names_are in
-        let is_made : IsMade j all-made fs go = record {
+        let ways_so : ws ≡ map (λ (x : Made). x.way) all-made = ways_are refl ∙ ways-made fs made_so in
+        let is_made : IsMade j all-made fs ws go = record {
           distinct = (p.texts_are some-edits).distinct;
           names_are = names-made;
-          kinds_are = kinds-made fs made_so;
+          ways_are = ways_so;
           contents_are = contents-made fs made_so;
-          go_is = go_is refl ∙ ap written (go-made fs size made_so some);
+          go_is = go_is refl ∙ ap written (go-made ws ways_so some);
         } in (
           staging [] all-made all-made,
           inl (sym (ap Judged none)),
@@ -337,36 +340,36 @@ module _ (j : Job) (plan : Plan) (old : Place) (p : IsPlan j plan) (q : IsPlace 
             hidden = hidden;
             wanted = wanted;
             made = all-made;
-            holds = of-staging (Holds j all-made fs go) 0 (files_of plan) (λ x. is_made) is_made;
-            is = staging-is j hidden all-made old.found fs 0 (files_of plan) made-count;
+            holds = of-staging (Holds j all-made fs ws go) 0 (files_of plan) (λ x. is_made) is_made;
+            is = staging-is j hidden all-made old.found old.seen fs 0 (files_of plan) made-count;
           },
         )
-    judged-follows (Err (trouble.Changed k m)) fs go size go_is some so =
+    judged-follows (Err (trouble.Changed k m)) fs ws go ways_are go_is some so =
         let why : j.refusal F ≡ Some (jobs.Changed (nth (all_of j) k) m) = refusal-is ∙ ap (option_map cause_of) so ∙ ap (λ (ns : List (List ℕ)). Some (jobs.Changed (nth ns k) m)) p.names_are in
-        (refusing j [] (all_of j) (Refused (jobs.Changed (nth (all_of j) k) m)), inl (sym (ap Judged why)), refused-step (end.Changed k m) hidden fs go wanted)
-    judged-follows (Err (trouble.TooLarge k m)) fs go size go_is some so =
+        (refusing j [] (all_of j) (Refused (jobs.Changed (nth (all_of j) k) m)), inl (sym (ap Judged why)), refused-step (end.Changed k m) hidden fs ws go wanted)
+    judged-follows (Err (trouble.TooLarge k m)) fs ws go ways_are go_is some so =
         let why : j.refusal F ≡ Some (jobs.TooLarge (nth (all_of j) k) m) = refusal-is ∙ ap (option_map cause_of) so ∙ ap (λ (ns : List (List ℕ)). Some (jobs.TooLarge (nth ns k) m)) p.names_are in
-        (refusing j [] (all_of j) (Refused (jobs.TooLarge (nth (all_of j) k) m)), inl (sym (ap Judged why)), refused-step (end.TooLarge k m) hidden fs go wanted)
-    judged-follows (Err trouble.Memory) fs go size go_is some so = wants (first_refusal cs base F) refl
+        (refusing j [] (all_of j) (Refused (jobs.TooLarge (nth (all_of j) k) m)), inl (sym (ap Judged why)), refused-step (end.TooLarge k m) hidden fs ws go wanted)
+    judged-follows (Err trouble.Memory) fs ws go ways_are go_is some so = wants (first_refusal cs base F) refl
       where
-        wants : (o : Option ChangeRefusal) → first_refusal cs base F ≡ o → Follows j (Now (unlocking_at 0 (files_of plan) (then.Answer end.NoMemory)) fs go) (Judged (j.refusal F))
+        wants : (o : Option ChangeRefusal) → first_refusal cs base F ≡ o → Follows j (Now (unlocking_at 0 (files_of plan) (then.Answer end.NoMemory)) fs ws go) (Judged (j.refusal F))
         wants None is =
             let none : j.refusal F ≡ None = refusal-is ∙ ap (option_map cause_of) is in
-            (refusing j [] (all_of j) NoMemory, inr (sym (ap (λ (o : Option jobs.Refusal). refused j (Judged o)) none ∙ no-memory all-made all-made (omega (arith, some, made-count)))), refused-step end.NoMemory NoMemory fs go (inl refl))
+            (refusing j [] (all_of j) NoMemory, inr (sym (ap (λ (o : Option jobs.Refusal). refused j (Judged o)) none ∙ no-memory all-made all-made (omega (arith, some, made-count)))), refused-step end.NoMemory NoMemory fs ws go (inl refl))
         wants (Some r) is =
             let why : j.refusal F ≡ Some (cause_of r) = refusal-is ∙ ap (option_map cause_of) is in
             let hides : MayHide (all_of j) (cause_of r) = subst (λ (ns : List (List ℕ)). MayHide ns (cause_of r)) p.names_are (hide-so (names_of plan.value) cs base F r named is) in
-            (refusing j [] (all_of j) (Refused (cause_of r)), inl (sym (ap Judged why)), refused-step end.NoMemory (Refused (cause_of r)) fs go (inr (cause_of r, hides, refl)))
+            (refusing j [] (all_of j) (Refused (cause_of r)), inl (sym (ap Judged why)), refused-step end.NoMemory (Refused (cause_of r)) fs ws go (inr (cause_of r, hides, refl)))
 
     pub takes-all : (now : Place) → 0 < files_of plan → TakesAll plan files cs base old now → Follows j now (Judged (j.refusal F))
     takes-all now some t =
         let D : List (List ℕ) → Type 0 = λ ns. AreDistinct ns in
         let distinct = subst D (sym p.names_are) (p.texts_are some-edits).distinct in
         let seen = seen-are ∙ ap (map F) (sym p.names_are) in
-        subst (λ (x : Place). Follows j x (Judged (j.refusal F))) (sym t.is) (judged-follows t.result t.made t.go (t.long ∙ long) t.go_is some (t.judged F distinct seen))
+        subst (λ (x : Place). Follows j x (Judged (j.refusal F))) (sym t.is) (judged-follows t.result t.made t.ways t.go t.ways_are t.go_is some (t.judged F distinct seen))
 
   -- a file was loaded
-  pub take-follows : (at : ℕ) (file : Option (List ℕ)) (now : Place) → at < files_of plan → Takes plan at file cs base old now → Follows j now (saw j (state_as j hidden made old.found old.files (step.Loading at)) file)
+  pub take-follows : (at : ℕ) (file : Option (List ℕ)) (now : Place) → at < files_of plan → Takes plan at file cs base old now → Follows j now (saw j (state_as j hidden made old.found old.seen old.files (step.Loading at)) file)
   take-follows at file now l t =
       let es = edits_of j in
       let fs = slice_set old.files at file in

@@ -3,19 +3,20 @@ use Rattle.std.proofs.Common.{◌≡◌, ◌⊎◌, ℕ, zero, suc, ◌+◌, ◌
 use Rattle.std.proofs.lemmas.Grind.{common_steps}
 use Rattle.std.proofs.lemmas.Bool.{cases_Bool, ltb-true}
 use Rattle.std.proofs.lemmas.List.{take_all, drop_all}
-use Rattle.commit_record.specs.declared.record.EntryKind.{EntryKind}
-use Rattle.commit_record.specs.declared.record.EntryKind.TheVariants.{Replace, Remove}
+use Rattle.commit_record.specs.declared.record.Entry.{Entry}
 use Rattle.commit_record.specs.declared.record.Record.{Record}
-use Rattle.commit_machine.specs.Records.{kind_of}
+use Rattle.commit_record.specs.declared.way.Way.{Way}
+use Rattle.commit_record.specs.declared.way.Way.TheVariants.{Replace, Remove}
 use Rattle.commit_machine.specs.Jobs.{Ending, Outcome, Puts, Edit, Job, Made, edits_of, all_of}
+use Rattle.commit_machine.specs.Items.{Item, found_item, made_item}
 use Rattle.commit_machine.specs.Machine.{State, unlocking, undoing, placing, place_one, locking, loading, loaded, staging}
 use Rattle.commit_machine.specs.Machine as machine
 use Rattle.commit_driver.specs.declared.step.Then.{Then}
 use Rattle.commit_driver.specs.declared.step.Then.TheVariants.{GoOn, Answer}
 use Rattle.commit_driver.specs.declared.step.Step.{Step}
 use Rattle.commit_driver.specs.declared.step.Step.TheVariants.{Undoing, Unlocking}
-use Rattle.commit_driver.specs.Steps.{Kinds, unlocking_at, undoing_at, place_at, placing_at, locking_at, staging_at}
-use Rattle.commit_driver.specs.Places.{nth, then_as, record_as, names_as, made_by, made_from, state_as}
+use Rattle.commit_driver.specs.Steps.{Ways, unlocking_at, undoing_at, place_at, placing_at, locking_at, staging_at}
+use Rattle.commit_driver.specs.Places.{nth, then_as, record_as, names_as, items_as, nth_item, made_by, made_from, state_as}
 
 -- what stands at a place of a list, and what is after it
 some-at : {A : Type 0} (xs : List A) (at : ℕ) → at < length xs → (x : A) × (drop at xs ≡ x ∷ drop (suc at) xs)
@@ -31,6 +32,12 @@ nth-drop [] zero x ys e = absurd (let h : [] ≡ x ∷ ys = e in cc)
 nth-drop [] (suc at) x ys e = absurd (let h : [] ≡ x ∷ ys = e in cc)
 nth-drop (z ∷ zs) zero x ys e = cc
 nth-drop (z ∷ zs) (suc at) x ys e = nth-drop zs at x ys e
+
+pub item-drop : (xs : List Item) (at : ℕ) (x : Item) (ys : List Item) → drop at xs ≡ x ∷ ys → nth_item xs at ≡ x
+item-drop [] zero x ys e = absurd (let h : [] ≡ x ∷ ys = e in cc)
+item-drop [] (suc at) x ys e = absurd (let h : [] ≡ x ∷ ys = e in cc)
+item-drop (z ∷ zs) zero x ys e = cc
+item-drop (z ∷ zs) (suc at) x ys e = item-drop zs at x ys e
 
 pub drop-map : {A B : Type 0} (f : A → B) (xs : List A) (at : ℕ) → drop at (map f xs) ≡ map f (drop at xs)
 drop-map f xs zero = refl
@@ -75,7 +82,7 @@ made-none [] = refl
 made-none (e ∷ es) = refl
 
 pub loaded-by : (j : Job) (done : List Made) (e : Edit) (left : List Edit) (c : Option (List ℕ)) (o : Outcome) → loaded j done e left c o ≡ loading j (done ++ made_by e c o ∷ []) left
-loaded-by j done e left c (Puts kind content) = refl
+loaded-by j done e left c (Puts way content) = refl
 
 more-made : (es : List Edit) (files : List (Option (List ℕ))) (at : ℕ) (e : Edit) (left : List Edit) (c : Option (List ℕ)) → drop at es ≡ e ∷ left → at < length files
     → made_from es (take (suc at) (slice_set files at c)) ≡ made_from es (take at files) ++ made_by e c (e.by c) ∷ []
@@ -89,9 +96,9 @@ pub made-more : (es : List Edit) (files : List (Option (List ℕ))) (at : ℕ) (
     → made_from es (take (at + 1) (slice_set files at c)) ≡ made_from es (take at files) ++ made_by e c (e.by c) ∷ []
 made-more es files at e left c is l = ap (λ (k : ℕ). made_from es (take k (slice_set files at c))) (add-one at) ∙ more-made es files at e left c is l
 
-module _ (j : Job) (hidden : Ending) (made : List Made) (found : Record) (files : List (Option (List ℕ))) where
+module _ (j : Job) (hidden : Ending) (made : List Made) (found : Record) (seen : Option (List ℕ)) (files : List (Option (List ℕ))) where
   abbrev pub st : Step → State
-  st s = state_as j hidden made found files s
+  st s = state_as j hidden made found seen files s
 
   -- a step, seen as the machine's state
   pub unlocking-view : (at end : ℕ) (th : Then) → at < end → end ≤ length (names_as j found th)
@@ -129,30 +136,36 @@ module _ (j : Job) (hidden : Ending) (made : List Made) (found : Record) (files 
     | inr n ↦ rw n.1 (unlocking-is 0 locks th k ∙ sym (ap (λ (xs : List (List ℕ)). undoing (record_as j made found th) xs (take locks (names_as j found th)) (then_as j hidden found th)) (none-left (take end (names_as j found th)) at (omega (arith, n.0, length-take-le end (names_as j found th) m)))))
   ]
 
-  -- the first step for an entry is that of its kind
-  place-is : (kind : EntryKind) (at : ℕ) (th : Then) → st (place_at kind at th) ≡ place_one kind (record_as j made found th) (nth (names_as j found th) at) (drop (at + 1) (names_as j found th)) (names_as j found th) (then_as j hidden found th)
+  -- there are as many to put in place as names
+  items-count : (th : Then) → length (items_as j made found th) ≡ length (names_as j found th)
+  items-count GoOn = length-map found_item found.entries ∙ sym (length-map (λ (e : Entry). e.name) found.entries)
+  items-count (Answer e) = length-map (made_item made) (all_of j)
+
+  -- the first step for an entry is that of its way
+  place-is : (way : Way) (at : ℕ) (th : Then) → st (place_at way at th) ≡ place_one way (record_as j made found th) (nth_item (items_as j made found th) at) (drop (at + 1) (items_as j made found th)) (names_as j found th) (then_as j hidden found th)
   place-is Replace at th = refl
   place-is Remove at GoOn = refl
   place-is Remove at (Answer e) = refl
 
-  -- the kinds of the entries are those that their record says
-  abbrev pub KindsAre : Kinds → Then → ℕ → Type 0
-  KindsAre kinds th end = (at : ℕ) → at < end → kinds th at ≡ kind_of (record_as j made found th) (nth (names_as j found th) at)
+  -- the ways are those of what is put in place
+  abbrev pub WaysAre : Ways → Then → ℕ → Type 0
+  WaysAre ways th end = (at : ℕ) → at < end → ways th at ≡ (nth_item (items_as j made found th) at).way
 
-  pub placing-is : (kinds : Kinds) (at end : ℕ) (th : Then) → end ≡ length (names_as j found th) → KindsAre kinds th end
-      → st (placing_at kinds at end th) ≡ placing (record_as j made found th) (drop at (names_as j found th)) (names_as j found th) (then_as j hidden found th)
-  placing-is kinds at end th e same = elim (lt-or at end) [
+  pub placing-is : (ways : Ways) (at end : ℕ) (th : Then) → end ≡ length (names_as j found th) → WaysAre ways th end
+      → st (placing_at ways at end th) ≡ placing (record_as j made found th) (drop at (items_as j made found th)) (names_as j found th) (then_as j hidden found th)
+  placing-is ways at end th e same = elim (lt-or at end) [
     | inl y ↦
         let r = record_as j made found th in
+        let xs = items_as j made found th in
         let ns = names_as j found th in
-        let w = drop-some ns at (omega (arith, y.0, e)) in
-        let name = nth-drop ns at w.0 (drop (at + 1) ns) w.1 in
+        let w = drop-some xs at (omega (arith, y.0, e, items-count th)) in
+        let item = item-drop xs at w.0 (drop (at + 1) xs) w.1 in
         rw y.1 (
-        ap (λ (k : EntryKind). st (place_at k at th)) (same at y.0)
-        ∙ place-is (kind_of r (nth ns at)) at th
-        ∙ ap (λ (n : List ℕ). place_one (kind_of r n) r n (drop (at + 1) ns) ns (then_as j hidden found th)) name
-        ∙ sym (ap (λ (xs : List (List ℕ)). placing r xs ns (then_as j hidden found th)) w.1))
-    | inr n ↦ rw n.1 (unlocking-all end th e ∙ sym (ap (λ (xs : List (List ℕ)). placing (record_as j made found th) xs (names_as j found th) (then_as j hidden found th)) (none-left (names_as j found th) at (omega (arith, n.0, e)))))
+        ap (λ (k : Way). st (place_at k at th)) (same at y.0)
+        ∙ place-is (nth_item xs at).way at th
+        ∙ ap (λ (x : Item). place_one x.way r x (drop (at + 1) xs) ns (then_as j hidden found th)) item
+        ∙ sym (ap (λ (ys : List Item). placing r ys ns (then_as j hidden found th)) w.1))
+    | inr n ↦ rw n.1 (unlocking-all end th e ∙ sym (ap (λ (xs : List Item). placing (record_as j made found th) xs (names_as j found th) (then_as j hidden found th)) (none-left (items_as j made found th) at (omega (arith, n.0, e, items-count th)))))
   ]
 
   pub locking-is : (at n : ℕ) → n ≡ length (all_of j) → st (locking_at at n) ≡ locking j (take at (all_of j)) (drop at (edits_of j))

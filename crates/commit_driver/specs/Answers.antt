@@ -10,6 +10,7 @@ use Rattle.folder_change.specs.declared.change.Change.{Change}
 use Rattle.commit_machine.specs.Refusals.{first_refusal}
 use Rattle.commit_record.specs.Format.{IsWritten, written}
 use Rattle.commit_record.specs.declared.record.Record.{Record}
+use Rattle.commit_record.specs.declared.way.Way.{Way}
 use Rattle.host_port.specs.Calls.{Rose, load_limit}
 use Rattle.commit_machine.specs.Names.{staged_name}
 use Rattle.commit_machine.specs.Records.{is_go, names_of}
@@ -38,7 +39,7 @@ use Rattle.commit_driver.specs.declared.place.Plan.{Plan}
 use Rattle.commit_driver.specs.declared.place.Place.{Place}
 use Rattle.commit_driver.specs.Steps.{passed_at, placing_at, tested_at, undoing_at, unlocking_at, staging_at, faulted_at, long_at, short_at, went_at, weight}
 use Rattle.commit_driver.specs.Judging.{Judges, TroubleFits}
-use Rattle.commit_driver.specs.Places.{files_of, entries_of, kinds_in, kinds_of, decided_record, IsPlan, IsPlace, StandsFor}
+use Rattle.commit_driver.specs.Places.{files_of, entries_of, file_way, ways_in, ways_of, decided_record, IsPlan, IsPlace, StandsFor}
 
 -- the answer as the machine has it
 abbrev pub reply_as : Reply → machine.Reply
@@ -61,7 +62,7 @@ IsAnswer (Some c) r = ⊥
 
 -- the first step of closing a record that was found
 abbrev pub mending_at : Record → Step
-mending_at r = if is_go r then placing_at (kinds_in r.entries []) 0 (length r.entries) GoOn else undoing_at 0 (length r.entries) (length r.entries) GoOn
+mending_at r = if is_go r then placing_at (ways_in r.entries []) 0 (length r.entries) GoOn else undoing_at 0 (length r.entries) (length r.entries) GoOn
 
 -- the step once all of n files are loaded and judged
 abbrev pub judged_at : ℕ → Result Unit Trouble → Step
@@ -94,23 +95,27 @@ abbrev pub Looks : Plan → Option (List ℕ) → Place → Place → Type 0
 Looks plan None old now = now ≡ at_step old (if plan.commits then step.Preparing else step.Clearing recovered.Nothing)
 Looks plan (Some bytes) old now = (result : Result Found End) × Finds bytes result × LooksAt result old now
 
--- The text of the decision is written if the files were judged so, unless memory runs out.
+-- How the files come to be is settled, and the text of the decision is written, if the files were judged so, unless memory runs out.
 pub record WritesGo (plan : Plan) (judged : Result Unit Trouble) (old : Place) (result : Result Unit Trouble) (now : Place) : Type 0 where
   pub same : (result ≡ judged) ⊎ (result ≡ Err trouble.Memory)
+  pub ways : List Way
+  pub ways_are : result ≡ Ok tt → ways ≡ map file_way old.files
   pub go : List ℕ
-  pub go_is : result ≡ Ok tt → go ≡ written (decided_record plan.value old.files)
-  pub is : now ≡ record old { go = go }
+  pub go_is : result ≡ Ok tt → go ≡ written (decided_record plan.value ways)
+  pub is : now ≡ record old { ways = ways; go = go }
 
--- What is made of the files once all are loaded. Then the text of the decision is written.
+-- What is made of the files once all are loaded. Then it is settled how they come to be, and the text of the decision is written.
 pub record TakesAll (plan : Plan) (files : List (Option (List ℕ))) (changes : List Change) (base : List (List ℕ)) (old now : Place) : Type 0 where
   pub result : Result Unit Trouble
   pub made : List (Option (List ℕ))
   pub judged : Judges changes base (names_of plan.value) files result made
   pub fits : TroubleFits (files_of plan) result
   pub long : length made ≡ length files
+  pub ways : List Way
+  pub ways_are : result ≡ Ok tt → ways ≡ map file_way made
   pub go : List ℕ
-  pub go_is : result ≡ Ok tt → go ≡ written (decided_record plan.value made)
-  pub is : now ≡ record old { step = judged_at (files_of plan) result; files = made; go = go }
+  pub go_is : result ≡ Ok tt → go ≡ written (decided_record plan.value ways)
+  pub is : now ≡ record old { step = judged_at (files_of plan) result; files = made; ways = ways; go = go }
 
 abbrev pub Takes : Plan → ℕ → Option (List ℕ) → List Change → List (List ℕ) → Place → Place → Type 0
 Takes plan at file changes base old now =
@@ -120,13 +125,13 @@ Takes plan at file changes base old now =
 abbrev pub SawSo : Plan → Option (List ℕ) → List Change → List (List ℕ) → Place → Step → Place → Type 0
 SawSo plan file changes base old step.Looking now = Looks plan file old now
 SawSo plan file changes base old (step.Loading at) now = Takes plan at file changes base old now
-SawSo plan file changes base old (step.Testing at) now = now ≡ at_step old (tested_at (kinds_of old) (entries_of old) at (is_some file))
+SawSo plan file changes base old (step.Testing at) now = now ≡ record old { step = tested_at (ways_of old) (entries_of old) at (is_some file); seen = file }
 SawSo plan file changes base old step.Checking now = (p : Passed) × PassedSo old.go file p × (now ≡ at_step old (step.Releasing (end.Failed p)))
 SawSo plan file changes base old s now = now ≡ at_step old (step.Releasing (end.Failed (passed_at s)))
 
 -- the place after an answer, by numbers
 abbrev pub Answered : Plan → Reply → List Change → List (List ℕ) → Place → Place → Type 0
-Answered plan (reply.Went did) changes base old now = now ≡ at_step old (went_at (kinds_of old) plan.commits (files_of plan) (entries_of old) (is_go old.found) old.step did)
+Answered plan (reply.Went did) changes base old now = now ≡ at_step old (went_at (ways_of old) plan.commits (files_of plan) (entries_of old) (is_go old.found) old.step did)
 Answered plan (reply.Saw file) changes base old now = SawSo plan file changes base old old.step now
 Answered plan (reply.Long n) changes base old now = now ≡ at_step old (long_at (files_of plan) old.step n)
 Answered plan reply.Short changes base old now = now ≡ at_step old (short_at (files_of plan) old.step)

@@ -7,15 +7,17 @@ use Rattle.host_port.specs.Names.{IsFileName}
 use Rattle.folder_change.specs.Outcomes.{bytes_of}
 use Rattle.commit_record.specs.Format.{is_valid, written}
 use Rattle.commit_record.specs.declared.record.Phase.TheVariants.{Prepare, Go}
-use Rattle.commit_record.specs.declared.record.EntryKind.{EntryKind}
-use Rattle.commit_record.specs.declared.record.EntryKind.TheVariants.{Replace, Remove}
+use Rattle.commit_record.specs.Ways.{way_of, entry_for}
 use Rattle.commit_record.specs.declared.record.Entry.{Entry}
 use Rattle.commit_record.specs.declared.record.Record.{Record}
+use Rattle.commit_record.specs.declared.way.Way.{Way}
+use Rattle.commit_record.specs.declared.way.Way.TheVariants.{Replace, Remove}
 use Rattle.commit_machine.specs.Names.{record_name, new_name, right_name, staged_name}
 use Rattle.commit_machine.specs.Records.{names_of, AreDistinct}
 use Rattle.commit_machine.specs.Settled.{Mem}
 use Rattle.commit_machine.specs.Jobs.{Ending, Outcome, Puts, Edit, Job, Made, edits_of, all_of, prepare_of, go_of}
 use Rattle.commit_machine.specs.Jobs as jobs
+use Rattle.commit_machine.specs.Items.{Item, found_items, made_items}
 use Rattle.commit_machine.specs.Machine.{State, next, go_front, undoing, unlocking, locking, loading, staging}
 use Rattle.commit_machine.specs.Machine as machine
 use Rattle.commit_driver.specs.declared.step.Passed.{Passed}
@@ -34,11 +36,11 @@ use Rattle.commit_driver.specs.declared.next.Call.{Call}
 use Rattle.commit_driver.specs.declared.next.Call.TheVariants as call
 use Rattle.commit_driver.specs.declared.place.Plan.{Plan}
 use Rattle.commit_driver.specs.declared.place.Place.{Place}
-use Rattle.commit_driver.specs.Steps.{Kinds, Fits}
+use Rattle.commit_driver.specs.Steps.{Ways, Fits}
 
 -- a place before the first call, with room for as many files as these
 abbrev pub begun : List (Option (List ℕ)) → Place
-begun files = record { step = step.Seizing; found = record { phase = Prepare; token = 0; entries = [] }; found_staged = []; files = files; go = [] }
+begun files = record { step = step.Seizing; found = record { phase = Prepare; token = 0; entries = [] }; found_staged = []; seen = None; files = files; ways = []; go = [] }
 
 -- how many files a plan has, and how many entries the record that was found
 abbrev pub files_of : Plan → ℕ
@@ -47,32 +49,28 @@ files_of plan = length plan.value.entries
 abbrev pub entries_of : Place → ℕ
 entries_of place = length place.found.entries
 
--- what becomes of a file that is to be so
-abbrev pub file_kind : Option (List ℕ) → EntryKind
-file_kind None = Remove
-file_kind (Some bytes) = Replace
+-- how a file comes to be that is to be so
+abbrev pub file_way : Option (List ℕ) → Way
+file_way None = Remove
+file_way (Some bytes) = Replace
 
--- what becomes of the file of the entry with this number
-abbrev pub nth_kind : List Entry → ℕ → EntryKind
-nth_kind entries k = get_or (map (λ e. e.kind) entries) k Replace
+-- how the files of entries that were found come to be, and those of a plan
+abbrev pub ways_in : List Entry → List Way → Ways
+ways_in entries ways then.GoOn k = get_or (map way_of entries) k Replace
+ways_in entries ways (then.Answer e) k = get_or ways k Replace
 
--- what becomes of the files of entries that were found, and of those of a plan
-abbrev pub kinds_in : List Entry → List (Option (List ℕ)) → Kinds
-kinds_in entries files then.GoOn k = nth_kind entries k
-kinds_in entries files (then.Answer e) k = file_kind (get_or files k None)
+abbrev pub ways_of : Place → Ways
+ways_of place = ways_in place.found.entries place.ways
 
-abbrev pub kinds_of : Place → Kinds
-kinds_of place = kinds_in place.found.entries place.files
-
--- the entries of files that are to be so
-abbrev pub decided_entries : List Entry → List (Option (List ℕ)) → List Entry
-decided_entries [] files = []
+-- the entries of files that come to be so
+abbrev pub decided_entries : List Entry → List Way → List Entry
+decided_entries [] ways = []
 decided_entries (e ∷ es) [] = []
-decided_entries (e ∷ es) (file ∷ files) = record { kind = file_kind file; name = e.name } ∷ decided_entries es files
+decided_entries (e ∷ es) (way ∷ ways) = entry_for way e.name ∷ decided_entries es ways
 
--- the record of the decision, of files that are to be so
-abbrev pub decided_record : Record → List (Option (List ℕ)) → Record
-decided_record value files = record { phase = Go; token = value.token; entries = decided_entries value.entries files }
+-- the record of the decision, of files that come to be so
+abbrev pub decided_record : Record → List Way → Record
+decided_record value ways = record { phase = Go; token = value.token; entries = decided_entries value.entries ways }
 
 -- the name with this number
 abbrev pub nth : List (List ℕ) → ℕ → List ℕ
@@ -146,15 +144,29 @@ abbrev pub names_as : Job → Record → Then → List (List ℕ)
 names_as j found then.GoOn = names_of found
 names_as j found (then.Answer e) = all_of j
 
-abbrev pub outcome_kind : Outcome → EntryKind
-outcome_kind (Puts kind content) = kind
+-- what is put in place
+abbrev pub items_as : Job → List Made → Record → Then → List Item
+items_as j made found then.GoOn = found_items found
+items_as j made found (then.Answer e) = made_items j made
+
+-- the one with this number
+abbrev pub nth_item : List Item → ℕ → Item
+nth_item xs k = get_or xs k (record { name = []; way = Replace; staged = None })
+
+-- the one that is next, once its staged file was looked for
+abbrev pub item_seen : Then → Option (List ℕ) → Item → Item
+item_seen then.GoOn seen x = record x { staged = seen }
+item_seen (then.Answer e) seen x = x
+
+abbrev pub outcome_way : Outcome → Way
+outcome_way (Puts way content) = way
 
 abbrev pub outcome_content : Outcome → List ℕ
-outcome_content (Puts kind content) = content
+outcome_content (Puts way content) = content
 
 -- what is made of edits if their files were loaded so
 abbrev pub made_by : Edit → Option (List ℕ) → Outcome → Made
-made_by e seen o = record { edit = e; seen = seen; kind = outcome_kind o; content = outcome_content o }
+made_by e seen o = record { edit = e; seen = seen; way = outcome_way o; content = outcome_content o }
 
 abbrev pub made_from : List Edit → List (Option (List ℕ)) → List Made
 made_from [] files = []
@@ -162,33 +174,33 @@ made_from (e ∷ es) [] = []
 made_from (e ∷ es) (file ∷ files) = made_by e file (e.by file) ∷ made_from es files
 
 -- The state that a step stands for: in a job, with what running out of memory hides, what was made of the files, the record that was found,
--- and the files that were loaded.
-abbrev pub state_as : Job → Ending → List Made → Record → List (Option (List ℕ)) → Step → State
-state_as j hidden made found files step.Seizing = machine.Seizing
-state_as j hidden made found files step.Looking = machine.Looking
-state_as j hidden made found files (step.Undoing at end locks th) =
+-- what was seen of a staged file of it, and the files that were loaded.
+abbrev pub state_as : Job → Ending → List Made → Record → Option (List ℕ) → List (Option (List ℕ)) → Step → State
+state_as j hidden made found seen files step.Seizing = machine.Seizing
+state_as j hidden made found seen files step.Looking = machine.Looking
+state_as j hidden made found seen files (step.Undoing at end locks th) =
     undoing (record_as j made found th) (drop at (take end (names_as j found th))) (take locks (names_as j found th)) (then_as j hidden found th)
-state_as j hidden made found files (step.Placing at th) =
-    machine.Placing (record_as j made found th) (nth (names_as j found th) at) (drop (at + 1) (names_as j found th)) (names_as j found th) (then_as j hidden found th)
-state_as j hidden made found files (step.Testing at) = machine.Testing found (nth (names_of found) at) (drop (at + 1) (names_of found)) (names_of found)
-state_as j hidden made found files (step.Removing at th) =
-    machine.Removing (record_as j made found th) (nth (names_as j found th) at) (drop (at + 1) (names_as j found th)) (names_as j found th) (then_as j hidden found th)
-state_as j hidden made found files (step.Discarding at th) =
-    machine.Discarding (record_as j made found th) (nth (names_as j found th) at) (drop (at + 1) (names_as j found th)) (names_as j found th) (then_as j hidden found th)
-state_as j hidden made found files (step.Unlocking at end th) =
+state_as j hidden made found seen files (step.Placing at th) =
+    machine.Placing (record_as j made found th) (nth_item (items_as j made found th) at) (drop (at + 1) (items_as j made found th)) (names_as j found th) (then_as j hidden found th)
+state_as j hidden made found seen files (step.Testing at) = machine.Testing found (nth_item (found_items found) at) (drop (at + 1) (found_items found)) (names_of found)
+state_as j hidden made found seen files (step.Removing at th) =
+    machine.Removing (record_as j made found th) (item_seen th seen (nth_item (items_as j made found th) at)) (drop (at + 1) (items_as j made found th)) (names_as j found th) (then_as j hidden found th)
+state_as j hidden made found seen files (step.Discarding at th) =
+    machine.Discarding (record_as j made found th) (item_seen th seen (nth_item (items_as j made found th) at)) (drop (at + 1) (items_as j made found th)) (names_as j found th) (then_as j hidden found th)
+state_as j hidden made found seen files (step.Unlocking at end th) =
     unlocking (record_as j made found th) (drop at (take end (names_as j found th))) (then_as j hidden found th)
-state_as j hidden made found files (step.Erasing th) = machine.Erasing (record_as j made found th) (then_as j hidden found th)
-state_as j hidden made found files (step.Clearing f) = machine.Clearing (found_as f)
-state_as j hidden made found files step.Preparing = machine.Preparing
-state_as j hidden made found files step.Publishing = machine.Publishing
-state_as j hidden made found files (step.Locking at) = locking j (take at (all_of j)) (drop at (edits_of j))
-state_as j hidden made found files (step.Loading at) = loading j (made_from (edits_of j) (take at files)) (drop at (edits_of j))
-state_as j hidden made found files (step.Staging at) = staging (take at (all_of j)) made (drop at made)
-state_as j hidden made found files step.Deciding = machine.Deciding made
-state_as j hidden made found files step.Committing = machine.Committing made
-state_as j hidden made found files step.Checking = machine.Checking
-state_as j hidden made found files (step.Releasing e) = machine.Releasing (end_as j hidden found e)
-state_as j hidden made found files (step.Ended e) = machine.Ended (end_as j hidden found e)
+state_as j hidden made found seen files (step.Erasing th) = machine.Erasing (record_as j made found th) (then_as j hidden found th)
+state_as j hidden made found seen files (step.Clearing f) = machine.Clearing (found_as f)
+state_as j hidden made found seen files step.Preparing = machine.Preparing
+state_as j hidden made found seen files step.Publishing = machine.Publishing
+state_as j hidden made found seen files (step.Locking at) = locking j (take at (all_of j)) (drop at (edits_of j))
+state_as j hidden made found seen files (step.Loading at) = loading j (made_from (edits_of j) (take at files)) (drop at (edits_of j))
+state_as j hidden made found seen files (step.Staging at) = staging (take at (all_of j)) made (drop at made)
+state_as j hidden made found seen files step.Deciding = machine.Deciding made
+state_as j hidden made found seen files step.Committing = machine.Committing made
+state_as j hidden made found seen files step.Checking = machine.Checking
+state_as j hidden made found seen files (step.Releasing e) = machine.Releasing (end_as j hidden found e)
+state_as j hidden made found seen files (step.Ended e) = machine.Ended (end_as j hidden found e)
 
 -- What running out of memory may hide, in a commit of files of these names. To read the record takes memory, and so does to judge the
 -- changes of a file. A right or a lock that another has is seen without memory.
@@ -219,41 +231,41 @@ pub record IsPlan (j : Job) (plan : Plan) : Type 0 where
   pub texts_are : is_some j.edits ≡ true → AreTexts j plan
 
 -- what was made is what is staged, by the record of the decision
-pub record IsMade (j : Job) (made : List Made) (files : List (Option (List ℕ))) (go : List ℕ) : Type 0 where
+pub record IsMade (j : Job) (made : List Made) (files : List (Option (List ℕ))) (ways : List Way) (go : List ℕ) : Type 0 where
   pub distinct : AreDistinct (all_of j)
   pub names_are : map (λ x. x.edit.name) made ≡ all_of j
-  pub kinds_are : map file_kind files ≡ map (λ x. x.kind) made
+  pub ways_are : ways ≡ map (λ x. x.way) made
   pub contents_are : map bytes_of files ≡ map (λ x. x.content) made
   pub go_is : go ≡ written (go_of j made)
 
 -- an entry is put in place of a record that was found, or of the own one once it is decided
-abbrev pub PlacesSo : Job → List Made → List (Option (List ℕ)) → List ℕ → Then → Type 0
-PlacesSo j made files go then.GoOn = Unit {0}
-PlacesSo j made files go (then.Answer end.Done) = IsMade j made files go
-PlacesSo j made files go (then.Answer e) = ⊥
+abbrev pub PlacesSo : Job → List Made → List (Option (List ℕ)) → List Way → List ℕ → Then → Type 0
+PlacesSo j made files ways go then.GoOn = Unit {0}
+PlacesSo j made files ways go (then.Answer end.Done) = IsMade j made files ways go
+PlacesSo j made files ways go (then.Answer e) = ⊥
 
 -- what a step takes for granted: some belong to a commit, and a file is staged once all are made
-abbrev pub Holds : Job → List Made → List (Option (List ℕ)) → List ℕ → Step → Type 0
-Holds j made files go (step.Placing at th) = PlacesSo j made files go th
-Holds j made files go (step.Removing at th) = PlacesSo j made files go th
-Holds j made files go (step.Discarding at th) = PlacesSo j made files go th
-Holds j made files go step.Preparing = is_some j.edits ≡ true
-Holds j made files go step.Publishing = is_some j.edits ≡ true
-Holds j made files go (step.Locking at) = is_some j.edits ≡ true
-Holds j made files go (step.Loading at) = is_some j.edits ≡ true
-Holds j made files go (step.Staging at) = IsMade j made files go
-Holds j made files go step.Deciding = IsMade j made files go
-Holds j made files go step.Committing = IsMade j made files go
-Holds j made files go step.Checking = take 47 go ≡ go_front j.token
-Holds j made files go s = Unit {0}
+abbrev pub Holds : Job → List Made → List (Option (List ℕ)) → List Way → List ℕ → Step → Type 0
+Holds j made files ways go (step.Placing at th) = PlacesSo j made files ways go th
+Holds j made files ways go (step.Removing at th) = PlacesSo j made files ways go th
+Holds j made files ways go (step.Discarding at th) = PlacesSo j made files ways go th
+Holds j made files ways go step.Preparing = is_some j.edits ≡ true
+Holds j made files ways go step.Publishing = is_some j.edits ≡ true
+Holds j made files ways go (step.Locking at) = is_some j.edits ≡ true
+Holds j made files ways go (step.Loading at) = is_some j.edits ≡ true
+Holds j made files ways go (step.Staging at) = IsMade j made files ways go
+Holds j made files ways go step.Deciding = IsMade j made files ways go
+Holds j made files ways go step.Committing = IsMade j made files ways go
+Holds j made files ways go step.Checking = take 47 go ≡ go_front j.token
+Holds j made files ways go s = Unit {0}
 
 -- The place stands for this state of the job.
 pub record StandsFor (j : Job) (place : Place) (s : State) : Type 0 where
   pub hidden : Ending
   pub wanted : WantedAs (all_of j) hidden
   pub made : List Made
-  pub holds : Holds j made place.files place.go place.step
-  pub is : state_as j hidden made place.found place.files place.step ≡ s
+  pub holds : Holds j made place.files place.ways place.go place.step
+  pub is : state_as j hidden made place.found place.seen place.files place.step ≡ s
 
 -- what a place keeps in order, for a plan
 pub record IsPlace (plan : Plan) (place : Place) : Type 0 where

@@ -1,7 +1,7 @@
 -- How far a job has come, by numbers alone.
 use Rattle.std.specs.Prelude.{◌<◌, ◌≤◌, ◌+◌, ◌-◌, ◌*◌, ℕ, Bool, true, false, Option, Some, None, nat_lt, if◌then◌else◌}
-use Rattle.commit_record.specs.declared.record.EntryKind.{EntryKind}
-use Rattle.commit_record.specs.declared.record.EntryKind.TheVariants.{Replace, Remove}
+use Rattle.commit_record.specs.declared.way.Way.{Way}
+use Rattle.commit_record.specs.declared.way.Way.TheVariants.{Replace, Remove}
 use Rattle.commit_driver.specs.declared.step.Passed.{Passed}
 use Rattle.commit_driver.specs.declared.step.Passed.TheVariants.{Before, After, Unknown}
 use Rattle.commit_driver.specs.declared.step.Recovered.TheVariants as recovered
@@ -115,16 +115,16 @@ abbrev pub removing_at : ℕ → Then → Step
 removing_at at GoOn = Testing at
 removing_at at (Answer e) = Removing at (Answer e)
 
-abbrev pub place_at : EntryKind → ℕ → Then → Step
+abbrev pub place_at : Way → ℕ → Then → Step
 place_at Replace at th = Placing at th
 place_at Remove at th = removing_at at th
 
--- what becomes of the files: of the entries that were found, and of those of the plan
-abbrev pub Kinds : Type 0
-Kinds = Then → ℕ → EntryKind
+-- how the files come to be: those of the entries that were found, and those of the plan
+abbrev pub Ways : Type 0
+Ways = Then → ℕ → Way
 
-abbrev pub placing_at : Kinds → ℕ → ℕ → Then → Step
-placing_at kinds at end th = if nat_lt at end then place_at (kinds th at) at th else unlocking_at 0 end th
+abbrev pub placing_at : Ways → ℕ → ℕ → Then → Step
+placing_at ways at end th = if nat_lt at end then place_at (ways th at) at th else unlocking_at 0 end th
 
 abbrev pub locking_at : ℕ → ℕ → Step
 locking_at at n = if nat_lt at n then Locking at else Loading 0
@@ -174,9 +174,9 @@ short_at n (Loading at) = unlocking_at 0 n (Answer NoMemory)
 short_at n s = Releasing (Failed (passed_at s))
 
 -- after a look for the staged file of a removal, if m entries were found
-abbrev pub tested_at : Kinds → ℕ → ℕ → Bool → Step
-tested_at kinds m at true = Removing at GoOn
-tested_at kinds m at false = placing_at kinds (at + 1) m GoOn
+abbrev pub tested_at : Ways → ℕ → ℕ → Bool → Step
+tested_at ways m at true = Removing at GoOn
+tested_at ways m at false = placing_at ways (at + 1) m GoOn
 
 -- after a record was closed that was decided or wasn't
 abbrev pub closed_at : Bool → Then → Step
@@ -184,27 +184,27 @@ closed_at decided GoOn = Clearing (if decided then recovered.Finished else recov
 closed_at decided (Answer e) = Releasing e
 
 -- After a call that went so: in a commit or not, of n files, if a record of m entries was found that was decided or wasn't.
-abbrev pub went_at : Kinds → Bool → ℕ → ℕ → Bool → Step → Bool → Step
-went_at kinds commits n m decided Seizing true = Looking
-went_at kinds commits n m decided Seizing false = Ended RightBusy
-went_at kinds commits n m decided (Undoing at end locks th) did = undoing_at (at + 1) end locks th
-went_at kinds commits n m decided (Placing at th) did = placing_at kinds (at + 1) (count_at n m th) th
-went_at kinds commits n m decided (Removing at th) did = Discarding at th
-went_at kinds commits n m decided (Discarding at th) did = placing_at kinds (at + 1) (count_at n m th) th
-went_at kinds commits n m decided (Unlocking at end th) did = unlocking_at (at + 1) end th
-went_at kinds commits n m decided (Erasing th) did = closed_at decided th
-went_at kinds commits n m decided (Clearing found) did = if commits then Preparing else Releasing (Recovered found)
-went_at kinds commits n m decided Preparing did = Publishing
-went_at kinds commits n m decided Publishing true = locking_at 0 n
-went_at kinds commits n m decided Publishing false = Releasing NotARecord
-went_at kinds commits n m decided (Locking at) true = locking_at (at + 1) n
-went_at kinds commits n m decided (Locking at) false = unlocking_at 0 at (Answer (Busy at))
-went_at kinds commits n m decided (Staging at) did = staging_at (at + 1) n
-went_at kinds commits n m decided Deciding did = Committing
-went_at kinds commits n m decided Committing true = placing_at kinds 0 n (Answer Done)
-went_at kinds commits n m decided Committing false = Releasing NotARecord
-went_at kinds commits n m decided (Releasing e) did = Ended e
-went_at kinds commits n m decided s did = Releasing (Failed (passed_at s))
+abbrev pub went_at : Ways → Bool → ℕ → ℕ → Bool → Step → Bool → Step
+went_at ways commits n m decided Seizing true = Looking
+went_at ways commits n m decided Seizing false = Ended RightBusy
+went_at ways commits n m decided (Undoing at end locks th) did = undoing_at (at + 1) end locks th
+went_at ways commits n m decided (Placing at th) did = placing_at ways (at + 1) (count_at n m th) th
+went_at ways commits n m decided (Removing at th) did = Discarding at th
+went_at ways commits n m decided (Discarding at th) did = placing_at ways (at + 1) (count_at n m th) th
+went_at ways commits n m decided (Unlocking at end th) did = unlocking_at (at + 1) end th
+went_at ways commits n m decided (Erasing th) did = closed_at decided th
+went_at ways commits n m decided (Clearing found) did = if commits then Preparing else Releasing (Recovered found)
+went_at ways commits n m decided Preparing did = Publishing
+went_at ways commits n m decided Publishing true = locking_at 0 n
+went_at ways commits n m decided Publishing false = Releasing NotARecord
+went_at ways commits n m decided (Locking at) true = locking_at (at + 1) n
+went_at ways commits n m decided (Locking at) false = unlocking_at 0 at (Answer (Busy at))
+went_at ways commits n m decided (Staging at) did = staging_at (at + 1) n
+went_at ways commits n m decided Deciding did = Committing
+went_at ways commits n m decided Committing true = placing_at ways 0 n (Answer Done)
+went_at ways commits n m decided Committing false = Releasing NotARecord
+went_at ways commits n m decided (Releasing e) did = Ended e
+went_at ways commits n m decided s did = Releasing (Failed (passed_at s))
 
 -- how much is left to do, at most: each answer makes it less
 abbrev pub then_rank : Then → ℕ

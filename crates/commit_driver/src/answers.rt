@@ -9,14 +9,14 @@ ghost use Rattle.folder_change.specs.Changes.{name_of};
 ghost use Rattle.commit_driver.specs.declared.step.Step.TheVariants as Step;
 ghost use Rattle.commit_record.specs.Format.{is_valid};
 ghost use Rattle.commit_driver.specs.Steps.{call_at, unlocking_at, undoing_at, place_at, placing_at, tested_at, locking_at, staging_at, count_at, closed_at, passed_end, passed_then, passed_at, faulted_at, long_at, short_at, went_at, Fits};
-ghost use Rattle.commit_driver.specs.Places.{files_of, entries_of, kinds_of, IsPlace, IsSafe};
+ghost use Rattle.commit_driver.specs.Places.{files_of, entries_of, ways_of, IsPlace, IsSafe};
 ghost use Rattle.commit_driver.specs.Answers.{Finds, PassedSo, Looks, WritesGo, Takes, SawSo, Answered, IsAnswer, IsAfter, mending_at, judged_at};
 
-use crate::decision::{decision, file_kind};
+use crate::decision::{decided, own_way};
 use crate::judge::{Trouble, judge};
 use crate::{End, Passed, Place, Plan, Recovered, Step, Then};
 use commit_machine::staged_name;
-use commit_record::{Entry, EntryKind, Phase, Record, RecordError, read};
+use commit_record::{Entry, Phase, Record, RecordError, Way, read, way_of};
 use folder_change::Change;
 use mail_text::{Items, Memory, Text};
 use mbox_scan::Folder;
@@ -97,24 +97,24 @@ fn count(files: usize, entries: usize, then: Then) -> usize
     }
 }
 
-// What becomes of the file with this number: of an entry that was found, or of one that is to stand so.
-fn kind_at(place: &Place, at: usize, then: Then) -> EntryKind
+// How the file with this number comes to be: of an entry that was found, or of the plan.
+fn way_at(place: &Place, at: usize, then: Then) -> Way
     requires { at < count_at (length place.now.files) (entries_of place.now) then }
-    ensures { result ≡ kinds_of place.now then at }
+    ensures { result ≡ ways_of place.now then at }
 {
     match then {
-        Then::GoOn => place.found.entries.items()[at].kind,
-        Then::Answer(_) => file_kind(&place.files.items()[at]),
+        Then::GoOn => way_of(&place.found.entries.items()[at]),
+        Then::Answer(_) => own_way(place.ways.items(), at),
     }
 }
 
 // The first step for an entry. A removal that was found may be done already, so it is looked for first.
-fn place_one(kind: EntryKind, at: usize, then: Then) -> Step
-    ensures { result ≡ place_at kind at then }
+fn place_one(way: Way, at: usize, then: Then) -> Step
+    ensures { result ≡ place_at way at then }
 {
-    match kind {
-        EntryKind::Replace => Step::Placing(at, then),
-        EntryKind::Remove => match then {
+    match way {
+        Way::Replace => Step::Placing(at, then),
+        Way::Remove => match then {
             Then::GoOn => Step::Testing(at),
             Then::Answer(_) => Step::Removing(at, then),
         },
@@ -134,12 +134,12 @@ fn end_of(place: &Place, then: Then) -> usize
 
 // The first step for the entry with this number.
 fn placing(place: &Place, at: usize, then: Then) -> Step
-    ensures { result ≡ placing_at (kinds_of place.now) at
+    ensures { result ≡ placing_at (ways_of place.now) at
         (count_at (length place.now.files) (entries_of place.now) then) then }
 {
     let end = end_of(place, then);
     if at < end {
-        place_one(kind_at(place, at, then), at, then)
+        place_one(way_at(place, at, then), at, then)
     } else {
         unlocking(0, end, then)
     }
@@ -148,7 +148,7 @@ fn placing(place: &Place, at: usize, then: Then) -> Step
 // The first step for the entry after this one.
 fn placing_next(place: &Place, at: usize, then: Then) -> Step
     requires { at < count_at (length place.now.files) (entries_of place.now) then }
-    ensures { result ≡ placing_at (kinds_of place.now) (at + 1)
+    ensures { result ≡ placing_at (ways_of place.now) (at + 1)
         (count_at (length place.now.files) (entries_of place.now) then) then }
 {
     let end = end_of(place, then);
@@ -159,7 +159,7 @@ fn placing_next(place: &Place, at: usize, then: Then) -> Step
 // After the staged file of a removal was looked for.
 fn tested(place: &Place, at: usize, stands: bool) -> Step
     requires { at < entries_of place.now }
-    ensures { result ≡ tested_at (kinds_of place.now) (entries_of place.now) at stands }
+    ensures { result ≡ tested_at (ways_of place.now) (entries_of place.now) at stands }
 {
     if stands {
         Step::Removing(at, Then::GoOn)
@@ -247,7 +247,7 @@ fn short(files: usize, step: Step) -> Step
 fn went(commits: bool, files: usize, place: &Place, did: bool) -> Step
     requires fits { Fits files (entries_of place.now) place.now.step }
     requires files { files ≡ length place.now.files }
-    ensures { result ≡ went_at (kinds_of place.now) commits files (entries_of place.now)
+    ensures { result ≡ went_at (ways_of place.now) commits files (entries_of place.now)
         (is_go place.now.found) place.now.step did }
 {
     match place.step {
@@ -383,9 +383,10 @@ fn write_decision(
     ensures { WritesGo plan.now judged place.old result place.new }
 {
     match judged {
-        Ok(()) => match decision(alloc, &plan.value, place.files.items()) {
-            Ok(text) => {
-                place.go = text;
+        Ok(()) => match decided(alloc, &plan.value, place.files.items()) {
+            Ok(decision) => {
+                place.ways = decision.ways;
+                place.go = decision.text;
                 Ok(())
             }
             Err(Memory) => Err(Trouble::Memory),
@@ -440,7 +441,11 @@ fn saw(
 {
     match place.step {
         Step::Looking => look(alloc, plan, place, file),
-        Step::Testing(at) => place.step = tested(place, at, file.is_some()),
+        Step::Testing(at) => {
+            let stands = file.is_some();
+            place.seen = file;
+            place.step = tested(place, at, stands);
+        }
         Step::Loading(at) => take(alloc, plan, place, at, file, changes, base),
         Step::Checking => {
             let passed = passed_by(place.go.bytes(), file.as_ref());

@@ -3,7 +3,7 @@ ghost use Rattle.std.specs.Prelude.{◌≡◌};
 ghost use Rattle.commit_driver.specs.Places.{begun};
 
 use crate::Step;
-use commit_record::{Phase, Record};
+use commit_record::{Phase, Record, Way};
 use mail_text::{Items, Text};
 use std::alloc::Global;
 
@@ -35,9 +35,13 @@ pub struct Place {
     pub found: Record,
     /// The staged names of its entries.
     pub found_staged: Items<Text>,
+    /// What was seen of the staged file of the entry that is next.
+    pub seen: Option<Text>,
     /// The files that were loaded so far, and then what is to be staged for them: as many as the plan has.
     pub files: Items<Option<Text>>,
-    /// The text of the record of the decision, once it is known what becomes of the files.
+    /// How the files come to be, once that is known.
+    pub ways: Items<Way>,
+    /// The text of the record of the decision, once it is known how the files come to be.
     pub go: Text,
 }
 
@@ -54,7 +58,9 @@ impl Place {
                 entries: Items::new(alloc),
             },
             found_staged: Items::new(alloc),
+            seen: None,
             files,
+            ways: Items::new(alloc),
             go: Text::new(alloc),
         }
     }

@@ -4,4 +4,4 @@ use Rattle.commit_driver.proofs.decision.decided_entries.Given as goal
 
 -- the entries so far
 abbrev pub invariant-loop-at : goal.invariant-loop-at
-invariant-loop-at l = l.decided ≡ decided_entries (take l.at l.entries) (take l.at l.files)
+invariant-loop-at l = l.decided ≡ decided_entries (take l.at l.entries) (take l.at l.ways)

@@ -1,0 +1,148 @@
+-- How files come to be, by their numbers and by their names.
+use Rattle.std.proofs.Common.{◌≡◌, ℕ, zero, suc, ◌+◌, ◌<◌, Bool, true, false, not, ◌&&◌, ◌||◌, List, [], ◌∷◌, ◌++◌, length, map, take, get_or, refl, ap, sym, subst, inl, inr, ◌∙◌, add-one, arith}
+use Rattle.std.specs.Str.{bytes_eq}
+use Rattle.std.specs.List.{list_all, list_any}
+use Rattle.commit_record.specs.Names.{is_lawful}
+use Rattle.commit_record.specs.Format.{are_distinct, fit_phase, is_valid}
+use Rattle.commit_record.specs.Ways.{way_of, entry_for}
+use Rattle.commit_record.specs.declared.record.Record.{Record}
+use Rattle.commit_record.specs.declared.record.Entry.{Entry}
+use Rattle.commit_record.specs.declared.way.Way.{Way}
+use Rattle.commit_record.specs.declared.way.Way.TheVariants.{Replace}
+use Rattle.commit_machine.specs.Records.{has, AreDistinct}
+use Rattle.commit_machine.specs.Settled.{Mem}
+use Rattle.commit_machine.specs.Items.{Item, found_item, made_item}
+use Rattle.commit_machine.specs.Jobs.{Made, entries_for, made_at, way_made}
+use Rattle.commit_machine.proofs.records.Same.{same_refl, same_false, Mem_has}
+use Rattle.commit_machine.proofs.records.OfItems.{name-entry_for}
+use Rattle.commit_machine.proofs.records.OfJob.{tests, any-phase}
+use Rattle.commit_driver.specs.Places.{nth, nth_item, decided_entries, decided_record}
+
+nth-Mem : (ns : List (List ℕ)) (at : ℕ) → at < length ns → Mem (nth ns at) ns
+nth-Mem [] at l = absurd (omega (arith, l))
+nth-Mem (n ∷ ns) zero l = inl refl
+nth-Mem (n ∷ ns) (suc at) l = inr (nth-Mem ns at (omega (arith, l)))
+
+-- a name after the first is another
+behind : (n m : List ℕ) (ns : List (List ℕ)) → has ns n ≡ false → Mem m ns → bytes_eq m n ≡ false
+behind n m ns h mem = same_false m n (λ e. let w : has ns n ≡ true = Mem_has ns n (subst (λ (z : List ℕ). Mem z ns) e mem) in absurd (cc))
+
+-- the ways of what was found are those of its entries
+pub way-found : (es : List Entry) (at : ℕ) → get_or (map way_of es) at Replace ≡ (nth_item (map found_item es) at).way
+way-found [] at = refl
+way-found (e ∷ es) zero = refl
+way-found (e ∷ es) (suc at) = way-found es at
+
+-- their names are those of the entries
+pub name-found : (es : List Entry) (at : ℕ) → (nth_item (map found_item es) at).name ≡ nth (map (λ (e : Entry). e.name) es) at
+name-found [] at = refl
+name-found (e ∷ es) zero = refl
+name-found (e ∷ es) (suc at) = name-found es at
+
+-- and those of what was made its own
+pub name-made : (made : List Made) (ns : List (List ℕ)) (at : ℕ) → (nth_item (map (made_item made) ns) at).name ≡ nth ns at
+name-made made [] at = refl
+name-made made (n ∷ ns) zero = refl
+name-made made (n ∷ ns) (suc at) = name-made made ns at
+
+-- what was made for a number is what was made for its name
+pub item-made : (made : List Made) (ns : List (List ℕ)) (at : ℕ) → at < length ns → nth_item (map (made_item made) ns) at ≡ made_item made (nth ns at)
+item-made made [] at l = absurd (omega (arith, l))
+item-made made (n ∷ ns) zero l = refl
+item-made made (n ∷ ns) (suc at) l = item-made made ns at (omega (arith, l))
+
+made-names-long : (made : List Made) → length (map (λ (x : Made). x.edit.name) made) ≡ length made
+made-names-long [] = refl
+made-names-long (x ∷ xs) = ap suc (made-names-long xs)
+
+-- the way of a file that was made is what was made for its name
+pub way-made : (made : List Made) (at : ℕ) → AreDistinct (map (λ (x : Made). x.edit.name) made) → at < length made → get_or (map (λ (x : Made). x.way) made) at Replace ≡ way_made (made_at made (nth (map (λ (x : Made). x.edit.name) made) at))
+way-made [] at d l = absurd (omega (arith, l))
+way-made (x ∷ xs) zero d l = let same = same_refl x.edit.name in rw same refl
+way-made (x ∷ xs) (suc at) d l =
+    let ns = map (λ (y : Made). y.edit.name) xs in
+    let other = behind x.edit.name (nth ns at) ns d.0 (nth-Mem ns at (omega (arith, l, made-names-long xs))) in
+    rw other (way-made xs at d.1 (omega (arith, l)))
+
+-- one more entry of the decision
+taken : (es : List Entry) (ways : List Way) (at : ℕ) (d : Entry) (w : Way) → at < length es → at < length ways
+    → decided_entries (take (suc at) es) (take (suc at) ways) ≡ decided_entries (take at es) (take at ways) ++ entry_for (get_or ways at w) (get_or es at d).name ∷ []
+taken [] ways at d x l k = absurd (omega (arith, l))
+taken (e ∷ es) [] at d x l k = absurd (omega (arith, k))
+taken (e ∷ es) (w ∷ ws) zero d x l k = refl
+taken (e ∷ es) (w ∷ ws) (suc at) d x l k = ap (λ (xs : List Entry). entry_for w e.name ∷ xs) (taken es ws at d x (omega (arith, l)) (omega (arith, k)))
+
+pub decided-more : (es : List Entry) (ways : List Way) (at : ℕ) (d : Entry) (w : Way) → at < length es → at < length ways
+    → decided_entries (take (at + 1) es) (take (at + 1) ways) ≡ decided_entries (take at es) (take at ways) ++ entry_for (get_or ways at w) (get_or es at d).name ∷ []
+decided-more es ways at d w l k = ap (λ (n : ℕ). decided_entries (take n es) (take n ways)) (add-one at) ∙ taken es ways at d w l k
+
+-- the entries of the decision, by their names
+pub decided-are : (by : List ℕ → Way) (es : List Entry) (ways : List Way) → ways ≡ map by (map (λ (e : Entry). e.name) es) → decided_entries es ways ≡ entries_for by (map (λ (e : Entry). e.name) es)
+decided-are by [] ways k = refl
+decided-are by (e ∷ es) [] k = absurd (cc)
+decided-are by (e ∷ es) (w ∷ ws) k =
+    let first : w ≡ by e.name = cc in
+    let rest : ws ≡ map by (map (λ (x : Entry). x.name) es) = cc in
+    ap (λ (v : Way). entry_for v e.name ∷ decided_entries es ws) first
+    ∙ ap (λ (xs : List Entry). entry_for (by e.name) e.name ∷ xs) (decided-are by es ws rest)
+
+or-none : (a b : Bool) → (a || b) ≡ false → (a ≡ false) × (b ≡ false)
+or-none true b h = absurd (cc)
+or-none false b h = (refl, h)
+
+-- names of a list aren't this one
+made-later : (x : Made) (xs : List Made) (ns : List (List ℕ)) → has ns x.edit.name ≡ false → map (λ (n : List ℕ). way_made (made_at (x ∷ xs) n)) ns ≡ map (λ (n : List ℕ). way_made (made_at xs n)) ns
+made-later x xs [] h = refl
+made-later x xs (n ∷ ns) h =
+    let b = or-none (bytes_eq x.edit.name n) (has ns x.edit.name) h in
+    let other : bytes_eq n x.edit.name ≡ false = same_false n x.edit.name (λ e. let w : bytes_eq x.edit.name n ≡ true = subst (λ (z : List ℕ). bytes_eq x.edit.name z ≡ true) (sym e) (same_refl x.edit.name) in absurd (cc)) in
+    let one : way_made (made_at (x ∷ xs) n) ≡ way_made (made_at xs n) = rw other refl in
+    ap (λ (k : Way). k ∷ map (λ (m : List ℕ). way_made (made_at (x ∷ xs) m)) ns) one ∙ ap (λ (ks : List Way). way_made (made_at xs n) ∷ ks) (made-later x xs ns b.1)
+
+-- what was made, by its names
+pub ways-by-name : (made : List Made) → AreDistinct (map (λ (x : Made). x.edit.name) made) → map (λ (x : Made). x.way) made ≡ map (λ (n : List ℕ). way_made (made_at made n)) (map (λ (x : Made). x.edit.name) made)
+ways-by-name [] d = refl
+ways-by-name (x ∷ xs) d =
+    let same = same_refl x.edit.name in
+    let first : way_made (made_at (x ∷ xs) x.edit.name) ≡ x.way = rw same refl in
+    let ns = map (λ (y : Made). y.edit.name) xs in
+    ap (λ (k : Way). k ∷ map (λ (y : Made). y.way) xs) (sym first)
+    ∙ ap (λ (ks : List Way). way_made (made_at (x ∷ xs) x.edit.name) ∷ ks) (ways-by-name xs d.1 ∙ sym (made-later x xs ns d.0))
+
+-- the tests of a valid record are by its names alone
+decided-long : (es : List Entry) (ways : List Way) → length ways ≡ length es → length (decided_entries es ways) ≡ length es
+decided-long [] ways l = refl
+decided-long (e ∷ es) [] l = absurd (omega (arith, l))
+decided-long (e ∷ es) (w ∷ ws) l = ap suc (decided-long es ws (omega (arith, l)))
+
+decided-lawful : (es : List Entry) (ways : List Way) → length ways ≡ length es → list_all (λ (e : Entry). is_lawful e.name) (decided_entries es ways) ≡ list_all (λ (e : Entry). is_lawful e.name) es
+decided-lawful [] ways l = refl
+decided-lawful (e ∷ es) [] l = absurd (omega (arith, l))
+decided-lawful (e ∷ es) (w ∷ ws) l =
+    ap (λ (n : List ℕ). is_lawful n && list_all (λ (x : Entry). is_lawful x.name) (decided_entries es ws)) (name-entry_for w e.name)
+    ∙ ap (λ (b : Bool). is_lawful e.name && b) (decided-lawful es ws (omega (arith, l)))
+
+decided-any : (n : List ℕ) (es : List Entry) (ways : List Way) → length ways ≡ length es → list_any (λ (e : Entry). bytes_eq n e.name) (decided_entries es ways) ≡ list_any (λ (e : Entry). bytes_eq n e.name) es
+decided-any n [] ways l = refl
+decided-any n (e ∷ es) [] l = absurd (omega (arith, l))
+decided-any n (e ∷ es) (w ∷ ws) l =
+    ap (λ (m : List ℕ). bytes_eq n m || list_any (λ (x : Entry). bytes_eq n x.name) (decided_entries es ws)) (name-entry_for w e.name)
+    ∙ ap (λ (b : Bool). bytes_eq n e.name || b) (decided-any n es ws (omega (arith, l)))
+
+decided-distinct : (es : List Entry) (ways : List Way) → length ways ≡ length es → are_distinct (decided_entries es ways) ≡ are_distinct es
+decided-distinct [] ways l = refl
+decided-distinct (e ∷ es) [] l = absurd (omega (arith, l))
+decided-distinct (e ∷ es) (w ∷ ws) l =
+    ap (λ (n : List ℕ). not (list_any (λ (o : Entry). bytes_eq n o.name) (decided_entries es ws)) && are_distinct (decided_entries es ws)) (name-entry_for w e.name)
+    ∙ ap (λ (b : Bool). not b && are_distinct (decided_entries es ws)) (decided-any e.name es ws (omega (arith, l)))
+    ∙ ap (λ (b : Bool). not (list_any (λ (o : Entry). bytes_eq e.name o.name) es) && b) (decided-distinct es ws (omega (arith, l)))
+
+-- the record of the decision is valid
+pub decided-valid : (value : Record) (ways : List Way) → length ways ≡ length value.entries → is_valid value ≡ true → is_valid (decided_record value ways) ≡ true
+decided-valid value ways l h =
+    let es = value.entries in
+    let ds = decided_entries es ways in
+    ap (λ (n : ℕ). tests n (list_all (λ (e : Entry). is_lawful e.name) ds) (are_distinct ds && true)) (decided-long es ways l)
+    ∙ ap (λ (b : Bool). tests (length es) b (are_distinct ds && true)) (decided-lawful es ways l)
+    ∙ ap (λ (b : Bool). tests (length es) (list_all (λ (e : Entry). is_lawful e.name) es) (b && true)) (decided-distinct es ways l)
+    ∙ any-phase (length es) (list_all (λ (e : Entry). is_lawful e.name) es) (are_distinct es) (fit_phase value.phase es) h
