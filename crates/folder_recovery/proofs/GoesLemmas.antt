@@ -4,10 +4,11 @@ use Rattle.std.specs.declared.option.Option.{Option}
 use Rattle.std.specs.declared.option.Option.TheVariants.{Some, None}
 use Rattle.std.proofs.lemmas.Bool.{cases_Bool}
 use Rattle.host_port.specs.declared.event.Event.{Event}
-use Rattle.commit_record.specs.declared.record.EntryKind.{EntryKind}
-use Rattle.commit_record.specs.declared.record.EntryKind.TheVariants.{Replace, Remove}
 use Rattle.commit_record.specs.declared.record.Record.{Record}
-use Rattle.commit_machine.specs.Records.{record_of, is_go, names_of, kind_of}
+use Rattle.commit_record.specs.declared.way.Way.{Way}
+use Rattle.commit_record.specs.declared.way.Way.TheVariants.{Replace, Remove}
+use Rattle.commit_machine.specs.Records.{record_of, is_go, names_of}
+use Rattle.commit_machine.specs.Items.{Item, found_items}
 use Rattle.commit_machine.specs.Jobs.{Passed, Before, Ending, Recovered, Refused, Failed, NoMemory, Job}
 use Rattle.commit_machine.specs.Edits.{recovery_for}
 use Rattle.commit_machine.specs.Machine.{State, Seizing, Looking, Undoing, Placing, Testing, Removing, Discarding, Unlocking, Erasing, Clearing, Releasing, Ended, GoOn, Reply, Went, Saw, Long, Short, unlocking, undoing, place_one, placing, tested, record_seen, refused, after_reply, passed_at, passed_ending}
@@ -26,10 +27,10 @@ abbrev pub Mends : State → Type 0
 Mends Seizing = Unit {0}
 Mends Looking = Unit {0}
 Mends (Undoing r n ns ls GoOn) = Unit {0}
-Mends (Placing r n ns ls GoOn) = Unit {0}
-Mends (Testing r n ns ls) = Unit {0}
-Mends (Removing r n ns ls GoOn) = Unit {0}
-Mends (Discarding r n ns ls GoOn) = Unit {0}
+Mends (Placing r x xs ls GoOn) = Unit {0}
+Mends (Testing r x xs ls) = Unit {0}
+Mends (Removing r x xs ls GoOn) = Unit {0}
+Mends (Discarding r x xs ls GoOn) = Unit {0}
 Mends (Unlocking r n ns GoOn) = Unit {0}
 Mends (Erasing r GoOn) = Unit {0}
 Mends (Clearing f) = Unit {0}
@@ -45,21 +46,21 @@ mends-undoing : (r : Record) (ns ls : List (List ℕ)) → Mends (undoing r ns l
 mends-undoing r [] ls = mends-unlocking r ls
 mends-undoing r (n ∷ ns) ls = tt
 
-mends-one : (kind : EntryKind) (r : Record) (n : List ℕ) (ns ls : List (List ℕ)) → Mends (place_one kind r n ns ls GoOn)
-mends-one Replace r n ns ls = tt
-mends-one Remove r n ns ls = tt
+mends-one : (way : Way) (r : Record) (x : Item) (xs : List Item) (ls : List (List ℕ)) → Mends (place_one way r x xs ls GoOn)
+mends-one Replace r x xs ls = tt
+mends-one Remove r x xs ls = tt
 
-mends-placing : (r : Record) (ns ls : List (List ℕ)) → Mends (placing r ns ls GoOn)
+mends-placing : (r : Record) (xs : List Item) (ls : List (List ℕ)) → Mends (placing r xs ls GoOn)
 mends-placing r [] ls = mends-unlocking r ls
-mends-placing r (n ∷ ns) ls = mends-one (kind_of r n) r n ns ls
+mends-placing r (x ∷ xs) ls = mends-one x.way r x xs ls
 
-mends-tested : (r : Record) (n : List ℕ) (ns ls : List (List ℕ)) (c : Option (List ℕ)) → Mends (tested r n ns ls c)
-mends-tested r n ns ls None = mends-placing r ns ls
-mends-tested r n ns ls (Some bytes) = tt
+mends-tested : (r : Record) (x : Item) (xs : List Item) (ls : List (List ℕ)) (c : Option (List ℕ)) → Mends (tested r x xs ls c)
+mends-tested r x xs ls None = mends-placing r xs ls
+mends-tested r x xs ls (Some bytes) = tt
 
 mends-seen : (o : Option Record) → Mends (record_seen o)
 mends-seen None = tt
-mends-seen (Some r) = elim (cases_Bool (is_go r)) [ inl y ↦ rw y (mends-placing r (names_of r) (names_of r)) | inr nay ↦ rw nay (mends-undoing r (names_of r) (names_of r)) ]
+mends-seen (Some r) = elim (cases_Bool (is_go r)) [ inl y ↦ rw y (mends-placing r (found_items r) (names_of r)) | inr nay ↦ rw nay (mends-undoing r (names_of r) (names_of r)) ]
 
 ending-before : (e : Ending) → MayEnd e → passed_ending e ≡ Before
 ending-before (Recovered f) h = refl
@@ -72,10 +73,10 @@ before : (s : State) → Mends s → passed_at s ≡ Before
 before Seizing h = refl
 before Looking h = refl
 before (Undoing r n ns ls GoOn) h = refl
-before (Placing r n ns ls GoOn) h = refl
-before (Testing r n ns ls) h = refl
-before (Removing r n ns ls GoOn) h = refl
-before (Discarding r n ns ls GoOn) h = refl
+before (Placing r x xs ls GoOn) h = refl
+before (Testing r x xs ls) h = refl
+before (Removing r x xs ls GoOn) h = refl
+before (Discarding r x xs ls GoOn) h = refl
 before (Unlocking r n ns GoOn) h = refl
 before (Erasing r GoOn) h = refl
 before (Clearing f) h = refl
@@ -95,10 +96,10 @@ module _ (actor : List ℕ) (token : ℕ) where
   mends-refused Seizing h = tt
   mends-refused Looking h = tt
   mends-refused (Undoing r n ns ls GoOn) h = tt
-  mends-refused (Placing r n ns ls GoOn) h = tt
-  mends-refused (Testing r n ns ls) h = tt
-  mends-refused (Removing r n ns ls GoOn) h = tt
-  mends-refused (Discarding r n ns ls GoOn) h = tt
+  mends-refused (Placing r x xs ls GoOn) h = tt
+  mends-refused (Testing r x xs ls) h = tt
+  mends-refused (Removing r x xs ls GoOn) h = tt
+  mends-refused (Discarding r x xs ls GoOn) h = tt
   mends-refused (Unlocking r n ns GoOn) h = tt
   mends-refused (Erasing r GoOn) h = tt
   mends-refused (Clearing f) h = tt
@@ -113,11 +114,11 @@ module _ (actor : List ℕ) (token : ℕ) where
   mends-reply Looking (Saw (Some bytes)) h = mends-seen (record_of bytes)
   mends-reply Looking (Long n) h = tt
   mends-reply (Undoing r n ns ls GoOn) (Went b) h = mends-undoing r ns ls
-  mends-reply (Placing r n ns ls GoOn) (Went b) h = mends-placing r ns ls
-  mends-reply (Testing r n ns ls) (Saw c) h = mends-tested r n ns ls c
-  mends-reply (Testing r n ns ls) (Long m) h = tt
-  mends-reply (Removing r n ns ls GoOn) (Went b) h = tt
-  mends-reply (Discarding r n ns ls GoOn) (Went b) h = mends-placing r ns ls
+  mends-reply (Placing r x xs ls GoOn) (Went b) h = mends-placing r xs ls
+  mends-reply (Testing r x xs ls) (Saw c) h = mends-tested r x xs ls c
+  mends-reply (Testing r x xs ls) (Long m) h = tt
+  mends-reply (Removing r x xs ls GoOn) (Went b) h = tt
+  mends-reply (Discarding r x xs ls GoOn) (Went b) h = mends-placing r xs ls
   mends-reply (Unlocking r n ns GoOn) (Went b) h = mends-unlocking r ns
   mends-reply (Erasing r GoOn) (Went b) h = tt
   mends-reply (Clearing f) (Went b) h = tt
@@ -127,20 +128,20 @@ module _ (actor : List ℕ) (token : ℕ) where
   mends-reply Seizing Short h = tt
   mends-reply Looking Short h = tt
   mends-reply (Undoing r n ns ls GoOn) Short h = tt
-  mends-reply (Placing r n ns ls GoOn) Short h = tt
-  mends-reply (Testing r n ns ls) Short h = tt
-  mends-reply (Removing r n ns ls GoOn) Short h = tt
-  mends-reply (Discarding r n ns ls GoOn) Short h = tt
+  mends-reply (Placing r x xs ls GoOn) Short h = tt
+  mends-reply (Testing r x xs ls) Short h = tt
+  mends-reply (Removing r x xs ls GoOn) Short h = tt
+  mends-reply (Discarding r x xs ls GoOn) Short h = tt
   mends-reply (Unlocking r n ns GoOn) Short h = tt
   mends-reply (Erasing r GoOn) Short h = tt
   mends-reply (Clearing f) Short h = tt
   mends-reply Seizing r h = tt
   mends-reply Looking r h = tt
   mends-reply (Undoing q n ns ls GoOn) r h = fails (Undoing q n ns ls GoOn) h
-  mends-reply (Placing q n ns ls GoOn) r h = fails (Placing q n ns ls GoOn) h
-  mends-reply (Testing q n ns ls) r h = fails (Testing q n ns ls) h
-  mends-reply (Removing q n ns ls GoOn) r h = fails (Removing q n ns ls GoOn) h
-  mends-reply (Discarding q n ns ls GoOn) r h = fails (Discarding q n ns ls GoOn) h
+  mends-reply (Placing q x xs ls GoOn) r h = fails (Placing q x xs ls GoOn) h
+  mends-reply (Testing q x xs ls) r h = fails (Testing q x xs ls) h
+  mends-reply (Removing q x xs ls GoOn) r h = fails (Removing q x xs ls GoOn) h
+  mends-reply (Discarding q x xs ls GoOn) r h = fails (Discarding q x xs ls GoOn) h
   mends-reply (Unlocking q n ns GoOn) r h = fails (Unlocking q n ns GoOn) h
   mends-reply (Erasing q GoOn) r h = fails (Erasing q GoOn) h
   mends-reply (Clearing f) r h = fails (Clearing f) h

@@ -9,11 +9,12 @@ use Rattle.host_port.specs.declared.event.Event.{Event}
 use Rattle.host_port.specs.declared.event.Event.TheVariants as event
 use Rattle.host_port.specs.declared.event.Seen.{Seen}
 use Rattle.host_port.specs.declared.event.Seen.TheVariants as seen
-use Rattle.commit_record.specs.declared.record.EntryKind.{EntryKind}
-use Rattle.commit_record.specs.declared.record.EntryKind.TheVariants.{Replace, Remove}
 use Rattle.commit_record.specs.declared.record.Record.{Record}
+use Rattle.commit_record.specs.declared.way.Way.{Way}
+use Rattle.commit_record.specs.declared.way.Way.TheVariants.{Replace, Remove}
 use Rattle.commit_machine.specs.Names.{record_name, new_name, right_name, staged_name}
-use Rattle.commit_machine.specs.Records.{record_of, is_go, names_of, kind_of}
+use Rattle.commit_machine.specs.Records.{record_of, is_go, names_of}
+use Rattle.commit_machine.specs.Items.{Item, found_items}
 use Rattle.commit_machine.specs.Jobs.{Before, Found, Nothing, Busy, NotARecord, TooLarge, Ending, Recovered, Refused, Failed, NoMemory, Job}
 use Rattle.commit_machine.specs.Edits.{recovery_for}
 use Rattle.commit_machine.specs.Machine.{State, Seizing, Looking, Undoing, Placing, Testing, Removing, Discarding, Unlocking, Erasing, Clearing, Releasing, Ended, GoOn, ToLoad, ToErase, ToPublish, ToUnlock, ToSeize, ToRelease, unlocking, undoing, place_one, placing, mending, record_seen, found_of, next, refused, after_reply}
@@ -35,10 +36,10 @@ ended es x = unless_failed es (unless_long es x)
 -- the states of a recovery on the way to an end
 abbrev Heads : Ending → State → Type 0
 Heads x (Undoing r n ns ls GoOn) = x ≡ Recovered (found_of r)
-Heads x (Placing r n ns ls GoOn) = x ≡ Recovered (found_of r)
-Heads x (Testing r n ns ls) = x ≡ Recovered (found_of r)
-Heads x (Removing r n ns ls GoOn) = x ≡ Recovered (found_of r)
-Heads x (Discarding r n ns ls GoOn) = x ≡ Recovered (found_of r)
+Heads x (Placing r y ys ls GoOn) = x ≡ Recovered (found_of r)
+Heads x (Testing r y ys ls) = x ≡ Recovered (found_of r)
+Heads x (Removing r y ys ls GoOn) = x ≡ Recovered (found_of r)
+Heads x (Discarding r y ys ls GoOn) = x ≡ Recovered (found_of r)
 Heads x (Unlocking r n ns GoOn) = x ≡ Recovered (found_of r)
 Heads x (Erasing r GoOn) = x ≡ Recovered (found_of r)
 Heads x (Clearing f) = x ≡ Recovered f
@@ -52,16 +53,16 @@ heads_undoing : (x : Ending) (r : Record) (ns ls : List (List ℕ)) → x ≡ Re
 heads_undoing x r [] ls h = heads_unlocking x r ls h
 heads_undoing x r (n ∷ ns) ls h = h
 
-heads_one : (x : Ending) (kind : EntryKind) (r : Record) (n : List ℕ) (ns ls : List (List ℕ)) → x ≡ Recovered (found_of r) → Heads x (place_one kind r n ns ls GoOn)
-heads_one x Replace r n ns ls h = h
-heads_one x Remove r n ns ls h = h
+heads_one : (x : Ending) (way : Way) (r : Record) (y : Item) (ys : List Item) (ls : List (List ℕ)) → x ≡ Recovered (found_of r) → Heads x (place_one way r y ys ls GoOn)
+heads_one x Replace r y ys ls h = h
+heads_one x Remove r y ys ls h = h
 
-heads_placing : (x : Ending) (r : Record) (ns ls : List (List ℕ)) → x ≡ Recovered (found_of r) → Heads x (placing r ns ls GoOn)
+heads_placing : (x : Ending) (r : Record) (ys : List Item) (ls : List (List ℕ)) → x ≡ Recovered (found_of r) → Heads x (placing r ys ls GoOn)
 heads_placing x r [] ls h = heads_unlocking x r ls h
-heads_placing x r (n ∷ ns) ls h = heads_one x (kind_of r n) r n ns ls h
+heads_placing x r (y ∷ ys) ls h = heads_one x y.way r y ys ls h
 
 heads_mending : (x : Ending) (r : Record) → x ≡ Recovered (found_of r) → Heads x (mending r)
-heads_mending x r h = elim (cases_Bool (is_go r)) [ inl y ↦ rw y (heads_placing x r (names_of r) (names_of r) h) | inr nay ↦ rw nay (heads_undoing x r (names_of r) (names_of r) h) ]
+heads_mending x r h = elim (cases_Bool (is_go r)) [ inl y ↦ rw y (heads_placing x r (found_items r) (names_of r) h) | inr nay ↦ rw nay (heads_undoing x r (names_of r) (names_of r) h) ]
 
 erase-is : (n : List ℕ) (e : Event) → IsOf (ToErase n) e → (done : Bool) × (failed : Bool) × (e ≡ event.Erase n done failed)
 erase-is n e (erases {done = done} {failed = failed}) = (done, failed, refl)
@@ -100,24 +101,24 @@ module _ (actor : List ℕ) (token : ℕ) where
   undoing-stays x r n ns ls h done true = inr (Failed Before, refl, λ m. refl)
   undoing-stays x r n ns ls h done false = inl (heads_undoing x r ns ls h, λ es. refl)
 
-  placing-stays : (x : Ending) (r : Record) (n : List ℕ) (ns ls : List (List ℕ)) → x ≡ Recovered (found_of r) → (done failed : Bool) → Stays x (Placing r n ns ls GoOn) (event.Publish (staged_name r.token n) n done failed)
-  placing-stays x r n ns ls h done true = inr (Failed Before, refl, λ m. refl)
-  placing-stays x r n ns ls h done false = inl (heads_placing x r ns ls h, λ es. refl)
+  placing-stays : (x : Ending) (r : Record) (y : Item) (ys : List Item) (ls : List (List ℕ)) → x ≡ Recovered (found_of r) → (done failed : Bool) → Stays x (Placing r y ys ls GoOn) (event.Publish (staged_name r.token y.name) y.name done failed)
+  placing-stays x r y ys ls h done true = inr (Failed Before, refl, λ m. refl)
+  placing-stays x r y ys ls h done false = inl (heads_placing x r ys ls h, λ es. refl)
 
-  testing-stays : (x : Ending) (r : Record) (n : List ℕ) (ns ls : List (List ℕ)) → x ≡ Recovered (found_of r) → (s : Seen) → (Stays x (Testing r n ns ls) (event.Load (staged_name r.token n) s)) ⊎ (s ≡ seen.Memory)
-  testing-stays x r n ns ls h (seen.Bytes None held) = inl (inl (heads_placing x r ns ls h, λ es. refl))
-  testing-stays x r n ns ls h (seen.Bytes (Some bytes) held) = inl (inl (h, λ es. refl))
-  testing-stays x r n ns ls h (seen.TooLarge k) = inl (inr (Refused (TooLarge (staged_name r.token n) k), refl, λ m. refl))
-  testing-stays x r n ns ls h seen.Failed = inl (inr (Failed Before, refl, λ m. refl))
-  testing-stays x r n ns ls h seen.Memory = inr refl
+  testing-stays : (x : Ending) (r : Record) (y : Item) (ys : List Item) (ls : List (List ℕ)) → x ≡ Recovered (found_of r) → (s : Seen) → (Stays x (Testing r y ys ls) (event.Load (staged_name r.token y.name) s)) ⊎ (s ≡ seen.Memory)
+  testing-stays x r y ys ls h (seen.Bytes None held) = inl (inl (heads_placing x r ys ls h, λ es. refl))
+  testing-stays x r y ys ls h (seen.Bytes (Some bytes) held) = inl (inl (h, λ es. refl))
+  testing-stays x r y ys ls h (seen.TooLarge k) = inl (inr (Refused (TooLarge (staged_name r.token y.name) k), refl, λ m. refl))
+  testing-stays x r y ys ls h seen.Failed = inl (inr (Failed Before, refl, λ m. refl))
+  testing-stays x r y ys ls h seen.Memory = inr refl
 
-  removing-stays : (x : Ending) (r : Record) (n : List ℕ) (ns ls : List (List ℕ)) → x ≡ Recovered (found_of r) → (done failed : Bool) → Stays x (Removing r n ns ls GoOn) (event.Erase n done failed)
-  removing-stays x r n ns ls h done true = inr (Failed Before, refl, λ m. refl)
-  removing-stays x r n ns ls h done false = inl (h, λ es. refl)
+  removing-stays : (x : Ending) (r : Record) (y : Item) (ys : List Item) (ls : List (List ℕ)) → x ≡ Recovered (found_of r) → (done failed : Bool) → Stays x (Removing r y ys ls GoOn) (event.Erase y.name done failed)
+  removing-stays x r y ys ls h done true = inr (Failed Before, refl, λ m. refl)
+  removing-stays x r y ys ls h done false = inl (h, λ es. refl)
 
-  discarding-stays : (x : Ending) (r : Record) (n : List ℕ) (ns ls : List (List ℕ)) → x ≡ Recovered (found_of r) → (done failed : Bool) → Stays x (Discarding r n ns ls GoOn) (event.Erase (staged_name r.token n) done failed)
-  discarding-stays x r n ns ls h done true = inr (Failed Before, refl, λ m. refl)
-  discarding-stays x r n ns ls h done false = inl (heads_placing x r ns ls h, λ es. refl)
+  discarding-stays : (x : Ending) (r : Record) (y : Item) (ys : List Item) (ls : List (List ℕ)) → x ≡ Recovered (found_of r) → (done failed : Bool) → Stays x (Discarding r y ys ls GoOn) (event.Erase (staged_name r.token y.name) done failed)
+  discarding-stays x r y ys ls h done true = inr (Failed Before, refl, λ m. refl)
+  discarding-stays x r y ys ls h done false = inl (heads_placing x r ys ls h, λ es. refl)
 
   unlocking-stays : (x : Ending) (r : Record) (n : List ℕ) (ns : List (List ℕ)) → x ≡ Recovered (found_of r) → (done failed : Bool) → Stays x (Unlocking r n ns GoOn) (event.Unlock n r.token done failed)
   unlocking-stays x r n ns h done true = inr (Failed Before, refl, λ m. refl)
@@ -137,12 +138,12 @@ module _ (actor : List ℕ) (token : ℕ) where
 
   stays : (x : Ending) (s : State) (e : Event) → Heads x s → IsNext (next job s) e → Passes x s e
   stays x (Undoing r n ns ls GoOn) e h is = let w = erase-is (staged_name r.token n) e is in subst (Passes x (Undoing r n ns ls GoOn)) (sym w.2) (inl (undoing-stays x r n ns ls h w.0 w.1))
-  stays x (Placing r n ns ls GoOn) e h is = let w = publish-is (staged_name r.token n) n e is in subst (Passes x (Placing r n ns ls GoOn)) (sym w.2) (inl (placing-stays x r n ns ls h w.0 w.1))
-  stays x (Testing r n ns ls) e h is =
-      let w = load-is (staged_name r.token n) e is in
-      subst (Passes x (Testing r n ns ls)) (sym w.1) (elim (testing-stays x r n ns ls h w.0) [ inl y ↦ inl y | inr m ↦ inr (ap (λ (s : Seen). after_reply job (Testing r n ns ls) (reply (event.Load (staged_name r.token n) s))) m) ])
-  stays x (Removing r n ns ls GoOn) e h is = let w = erase-is n e is in subst (Passes x (Removing r n ns ls GoOn)) (sym w.2) (inl (removing-stays x r n ns ls h w.0 w.1))
-  stays x (Discarding r n ns ls GoOn) e h is = let w = erase-is (staged_name r.token n) e is in subst (Passes x (Discarding r n ns ls GoOn)) (sym w.2) (inl (discarding-stays x r n ns ls h w.0 w.1))
+  stays x (Placing r y ys ls GoOn) e h is = let w = publish-is (staged_name r.token y.name) y.name e is in subst (Passes x (Placing r y ys ls GoOn)) (sym w.2) (inl (placing-stays x r y ys ls h w.0 w.1))
+  stays x (Testing r y ys ls) e h is =
+      let w = load-is (staged_name r.token y.name) e is in
+      subst (Passes x (Testing r y ys ls)) (sym w.1) (elim (testing-stays x r y ys ls h w.0) [ inl z ↦ inl z | inr m ↦ inr (ap (λ (s : Seen). after_reply job (Testing r y ys ls) (reply (event.Load (staged_name r.token y.name) s))) m) ])
+  stays x (Removing r y ys ls GoOn) e h is = let w = erase-is y.name e is in subst (Passes x (Removing r y ys ls GoOn)) (sym w.2) (inl (removing-stays x r y ys ls h w.0 w.1))
+  stays x (Discarding r y ys ls GoOn) e h is = let w = erase-is (staged_name r.token y.name) e is in subst (Passes x (Discarding r y ys ls GoOn)) (sym w.2) (inl (discarding-stays x r y ys ls h w.0 w.1))
   stays x (Unlocking r n ns GoOn) e h is = let w = unlock-is n r.token e is in subst (Passes x (Unlocking r n ns GoOn)) (sym w.2) (inl (unlocking-stays x r n ns h w.0 w.1))
   stays x (Erasing r GoOn) e h is = let w = erase-is (record_name actor) e is in subst (Passes x (Erasing r GoOn)) (sym w.2) (inl (erasing-stays x r h w.0 w.1))
   stays x (Clearing f) e h is = let w = erase-is (new_name actor) e is in subst (Passes x (Clearing f)) (sym w.2) (inl (clearing-stays x f h w.0 w.1))
@@ -151,10 +152,10 @@ module _ (actor : List ℕ) (token : ℕ) where
   -- memory runs out on the way
   refuses : (x : Ending) (s : State) → Heads x s → refused job s ≡ Releasing NoMemory
   refuses x (Undoing r n ns ls GoOn) h = refl
-  refuses x (Placing r n ns ls GoOn) h = refl
-  refuses x (Testing r n ns ls) h = refl
-  refuses x (Removing r n ns ls GoOn) h = refl
-  refuses x (Discarding r n ns ls GoOn) h = refl
+  refuses x (Placing r y ys ls GoOn) h = refl
+  refuses x (Testing r y ys ls) h = refl
+  refuses x (Removing r y ys ls GoOn) h = refl
+  refuses x (Discarding r y ys ls GoOn) h = refl
   refuses x (Unlocking r n ns GoOn) h = refl
   refuses x (Erasing r GoOn) h = refl
   refuses x (Clearing f) h = refl

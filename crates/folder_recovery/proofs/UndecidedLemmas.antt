@@ -28,10 +28,10 @@ module _ (actor : List ℕ) (token : ℕ) where
   event-undecided Seizing _ d h seizes = refl
   event-undecided Looking _ d h loads = refl
   event-undecided (Undoing r n ns ls GoOn) _ d h erases = refl
-  event-undecided (Placing r n ns ls GoOn) _ d h (publishes {done = done} {failed = failed}) = placed-undecided r.token n done failed d
-  event-undecided (Testing r n ns ls) _ d h loads = refl
-  event-undecided (Removing r n ns ls GoOn) _ d h erases = refl
-  event-undecided (Discarding r n ns ls GoOn) _ d h erases = refl
+  event-undecided (Placing r x xs ls GoOn) _ d h (publishes {done = done} {failed = failed}) = placed-undecided r.token x.name done failed d
+  event-undecided (Testing r x xs ls) _ d h loads = refl
+  event-undecided (Removing r x xs ls GoOn) _ d h erases = refl
+  event-undecided (Discarding r x xs ls GoOn) _ d h erases = refl
   event-undecided (Unlocking r n ns GoOn) _ d h unlocks = refl
   event-undecided (Erasing r GoOn) _ d h erases = refl
   event-undecided (Clearing f) _ d h erases = refl
