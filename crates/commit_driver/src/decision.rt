@@ -40,11 +40,7 @@ pub fn own_way(ways: &[Way], at: usize) -> Way
 }
 
 // The entries of files that come to be so.
-fn decided_entries(
-    alloc: Global,
-    entries: &[Entry],
-    ways: &[Way],
-) -> Result<Items<Entry>, Memory>
+fn decided_entries(alloc: Global, entries: &[Entry], ways: &[Way]) -> Result<Items<Entry>, Memory>
     requires { length ways.now ≡ length entries.now }
     ensures { IfOk result (λ es. es ≡ decided_entries entries.now ways.now) }
 {
@@ -79,11 +75,7 @@ pub struct Decision {
 }
 
 /// The decision of files that are to be so. `value` is its record as if all were replaced.
-pub fn decided(
-    alloc: Global,
-    value: &Record,
-    files: &[Option<Text>],
-) -> Result<Decision, Memory>
+pub fn decided(alloc: Global, value: &Record, files: &[Option<Text>]) -> Result<Decision, Memory>
     requires valid { is_valid value.now ≡ true }
     requires files { length files.now ≡ length value.now.entries }
     ensures ways { IfOk result (λ d. d.ways ≡ map file_way files.now) }

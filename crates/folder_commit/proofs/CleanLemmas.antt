@@ -10,6 +10,7 @@ use Rattle.commit_record.specs.Format.{written}
 use Rattle.commit_record.specs.declared.record.Record.{Record}
 use Rattle.commit_machine.specs.Names.{record_name, new_name, right_name, staged_name}
 use Rattle.commit_machine.specs.Jobs.{TooLarge, Ending, Refused, Failed, Edit, Job, Made, all_of, prepare_of, go_of}
+use Rattle.commit_machine.specs.Items.{Item}
 use Rattle.commit_machine.specs.Machine.{State, Seizing, Looking, Undoing, Placing, Testing, Removing, Discarding, Unlocking, Erasing, Clearing, Preparing, Publishing, Locking, Loading, Staging, Deciding, Committing, Checking, Releasing, Ended, Answer, ToLoad, ToStage, ToErase, ToPublish, ToLock, ToUnlock, ToSeize, ToRelease, unlocking, undoing, refusing, next, refused, after_reply}
 use Rattle.commit_machine.specs.Goes.{IsOf, loads, stages, stage_fails, publishes, erases, locks, unlocks, seizes, releases, IsNext, reply, Goes}
 use Rattle.commit_driver.specs.Drives.{is_past_limit}
@@ -188,9 +189,9 @@ module _ (j : Job) where
   l-loading done x left m (seen.TooLarge n) h = b-undoing (prepare_of j) [] (all_of j) (Refused (TooLarge x.name n)) tt
   l-loading done x left m s h = absurd (cc)
 
-  l-testing : (q : Record) (n : List ℕ) (ns ls : List (List ℕ)) (m : List ℕ) (s : Seen) → Led (Testing q n ns ls) (event.Load m s)
-  l-testing q n ns ls m (seen.TooLarge k) h = tt
-  l-testing q n ns ls m s h = absurd (cc)
+  l-testing : (q : Record) (x : Item) (xs : List Item) (ls : List (List ℕ)) (m : List ℕ) (s : Seen) → Led (Testing q x xs ls) (event.Load m s)
+  l-testing q x xs ls m (seen.TooLarge k) h = tt
+  l-testing q x xs ls m s h = absurd (cc)
 
   l-checking : (m : List ℕ) (s : Seen) → Led Checking (event.Load m s)
   l-checking m (seen.TooLarge n) h = tt
@@ -203,10 +204,10 @@ module _ (j : Job) where
   led Checking e is = let w = load-is (record_name j.actor) e is in subst (Led Checking) (sym w.1) (l-checking (record_name j.actor) w.0)
   led Seizing e is = let w = seize-is (right_name j.actor) e is in subst (Led Seizing) (sym w.2) (λ h. absurd (cc))
   led (Undoing r n ns ls th) e is = let w = erase-is (staged_name r.token n) e is in subst (Led (Undoing r n ns ls th)) (sym w.2) (λ h. absurd (cc))
-  led (Placing r n ns ls th) e is = let w = publish-is (staged_name r.token n) n e is in subst (Led (Placing r n ns ls th)) (sym w.2) (λ h. absurd (cc))
-  led (Testing r n ns ls) e is = let w = load-is (staged_name r.token n) e is in subst (Led (Testing r n ns ls)) (sym w.1) (l-testing r n ns ls (staged_name r.token n) w.0)
-  led (Removing r n ns ls th) e is = let w = erase-is n e is in subst (Led (Removing r n ns ls th)) (sym w.2) (λ h. absurd (cc))
-  led (Discarding r n ns ls th) e is = let w = erase-is (staged_name r.token n) e is in subst (Led (Discarding r n ns ls th)) (sym w.2) (λ h. absurd (cc))
+  led (Placing r x xs ls th) e is = let w = publish-is (staged_name r.token x.name) x.name e is in subst (Led (Placing r x xs ls th)) (sym w.2) (λ h. absurd (cc))
+  led (Testing r x xs ls) e is = let w = load-is (staged_name r.token x.name) e is in subst (Led (Testing r x xs ls)) (sym w.1) (l-testing r x xs ls (staged_name r.token x.name) w.0)
+  led (Removing r x xs ls th) e is = let w = erase-is x.name e is in subst (Led (Removing r x xs ls th)) (sym w.2) (λ h. absurd (cc))
+  led (Discarding r x xs ls th) e is = let w = erase-is (staged_name r.token x.name) e is in subst (Led (Discarding r x xs ls th)) (sym w.2) (λ h. absurd (cc))
   led (Unlocking r n ns th) e is = let w = unlock-is n r.token e is in subst (Led (Unlocking r n ns th)) (sym w.2) (λ h. absurd (cc))
   led (Erasing r th) e is = let w = erase-is (record_name j.actor) e is in subst (Led (Erasing r th)) (sym w.2) (λ h. absurd (cc))
   led (Clearing f) e is = let w = erase-is (new_name j.actor) e is in subst (Led (Clearing f)) (sym w.2) (λ h. absurd (cc))

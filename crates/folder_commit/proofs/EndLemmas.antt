@@ -4,10 +4,11 @@ use Rattle.std.specs.declared.option.Option.{Option}
 use Rattle.std.specs.declared.option.Option.TheVariants.{Some, None}
 use Rattle.std.proofs.lemmas.Bool.{cases_Bool}
 use Rattle.host_port.specs.declared.event.Event.{Event}
-use Rattle.commit_record.specs.declared.record.EntryKind.{EntryKind}
-use Rattle.commit_record.specs.declared.record.EntryKind.TheVariants.{Replace, Remove}
 use Rattle.commit_record.specs.declared.record.Record.{Record}
-use Rattle.commit_machine.specs.Records.{record_of, is_go, names_of, kind_of}
+use Rattle.commit_record.specs.declared.way.Way.{Way}
+use Rattle.commit_record.specs.declared.way.Way.TheVariants.{Replace, Remove}
+use Rattle.commit_machine.specs.Records.{record_of, is_go, names_of}
+use Rattle.commit_machine.specs.Items.{Item, found_items, made_items}
 use Rattle.commit_machine.specs.Settled.{Files}
 use Rattle.commit_machine.specs.Jobs.{Ending, Done, Recovered, Refused, NoMemory, Refusal, Outcome, Puts, Edit, Job, Made, all_of, seen_files, prepare_of, go_of}
 use Rattle.commit_machine.specs.Machine.{State, Seizing, Looking, Undoing, Placing, Testing, Removing, Discarding, Unlocking, Erasing, Clearing, Preparing, Publishing, Locking, Loading, Staging, Deciding, Committing, Checking, Releasing, Ended, Then, GoOn, Answer, Reply, Went, Saw, Long, Short, Fault, unlocking, undoing, removing, tested, place_one, placing, staging, record_seen, judged, loading, locking, loaded, refused, after_reply}
@@ -24,9 +25,9 @@ EndsThen (Answer e) = IsEnd e
 
 abbrev Commits : State → Type 0
 Commits (Undoing r n ns ls th) = EndsThen th
-Commits (Placing r n ns ls th) = EndsThen th
-Commits (Removing r n ns ls th) = EndsThen th
-Commits (Discarding r n ns ls th) = EndsThen th
+Commits (Placing r x xs ls th) = EndsThen th
+Commits (Removing r x xs ls th) = EndsThen th
+Commits (Discarding r x xs ls th) = EndsThen th
 Commits (Unlocking r n ns th) = EndsThen th
 Commits (Erasing r th) = EndsThen th
 Commits (Releasing e) = IsEnd e
@@ -41,25 +42,25 @@ c-undoing : (r : Record) (ns ls : List (List ℕ)) (th : Then) → EndsThen th �
 c-undoing r [] ls th h = c-unlocking r ls th h
 c-undoing r (n ∷ ns) ls th h = h
 
-c-removing : (r : Record) (n : List ℕ) (ns ls : List (List ℕ)) (th : Then) → EndsThen th → Commits (removing r n ns ls th)
-c-removing r n ns ls GoOn h = tt
-c-removing r n ns ls (Answer e) h = h
+c-removing : (r : Record) (x : Item) (xs : List Item) (ls : List (List ℕ)) (th : Then) → EndsThen th → Commits (removing r x xs ls th)
+c-removing r x xs ls GoOn h = tt
+c-removing r x xs ls (Answer e) h = h
 
-c-one : (kind : EntryKind) (r : Record) (n : List ℕ) (ns ls : List (List ℕ)) (th : Then) → EndsThen th → Commits (place_one kind r n ns ls th)
-c-one Replace r n ns ls th h = h
-c-one Remove r n ns ls th h = c-removing r n ns ls th h
+c-one : (way : Way) (r : Record) (x : Item) (xs : List Item) (ls : List (List ℕ)) (th : Then) → EndsThen th → Commits (place_one way r x xs ls th)
+c-one Replace r x xs ls th h = h
+c-one Remove r x xs ls th h = c-removing r x xs ls th h
 
-c-placing : (r : Record) (ns ls : List (List ℕ)) (th : Then) → EndsThen th → Commits (placing r ns ls th)
+c-placing : (r : Record) (xs : List Item) (ls : List (List ℕ)) (th : Then) → EndsThen th → Commits (placing r xs ls th)
 c-placing r [] ls th h = c-unlocking r ls th h
-c-placing r (n ∷ ns) ls th h = c-one (kind_of r n) r n ns ls th h
+c-placing r (x ∷ xs) ls th h = c-one x.way r x xs ls th h
 
-c-tested : (r : Record) (n : List ℕ) (ns ls : List (List ℕ)) (c : Option (List ℕ)) → Commits (tested r n ns ls c)
-c-tested r n ns ls None = c-placing r ns ls GoOn tt
-c-tested r n ns ls (Some bytes) = tt
+c-tested : (r : Record) (x : Item) (xs : List Item) (ls : List (List ℕ)) (c : Option (List ℕ)) → Commits (tested r x xs ls c)
+c-tested r x xs ls None = c-placing r xs ls GoOn tt
+c-tested r x xs ls (Some bytes) = tt
 
 c-seen : (o : Option Record) → Commits (record_seen o)
 c-seen None = tt
-c-seen (Some r) = elim (cases_Bool (is_go r)) [ inl y ↦ rw y (c-placing r (names_of r) (names_of r) GoOn tt) | inr nay ↦ rw nay (c-undoing r (names_of r) (names_of r) GoOn tt) ]
+c-seen (Some r) = elim (cases_Bool (is_go r)) [ inl y ↦ rw y (c-placing r (found_items r) (names_of r) GoOn tt) | inr nay ↦ rw nay (c-undoing r (names_of r) (names_of r) GoOn tt) ]
 
 c-staging : (ns : List (List ℕ)) (done left : List Made) → Commits (staging ns done left)
 c-staging ns done [] = tt
@@ -82,20 +83,20 @@ module _ (actor : List ℕ) (token : ℕ) (edits : List Edit) (refusal : Files �
   c-locking ls (e ∷ left) = tt
 
   c-loaded : (done : List Made) (e : Edit) (left : List Edit) (c : Option (List ℕ)) (o : Outcome) → Commits (loaded job done e left c o)
-  c-loaded done e left c (Puts kind content) = c-loading _ left
+  c-loaded done e left c (Puts way content) = c-loading _ left
 
   c-refused : (s : State) → Commits s → Commits (refused job s)
   c-refused Seizing h = tt
   c-refused Looking h = tt
   c-refused (Undoing r n ns ls GoOn) h = tt
   c-refused (Undoing r n ns ls (Answer e)) h = h
-  c-refused (Placing r n ns ls GoOn) h = tt
-  c-refused (Placing r n ns ls (Answer e)) h = h
-  c-refused (Testing r n ns ls) h = tt
-  c-refused (Removing r n ns ls GoOn) h = tt
-  c-refused (Removing r n ns ls (Answer e)) h = h
-  c-refused (Discarding r n ns ls GoOn) h = tt
-  c-refused (Discarding r n ns ls (Answer e)) h = h
+  c-refused (Placing r x xs ls GoOn) h = tt
+  c-refused (Placing r x xs ls (Answer e)) h = h
+  c-refused (Testing r x xs ls) h = tt
+  c-refused (Removing r x xs ls GoOn) h = tt
+  c-refused (Removing r x xs ls (Answer e)) h = h
+  c-refused (Discarding r x xs ls GoOn) h = tt
+  c-refused (Discarding r x xs ls (Answer e)) h = h
   c-refused (Unlocking r n ns GoOn) h = tt
   c-refused (Unlocking r n ns (Answer e)) h = h
   c-refused (Erasing r GoOn) h = tt
@@ -116,10 +117,10 @@ module _ (actor : List ℕ) (token : ℕ) (edits : List Edit) (refusal : Files �
   c-went Seizing true h = tt
   c-went Seizing false h = tt
   c-went (Undoing r n ns ls th) b h = c-undoing r ns ls th h
-  c-went (Placing r n ns ls th) b h = c-placing r ns ls th h
-  c-went (Testing r n ns ls) b h = tt
-  c-went (Removing r n ns ls th) b h = h
-  c-went (Discarding r n ns ls th) b h = c-placing r ns ls th h
+  c-went (Placing r x xs ls th) b h = c-placing r xs ls th h
+  c-went (Testing r x xs ls) b h = tt
+  c-went (Removing r x xs ls th) b h = h
+  c-went (Discarding r x xs ls th) b h = c-placing r xs ls th h
   c-went (Unlocking r n ns th) b h = c-unlocking r ns th h
   c-went (Erasing r GoOn) b h = tt
   c-went (Erasing r (Answer e)) b h = h
@@ -131,7 +132,7 @@ module _ (actor : List ℕ) (token : ℕ) (edits : List Edit) (refusal : Files �
   c-went (Locking ls e left) false h = c-undoing (prepare_of job) [] ls _ tt
   c-went (Staging ns done x left) b h = c-staging _ done left
   c-went (Deciding done) b h = tt
-  c-went (Committing done) true h = c-placing (go_of job done) (all_of job) (all_of job) (Answer Done) tt
+  c-went (Committing done) true h = c-placing (go_of job done) (made_items job done) (all_of job) (Answer Done) tt
   c-went (Committing done) false h = tt
   c-went (Releasing e) b h = h
   c-went Looking b h = tt
@@ -142,14 +143,14 @@ module _ (actor : List ℕ) (token : ℕ) (edits : List Edit) (refusal : Files �
   c-saw : (s : State) (c : Option (List ℕ)) → Commits s → Commits (after_reply job s (Saw c))
   c-saw Looking None h = tt
   c-saw Looking (Some bytes) h = c-seen (record_of bytes)
-  c-saw (Testing r n ns ls) c h = c-tested r n ns ls c
+  c-saw (Testing r x xs ls) c h = c-tested r x xs ls c
   c-saw (Loading done e left) c h = c-loaded done e left c (e.by c)
   c-saw Checking c h = tt
   c-saw s c h = tt
 
   c-long : (s : State) (n : ℕ) → Commits s → Commits (after_reply job s (Long n))
   c-long Looking n h = tt
-  c-long (Testing r m ns ls) n h = tt
+  c-long (Testing r x xs ls) n h = tt
   c-long (Loading done e left) n h = c-undoing (prepare_of job) [] (all_of job) _ tt
   c-long s n h = tt
 

@@ -54,9 +54,9 @@ known-then (Answer a) h = known-passed a h
 
 -- a call that fails at any state but that of the decision
 known-at : (s : State) → Clean s → is_bad s ≡ false → is_unknown_end (Failed (passed_at s)) ≡ false
-known-at (Placing r n ns ls th) h b = known-then th h
-known-at (Removing r n ns ls th) h b = known-then th h
-known-at (Discarding r n ns ls th) h b = known-then th h
+known-at (Placing r x xs ls th) h b = known-then th h
+known-at (Removing r x xs ls th) h b = known-then th h
+known-at (Discarding r x xs ls th) h b = known-then th h
 known-at (Unlocking r n ns th) h b = known-then th h
 known-at (Erasing r th) h b = known-then th h
 known-at (Releasing a) h b = known-passed a b

@@ -13,7 +13,8 @@ use Rattle.commit_record.specs.Format.{is_valid, is_replace, fit_phase, are_dist
 use Rattle.commit_record.specs.Names.{is_lawful}
 use Rattle.commit_record.specs.declared.record.Phase.{Phase}
 use Rattle.commit_record.specs.declared.record.Phase.TheVariants.{Prepare, Go}
-use Rattle.commit_record.specs.declared.record.EntryKind.TheVariants.{Replace}
+use Rattle.commit_record.specs.Ways.{entry_for}
+use Rattle.commit_record.specs.declared.way.Way.TheVariants.{Replace}
 use Rattle.commit_record.specs.declared.record.Entry.{Entry}
 use Rattle.commit_machine.specs.Names.{actor_limit, is_record_name, staged_name}
 use Rattle.commit_machine.specs.Records.{names_of, has, AreDistinct}
@@ -94,19 +95,19 @@ pub any-has : (ns : List (List ℕ)) (x : List ℕ) → list_any (λ (e : Entry)
 any-has [] x = refl
 any-has (n ∷ ns) x = ap (λ (b : Bool). bytes_eq x n || b) (any-has ns x)
 
-replaced-end : (ns : List (List ℕ)) (x : List ℕ) → replaced (ns ++ x ∷ []) ≡ replaced ns ++ record { kind = Replace; name = x } ∷ []
+replaced-end : (ns : List (List ℕ)) (x : List ℕ) → replaced (ns ++ x ∷ []) ≡ replaced ns ++ entry_for Replace x ∷ []
 replaced-end [] x = refl
-replaced-end (n ∷ ns) x = ap (λ (es : List Entry). record { kind = Replace; name = n } ∷ es) (replaced-end ns x)
+replaced-end (n ∷ ns) x = ap (λ (es : List Entry). entry_for Replace n ∷ es) (replaced-end ns x)
 
 -- one more change
 pub named-more : (cs : List Change) (c : Change) (es : List Entry) → es ≡ replaced (first_names cs) → with_entry es (name_of c) ≡ replaced (first_names (cs ++ c ∷ []))
 named-more cs c es is =
     ap (λ (l : List Entry). with_entry l (name_of c)) is
-    ∙ ap (λ (b : Bool). if b then replaced (first_names cs) else replaced (first_names cs) ++ record { kind = Replace; name = name_of c } ∷ []) (any-has (first_names cs) (name_of c))
+    ∙ ap (λ (b : Bool). if b then replaced (first_names cs) else replaced (first_names cs) ++ entry_for Replace (name_of c) ∷ []) (any-has (first_names cs) (name_of c))
     ∙ go (has (first_names cs) (name_of c))
     ∙ ap replaced (sym (first-more cs c))
   where
-    go : (b : Bool) → (if b then replaced (first_names cs) else replaced (first_names cs) ++ record { kind = Replace; name = name_of c } ∷ []) ≡ replaced (if b then first_names cs else first_names cs ++ name_of c ∷ [])
+    go : (b : Bool) → (if b then replaced (first_names cs) else replaced (first_names cs) ++ entry_for Replace (name_of c) ∷ []) ≡ replaced (if b then first_names cs else first_names cs ++ name_of c ∷ [])
     go true = refl
     go false = sym (replaced-end (first_names cs) (name_of c))
 
@@ -166,7 +167,7 @@ all-lawful actor [] h = refl
 all-lawful actor (n ∷ ns) h = let one = (and_parts (is_lawful n) _ h.0).0 in rw (one, all-lawful actor ns h.1) refl
 
 pub length-replaced : (ns : List (List ℕ)) → length (replaced ns) ≡ length ns
-length-replaced ns = length-map (λ (n : List ℕ). record { kind = Replace; name = n }) ns
+length-replaced ns = length-map (entry_for Replace) ns
 
 tests : (a b c d f : Bool) → a ≡ true → b ≡ true → c ≡ true → d ≡ true → f ≡ true → (a && (b && (c && (d && f)))) ≡ true
 tests a b c d f p q r s t = rw (p, q, r, s, t) refl

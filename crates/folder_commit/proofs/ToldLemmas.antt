@@ -9,11 +9,12 @@ use Rattle.host_port.specs.declared.event.Event.TheVariants as event
 use Rattle.host_port.specs.declared.event.Seen.{Seen}
 use Rattle.host_port.specs.declared.event.Seen.TheVariants as seen
 use Rattle.commit_record.specs.Format.{written}
-use Rattle.commit_record.specs.declared.record.EntryKind.{EntryKind}
-use Rattle.commit_record.specs.declared.record.EntryKind.TheVariants.{Replace, Remove}
 use Rattle.commit_record.specs.declared.record.Record.{Record}
+use Rattle.commit_record.specs.declared.way.Way.{Way}
+use Rattle.commit_record.specs.declared.way.Way.TheVariants.{Replace, Remove}
 use Rattle.commit_machine.specs.Names.{record_name, new_name, right_name, staged_name}
-use Rattle.commit_machine.specs.Records.{record_of, is_go, names_of, kind_of}
+use Rattle.commit_machine.specs.Records.{record_of, is_go, names_of}
+use Rattle.commit_machine.specs.Items.{Item, found_items, made_items}
 use Rattle.commit_machine.specs.Jobs.{Found, Refusal, Busy, TooLarge, Ending, Done, Refused, Failed, NoMemory, Outcome, Puts, Edit, Job, Made, all_of, edits_of, prepare_of, go_of, seen_files}
 use Rattle.commit_machine.specs.Machine.{State, Seizing, Looking, Undoing, Placing, Testing, Removing, Discarding, Unlocking, Erasing, Clearing, Preparing, Publishing, Locking, Loading, Staging, Deciding, Committing, Checking, Releasing, Ended, Then, GoOn, Answer, unlocking, undoing, removing, place_one, placing, staging, mended, none_stands, mending, record_seen, refusing, judged, loading, locking, loaded, next, refused, after_reply}
 use Rattle.commit_machine.specs.Goes.{IsNext, reply, Goes}
@@ -44,9 +45,9 @@ CleanThen (Answer e) = is_failed_end e ≡ false
 -- what a record is closed for is no failure
 abbrev pub Clean : State → Type 0
 Clean (Undoing r n ns ls th) = CleanThen th
-Clean (Placing r n ns ls th) = CleanThen th
-Clean (Removing r n ns ls th) = CleanThen th
-Clean (Discarding r n ns ls th) = CleanThen th
+Clean (Placing r x xs ls th) = CleanThen th
+Clean (Removing r x xs ls th) = CleanThen th
+Clean (Discarding r x xs ls th) = CleanThen th
 Clean (Unlocking r n ns th) = CleanThen th
 Clean (Erasing r th) = CleanThen th
 Clean s = Unit {0}
@@ -63,20 +64,20 @@ good_undoing : (r : Record) (ns ls : List (List ℕ)) (th : Then) → CleanThen 
 good_undoing r [] ls th h = good_unlocking r ls th h
 good_undoing r (n ∷ ns) ls th h = (h, refl)
 
-good_removing : (r : Record) (n : List ℕ) (ns ls : List (List ℕ)) (th : Then) → CleanThen th → Good (removing r n ns ls th)
-good_removing r n ns ls GoOn h = (tt, refl)
-good_removing r n ns ls (Answer e) h = (h, refl)
+good_removing : (r : Record) (x : Item) (xs : List Item) (ls : List (List ℕ)) (th : Then) → CleanThen th → Good (removing r x xs ls th)
+good_removing r x xs ls GoOn h = (tt, refl)
+good_removing r x xs ls (Answer e) h = (h, refl)
 
-good_one : (kind : EntryKind) (r : Record) (n : List ℕ) (ns ls : List (List ℕ)) (th : Then) → CleanThen th → Good (place_one kind r n ns ls th)
-good_one Replace r n ns ls th h = (h, refl)
-good_one Remove r n ns ls th h = good_removing r n ns ls th h
+good_one : (way : Way) (r : Record) (x : Item) (xs : List Item) (ls : List (List ℕ)) (th : Then) → CleanThen th → Good (place_one way r x xs ls th)
+good_one Replace r x xs ls th h = (h, refl)
+good_one Remove r x xs ls th h = good_removing r x xs ls th h
 
-good_placing : (r : Record) (ns ls : List (List ℕ)) (th : Then) → CleanThen th → Good (placing r ns ls th)
+good_placing : (r : Record) (xs : List Item) (ls : List (List ℕ)) (th : Then) → CleanThen th → Good (placing r xs ls th)
 good_placing r [] ls th h = good_unlocking r ls th h
-good_placing r (n ∷ ns) ls th h = good_one (kind_of r n) r n ns ls th h
+good_placing r (x ∷ xs) ls th h = good_one x.way r x xs ls th h
 
 good_mending : (r : Record) → Good (mending r)
-good_mending r = elim (cases_Bool (is_go r)) [ inl y ↦ rw y (good_placing r (names_of r) (names_of r) GoOn tt) | inr nay ↦ rw nay (good_undoing r (names_of r) (names_of r) GoOn tt) ]
+good_mending r = elim (cases_Bool (is_go r)) [ inl y ↦ rw y (good_placing r (found_items r) (names_of r) GoOn tt) | inr nay ↦ rw nay (good_undoing r (names_of r) (names_of r) GoOn tt) ]
 
 good_seen : (o : Option Record) → Good (record_seen o)
 good_seen None = (tt, refl)
@@ -111,7 +112,7 @@ module _ (j : Job) where
   good_locking ls (e ∷ left) = (tt, refl)
 
   good_loaded : (done : List Made) (e : Edit) (left : List Edit) (c : Option (List ℕ)) (o : Outcome) → Good (loaded j done e left c o)
-  good_loaded done e left c (Puts kind content) = good_loading _ left
+  good_loaded done e left c (Puts way content) = good_loading _ left
 
   -- running out of memory is no failure
   abbrev pub AsBad : State → State → Type 0
@@ -122,13 +123,13 @@ module _ (j : Job) where
   refused_bad Looking h = (tt, refl)
   refused_bad (Undoing r n ns ls GoOn) h = (tt, refl)
   refused_bad (Undoing r n ns ls (Answer e)) h = (h, refl)
-  refused_bad (Placing r n ns ls GoOn) h = (tt, refl)
-  refused_bad (Placing r n ns ls (Answer e)) h = (h, refl)
-  refused_bad (Testing r n ns ls) h = (tt, refl)
-  refused_bad (Removing r n ns ls GoOn) h = (tt, refl)
-  refused_bad (Removing r n ns ls (Answer e)) h = (h, refl)
-  refused_bad (Discarding r n ns ls GoOn) h = (tt, refl)
-  refused_bad (Discarding r n ns ls (Answer e)) h = (h, refl)
+  refused_bad (Placing r x xs ls GoOn) h = (tt, refl)
+  refused_bad (Placing r x xs ls (Answer e)) h = (h, refl)
+  refused_bad (Testing r x xs ls) h = (tt, refl)
+  refused_bad (Removing r x xs ls GoOn) h = (tt, refl)
+  refused_bad (Removing r x xs ls (Answer e)) h = (h, refl)
+  refused_bad (Discarding r x xs ls GoOn) h = (tt, refl)
+  refused_bad (Discarding r x xs ls (Answer e)) h = (h, refl)
   refused_bad (Unlocking r n ns GoOn) h = (tt, refl)
   refused_bad (Unlocking r n ns (Answer e)) h = (h, refl)
   refused_bad (Erasing r GoOn) h = (tt, refl)
@@ -153,24 +154,24 @@ module _ (j : Job) where
   undoing-bad r n ns ls th h m done true = (tt, refl)
   undoing-bad r n ns ls th h m done false = good_undoing r ns ls th h
 
-  placing-bad : (r : Record) (n : List ℕ) (ns ls : List (List ℕ)) (th : Then) → CleanThen th → (from to : List ℕ) (done failed : Bool) → Steps (Placing r n ns ls th) (event.Publish from to done failed)
-  placing-bad r n ns ls th h from to done true = (tt, refl)
-  placing-bad r n ns ls th h from to done false = good_placing r ns ls th h
+  placing-bad : (r : Record) (x : Item) (xs : List Item) (ls : List (List ℕ)) (th : Then) → CleanThen th → (from to : List ℕ) (done failed : Bool) → Steps (Placing r x xs ls th) (event.Publish from to done failed)
+  placing-bad r x xs ls th h from to done true = (tt, refl)
+  placing-bad r x xs ls th h from to done false = good_placing r xs ls th h
 
-  testing-bad : (r : Record) (n : List ℕ) (ns ls : List (List ℕ)) (m : List ℕ) (s : Seen) → Steps (Testing r n ns ls) (event.Load m s)
-  testing-bad r n ns ls m (seen.Bytes None held) = good_placing r ns ls GoOn tt
-  testing-bad r n ns ls m (seen.Bytes (Some bytes) held) = (tt, refl)
-  testing-bad r n ns ls m (seen.TooLarge k) = (tt, refl)
-  testing-bad r n ns ls m seen.Failed = (tt, refl)
-  testing-bad r n ns ls m seen.Memory = (tt, refl)
+  testing-bad : (r : Record) (x : Item) (xs : List Item) (ls : List (List ℕ)) (m : List ℕ) (s : Seen) → Steps (Testing r x xs ls) (event.Load m s)
+  testing-bad r x xs ls m (seen.Bytes None held) = good_placing r xs ls GoOn tt
+  testing-bad r x xs ls m (seen.Bytes (Some bytes) held) = (tt, refl)
+  testing-bad r x xs ls m (seen.TooLarge k) = (tt, refl)
+  testing-bad r x xs ls m seen.Failed = (tt, refl)
+  testing-bad r x xs ls m seen.Memory = (tt, refl)
 
-  removing-bad : (r : Record) (n : List ℕ) (ns ls : List (List ℕ)) (th : Then) → CleanThen th → (m : List ℕ) (done failed : Bool) → Steps (Removing r n ns ls th) (event.Erase m done failed)
-  removing-bad r n ns ls th h m done true = (tt, refl)
-  removing-bad r n ns ls th h m done false = (h, refl)
+  removing-bad : (r : Record) (x : Item) (xs : List Item) (ls : List (List ℕ)) (th : Then) → CleanThen th → (m : List ℕ) (done failed : Bool) → Steps (Removing r x xs ls th) (event.Erase m done failed)
+  removing-bad r x xs ls th h m done true = (tt, refl)
+  removing-bad r x xs ls th h m done false = (h, refl)
 
-  discarding-bad : (r : Record) (n : List ℕ) (ns ls : List (List ℕ)) (th : Then) → CleanThen th → (m : List ℕ) (done failed : Bool) → Steps (Discarding r n ns ls th) (event.Erase m done failed)
-  discarding-bad r n ns ls th h m done true = (tt, refl)
-  discarding-bad r n ns ls th h m done false = good_placing r ns ls th h
+  discarding-bad : (r : Record) (x : Item) (xs : List Item) (ls : List (List ℕ)) (th : Then) → CleanThen th → (m : List ℕ) (done failed : Bool) → Steps (Discarding r x xs ls th) (event.Erase m done failed)
+  discarding-bad r x xs ls th h m done true = (tt, refl)
+  discarding-bad r x xs ls th h m done false = good_placing r xs ls th h
 
   unlocking-bad : (r : Record) (n : List ℕ) (ns : List (List ℕ)) (th : Then) → CleanThen th → (m : List ℕ) (t : ℕ) (done failed : Bool) → Steps (Unlocking r n ns th) (event.Unlock m t done failed)
   unlocking-bad r n ns th h m t done true = (tt, refl)
@@ -233,7 +234,7 @@ module _ (j : Job) where
 
   pub committing-bad : (made : List Made) (from to : List ℕ) (done failed : Bool) → Steps (Committing made) (event.Publish from to done failed)
   committing-bad made from to done true = (tt, refl)
-  committing-bad made from to true false = good_placing (go_of j made) (all_of j) (all_of j) (Answer Done) refl
+  committing-bad made from to true false = good_placing (go_of j made) (made_items j made) (all_of j) (Answer Done) refl
   committing-bad made from to false false = (tt, refl)
 
   releasing-bad : (a : Ending) (m : List ℕ) → Steps (Releasing a) (event.Release m)
@@ -247,10 +248,10 @@ module _ (j : Job) where
   step-bad Seizing e h is = let w = seize-is (right_name j.actor) e is in subst (Steps Seizing) (sym w.2) (seizing-bad (right_name j.actor) w.0 w.1)
   step-bad Looking e h is = let w = load-is (record_name j.actor) e is in subst (Steps Looking) (sym w.1) (looking-bad (record_name j.actor) w.0)
   step-bad (Undoing r n ns ls th) e h is = let w = erase-is (staged_name r.token n) e is in subst (Steps (Undoing r n ns ls th)) (sym w.2) (undoing-bad r n ns ls th h (staged_name r.token n) w.0 w.1)
-  step-bad (Placing r n ns ls th) e h is = let w = publish-is (staged_name r.token n) n e is in subst (Steps (Placing r n ns ls th)) (sym w.2) (placing-bad r n ns ls th h (staged_name r.token n) n w.0 w.1)
-  step-bad (Testing r n ns ls) e h is = let w = load-is (staged_name r.token n) e is in subst (Steps (Testing r n ns ls)) (sym w.1) (testing-bad r n ns ls (staged_name r.token n) w.0)
-  step-bad (Removing r n ns ls th) e h is = let w = erase-is n e is in subst (Steps (Removing r n ns ls th)) (sym w.2) (removing-bad r n ns ls th h n w.0 w.1)
-  step-bad (Discarding r n ns ls th) e h is = let w = erase-is (staged_name r.token n) e is in subst (Steps (Discarding r n ns ls th)) (sym w.2) (discarding-bad r n ns ls th h (staged_name r.token n) w.0 w.1)
+  step-bad (Placing r x xs ls th) e h is = let w = publish-is (staged_name r.token x.name) x.name e is in subst (Steps (Placing r x xs ls th)) (sym w.2) (placing-bad r x xs ls th h (staged_name r.token x.name) x.name w.0 w.1)
+  step-bad (Testing r x xs ls) e h is = let w = load-is (staged_name r.token x.name) e is in subst (Steps (Testing r x xs ls)) (sym w.1) (testing-bad r x xs ls (staged_name r.token x.name) w.0)
+  step-bad (Removing r x xs ls th) e h is = let w = erase-is x.name e is in subst (Steps (Removing r x xs ls th)) (sym w.2) (removing-bad r x xs ls th h x.name w.0 w.1)
+  step-bad (Discarding r x xs ls th) e h is = let w = erase-is (staged_name r.token x.name) e is in subst (Steps (Discarding r x xs ls th)) (sym w.2) (discarding-bad r x xs ls th h (staged_name r.token x.name) w.0 w.1)
   step-bad (Unlocking r n ns th) e h is = let w = unlock-is n r.token e is in subst (Steps (Unlocking r n ns th)) (sym w.2) (unlocking-bad r n ns th h n r.token w.0 w.1)
   step-bad (Erasing r th) e h is = let w = erase-is (record_name j.actor) e is in subst (Steps (Erasing r th)) (sym w.2) (erasing-bad r th h (record_name j.actor) w.0 w.1)
   step-bad (Clearing f) e h is = let w = erase-is (new_name j.actor) e is in subst (Steps (Clearing f)) (sym w.2) (clearing-bad f (new_name j.actor) w.0 w.1)

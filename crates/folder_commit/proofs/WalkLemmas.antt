@@ -11,11 +11,12 @@ use Rattle.host_port.specs.declared.event.Event.TheVariants as event
 use Rattle.host_port.specs.declared.event.Seen.{Seen}
 use Rattle.host_port.specs.declared.event.Seen.TheVariants as seen
 use Rattle.commit_record.specs.Format.{written}
-use Rattle.commit_record.specs.declared.record.EntryKind.{EntryKind}
-use Rattle.commit_record.specs.declared.record.EntryKind.TheVariants.{Replace, Remove}
 use Rattle.commit_record.specs.declared.record.Record.{Record}
+use Rattle.commit_record.specs.declared.way.Way.{Way}
+use Rattle.commit_record.specs.declared.way.Way.TheVariants.{Replace, Remove}
 use Rattle.commit_machine.specs.Names.{record_name, new_name, right_name, staged_name}
-use Rattle.commit_machine.specs.Records.{record_of, is_go, names_of, kind_of}
+use Rattle.commit_machine.specs.Records.{record_of, is_go, names_of}
+use Rattle.commit_machine.specs.Items.{Item, found_items, made_items}
 use Rattle.commit_machine.specs.Settled.{Files, Mem}
 use Rattle.commit_machine.specs.Jobs.{Found, Refusal, Busy, NotARecord, TooLarge, Ending, Done, Refused, NoMemory, Edit, Job, Made, all_names, all_of, prepare_of, go_of, made_at, seen_files}
 use Rattle.commit_machine.specs.Machine.{State, Seizing, Looking, Undoing, Placing, Testing, Removing, Discarding, Unlocking, Erasing, Clearing, Preparing, Publishing, Locking, Loading, Staging, Deciding, Committing, Checking, Releasing, Ended, Then, GoOn, Answer, unlocking, undoing, removing, place_one, placing, staging, mending, record_seen, refusing, judged, loading, locking, loaded, next, refused, after_reply}
@@ -93,10 +94,10 @@ module _ (actor : List ℕ) (token : ℕ) (first : Edit) (more : List Edit) (ref
   end_from Seizing es = by_right actor why names es
   end_from Looking es = by_record actor why names es
   end_from (Undoing r n ns ls th) es = end_then th es
-  end_from (Placing r n ns ls th) es = end_then th es
-  end_from (Testing r n ns ls) es = locks_from es
-  end_from (Removing r n ns ls th) es = end_then th es
-  end_from (Discarding r n ns ls th) es = end_then th es
+  end_from (Placing r x xs ls th) es = end_then th es
+  end_from (Testing r x xs ls) es = locks_from es
+  end_from (Removing r x xs ls th) es = end_then th es
+  end_from (Discarding r x xs ls th) es = end_then th es
   end_from (Unlocking r n ns th) es = end_then th es
   end_from (Erasing r th) es = end_then th es
   end_from (Clearing f) es = locks_from es
@@ -124,10 +125,10 @@ module _ (actor : List ℕ) (token : ℕ) (first : Edit) (more : List Edit) (ref
   Shape Seizing es = Shown [] es
   Shape Looking es = Shown [] es
   Shape (Undoing r n ns ls th) es = ShownThen th es
-  Shape (Placing r n ns ls th) es = ShownThen th es
-  Shape (Testing r n ns ls) es = Shown [] es
-  Shape (Removing r n ns ls th) es = ShownThen th es
-  Shape (Discarding r n ns ls th) es = ShownThen th es
+  Shape (Placing r x xs ls th) es = ShownThen th es
+  Shape (Testing r x xs ls) es = Shown [] es
+  Shape (Removing r x xs ls th) es = ShownThen th es
+  Shape (Discarding r x xs ls th) es = ShownThen th es
   Shape (Unlocking r n ns th) es = ShownThen th es
   Shape (Erasing r th) es = ShownThen th es
   Shape (Clearing f) es = Shown [] es
@@ -149,20 +150,20 @@ module _ (actor : List ℕ) (token : ℕ) (first : Edit) (more : List Edit) (ref
   so_undoing r [] ls th es h = so_unlocking r ls th es h
   so_undoing r (n ∷ ns) ls th es h = (h, refl)
 
-  so_removing : (r : Record) (n : List ℕ) (ns ls : List (List ℕ)) (th : Then) (es : List Event) → ShownThen th es → Ends_so (removing r n ns ls th) es (end_then th es)
-  so_removing r n ns ls GoOn es h = (h, refl)
-  so_removing r n ns ls (Answer e) es h = (h, refl)
+  so_removing : (r : Record) (x : Item) (xs : List Item) (ls : List (List ℕ)) (th : Then) (es : List Event) → ShownThen th es → Ends_so (removing r x xs ls th) es (end_then th es)
+  so_removing r x xs ls GoOn es h = (h, refl)
+  so_removing r x xs ls (Answer e) es h = (h, refl)
 
-  so_one : (kind : EntryKind) (r : Record) (n : List ℕ) (ns ls : List (List ℕ)) (th : Then) (es : List Event) → ShownThen th es → Ends_so (place_one kind r n ns ls th) es (end_then th es)
-  so_one Replace r n ns ls th es h = (h, refl)
-  so_one Remove r n ns ls th es h = so_removing r n ns ls th es h
+  so_one : (way : Way) (r : Record) (x : Item) (xs : List Item) (ls : List (List ℕ)) (th : Then) (es : List Event) → ShownThen th es → Ends_so (place_one way r x xs ls th) es (end_then th es)
+  so_one Replace r x xs ls th es h = (h, refl)
+  so_one Remove r x xs ls th es h = so_removing r x xs ls th es h
 
-  so_placing : (r : Record) (ns ls : List (List ℕ)) (th : Then) (es : List Event) → ShownThen th es → Ends_so (placing r ns ls th) es (end_then th es)
+  so_placing : (r : Record) (xs : List Item) (ls : List (List ℕ)) (th : Then) (es : List Event) → ShownThen th es → Ends_so (placing r xs ls th) es (end_then th es)
   so_placing r [] ls th es h = so_unlocking r ls th es h
-  so_placing r (n ∷ ns) ls th es h = so_one (kind_of r n) r n ns ls th es h
+  so_placing r (x ∷ xs) ls th es h = so_one x.way r x xs ls th es h
 
   so_mending : (r : Record) (es : List Event) → Shown [] es → Ends_so (mending r) es (locks_from es)
-  so_mending r es h = elim (cases_Bool (is_go r)) [ inl y ↦ rw y (so_placing r (names_of r) (names_of r) GoOn es h) | inr nay ↦ rw nay (so_undoing r (names_of r) (names_of r) GoOn es h) ]
+  so_mending r es h = elim (cases_Bool (is_go r)) [ inl y ↦ rw y (so_placing r (found_items r) (names_of r) GoOn es h) | inr nay ↦ rw nay (so_undoing r (names_of r) (names_of r) GoOn es h) ]
 
   so_seen : (o : Option Record) (es : List Event) → Shown [] es → Ends_so (record_seen o) es (by_standing o (locks_from es))
   so_seen None es h = (tt, refl)
@@ -231,30 +232,30 @@ module _ (actor : List ℕ) (token : ℕ) (first : Edit) (more : List Edit) (ref
   w-undoing r n ns ls th m d true h = absurd (cc)
   w-undoing r n ns ls th m d false h = λ es k. as-end (undoing r ns ls th) es (end_then th es) (end_then th (event.Erase m d false ∷ es)) (so_undoing r ns ls th es (shown-erase th m d false es k)) (skip-erase th m d false es)
 
-  w-placing : (r : Record) (n : List ℕ) (ns ls : List (List ℕ)) (th : Then) (m : List ℕ) (d f : Bool) → f ≡ false → Walks (Placing r n ns ls th) (event.Publish (staged_name r.token n) m d f)
-  w-placing r n ns ls th m d true h = absurd (cc)
-  w-placing r n ns ls th m d false h = λ es k.
-      as-end (placing r ns ls th) es (end_then th es) (end_then th (event.Publish (staged_name r.token n) m d false ∷ es)) (so_placing r ns ls th es (shown-publish th (staged_name r.token n) m d false es k)) (skip-publish th r.token n m d false es)
+  w-placing : (r : Record) (x : Item) (xs : List Item) (ls : List (List ℕ)) (th : Then) (m : List ℕ) (d f : Bool) → f ≡ false → Walks (Placing r x xs ls th) (event.Publish (staged_name r.token x.name) m d f)
+  w-placing r x xs ls th m d true h = absurd (cc)
+  w-placing r x xs ls th m d false h = λ es k.
+      as-end (placing r xs ls th) es (end_then th es) (end_then th (event.Publish (staged_name r.token x.name) m d false ∷ es)) (so_placing r xs ls th es (shown-publish th (staged_name r.token x.name) m d false es k)) (skip-publish th r.token x.name m d false es)
 
   -- a staged file is none of the files
   shown-staged : (t : ℕ) (n : List ℕ) (c : Option (List ℕ)) (held : Bool) (es : List Event) → Shown [] (event.Load (staged_name t n) (seen.Bytes c held) ∷ es) → Shown [] es
   shown-staged t n c held es h = λ k m. h k m ∙ cond-false _ _ _ (unstaged k m t n)
 
-  w-testing : (r : Record) (n : List ℕ) (ns ls : List (List ℕ)) (s : Seen) → is_failed (event.Load (staged_name r.token n) s) ≡ false → Walks (Testing r n ns ls) (event.Load (staged_name r.token n) s)
-  w-testing r n ns ls (seen.Bytes None held) h = λ es k. so_placing r ns ls GoOn es (shown-staged r.token n None held es k)
-  w-testing r n ns ls (seen.Bytes (Some bytes) held) h = λ es k. (shown-staged r.token n (Some bytes) held es k, refl)
-  w-testing r n ns ls (seen.TooLarge k) h = λ es k. (tt, refl)
-  w-testing r n ns ls seen.Failed h = absurd (cc)
-  w-testing r n ns ls seen.Memory h = λ es k. (tt, refl)
+  w-testing : (r : Record) (x : Item) (xs : List Item) (ls : List (List ℕ)) (s : Seen) → is_failed (event.Load (staged_name r.token x.name) s) ≡ false → Walks (Testing r x xs ls) (event.Load (staged_name r.token x.name) s)
+  w-testing r x xs ls (seen.Bytes None held) h = λ es k. so_placing r xs ls GoOn es (shown-staged r.token x.name None held es k)
+  w-testing r x xs ls (seen.Bytes (Some bytes) held) h = λ es k. (shown-staged r.token x.name (Some bytes) held es k, refl)
+  w-testing r x xs ls (seen.TooLarge k) h = λ es k. (tt, refl)
+  w-testing r x xs ls seen.Failed h = absurd (cc)
+  w-testing r x xs ls seen.Memory h = λ es k. (tt, refl)
 
-  w-removing : (r : Record) (n : List ℕ) (ns ls : List (List ℕ)) (th : Then) (m : List ℕ) (d f : Bool) → f ≡ false → Walks (Removing r n ns ls th) (event.Erase m d f)
-  w-removing r n ns ls th m d true h = absurd (cc)
-  w-removing r n ns ls th m d false h = λ es k. (shown-erase th m d false es k, sym (skip-erase th m d false es))
+  w-removing : (r : Record) (x : Item) (xs : List Item) (ls : List (List ℕ)) (th : Then) (m : List ℕ) (d f : Bool) → f ≡ false → Walks (Removing r x xs ls th) (event.Erase m d f)
+  w-removing r x xs ls th m d true h = absurd (cc)
+  w-removing r x xs ls th m d false h = λ es k. (shown-erase th m d false es k, sym (skip-erase th m d false es))
 
-  w-discarding : (r : Record) (n : List ℕ) (ns ls : List (List ℕ)) (th : Then) (m : List ℕ) (d f : Bool) → f ≡ false → Walks (Discarding r n ns ls th) (event.Erase m d f)
-  w-discarding r n ns ls th m d true h = absurd (cc)
-  w-discarding r n ns ls th m d false h = λ es k.
-      as-end (placing r ns ls th) es (end_then th es) (end_then th (event.Erase m d false ∷ es)) (so_placing r ns ls th es (shown-erase th m d false es k)) (skip-erase th m d false es)
+  w-discarding : (r : Record) (x : Item) (xs : List Item) (ls : List (List ℕ)) (th : Then) (m : List ℕ) (d f : Bool) → f ≡ false → Walks (Discarding r x xs ls th) (event.Erase m d f)
+  w-discarding r x xs ls th m d true h = absurd (cc)
+  w-discarding r x xs ls th m d false h = λ es k.
+      as-end (placing r xs ls th) es (end_then th es) (end_then th (event.Erase m d false ∷ es)) (so_placing r xs ls th es (shown-erase th m d false es k)) (skip-erase th m d false es)
 
   w-unlocking : (r : Record) (n : List ℕ) (ns : List (List ℕ)) (th : Then) (m : List ℕ) (t : ℕ) (d f : Bool) → f ≡ false → Walks (Unlocking r n ns th) (event.Unlock m t d f)
   w-unlocking r n ns th m t d true h = absurd (cc)
@@ -325,7 +326,7 @@ module _ (actor : List ℕ) (token : ℕ) (first : Edit) (more : List Edit) (ref
 
   w-committing : (made : List Made) (m : List ℕ) (d f : Bool) → f ≡ false → Walks (Committing made) (event.Publish (new_name actor) m d f)
   w-committing made m d true h = absurd (cc)
-  w-committing made m true false h = λ es k. as-end (placing (go_of job made) names names (Answer Done)) es Done (by_decision actor (event.Publish (new_name actor) m true false ∷ es)) (so_placing (go_of job made) names names (Answer Done) es tt) (decision-here m true false es)
+  w-committing made m true false h = λ es k. as-end (placing (go_of job made) (made_items job made) names (Answer Done)) es Done (by_decision actor (event.Publish (new_name actor) m true false ∷ es)) (so_placing (go_of job made) (made_items job made) names (Answer Done) es tt) (decision-here m true false es)
   w-committing made m false false h = λ es k. (tt, sym (decision-here m false false es))
 
   -- an event that is this one and hasn't failed
@@ -336,10 +337,10 @@ module _ (actor : List ℕ) (token : ℕ) (first : Edit) (more : List Edit) (ref
   walks Seizing e is h = let w = seize-is (right_name actor) e is in subst (Walks Seizing) (sym w.2) (w-seizing w.0 w.1 (same-failed e _ w.2 h))
   walks Looking e is h = let w = load-is (record_name actor) e is in subst (Walks Looking) (sym w.1) (w-looking w.0 (same-failed e _ w.1 h))
   walks (Undoing r n ns ls th) e is h = let w = erase-is (staged_name r.token n) e is in subst (Walks (Undoing r n ns ls th)) (sym w.2) (w-undoing r n ns ls th (staged_name r.token n) w.0 w.1 (same-failed e _ w.2 h))
-  walks (Placing r n ns ls th) e is h = let w = publish-is (staged_name r.token n) n e is in subst (Walks (Placing r n ns ls th)) (sym w.2) (w-placing r n ns ls th n w.0 w.1 (same-failed e _ w.2 h))
-  walks (Testing r n ns ls) e is h = let w = load-is (staged_name r.token n) e is in subst (Walks (Testing r n ns ls)) (sym w.1) (w-testing r n ns ls w.0 (same-failed e _ w.1 h))
-  walks (Removing r n ns ls th) e is h = let w = erase-is n e is in subst (Walks (Removing r n ns ls th)) (sym w.2) (w-removing r n ns ls th n w.0 w.1 (same-failed e _ w.2 h))
-  walks (Discarding r n ns ls th) e is h = let w = erase-is (staged_name r.token n) e is in subst (Walks (Discarding r n ns ls th)) (sym w.2) (w-discarding r n ns ls th (staged_name r.token n) w.0 w.1 (same-failed e _ w.2 h))
+  walks (Placing r x xs ls th) e is h = let w = publish-is (staged_name r.token x.name) x.name e is in subst (Walks (Placing r x xs ls th)) (sym w.2) (w-placing r x xs ls th x.name w.0 w.1 (same-failed e _ w.2 h))
+  walks (Testing r x xs ls) e is h = let w = load-is (staged_name r.token x.name) e is in subst (Walks (Testing r x xs ls)) (sym w.1) (w-testing r x xs ls w.0 (same-failed e _ w.1 h))
+  walks (Removing r x xs ls th) e is h = let w = erase-is x.name e is in subst (Walks (Removing r x xs ls th)) (sym w.2) (w-removing r x xs ls th x.name w.0 w.1 (same-failed e _ w.2 h))
+  walks (Discarding r x xs ls th) e is h = let w = erase-is (staged_name r.token x.name) e is in subst (Walks (Discarding r x xs ls th)) (sym w.2) (w-discarding r x xs ls th (staged_name r.token x.name) w.0 w.1 (same-failed e _ w.2 h))
   walks (Unlocking r n ns th) e is h = let w = unlock-is n r.token e is in subst (Walks (Unlocking r n ns th)) (sym w.2) (w-unlocking r n ns th n r.token w.0 w.1 (same-failed e _ w.2 h))
   walks (Erasing r th) e is h = let w = erase-is (record_name actor) e is in subst (Walks (Erasing r th)) (sym w.2) (w-erasing r th (record_name actor) w.0 w.1 (same-failed e _ w.2 h))
   walks (Clearing f) e is h = let w = erase-is (new_name actor) e is in subst (Walks (Clearing f)) (sym w.2) (w-clearing f (new_name actor) w.0 w.1 (same-failed e _ w.2 h))
@@ -403,13 +404,13 @@ module _ (actor : List ℕ) (token : ℕ) (first : Edit) (more : List Edit) (ref
   wants Looking es end goes k = (tt, sym (quiet-record es (all-quiet job es (Releasing NoMemory) (Ended end) tt goes)))
   wants (Undoing r n ns ls GoOn) es end goes k = wants-end es end goes
   wants (Undoing r n ns ls (Answer a)) es end goes k = (tt, refl)
-  wants (Placing r n ns ls GoOn) es end goes k = wants-end es end goes
-  wants (Placing r n ns ls (Answer a)) es end goes k = (tt, refl)
-  wants (Testing r n ns ls) es end goes k = wants-end es end goes
-  wants (Removing r n ns ls GoOn) es end goes k = wants-end es end goes
-  wants (Removing r n ns ls (Answer a)) es end goes k = (tt, refl)
-  wants (Discarding r n ns ls GoOn) es end goes k = wants-end es end goes
-  wants (Discarding r n ns ls (Answer a)) es end goes k = (tt, refl)
+  wants (Placing r x xs ls GoOn) es end goes k = wants-end es end goes
+  wants (Placing r x xs ls (Answer a)) es end goes k = (tt, refl)
+  wants (Testing r x xs ls) es end goes k = wants-end es end goes
+  wants (Removing r x xs ls GoOn) es end goes k = wants-end es end goes
+  wants (Removing r x xs ls (Answer a)) es end goes k = (tt, refl)
+  wants (Discarding r x xs ls GoOn) es end goes k = wants-end es end goes
+  wants (Discarding r x xs ls (Answer a)) es end goes k = (tt, refl)
   wants (Unlocking r n ns GoOn) es end goes k = wants-end es end goes
   wants (Unlocking r n ns (Answer a)) es end goes k = (tt, refl)
   wants (Erasing r GoOn) es end goes k = wants-end es end goes

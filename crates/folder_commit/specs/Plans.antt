@@ -7,11 +7,12 @@ use Rattle.std.specs.declared.result.Result.TheVariants.{Ok, Err}
 use Rattle.folder_change.specs.declared.change.Change.{Change}
 use Rattle.folder_change.specs.Changes.{name_of}
 use Rattle.commit_record.specs.Format.{written}
+use Rattle.commit_record.specs.Ways.{entry_for}
 use Rattle.commit_record.specs.declared.record.Phase.{Phase}
 use Rattle.commit_record.specs.declared.record.Phase.TheVariants.{Prepare, Go}
-use Rattle.commit_record.specs.declared.record.EntryKind.TheVariants.{Replace}
 use Rattle.commit_record.specs.declared.record.Entry.{Entry}
 use Rattle.commit_record.specs.declared.record.Record.{Record}
+use Rattle.commit_record.specs.declared.way.Way.TheVariants.{Replace}
 use Rattle.commit_machine.specs.Names.{record_name, new_name, right_name, staged_name}
 use Rattle.commit_machine.specs.Jobs.{entries_for}
 use Rattle.commit_machine.specs.Edits.{first_names}
@@ -30,7 +31,7 @@ replaced names = entries_for (λ n. Replace) names
 
 -- entries with one of this name at the end, unless it is there
 abbrev pub with_entry : List Entry → List ℕ → List Entry
-with_entry es name = if list_any (λ e. bytes_eq name e.name) es then es else es ++ record { kind = Replace; name = name } ∷ []
+with_entry es name = if list_any (λ e. bytes_eq name e.name) es then es else es ++ entry_for Replace name ∷ []
 
 abbrev pub record_for : Phase → ℕ → List (List ℕ) → Record
 record_for phase token names = record { phase = phase; token = token; entries = replaced names }

@@ -8,7 +8,7 @@ ghost use Rattle.folder_commit.specs.Plans.{Plans, AreFiles, replaced, with_entr
 use crate::CommitError;
 use commit_driver::{Plan, staged_names};
 use commit_machine::{new_name, record_name, right_name};
-use commit_record::{Entry, EntryKind, Phase, Record, write};
+use commit_record::{Entry, Phase, Record, Way, entry_for, write};
 use folder_change::{Change, change_name};
 use mail_text::{Items, Memory, Text};
 use std::alloc::Global;
@@ -31,10 +31,7 @@ fn put_entry(alloc: Global, entries: &mut Items<Entry>, name: &[u8]) -> Result<(
         return Ok(());
     }
     let name = Text::copy(alloc, name)?;
-    entries.push(Entry {
-        kind: EntryKind::Replace,
-        name,
-    })
+    entries.push(entry_for(Way::Replace, name))
 }
 
 // An entry of each file that changes name, in order of first naming.
