@@ -1,14 +1,14 @@
 -- What the events of calls on the disk say is so, whether the calls were carried out or failed.
-use Rattle.std.proofs.Common.{◌≡◌, ℕ, List, Bool, true, false, refl, sym, subst, ◌&&◌}
+use Rattle.std.proofs.Common.{◌≡◌, ℕ, List, Bool, true, false, not, refl, sym, subst, ◌&&◌}
 use Rattle.std.specs.declared.result.Result.{Result}
 use Rattle.std.specs.declared.result.Result.TheVariants.{Ok, Err}
 use Rattle.std.specs.Prelude.{is_some, is_none}
 use Rattle.host_port.specs.declared.event.Event.{Event}
-use Rattle.host_port.specs.declared.event.Event.TheVariants.{In, Out, Child, Now, Load, Stage, Publish, Erase, Lock, Unlock, Seize, Release, Foreign}
+use Rattle.host_port.specs.declared.event.Event.TheVariants.{In, Out, Child, Now, Load, Stage, Publish, Extend, Erase, Lock, Unlock, Seize, Release, Foreign}
 use Rattle.host_port.specs.declared.event.Part.{Part}
 use Rattle.host_port.specs.declared.host.DiskFault.{DiskFault}
-use Rattle.host_port.specs.Calls.{Staged, Published, Erased, Locked, Unlocked, Seized, Released}
-use Rattle.host_port.specs.Disk.{Disk}
+use Rattle.host_port.specs.Calls.{Staged, Published, Extended, Erased, Locked, Unlocked, Seized, Released}
+use Rattle.host_port.specs.Disk.{Disk, reaches}
 use Rattle.host_port.specs.Ends.{is_after, is_owner, is_open, carried_out, cut_short}
 use Rattle.host_port.specs.Own.{may_change}
 use Rattle.host_port.specs.Ran.{Agrees}
@@ -27,6 +27,14 @@ staged-agrees name bytes (Err fault) d e is = agrees-along d e _ is.1 tt
 pub published-agrees : (from to : List ℕ) (r : Result Bool DiskFault) (d : Disk) (e : Event) → Published from to r d e → Agrees d e
 published-agrees from to (Ok done) d e is = agrees-along d e _ is.0 is.1
 published-agrees from to (Err fault) d e is = agrees-along d e _ is.1 (right-of (is_after is.0) (is_some (d.files from)))
+
+pub extended-agrees : (name : List ℕ) (at : ℕ) (bytes : List ℕ) (r : Result Unit DiskFault) (d : Disk) (e : Event) → Extended name at bytes r d e → Agrees d e
+extended-agrees name at bytes (Ok u) d e is = agrees-along d e _ is.0 (λ fine. is.1)
+extended-agrees name at bytes (Err fault) d e is = agrees-along d e _ is.1 (λ fine. absurd (cc))
+
+pub not-false : (b : Bool) → not b ≡ false → b ≡ true
+not-false true h = refl
+not-false false h = absurd (cc)
 
 pub erased-agrees : (name : List ℕ) (r : Result Unit DiskFault) (d : Disk) (e : Event) → Erased name r d e → Agrees d e
 erased-agrees name (Ok u) d e is = agrees-along d e _ is refl
@@ -55,6 +63,7 @@ carried-agrees d (Now seconds) may = absurd (cc)
 carried-agrees d (Load name seen) may = absurd (cc)
 carried-agrees d (Stage name bytes failed) may = tt
 carried-agrees d (Publish from to done failed) may = refl
+carried-agrees d (Extend name at tail failed) may = not-false (reaches at (d.files name))
 carried-agrees d (Erase name done failed) may = refl
 carried-agrees d (Lock name token got failed) may = refl
 carried-agrees d (Unlock name token done failed) may = refl
@@ -70,6 +79,7 @@ cut-agrees d (Now seconds) part may = absurd (cc)
 cut-agrees d (Load name seen) part may = absurd (cc)
 cut-agrees d (Stage name bytes failed) part may = tt
 cut-agrees d (Publish from to done failed) part may = right-of (is_after part) (is_some (d.files from))
+cut-agrees d (Extend name at tail failed) part may = λ fine. absurd (cc)
 cut-agrees d (Erase name done failed) part may = λ done. refl
 cut-agrees d (Lock name token got failed) part may = right-of (is_after part) (is_none (d.locks name))
 cut-agrees d (Unlock name token done failed) part may = right-of (is_after part) (is_owner token (d.locks name))

@@ -1,6 +1,6 @@
 use Rattle.std.proofs.Common.{◌≡◌, List, [], ◌∷◌, refl}
 use Rattle.host_port.specs.declared.event.Event.{Event}
-use Rattle.host_port.specs.declared.event.Event.TheVariants.{In, Out, Child, Now, Load, Stage, Publish, Erase, Lock, Unlock, Seize, Release, Foreign}
+use Rattle.host_port.specs.declared.event.Event.TheVariants.{In, Out, Child, Now, Load, Stage, Publish, Extend, Erase, Lock, Unlock, Seize, Release, Foreign}
 use Rattle.host_port.specs.Disk.{Disk, disk, after}
 use Rattle.host_port.specs.Own.{own, of_others, OnlyLooks}
 
@@ -15,6 +15,7 @@ disk-of_others d (Now seconds ∷ es) looks = disk-of_others d es looks.1
 disk-of_others d (Load name seen ∷ es) looks = disk-of_others d es looks.1
 disk-of_others d (Stage name bytes failed ∷ es) looks = absurd (let no = looks.0 in cc)
 disk-of_others d (Publish from to done failed ∷ es) looks = absurd (let no = looks.0 in cc)
+disk-of_others d (Extend name at tail failed ∷ es) looks = absurd (let no = looks.0 in cc)
 disk-of_others d (Erase name done failed ∷ es) looks = absurd (let no = looks.0 in cc)
 disk-of_others d (Lock name token got failed ∷ es) looks = absurd (let no = looks.0 in cc)
 disk-of_others d (Unlock name token done failed ∷ es) looks = absurd (let no = looks.0 in cc)

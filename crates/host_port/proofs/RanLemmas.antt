@@ -6,7 +6,7 @@ use Rattle.std.specs.declared.option.Option.TheVariants.{Some}
 use Rattle.std.specs.declared.result.Result.{Result}
 use Rattle.std.specs.declared.result.Result.TheVariants.{Ok, Err}
 use Rattle.host_port.specs.declared.event.Event.{Event}
-use Rattle.host_port.specs.declared.event.Event.TheVariants.{In, Out, Load, Stage, Publish, Erase, Lock, Unlock, Seize, Release, Child, Now, Foreign}
+use Rattle.host_port.specs.declared.event.Event.TheVariants.{In, Out, Load, Stage, Publish, Extend, Erase, Lock, Unlock, Seize, Release, Child, Now, Foreign}
 use Rattle.host_port.specs.declared.event.Seen.TheVariants as seen
 use Rattle.host_port.specs.declared.event.LoadAnswer.{LoadAnswer}
 use Rattle.host_port.specs.declared.event.ChildAnswer.{ChildAnswer}
@@ -19,7 +19,7 @@ use Rattle.host_port.specs.declared.host.ChildError.{ChildError}
 use Rattle.host_port.specs.declared.host.ChildError.TheVariants as child_error
 use Rattle.host_port.specs.declared.event.ForeignStep.{ForeignStep}
 use Rattle.host_port.specs.Disk.{Disk, disk, after}
-use Rattle.host_port.specs.Calls.{Counts, World, NeverFall, Rose, Calls, Filled, Said, Loaded, LoadCause, Staged, Published, Erased, Locked, Unlocked, Seized, Released, ChildRan, ChildCause, TimeTold}
+use Rattle.host_port.specs.Calls.{Counts, World, NeverFall, Rose, Calls, Filled, Said, Loaded, LoadCause, Staged, Published, Extended, Erased, Locked, Unlocked, Seized, Released, ChildRan, ChildCause, TimeTold}
 use Rattle.host_port.specs.Own.{own}
 use Rattle.host_port.specs.Ran.{Agrees, IsCounted, AreCounted, Honest, Stretch, Ran}
 
@@ -64,6 +64,7 @@ counted-within a b c d x y (Load name (seen.TooLarge n)) h = tt
 counted-within a b c d x y (Load name seen.Memory) h = tt
 counted-within a b c d x y (Stage name bytes failed) h = λ f. rose-within a.disks b.disks c.disks d.disks x.disks y.disks (h f)
 counted-within a b c d x y (Publish from to done failed) h = λ f. rose-within a.disks b.disks c.disks d.disks x.disks y.disks (h f)
+counted-within a b c d x y (Extend name at tail failed) h = λ f. rose-within a.disks b.disks c.disks d.disks x.disks y.disks (h f)
 counted-within a b c d x y (Erase name done failed) h = λ f. rose-within a.disks b.disks c.disks d.disks x.disks y.disks (h f)
 counted-within a b c d x y (Lock name token got failed) h = λ f. rose-within a.disks b.disks c.disks d.disks x.disks y.disks (h f)
 counted-within a b c d x y (Unlock name token done failed) h = λ f. rose-within a.disks b.disks c.disks d.disks x.disks y.disks (h f)
@@ -190,6 +191,10 @@ staged-counted name bytes (Err fault) a b rose d e is = let P : Event → Type 0
 pub published-counted : (from to : List ℕ) (r : Result Bool DiskFault) (a b : Counts) → OnErr r (Rose a.disks b.disks) → (d : Disk) (e : Event) → Published from to r d e → IsCounted a b e
 published-counted from to (Ok done) a b rose d e is = let P : Event → Type 0 = λ e. IsCounted a b e in subst P (sym is.0) (λ f. absurd (cc f))
 published-counted from to (Err fault) a b rose d e is = let P : Event → Type 0 = λ e. IsCounted a b e in subst P (sym is.1) (λ f. rose)
+
+pub extended-counted : (name : List ℕ) (at : ℕ) (bytes : List ℕ) (r : Result Unit DiskFault) (a b : Counts) → OnErr r (Rose a.disks b.disks) → (d : Disk) (e : Event) → Extended name at bytes r d e → IsCounted a b e
+extended-counted name at bytes (Ok u) a b rose d e is = let P : Event → Type 0 = λ e. IsCounted a b e in subst P (sym is.0) (λ f. absurd (cc f))
+extended-counted name at bytes (Err fault) a b rose d e is = let P : Event → Type 0 = λ e. IsCounted a b e in subst P (sym is.1) (λ f. rose)
 
 pub erased-counted : (name : List ℕ) (r : Result Unit DiskFault) (a b : Counts) → OnErr r (Rose a.disks b.disks) → (d : Disk) (e : Event) → Erased name r d e → IsCounted a b e
 erased-counted name (Ok u) a b rose d e is = let P : Event → Type 0 = λ e. IsCounted a b e in subst P (sym is) (λ f. absurd (cc f))

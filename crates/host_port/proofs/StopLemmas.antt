@@ -1,6 +1,7 @@
 -- A stop that does nothing of an event, or all of it.
-use Rattle.std.proofs.Common.{◌≡◌, ◌∙◌, ℕ, List, Bool, true, false, refl, sym, ap, ⊎_elim}
+use Rattle.std.proofs.Common.{◌≡◌, ◌∙◌, ℕ, List, Bool, true, false, nat_le, ◌++◌, length, take, drop, refl, sym, ap, ⊎_elim, if◌then◌else◌}
 use Rattle.std.proofs.lemmas.Bool.{cases_Bool, cond-true, cond-false}
+use Rattle.std.proofs.lemmas.List.{take-append-drop}
 use Rattle.std.proofs.lemmas.Slice.Eq.{bytes_eq-Decides}
 use Rattle.std.specs.Str.{bytes_eq}
 use Rattle.std.specs.declared.option.Option.{Option}
@@ -11,8 +12,8 @@ use Rattle.host_port.specs.declared.event.Holder.{Holder}
 use Rattle.host_port.specs.declared.event.Holder.TheVariants.{Own, Other}
 use Rattle.host_port.specs.declared.event.Part.TheVariants.{Before, After}
 use Rattle.std.specs.Prelude.{is_some, is_none}
-use Rattle.host_port.specs.Disk.{Disk, after, with_at, without_own}
-use Rattle.host_port.specs.Ends.{stopped, ended, carried_out, is_owner, is_open}
+use Rattle.host_port.specs.Disk.{Disk, extended, after, with_at, without_own}
+use Rattle.host_port.specs.Ends.{tail_of, stopped, ended, carried_out, is_owner, is_open}
 use Rattle.host_port.specs.Disk.{SameDisk}
 
 same : (d : Disk) → SameDisk d d
@@ -22,6 +23,15 @@ same d = record { files = λ q. refl; locks = λ q. refl; rights = λ q. refl }
 put-again : {A : Type 0} (m : List ℕ → Option A) (name q : List ℕ) → with_at m name (m name) q ≡ m q
 put-again m name q =
     ⊎_elim (λ is. cond-true _ _ _ is ∙ sym (ap m ((bytes_eq-Decides q name).0 is))) (λ other. cond-false _ _ _ other) (cases_Bool (bytes_eq q name))
+
+-- the tail that stands is written again
+same-tail : (at : ℕ) (file : Option (List ℕ)) → extended file at (tail_of at file) ≡ file
+same-tail at None = refl
+same-tail at (Some bytes) = ap Some (go (nat_le at (length bytes)))
+  where
+    go : (b : Bool) → (if b then take at bytes ++ drop at bytes else bytes) ≡ bytes
+    go true = take-append-drop at bytes
+    go false = refl
 
 given-up-twice : (r : Option Holder) → without_own (without_own r) ≡ without_own r
 given-up-twice None = refl
@@ -45,6 +55,7 @@ stop-before d (event.Now seconds) = same (ended d)
 stop-before d (event.Load name seen) = same (ended d)
 stop-before d (event.Stage name bytes failed) = record { files = put-again d.files name; locks = λ q. refl; rights = λ q. refl }
 stop-before d (event.Publish from to done failed) = same (ended d)
+stop-before d (event.Extend name at tail failed) = record { files = λ q. ap (λ (file : Option (List ℕ)). with_at d.files name file q) (same-tail at (d.files name)) ∙ put-again d.files name q; locks = λ q. refl; rights = λ q. refl }
 stop-before d (event.Erase name done failed) = same (ended d)
 stop-before d (event.Lock name token got failed) = same (ended d)
 stop-before d (event.Unlock name token done failed) = same (ended d)
@@ -65,6 +76,7 @@ stop-after d (event.Publish from to done failed) = go (is_some (d.files from))
     go : (b : Bool) → SameDisk (ended (after d (event.Publish from to b true))) (ended (after d (event.Publish from to b false)))
     go true = same _
     go false = same _
+stop-after d (event.Extend name at tail failed) = same _
 stop-after d (event.Erase name done failed) = same _
 stop-after d (event.Lock name token got failed) = go (is_none (d.locks name))
   where

@@ -5,7 +5,7 @@ use Rattle.std.specs.declared.option.Option.TheVariants.{Some, None}
 use Rattle.std.specs.declared.result.Result.{Result}
 use Rattle.std.specs.declared.result.Result.TheVariants.{Ok, Err}
 use Rattle.host_port.specs.declared.event.Event.{Event}
-use Rattle.host_port.specs.declared.event.Event.TheVariants.{In, Out, Load, Stage, Publish, Erase, Lock, Unlock, Seize, Release, Child, Now, Foreign}
+use Rattle.host_port.specs.declared.event.Event.TheVariants.{In, Out, Load, Stage, Publish, Extend, Erase, Lock, Unlock, Seize, Release, Child, Now, Foreign}
 use Rattle.host_port.specs.declared.event.Seen.TheVariants as seen
 use Rattle.host_port.specs.declared.event.ForeignStep.{ForeignStep}
 use Rattle.host_port.specs.declared.event.LoadAnswer.{LoadAnswer}
@@ -17,7 +17,7 @@ use Rattle.host_port.specs.declared.host.LoadError.TheVariants as error
 use Rattle.host_port.specs.declared.event.ChildAnswer.{ChildAnswer}
 use Rattle.host_port.specs.declared.host.ChildError.{ChildError}
 use Rattle.host_port.specs.declared.host.ChildError.TheVariants as child_error
-use Rattle.host_port.specs.Disk.{Disk, disk}
+use Rattle.host_port.specs.Disk.{Disk, reaches, disk}
 use Rattle.host_port.specs.Ends.{is_owner, is_open, IsCutShort}
 
 -- how often each kind of call has failed
@@ -102,6 +102,11 @@ Staged name bytes (Err fault) d e = IsCutShort d (Stage name (Some bytes) false)
 abbrev pub Published : List ℕ → List ℕ → Result Bool DiskFault → Disk → Event → Type 0
 Published from to (Ok done) d e = (e ≡ Publish from to done false) × (done ≡ is_some (d.files from))
 Published from to (Err fault) d e = IsCutShort d (Publish from to true false) e
+
+-- the event of an extension: the file had so many bytes, and these stand behind them
+abbrev pub Extended : List ℕ → ℕ → List ℕ → Result Unit DiskFault → Disk → Event → Type 0
+Extended name at bytes (Ok u) d e = (e ≡ Extend name at bytes false) × (reaches at (d.files name) ≡ true)
+Extended name at bytes (Err fault) d e = IsCutShort d (Extend name at bytes false) e
 
 -- the event of an erasure: no file stands
 abbrev pub Erased : List ℕ → Result Unit DiskFault → Disk → Event → Type 0

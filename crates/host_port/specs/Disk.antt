@@ -1,5 +1,5 @@
 -- A disk, and what the events of a trace do to it.
-use Rattle.std.specs.Prelude.{◌≡◌, ◌==◌, ℕ, true, false, List, [], ◌∷◌, if◌then◌else◌}
+use Rattle.std.specs.Prelude.{◌≡◌, ◌==◌, ℕ, Bool, true, false, nat_le, List, [], ◌∷◌, ◌++◌, take, length, if◌then◌else◌}
 use Rattle.std.specs.declared.option.Option.{Option}
 use Rattle.std.specs.declared.option.Option.TheVariants.{Some, None}
 use Rattle.std.specs.Str.{bytes_eq}
@@ -66,6 +66,16 @@ after_step d (Unlock name token) = record d { locks = with_at d.locks name (unlo
 after_step d (Seize name) = record d { rights = with_at d.rights name (taken (d.rights name)) }
 after_step d (Release name) = record d { rights = with_at d.rights name (without_other (d.rights name)) }
 
+-- a file stands that has so many bytes at least
+abbrev pub reaches : ℕ → Option (List ℕ) → Bool
+reaches at None = false
+reaches at (Some bytes) = nat_le at (length bytes)
+
+-- a file with another tail behind so many bytes; one that is absent or shorter stays as it is
+abbrev pub extended : Option (List ℕ) → ℕ → List ℕ → Option (List ℕ)
+extended None at tail = None
+extended (Some bytes) at tail = Some (if nat_le at (length bytes) then take at bytes ++ tail else bytes)
+
 -- what an event makes of a disk, by what it says was done
 abbrev pub after : Disk → Event → Disk
 after d (event.In bytes failed) = d
@@ -74,6 +84,7 @@ after d (event.Load name seen) = d
 after d (event.Stage name bytes failed) = record d { files = with_at d.files name bytes }
 after d (event.Publish from to true failed) = record d { files = with_at (with_at d.files from None) to (d.files from) }
 after d (event.Publish from to false failed) = d
+after d (event.Extend name at tail failed) = record d { files = with_at d.files name (extended (d.files name) at tail) }
 after d (event.Erase name true failed) = record d { files = with_at d.files name None }
 after d (event.Erase name false failed) = d
 after d (event.Lock name token true failed) = record d { locks = with_at d.locks name (Some token) }

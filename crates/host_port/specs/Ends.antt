@@ -1,14 +1,14 @@
 -- How a call on the disk ends: carried out, failing with a part of it done, or with the run stopped inside it.
-use Rattle.std.specs.Prelude.{◌≡◌, ◌==◌, ◌&&◌, ℕ, Bool, true, false, List, is_some, is_none, if◌then◌else◌}
+use Rattle.std.specs.Prelude.{◌≡◌, ◌==◌, ◌&&◌, ℕ, Bool, true, false, not, List, [], drop, is_some, is_none, if◌then◌else◌}
 use Rattle.std.specs.declared.option.Option.{Option}
 use Rattle.std.specs.declared.option.Option.TheVariants.{Some, None}
 use Rattle.host_port.specs.declared.event.Event.{Event}
-use Rattle.host_port.specs.declared.event.Event.TheVariants.{In, Out, Load, Stage, Publish, Erase, Lock, Unlock, Seize, Release, Child, Now, Foreign}
+use Rattle.host_port.specs.declared.event.Event.TheVariants.{In, Out, Load, Stage, Publish, Extend, Erase, Lock, Unlock, Seize, Release, Child, Now, Foreign}
 use Rattle.host_port.specs.declared.event.Part.{Part}
 use Rattle.host_port.specs.declared.event.Part.TheVariants.{Before, After, Bytes, Nothing}
 use Rattle.host_port.specs.declared.event.Holder.{Holder}
 use Rattle.host_port.specs.declared.event.Holder.TheVariants.{Own, Other}
-use Rattle.host_port.specs.Disk.{Disk, after, after_step, without_own}
+use Rattle.host_port.specs.Disk.{Disk, reaches, after, after_step, without_own}
 
 -- the lock's owner is this one
 abbrev pub is_owner : ℕ → Option ℕ → Bool
@@ -22,13 +22,15 @@ is_open (Some Own) = true
 is_open (Some Other) = false
 
 -- The event of a call that is carried out on a disk. It is done exactly if the disk allows it: a rename if its
--- file stands, a lock if none stands, an unlock if the lock is the caller's, a seizure if no other has the right.
+-- file stands, a lock if none stands, an unlock if the lock is the caller's, a seizure if no other has the right. An
+-- extension of a file that is absent or shorter fails.
 abbrev pub carried_out : Disk → Event → Event
 carried_out d (In bytes failed) = In bytes failed
 carried_out d (Out bytes failed) = Out bytes failed
 carried_out d (Load name seen) = Load name seen
 carried_out d (Stage name bytes failed) = Stage name bytes false
 carried_out d (Publish from to done failed) = Publish from to (is_some (d.files from)) false
+carried_out d (Extend name at tail failed) = Extend name at tail (not (reaches at (d.files name)))
 carried_out d (Erase name done failed) = Erase name true false
 carried_out d (Lock name token got failed) = Lock name token (is_none (d.locks name)) false
 carried_out d (Unlock name token done failed) = Unlock name token (is_owner token (d.locks name)) false
@@ -50,14 +52,27 @@ left old whole After = whole
 left old whole (Bytes bytes) = Some bytes
 left old whole Nothing = None
 
+-- what stands behind so many bytes of a file
+abbrev pub tail_of : ℕ → Option (List ℕ) → List ℕ
+tail_of at None = []
+tail_of at (Some bytes) = drop at bytes
+
+-- what stands there where another tail was to be written
+abbrev pub left_tail : List ℕ → List ℕ → Part → List ℕ
+left_tail old whole Before = old
+left_tail old whole After = whole
+left_tail old whole (Bytes bytes) = bytes
+left_tail old whole Nothing = old
+
 -- The failing form of an event, with the part of the call that was done. What is written whole may be left as any bytes
--- or as none; every other call is done or not, and done only if the disk allows it.
+-- or as none, and a tail as any bytes; every other call is done or not, and done only if the disk allows it.
 abbrev pub cut_short : Disk → Event → Part → Event
 cut_short d (In bytes failed) part = In bytes failed
 cut_short d (Out bytes failed) part = Out bytes failed
 cut_short d (Load name seen) part = Load name seen
 cut_short d (Stage name bytes failed) part = Stage name (left (d.files name) bytes part) true
 cut_short d (Publish from to done failed) part = Publish from to (is_after part && is_some (d.files from)) true
+cut_short d (Extend name at tail failed) part = Extend name at (left_tail (tail_of at (d.files name)) tail part) true
 cut_short d (Erase name done failed) part = Erase name (is_after part) true
 cut_short d (Lock name token got failed) part = Lock name token (is_after part && is_none (d.locks name)) true
 cut_short d (Unlock name token done failed) part = Unlock name token (is_after part && is_owner token (d.locks name)) true

@@ -1,7 +1,7 @@
 -- The events of this run, and those of others.
 use Rattle.std.specs.Prelude.{◌≡◌, Bool, true, false, List, [], ◌∷◌}
 use Rattle.host_port.specs.declared.event.Event.{Event}
-use Rattle.host_port.specs.declared.event.Event.TheVariants.{In, Out, Load, Stage, Publish, Erase, Lock, Unlock, Seize, Release, Child, Now, Foreign}
+use Rattle.host_port.specs.declared.event.Event.TheVariants.{In, Out, Load, Stage, Publish, Extend, Erase, Lock, Unlock, Seize, Release, Child, Now, Foreign}
 
 -- the events that are this run's own
 abbrev pub own : List Event → List Event
@@ -22,6 +22,7 @@ may_change (Out bytes failed) = false
 may_change (Load name seen) = false
 may_change (Stage name bytes failed) = true
 may_change (Publish from to done failed) = true
+may_change (Extend name at tail failed) = true
 may_change (Erase name done failed) = true
 may_change (Lock name token got failed) = true
 may_change (Unlock name token done failed) = true

@@ -2,9 +2,9 @@
 use Rattle.std.specs.Prelude.{◌≡◌, Bool, true, false, List, [], ◌∷◌, ◌++◌, is_some, is_none}
 use Rattle.std.specs.declared.option.Option.TheVariants.{Some}
 use Rattle.host_port.specs.declared.event.Event.{Event}
-use Rattle.host_port.specs.declared.event.Event.TheVariants.{In, Out, Load, Stage, Publish, Erase, Lock, Unlock, Seize, Release, Child, Now, Foreign}
+use Rattle.host_port.specs.declared.event.Event.TheVariants.{In, Out, Load, Stage, Publish, Extend, Erase, Lock, Unlock, Seize, Release, Child, Now, Foreign}
 use Rattle.host_port.specs.declared.event.Seen.TheVariants as seen
-use Rattle.host_port.specs.Disk.{Disk, disk, after}
+use Rattle.host_port.specs.Disk.{Disk, reaches, disk, after}
 use Rattle.host_port.specs.Calls.{Counts, World, NeverFall, Rose, IsTooLarge}
 use Rattle.host_port.specs.Ends.{is_owner, is_open}
 use Rattle.host_port.specs.Own.{own}
@@ -24,6 +24,7 @@ Agrees d (Load name seen.Failed) = Unit {0}
 Agrees d (Load name seen.Memory) = Unit {0}
 Agrees d (Stage name bytes failed) = Unit {0}
 Agrees d (Publish from to done failed) = AllowedBy (is_some (d.files from)) done failed
+Agrees d (Extend name at tail failed) = failed ≡ false → reaches at (d.files name) ≡ true
 Agrees d (Erase name done failed) = AllowedBy true done failed
 Agrees d (Lock name token got failed) = AllowedBy (is_none (d.locks name)) got failed
 Agrees d (Unlock name token done failed) = AllowedBy (is_owner token (d.locks name)) done failed
@@ -43,6 +44,7 @@ IsCounted old new (Load name seen.Failed) = Rose old.disks new.disks
 IsCounted old new (Load name seen.Memory) = Unit {0}
 IsCounted old new (Stage name bytes failed) = failed ≡ true → Rose old.disks new.disks
 IsCounted old new (Publish from to done failed) = failed ≡ true → Rose old.disks new.disks
+IsCounted old new (Extend name at tail failed) = failed ≡ true → Rose old.disks new.disks
 IsCounted old new (Erase name done failed) = failed ≡ true → Rose old.disks new.disks
 IsCounted old new (Lock name token got failed) = failed ≡ true → Rose old.disks new.disks
 IsCounted old new (Unlock name token done failed) = failed ≡ true → Rose old.disks new.disks

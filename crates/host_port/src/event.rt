@@ -31,6 +31,14 @@ pub enum Event {
         done: bool,
         failed: bool,
     },
+    /// A file was given another tail: what stands behind its first `at` bytes after the call. A shorter file, or an
+    /// absent one, stays as it was.
+    Extend {
+        name: Text,
+        at: u64,
+        tail: Text,
+        failed: bool,
+    },
     /// A file was taken away.
     Erase {
         name: Text,
@@ -145,8 +153,8 @@ pub enum Part {
     Before,
     /// All of it was done.
     After,
-    /// These bytes stand. For a call that writes no file it counts as `Before`.
+    /// These bytes stand: as the file, or as the tail. For a call that writes no bytes it counts as `Before`.
     Bytes(Text),
-    /// No file stands. For a call that writes no file it counts as `Before`.
+    /// No file stands. For a call that writes no whole file it counts as `Before`.
     Nothing,
 }

@@ -1,6 +1,6 @@
 ghost use Rattle.std.specs.Prelude.{◌≡◌, ◌≤◌, ◌<◌, length, IfOk, OnErr};
 ghost use Rattle.host_port.specs.Names.{IsFileName};
-ghost use Rattle.host_port.specs.Calls.{Calls, World, NeverFall, Rose, Filled, Said, Loaded, LoadCause, Staged, Published, Erased, Locked, Unlocked, Seized, Released, ChildRan, ChildCause, TimeTold};
+ghost use Rattle.host_port.specs.Calls.{Calls, World, NeverFall, Rose, Filled, Said, Loaded, LoadCause, Staged, Published, Extended, Erased, Locked, Unlocked, Seized, Released, ChildRan, ChildCause, TimeTold};
 
 use crate::{ChildAnswer, LoadAnswer};
 use mail_text::Text;
@@ -90,6 +90,15 @@ pub trait Host {
         requires target { IsFileName to.now }
         ensures start { world.start self.new ≡ world.start self.old }
         ensures call { Calls world self.old self.new (Published from.now to.now result) }
+        ensures counts { NeverFall (world.counts self.old) (world.counts self.new) }
+        ensures cause { OnErr result (Rose (world.counts self.old).disks (world.counts self.new).disks) };
+
+    /// Gives a file another tail, durably. After Ok it is its first `at` bytes and then these. An absent or shorter
+    /// file is a fault, and stays as it was; after any other fault its first `at` bytes stand.
+    fn extend(&mut self, name: &[u8], at: u64, bytes: &[u8]) -> Result<(), DiskFault>
+        requires { IsFileName name.now }
+        ensures start { world.start self.new ≡ world.start self.old }
+        ensures call { Calls world self.old self.new (Extended name.now at bytes.now result) }
         ensures counts { NeverFall (world.counts self.old) (world.counts self.new) }
         ensures cause { OnErr result (Rose (world.counts self.old).disks (world.counts self.new).disks) };
 
