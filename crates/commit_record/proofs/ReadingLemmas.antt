@@ -1,6 +1,6 @@
 -- What is written is found where it is looked for.
 use Rattle.std.proofs.Common.{◌≡◌, ℕ, zero, suc, ◌+◌, ◌<◌, ◌≤◌, ◌^◌, true, false, List, [], ◌∷◌, ◌++◌, length, take, drop, nat_lt, nat_le, codes, decimal, Option, Some, None, append_assoc, length-append, if◌then◌else◌, IfOk, Ok, Err, ◌⊎◌, inl, inr, refl, sym, ap, ◌∙◌, arith, lit<}
-use Rattle.std.proofs.lemmas.Bool.{and_parts, cond-true, cond-false, le-ltb, leb-true}
+use Rattle.std.proofs.lemmas.Bool.{and_parts, cond-true, cond-false, le-ltb, leb-true, ltb-true, eqb-true}
 use Rattle.std.proofs.lemmas.List.{append-nil, drop_at, take_at}
 use Rattle.std.proofs.lemmas.Nat.{from_be_bytes-to_be_bytes_8}
 use Rattle.std.proofs.lemmas.Slice.Eq.{bytes_eq-Decides}
@@ -15,12 +15,12 @@ use Rattle.hex.specs.declared.error.FromHexError.{FromHexError}
 use Rattle.std.specs.declared.result.Result.{Result}
 use Rattle.mail_text.specs.Number.{number_of}
 use Rattle.commit_record.specs.Names.{is_lawful}
-use Rattle.commit_record.specs.Format.{entry_line, kind_word, phase_word, token_digits, IsWritten}
-use Rattle.commit_record.specs.Reading.{after, count_at, counted_head, counted_name_at, entries_at, entry_at, head_at, kind_at, name_at, number_at, or_else, phase_at, record_at, token_at, token_head, with_entries, with_value}
+use Rattle.commit_record.specs.Format.{at_word, entry_line, fits_at, fits_kind, fits_number, kind_word, phase_word, token_digits, IsWritten}
+use Rattle.commit_record.specs.Reading.{after, at_at, count_at, counted_head, counted_name_at, entries_at, entry_at, head_at, kind_at, name_at, number_at, or_else, phase_at, record_at, token_at, token_head, with_entries, with_value}
 use Rattle.commit_record.specs.declared.reader.Head.{Head}
 use Rattle.commit_record.specs.declared.record.Entry.{Entry}
 use Rattle.commit_record.specs.declared.record.EntryKind.{EntryKind}
-use Rattle.commit_record.specs.declared.record.EntryKind.TheVariants.{Replace, Remove}
+use Rattle.commit_record.specs.declared.record.EntryKind.TheVariants.{Replace, Remove, Extend}
 use Rattle.commit_record.specs.declared.record.Phase.{Phase}
 use Rattle.commit_record.specs.declared.record.Phase.TheVariants.{Prepare, Go}
 use Rattle.commit_record.specs.declared.record.Record.{Record}
@@ -80,12 +80,40 @@ remove-not-replace : (rest : List ℕ) → after (codes "replace ") (codes "remo
 unfolding after
 remove-not-replace rest = refl
 
+extend-not-replace : (rest : List ℕ) → after (codes "replace ") (codes "extend " ++ rest) ≡ None
+unfolding after
+extend-not-replace rest = refl
+
+extend-not-remove : (rest : List ℕ) → after (codes "remove ") (codes "extend " ++ rest) ≡ None
+unfolding after
+extend-not-remove rest = refl
+
+-- the kinds that come after the first
+abbrev later_kind : List ℕ → Option (EntryKind × List ℕ)
+later_kind bytes = or_else (with_value Remove (after (codes "remove ") bytes)) (with_value Extend (after (codes "extend ") bytes))
+
 kind_at-word : (k : EntryKind) (rest : List ℕ) → kind_at ((kind_word k ++ codes " ") ++ rest) ≡ Some (k, rest)
 unfolding kind_at
-kind_at-word Replace rest = ap (λ (o : Option (List ℕ)). or_else (with_value Replace o) (with_value Remove (after (codes "remove ") (codes "replace " ++ rest)))) (after-front (codes "replace ") rest)
+kind_at-word Replace rest = ap (λ (o : Option (List ℕ)). or_else (with_value Replace o) (later_kind (codes "replace " ++ rest))) (after-front (codes "replace ") rest)
 kind_at-word Remove rest =
-    ap (λ (o : Option (List ℕ)). or_else (with_value Replace o) (with_value Remove (after (codes "remove ") (codes "remove " ++ rest)))) (remove-not-replace rest)
-    ∙ ap (with_value Remove) (after-front (codes "remove ") rest)
+    ap (λ (o : Option (List ℕ)). or_else (with_value Replace o) (later_kind (codes "remove " ++ rest))) (remove-not-replace rest)
+    ∙ ap (λ (o : Option (List ℕ)). or_else (with_value Remove o) (with_value Extend (after (codes "extend ") (codes "remove " ++ rest)))) (after-front (codes "remove ") rest)
+kind_at-word Extend rest =
+    ap (λ (o : Option (List ℕ)). or_else (with_value Replace o) (later_kind (codes "extend " ++ rest))) (extend-not-replace rest)
+    ∙ ap (λ (o : Option (List ℕ)). or_else (with_value Remove o) (with_value Extend (after (codes "extend ") (codes "extend " ++ rest)))) (extend-not-remove rest)
+    ∙ ap (with_value Extend) (after-front (codes "extend ") rest)
+
+put_behind : (n rest : List ℕ) → (n ++ codes " ") ++ rest ≡ n ++ (32 ∷ rest)
+put_behind n rest = append_assoc n (codes " ") rest
+
+at_at-word : (k : EntryKind) (at : ℕ) (rest : List ℕ) → at < 2 ^ 64 → fits_at k at ≡ true → at_at k (at_word k at ++ rest) ≡ Some (at, rest)
+unfolding at_at
+at_at-word Replace at rest fits none = ap (λ (n : ℕ). Some (n, rest)) (sym (eqb-true at 0 none))
+at_at-word Remove at rest fits none = ap (λ (n : ℕ). Some (n, rest)) (sym (eqb-true at 0 none))
+at_at-word Extend at rest fits any =
+    ap (λ (bytes : List ℕ). option_and_then (λ (n : ℕ × List ℕ). with_value n.0 (after (codes " ") n.1)) (number_at bytes)) (put_behind (decimal at) rest)
+    ∙ ap (option_and_then (λ (n : ℕ × List ℕ). with_value n.0 (after (codes " ") n.1))) (number_at-decimal at 32 rest fits refl)
+    ∙ ap (with_value at) (after-front (codes " ") rest)
 
 name_at-name : (name rest : List ℕ) → name_at (length name) (name ++ 10 ∷ rest) ≡ Some (name, rest)
 unfolding name_at
@@ -104,17 +132,27 @@ counted_name_at-name name rest fits =
     ∙ ap (option_and_then (name_at (length name))) (after-front (codes " ") (name ++ 10 ∷ rest))
     ∙ name_at-name name rest
 
-entry_fronts : (k sp n name nl rest : List ℕ) → (((((k ++ sp) ++ n) ++ sp) ++ name) ++ nl) ++ rest ≡ (k ++ sp) ++ (n ++ (sp ++ (name ++ (nl ++ rest))))
-entry_fronts k sp n name nl rest = simp append_assoc
+entry_fronts : (k sp a n name nl rest : List ℕ) → ((((((k ++ sp) ++ a) ++ n) ++ sp) ++ name) ++ nl) ++ rest ≡ (k ++ sp) ++ (a ++ (n ++ (sp ++ (name ++ (nl ++ rest)))))
+entry_fronts k sp a n name nl rest = simp append_assoc
 
-entry_at-line : (e : Entry) (rest : List ℕ) → length e.name < 2 ^ 64 → entry_at (entry_line e ++ rest) ≡ Some (e, rest)
+-- the entry of these parts, and what follows its line
+abbrev found_entry : EntryKind → ℕ → List ℕ × List ℕ → Entry × List ℕ
+found_entry kind at n = (record { kind = kind; at = at; name = n.0 }, n.1)
+
+abbrev behind_at : EntryKind → ℕ × List ℕ → Option (Entry × List ℕ)
+behind_at kind a = option_map (found_entry kind a.0) (counted_name_at a.1)
+
+abbrev behind_kind : EntryKind × List ℕ → Option (Entry × List ℕ)
+behind_kind k = option_and_then (behind_at k.0) (at_at k.0 k.1)
+
+entry_at-line : (e : Entry) (rest : List ℕ) → length e.name < 2 ^ 64 → fits_number e ≡ true → fits_kind e ≡ true → entry_at (entry_line e ++ rest) ≡ Some (e, rest)
 unfolding entry_at entry_line
-entry_at-line e rest fits =
-    let behind = λ (k : EntryKind × List ℕ). option_map (λ (n : List ℕ × List ℕ). (let found : Entry = record { kind = k.0; name = n.0 } in found, n.1)) (counted_name_at k.1) in
+entry_at-line e rest fits number kind =
     let text = decimal (length e.name) ++ 32 ∷ (e.name ++ 10 ∷ rest) in
-    ap (λ (bytes : List ℕ). option_and_then behind (kind_at bytes)) (entry_fronts (kind_word e.kind) (codes " ") (decimal (length e.name)) e.name (10 ∷ []) rest)
-    ∙ ap (option_and_then behind) (kind_at-word e.kind text)
-    ∙ ap (option_map (λ (n : List ℕ × List ℕ). (let found : Entry = record { kind = e.kind; name = n.0 } in found, n.1))) (counted_name_at-name e.name rest fits)
+    ap (λ (bytes : List ℕ). option_and_then behind_kind (kind_at bytes)) (entry_fronts (kind_word e.kind) (codes " ") (at_word e.kind e.at) (decimal (length e.name)) e.name (10 ∷ []) rest)
+    ∙ ap (option_and_then behind_kind) (kind_at-word e.kind (at_word e.kind e.at ++ text))
+    ∙ ap (option_and_then (behind_at e.kind)) (at_at-word e.kind e.at text (ltb-true e.at (2 ^ 64) number) kind)
+    ∙ ap (option_map (found_entry e.kind e.at)) (counted_name_at-name e.name rest fits)
 
 small : (n most : ℕ) → n ≤ most → most < 2 ^ 64 → n < 2 ^ 64
 small n most le fits = omega arith
@@ -124,16 +162,19 @@ lawful-length name lawful =
     let behind = (and_parts (nat_lt 0 (length name)) _ lawful).1 in
     small (length name) 4000 (leb-true _ _ (and_parts (nat_le (length name) 4000) _ behind).0) (lit< tt)
 
-entries_at-lines : (es acc : List Entry) (rest : List ℕ) → list_all (λ e. is_lawful e.name) es ≡ true → entries_at (length es) acc (flat_map entry_line es ++ rest) ≡ Some (acc ++ es)
+entries_at-lines : (es acc : List Entry) (rest : List ℕ) → list_all (λ e. is_lawful e.name) es ≡ true → list_all fits_number es ≡ true → list_all fits_kind es ≡ true
+    → entries_at (length es) acc (flat_map entry_line es ++ rest) ≡ Some (acc ++ es)
 unfolding entries_at
-entries_at-lines [] acc rest lawful = ap (λ (xs : List Entry). Some xs) (sym (append-nil acc))
-entries_at-lines (e ∷ es) acc rest lawful =
+entries_at-lines [] acc rest lawful numbers kinds = ap (λ (xs : List Entry). Some xs) (sym (append-nil acc))
+entries_at-lines (e ∷ es) acc rest lawful numbers kinds =
     let parts = and_parts (is_lawful e.name) (list_all (λ (x : Entry). is_lawful x.name) es) lawful in
+    let fit = and_parts (fits_number e) (list_all fits_number es) numbers in
+    let kind = and_parts (fits_kind e) (list_all fits_kind es) kinds in
     let behind = flat_map entry_line es ++ rest in
     let more = λ (x : Entry × List ℕ). entries_at (length es) (acc ++ x.0 ∷ []) x.1 in
     ap (λ (bytes : List ℕ). option_and_then more (entry_at bytes)) (append_assoc (entry_line e) (flat_map entry_line es) rest)
-    ∙ ap (option_and_then more) (entry_at-line e behind (lawful-length e.name parts.0))
-    ∙ entries_at-lines es (acc ++ e ∷ []) rest parts.1
+    ∙ ap (option_and_then more) (entry_at-line e behind (lawful-length e.name parts.0) fit.0 kind.0)
+    ∙ entries_at-lines es (acc ++ e ∷ []) rest parts.1 fit.1 kind.1
     ∙ ap (λ (xs : List Entry). Some xs) (append_assoc acc (e ∷ []) es)
 
 count_at-count : (n : ℕ) (rest : List ℕ) → n < 2 ^ 64 → count_at (decimal n ++ 10 ∷ rest) ≡ Some (n, rest)
@@ -178,13 +219,15 @@ unfolding record_at
 record_at-written bytes r is =
     let behind = (and_parts _ _ is.valid).1 in
     let few = (and_parts _ _ behind).0 in
-    let lawful = (and_parts _ _ (and_parts _ _ behind).1).0 in
+    let named = and_parts _ _ (and_parts _ _ behind).1 in
+    let lawful = named.0 in
+    let kinds = (and_parts _ _ (and_parts _ _ named.1).1).0 in
     let found : Head = head r.phase r.token (length r.entries) in
     let lines = flat_map entry_line r.entries ++ codes "end\n" in
     ap (λ (text : List ℕ). option_and_then behind_head (head_at text)) (is.is ∙ written-fronts r)
     ∙ ap (option_and_then behind_head) (head_at-head r.phase r.token (length r.entries) lines is.token_fits (small (length r.entries) 16 (leb-true _ _ few) (lit< tt)))
     ∙ cond-true _ _ _ few
-    ∙ ap (option_map (with_entries found)) (entries_at-lines r.entries [] (codes "end\n") lawful)
+    ∙ ap (option_map (with_entries found)) (entries_at-lines r.entries [] (codes "end\n") lawful is.numbers_fit kinds)
 
 -- no entry at the front, an entry at the front, and no further line
 pub entries_at-none : (n : ℕ) (es : List Entry) (bytes : List ℕ) → 0 < n → entry_at bytes ≡ None → entries_at n es bytes ≡ None

@@ -11,7 +11,7 @@ use Rattle.mail_text.specs.Number.{number_of}
 use Rattle.commit_record.specs.declared.record.Phase.{Phase}
 use Rattle.commit_record.specs.declared.record.Phase.TheVariants.{Prepare, Go}
 use Rattle.commit_record.specs.declared.record.EntryKind.{EntryKind}
-use Rattle.commit_record.specs.declared.record.EntryKind.TheVariants.{Replace, Remove}
+use Rattle.commit_record.specs.declared.record.EntryKind.TheVariants.{Replace, Remove, Extend}
 use Rattle.commit_record.specs.declared.record.Entry.{Entry}
 use Rattle.commit_record.specs.declared.record.Record.{Record}
 use Rattle.commit_record.specs.declared.reader.Head.{Head}
@@ -45,7 +45,13 @@ phase_at bytes = or_else (with_value Prepare (after (codes "prepare\n") bytes)) 
 
 -- the word of a kind and the space after it
 unfoldable pub kind_at : List ℕ → Option (EntryKind × List ℕ)
-kind_at bytes = or_else (with_value Replace (after (codes "replace ") bytes)) (with_value Remove (after (codes "remove ") bytes))
+kind_at bytes = or_else (with_value Replace (after (codes "replace ") bytes)) (or_else (with_value Remove (after (codes "remove ") bytes)) (with_value Extend (after (codes "extend ") bytes)))
+
+-- how many bytes of a file stay, and a space, if it is extended
+unfoldable pub at_at : EntryKind → List ℕ → Option (ℕ × List ℕ)
+at_at Replace bytes = Some (0, bytes)
+at_at Remove bytes = Some (0, bytes)
+at_at Extend bytes = option_and_then (λ n. with_value n.0 (after (codes " ") n.1)) (number_at bytes)
 
 -- n bytes, and a line feed
 unfoldable pub name_at : ℕ → List ℕ → Option (List ℕ × List ℕ)
@@ -57,7 +63,7 @@ counted_name_at bytes = option_and_then (λ n. option_and_then (name_at n.0) (af
 
 -- an entry's line
 unfoldable pub entry_at : List ℕ → Option (Entry × List ℕ)
-entry_at bytes = option_and_then (λ k. option_map (λ n. (record { kind = k.0; name = n.0 }, n.1)) (counted_name_at k.1)) (kind_at bytes)
+entry_at bytes = option_and_then (λ k. option_and_then (λ a. option_map (λ n. (record { kind = k.0; at = a.0; name = n.0 }, n.1)) (counted_name_at a.1)) (at_at k.0 k.1)) (kind_at bytes)
 
 -- the entries of a given number of lines, after these entries
 unfoldable pub entries_at : ℕ → List Entry → List ℕ → Option (List Entry)

@@ -1,13 +1,13 @@
 // The record that a text gives. Its parts are looked for from the front, each with what follows it; then the record is
 // written, and its text compared with the bytes.
-ghost use Rattle.std.specs.Prelude.{◌≡◌, ◌≤◌, ◌⊎◌, [], length, IfOk};
+ghost use Rattle.std.specs.Prelude.{◌≡◌, ◌≤◌, ◌⊎◌, [], true, length, IfOk};
 ghost use Rattle.std.specs.Bool.{Decides};
 ghost use Rattle.std.specs.Char.{is_ascii_digit};
-ghost use Rattle.std.specs.List.{prefix_len};
+ghost use Rattle.std.specs.List.{list_all, prefix_len};
 ghost use Rattle.std.specs.Option.{option_copied, option_map};
 ghost use Rattle.std.specs.Str.{bytes_eq};
-ghost use Rattle.commit_record.specs.Format.{IsWritten};
-ghost use Rattle.commit_record.specs.Reading.{after, count_at, counted_head, counted_name_at, entries_at, entry_at, head_at, kind_at, name_at, number_at, phase_at, record_at, token_at, token_head, with_entries};
+ghost use Rattle.commit_record.specs.Format.{IsWritten, fits_number};
+ghost use Rattle.commit_record.specs.Reading.{after, at_at, count_at, counted_head, counted_name_at, entries_at, entry_at, head_at, kind_at, name_at, number_at, phase_at, record_at, token_at, token_head, with_entries};
 
 use crate::valid::{MOST_ENTRIES, is_valid};
 use crate::writer::write;
@@ -96,8 +96,26 @@ fn kind_at(bytes: &[u8]) -> Option<(EntryKind, &[u8])>
         Some(rest) => Some((EntryKind::Replace, rest)),
         None => match after(b"remove ", bytes) {
             Some(rest) => Some((EntryKind::Remove, rest)),
-            None => None,
+            None => match after(b"extend ", bytes) {
+                Some(rest) => Some((EntryKind::Extend, rest)),
+                None => None,
+            },
         },
+    }
+}
+
+// How many bytes stay of the file of an entry of this kind.
+#[tactic(auto, unfolding(crate::specs::Reading::at_at))]
+fn at_at(kind: EntryKind, bytes: &[u8]) -> Option<(u64, &[u8])>
+    ensures { option_map (λ p. (p.0, p.1.now)) result ≡ at_at kind bytes.now }
+{
+    match kind {
+        EntryKind::Replace | EntryKind::Remove => Some((0, bytes)),
+        EntryKind::Extend => {
+            let (at, rest) = number_at(bytes)?;
+            let rest = after(b" ", rest)?;
+            Some((at, rest))
+        }
     }
 }
 
@@ -126,14 +144,15 @@ fn counted_name_at(bytes: &[u8]) -> Option<(&[u8], &[u8])>
     name_at(length, rest)
 }
 
-// The line of an entry: its kind, its name and what follows the line.
+// The line of an entry: its kind, the number of bytes that stay, its name and what follows the line.
 #[tactic(auto, unfolding(crate::specs::Reading::entry_at))]
-fn entry_at(bytes: &[u8]) -> Option<(EntryKind, &[u8], &[u8])>
-    ensures { option_map (λ p. (record { kind = p.0; name = p.1.now }, p.2.now)) result ≡ entry_at bytes.now }
+fn entry_at(bytes: &[u8]) -> Option<(EntryKind, u64, &[u8], &[u8])>
+    ensures { option_map (λ p. (record { kind = p.0; at = p.1; name = p.2.now }, p.3.now)) result ≡ entry_at bytes.now }
 {
     let (kind, rest) = kind_at(bytes)?;
+    let (at, rest) = at_at(kind, rest)?;
     let (name, rest) = counted_name_at(rest)?;
-    Some((kind, name, rest))
+    Some((kind, at, name, rest))
 }
 
 // The entries of `count` lines.
@@ -144,9 +163,9 @@ fn entries_at(alloc: Global, count: u64, bytes: &[u8]) -> Result<Option<Items<En
     let mut rest = bytes;
     for _line in 0..count {
         match entry_at(rest) {
-            Some((kind, name, after)) => {
+            Some((kind, at, name, after)) => {
                 let name = Text::copy(alloc, name)?;
-                entries.push(Entry { kind, name })?;
+                entries.push(Entry { kind, at, name })?;
                 rest = after;
             }
             None => return Ok(None),
@@ -234,13 +253,27 @@ fn is_same(text: &Text, bytes: &[u8]) -> bool
     text.bytes() == bytes
 }
 
+// A number of this type fits 64 bits.
+fn fits_number(entry: &Entry) -> bool
+    ensures { result ≡ fits_number entry.now }
+{
+    let _at = entry.at;
+    true
+}
+
+fn fit_numbers(entries: &[Entry]) -> bool
+    ensures { result ≡ list_all fits_number entries.now }
+{
+    entries.iter().all(|entry| fits_number(entry))
+}
+
 // Whether the bytes are the text of this record.
 fn is_text_of(alloc: Global, value: &Record, bytes: &[u8]) -> Result<bool, Memory>
     ensures { IfOk result (λ is. Decides is (IsWritten bytes.now value.now)) }
 {
     // The token fits 64 bits.
     let _token = value.token;
-    if !is_valid(value) {
+    if !is_valid(value) || !fit_numbers(value.entries.items()) {
         return Ok(false);
     }
     let text = write(alloc, value)?;

@@ -16,6 +16,8 @@ pub enum EntryKind {
     Replace,
     /// It is taken away if its staged file stands.
     Remove,
+    /// What is staged stands behind its first bytes.
+    Extend,
 }
 
 /// A file that a commit changes.
@@ -23,6 +25,8 @@ pub enum EntryKind {
 pub struct Entry {
     /// What becomes of the file.
     pub kind: EntryKind,
+    /// How many of its bytes stay, if it is extended; else 0.
+    pub at: u64,
     /// The file's name.
     pub name: Text,
 }

@@ -1,9 +1,9 @@
 // Which records are valid.
-ghost use Rattle.std.specs.Prelude.{◌≡◌, ◌-◌, length, drop};
+ghost use Rattle.std.specs.Prelude.{◌≡◌, ◌-◌, ◌==◌, length, drop};
 ghost use Rattle.std.specs.List.{list_all, list_any};
 ghost use Rattle.std.specs.Str.{bytes_eq};
 ghost use Rattle.commit_record.specs.Names.{is_lower_hex, is_staged_end, is_lawful};
-ghost use Rattle.commit_record.specs.Format.{are_distinct, is_replace, fit_phase, is_valid};
+ghost use Rattle.commit_record.specs.Format.{are_distinct, fits_kind, is_replace, fit_phase, is_valid};
 
 use crate::{Entry, EntryKind, Phase, Record};
 
@@ -81,12 +81,28 @@ fn are_distinct(entries: &[Entry]) -> bool
     }
 }
 
+// Whether the number of bytes that stay is 0, or the file is extended.
+fn fits_kind(entry: &Entry) -> bool
+    ensures { result ≡ fits_kind entry.now }
+{
+    match entry.kind {
+        EntryKind::Replace | EntryKind::Remove => entry.at == 0,
+        EntryKind::Extend => true,
+    }
+}
+
+fn fit_kinds(entries: &[Entry]) -> bool
+    ensures { result ≡ list_all fits_kind entries.now }
+{
+    entries.iter().all(|entry| fits_kind(entry))
+}
+
 fn is_replace(kind: EntryKind) -> bool
     ensures { result ≡ is_replace kind }
 {
     match kind {
         EntryKind::Replace => true,
-        EntryKind::Remove => false,
+        EntryKind::Remove | EntryKind::Extend => false,
     }
 }
 
@@ -106,8 +122,8 @@ fn fit_phase(phase: Phase, entries: &[Entry]) -> bool
     }
 }
 
-/// Whether the record has 1 to 16 entries with distinct lawful names, and before the decision removes no file. It
-/// takes no memory.
+/// Whether the record has 1 to 16 entries with distinct lawful names, and before the decision replaces all files.
+/// Some bytes of a file stay only if it is extended. It takes no memory.
 pub fn is_valid(value: &Record) -> bool
     ensures { result ≡ is_valid value.now }
 {
@@ -116,5 +132,6 @@ pub fn is_valid(value: &Record) -> bool
         && entries.len() <= MOST_ENTRIES
         && are_lawful(entries)
         && are_distinct(entries)
+        && fit_kinds(entries)
         && fit_phase(value.phase, entries)
 }

@@ -12,6 +12,8 @@ pub enum Way {
     Replace,
     /// It is taken away.
     Remove,
+    /// What is staged stands behind this number of its bytes.
+    Extend(u64),
 }
 
 /// The way of an entry.
@@ -21,6 +23,7 @@ pub fn way_of(entry: &Entry) -> Way
     match entry.kind {
         EntryKind::Replace => Way::Replace,
         EntryKind::Remove => Way::Remove,
+        EntryKind::Extend => Way::Extend(entry.at),
     }
 }
 
@@ -28,9 +31,10 @@ pub fn way_of(entry: &Entry) -> Way
 pub fn entry_for(way: Way, name: Text) -> Entry
     ensures { result ≡ entry_for way name }
 {
-    let kind = match way {
-        Way::Replace => EntryKind::Replace,
-        Way::Remove => EntryKind::Remove,
+    let (kind, at) = match way {
+        Way::Replace => (EntryKind::Replace, 0),
+        Way::Remove => (EntryKind::Remove, 0),
+        Way::Extend(at) => (EntryKind::Extend, at),
     };
-    Entry { kind, name }
+    Entry { kind, at, name }
 }

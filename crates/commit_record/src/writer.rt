@@ -1,7 +1,7 @@
 // A record as a text.
-ghost use Rattle.std.specs.Prelude.{◌≡◌, ◌++◌, true, length, codes, decimal, IfOk, OnOk};
+ghost use Rattle.std.specs.Prelude.{◌≡◌, ◌++◌, [], true, length, codes, decimal, IfOk, OnOk};
 ghost use Rattle.std.specs.List.{flat_map};
-ghost use Rattle.commit_record.specs.Format.{entry_line, is_valid, kind_word, phase_word, token_digits, written};
+ghost use Rattle.commit_record.specs.Format.{at_word, entry_line, is_valid, kind_word, phase_word, token_digits, written};
 
 use crate::{Entry, EntryKind, Phase, Record};
 use itoa::Buffer;
@@ -25,11 +25,12 @@ fn kind_word(kind: EntryKind) -> &'static [u8]
     match kind {
         EntryKind::Replace => b"replace",
         EntryKind::Remove => b"remove",
+        EntryKind::Extend => b"extend",
     }
 }
 
 // Puts a number in decimal digits at the end.
-fn push_number(text: &mut Text, number: usize) -> Result<(), Memory>
+fn push_number(text: &mut Text, number: u64) -> Result<(), Memory>
     ensures { OnOk result (text.new ≡ text.old ++ decimal number) }
 {
     let mut buffer = Buffer::new();
@@ -44,6 +45,19 @@ fn push_token(alloc: Global, text: &mut Text, token: u64) -> Result<(), Memory>
     text.push(digits.as_bytes())
 }
 
+// Puts the number of bytes that stay at the end, if the file is extended.
+fn push_at(text: &mut Text, entry: &Entry) -> Result<(), Memory>
+    ensures { OnOk result (text.new ≡ text.old ++ at_word entry.now.kind entry.now.at) }
+{
+    match entry.kind {
+        EntryKind::Replace | EntryKind::Remove => Ok(()),
+        EntryKind::Extend => {
+            push_number(text, entry.at)?;
+            text.push(b" ")
+        }
+    }
+}
+
 // Puts the line of an entry at the end.
 #[tactic(auto, unfolding(crate::specs::Format::entry_line))]
 fn push_entry(text: &mut Text, entry: &Entry) -> Result<(), Memory>
@@ -52,7 +66,8 @@ fn push_entry(text: &mut Text, entry: &Entry) -> Result<(), Memory>
     let name = entry.name.bytes();
     text.push(kind_word(entry.kind))?;
     text.push(b" ")?;
-    push_number(text, name.len())?;
+    push_at(text, entry)?;
+    push_number(text, name.len() as u64)?;
     text.push(b" ")?;
     text.push(name)?;
     text.push(b"\n")
@@ -69,8 +84,8 @@ fn push_entries(text: &mut Text, entries: &[Entry]) -> Result<(), Memory>
 }
 
 /// The text of a record: `mailx-commit 1`, the phase, the token in 16 lower case hexadecimal digits, the number of
-/// entries, a line for each entry with the number of bytes of its name and the name, and `end`; a line feed ends
-/// each line. The record has to be valid.
+/// entries, a line for each entry with its kind, the bytes that stay of a file that is extended, the number of bytes of
+/// its name and the name, and `end`; a line feed ends each line. The record has to be valid.
 pub fn write(alloc: Global, value: &Record) -> Result<Text, Memory>
     requires { is_valid value.now ≡ true }
     ensures { IfOk result (λ text. text ≡ written value.now) }
@@ -81,7 +96,7 @@ pub fn write(alloc: Global, value: &Record) -> Result<Text, Memory>
     text.push(b"\ntoken ")?;
     push_token(alloc, &mut text, value.token)?;
     text.push(b"\nentries ")?;
-    push_number(&mut text, entries.len())?;
+    push_number(&mut text, entries.len() as u64)?;
     text.push(b"\n")?;
     push_entries(&mut text, entries)?;
     text.push(b"end\n")?;

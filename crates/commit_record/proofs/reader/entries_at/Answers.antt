@@ -13,7 +13,7 @@ pub loop-line-preserved : goal.loop-line-preserved
 loop-line-preserved c =
     let k = c.args.count - (c.loop-line._line + 1) in
     let left : c.args.count - c.loop-line._line ≡ k + 1 = omega arith in
-    let named = λ (name : List ℕ). (let e : Entry = record { kind = c.in-Some.kind; name = name } in e) in
+    let named = λ (name : List ℕ). (let e : Entry = record { kind = c.in-Some.kind; at = c.in-Some.at; name = name } in e) in
     let put = c.in_ok-push-in-Some.ensures.ok ∙ ap (λ (name : List ℕ). c.loop-line.entries ++ named name ∷ []) c.in_ok-name-in-Some.ensures in
     ap (λ (es : List Entry). entries_at k es c.in-Some.after.now) put
     ∙ sym (entries_at-more (c.args.count - c.loop-line._line) k c.loop-line.entries c.loop-line.rest.now (named c.in-Some.name.now) c.in-Some.after.now left (sym c.in-Some.ensures))
