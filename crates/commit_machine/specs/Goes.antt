@@ -7,7 +7,7 @@ use Rattle.host_port.specs.declared.event.Event.TheVariants as event
 use Rattle.host_port.specs.declared.event.Seen.{Seen}
 use Rattle.host_port.specs.declared.event.Seen.TheVariants as seen
 use Rattle.commit_machine.specs.Jobs.{Job}
-use Rattle.commit_machine.specs.Machine.{State, Call, ToLoad, ToStage, ToPublish, ToErase, ToLock, ToUnlock, ToSeize, ToRelease, Reply, Went, Saw, Long, Short, Fault, next, after_reply, refused}
+use Rattle.commit_machine.specs.Machine.{State, Call, ToLoad, ToStage, ToPublish, ToExtend, ToErase, ToLock, ToUnlock, ToSeize, ToRelease, Reply, Went, Saw, Long, Short, Fault, next, after_reply, refused}
 
 -- the event is one of this call, carried out or failing
 pub data IsOf : Call → Event → Type 0 where
@@ -15,6 +15,8 @@ pub data IsOf : Call → Event → Type 0 where
   stages : {n c : List ℕ} → IsOf (ToStage n c) (event.Stage n (Some c) false)
   stage_fails : {n c : List ℕ} {left : Option (List ℕ)} → IsOf (ToStage n c) (event.Stage n left true)
   publishes : {from to : List ℕ} {done failed : Bool} → IsOf (ToPublish from to) (event.Publish from to done failed)
+  extends : {n : List ℕ} {at : ℕ} {c : List ℕ} → IsOf (ToExtend n at c) (event.Extend n at c false)
+  extend_fails : {n : List ℕ} {at : ℕ} {c left : List ℕ} → IsOf (ToExtend n at c) (event.Extend n at left true)
   erases : {n : List ℕ} {done failed : Bool} → IsOf (ToErase n) (event.Erase n done failed)
   locks : {n : List ℕ} {t : ℕ} {got failed : Bool} → IsOf (ToLock n t) (event.Lock n t got failed)
   unlocks : {n : List ℕ} {t : ℕ} {done failed : Bool} → IsOf (ToUnlock n t) (event.Unlock n t done failed)
@@ -36,6 +38,7 @@ abbrev pub reply : Event → Reply
 reply (event.Load n s) = seen_reply s
 reply (event.Stage n c failed) = went true failed
 reply (event.Publish from to done failed) = went done failed
+reply (event.Extend n at tail failed) = went true failed
 reply (event.Erase n done failed) = went done failed
 reply (event.Lock n t got failed) = went got failed
 reply (event.Unlock n t done failed) = went done failed

@@ -7,7 +7,8 @@ use Rattle.commit_record.specs.declared.record.Phase.TheVariants.{Prepare, Go}
 use Rattle.commit_record.specs.declared.record.Entry.{Entry}
 use Rattle.commit_record.specs.declared.record.Record.{Record}
 use Rattle.commit_record.specs.declared.way.Way.{Way}
-use Rattle.commit_record.specs.declared.way.Way.TheVariants.{Replace}
+use Rattle.commit_record.specs.declared.way.Way.TheVariants.{Replace, Extend}
+use Rattle.host_port.specs.Disk.{reaches}
 use Rattle.commit_machine.specs.Names.{is_record_name}
 use Rattle.commit_machine.specs.Settled.{Files, Mem, put_in}
 
@@ -111,8 +112,10 @@ file_after seen (Puts way content) = put_in way seen (Some content)
 abbrev pub outcome_of : Edit → Option (List ℕ) → Option (List ℕ)
 outcome_of e seen = file_after seen (e.by seen)
 
--- The record before the decision is valid, so there are 1 to 16 files of distinct lawful names, and none is a record name.
+-- The record before the decision is valid, so there are 1 to 16 files of distinct lawful names, and none is a record name. A file is
+-- extended only if it stands with the bytes that stay.
 pub record IsJob (j : Job) : Type 0 where
   pub token_fits : j.token < 2 ^ 64
   pub valid : (es : List Edit) → j.edits ≡ Some es → is_valid (prepare_of j) ≡ true
   pub plain : (e : Edit) → Mem e (edits_of j) → is_record_name j.actor e.name ≡ false
+  pub extends : (e : Edit) → Mem e (edits_of j) → (seen : Option (List ℕ)) (at : ℕ) (content : List ℕ) → e.by seen ≡ Puts (Extend at) content → (reaches at seen ≡ true) × (at < 2 ^ 64)

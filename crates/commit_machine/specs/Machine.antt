@@ -5,7 +5,8 @@ use Rattle.commit_record.specs.Format.{line, phase_word, token_digits, written}
 use Rattle.commit_record.specs.declared.record.Phase.TheVariants.{Go}
 use Rattle.commit_record.specs.declared.record.Record.{Record}
 use Rattle.commit_record.specs.declared.way.Way.{Way}
-use Rattle.commit_record.specs.declared.way.Way.TheVariants.{Replace, Remove}
+use Rattle.commit_record.specs.declared.way.Way.TheVariants.{Replace, Remove, Extend}
+use Rattle.folder_change.specs.Outcomes.{bytes_of}
 use Rattle.commit_machine.specs.Names.{record_name, new_name, right_name, staged_name}
 use Rattle.commit_machine.specs.Records.{record_of, is_go, names_of}
 use Rattle.commit_machine.specs.Items.{Item, found_items, made_items}
@@ -23,9 +24,10 @@ pub data State : Type 0 where
   Undoing : Record → List ℕ → List (List ℕ) → List (List ℕ) → Then → State
   -- a record, what is next put in place, what after it, and the names to unlock then
   Placing : Record → Item → List Item → List (List ℕ) → Then → State
-  -- A file that is removed. If the record was found, the staged file is looked for first; then the file is taken away, and then its
-  -- staged file.
+  -- A file that is removed or extended. If the record was found, the staged file is looked for first; then the file is taken away, or
+  -- gets its tail, and then its staged file is taken away.
   Testing : Record → Item → List Item → List (List ℕ) → State
+  Extending : Record → Item → List Item → List (List ℕ) → Then → State
   Removing : Record → Item → List Item → List (List ℕ) → Then → State
   Discarding : Record → Item → List Item → List (List ℕ) → Then → State
   Unlocking : Record → List ℕ → List (List ℕ) → Then → State
@@ -49,6 +51,7 @@ pub data Call : Type 0 where
   ToLoad : List ℕ → Call
   ToStage : List ℕ → List ℕ → Call
   ToPublish : List ℕ → List ℕ → Call
+  ToExtend : List ℕ → ℕ → List ℕ → Call
   ToErase : List ℕ → Call
   ToLock : List ℕ → ℕ → Call
   ToUnlock : List ℕ → ℕ → Call
@@ -71,23 +74,39 @@ abbrev pub undoing : Record → List (List ℕ) → List (List ℕ) → Then →
 undoing r [] ls th = unlocking r ls th
 undoing r (n ∷ ns) ls th = Undoing r n ns ls th
 
--- a removal of a record that was found may be done already
+-- a removal or an extension of a record that was found may be done already
 abbrev pub removing : Record → Item → List Item → List (List ℕ) → Then → State
 removing r x xs ls GoOn = Testing r x xs ls
 removing r x xs ls (Answer e) = Removing r x xs ls (Answer e)
 
+abbrev pub extending : Record → Item → List Item → List (List ℕ) → Then → State
+extending r x xs ls GoOn = Testing r x xs ls
+extending r x xs ls (Answer e) = Extending r x xs ls (Answer e)
+
 abbrev pub place_one : Way → Record → Item → List Item → List (List ℕ) → Then → State
 place_one Replace r x xs ls th = Placing r x xs ls th
 place_one Remove r x xs ls th = removing r x xs ls th
+place_one (Extend at) r x xs ls th = extending r x xs ls th
+
+-- the staged file is known to stand; that of a file that is replaced isn't looked for
+abbrev pub place_known : Way → Record → Item → List Item → List (List ℕ) → Then → State
+place_known Replace r x xs ls th = Removing r x xs ls th
+place_known Remove r x xs ls th = Removing r x xs ls th
+place_known (Extend at) r x xs ls th = Extending r x xs ls th
+
+-- how many bytes of the file stay
+abbrev pub stay : Way → ℕ
+stay (Extend at) = at
+stay way = 0
 
 abbrev pub placing : Record → List Item → List (List ℕ) → Then → State
 placing r [] ls th = unlocking r ls th
 placing r (x ∷ xs) ls th = place_one x.way r x xs ls th
 
--- a removal whose staged file is gone was done before
+-- a removal or an extension whose staged file is gone was done before
 abbrev pub tested : Record → Item → List Item → List (List ℕ) → Option (List ℕ) → State
 tested r x xs ls None = placing r xs ls GoOn
-tested r x xs ls (Some bytes) = Removing r (record x { staged = Some bytes }) xs ls GoOn
+tested r x xs ls (Some bytes) = place_known x.way r (record x { staged = Some bytes }) xs ls GoOn
 
 abbrev pub staging : List (List ℕ) → List Made → List Made → State
 staging ns done [] = Deciding done
@@ -145,6 +164,7 @@ next j (Undoing r n ns ls th) = Some (ToErase (staged_name r.token n))
 next j (Placing r x xs ls th) = Some (ToPublish (staged_name r.token x.name) x.name)
 next j (Testing r x xs ls) = Some (ToLoad (staged_name r.token x.name))
 next j (Removing r x xs ls th) = Some (ToErase x.name)
+next j (Extending r x xs ls th) = Some (ToExtend x.name (stay x.way) (bytes_of x.staged))
 next j (Discarding r x xs ls th) = Some (ToErase (staged_name r.token x.name))
 next j (Unlocking r n ns th) = Some (ToUnlock n r.token)
 next j (Erasing r th) = Some (ToErase (record_name j.actor))
@@ -173,6 +193,7 @@ passed_then (Answer e) = passed_ending e
 abbrev pub passed_at : State → Passed
 passed_at (Placing r x xs ls th) = passed_then th
 passed_at (Removing r x xs ls th) = passed_then th
+passed_at (Extending r x xs ls th) = passed_then th
 passed_at (Discarding r x xs ls th) = passed_then th
 passed_at (Unlocking r n ns th) = passed_then th
 passed_at (Erasing r th) = passed_then th
@@ -218,6 +239,7 @@ went_on j Seizing false = Ended (Refused (Busy (right_name j.actor)))
 went_on j (Undoing r n ns ls th) b = undoing r ns ls th
 went_on j (Placing r x xs ls th) b = placing r xs ls th
 went_on j (Removing r x xs ls th) b = Discarding r x xs ls th
+went_on j (Extending r x xs ls th) b = Discarding r x xs ls th
 went_on j (Discarding r x xs ls th) b = placing r xs ls th
 went_on j (Unlocking r n ns th) b = unlocking r ns th
 went_on j (Erasing r GoOn) b = Clearing (found_of r)
@@ -243,6 +265,7 @@ refused j (Undoing r n ns ls GoOn) = Releasing NoMemory
 refused j (Placing r x xs ls GoOn) = Releasing NoMemory
 refused j (Testing r x xs ls) = Releasing NoMemory
 refused j (Removing r x xs ls GoOn) = Releasing NoMemory
+refused j (Extending r x xs ls GoOn) = Releasing NoMemory
 refused j (Discarding r x xs ls GoOn) = Releasing NoMemory
 refused j (Unlocking r n ns GoOn) = Releasing NoMemory
 refused j (Erasing r GoOn) = Releasing NoMemory

@@ -1,8 +1,9 @@
 -- The record that a file holds, and its parts.
 use Rattle.std.specs.Prelude.{◌≡◌, ℕ, ◌^◌, Bool, true, false, ◌&&◌, ◌||◌, nat_lt, List, [], ◌∷◌, map, Option, Some, None, if◌then◌else◌}
+use Rattle.std.specs.List.{list_all}
 use Rattle.std.specs.Option.{option_and_then}
 use Rattle.std.specs.Str.{bytes_eq}
-use Rattle.commit_record.specs.Format.{is_valid, written}
+use Rattle.commit_record.specs.Format.{is_valid, fits_number, written}
 use Rattle.commit_record.specs.Reading.{record_at}
 use Rattle.commit_record.specs.Ways.{way_of}
 use Rattle.commit_record.specs.declared.record.Phase.{Phase}
@@ -14,7 +15,7 @@ use Rattle.commit_record.specs.declared.way.Way.TheVariants.{Replace}
 
 -- the bytes are the text of this record
 abbrev pub is_text_of : List ℕ → Record → Bool
-is_text_of bytes r = is_valid r && (nat_lt r.token (2 ^ 64) && bytes_eq bytes (written r))
+is_text_of bytes r = is_valid r && (nat_lt r.token (2 ^ 64) && (list_all fits_number r.entries && bytes_eq bytes (written r)))
 
 abbrev pub if_text : List ℕ → Record → Option Record
 if_text bytes r = if is_text_of bytes r then Some r else None

@@ -3,7 +3,7 @@ use Rattle.std.specs.Prelude.{◌≡◌, ℕ, Bool, true, false, List, ◌∷◌
 use Rattle.std.specs.List.{list_any}
 use Rattle.std.specs.declared.option.Option.TheVariants.{None}
 use Rattle.host_port.specs.declared.event.Event.{Event}
-use Rattle.host_port.specs.declared.event.Event.TheVariants.{Load, Stage, Publish, Erase, Lock, Unlock, Seize}
+use Rattle.host_port.specs.declared.event.Event.TheVariants.{Load, Stage, Publish, Extend, Erase, Lock, Unlock, Seize}
 use Rattle.host_port.specs.declared.event.Seen.{Seen}
 use Rattle.host_port.specs.declared.event.Seen.TheVariants as seen
 use Rattle.host_port.specs.Disk.{Disk, disk}
@@ -28,6 +28,7 @@ abbrev pub is_failed : Event → Bool
 is_failed (Load n s) = is_failed_load s
 is_failed (Stage n c failed) = failed
 is_failed (Publish from to done failed) = failed
+is_failed (Extend n at tail failed) = failed
 is_failed (Erase n done failed) = failed
 is_failed (Lock n t got failed) = failed
 is_failed (Unlock n t done failed) = failed
@@ -38,6 +39,7 @@ is_failed e = false
 abbrev pub may_act : Event → Bool
 may_act (Stage n c failed) = true
 may_act (Publish from to done failed) = true
+may_act (Extend n at tail failed) = true
 may_act (Erase n done failed) = true
 may_act (Lock n t got failed) = true
 may_act (Unlock n t done failed) = true

@@ -1,10 +1,12 @@
 -- What recovery makes of a disk: the files and the locks once the record that stands is done with.
-use Rattle.std.specs.Prelude.{◌≡◌, ◌⊎◌, ℕ, Bool, true, false, ◌&&◌, ◌||◌, ◌==◌, List, [], ◌∷◌, Option, Some, None, if◌then◌else◌, is_some}
+use Rattle.std.specs.Prelude.{◌≡◌, ◌⊎◌, ℕ, Bool, true, false, ◌&&◌, ◌||◌, ◌==◌, List, [], ◌∷◌, ◌++◌, take, Option, Some, None, if◌then◌else◌, is_some}
 use Rattle.std.specs.List.{list_any}
 use Rattle.std.specs.Str.{bytes_eq}
+use Rattle.folder_change.specs.Outcomes.{bytes_of}
+use Rattle.host_port.specs.Disk.{reaches}
 use Rattle.commit_record.specs.declared.record.Record.{Record}
 use Rattle.commit_record.specs.declared.way.Way.{Way}
-use Rattle.commit_record.specs.declared.way.Way.TheVariants.{Replace, Remove}
+use Rattle.commit_record.specs.declared.way.Way.TheVariants.{Replace, Remove, Extend}
 use Rattle.commit_machine.specs.Names.{record_name, staged_name, is_record_name}
 use Rattle.commit_machine.specs.Records.{record_in, is_go, names_of, way_at, has}
 
@@ -23,11 +25,13 @@ abbrev pub hides : List ℕ → Option Record → List ℕ → Bool
 hides actor None name = is_record_name actor name
 hides actor (Some r) name = is_record_name actor name || is_staged_of r name
 
--- a file with its staged file put in place, if that one stands; for a removal that takes the file away
+-- A file with its staged file put in place, if that one stands. For a removal that takes the file away; for an extension its bytes
+-- come behind the first ones.
 abbrev pub put_in : Way → Option (List ℕ) → Option (List ℕ) → Option (List ℕ)
 put_in way file None = file
 put_in Replace file (Some bytes) = Some bytes
 put_in Remove file (Some bytes) = None
+put_in (Extend at) file (Some bytes) = Some (take at (bytes_of file) ++ bytes)
 
 -- if the commit was decided, each staged file is put in place
 abbrev pub placed : Option Record → Files → List ℕ → Option (List ℕ)
@@ -60,7 +64,8 @@ Mem x [] = ⊥
 Mem x (y ∷ ys) = (x ≡ y) ⊎ Mem x ys
 
 -- If the record says that the commit was decided, none of its names is a record name of the actor, and each staged file that
--- stands has its lock.
+-- stands has its lock and, if the file is extended, a file with as many bytes at least as stay.
 pub record IsSoundAt (actor : List ℕ) (files : Files) (locks : Locks) : Type 0 where
   pub plain : (r : Record) (n : List ℕ) → record_in (files (record_name actor)) ≡ Some r → is_go r ≡ true → Mem n (names_of r) → is_record_name actor n ≡ false
   pub locked : (r : Record) (n : List ℕ) → record_in (files (record_name actor)) ≡ Some r → is_go r ≡ true → Mem n (names_of r) → is_some (files (staged_name r.token n)) ≡ true → locks n ≡ Some r.token
+  pub long : (r : Record) (n : List ℕ) (at : ℕ) → record_in (files (record_name actor)) ≡ Some r → is_go r ≡ true → Mem n (names_of r) → way_at r n ≡ Extend at → is_some (files (staged_name r.token n)) ≡ true → reaches at (files n) ≡ true

@@ -6,9 +6,9 @@ use Rattle.commit_record.specs.Ways.{entry_for}
 use Rattle.commit_record.specs.declared.record.Phase.{Phase}
 use Rattle.commit_record.specs.declared.record.Phase.TheVariants.{Prepare, Go}
 use Rattle.commit_record.specs.declared.record.Record.{Record}
-use Rattle.commit_record.specs.declared.way.Way.TheVariants.{Replace, Remove}
+use Rattle.commit_record.specs.declared.way.Way.TheVariants.{Replace, Remove, Extend as ExtendBy}
 use Rattle.host_port.specs.declared.event.Event.{Event}
-use Rattle.host_port.specs.declared.event.Event.TheVariants.{Load, Stage, Publish, Erase, Lock, Unlock, Seize, Release, Foreign}
+use Rattle.host_port.specs.declared.event.Event.TheVariants.{Load, Stage, Publish, Extend, Erase, Lock, Unlock, Seize, Release, Foreign}
 use Rattle.host_port.specs.declared.event.ForeignStep.TheVariants as step
 use Rattle.host_port.specs.declared.event.Seen.TheVariants.{Bytes}
 use Rattle.host_port.specs.Disk.{Disk, with_at, after, after_step, disk}
@@ -16,7 +16,7 @@ use Rattle.host_port.specs.Ends.{carried_out}
 use Rattle.host_port.specs.Ran.{Honest}
 use Rattle.commit_machine.specs.Names.{record_name, new_name, right_name, staged_name}
 use Rattle.commit_machine.specs.Jobs.{Nothing, RolledBack, Finished, Busy, NotARecord, Changed, Ending, Done, Recovered, Refused, Puts, Edit, Job, entries_for}
-use Rattle.commit_machine.specs.Machine.{State, Seizing, Ended, Call, ToLoad, ToStage, ToPublish, ToErase, ToLock, ToUnlock, ToSeize, ToRelease, next, after_reply}
+use Rattle.commit_machine.specs.Machine.{State, Seizing, Ended, Call, ToLoad, ToStage, ToPublish, ToExtend, ToErase, ToLock, ToUnlock, ToSeize, ToRelease, next, after_reply}
 use Rattle.commit_machine.specs.Goes.{reply, Goes}
 use Rattle.commit_machine.specs.Due.{is_decision}
 use Rattle.commit_machine.specs.Laws.{IsRun}
@@ -26,6 +26,7 @@ abbrev pub carried : Disk → Call → Event
 carried d (ToLoad n) = Load n (Bytes (d.files n) (is_some (d.locks n)))
 carried d (ToStage n c) = carried_out d (Stage n (Some c) false)
 carried d (ToPublish from to) = carried_out d (Publish from to true false)
+carried d (ToExtend n at c) = carried_out d (Extend n at c false)
 carried d (ToErase n) = carried_out d (Erase n true false)
 carried d (ToLock n t) = carried_out d (Lock n t true false)
 carried d (ToUnlock n t) = carried_out d (Unlock n t true false)
@@ -93,6 +94,17 @@ out_stands = record nothing { files = with_at nothing.files out (Some (codes "ol
 -- the record of its decision
 abbrev pub removal_record : Record
 removal_record = record { phase = Go; token = 1; entries = entry_for Replace mbox ∷ entry_for Remove out ∷ [] }
+
+-- a file of three bytes gets this tail
+abbrev pub grows : List ℕ → List ℕ → Edit
+grows name bytes = record { name = name; by = λ seen. Puts (ExtendBy 3) bytes }
+
+abbrev pub one_extended : Job
+one_extended = record { actor = home; token = 1; edits = Some (grows out (codes "x") ∷ []); refusal = λ files. None }
+
+-- the record of its decision
+abbrev pub extension_record : Record
+extension_record = record { phase = Go; token = 1; entries = entry_for (ExtendBy 3) out ∷ [] }
 
 -- a commit of one file has thirteen events, the ninth the decision
 abbrev pub commit_of_one : List Event
@@ -201,6 +213,43 @@ recovery_of_removed =
     ∷ Publish (staged_name 1 mbox) mbox false false
     ∷ Load (staged_name 1 out) (Bytes None false)
     ∷ closing_of_removal
+
+-- a commit that adds to a file that stands has fourteen: after the decision the file gets its tail, and then the staged one is taken away
+abbrev pub commit_of_extension : List Event
+commit_of_extension =
+    Seize (right_name home) true false
+    ∷ Load (record_name home) (Bytes None false)
+    ∷ Stage (new_name home) (Some (written (record_for Prepare (out ∷ [])))) false
+    ∷ Publish (new_name home) (record_name home) true false
+    ∷ Lock out 1 true false
+    ∷ Load out (Bytes (Some (codes "old")) true)
+    ∷ Stage (staged_name 1 out) (Some (codes "x")) false
+    ∷ Stage (new_name home) (Some (written extension_record)) false
+    ∷ Publish (new_name home) (record_name home) true false
+    ∷ Extend out 3 (codes "x") false
+    ∷ Erase (staged_name 1 out) true false
+    ∷ Unlock out 1 true false
+    ∷ Erase (record_name home) true false
+    ∷ Release (right_name home)
+    ∷ []
+
+-- the disk that it leaves if it stops inside the tenth, with another tail written
+abbrev pub torn_tail : Disk
+torn_tail = after (disk out_stands (take 9 commit_of_extension)) (Extend out 3 (codes "zz") true)
+
+-- a recovery writes the tail again
+abbrev pub recovery_of_extension : List Event
+recovery_of_extension =
+    Seize (right_name home) true false
+    ∷ Load (record_name home) (Bytes (Some (written extension_record)) false)
+    ∷ Load (staged_name 1 out) (Bytes (Some (codes "x")) false)
+    ∷ Extend out 3 (codes "x") false
+    ∷ Erase (staged_name 1 out) true false
+    ∷ Unlock out 1 true false
+    ∷ Erase (record_name home) true false
+    ∷ Erase (new_name home) true false
+    ∷ Release (right_name home)
+    ∷ []
 
 -- the disk that a commit of two files leaves if it stops before the event of this number, from 0
 abbrev pub stopped_at : ℕ → Disk
@@ -370,4 +419,8 @@ pub record WorkedRuns : Type 0 where
   pub removal_decided : Makes recovery (removal_stopped_at 13) recovery_of_removal (Recovered Finished)
   pub removal_half_done : Makes recovery (removal_stopped_at 14) recovery_of_removal (Recovered Finished)
   pub removal_done : Makes recovery (removal_stopped_at 15) recovery_of_removed (Recovered Finished)
+  pub extension : Makes one_extended out_stands commit_of_extension Done
+  pub extended : (disk out_stands commit_of_extension).files out ≡ Some (codes "oldx")
+  pub torn : Makes recovery torn_tail recovery_of_extension (Recovered Finished)
+  pub mended : (disk torn_tail recovery_of_extension).files out ≡ Some (codes "oldx")
   pub among_others : IsRun two_files nothing commit_among_others (Ended Done)

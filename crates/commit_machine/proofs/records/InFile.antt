@@ -4,7 +4,7 @@ use Rattle.std.proofs.lemmas.Bool.{and_parts, ltb-true, lt-ltb}
 use Rattle.std.specs.List.{list_all, list_any}
 use Rattle.std.specs.Option.{option_and_then}
 use Rattle.std.specs.Str.{bytes_eq}
-use Rattle.commit_record.specs.Format.{are_distinct, fit_phase, is_valid, written, IsWritten}
+use Rattle.commit_record.specs.Format.{are_distinct, fits_kind, fits_number, fit_phase, is_valid, written, IsWritten}
 use Rattle.commit_record.specs.Names.{is_lawful}
 use Rattle.commit_record.specs.Reading.{record_at}
 use Rattle.commit_record.specs.declared.record.Entry.{Entry}
@@ -20,7 +20,7 @@ and_both a b e f = rw (e, f) refl
 is_text_of-written : (bytes : List ℕ) (r : Record) → IsWritten bytes r → is_text_of bytes r ≡ true
 is_text_of-written bytes r w =
     let same : bytes_eq bytes (written r) ≡ true = subst (λ (z : List ℕ). bytes_eq bytes z ≡ true) w.is (same_refl bytes) in
-    and_both _ _ w.valid (and_both _ _ (lt-ltb _ _ w.token_fits) same)
+    and_both _ _ w.valid (and_both _ _ (lt-ltb _ _ w.token_fits) (and_both _ _ w.numbers_fit same))
 
 -- the text of a valid record gives the record
 pub record_of-written : (bytes : List ℕ) (r : Record) → IsWritten bytes r → record_of bytes ≡ Some r
@@ -38,8 +38,9 @@ text_is bytes q r e = go (is_text_of bytes q) refl
         let w : Some q ≡ Some r = ap (λ (b : Bool). if b then Some q else None) (sym is) ∙ e in
         let same : q ≡ r = cc in
         let p = and_parts (is_valid q) _ is in
-        let s = and_parts (nat_lt q.token (2 ^ 64)) (bytes_eq bytes (written q)) p.1 in
-        subst (IsWritten bytes) same (record { valid = p.0; token_fits = ltb-true _ _ s.0; is = same_true bytes (written q) s.1 })
+        let s = and_parts (nat_lt q.token (2 ^ 64)) _ p.1 in
+        let t = and_parts (list_all fits_number q.entries) (bytes_eq bytes (written q)) s.1 in
+        subst (IsWritten bytes) same (record { valid = p.0; token_fits = ltb-true _ _ s.0; numbers_fit = t.0; is = same_true bytes (written q) t.1 })
 
 pub record_of-is : (bytes : List ℕ) (r : Record) → record_of bytes ≡ Some r → IsWritten bytes r
 unfolding record_of
@@ -86,8 +87,8 @@ pub valid-names : (r : Record) → is_valid r ≡ true → AreDistinct (names_of
 valid-names r h =
     let some = and_parts (nat_lt 0 (length r.entries)) _ h in
     let few = and_parts (nat_le (length r.entries) 16) _ some.1 in
-    let lawful = and_parts (list_all (λ (e : Entry). is_lawful e.name) r.entries) (are_distinct r.entries && fit_phase r.phase r.entries) few.1 in
-    distinct-names r.entries (and_parts (are_distinct r.entries) (fit_phase r.phase r.entries) lawful.1).0
+    let lawful = and_parts (list_all (λ (e : Entry). is_lawful e.name) r.entries) (are_distinct r.entries && (list_all fits_kind r.entries && fit_phase r.phase r.entries)) few.1 in
+    distinct-names r.entries (and_parts (are_distinct r.entries) (list_all fits_kind r.entries && fit_phase r.phase r.entries) lawful.1).0
 
 pub stands-distinct : (c : Option (List ℕ)) (r : Record) → record_in c ≡ Some r → AreDistinct (names_of r)
 stands-distinct c r e = valid-names r (stands-valid c r e).0

@@ -1,11 +1,11 @@
 -- What is put in place has the names and the ways of the record's entries.
-use Rattle.std.proofs.Common.{◌≡◌, ◌≢◌, ◌⊎◌, ℕ, true, false, List, [], ◌∷◌, map, refl, ap, sym, subst, inl, inr, ◌∙◌}
-use Rattle.std.specs.Str.{bytes_eq}
+use Rattle.std.proofs.Common.{◌≡◌, ℕ, true, List, [], ◌∷◌, map, refl, ap, sym, subst, inl, inr, ◌∙◌}
+use Rattle.commit_record.specs.Format.{fits_kind}
 use Rattle.commit_record.specs.Ways.{way_of, entry_for}
 use Rattle.commit_record.specs.declared.record.Entry.{Entry}
 use Rattle.commit_record.specs.declared.record.Record.{Record}
 use Rattle.commit_record.specs.declared.way.Way.{Way}
-use Rattle.commit_record.specs.declared.way.Way.TheVariants.{Replace, Remove}
+use Rattle.commit_record.specs.declared.way.Way.TheVariants.{Replace, Remove, Extend}
 use Rattle.commit_machine.specs.Records.{names_of, way_in, way_at, has, AreDistinct}
 use Rattle.commit_machine.specs.Settled.{Mem}
 use Rattle.commit_machine.specs.Jobs.{Job, Made, all_of, entries_for}
@@ -15,10 +15,18 @@ use Rattle.commit_machine.proofs.records.Same.{same_or_not, Mem_has}
 pub name-entry_for : (way : Way) (n : List ℕ) → (entry_for way n).name ≡ n
 name-entry_for Replace n = refl
 name-entry_for Remove n = refl
+name-entry_for (Extend at) n = refl
 
 pub way-entry_for : (way : Way) (n : List ℕ) → way_of (entry_for way n) ≡ way
 way-entry_for Replace n = refl
 way-entry_for Remove n = refl
+way-entry_for (Extend at) n = refl
+
+-- an entry that was made for a way has no bytes that stay but by it
+pub fits-entry_for : (way : Way) (n : List ℕ) → fits_kind (entry_for way n) ≡ true
+fits-entry_for Replace n = refl
+fits-entry_for Remove n = refl
+fits-entry_for (Extend at) n = refl
 
 -- the names of entries are those that they were made for
 pub names-entries_for : (way : List ℕ → Way) (ns : List (List ℕ)) → map (λ e. e.name) (entries_for way ns) ≡ ns

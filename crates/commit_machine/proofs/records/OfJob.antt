@@ -1,24 +1,24 @@
 -- The records of a job are valid together, and its edits are of files of their own.
-use Rattle.std.proofs.Common.{◌≡◌, ◌≢◌, ℕ, Bool, true, false, ◌&&◌, List, [], ◌∷◌, length, Some, refl, ap, sym, subst, inl, inr, ◌∙◌, arith}
-use Rattle.std.proofs.lemmas.Bool.{and_parts}
+use Rattle.std.proofs.Common.{◌≡◌, ◌≢◌, ℕ, ◌<◌, ◌^◌, lit<, Bool, true, false, ◌&&◌, List, [], ◌∷◌, length, Some, refl, ap, sym, subst, inl, inr, ◌∙◌, arith}
+use Rattle.std.proofs.lemmas.Bool.{and_parts, lt-ltb}
 use Rattle.std.specs.Str.{bytes_eq}
 use Rattle.commit_record.specs.Format.{is_valid}
 use Rattle.commit_record.specs.Names.{is_lawful}
-use Rattle.commit_record.specs.Ways.{way_of, entry_for}
+use Rattle.commit_record.specs.Ways.{entry_for}
 use Rattle.commit_record.specs.declared.record.Entry.{Entry}
 use Rattle.commit_record.specs.declared.way.Way.{Way}
-use Rattle.commit_record.specs.declared.way.Way.TheVariants.{Replace}
+use Rattle.commit_record.specs.declared.way.Way.TheVariants.{Replace, Remove, Extend}
 use Rattle.commit_machine.specs.Names.{is_record_name}
 use Rattle.commit_machine.specs.Records.{way_in}
 use Rattle.commit_machine.specs.Settled.{Mem}
 use Rattle.commit_machine.specs.Jobs.{Edit, Job, Made, IsJob, edits_of, all_names, all_of, entries_for, prepare_of, go_of, made_at, way_made}
 use Rattle.commit_machine.proofs.records.Same.{same_refl, same_or_not}
 use Rattle.commit_machine.proofs.records.InFile.{valid-lawful}
-use Rattle.commit_machine.proofs.records.OfItems.{name-entry_for, way-entry_for}
+use Rattle.commit_machine.proofs.records.OfItems.{name-entry_for, way-entry_for, fits-entry_for}
 use Rattle.commit_machine.proofs.standing.Decided.{IsDistinct, names_Mem}
 use Rattle.commit_machine.proofs.standing.KnownNext.{names-prepare}
 use Rattle.std.specs.List.{list_all, list_any}
-use Rattle.commit_record.specs.Format.{are_distinct, fit_phase}
+use Rattle.commit_record.specs.Format.{are_distinct, fits_kind, fits_number, fit_phase}
 use Rattle.commit_record.specs.declared.record.Phase.TheVariants.{Prepare}
 use Rattle.std.proofs.Common.{not, nat_lt, nat_le, ◌||◌}
 use Rattle.std.proofs.lemmas.Bool.{or_left, or_right}
@@ -74,11 +74,29 @@ under false b c more h = h
 pub any-phase : (n : ℕ) (a b c : Bool) → tests n a (b && c) ≡ true → tests n a (b && true) ≡ true
 any-phase n a b c h = under (nat_lt 0 n) (nat_le n 16 && (a && (b && c))) (nat_le n 16 && (a && (b && true))) (under (nat_le n 16) (a && (b && c)) (a && (b && true)) (under a (b && c) (b && true) (without-last b c))) h
 
+kinds-entries : (k : List ℕ → Way) (ns : List (List ℕ)) → list_all fits_kind (entries_for k ns) ≡ true
+kinds-entries k [] = refl
+kinds-entries k (n ∷ ns) = rw (fits-entry_for (k n) n, kinds-entries k ns) refl
+
 -- the record of the decision is valid as the one before it is
 pub valid-go : (j : Job) (made : List Made) → is_valid (prepare_of j) ≡ true → is_valid (go_of j made) ≡ true
 valid-go j made h =
-    valid-entries (λ n. way_made (made_at made n)) (λ n. Replace) (all_of j)
-    ∙ any-phase (length (prepare_of j).entries) (list_all (λ (e : Entry). is_lawful e.name) (prepare_of j).entries) (are_distinct (prepare_of j).entries) (fit_phase Prepare (prepare_of j).entries) h
+    let K : List ℕ → Way = λ n. way_made (made_at made n) in
+    let es = entries_for K (all_of j) in
+    let ps = (prepare_of j).entries in
+    ap (λ (b : Bool). tests (length es) (list_all (λ (e : Entry). is_lawful e.name) es) (are_distinct es && (b && true))) (kinds-entries K (all_of j))
+    ∙ valid-entries K (λ n. Replace) (all_of j)
+    ∙ any-phase (length ps) (list_all (λ (e : Entry). is_lawful e.name) ps) (are_distinct ps) (list_all fits_kind ps && fit_phase Prepare ps) h
+
+-- the numbers of the records fit
+number-entry_for : (way : Way) (n : List ℕ) → ((at : ℕ) → way ≡ Extend at → at < 2 ^ 64) → fits_number (entry_for way n) ≡ true
+number-entry_for Replace n h = lt-ltb 0 (2 ^ 64) (lit< tt)
+number-entry_for Remove n h = lt-ltb 0 (2 ^ 64) (lit< tt)
+number-entry_for (Extend at) n h = lt-ltb at (2 ^ 64) (h at refl)
+
+pub numbers-entries : (k : List ℕ → Way) (ns : List (List ℕ)) → ((n : List ℕ) (at : ℕ) → k n ≡ Extend at → at < 2 ^ 64) → list_all fits_number (entries_for k ns) ≡ true
+numbers-entries k [] h = refl
+numbers-entries k (n ∷ ns) h = rw (number-entry_for (k n) n (h n), numbers-entries k ns h) refl
 
 any_name : (n : List ℕ) (es : List Edit) (x : Edit) → Mem x es → n ≡ x.name → list_any (λ (e : Entry). bytes_eq n e.name) (entries_for (λ m. Replace) (all_names es)) ≡ true
 any_name n [] x m e = absurd m
@@ -95,7 +113,7 @@ distinct_edits (e ∷ es) h =
 pub valid-distinct : (j : Job) → is_valid (prepare_of j) ≡ true → IsDistinct (edits_of j)
 valid-distinct j h =
     let behind = (and_parts (list_all (λ (e : Entry). is_lawful e.name) (prepare_of j).entries) _ (and_parts (nat_le (length (prepare_of j).entries) 16) _ (and_parts (nat_lt 0 (length (prepare_of j).entries)) _ h).1).1).1 in
-    distinct_edits (edits_of j) (and_parts (are_distinct (prepare_of j).entries) (fit_phase Prepare (prepare_of j).entries) behind).0
+    distinct_edits (edits_of j) (and_parts (are_distinct (prepare_of j).entries) (list_all fits_kind (prepare_of j).entries && fit_phase Prepare (prepare_of j).entries) behind).0
 
 -- the edits' files have lawful names, and none is a record name
 pub valid-plain : (j : Job) → IsJob j → is_valid (prepare_of j) ≡ true → (e : Edit) → Mem e (edits_of j) → (is_record_name j.actor e.name ≡ false) × (is_lawful e.name ≡ true)
@@ -117,6 +135,14 @@ made_first (y ∷ ys) w h = elim (same_or_not w.edit.name y.edit.name) [ inl p �
     later : ((w.edit.name ≢ y.edit.name) × (bytes_eq w.edit.name y.edit.name ≡ false)) → (Mem w ys → (x : Made) × Mem x ys × (x.edit.name ≡ w.edit.name) × (made_at ys w.edit.name ≡ Some x)) → Mem w (y ∷ ys) → (x : Made) × Mem x (y ∷ ys) × (x.edit.name ≡ w.edit.name) × (made_at (y ∷ ys) w.edit.name ≡ Some x)
     later p more (inl e) = absurd (p.0 (ap (λ (z : Made). z.edit.name) e))
     later p more (inr h) = let q = more h in (q.0, inr q.1, q.2, rw p.1 q.3)
+
+-- what was found for a name is one of what was made
+pub made_at-Mem : (made : List Made) (n : List ℕ) (x : Made) → made_at made n ≡ Some x → Mem x made
+made_at-Mem [] n x e = absurd (cc)
+made_at-Mem (y ∷ ys) n x e = elim (same_or_not n y.edit.name) [ inl p ↦ inl (first p.1) | inr p ↦ inr (made_at-Mem ys n x (rw p.1 at e)) ]
+  where
+    first : bytes_eq n y.edit.name ≡ true → x ≡ y
+    first s = let w : Some y ≡ Some x = rw s at e in cc
 
 -- an entry has the way that it was made with
 pub way_of_entries : (ns : List (List ℕ)) (f : List ℕ → Way) (n : List ℕ) → Mem n ns → way_in (entries_for f ns) n ≡ f n

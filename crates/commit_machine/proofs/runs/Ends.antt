@@ -9,7 +9,7 @@ use Rattle.commit_machine.specs.Names.{record_name, new_name, right_name, is_rec
 use Rattle.commit_machine.specs.Records.{record_in}
 use Rattle.commit_machine.specs.Settled.{Files, Locks}
 use Rattle.commit_machine.specs.Jobs.{Ending, Done, Recovered, Refused, Failed, NoMemory, Job}
-use Rattle.commit_machine.specs.Machine.{State, Seizing, Releasing, Ended, Call, ToLoad, ToStage, ToPublish, ToErase, ToLock, ToUnlock, ToSeize, ToRelease, after_reply}
+use Rattle.commit_machine.specs.Machine.{State, Seizing, Releasing, Ended, Call, ToLoad, ToStage, ToPublish, ToExtend, ToErase, ToLock, ToUnlock, ToSeize, ToRelease, after_reply}
 use Rattle.commit_machine.specs.Goes.{IsOf, releases, reply}
 use Rattle.commit_machine.specs.Due.{settled_files, settled_locks}
 use Rattle.commit_machine.proofs.standing.Known.{Ends, Knows}
@@ -39,6 +39,7 @@ release_call (ToRelease m) n releases = refl
 release_call (ToLoad m) n is = elim is [ ]
 release_call (ToStage m c) n is = elim is [ ]
 release_call (ToPublish from to) n is = elim is [ ]
+release_call (ToExtend m at c) n is = elim is [ ]
 release_call (ToErase m) n is = elim is [ ]
 release_call (ToLock m t) n is = elim is [ ]
 release_call (ToUnlock m t) n is = elim is [ ]

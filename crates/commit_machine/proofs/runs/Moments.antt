@@ -7,7 +7,7 @@ use Rattle.host_port.specs.Disk.{Disk, after}
 use Rattle.host_port.specs.Ran.{Agrees}
 use Rattle.commit_machine.specs.Settled.{Files, Locks}
 use Rattle.commit_machine.specs.Jobs.{Done, Recovered, Refused, Failed, NoMemory, Job, IsJob}
-use Rattle.commit_machine.specs.Machine.{State, Seizing, Looking, Undoing, Placing, Testing, Removing, Discarding, Unlocking, Erasing, Clearing, Preparing, Publishing, Locking, Loading, Staging, Deciding, Committing, Checking, Releasing, Ended, after_reply}
+use Rattle.commit_machine.specs.Machine.{State, Seizing, Looking, Undoing, Placing, Testing, Removing, Extending, Discarding, Unlocking, Erasing, Clearing, Preparing, Publishing, Locking, Loading, Staging, Deciding, Committing, Checking, Releasing, Ended, after_reply}
 use Rattle.commit_machine.specs.Goes.{reply}
 use Rattle.commit_machine.specs.Lawful.{IsSound}
 use Rattle.commit_machine.specs.Due.{settled_files, settled_locks, files_then}
@@ -56,6 +56,7 @@ module _ (j : Job) (job : IsJob j) where
   own_step d files owners settles locked sound (Placing r x xs ls th) e is agrees k = Mending.step_placing j job d files owners settles locked sound r x xs ls th is agrees k
   own_step d files owners settles locked sound (Testing r x xs ls) e is agrees k = Removals.step_testing j job d files owners settles locked sound r x xs ls is agrees k
   own_step d files owners settles locked sound (Removing r x xs ls th) e is agrees k = Removals.step_removing j job d files owners settles locked sound r x xs ls th is agrees k
+  own_step d files owners settles locked sound (Extending r x xs ls th) e is agrees k = Removals.step_extending j job d files owners settles locked sound r x xs ls th is agrees k
   own_step d files owners settles locked sound (Discarding r x xs ls th) e is agrees k = Removals.step_discarding j job d files owners settles locked sound r x xs ls th is agrees k
   own_step d files owners settles locked sound (Unlocking r n ns th) e is agrees k = Closing.step_unlocking j job d files owners settles locked sound r n ns th is agrees k
   own_step d files owners settles locked sound (Erasing r th) e is agrees k = Closing.step_erasing j job d files owners settles locked sound r th is agrees k

@@ -10,7 +10,7 @@ use Rattle.host_port.specs.Own.{own}
 use Rattle.commit_machine.specs.Settled.{Files, Mem}
 use Rattle.commit_machine.specs.Jobs.{Edit, Job, edits_of, outcome_of}
 use Rattle.commit_machine.specs.Machine.{State, Seizing, Ended, Call, next, after_reply}
-use Rattle.commit_machine.specs.Goes.{IsOf, loads, stages, stage_fails, publishes, erases, locks, unlocks, seizes, releases, IsNext, Goes, reply}
+use Rattle.commit_machine.specs.Goes.{IsOf, loads, stages, stage_fails, publishes, extends, extend_fails, erases, locks, unlocks, seizes, releases, IsNext, Goes, reply}
 use Rattle.commit_machine.specs.EventRows.{is_disk, EventsHaveRows}
 use Rattle.commit_machine.specs.Due.{settled_files, applied, same_file, renewed, is_decision, files_then, files_after}
 use Rattle.commit_machine.specs.Laws.{IsRun, IsDue, in_flight}
@@ -53,6 +53,8 @@ disk_of loads = refl
 disk_of stages = refl
 disk_of stage_fails = refl
 disk_of publishes = refl
+disk_of extends = refl
+disk_of extend_fails = refl
 disk_of erases = refl
 disk_of locks = refl
 disk_of unlocks = refl
@@ -81,6 +83,8 @@ events_have_rows (event.Stage n c true) = record { answer = refl; failed = refl;
 events_have_rows (event.Stage n c false) = record { answer = refl; failed = refl; acts = refl; changes = refl; keeps = λ d o h. absurd (cc) }
 events_have_rows (event.Publish from to done true) = record { answer = refl; failed = refl; acts = refl; changes = refl; keeps = λ d o h. absurd (cc) }
 events_have_rows (event.Publish from to done false) = record { answer = refl; failed = refl; acts = refl; changes = refl; keeps = λ d o h. absurd (cc) }
+events_have_rows (event.Extend n at tail true) = record { answer = refl; failed = refl; acts = refl; changes = refl; keeps = λ d o h. absurd (cc) }
+events_have_rows (event.Extend n at tail false) = record { answer = refl; failed = refl; acts = refl; changes = refl; keeps = λ d o h. absurd (cc) }
 events_have_rows (event.Erase n done true) = record { answer = refl; failed = refl; acts = refl; changes = refl; keeps = λ d o h. absurd (cc) }
 events_have_rows (event.Erase n done false) = record { answer = refl; failed = refl; acts = refl; changes = refl; keeps = λ d o h. absurd (cc) }
 events_have_rows (event.Lock n t got true) = record { answer = refl; failed = refl; acts = refl; changes = refl; keeps = λ d o h. absurd (cc) }

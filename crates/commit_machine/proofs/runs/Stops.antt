@@ -8,8 +8,8 @@ use Rattle.host_port.specs.Ends.{is_owner}
 use Rattle.host_port.specs.Ran.{Agrees}
 use Rattle.commit_machine.specs.Settled.{Files, Locks}
 use Rattle.commit_machine.specs.Jobs.{Job, IsJob, edits_of}
-use Rattle.commit_machine.specs.Machine.{State, Seizing, Call, ToLoad, ToStage, ToPublish, ToErase, ToLock, ToUnlock, ToSeize, ToRelease, after_reply}
-use Rattle.commit_machine.specs.Goes.{IsOf, loads, stages, stage_fails, publishes, erases, locks, unlocks, seizes, releases, reply}
+use Rattle.commit_machine.specs.Machine.{State, Seizing, Call, ToLoad, ToStage, ToPublish, ToExtend, ToErase, ToLock, ToUnlock, ToSeize, ToRelease, after_reply}
+use Rattle.commit_machine.specs.Goes.{IsOf, loads, stages, stage_fails, publishes, extends, extend_fails, erases, locks, unlocks, seizes, releases, reply}
 use Rattle.commit_machine.specs.Lawful.{IsSound}
 use Rattle.commit_machine.specs.Due.{settled_files, settled_locks, files_then, is_decision, applied}
 use Rattle.commit_machine.proofs.standing.Known.{Knows}
@@ -35,6 +35,8 @@ cut_is d part (ToLoad n) loads = loads
 cut_is d part (ToStage n c) stages = stage_fails
 cut_is d part (ToStage n c) stage_fails = stage_fails
 cut_is d part (ToPublish from to) publishes = publishes
+cut_is d part (ToExtend n at c) extends = extend_fails
+cut_is d part (ToExtend n at c) extend_fails = extend_fails
 cut_is d part (ToErase n) erases = erases
 cut_is d part (ToLock n t) locks = locks
 cut_is d part (ToUnlock n t) unlocks = unlocks
@@ -48,6 +50,7 @@ cut_next d part (Some c) e is = cut_is d part c is
 -- what it says is so
 pub cut_agrees : (d : Disk) (e : Event) (part : Part) → Agrees d e → Agrees d (cut_short d e part)
 cut_agrees d (event.Publish from to done failed) part agrees = λ h. (and_parts (is_after part) (is_some (d.files from)) h).1
+cut_agrees d (event.Extend n at tail failed) part agrees = λ fine. absurd (cc)
 cut_agrees d (event.Erase n done failed) part agrees = λ h. refl
 cut_agrees d (event.Lock n t got failed) part agrees = λ h. (and_parts (is_after part) (is_none (d.locks n)) h).1
 cut_agrees d (event.Unlock n t done failed) part agrees = λ h. (and_parts (is_after part) (is_owner t (d.locks n)) h).1

@@ -3,7 +3,7 @@ use Rattle.std.proofs.Common.{◌≡◌, ℕ, List, [], ◌∷◌, ◌++◌, ref
 use Rattle.commit_record.specs.declared.record.Record.{Record}
 use Rattle.host_port.specs.declared.event.Event.{Event}
 use Rattle.commit_machine.specs.Jobs.{NoMemory, Job, all_of, prepare_of}
-use Rattle.commit_machine.specs.Machine.{GoOn, Answer, State, Seizing, Looking, Undoing, Placing, Testing, Removing, Discarding, Unlocking, Erasing, Clearing, Preparing, Publishing, Locking, Loading, Staging, Deciding, Committing, Checking, Releasing, Ended, unlocking, undoing, refused, next, after_reply}
+use Rattle.commit_machine.specs.Machine.{GoOn, Answer, State, Seizing, Looking, Undoing, Placing, Testing, Removing, Extending, Discarding, Unlocking, Erasing, Clearing, Preparing, Publishing, Locking, Loading, Staging, Deciding, Committing, Checking, Releasing, Ended, unlocking, undoing, refused, next, after_reply}
 use Rattle.commit_machine.specs.Goes.{IsNext, Goes, reply}
 use Rattle.commit_machine.specs.Laws.{StretchesJoin}
 
@@ -26,7 +26,9 @@ module _ (j : Job) where
   refused_twice (Placing r x xs ls (Answer e)) = refl
   refused_twice (Testing r x xs ls) = refl
   refused_twice (Removing r x xs ls GoOn) = refl
+  refused_twice (Extending r x xs ls GoOn) = refl
   refused_twice (Removing r x xs ls (Answer e)) = refl
+  refused_twice (Extending r x xs ls (Answer e)) = refl
   refused_twice (Discarding r x xs ls GoOn) = refl
   refused_twice (Discarding r x xs ls (Answer e)) = refl
   refused_twice (Unlocking r n ns GoOn) = refl

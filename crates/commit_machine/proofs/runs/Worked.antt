@@ -1,25 +1,30 @@
 -- The worked runs, by computing.
-use Rattle.std.proofs.Common.{◌≡◌, ◌≢◌, ℕ, zero, suc, ◌<◌, ◌^◌, true, false, List, [], ◌∷◌, ◌++◌, reverse, slice_index, take, codes, Option, Some, None, refl, ap, sym, subst, inl, inr, lit<, ◌∙◌}
-use Rattle.commit_record.specs.Format.{written, is_valid}
+use Rattle.std.proofs.Common.{◌≡◌, ◌≢◌, ℕ, zero, suc, ◌<◌, ◌^◌, Bool, true, false, List, [], ◌∷◌, ◌++◌, reverse, slice_index, take, codes, Option, Some, None, refl, ap, sym, subst, inl, inr, lit<, ◌∙◌}
+use Rattle.commit_record.specs.Format.{written, fits_number, is_valid}
 use Rattle.commit_record.specs.Reading.{record_at, head_at, after as text_after}
 use Rattle.commit_record.specs.declared.record.Phase.TheVariants.{Prepare, Go}
 use Rattle.commit_record.specs.declared.record.Record.{Record}
+use Rattle.commit_record.specs.declared.way.Way.TheVariants.{Replace, Extend}
 use Rattle.hex.specs.Hex.{encode_with}
+use Rattle.std.specs.List.{list_all}
+use Rattle.std.specs.Prelude.{not}
+use Rattle.host_port.specs.Disk.{reaches}
+use Rattle.host_port.proofs.EndLemmas.{not-false}
 use Rattle.host_port.specs.declared.event.Event.{Event}
 use Rattle.host_port.specs.declared.event.Event.TheVariants as event
 use Rattle.host_port.specs.declared.event.Seen.TheVariants as seen
 use Rattle.host_port.specs.Disk.{Disk, after, disk}
 use Rattle.host_port.specs.Ran.{Honest, Agrees}
 use Rattle.commit_machine.specs.Names.{record_name, new_name, right_name, staged_name, is_record_name}
-use Rattle.commit_machine.specs.Records.{record_of, is_go, names_of}
-use Rattle.commit_machine.specs.Jobs.{Nothing, RolledBack, Finished, Busy, NotARecord, Changed, Done, Recovered, Refused, Edit, Job, IsJob, edits_of}
-use Rattle.commit_machine.specs.Machine.{State, Seizing, Ended, Call, ToLoad, ToStage, ToPublish, ToErase, ToLock, ToUnlock, ToSeize, ToRelease, next, after_reply, record_seen, is_own_go}
-use Rattle.commit_machine.specs.Goes.{reply, Goes, IsOf, IsNext, loads, stages, publishes, erases, locks, unlocks, seizes, releases}
+use Rattle.commit_machine.specs.Records.{record_of, is_go, names_of, way_at}
+use Rattle.commit_machine.specs.Jobs.{Nothing, RolledBack, Finished, Busy, NotARecord, Changed, Done, Recovered, Refused, Puts, Edit, Job, IsJob, edits_of}
+use Rattle.commit_machine.specs.Machine.{State, Seizing, Ended, Call, ToLoad, ToStage, ToPublish, ToExtend, ToErase, ToLock, ToUnlock, ToSeize, ToRelease, next, after_reply, record_seen, is_own_go}
+use Rattle.commit_machine.specs.Goes.{reply, Goes, IsOf, IsNext, loads, stages, publishes, extends, extend_fails, erases, locks, unlocks, seizes, releases}
 use Rattle.commit_machine.specs.Due.{is_decision}
 use Rattle.commit_machine.specs.Settled.{Mem}
 use Rattle.commit_machine.specs.Lawful.{standing, IsSound, IsGuarded, IsFresh, IsLawfulWrite, OthersAreLawful}
 use Rattle.commit_machine.specs.Laws.{IsRun}
-use Rattle.commit_machine.specs.Worked.{carried, alone, alone_last, AloneGoes, Makes, busy_second, commit_of_busy, held_right, run_kept_out, changed_file, commit_of_changed, bad_record, commit_over_bad, later, commit_over_decided, box, commit_among_others, home, out, mbox, nothing, one_file, two_files, recovery, record_for, commit_of_one, commit_of_two, recovery_of_none, stopped_at, recovery_of_decided, recovery_of_undecided, WorkedRuns, one_removed, out_stands, removal_record, commit_of_removal, removal_stopped_at, recovery_of_removal, recovery_of_removed}
+use Rattle.commit_machine.specs.Worked.{carried, alone, alone_last, AloneGoes, Makes, busy_second, commit_of_busy, held_right, run_kept_out, changed_file, commit_of_changed, bad_record, commit_over_bad, later, commit_over_decided, box, commit_among_others, home, out, mbox, nothing, one_file, two_files, recovery, record_for, commit_of_one, commit_of_two, recovery_of_none, stopped_at, recovery_of_decided, recovery_of_undecided, WorkedRuns, one_removed, out_stands, removal_record, commit_of_removal, removal_stopped_at, recovery_of_removal, recovery_of_removed, one_extended, extension_record, commit_of_extension, torn_tail, recovery_of_extension}
 use Rattle.std.proofs.lemmas.List.{reverse-append}
 use Rattle.commit_machine.proofs.records.Names.{lawful-staged}
 use Rattle.commit_machine.proofs.records.InFile.{record_of-written}
@@ -57,17 +62,17 @@ unfolding record_name new_name right_name staged_name encode_with record_of reco
 not_a_record = (refl, refl)
 
 -- the records of the worked runs read
-reads : (r : Record) → is_valid r ≡ true → r.token ≡ 1 → record_of (written r) ≡ Some r
-reads r valid one = record_of-written (written r) r (record { valid = valid; token_fits = subst (λ (t : ℕ). t < 2 ^ 64) (sym one) (lit< tt); is = refl })
+reads : (r : Record) → is_valid r ≡ true → list_all fits_number r.entries ≡ true → r.token ≡ 1 → record_of (written r) ≡ Some r
+reads r valid numbers one = record_of-written (written r) r (record { valid = valid; numbers_fit = numbers; token_fits = subst (λ (t : ℕ). t < 2 ^ 64) (sym one) (lit< tt); is = refl })
 
 reads_one : record_of (written (record_for Go (out ∷ []))) ≡ Some (record_for Go (out ∷ []))
-reads_one = reads (record_for Go (out ∷ [])) refl refl
+reads_one = reads (record_for Go (out ∷ [])) refl refl refl
 
 reads_go : record_of (written (record_for Go (mbox ∷ out ∷ []))) ≡ Some (record_for Go (mbox ∷ out ∷ []))
-reads_go = reads (record_for Go (mbox ∷ out ∷ [])) refl refl
+reads_go = reads (record_for Go (mbox ∷ out ∷ [])) refl refl refl
 
 reads_prepare : record_of (written (record_for Prepare (mbox ∷ out ∷ []))) ≡ Some (record_for Prepare (mbox ∷ out ∷ []))
-reads_prepare = reads (record_for Prepare (mbox ∷ out ∷ [])) refl refl
+reads_prepare = reads (record_for Prepare (mbox ∷ out ∷ [])) refl refl refl
 
 ninth : is_decision one_file (event.Publish (new_name home) (record_name home) true false) (disk nothing (take 8 commit_of_one)) ≡ true
 unfolding record_name new_name right_name staged_name encode_with
@@ -102,7 +107,7 @@ unfolding record_name new_name right_name staged_name encode_with
 removed = refl
 
 reads_removal : record_of (written removal_record) ≡ Some removal_record
-reads_removal = reads removal_record refl refl
+reads_removal = reads removal_record refl refl refl
 
 removal_decided : Makes recovery (removal_stopped_at 13) recovery_of_removal (Recovered Finished)
 unfolding record_name new_name right_name staged_name encode_with from_record last_from
@@ -116,11 +121,35 @@ removal_done : Makes recovery (removal_stopped_at 15) recovery_of_removed (Recov
 unfolding record_name new_name right_name staged_name encode_with from_record last_from
 removal_done = (ap (from_record recovery (removal_stopped_at 15) (written removal_record)) reads_removal, ap (last_from recovery (removal_stopped_at 15)) reads_removal)
 
+extension : Makes one_extended out_stands commit_of_extension Done
+unfolding record_name new_name right_name staged_name encode_with
+extension = (refl, refl)
+
+extended : (disk out_stands commit_of_extension).files out ≡ Some (codes "oldx")
+unfolding record_name new_name right_name staged_name encode_with
+extended = refl
+
+reads_extension : record_of (written extension_record) ≡ Some extension_record
+reads_extension = reads extension_record refl refl refl
+
+torn : Makes recovery torn_tail recovery_of_extension (Recovered Finished)
+unfolding record_name new_name right_name staged_name encode_with from_record last_from
+torn = (ap (from_record recovery torn_tail (written extension_record)) reads_extension, ap (last_from recovery torn_tail) reads_extension)
+
+mended : (disk torn_tail recovery_of_extension).files out ≡ Some (codes "oldx")
+unfolding record_name new_name right_name staged_name encode_with
+mended = refl
+
 -- an event of a call that is carried out is one of it, and says what is so
 carried_is : (d : Disk) (c : Call) → IsOf c (carried d c)
 carried_is d (ToLoad n) = loads
 carried_is d (ToStage n c) = stages
 carried_is d (ToPublish from to) = publishes
+carried_is d (ToExtend n at c) = go (not (reaches at (d.files n)))
+  where
+    go : (b : Bool) → IsOf (ToExtend n at c) (event.Extend n at c b)
+    go true = extend_fails
+    go false = extends
 carried_is d (ToErase n) = erases
 carried_is d (ToLock n t) = locks
 carried_is d (ToUnlock n t) = unlocks
@@ -131,6 +160,7 @@ carried_agrees : (d : Disk) (c : Call) → Agrees d (carried d c)
 carried_agrees d (ToLoad n) = (refl, refl)
 carried_agrees d (ToStage n c) = tt
 carried_agrees d (ToPublish from to) = refl
+carried_agrees d (ToExtend n at c) = not-false (reaches at (d.files n))
 carried_agrees d (ToErase n) = refl
 carried_agrees d (ToLock n t) = refl
 carried_agrees d (ToUnlock n t) = refl
@@ -207,12 +237,14 @@ module _ (d : Disk) (r : Record) (stands : standing home d ≡ Some r) (one : r.
   sound_prepare not_go = record {
     plain = λ q n e go m. let same : r ≡ q = (let w : Some r ≡ Some q = sym stands ∙ e in cc) in let w : is_go r ≡ true = subst (λ (z : Record). is_go z ≡ true) (sym same) go in absurd (cc);
     locked = λ q n e go m s. let same : r ≡ q = (let w : Some r ≡ Some q = sym stands ∙ e in cc) in let w : is_go r ≡ true = subst (λ (z : Record). is_go z ≡ true) (sym same) go in absurd (cc);
+    long = λ q n at e go m way s. let same : r ≡ q = (let w : Some r ≡ Some q = sym stands ∙ e in cc) in let w : is_go r ≡ true = subst (λ (z : Record). is_go z ≡ true) (sym same) go in absurd (cc);
   }
 
 sound_none : (d : Disk) → standing home d ≡ None → IsSound home d
 sound_none d none = record {
   plain = λ q n e go m. let w : None ≡ Some q = sym none ∙ e in absurd (cc);
   locked = λ q n e go m s. let w : None ≡ Some q = sym none ∙ e in absurd (cc);
+  long = λ q n at e go m way s. let w : None ≡ Some q = sym none ∙ e in absurd (cc);
 }
 
 abbrev the_go : Record
@@ -229,10 +261,17 @@ go_locked d a b n (inl e) = ap d.locks e ∙ a
 go_locked d a b n (inr (inl e)) = ap d.locks e ∙ b
 go_locked d a b n (inr (inr h)) = absurd h
 
+-- no file of it is extended
+go_replaced : {P : Type 0} (n : List ℕ) (at : ℕ) → Mem n (mbox ∷ out ∷ []) → way_at the_go n ≡ Extend at → P
+go_replaced n at (inl e) way = absurd (let w : way_at the_go mbox ≡ Extend at = subst (λ (z : List ℕ). way_at the_go z ≡ Extend at) e way in cc)
+go_replaced n at (inr (inl e)) way = absurd (let w : way_at the_go out ≡ Extend at = subst (λ (z : List ℕ). way_at the_go z ≡ Extend at) e way in cc)
+go_replaced n at (inr (inr h)) way = absurd h
+
 sound_go : (d : Disk) → standing home d ≡ Some the_go → d.locks mbox ≡ Some 1 → d.locks out ≡ Some 1 → IsSound home d
 sound_go d stands a b = record {
   plain = λ q n e go m. let same : the_go ≡ q = (let w : Some the_go ≡ Some q = sym stands ∙ e in cc) in go_plain n (subst (λ (z : Record). Mem n (names_of z)) (sym same) m);
   locked = λ q n e go m s. let same : the_go ≡ q = (let w : Some the_go ≡ Some q = sym stands ∙ e in cc) in go_locked d a b n (subst (λ (z : Record). Mem n (names_of z)) (sym same) m) ∙ ap (λ (z : Record). Some z.token) same;
+  long = λ q n at e go m way s. let same : the_go ≡ q = (let w : Some the_go ≡ Some q = sym stands ∙ e in cc) in go_replaced n at (subst (λ (z : Record). Mem n (names_of z)) (sym same) m) (subst (λ (z : Record). way_at z n ≡ Extend at) (sym same) way);
 }
 
 two_plain : (e : Edit) → Mem e (edits_of two_files) → is_record_name home e.name ≡ false
@@ -241,8 +280,13 @@ two_plain e (inl p) = ap (λ (z : Edit). is_record_name home z.name) p
 two_plain e (inr (inl p)) = ap (λ (z : Edit). is_record_name home z.name) p
 two_plain e (inr (inr h)) = absurd h
 
+two_extends : (e : Edit) → Mem e (edits_of two_files) → (seen : Option (List ℕ)) (at : ℕ) (content : List ℕ) → e.by seen ≡ Puts (Extend at) content → (reaches at seen ≡ true) × (at < 2 ^ 64)
+two_extends e (inl p) c at content way = absurd (let w : Puts Replace (codes "x") ≡ Puts (Extend at) content = ap (λ (z : Edit). z.by c) (sym p) ∙ way in cc)
+two_extends e (inr (inl p)) c at content way = absurd (let w : Puts Replace (codes "y") ≡ Puts (Extend at) content = ap (λ (z : Edit). z.by c) (sym p) ∙ way in cc)
+two_extends e (inr (inr h)) c at content way = absurd h
+
 two_job : IsJob two_files
-two_job = record { token_fits = lit< tt; valid = λ es e. refl; plain = two_plain }
+two_job = record { token_fits = lit< tt; valid = λ es e. refl; plain = two_plain; extends = two_extends }
 
 nothing_fresh : IsFresh home 1 nothing
 nothing_fresh = record { staged = λ m. refl; locks = λ m e. absurd (cc); record_other = λ r e. absurd (cc) }
@@ -308,4 +352,4 @@ among_others : IsRun two_files nothing commit_among_others (Ended Done)
 among_others = record { job = two_job; fresh = nothing_fresh; sound = sound_none nothing refl; goes = two_goes; honest = honest_among; lawful = lawful_among }
 
 pub worked_runs : WorkedRuns
-worked_runs = record { one = one; ninth = ninth; two = two; none = none; decided = decided; undecided = undecided; busy = busy; kept_out = kept_out; recovery_kept_out = recovery_kept_out; changed = changed; over_decided = over_decided; not_a_record = not_a_record; among_others = among_others; removal = removal; removed = removed; removal_decided = removal_decided; removal_half_done = removal_half_done; removal_done = removal_done }
+worked_runs = record { one = one; ninth = ninth; two = two; none = none; decided = decided; undecided = undecided; busy = busy; kept_out = kept_out; recovery_kept_out = recovery_kept_out; changed = changed; over_decided = over_decided; not_a_record = not_a_record; among_others = among_others; removal = removal; removed = removed; removal_decided = removal_decided; removal_half_done = removal_half_done; removal_done = removal_done; extension = extension; extended = extended; torn = torn; mended = mended }

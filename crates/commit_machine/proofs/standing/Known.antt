@@ -2,14 +2,15 @@
 use Rattle.std.proofs.Common.{◌≡◌, ◌≢◌, ◌⊎◌, ℕ, true, false, List, [], ◌∷◌, Option, Some, None, is_some}
 use Rattle.commit_record.specs.Format.{written, IsWritten}
 use Rattle.commit_record.specs.declared.record.Record.{Record}
-use Rattle.commit_record.specs.declared.way.Way.TheVariants.{Replace, Remove}
+use Rattle.commit_record.specs.declared.way.Way.TheVariants.{Replace, Remove, Extend}
+use Rattle.commit_record.specs.declared.way.Way.{Way}
 use Rattle.host_port.specs.Disk.{Disk}
 use Rattle.commit_machine.specs.Names.{record_name, new_name, staged_name, is_record_name}
 use Rattle.commit_machine.specs.Records.{is_go, names_of, way_at, AreDistinct}
 use Rattle.commit_machine.specs.Settled.{Mem, put_in}
 use Rattle.commit_machine.specs.Items.{Item, item_names}
 use Rattle.commit_machine.specs.Jobs.{Ending, Done, Recovered, Refused, Failed, NoMemory, Puts, Edit, Job, Made, edits_of, all_of, prepare_of, go_of}
-use Rattle.commit_machine.specs.Machine.{Then, GoOn, Answer, State, Seizing, Looking, Undoing, Placing, Testing, Removing, Discarding, Unlocking, Erasing, Clearing, Preparing, Publishing, Locking, Loading, Staging, Deciding, Committing, Checking, Releasing, Ended}
+use Rattle.commit_machine.specs.Machine.{Then, GoOn, Answer, State, Seizing, Looking, Undoing, Placing, Testing, Removing, Extending, Discarding, Unlocking, Erasing, Clearing, Preparing, Publishing, Locking, Loading, Staging, Deciding, Committing, Checking, Releasing, Ended}
 use Rattle.commit_machine.specs.Lawful.{standing, HasRight, IsGuarded, IsFresh}
 use Rattle.commit_machine.proofs.standing.Decided.{IsDistinct}
 
@@ -108,6 +109,12 @@ pub record Among (left made : List Made) : Type 0 where
 abbrev pub IsStaged : Record → Item → Disk → Type 0
 IsStaged r x d = (d.files (staged_name r.token x.name) ≡ x.staged) × (is_some x.staged ≡ true)
 
+-- a staged file of this way is looked for before it is put in place
+abbrev pub IsLooked : Way → Type 0
+IsLooked Replace = ⊥
+IsLooked Remove = Unit {0}
+IsLooked (Extend at) = Unit {0}
+
 -- All staged files of the own record stand when it is decided; of a record that was found it isn't known.
 abbrev pub AreStaged : Then → Record → List Item → Disk → Type 0
 AreStaged GoOn r xs d = Unit {0}
@@ -138,8 +145,9 @@ Knows j Seizing d = IsFresh j.actor j.token d
 Knows j Looking d = Clean j d
 Knows j (Undoing r n ns ls th) d = Closing j.actor r (n ∷ ns) ls d × (is_go r ≡ false) × Subset (n ∷ ns) (names_of r) × Subset ls (names_of r) × ThenOk j r th d
 Knows j (Placing r x xs ls th) d = PartPlaced j.actor r (x ∷ xs) ls th d × ThenOk j r th d × (x.way ≡ Replace)
-Knows j (Testing r x xs ls) d = PartPlaced j.actor r (x ∷ xs) ls GoOn d × ThenOk j r GoOn d × (x.way ≡ Remove)
+Knows j (Testing r x xs ls) d = PartPlaced j.actor r (x ∷ xs) ls GoOn d × ThenOk j r GoOn d × IsLooked x.way
 Knows j (Removing r x xs ls th) d = PartPlaced j.actor r (x ∷ xs) ls th d × ThenOk j r th d × (x.way ≡ Remove) × IsStaged r x d
+Knows j (Extending r x xs ls th) d = PartPlaced j.actor r (x ∷ xs) ls th d × ThenOk j r th d × ((at : ℕ) × (x.way ≡ Extend at)) × IsStaged r x d
 Knows j (Discarding r x xs ls th) d = PartPlaced j.actor r (x ∷ xs) ls th d × ThenOk j r th d × (d.locks x.name ≡ Some r.token) × (put_in x.way (d.files x.name) (d.files (staged_name r.token x.name)) ≡ d.files x.name)
 Knows j (Unlocking r n ns th) d = Closing j.actor r [] (n ∷ ns) d × Subset (n ∷ ns) (names_of r) × ThenOk j r th d
 Knows j (Erasing r th) d = Closing j.actor r [] [] d × ThenOk j r th d

@@ -1,22 +1,30 @@
 -- What is known at the state that a list of names leads to.
-use Rattle.std.proofs.Common.{◌≡◌, ℕ, Bool, true, false, List, [], ◌∷◌, map, Option, Some, None, if◌then◌else◌, refl, ap, sym, subst, inl, inr}
+use Rattle.std.proofs.Common.{◌≡◌, ℕ, ◌^◌, lit<, Bool, true, false, List, [], ◌∷◌, Option, Some, None, if◌then◌else◌, refl, ap, sym, subst, inl, inr}
+use Rattle.std.proofs.lemmas.Bool.{lt-ltb}
+use Rattle.std.specs.List.{list_all}
+use Rattle.commit_record.specs.Format.{fits_number}
 use Rattle.commit_record.specs.declared.record.Record.{Record}
 use Rattle.commit_record.specs.declared.way.Way.{Way}
-use Rattle.commit_record.specs.declared.way.Way.TheVariants.{Replace, Remove}
+use Rattle.commit_record.specs.declared.way.Way.TheVariants.{Replace, Remove, Extend}
 use Rattle.host_port.specs.Disk.{Disk}
 use Rattle.commit_machine.specs.Names.{record_name, new_name}
 use Rattle.commit_machine.specs.Records.{record_in, record_of, is_go, names_of, AreDistinct}
 use Rattle.commit_machine.specs.Settled.{Mem}
 use Rattle.commit_machine.specs.Items.{Item, found_items}
 use Rattle.commit_machine.specs.Jobs.{Ending, Refused, NoMemory, Found, Refusal, seen_files, Edit, Job, Made, edits_of, all_of, entries_for, prepare_of, IsJob}
-use Rattle.commit_machine.specs.Machine.{Then, GoOn, Answer, State, Seizing, Looking, Undoing, Placing, Testing, Removing, Discarding, Unlocking, Erasing, Clearing, Preparing, Publishing, Locking, Loading, Staging, Deciding, Committing, Checking, Releasing, Ended, unlocking, undoing, removing, place_one, placing, staging, judged, loading, locking, mended, none_stands, mending, record_seen, looked, refusing, refused, wanted}
+use Rattle.commit_machine.specs.Machine.{Then, GoOn, Answer, State, Seizing, Looking, Undoing, Placing, Testing, Removing, Extending, Discarding, Unlocking, Erasing, Clearing, Preparing, Publishing, Locking, Loading, Staging, Deciding, Committing, Checking, Releasing, Ended, unlocking, undoing, removing, extending, place_one, placing, staging, judged, loading, locking, mended, none_stands, mending, record_seen, looked, refusing, refused, wanted}
 use Rattle.commit_machine.specs.Lawful.{standing}
 use Rattle.commit_machine.proofs.records.InFile.{stands-distinct}
 use Rattle.commit_machine.proofs.records.OfItems.{names-entries_for, names-found, ways-found}
-use Rattle.commit_machine.proofs.standing.Known.{Closing, Own, Clean, Idle, IsValid, IsOwnEnd, ThenOk, Subset, Covers, LocksLeft, Among, PartPlaced, Knows}
+use Rattle.commit_machine.proofs.standing.Known.{IsLooked, Closing, Own, Clean, Idle, IsValid, IsOwnEnd, ThenOk, Subset, Covers, LocksLeft, Among, PartPlaced, Knows}
 
 pub names-prepare : (j : Job) → names_of (prepare_of j) ≡ all_of j
 names-prepare j = names-entries_for (λ n. Replace) (all_of j)
+
+-- no bytes stay before the decision
+numbers_prepare : (ns : List (List ℕ)) → list_all fits_number (entries_for (λ n. Replace) ns) ≡ true
+numbers_prepare [] = refl
+numbers_prepare (n ∷ ns) = rw (lt-ltb 0 (2 ^ 64) (lit< tt), numbers_prepare ns) refl
 
 pub to_prepare : (j : Job) (ns : List (List ℕ)) → Subset ns (all_of j) → Subset ns (names_of (prepare_of j))
 to_prepare j ns s = subst (Subset ns) (sym (names-prepare j)) s
@@ -27,12 +35,17 @@ module _ (j : Job) (d : Disk) where
   knows_unlocking r (n ∷ ns) th k sub t = (k, sub, t)
 
   knows_removing : (r : Record) (x : Item) (xs : List Item) (ls : List (List ℕ)) (th : Then) → x.way ≡ Remove → PartPlaced j.actor r (x ∷ xs) ls th d → ThenOk j r th d → Knows j (removing r x xs ls th) d
-  knows_removing r x xs ls GoOn way k t = (k, t, way)
+  knows_removing r x xs ls GoOn way k t = (k, t, subst IsLooked (sym way) tt)
   knows_removing r x xs ls (Answer e) way k t = (k, t, way, k.staged x (inl refl))
+
+  knows_extending : (r : Record) (x : Item) (xs : List Item) (ls : List (List ℕ)) (th : Then) (at : ℕ) → x.way ≡ Extend at → PartPlaced j.actor r (x ∷ xs) ls th d → ThenOk j r th d → Knows j (extending r x xs ls th) d
+  knows_extending r x xs ls GoOn at way k t = (k, t, subst IsLooked (sym way) tt)
+  knows_extending r x xs ls (Answer e) at way k t = (k, t, (at, way), k.staged x (inl refl))
 
   knows_place_one : (way : Way) (r : Record) (x : Item) (xs : List Item) (ls : List (List ℕ)) (th : Then) → x.way ≡ way → PartPlaced j.actor r (x ∷ xs) ls th d → ThenOk j r th d → Knows j (place_one way r x xs ls th) d
   knows_place_one Replace r x xs ls th is k t = (k, t, is)
   knows_place_one Remove r x xs ls th is k t = knows_removing r x xs ls th is k t
+  knows_place_one (Extend at) r x xs ls th is k t = knows_extending r x xs ls th at is k t
 
   pub knows_placing : (r : Record) (xs : List Item) (ls : List (List ℕ)) (th : Then) → PartPlaced j.actor r xs ls th d → ThenOk j r th d → Knows j (placing r xs ls th) d
   knows_placing r [] ls th k t = knows_unlocking r ls th k.closing k.locks_within t
@@ -114,7 +127,7 @@ module _ (j : Job) (d : Disk) where
   knows_record (Some r) k e = knows_mending r k e
 
   valid_job : IsJob j → (es : List Edit) → j.edits ≡ Some es → IsValid j
-  valid_job job es e = record { valid = job.valid es e; token_fits = job.token_fits; is = refl }
+  valid_job job es e = record { valid = job.valid es e; token_fits = job.token_fits; numbers_fit = numbers_prepare (all_of j); is = refl }
 
   knows_none : IsJob j → (o : Option (List Edit)) → j.edits ≡ o → Idle j None d → Knows j (none_stands o) d
   knows_none job None e k = k
@@ -148,6 +161,8 @@ module _ (j : Job) (d : Disk) where
   knows_refused (Testing r x xs ls) k = k.1
   knows_refused (Removing r x xs ls GoOn) k = k.1
   knows_refused (Removing r x xs ls (Answer a)) k = k
+  knows_refused (Extending r x xs ls GoOn) k = k.1
+  knows_refused (Extending r x xs ls (Answer a)) k = k
   knows_refused (Discarding r x xs ls GoOn) k = k.1
   knows_refused (Discarding r x xs ls (Answer a)) k = k
   knows_refused (Unlocking r n ns GoOn) k = k.2
@@ -175,6 +190,7 @@ module _ (j : Job) (d : Disk) where
   knows_wanted (Placing r x xs ls th) k = knows_refused (Placing r x xs ls th) k
   knows_wanted (Testing r x xs ls) k = knows_refused (Testing r x xs ls) k
   knows_wanted (Removing r x xs ls th) k = knows_refused (Removing r x xs ls th) k
+  knows_wanted (Extending r x xs ls th) k = knows_refused (Extending r x xs ls th) k
   knows_wanted (Discarding r x xs ls th) k = knows_refused (Discarding r x xs ls th) k
   knows_wanted (Unlocking r n ns th) k = knows_refused (Unlocking r n ns th) k
   knows_wanted (Erasing r th) k = knows_refused (Erasing r th) k

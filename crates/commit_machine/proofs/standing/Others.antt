@@ -8,7 +8,7 @@ use Rattle.commit_machine.specs.Records.{record_in}
 use Rattle.commit_machine.specs.Settled.{Mem, put_in}
 use Rattle.commit_machine.specs.Items.{Item, item_names}
 use Rattle.commit_machine.specs.Jobs.{Ending, Done, Recovered, Refused, Failed, NoMemory, Job, Made, edits_of, all_of, prepare_of}
-use Rattle.commit_machine.specs.Machine.{Then, GoOn, Answer, State, Seizing, Looking, Undoing, Placing, Testing, Removing, Discarding, Unlocking, Erasing, Clearing, Preparing, Publishing, Locking, Loading, Staging, Deciding, Committing, Checking, Releasing, Ended}
+use Rattle.commit_machine.specs.Machine.{Then, GoOn, Answer, State, Seizing, Looking, Undoing, Placing, Testing, Removing, Extending, Discarding, Unlocking, Erasing, Clearing, Preparing, Publishing, Locking, Loading, Staging, Deciding, Committing, Checking, Releasing, Ended}
 use Rattle.commit_machine.specs.Lawful.{standing, HasRight, IsGuarded, IsFresh}
 use Rattle.commit_machine.proofs.standing.Decided.{names_Mem}
 use Rattle.commit_machine.proofs.standing.Known.{Closing, Rest, Own, Clean, Idle, ThenOk, AllDone, Over, Ends, IsStaged, AreStaged, PartPlaced, Keeps, Knows}
@@ -122,6 +122,7 @@ module _ (j : Job) (d d' : Disk) (keep : Keeps j.actor j.token d d') where
   others_knows (Placing r x xs ls th) k = (others_placed r (x ∷ xs) ls th k.0, others_then r th k.1, k.2)
   others_knows (Testing r x xs ls) k = (others_placed r (x ∷ xs) ls GoOn k.0, others_fresh k.1, k.2)
   others_knows (Removing r x xs ls th) k = (others_placed r (x ∷ xs) ls th k.0, others_then r th k.1, k.2, others_one r x k.0.closing.stands k.3)
+  others_knows (Extending r x xs ls th) k = (others_placed r (x ∷ xs) ls th k.0, others_then r th k.1, k.2, others_one r x k.0.closing.stands k.3)
   others_knows (Discarding r x xs ls th) k = (others_placed r (x ∷ xs) ls th k.0, others_then r th k.1, keep.lock r.token x.name (guards r k.0.closing.stands) k.2, others_become r x k.0.closing.stands k.2 k.3)
   others_knows (Unlocking r n ns th) k = (others_closing r [] (n ∷ ns) k.0, k.1, others_then r th k.2)
   others_knows (Erasing r th) k = (others_closing r [] [] k.0, others_then r th k.1)

@@ -1,13 +1,16 @@
 -- What each kind of change keeps of the settled files, name by name.
-use Rattle.std.proofs.Common.{◌≡◌, ◌≢◌, ◌⊎◌, ℕ, Bool, true, false, ◌&&◌, ◌||◌, List, [], ◌∷◌, Option, Some, None, is_some, if◌then◌else◌, refl, ap, sym, subst, inl, inr, ◌∙◌}
-use Rattle.std.proofs.lemmas.Bool.{and_parts, cases_Bool, or_left, or_right}
+use Rattle.std.proofs.Common.{◌≡◌, ◌≢◌, ◌⊎◌, ℕ, zero, suc, ◌≤◌, nat_le, ◌++◌, take, length, length-append, arith, Bool, true, false, ◌&&◌, ◌||◌, List, [], ◌∷◌, Option, Some, None, is_some, if◌then◌else◌, refl, ap, sym, subst, inl, inr, ◌∙◌}
+use Rattle.std.proofs.lemmas.Bool.{and_parts, cases_Bool, or_left, or_right, leb-true, le-leb}
+use Rattle.std.proofs.lemmas.List.{take_at}
 use Rattle.std.specs.List.{list_any}
 use Rattle.std.specs.Str.{bytes_eq}
 use Rattle.host_port.specs.Disk.{with_at}
 use Rattle.commit_record.specs.Names.{is_lawful}
 use Rattle.commit_record.specs.declared.record.Record.{Record}
 use Rattle.commit_record.specs.declared.way.Way.{Way}
-use Rattle.commit_record.specs.declared.way.Way.TheVariants.{Replace, Remove}
+use Rattle.commit_record.specs.declared.way.Way.TheVariants.{Replace, Remove, Extend}
+use Rattle.folder_change.specs.Outcomes.{bytes_of}
+use Rattle.host_port.specs.Disk.{reaches, extended}
 use Rattle.commit_machine.specs.Names.{record_name, new_name, staged_name, is_record_name}
 use Rattle.commit_machine.specs.Records.{record_in, is_go, names_of, way_at, has}
 use Rattle.commit_machine.specs.Settled.{Files, Mem, hides, is_staged_of, placed, put_in, settled}
@@ -93,6 +96,11 @@ pub keep_new : (actor : List ℕ) (f : Files) (c : Option (List ℕ)) (n : List 
 keep_new actor f c n = same_settled actor f (with_at f (new_name actor) c) n (record_in (f (record_name actor))) refl (put_there f (new_name actor) (record_name actor) c (record-new actor))
     (λ s. placed_same (record_in (f (record_name actor))) f (with_at f (new_name actor) c) n (put_there f (new_name actor) n c s.not_new) (λ r e go m. put_there f (new_name actor) (staged_name r.token n) c (staged-new r.token n actor)))
 
+length-take-of : (n : ℕ) (xs : List ℕ) → n ≤ length xs → length (take n xs) ≡ n
+length-take-of zero xs l = refl
+length-take-of (suc n) [] l = absurd (omega (arith, l))
+length-take-of (suc n) (x ∷ xs) l = ap suc (length-take-of n xs (omega (arith, l)))
+
 pub record-staged : (t : ℕ) (m actor : List ℕ) → record_name actor ≢ staged_name t m
 record-staged t m actor e = staged-record t m actor (sym e)
 
@@ -121,17 +129,51 @@ put_in_replace : (w : Way) (file staged : Option (List ℕ)) → is_some staged 
 put_in_replace Replace file None h e = absurd (cc)
 put_in_replace Replace file (Some b) h e = refl
 put_in_replace Remove file staged h e = absurd (cc)
+put_in_replace (Extend at) file staged h e = absurd (cc)
 
 pub put_in_remove : (w : Way) (file staged : Option (List ℕ)) → is_some staged ≡ true → w ≡ Remove → put_in w file staged ≡ None
 put_in_remove Remove file None h e = absurd (cc)
 put_in_remove Remove file (Some b) h e = refl
 put_in_remove Replace file staged h e = absurd (cc)
+put_in_remove (Extend at) file staged h e = absurd (cc)
 
 -- a file that is gone stays so
 pub put_in_gone : (w : Way) (staged : Option (List ℕ)) → w ≡ Remove → put_in w None staged ≡ None
 put_in_gone Remove None e = refl
 put_in_gone Remove (Some b) e = refl
 put_in_gone Replace staged e = absurd (cc)
+put_in_gone (Extend at) staged e = absurd (cc)
+
+-- the bytes that stay are those before an extension, whatever tail it left
+stays : (at : ℕ) (file : Option (List ℕ)) (tail : List ℕ) → take at (bytes_of (extended file at tail)) ≡ take at (bytes_of file)
+stays at None tail = refl
+stays at (Some bytes) tail = go (nat_le at (length bytes)) refl
+  where
+    go : (b : Bool) → nat_le at (length bytes) ≡ b → take at (if b then take at bytes ++ tail else bytes) ≡ take at bytes
+    go true is = take_at (take at bytes) tail at (length-take-of at bytes (leb-true at (length bytes) is))
+    go false is = refl
+
+pub put_in_extended : (w : Way) (at : ℕ) (file staged : Option (List ℕ)) (tail : List ℕ) → is_some staged ≡ true → w ≡ Extend at → put_in w (extended file at tail) staged ≡ put_in w file staged
+put_in_extended (Extend at) b file None tail h e = absurd (cc)
+put_in_extended (Extend at) b file (Some bytes) tail h e = let same : at ≡ b = cc in ap (λ (front : List ℕ). Some (front ++ bytes)) (subst (λ (k : ℕ). take at (bytes_of (extended file k tail)) ≡ take at (bytes_of file)) same (stays at file tail))
+put_in_extended Replace b file staged tail h e = absurd (cc)
+put_in_extended Remove b file staged tail h e = absurd (cc)
+
+-- a file that got its tail has become what it is to be
+pub extended_done : (at : ℕ) (file : Option (List ℕ)) (tail : List ℕ) → reaches at file ≡ true → put_in (Extend at) (extended file at tail) (Some tail) ≡ extended file at tail
+extended_done at None tail h = absurd (cc)
+extended_done at (Some bytes) tail h = ap (λ (front : List ℕ). Some (front ++ tail)) (stays at (Some bytes) tail) ∙ ap (λ (b : Bool). Some (if b then take at bytes ++ tail else bytes)) (sym h)
+
+-- it has as many bytes at least as before
+pub extended_reaches : (at k : ℕ) (file : Option (List ℕ)) (tail : List ℕ) → k ≡ at → reaches k file ≡ true → reaches k (extended file at tail) ≡ true
+extended_reaches at k None tail same h = absurd (cc)
+extended_reaches at k (Some bytes) tail same h = go (nat_le at (length bytes)) refl
+  where
+    go : (b : Bool) → nat_le at (length bytes) ≡ b → nat_le k (length (if b then take at bytes ++ tail else bytes)) ≡ true
+    go true is =
+        let front = length-take-of at bytes (leb-true at (length bytes) is) in
+        le-leb k (length (take at bytes ++ tail)) (omega (arith, front, same, length-append (take at bytes) tail))
+    go false is = h
 
 -- the staged file of a decided record is put in place
 pub keep_place : (actor : List ℕ) (f : Files) (r : Record) (m n : List ℕ) → record_in (f (record_name actor)) ≡ Some r → is_go r ≡ true → Mem m (names_of r) → m ≢ record_name actor → is_lawful m ≡ true → way_at r m ≡ Replace → is_some (f (staged_name r.token m)) ≡ true → settled actor (renamed f (staged_name r.token m) m) n ≡ settled actor f n

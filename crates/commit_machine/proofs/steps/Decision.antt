@@ -1,16 +1,16 @@
 -- Each own event keeps what is known: the decision is staged and published.
-use Rattle.std.proofs.Common.{◌≡◌, ℕ, Bool, true, false, ◌==◌, List, [], ◌∷◌, Some, refl, ap, sym, subst, inl, inr, ◌∙◌, arith, is_some}
+use Rattle.std.proofs.Common.{◌≡◌, ℕ, ◌<◌, ◌^◌, Bool, true, false, ◌==◌, List, [], ◌∷◌, Option, Some, None, refl, ap, sym, subst, inl, inr, ◌∙◌, arith, is_some}
 use Rattle.std.proofs.lemmas.Grind.{common_steps}
 use Rattle.commit_record.specs.Format.{written, is_valid}
 use Rattle.commit_record.specs.declared.record.Record.{Record}
 use Rattle.host_port.specs.declared.event.Event.{Event}
 use Rattle.host_port.specs.declared.event.Event.TheVariants as event
-use Rattle.host_port.specs.Disk.{Disk, with_at, after}
+use Rattle.host_port.specs.Disk.{Disk, with_at, reaches, after}
 use Rattle.host_port.specs.Ran.{Agrees}
 use Rattle.commit_machine.specs.Names.{record_name, new_name, staged_name, is_record_name}
 use Rattle.commit_machine.specs.Records.{record_in, is_go, names_of, way_at, AreDistinct}
 use Rattle.commit_machine.specs.Settled.{Files, Locks, Mem, put_in, IsSoundAt}
-use Rattle.commit_machine.specs.Items.{Item, item_names, made_item, made_items, content_made}
+use Rattle.commit_machine.specs.Items.{Item, made_items, content_made}
 use Rattle.commit_machine.specs.Jobs.{Puts, Edit, Job, Made, IsJob, edits_of, all_of, prepare_of, go_of, Done, made_at, way_made, file_after, outcome_of}
 use Rattle.commit_machine.specs.Machine.{Deciding, Committing, ToStage, ToPublish, Answer, placing}
 use Rattle.commit_machine.specs.Goes.{IsOf, stages, stage_fails, publishes}
@@ -24,11 +24,17 @@ use Rattle.commit_machine.proofs.standing.Settled.{renamed, renamed_to, renamed_
 use Rattle.commit_machine.proofs.standing.Sound.{lock_commit}
 use Rattle.commit_machine.proofs.standing.Decided.{named, names_Mem, decided}
 use Rattle.commit_machine.proofs.standing.KnownNext.{names-prepare, knows_placing}
-use Rattle.commit_machine.proofs.records.OfJob.{valid-distinct, valid-plain, one_edit, valid-go, made_first, way_of_entries}
+use Rattle.commit_machine.proofs.records.OfJob.{valid-distinct, valid-plain, one_edit, valid-go, made_first, made_at-Mem, way_of_entries, numbers-entries}
 use Rattle.commit_machine.proofs.records.OfItems.{names-entries_for, names-made, made-is}
 use Rattle.commit_record.specs.declared.way.Way.{Way}
+use Rattle.commit_record.specs.declared.way.Way.TheVariants.{Extend}
+use Rattle.commit_record.specs.Format.{fits_number}
+use Rattle.std.specs.List.{list_all}
 use Rattle.commit_machine.proofs.steps.Shown.{Shows, Kept, none_left}
 use Rattle.commit_machine.proofs.steps.OwnRecord
+
+some-one : {A : Type 0} (a b : A) → Some a ≡ Some b → a ≡ b
+some-one a b e = cc
 
 pub a_decision : (j : Job) (d : Disk) (files : Files) (r : Record) (failed : Bool) (n : List ℕ) → record_in (d.files (new_name j.actor)) ≡ Some r → is_go r ≡ true → r.token ≡ j.token → files_then j (event.Publish (new_name j.actor) (record_name j.actor) true failed) d files n ≡ applied (edits_of j) files n
 a_decision j d files r failed n e go t =
@@ -72,8 +78,23 @@ module _ (j : Job) (job : IsJob j) (d : Disk) (files : Files) (owners : Locks) (
     names_go : names_of (go_of j made) ≡ all_of j
     names_go = names-entries_for (λ n. way_made (made_at made n)) (all_of j)
 
+    -- what was made for a name as an extension is one of a file that reaches so far
+    made_extends : (n : List ℕ) (at : ℕ) → way_made (made_at made n) ≡ Extend at → (x : Made) × Mem x made × (made_at made n ≡ Some x) × (reaches at x.seen ≡ true) × (at < 2 ^ 64)
+    made_extends n at e = go (made_at made n) refl e
+      where
+        go : (o : Option Made) → made_at made n ≡ o → way_made o ≡ Extend at → (x : Made) × Mem x made × (made_at made n ≡ Some x) × (reaches at x.seen ≡ true) × (at < 2 ^ 64)
+        go None is way = absurd (cc)
+        go (Some x) is way =
+            let x_in : Mem x made = made_at-Mem made n x is in
+            let p = k.1.each x x_in in
+            let w = job.extends x.edit p.0 x.seen at x.content (p.1 ∙ ap (λ (v : Way). Puts v x.content) way) in
+            (x, x_in, is, w.0, w.1)
+
+    go_numbers : list_all fits_number (go_of j made).entries ≡ true
+    go_numbers = numbers-entries (λ n. way_made (made_at made n)) (all_of j) (λ n at e. (made_extends n at e).4)
+
     pub new_go : record_in (d.files (new_name j.actor)) ≡ Some (go_of j made)
-    new_go = ap record_in k.2 ∙ record_of-written (written (go_of j made)) (go_of j made) (record { valid = valid-go j made (stands-valid (d.files (record_name j.actor)) (prepare_of j) k.0.closing.stands).0; token_fits = job.token_fits; is = refl })
+    new_go = ap record_in k.2 ∙ record_of-written (written (go_of j made)) (go_of j made) (record { valid = valid-go j made (stands-valid (d.files (record_name j.actor)) (prepare_of j) k.0.closing.stands).0; token_fits = job.token_fits; numbers_fit = go_numbers; is = refl })
 
     pub go_stands : record_in (renamed d.files (new_name j.actor) (record_name j.actor) (record_name j.actor)) ≡ Some (go_of j made)
     go_stands = ap record_in (renamed_to d.files (new_name j.actor) (record_name j.actor)) ∙ new_go
@@ -108,6 +129,19 @@ module _ (j : Job) (job : IsJob j) (d : Disk) (files : Files) (owners : Locks) (
     is_go_record : (r : Record) → record_in (renamed d.files (new_name j.actor) (record_name j.actor) (record_name j.actor)) ≡ Some r → r ≡ go_of j made
     is_go_record r e = let w : Some (go_of j made) ≡ Some r = sym go_stands ∙ e in cc
 
+    -- a file that is extended has the bytes that stay
+    go_reaches : (n : List ℕ) (at : ℕ) → Mem n (all_of j) → way_made (made_at made n) ≡ Extend at → reaches at (renamed d.files (new_name j.actor) (record_name j.actor) n) ≡ true
+    go_reaches n at m way =
+        let (x, x_in, found, reaches_so, fits) = made_extends n at way in
+        let (e, e_in, is) = named (edits_of j) n m in
+        let (y, y_in, one, first) = made_for e e_in in
+        let same : Some y ≡ Some x = sym first ∙ ap (made_at made) is ∙ found in
+        let name : x.edit.name ≡ n = ap (λ (z : Made). z.edit.name) (sym (some-one y x same)) ∙ ap (λ (z : Edit). z.name) one ∙ is in
+        let plain = subst (λ (z : List ℕ). is_record_name j.actor z ≡ false) is (job.plain e e_in) in
+        let moved : renamed d.files (new_name j.actor) (record_name j.actor) n ≡ d.files n = renamed_other d.files (new_name j.actor) (record_name j.actor) n (record_name-not j.actor n plain).1 (record_name-not j.actor n plain).0 in
+        let seen : d.files n ≡ x.seen = ap d.files (sym name) ∙ k.0.seen x x_in in
+        ap (reaches at) (moved ∙ seen) ∙ reaches_so
+
     commit_sound : IsSoundAt j.actor (renamed d.files (new_name j.actor) (record_name j.actor)) d.locks
     commit_sound = record {
       plain = λ r n e g m.
@@ -117,6 +151,11 @@ module _ (j : Job) (job : IsJob j) (d : Disk) (files : Files) (owners : Locks) (
       locked = λ r n e g m s.
           let w = is_go_record r e in
           k.0.locked n (subst (Mem n) names_go (subst (λ (z : Record). Mem n (names_of z)) w m)) ∙ ap (λ (z : Record). Some z.token) (sym w);
+      long = λ r n at e g m way s.
+          let w = is_go_record r e in
+          let in_all : Mem n (all_of j) = subst (Mem n) names_go (subst (λ (z : Record). Mem n (names_of z)) w m) in
+          let made_so : way_made (made_at made n) ≡ Extend at = sym (way_of_entries (all_of j) (λ n. way_made (made_at made n)) n in_all) ∙ subst (λ (z : Record). way_at z n ≡ Extend at) w way in
+          go_reaches n at in_all made_so;
     }
 
     commit_shows : (failed : Bool) → Shows j (event.Publish (new_name j.actor) (record_name j.actor) true failed) d files owners

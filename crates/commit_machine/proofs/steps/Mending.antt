@@ -2,6 +2,7 @@
 use Rattle.std.proofs.Common.{◌≡◌, ◌≢◌, ◌⊎◌, ℕ, Bool, true, false, List, ◌∷◌, None, is_some, refl, ap, sym, subst, inl, inr, ◌∙◌}
 use Rattle.commit_record.specs.Names.{is_lawful}
 use Rattle.commit_record.specs.declared.record.Record.{Record}
+use Rattle.commit_record.specs.declared.way.Way.TheVariants.{Replace}
 use Rattle.host_port.specs.declared.event.Event.{Event}
 use Rattle.host_port.specs.declared.event.Event.TheVariants as event
 use Rattle.host_port.specs.Disk.{Disk, with_at, after}
@@ -21,7 +22,7 @@ use Rattle.commit_machine.proofs.records.Names.{staged-one, staged-new, lawful-s
 use Rattle.commit_machine.proofs.records.InFile.{stands-lawful}
 use Rattle.commit_machine.proofs.records.OfItems.{item-named}
 use Rattle.commit_machine.proofs.standing.Settled.{keep_staged, keep_place, renamed, renamed_from, renamed_other, record-staged, record_name-not}
-use Rattle.commit_machine.proofs.standing.Sound.{sound_staged, sound_place, lock_same}
+use Rattle.commit_machine.proofs.standing.Sound.{keeps_way, sound_staged, sound_place, lock_same}
 use Rattle.commit_machine.proofs.standing.KnownNext.{knows_placing, knows_undoing}
 use Rattle.commit_machine.proofs.steps.Shown
 use Rattle.commit_machine.proofs.steps.Shown.{Shows, Kept, none_of, absent_more, absent_renamed}
@@ -108,7 +109,7 @@ module _ (j : Job) (job : IsJob j) (d : Disk) (files : Files) (owners : Locks) (
     placed_shows failed stands = record {
       settles = λ q. keep_place j.actor d.files r x.name q k.0.closing.stands k.0.go mem plain law (k.0.ways x (inl refl) ∙ k.2) stands ∙ settles q ∙ sym (not_decided j d files (staged_name r.token x.name) x.name failed q (staged-new r.token x.name j.actor));
       locked = λ q. lock_same j.actor d.files (renamed d.files (staged_name r.token x.name) x.name) d.locks q placed_record ∙ locked q;
-      sound = sound_place j.actor d.files d.locks r.token x.name plain law sound;
+      sound = sound_place j.actor d.files d.locks r.token x.name plain law (keeps_way j.actor d.files (renamed d.files (staged_name r.token x.name) x.name) r x.name Replace (λ at e. absurd (cc)) k.0.closing.stands (k.0.ways x (inl refl) ∙ k.2)) sound;
     }
 
     placed_gone : (m : List ℕ) → Mem m (x.name ∷ item_names xs) ⊎ (d.files (staged_name r.token m) ≡ None) → Mem m (item_names xs) ⊎ (renamed d.files (staged_name r.token x.name) x.name (staged_name r.token m) ≡ None)

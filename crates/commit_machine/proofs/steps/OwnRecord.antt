@@ -90,7 +90,7 @@ module _ (j : Job) (job : IsJob j) (d : Disk) (files : Files) (owners : Locks) (
     publish_shows failed = record {
       settles = λ q. keep_prepare j.actor d.files (prepare_of j) q (ap record_in k.0.none) refl new_holds k.0.clean.fresh.staged ∙ settles q ∙ sym (not_go j d files (prepare_of j) (new_name j.actor) (record_name j.actor) failed q new_holds refl);
       locked = λ q. lock_prepare j.actor d.files d.locks (prepare_of j) q (ap record_in k.0.none) new_holds k.0.clean.fresh.locks ∙ locked q;
-      sound = record { plain = λ r n e g m. absurd (not_decided_yet r e g); locked = λ r n e g m s. absurd (not_decided_yet r e g) };
+      sound = record { plain = λ r n e g m. absurd (not_decided_yet r e g); locked = λ r n e g m s. absurd (not_decided_yet r e g); long = λ r n at e g m way s. absurd (not_decided_yet r e g) };
     }
 
     moved_staged : (m : List ℕ) → renamed d.files (new_name j.actor) (record_name j.actor) (staged_name j.token m) ≡ None

@@ -6,7 +6,7 @@ use Rattle.std.specs.Str.{bytes_eq}
 use Rattle.commit_record.specs.Format.{written}
 use Rattle.commit_record.specs.declared.record.Record.{Record}
 use Rattle.commit_record.specs.declared.way.Way.{Way}
-use Rattle.commit_record.specs.declared.way.Way.TheVariants.{Replace, Remove}
+use Rattle.commit_record.specs.declared.way.Way.TheVariants.{Replace, Remove, Extend}
 use Rattle.host_port.specs.declared.event.Event.{Event}
 use Rattle.host_port.specs.declared.event.Event.TheVariants as event
 use Rattle.host_port.specs.declared.event.Seen.TheVariants as seen
@@ -16,8 +16,8 @@ use Rattle.commit_machine.specs.Names.{record_name, new_name, staged_name}
 use Rattle.commit_machine.specs.Records.{record_in, is_go, names_of}
 use Rattle.commit_machine.specs.Items.{Item, found_items, made_items}
 use Rattle.commit_machine.specs.Jobs.{Ending, Done, Recovered, Refused, Failed, NoMemory, Found, Busy, TooLarge, Outcome, Puts, Edit, Job, Made, IsJob, edits_of, all_of, prepare_of, go_of}
-use Rattle.commit_machine.specs.Machine.{Then, GoOn, Answer, State, Seizing, Looking, Undoing, Placing, Testing, Removing, Discarding, Unlocking, Erasing, Clearing, Preparing, Publishing, Locking, Loading, Staging, Deciding, Committing, Checking, Releasing, Ended, ToLoad, ToPublish, after_reply, undoing, placing, unlocking, locking, loaded, loading, judged, staging}
-use Rattle.commit_machine.specs.Goes.{IsOf, loads, stages, stage_fails, publishes, erases, locks, unlocks, seizes, releases, reply}
+use Rattle.commit_machine.specs.Machine.{Then, GoOn, Answer, State, Seizing, Looking, Undoing, Placing, Testing, Removing, Extending, Discarding, Unlocking, Erasing, Clearing, Preparing, Publishing, Locking, Loading, Staging, Deciding, Committing, Checking, Releasing, Ended, ToLoad, ToPublish, after_reply, undoing, placing, unlocking, locking, loaded, loading, judged, staging}
+use Rattle.commit_machine.specs.Goes.{IsOf, loads, stages, stage_fails, publishes, extends, extend_fails, erases, locks, unlocks, seizes, releases, reply}
 use Rattle.commit_machine.specs.Lawful.{HasRight, IsSound}
 use Rattle.commit_machine.specs.Due.{settled_files, settled_locks, is_decision}
 use Rattle.commit_machine.proofs.standing.Known.{Knows}
@@ -30,7 +30,7 @@ use Rattle.host_port.specs.Disk.{disk, after_step}
 use Rattle.host_port.specs.Own.{own}
 use Rattle.host_port.specs.Ran.{Honest}
 use Rattle.commit_machine.specs.Jobs.{Passed, Before, After, Unknown, Refusal, seen_files}
-use Rattle.commit_machine.specs.Machine.{Reply, Went, Saw, Long, Short, Fault, refused, wanted, next, faulted, saw, too_long, went_on, passed_at, passed_then, passed_ending, removing, tested, place_one, mended, none_stands, record_seen, looked, is_own_go, passed_by}
+use Rattle.commit_machine.specs.Machine.{Reply, Went, Saw, Long, Short, Fault, refused, wanted, next, faulted, saw, too_long, went_on, passed_at, passed_then, passed_ending, removing, extending, tested, place_one, place_known, mended, none_stands, record_seen, looked, is_own_go, passed_by}
 use Rattle.commit_machine.specs.Records.{record_of}
 use Rattle.commit_machine.specs.Goes.{IsNext, Goes}
 use Rattle.commit_machine.specs.Lawful.{IsLawful, OthersAreLawful}
@@ -56,6 +56,7 @@ abbrev pub Told : Job → State → Disk → ℕ → Type 0
 Told j (Undoing r m ns ls th) d n = (n ≡ 0) × told_then th n
 Told j (Placing r x xs ls th) d n = told_then th n
 Told j (Removing r x xs ls th) d n = told_then th n
+Told j (Extending r x xs ls th) d n = told_then th n
 Told j (Discarding r x xs ls th) d n = told_then th n
 Told j (Unlocking r m ns th) d n = told_then th n
 Told j (Erasing r th) d n = told_then th n
@@ -86,6 +87,7 @@ module _ (j : Job) (d : Disk) (n : ℕ) where
   told_fault (Undoing r m ns ls th) plain t = t.0
   told_fault (Placing r x xs ls th) plain t = then_passed th n t
   told_fault (Removing r x xs ls th) plain t = then_passed th n t
+  told_fault (Extending r x xs ls th) plain t = then_passed th n t
   told_fault (Discarding r x xs ls th) plain t = then_passed th n t
   told_fault (Unlocking r m ns th) plain t = then_passed th n t
   told_fault (Erasing r th) plain t = then_passed th n t
@@ -111,9 +113,14 @@ module _ (j : Job) (d : Disk) (n : ℕ) where
   told_removing r x xs ls GoOn t = t
   told_removing r x xs ls (Answer e) t = t
 
+  told_extending : (r : Record) (x : Item) (xs : List Item) (ls : List (List ℕ)) (th : Then) → told_then th n → Told j (extending r x xs ls th) d n
+  told_extending r x xs ls GoOn t = t
+  told_extending r x xs ls (Answer e) t = t
+
   told_place_one : (way : Way) (r : Record) (x : Item) (xs : List Item) (ls : List (List ℕ)) (th : Then) → told_then th n → Told j (place_one way r x xs ls th) d n
   told_place_one Replace r x xs ls th t = t
   told_place_one Remove r x xs ls th t = told_removing r x xs ls th t
+  told_place_one (Extend at) r x xs ls th t = told_extending r x xs ls th t
 
   told_placing : (r : Record) (xs : List Item) (ls : List (List ℕ)) (th : Then) → told_then th n → Told j (placing r xs ls th) d n
   told_placing r [] ls th t = told_unlocking r ls th t
@@ -151,9 +158,14 @@ module _ (j : Job) (d : Disk) (n : ℕ) where
   told_mended found None t = t
   told_mended found (Some es) t = t
 
+  told_known : (way : Way) (r : Record) (x : Item) (xs : List Item) (ls : List (List ℕ)) → n ≡ 0 → Told j (place_known way r x xs ls GoOn) d n
+  told_known Replace r x xs ls t = t
+  told_known Remove r x xs ls t = t
+  told_known (Extend at) r x xs ls t = t
+
   told_tested : (r : Record) (x : Item) (xs : List Item) (ls : List (List ℕ)) (c : Option (List ℕ)) → n ≡ 0 → Told j (tested r x xs ls c) d n
   told_tested r x xs ls None t = told_placing r xs ls GoOn t
-  told_tested r x xs ls (Some bytes) t = t
+  told_tested r x xs ls (Some bytes) t = told_known x.way r (record x { staged = Some bytes }) xs ls t
 
   told_looked : (c : Option (List ℕ)) → n ≡ 0 → Told j (looked j c) d n
   told_looked None t = told_none j.edits t
@@ -168,7 +180,9 @@ module _ (j : Job) (d : Disk) (n : ℕ) where
   told_refused (Placing r x xs ls GoOn) t = t
   told_refused (Placing r x xs ls (Answer a)) t = t
   told_refused (Removing r x xs ls GoOn) t = t
+  told_refused (Extending r x xs ls GoOn) t = t
   told_refused (Removing r x xs ls (Answer a)) t = t
+  told_refused (Extending r x xs ls (Answer a)) t = t
   told_refused (Discarding r x xs ls GoOn) t = t
   told_refused (Discarding r x xs ls (Answer a)) t = t
   told_refused (Unlocking r m ns GoOn) t = t
@@ -206,6 +220,7 @@ module _ (j : Job) (d : Disk) (n : ℕ) where
   told_went (Undoing r m ns ls th) b plain t = told_undoing r ns ls th t.0 t.1
   told_went (Placing r x xs ls th) b plain t = told_placing r xs ls th t
   told_went (Removing r x xs ls th) b plain t = t
+  told_went (Extending r x xs ls th) b plain t = t
   told_went (Discarding r x xs ls th) b plain t = told_placing r xs ls th t
   told_went (Unlocking r m ns th) b plain t = told_unlocking r ns th t
   told_went (Erasing r GoOn) b plain t = t
@@ -235,6 +250,7 @@ told_any j d d' n Checking plain t = absurd plain
 told_any j d d' n (Undoing r m ns ls th) plain t = t
 told_any j d d' n (Placing r x xs ls th) plain t = t
 told_any j d d' n (Removing r x xs ls th) plain t = t
+told_any j d d' n (Extending r x xs ls th) plain t = t
 told_any j d d' n (Discarding r x xs ls th) plain t = t
 told_any j d d' n (Unlocking r m ns th) plain t = t
 told_any j d d' n (Erasing r th) plain t = t
@@ -270,6 +286,8 @@ module _ (j : Job) (job : IsJob j) (d : Disk) where
   plain_event (Placing r x xs ls th) _ plain (publishes {done = false} {failed = failed}) k = refl
   plain_event (Testing r x xs ls) _ plain loads k = refl
   plain_event (Removing r x xs ls th) _ plain erases k = refl
+  plain_event (Extending r x xs ls th) _ plain extends k = refl
+  plain_event (Extending r x xs ls th) _ plain extend_fails k = refl
   plain_event (Discarding r x xs ls th) _ plain erases k = refl
   plain_event (Unlocking r m ns th) _ plain unlocks k = refl
   plain_event (Erasing r th) _ plain erases k = refl
@@ -370,6 +388,7 @@ told_few : (j : Job) (s : State) (d : Disk) (n : ℕ) → Told j s d n → (n �
 told_few j (Undoing r m ns ls th) d n t = inl t.0
 told_few j (Placing r x xs ls th) d n t = then_few th n t
 told_few j (Removing r x xs ls th) d n t = then_few th n t
+told_few j (Extending r x xs ls th) d n t = then_few th n t
 told_few j (Discarding r x xs ls th) d n t = then_few th n t
 told_few j (Unlocking r m ns th) d n t = then_few th n t
 told_few j (Erasing r th) d n t = then_few th n t

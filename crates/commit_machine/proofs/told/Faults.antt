@@ -34,6 +34,7 @@ failed_reply : (e : Event) → is_failed e ≡ true → reply e ≡ Fault
 failed_reply (event.Load n s) h = failed_load s h
 failed_reply (event.Stage n c failed) h = ap (went true) h
 failed_reply (event.Publish from to done failed) h = ap (went done) h
+failed_reply (event.Extend n at tail failed) h = ap (went true) h
 failed_reply (event.Erase n done failed) h = ap (went done) h
 failed_reply (event.Lock n t got failed) h = ap (went got) h
 failed_reply (event.Unlock n t done failed) h = ap (went done) h

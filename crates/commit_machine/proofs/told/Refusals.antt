@@ -10,8 +10,8 @@ use Rattle.commit_machine.specs.Names.{record_name, new_name, staged_name}
 use Rattle.commit_machine.specs.Records.{record_in}
 use Rattle.commit_machine.specs.Settled.{Files, Mem}
 use Rattle.commit_machine.specs.Jobs.{Edit, Job, Made, IsJob, edits_of, all_of, seen_files, seen_of, made_at, prepare_of}
-use Rattle.commit_machine.specs.Machine.{State, Seizing, Looking, Undoing, Placing, Testing, Removing, Discarding, Unlocking, Erasing, Clearing, Preparing, Publishing, Locking, Loading, Staging, Deciding, Committing, Checking, Releasing, Ended, next, refused}
-use Rattle.commit_machine.specs.Goes.{IsNext, Goes, loads, stages, stage_fails, publishes, erases, locks, unlocks, seizes, releases}
+use Rattle.commit_machine.specs.Machine.{State, Seizing, Looking, Undoing, Placing, Testing, Removing, Extending, Discarding, Unlocking, Erasing, Clearing, Preparing, Publishing, Locking, Loading, Staging, Deciding, Committing, Checking, Releasing, Ended, next, refused}
+use Rattle.commit_machine.specs.Goes.{IsNext, Goes, loads, stages, stage_fails, publishes, extends, extend_fails, erases, locks, unlocks, seizes, releases}
 use Rattle.commit_machine.specs.Due.{settled_files, is_decision, files_after}
 use Rattle.commit_machine.specs.Laws.{IsRun}
 use Rattle.commit_machine.specs.Restraints.{NoRefusedIsDecided}
@@ -50,6 +50,8 @@ module _ (j : Job) (d : Disk) where
   decides (Placing r x xs ls th) _ (publishes {done = false} {failed = failed}) k h = absurd (cc)
   decides (Testing r x xs ls) _ loads k h = absurd (cc)
   decides (Removing r x xs ls th) _ erases k h = absurd (cc)
+  decides (Extending r x xs ls th) _ extends k h = absurd (cc)
+  decides (Extending r x xs ls th) _ extend_fails k h = absurd (cc)
   decides (Discarding r x xs ls th) _ erases k h = absurd (cc)
   decides (Unlocking r m ns th) _ unlocks k h = absurd (cc)
   decides (Erasing r th) _ erases k h = absurd (cc)

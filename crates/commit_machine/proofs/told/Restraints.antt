@@ -15,7 +15,7 @@ use Rattle.commit_machine.specs.Names.{right_name}
 use Rattle.commit_machine.specs.Records.{record_of, is_go, names_of}
 use Rattle.commit_machine.specs.Items.{Item, found_items, made_items}
 use Rattle.commit_machine.specs.Jobs.{Ending, Refused, NoMemory, Found, Busy, TooLarge, Refusal, Outcome, Puts, Edit, Job, Made, edits_of, all_of, seen_files, prepare_of, go_of, Done}
-use Rattle.commit_machine.specs.Machine.{Then, GoOn, Answer, State, Seizing, Looking, Undoing, Placing, Testing, Removing, Discarding, Unlocking, Erasing, Clearing, Preparing, Publishing, Locking, Loading, Staging, Deciding, Committing, Checking, Releasing, Ended, ToSeize, ToRelease, Reply, Went, Saw, Long, Short, Fault, next, after_reply, unlocking, undoing, removing, tested, place_one, placing, staging, judged, loading, locking, loaded, mended, none_stands, record_seen, looked, faulted, saw, too_long, went_on, refused, wanted}
+use Rattle.commit_machine.specs.Machine.{Then, GoOn, Answer, State, Seizing, Looking, Undoing, Placing, Testing, Removing, Extending, Discarding, Unlocking, Erasing, Clearing, Preparing, Publishing, Locking, Loading, Staging, Deciding, Committing, Checking, Releasing, Ended, ToSeize, ToRelease, Reply, Went, Saw, Long, Short, Fault, next, after_reply, unlocking, undoing, removing, extending, tested, place_one, place_known, placing, staging, judged, loading, locking, loaded, mended, none_stands, record_seen, looked, faulted, saw, too_long, went_on, refused, wanted}
 use Rattle.commit_machine.specs.Goes.{IsOf, IsNext, Goes, seizes, releases, reply}
 use Rattle.commit_machine.specs.Lawful.{HasRight}
 use Rattle.commit_machine.specs.Restraints.{RightIsGivenUp}
@@ -50,9 +50,14 @@ module _ (Q : Disk → Type 0) (j : Job) (d : Disk) where
   fair_removing r x xs ls GoOn = tt
   fair_removing r x xs ls (Answer e) = tt
 
+  fair_extending : (r : Record) (x : Item) (xs : List Item) (ls : List (List ℕ)) (th : Then) → Fair Q j (extending r x xs ls th) d
+  fair_extending r x xs ls GoOn = tt
+  fair_extending r x xs ls (Answer e) = tt
+
   fair_place_one : (w : Way) (r : Record) (x : Item) (xs : List Item) (ls : List (List ℕ)) (th : Then) → Fair Q j (place_one w r x xs ls th) d
   fair_place_one way.Replace r x xs ls th = tt
   fair_place_one way.Remove r x xs ls th = fair_removing r x xs ls th
+  fair_place_one (way.Extend at) r x xs ls th = fair_extending r x xs ls th
 
   fair_placing : (r : Record) (xs : List Item) (ls : List (List ℕ)) (th : Then) → Fair Q j (placing r xs ls th) d
   fair_placing r [] ls th = fair_unlocking r ls th
@@ -90,9 +95,14 @@ module _ (Q : Disk → Type 0) (j : Job) (d : Disk) where
   fair_mended found None = tt
   fair_mended found (Some es) = tt
 
+  fair_known : (w : Way) (r : Record) (x : Item) (xs : List Item) (ls : List (List ℕ)) → Fair Q j (place_known w r x xs ls GoOn) d
+  fair_known way.Replace r x xs ls = tt
+  fair_known way.Remove r x xs ls = tt
+  fair_known (way.Extend at) r x xs ls = tt
+
   fair_tested : (r : Record) (x : Item) (xs : List Item) (ls : List (List ℕ)) (c : Option (List ℕ)) → Fair Q j (tested r x xs ls c) d
   fair_tested r x xs ls None = fair_placing r xs ls GoOn
-  fair_tested r x xs ls (Some bytes) = tt
+  fair_tested r x xs ls (Some bytes) = fair_known x.way r (record x { staged = Some bytes }) xs ls
 
   fair_looked : (c : Option (List ℕ)) → Fair Q j (looked j c) d
   fair_looked None = fair_none j.edits
@@ -108,7 +118,9 @@ module _ (Q : Disk → Type 0) (j : Job) (d : Disk) where
   fair_refused (Placing r x xs ls (Answer a)) k = tt
   fair_refused (Testing r x xs ls) k = tt
   fair_refused (Removing r x xs ls GoOn) k = tt
+  fair_refused (Extending r x xs ls GoOn) k = tt
   fair_refused (Removing r x xs ls (Answer a)) k = tt
+  fair_refused (Extending r x xs ls (Answer a)) k = tt
   fair_refused (Discarding r x xs ls GoOn) k = tt
   fair_refused (Discarding r x xs ls (Answer a)) k = tt
   fair_refused (Unlocking r m ns GoOn) k = tt
@@ -152,6 +164,7 @@ module _ (Q : Disk → Type 0) (j : Job) (d : Disk) where
   fair_went (Undoing r m ns ls th) b between k = fair_undoing r ns ls th
   fair_went (Placing r x xs ls th) b between k = fair_placing r xs ls th
   fair_went (Removing r x xs ls th) b between k = tt
+  fair_went (Extending r x xs ls th) b between k = tt
   fair_went (Discarding r x xs ls th) b between k = fair_placing r xs ls th
   fair_went (Unlocking r m ns th) b between k = fair_unlocking r ns th
   fair_went (Erasing r GoOn) b between k = tt
