@@ -52,6 +52,8 @@ loads-of (step.Loading at) r a b h g = tt
 loads-of step.Checking r a b h g = tt
 loads-of s (reply.Went x) a b h g = absurd (h x refl)
 loads-of s reply.Fault a b h g = absurd (g refl)
+loads-of (step.Extending at then.GoOn) r a b h g = absurd a
+loads-of (step.Extending at (then.Answer x)) r a b h g = absurd a
 loads-of (step.Unlocking at e then.GoOn) r a b h g = absurd a
 loads-of (step.Unlocking at e (then.Answer x)) r a b h g = absurd a
 loads-of s r a b h g = absurd a
@@ -297,7 +299,9 @@ module _ (plan : Plan) (old : Place) (q : IsPlace plan old) (safe : IsSafe plan)
         load-step file (step.Loading (at + 1)) (slice_set old.files at file) old.ways old.go now more.0 (length-set old.files at file ∙ q.files_are) (omega (arith, at-some, safe.few)) (λ before after. tt) more.1 (inl more)
     after-loading file now (inr over) =
         let t = over.1 in
-        load-step file (judged_at n t.result) t.made t.ways t.go now (judged-fits t.result t.fits) (t.long ∙ length-set old.files at file ∙ q.files_are) (judged-light t.result) (λ before after. judged-caused before after t.result t.fits) t.is (inr over)
+        let s = t.settles in
+        let is : now ≡ record old { step = judged_at n t.result; files = s.made; ways = s.ways; go = s.go } = t.is ∙ ap (λ (x : Place). (let y : Place = record x { step = judged_at n t.result } in y)) s.is in
+        load-step file (judged_at n t.result) s.made s.ways s.go now (judged-fits t.result s.fits) (s.long ∙ length-set old.files at file ∙ q.files_are) (judged-light t.result) (λ before after. judged-caused before after t.result s.fits) is (inr over)
 
   -- what a look at the record after a failed decision saw
   after-checking : (file : Option (List ℕ)) (now : Place) → old.step ≡ step.Checking → (x : Passed) → PassedSo old.go file x → now ≡ at_step old (step.Releasing (end.Failed x)) → After (reply.Saw file) now
@@ -310,7 +314,7 @@ module _ (plan : Plan) (old : Place) (q : IsPlace plan old) (safe : IsSafe plan)
       subst (λ (z : State). Follows j (at_step old (step.Releasing (end.Failed x))) (saw j z file)) same (check-follows j plan old p q st.hidden st.wanted st.made file (at_step old (step.Releasing (end.Failed x))) x front so refl))
       now is
 
-  -- what a look for the staged file of a removal saw
+  -- what a look for the staged file of a removal or an extension saw
   after-testing : (at : ℕ) (file : Option (List ℕ)) (now : Place) → old.step ≡ step.Testing at → now ≡ record old { step = tested_at (ways_of old) m at (is_some file); seen = file } → After (reply.Saw file) now
   after-testing at file now e is =
       let s = tested_at (ways_of old) m at (is_some file) in

@@ -2,13 +2,14 @@
 use Rattle.std.proofs.Common.{◌≡◌, ℕ, ◌+◌, ◌<◌, Bool, true, false, List, [], ◌∷◌, ◌++◌, Option, Some, None, length, map, take, drop, get_or, is_some, refl, ap, sym, subst, inl, inr, ◌∙◌, arith, if◌then◌else◌}
 use Rattle.commit_record.specs.declared.record.Record.{Record}
 use Rattle.commit_record.specs.declared.way.Way.{Way}
-use Rattle.commit_record.specs.declared.way.Way.TheVariants.{Replace}
+use Rattle.commit_record.specs.declared.way.Way.TheVariants.{Replace, Remove, Extend}
+use Rattle.commit_record.specs.Ways.{way_of}
 use Rattle.commit_machine.specs.Names.{staged_name}
 use Rattle.commit_machine.specs.Records.{is_go, names_of, AreDistinct}
 use Rattle.commit_machine.specs.Jobs.{Ending, Edit, Job, Made, edits_of, all_of, prepare_of, go_of, made_at, way_made}
 use Rattle.commit_machine.specs.Jobs as jobs
 use Rattle.commit_machine.specs.Items.{Item, found_items}
-use Rattle.commit_machine.specs.Machine.{State, locking, loading, staging, unlocking, tested, refusing, went_on, faulted, too_long, mended, none_stands}
+use Rattle.commit_machine.specs.Machine.{State, locking, loading, staging, unlocking, place_known, tested, refusing, went_on, faulted, too_long, mended, none_stands}
 use Rattle.commit_machine.specs.Machine as machine
 use Rattle.commit_driver.specs.declared.step.Recovered.{Recovered}
 use Rattle.commit_driver.specs.declared.step.Recovered.TheVariants as recovered
@@ -17,18 +18,18 @@ use Rattle.commit_driver.specs.declared.step.End.TheVariants as end
 use Rattle.commit_driver.specs.declared.step.Then.{Then}
 use Rattle.commit_driver.specs.declared.step.Then.TheVariants.{GoOn, Answer}
 use Rattle.commit_driver.specs.declared.step.Step.{Step}
-use Rattle.commit_driver.specs.declared.step.Step.TheVariants.{Seizing, Looking, Undoing, Placing, Testing, Removing, Discarding, Unlocking, Erasing, Clearing, Preparing, Publishing, Locking, Loading, Staging, Deciding, Committing, Checking, Releasing, Ended}
+use Rattle.commit_driver.specs.declared.step.Step.TheVariants.{Seizing, Looking, Undoing, Placing, Testing, Removing, Extending, Discarding, Unlocking, Erasing, Clearing, Preparing, Publishing, Locking, Loading, Staging, Deciding, Committing, Checking, Releasing, Ended}
 use Rattle.commit_driver.specs.declared.answers.Reply.TheVariants as reply
 use Rattle.commit_driver.specs.declared.place.Plan.{Plan}
 use Rattle.commit_driver.specs.declared.place.Place.{Place}
-use Rattle.commit_driver.specs.Steps.{Ways, call_at, count_at, passed_end, passed_then, unlocking_at, undoing_at, placing_at, tested_at, faulted_at, long_at, short_at, closed_at, went_at, Fits}
-use Rattle.commit_driver.specs.Places.{nth, files_of, entries_of, ways_of, items_as, nth_item, PlacesSo, passed_as, found_as, end_as, then_as, made_from, names_as, state_as, WantedAs, IsMade, Holds, IsPlan, IsPlace}
+use Rattle.commit_driver.specs.Steps.{Ways, call_at, count_at, passed_end, passed_then, unlocking_at, undoing_at, known_at, placing_at, tested_at, faulted_at, long_at, short_at, closed_at, went_at, Fits}
+use Rattle.commit_driver.specs.Places.{nth, files_of, entries_of, ways_of, nth_item, PlacesSo, passed_as, found_as, end_as, then_as, made_from, names_as, state_as, WantedAs, IsMade, Holds, IsPlan, IsPlace}
 use Rattle.commit_driver.specs.Answers.{IsAnswer}
 use Rattle.commit_driver.proofs.StateLemmas.{drop-some, drop-map, nth-map, take-next, unlocking-view, undoing-view, WaysAre, unlocking-is, unlocking-all, undoing-is, placing-is, locking-is, staging-is}
 use Rattle.commit_machine.proofs.records.Front.{front-taken}
 use Rattle.commit_driver.proofs.WayLemmas.{way-found, way-made, item-made, name-found}
 use Rattle.commit_driver.proofs.NextLemmas.{files-long, edits-long, made-long, names-count}
-use Rattle.commit_driver.proofs.FitLemmas.{of-if, of-unlocking, of-undoing, of-placing, of-locking, of-staging, Loads}
+use Rattle.commit_driver.proofs.FitLemmas.{of-if, of-unlocking, of-undoing, of-known, of-placing, of-locking, of-staging, Loads}
 
 found-same : (b : Bool) → found_as (if b then recovered.Finished else recovered.RolledBack) ≡ (if b then jobs.Finished else jobs.RolledBack)
 found-same true = refl
@@ -94,9 +95,14 @@ module _ (j : Job) (plan : Plan) (place : Place) (hidden : Ending) (made : List 
   ways-are (Answer (end.Recovered f)) h at l = absurd h
   ways-are (Answer e) h at l = absurd h
 
+  known-same : (way : Way) (at : ℕ) (bytes : List ℕ) → state_as j hidden made found (Some bytes) place.files (known_at way at) ≡ place_known way found (record (nth_item (found_items found) at) { staged = Some bytes }) (drop (at + 1) (found_items found)) (names_of found) machine.GoOn
+  known-same Replace at bytes = refl
+  known-same Remove at bytes = refl
+  known-same (Extend stays) at bytes = refl
+
   pub tested-same : (at : ℕ) (file : Option (List ℕ)) → at < entries_of place → state_as j hidden made found file place.files (tested_at (ways_of place) (entries_of place) at (is_some file)) ≡ tested found (nth_item (found_items found) at) (drop (at + 1) (found_items found)) (names_of found) file
   tested-same at None l = placing-is j hidden made found None place.files (ways_of place) (at + 1) (entries_of place) GoOn (count GoOn) (λ k m. way-found found.entries k)
-  tested-same at (Some bytes) l = refl
+  tested-same at (Some bytes) l = known-same (get_or (map way_of found.entries) at Replace) at bytes ∙ ap (λ (w : Way). place_known w found (record (nth_item (found_items found) at) { staged = Some bytes }) (drop (at + 1) (found_items found)) (names_of found) machine.GoOn) (way-found found.entries at)
 
   abbrev Went : Step → Bool → Type 0
   Went s b = at_step (went_at (ways_of place) plan.commits (files_of plan) (entries_of place) (is_go found) s b) ≡ went_on j (at_step s) b
@@ -135,6 +141,7 @@ module _ (j : Job) (plan : Plan) (place : Place) (hidden : Ending) (made : List 
       ∙ sym (ap (λ (s : State). went_on j s b) (undoing-view j hidden made found place.seen place.files at e locks th f.0 (omega (arith, f.1, c))))
   went-same (Placing at th) b f h a = placing-is j hidden made found place.seen place.files (ways_of place) (at + 1) (count_at (files_of plan) (entries_of place) th) th (count th) (ways-are th h)
   went-same (Removing at th) b f h a = refl
+  went-same (Extending at th) b f h a = refl
   went-same (Discarding at th) b f h a = placing-is j hidden made found place.seen place.files (ways_of place) (at + 1) (count_at (files_of plan) (entries_of place) th) th (count th) (ways-are th h)
   went-same (Unlocking at e th) b f h a =
       let c = count th in
@@ -171,6 +178,7 @@ module _ (j : Job) (plan : Plan) (place : Place) (hidden : Ending) (made : List 
     fault-same (Placing at th) f h a = failed-then th
     fault-same (Testing at) f h a = refl
     fault-same (Removing at th) f h a = failed-then th
+    fault-same (Extending at th) f h a = failed-then th
     fault-same (Discarding at th) f h a = failed-then th
     fault-same (Unlocking at e th) f h a = let c = count th in failed-then th ∙ sym (ap faulted (unlocking-view j hidden made found place.seen place.files at e th f.0 (omega (arith, f.1, c))))
     fault-same (Erasing th) f h a = failed-then th
@@ -205,10 +213,10 @@ module _ (j : Job) (plan : Plan) (place : Place) (hidden : Ending) (made : List 
   holds-undoing at e locks th = of-undoing (Holds j made place.files place.ways place.go) at e locks th (λ x. tt) (λ x. tt) tt
 
   pub holds-placing : (ways : Ways) (at e : ℕ) (th : Then) → PlacesSo j made place.files place.ways place.go th → Held (placing_at ways at e th)
-  holds-placing ways at e th h = of-placing (Holds j made place.files place.ways place.go) ways at e th (λ x. record { places = h; tests = λ e. tt; removes = h }) (λ x. tt) tt
+  holds-placing ways at e th h = of-placing (Holds j made place.files place.ways place.go) ways at e th (λ x. record { places = h; tests = λ e. tt; removes = h; extends = h }) (λ x. tt) tt
 
   pub holds-tested : (ways : Ways) (m at : ℕ) (stands : Bool) → Held (tested_at ways m at stands)
-  holds-tested ways m at true = tt
+  holds-tested ways m at true = of-known (Holds j made place.files place.ways place.go) (ways GoOn at) at tt tt
   holds-tested ways m at false = holds-placing ways (at + 1) m GoOn tt
 
   pub holds-unlocking : (at e : ℕ) (th : Then) → Held (unlocking_at at e th)
@@ -224,6 +232,7 @@ module _ (j : Job) (plan : Plan) (place : Place) (hidden : Ending) (made : List 
   holds-went decided (Undoing at e locks th) b h a = holds-undoing (at + 1) e locks th
   holds-went decided (Placing at th) b h a = holds-placing (ways_of place) (at + 1) (count_at (files_of plan) (entries_of place) th) th h
   holds-went decided (Removing at th) b h a = h
+  holds-went decided (Extending at th) b h a = h
   holds-went decided (Discarding at th) b h a = holds-placing (ways_of place) (at + 1) (count_at (files_of plan) (entries_of place) th) th h
   holds-went decided (Unlocking at e th) b h a = holds-unlocking (at + 1) e th
   holds-went decided (Erasing th) b h a = holds-closed decided th

@@ -13,11 +13,11 @@ use Rattle.host_port.specs.declared.host.LoadError.{LoadError}
 use Rattle.host_port.specs.declared.host.LoadError.TheVariants as error
 use Rattle.host_port.specs.Disk.{Disk}
 use Rattle.host_port.specs.Ends.{is_after, is_owner, is_open, cut_short}
-use Rattle.host_port.specs.Calls.{Loaded, Staged, Published, Erased, Locked, Unlocked, Seized, Released}
+use Rattle.host_port.specs.Calls.{Loaded, Staged, Published, Extended, Erased, Locked, Unlocked, Seized, Released}
 use Rattle.host_port.specs.Ran.{Agrees}
 use Rattle.host_port.specs.Own.{own}
-use Rattle.commit_machine.specs.Machine.{Call, ToLoad, ToStage, ToPublish, ToErase, ToLock, ToUnlock, ToSeize, ToRelease, Reply, Went, Fault}
-use Rattle.commit_machine.specs.Goes.{IsOf, loads, stages, stage_fails, publishes, erases, locks, unlocks, seizes, releases, reply}
+use Rattle.commit_machine.specs.Machine.{Call, ToLoad, ToStage, ToPublish, ToExtend, ToErase, ToLock, ToUnlock, ToSeize, ToRelease, Reply, Went, Fault}
+use Rattle.commit_machine.specs.Goes.{IsOf, loads, stages, stage_fails, publishes, extends, extend_fails, erases, locks, unlocks, seizes, releases, reply}
 use Rattle.commit_driver.specs.Did.{Did, DidUnlock, told_reply, done_reply, load_reply}
 use Rattle.commit_driver.specs.Drives.{AnswersSo, Performed}
 
@@ -59,6 +59,14 @@ published from to (Ok done) d e is =
 published from to (Err fault) d e is =
     let P : Event → Type 0 = λ e. Both d e (Did (ToPublish from to) Fault) in
     subst P (sym is.1) (allowed (is_after is.0) (is_some (d.files from)), one (ToPublish from to) (cut_short d (event.Publish from to true false) is.0) publishes)
+
+pub extended : (name : List ℕ) (at : ℕ) (bytes : List ℕ) (r : Result Unit DiskFault) (d : Disk) (e : Event) → Extended name at bytes r d e → Both d e (Did (ToExtend name at bytes) (done_reply r))
+extended name at bytes (Ok u) d e is =
+    let P : Event → Type 0 = λ e. Both d e (Did (ToExtend name at bytes) (Went true)) in
+    subst P (sym is.0) ((λ fine. is.1), one (ToExtend name at bytes) (event.Extend name at bytes false) extends)
+extended name at bytes (Err fault) d e is =
+    let P : Event → Type 0 = λ e. Both d e (Did (ToExtend name at bytes) Fault) in
+    subst P (sym is.1) ((λ fine. absurd (cc)), one (ToExtend name at bytes) (cut_short d (event.Extend name at bytes false) is.0) extend_fails)
 
 pub erased : (name : List ℕ) (r : Result Unit DiskFault) (d : Disk) (e : Event) → Erased name r d e → Both d e (Did (ToErase name) (done_reply r))
 erased name (Ok u) d e is =

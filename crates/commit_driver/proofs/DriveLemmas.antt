@@ -7,13 +7,12 @@ use Rattle.host_port.specs.Names.{IsFileName}
 use Rattle.host_port.specs.declared.event.Event.{Event}
 use Rattle.host_port.specs.declared.event.Event.TheVariants as event
 use Rattle.host_port.specs.declared.event.Seen.TheVariants as seen
-use Rattle.host_port.specs.Disk.{Disk}
 use Rattle.host_port.specs.Calls.{World}
 use Rattle.host_port.specs.Ran.{Ran}
 use Rattle.host_port.proofs.RanLemmas.{Ran-none, Ran-then, Ran-map, rose-on, rose-back}
 use Rattle.folder_change.specs.declared.change.Change.{Change}
 use Rattle.commit_machine.specs.Jobs.{NoMemory, Job}
-use Rattle.commit_machine.specs.Machine.{State, Seizing, Looking, Undoing, Placing, Testing, Removing, Discarding, Unlocking, Erasing, Clearing, Preparing, Publishing, Locking, Loading, Staging, Deciding, Committing, Checking, Releasing, Ended, GoOn, Answer, Reply, Went, Saw, Long, Short, Fault, next, refused, after_reply}
+use Rattle.commit_machine.specs.Machine.{State, Seizing, Looking, Undoing, Placing, Testing, Removing, Extending, Discarding, Unlocking, Erasing, Clearing, Preparing, Publishing, Locking, Loading, Staging, Deciding, Committing, Checking, Releasing, Ended, GoOn, Answer, Reply, Went, Saw, Long, Short, Fault, next, refused, after_reply}
 use Rattle.commit_machine.specs.Machine as machine
 use Rattle.commit_machine.specs.Goes.{IsNext, Goes, reply}
 use Rattle.commit_machine.proofs.runs.Stretches.{stretches_join, refused_twice}
@@ -59,6 +58,7 @@ same-after j (Undoing r n ns ls th) a b h = ap (after_reply j (Undoing r n ns ls
 same-after j (Placing r x xs ls th) a b h = ap (after_reply j (Placing r x xs ls th)) h
 same-after j (Testing r x xs ls) a b h = ap (after_reply j (Testing r x xs ls)) h
 same-after j (Removing r x xs ls th) a b h = ap (after_reply j (Removing r x xs ls th)) h
+same-after j (Extending r x xs ls th) a b h = ap (after_reply j (Extending r x xs ls th)) h
 same-after j (Discarding r x xs ls th) a b h = ap (after_reply j (Discarding r x xs ls th)) h
 same-after j (Erasing r th) a b h = ap (after_reply j (Erasing r th)) h
 same-after j (Clearing f) a b h = ap (after_reply j (Clearing f)) h
@@ -86,6 +86,8 @@ long-seen (event.Stage n c true) = refl
 long-seen (event.Stage n c false) = refl
 long-seen (event.Publish from to done true) = refl
 long-seen (event.Publish from to done false) = refl
+long-seen (event.Extend n at tail true) = refl
+long-seen (event.Extend n at tail false) = refl
 long-seen (event.Erase n done true) = refl
 long-seen (event.Erase n done false) = refl
 long-seen (event.Lock n t got true) = refl
@@ -110,6 +112,7 @@ same-long (machine.ToLoad n) a b h = ap long_reply h
 same-long (machine.ToStage n c) a b h = ap long_reply h
 same-long (machine.ToPublish n m) a b h = ap long_reply h
 same-long (machine.ToErase n) a b h = ap long_reply h
+same-long (machine.ToExtend n at c) a b h = ap long_reply h
 same-long (machine.ToLock n t) a b h = ap long_reply h
 same-long (machine.ToSeize n) a b h = ap long_reply h
 same-long (machine.ToRelease n) a b h = ap long_reply h
@@ -170,6 +173,8 @@ no-call (step.Undoing at e locks th) h = absurd (cc)
 no-call (step.Placing at th) h = absurd (cc)
 no-call (step.Testing at) h = absurd (cc)
 no-call (step.Removing at th) h = absurd (cc)
+no-call (step.Extending at then.GoOn) h = absurd (cc)
+no-call (step.Extending at (then.Answer e)) h = absurd (cc)
 no-call (step.Discarding at th) h = absurd (cc)
 no-call (step.Unlocking at e th) h = absurd (cc)
 no-call (step.Erasing th) h = absurd (cc)
@@ -211,6 +216,7 @@ caused-on : (a b c : ℕ) (s : Step) → b ≤ c → Caused a b s → Caused a c
 caused-on a b c (step.Undoing at e locks th) l h = then-on a b c th l h
 caused-on a b c (step.Placing at th) l h = then-on a b c th l h
 caused-on a b c (step.Removing at th) l h = then-on a b c th l h
+caused-on a b c (step.Extending at th) l h = then-on a b c th l h
 caused-on a b c (step.Discarding at th) l h = then-on a b c th l h
 caused-on a b c (step.Unlocking at e th) l h = then-on a b c th l h
 caused-on a b c (step.Erasing th) l h = then-on a b c th l h

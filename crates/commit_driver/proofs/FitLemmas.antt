@@ -2,14 +2,14 @@
 use Rattle.std.proofs.Common.{◌≡◌, ℕ, ◌+◌, ◌-◌, ◌*◌, ◌<◌, ◌≤◌, Bool, true, false, refl, sym, subst, inl, inr, ◌∙◌, arith, if◌then◌else◌}
 use Rattle.host_port.specs.Calls.{Rose, load_limit}
 use Rattle.commit_record.specs.declared.way.Way.{Way}
-use Rattle.commit_record.specs.declared.way.Way.TheVariants.{Replace, Remove}
+use Rattle.commit_record.specs.declared.way.Way.TheVariants.{Replace, Remove, Extend}
 use Rattle.commit_driver.specs.declared.step.End.TheVariants as end
 use Rattle.commit_driver.specs.declared.step.Then.{Then}
 use Rattle.commit_driver.specs.declared.step.Then.TheVariants.{GoOn, Answer}
 use Rattle.commit_driver.specs.declared.step.Step.{Step}
-use Rattle.commit_driver.specs.declared.step.Step.TheVariants.{Seizing, Looking, Undoing, Placing, Testing, Removing, Discarding, Unlocking, Erasing, Clearing, Preparing, Publishing, Locking, Loading, Staging, Deciding, Committing, Checking, Releasing, Ended}
+use Rattle.commit_driver.specs.declared.step.Step.TheVariants.{Seizing, Looking, Undoing, Placing, Testing, Removing, Extending, Discarding, Unlocking, Erasing, Clearing, Preparing, Publishing, Locking, Loading, Staging, Deciding, Committing, Checking, Releasing, Ended}
 use Rattle.commit_driver.specs.declared.answers.Reply.TheVariants as reply
-use Rattle.commit_driver.specs.Steps.{Ways, call_at, count_at, ThenFits, Fits, unlocking_at, undoing_at, removing_at, place_at, placing_at, tested_at, locking_at, staging_at, faulted_at, long_at, short_at, closed_at, went_at, then_rank, weight}
+use Rattle.commit_driver.specs.Steps.{Ways, call_at, count_at, ThenFits, Fits, unlocking_at, undoing_at, removing_at, extending_at, place_at, known_at, placing_at, tested_at, locking_at, staging_at, faulted_at, long_at, short_at, closed_at, went_at, then_rank, weight}
 use Rattle.commit_driver.specs.Answers.{IsAnswer, settled_then, is_settled, ThenCaused, Caused}
 use Rattle.commit_driver.proofs.StateLemmas.{lt-or}
 
@@ -21,19 +21,31 @@ module _ (P : Step → Type 0) where
   pub of-undoing : (at end locks : ℕ) (th : Then) → (at < end → P (Undoing at end locks th)) → (0 < locks → P (Unlocking 0 locks th)) → P (Erasing th) → P (undoing_at at end locks th)
   of-undoing at end locks th more unlock done = elim (lt-or at end) [ inl y ↦ rw y.1 (more y.0) | inr n ↦ rw n.1 (of-unlocking 0 locks th unlock done) ]
 
-  -- the first step for an entry is a publication, the look for a removal, or the removal
+  -- the first step for an entry is a publication, the look for its staged file, or the removal or extension
   pub record Starts (at : ℕ) (th : Then) : Type 0 where
     pub places : P (Placing at th)
     pub tests : th ≡ GoOn → P (Testing at)
     pub removes : P (Removing at th)
+    pub extends : P (Extending at th)
 
   of-removing : (at : ℕ) (th : Then) → Starts at th → P (removing_at at th)
   of-removing at GoOn s = s.tests refl
   of-removing at (Answer e) s = s.removes
 
+  of-extending : (at : ℕ) (th : Then) → Starts at th → P (extending_at at th)
+  of-extending at GoOn s = s.tests refl
+  of-extending at (Answer e) s = s.extends
+
+  -- or that of an entry whose staged file stands
+  pub of-known : (way : Way) (at : ℕ) → P (Removing at GoOn) → P (Extending at GoOn) → P (known_at way at)
+  of-known Replace at removes extends = removes
+  of-known Remove at removes extends = removes
+  of-known (Extend stays) at removes extends = extends
+
   of-place : (way : Way) (at : ℕ) (th : Then) → Starts at th → P (place_at way at th)
   of-place Replace at th s = s.places
   of-place Remove at th s = of-removing at th s
+  of-place (Extend stays) at th s = of-extending at th s
 
   pub of-placing : (ways : Ways) (at end : ℕ) (th : Then) → (at < end → Starts at th) → (0 < end → P (Unlocking 0 end th)) → P (Erasing th) → P (placing_at ways at end th)
   of-placing ways at end th more unlock done = elim (lt-or at end) [ inl y ↦ rw y.1 (of-place (ways th at) at th (more y.0)) | inr n ↦ rw n.1 (of-unlocking 0 end th unlock done) ]
@@ -59,10 +71,10 @@ found-count : (n m at : ℕ) (th : Then) → at < count_at n m th → th ≡ GoO
 found-count n m at th l e = subst (λ (z : Then). at < count_at n m z) e l
 
 pub fits-placing : (ways : Ways) (n m at : ℕ) (th : Then) → ThenFits n m th → Fits n m (placing_at ways at (count_at n m th) th)
-fits-placing ways n m at th t = of-placing (Fits n m) ways at (count_at n m th) th (λ a. record { places = (a, t); tests = found-count n m at th a; removes = (a, t) }) (λ a. (a, omega arith, t)) t
+fits-placing ways n m at th t = of-placing (Fits n m) ways at (count_at n m th) th (λ a. record { places = (a, t); tests = found-count n m at th a; removes = (a, t); extends = (a, t) }) (λ a. (a, omega arith, t)) t
 
 pub fits-tested : (ways : Ways) (n m at : ℕ) (stands : Bool) → at < m → Fits n m (tested_at ways m at stands)
-fits-tested ways n m at true l = (l, tt)
+fits-tested ways n m at true l = of-known (Fits n m) (ways GoOn at) at (l, tt) (l, tt)
 fits-tested ways n m at false l = fits-placing ways n m (at + 1) GoOn tt
 
 pub fits-staging : (n m at : ℕ) → Fits n m (staging_at at n)
@@ -78,6 +90,7 @@ fits-went ways commits n m decided Seizing false some f a = tt
 fits-went ways commits n m decided (Undoing at end locks th) did some f a = fits-undoing n m (at + 1) end locks th f.1 f.2 f.3
 fits-went ways commits n m decided (Placing at th) did some f a = fits-placing ways n m (at + 1) th f.1
 fits-went ways commits n m decided (Removing at th) did some f a = f
+fits-went ways commits n m decided (Extending at th) did some f a = f
 fits-went ways commits n m decided (Discarding at th) did some f a = fits-placing ways n m (at + 1) th f.1
 fits-went ways commits n m decided (Unlocking at end th) did some f a = fits-unlocking n m (at + 1) end th f.1 f.2
 fits-went ways commits n m decided (Erasing th) did some f a = fits-closed n m decided th f
@@ -127,16 +140,16 @@ under-unlocking k at end th l u = of-unlocking (Under k) at end th (λ a. u) (om
 pub under-undoing : (k at end locks : ℕ) (th : Then) → end ≤ 16 → (then_rank th + 5) * 51 + (16 - at) < k → Under k (undoing_at at end locks th)
 under-undoing k at end locks th l u = of-undoing (Under k) at end locks th (λ a. u) (λ a. omega (arith, u)) (omega (arith, u))
 
--- the look for a removal weighs as much as the publication of a record that was found
+-- the look for a staged file weighs as much as the publication of a record that was found
 under-testing : (k at : ℕ) (th : Then) → (then_rank th + 5) * 51 + (3 * (16 - at) + 2) < k → th ≡ GoOn → Under k (Testing at)
 under-testing k at GoOn u e = u
 under-testing k at (Answer a) u e = absurd (cc)
 
 pub under-placing : (ways : Ways) (k at end : ℕ) (th : Then) → (then_rank th + 5) * 51 + (3 * (16 - at) + 2) < k → Under k (placing_at ways at end th)
-under-placing ways k at end th u = of-placing (Under k) ways at end th (λ a. record { places = u; tests = under-testing k at th u; removes = omega (arith, u) }) (λ a. omega (arith, u)) (omega (arith, u))
+under-placing ways k at end th u = of-placing (Under k) ways at end th (λ a. record { places = u; tests = under-testing k at th u; removes = omega (arith, u); extends = omega (arith, u) }) (λ a. omega (arith, u)) (omega (arith, u))
 
 pub under-tested : (ways : Ways) (m at : ℕ) (stands : Bool) → at < m → m ≤ 16 → Under (weight (Testing at)) (tested_at ways m at stands)
-under-tested ways m at true l few = omega arith
+under-tested ways m at true l few = of-known (Under (weight (Testing at))) (ways GoOn at) at (omega arith) (omega arith)
 under-tested ways m at false l few = under-placing ways (weight (Testing at)) (at + 1) m GoOn (omega (arith, l, few))
 
 pub under-staging : (k at n : ℕ) → 8 * 51 + (16 - at) < k → Under k (staging_at at n)
@@ -161,6 +174,7 @@ lighter-went ways commits n m decided (Undoing at end locks th) did fn fm f a =
 lighter-went ways commits n m decided (Placing at th) did fn fm f a =
     let few = count-few n m th fn fm in let lt = f.0 in under-placing ways (weight (Placing at th)) (at + 1) (count_at n m th) th (omega (arith, few, lt))
 lighter-went ways commits n m decided (Removing at th) did fn fm f a = omega arith
+lighter-went ways commits n m decided (Extending at th) did fn fm f a = omega arith
 lighter-went ways commits n m decided (Discarding at th) did fn fm f a =
     let few = count-few n m th fn fm in let lt = f.0 in under-placing ways (weight (Discarding at th)) (at + 1) (count_at n m th) th (omega (arith, few, lt))
 lighter-went ways commits n m decided (Unlocking at end th) did fn fm f a =
@@ -191,6 +205,7 @@ lighter-fault (Undoing at end locks th) a = omega arith
 lighter-fault (Placing at th) a = omega arith
 lighter-fault (Testing at) a = omega arith
 lighter-fault (Removing at th) a = omega arith
+lighter-fault (Extending at th) a = omega arith
 lighter-fault (Discarding at th) a = omega arith
 lighter-fault (Unlocking at end th) a = omega arith
 lighter-fault (Erasing th) a = omega arith
@@ -236,7 +251,7 @@ kept-testing at GoOn e = refl
 kept-testing at (Answer a) e = absurd (cc)
 
 kept-placing : (ways : Ways) (at end : ℕ) (th : Then) → is_settled (placing_at ways at end th) ≡ false → settled_then th ≡ false
-kept-placing ways at end th e = sym (of-placing (Kept th) ways at end th (λ x. record { places = refl; tests = kept-testing at th; removes = refl }) (λ x. refl) refl) ∙ e
+kept-placing ways at end th e = sym (of-placing (Kept th) ways at end th (λ x. record { places = refl; tests = kept-testing at th; removes = refl; extends = refl }) (λ x. refl) refl) ∙ e
 
 kept-closed : (decided : Bool) (th : Then) → Kept th (closed_at decided th)
 kept-closed decided GoOn = refl
@@ -246,6 +261,7 @@ pub settled-went : (ways : Ways) (commits : Bool) (n m : ℕ) (decided : Bool) (
 settled-went ways commits n m decided (Undoing at end locks th) did a e = sym (of-undoing (Kept th) (at + 1) end locks th (λ x. refl) (λ x. refl) refl) ∙ e
 settled-went ways commits n m decided (Placing at th) did a e = kept-placing ways (at + 1) (count_at n m th) th e
 settled-went ways commits n m decided (Removing at th) did a e = e
+settled-went ways commits n m decided (Extending at th) did a e = e
 settled-went ways commits n m decided (Discarding at th) did a e = kept-placing ways (at + 1) (count_at n m th) th e
 settled-went ways commits n m decided (Unlocking at end th) did a e = sym (of-unlocking (Kept th) (at + 1) end th (λ x. refl) refl) ∙ e
 settled-went ways commits n m decided (Erasing th) did a e = sym (kept-closed decided th) ∙ e
@@ -280,10 +296,10 @@ module _ (before after : ℕ) where
   caused-undoing at end locks th c = of-undoing (Caused before after) at end locks th (λ x. c) (λ x. c) c
 
   pub caused-placing : (ways : Ways) (at end : ℕ) (th : Then) → ThenCaused before after th → Caused before after (placing_at ways at end th)
-  caused-placing ways at end th c = of-placing (Caused before after) ways at end th (λ x. record { places = c; tests = λ e. tt; removes = c }) (λ x. c) c
+  caused-placing ways at end th c = of-placing (Caused before after) ways at end th (λ x. record { places = c; tests = λ e. tt; removes = c; extends = c }) (λ x. c) c
 
   pub caused-tested : (ways : Ways) (m at : ℕ) (stands : Bool) → Caused before after (tested_at ways m at stands)
-  caused-tested ways m at true = tt
+  caused-tested ways m at true = of-known (Caused before after) (ways GoOn at) at tt tt
   caused-tested ways m at false = caused-placing ways (at + 1) m GoOn tt
 
   caused-closed : (decided : Bool) (th : Then) → ThenCaused before after th → Caused before after (closed_at decided th)
@@ -296,6 +312,7 @@ module _ (before after : ℕ) where
   caused-went ways commits n m decided (Undoing at end locks th) did a c = caused-undoing (at + 1) end locks th c
   caused-went ways commits n m decided (Placing at th) did a c = caused-placing ways (at + 1) (count_at n m th) th c
   caused-went ways commits n m decided (Removing at th) did a c = c
+  caused-went ways commits n m decided (Extending at th) did a c = c
   caused-went ways commits n m decided (Discarding at th) did a c = caused-placing ways (at + 1) (count_at n m th) th c
   caused-went ways commits n m decided (Unlocking at end th) did a c = caused-unlocking (at + 1) end th c
   caused-went ways commits n m decided (Erasing th) did a c = caused-closed decided th c

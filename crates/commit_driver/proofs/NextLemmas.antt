@@ -1,35 +1,40 @@
 -- A step's call is the machine's next.
-use Rattle.std.proofs.Common.{◌≡◌, ℕ, zero, suc, ◌+◌, ◌<◌, ◌≤◌, List, [], ◌∷◌, Option, Some, length, map, take, drop, refl, ap, sym, ◌∙◌, arith}
+use Rattle.std.proofs.Common.{◌≡◌, ℕ, zero, suc, ◌+◌, ◌<◌, ◌≤◌, List, [], ◌∷◌, Option, Some, length, map, take, drop, get_or, subst, refl, ap, sym, ◌∙◌, arith}
 use Rattle.std.specs.Option.{option_map}
 use Rattle.folder_change.specs.Outcomes.{bytes_of}
 use Rattle.commit_record.specs.declared.record.Entry.{Entry}
 use Rattle.commit_record.specs.declared.record.Record.{Record}
+use Rattle.commit_record.specs.Ways.{way_of}
 use Rattle.commit_record.specs.declared.way.Way.{Way}
+use Rattle.commit_record.specs.declared.way.Way.TheVariants.{Replace}
 use Rattle.commit_machine.specs.Names.{record_name, new_name, staged_name}
-use Rattle.commit_machine.specs.Records.{names_of}
-use Rattle.commit_machine.specs.Jobs.{Ending, Edit, Job, Made, edits_of, all_of}
-use Rattle.commit_machine.specs.Machine.{State, next, locking, loading, staging}
+use Rattle.commit_machine.specs.Records.{names_of, AreDistinct}
+use Rattle.commit_machine.specs.Jobs.{Ending, Edit, Job, Made, edits_of, all_of, made_at, way_made}
+use Rattle.commit_machine.specs.Machine.{State, stay, next, locking, loading, staging}
+use Rattle.commit_machine.specs.Items.{Item, content_made, made_item, found_items, made_items}
 use Rattle.commit_machine.specs.Machine as machine
 use Rattle.commit_driver.specs.declared.step.End.{End}
 use Rattle.commit_driver.specs.declared.step.End.TheVariants as end
 use Rattle.commit_driver.specs.declared.step.Then.{Then}
 use Rattle.commit_driver.specs.declared.step.Then.TheVariants.{GoOn, Answer}
 use Rattle.commit_driver.specs.declared.step.Step.{Step}
-use Rattle.commit_driver.specs.declared.step.Step.TheVariants.{Seizing, Looking, Undoing, Placing, Testing, Removing, Discarding, Unlocking, Erasing, Clearing, Preparing, Publishing, Locking, Loading, Staging, Deciding, Committing, Checking, Releasing, Ended}
+use Rattle.commit_driver.specs.declared.step.Step.TheVariants.{Seizing, Looking, Undoing, Placing, Testing, Removing, Extending, Discarding, Unlocking, Erasing, Clearing, Preparing, Publishing, Locking, Loading, Staging, Deciding, Committing, Checking, Releasing, Ended}
 use Rattle.commit_driver.specs.declared.place.Plan.{Plan}
 use Rattle.commit_driver.specs.declared.place.Place.{Place}
 use Rattle.commit_driver.specs.Steps.{call_at, count_at, staged_at, file_at, Fits}
-use Rattle.commit_driver.specs.Places.{nth, name_in, content_at, call_in, files_of, entries_of, made_from, own_record, record_as, names_as, items_as, nth_item, item_seen, state_as, IsMade, Holds, IsPlan, IsPlace, NextOf}
+use Rattle.commit_driver.specs.Places.{nth, name_in, content_at, contents_in, PlacesSo, call_in, files_of, entries_of, made_from, own_record, record_as, names_as, items_as, nth_item, item_seen, state_as, IsMade, Holds, IsPlan, IsPlace, NextOf}
 use Rattle.commit_driver.proofs.StateLemmas.{drop-some, nth-drop, nth-map, length-map, unlocking-view, undoing-view}
-use Rattle.commit_driver.proofs.WayLemmas.{name-found, name-made}
+use Rattle.commit_driver.proofs.WayLemmas.{name-found, name-made, way-found, item-made, get-map, made-found}
 
 pub nth-of : (f : List ℕ → List ℕ) (xs : List (List ℕ)) (at : ℕ) → at < length xs → nth (map f xs) at ≡ f (nth xs at)
 nth-of f xs at l = let w = drop-some xs at l in nth-map f xs at w.0 (drop (at + 1) xs) w.1 ∙ ap f (sym (nth-drop xs at w.0 (drop (at + 1) xs) w.1))
 
-content-nth : (files : List (Option (List ℕ))) (at : ℕ) → content_at files at ≡ nth (map bytes_of files) at
-content-nth [] at = refl
-content-nth (f ∷ fs) zero = refl
-content-nth (f ∷ fs) (suc at) = content-nth fs at
+content-nth : (files : List (Option (List ℕ))) (ways : List Way) (at : ℕ) → length ways ≡ length files → content_at files ways at ≡ nth (contents_in files ways) at
+content-nth [] [] at l = refl
+content-nth [] (w ∷ ws) at l = absurd (omega (arith, l))
+content-nth (f ∷ fs) [] at l = absurd (omega (arith, l))
+content-nth (f ∷ fs) (w ∷ ws) zero l = refl
+content-nth (f ∷ fs) (w ∷ ws) (suc at) l = content-nth fs ws at (omega (arith, l))
 
 own-token : (j : Job) (made : List Made) (e : End) → (own_record j made e).token ≡ j.token
 own-token j made end.Done = refl
@@ -120,6 +125,38 @@ module _ (j : Job) (plan : Plan) (place : Place) (hidden : Ending) (made : List 
       ap (λ (n : List ℕ). Some (machine.ToLoad n)) (own-file at ∙ nth-map (λ (e : Edit). e.name) (edits_of j) at w.0 (drop (at + 1) (edits_of j)) w.1)
       ∙ sym (ap (λ (es : List Edit). next j (loading j (made_from (edits_of j) (take at place.files)) es)) w.1)
 
+  -- as many ways are settled as there are files
+  own-long : IsMade j made place.files place.ways place.go → length place.ways ≡ length place.files
+  own-long m = ap length m.ways_are ∙ length-map (λ (x : Made). x.way) made ∙ sym (made-long j plan made place.files place.ways place.go p m) ∙ sym q.files_are
+
+  -- one of what was made is put in place as it was made
+  own-item : (at : ℕ) → at < files_of plan → (m : IsMade j made place.files place.ways place.go) → (w : Made) × (nth_item (made_items j made) at ≡ record { name = w.edit.name; way = w.way; staged = Some w.content }) × (nth (all_of j) at ≡ w.edit.name) × (get_or place.ways at Replace ≡ w.way) × (content_at place.files place.ways at ≡ w.content)
+  own-item at l m =
+      let w = drop-some made at (omega (arith, l, made-long j plan made place.files place.ways place.go p m)) in
+      let rest = drop (at + 1) made in
+      let name : nth (all_of j) at ≡ w.0.edit.name = ap (λ (ns : List (List ℕ)). nth ns at) (sym m.names_are) ∙ nth-map (λ (x : Made). x.edit.name) made at w.0 rest w.1 in
+      let found : made_at made (nth (all_of j) at) ≡ Some w.0 = ap (made_at made) name ∙ made-found made at w.0 rest (subst AreDistinct (sym m.names_are) m.distinct) w.1 in
+      let item : nth_item (made_items j made) at ≡ made_item made (nth (all_of j) at) = item-made made (all_of j) at (omega (arith, l, files-long j plan p)) in
+      let so : made_item made (nth (all_of j) at) ≡ record { name = nth (all_of j) at; way = w.0.way; staged = Some w.0.content } = ap (λ (o : Option Made). (let x : Item = record { name = nth (all_of j) at; way = way_made o; staged = content_made o } in x)) found in (
+        w.0,
+        item ∙ so ∙ ap (λ (n : List ℕ). (let x : Item = record { name = n; way = w.0.way; staged = Some w.0.content } in x)) name,
+        name,
+        ap (λ (ws : List Way). get_or ws at Replace) m.ways_are ∙ get-map (λ (x : Made). x.way) Replace made at w.0 rest w.1,
+        content-nth place.files place.ways at (own-long m) ∙ ap (λ (ns : List (List ℕ)). nth ns at) m.contents_are ∙ nth-map (λ (x : Made). x.content) made at w.0 rest w.1,
+      )
+
+  next-extending : (at : ℕ) (th : Then) → at < count_at (files_of plan) (entries_of place) th → PlacesSo j made place.files place.ways place.go th → Same (Extending at th)
+  next-extending at GoOn l h =
+      ap (λ (n : List ℕ). Some (machine.ToExtend n (stay (get_or (map way_of found.entries) at Replace)) (bytes_of place.seen))) (sym (item-name GoOn at))
+      ∙ ap (λ (w : Way). Some (machine.ToExtend (nth_item (found_items found) at).name (stay w) (bytes_of place.seen))) (way-found found.entries at)
+  next-extending at (Answer end.Done) l m =
+      let w = own-item at l m in
+      ap (λ (n : List ℕ). Some (machine.ToExtend n (stay (get_or place.ways at Replace)) (content_at place.files place.ways at))) (own-file at ∙ w.2)
+      ∙ ap (λ (v : Way). Some (machine.ToExtend w.0.edit.name (stay v) (content_at place.files place.ways at))) w.3
+      ∙ ap (λ (b : List ℕ). Some (machine.ToExtend w.0.edit.name (stay w.0.way) b)) w.4
+      ∙ sym (ap (λ (x : Item). Some (machine.ToExtend x.name (stay x.way) (bytes_of x.staged))) w.1)
+  next-extending at (Answer e) l h = absurd h
+
   next-staging : (at : ℕ) → at < files_of plan → IsMade j made place.files place.ways place.go → Same (Staging at)
   next-staging at l m =
       let w = drop-some made at (omega (arith, l, made-long j plan made place.files place.ways place.go p m)) in
@@ -128,10 +165,10 @@ module _ (j : Job) (plan : Plan) (place : Place) (hidden : Ending) (made : List 
       ∙ nth-of (staged_name j.token) (all_of j) at (omega (arith, l, files-long j plan p))
       ∙ ap (staged_name j.token) (ap (λ (ns : List (List ℕ)). nth ns at) (sym m.names_are) ∙ nth-map (λ (x : Made). x.edit.name) made at w.0 (drop (at + 1) made) w.1)
       in
-      let content : content_at place.files at ≡ w.0.content =
-      content-nth place.files at ∙ ap (λ (ns : List (List ℕ)). nth ns at) m.contents_are ∙ nth-map (λ (x : Made). x.content) made at w.0 (drop (at + 1) made) w.1
+      let content : content_at place.files place.ways at ≡ w.0.content =
+      content-nth place.files place.ways at (own-long m) ∙ ap (λ (ns : List (List ℕ)). nth ns at) m.contents_are ∙ nth-map (λ (x : Made). x.content) made at w.0 (drop (at + 1) made) w.1
       in
-      ap (λ (n : List ℕ). Some (machine.ToStage n (content_at place.files at))) name
+      ap (λ (n : List ℕ). Some (machine.ToStage n (content_at place.files place.ways at))) name
       ∙ ap (λ (b : List ℕ). Some (machine.ToStage (staged_name j.token w.0.edit.name) b)) content
       ∙ sym (ap (λ (ms : List Made). next j (staging (take at (all_of j)) made ms)) w.1)
 
@@ -148,6 +185,7 @@ module _ (j : Job) (plan : Plan) (place : Place) (hidden : Ending) (made : List 
   next-same (Placing at th) f h = next-placing at th (omega (arith, f.0, names-count th))
   next-same (Testing at) f h = next-testing at (omega (arith, f, names-count GoOn))
   next-same (Removing at th) f h = next-removing at th
+  next-same (Extending at th) f h = next-extending at th f.0 h
   next-same (Discarding at th) f h = next-discarding at th (omega (arith, f.0, names-count th))
   next-same (Unlocking at end th) f h = next-unlocking at end th f.0 (omega (arith, f.1, names-count th))
   next-same (Erasing th) f h = ap (λ (n : List ℕ). Some (machine.ToErase n)) p.record_is

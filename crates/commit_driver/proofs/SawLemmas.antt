@@ -22,16 +22,16 @@ use Rattle.commit_record.specs.declared.record.Phase.TheVariants.{Go}
 use Rattle.commit_record.specs.declared.record.Entry.{Entry}
 use Rattle.commit_record.specs.declared.record.Record.{Record}
 use Rattle.commit_record.specs.declared.way.Way.{Way}
-use Rattle.commit_record.specs.declared.way.Way.TheVariants.{Replace, Remove}
+use Rattle.commit_record.specs.declared.way.Way.TheVariants.{Replace, Remove, Extend}
 use Rattle.commit_machine.specs.Records.{is_go, names_of, record_of, has, AreDistinct}
 use Rattle.commit_machine.specs.Items.{Item, found_items}
 use Rattle.commit_machine.specs.Settled.{Files, Mem}
 use Rattle.commit_machine.specs.Jobs.{Ending, NoMemory, Refused, Edit, Job, Made, edits_of, all_of, go_of, made_at, way_made, entries_for, seen_files}
 use Rattle.commit_machine.specs.Jobs as jobs
-use Rattle.commit_machine.specs.Edits.{first_names, edit_for, edits_for, outcome_for, cause_of}
-use Rattle.commit_machine.specs.Machine.{State, GoOn, loading, staging, unlocking, undoing, placing, place_one, tested, refusing, judged, mending, record_seen, looked, saw, refused, none_stands, passed_by, go_front}
+use Rattle.commit_machine.specs.Edits.{only_adds, first_names, edit_for, edits_for, outcome_for, cause_of}
+use Rattle.commit_machine.specs.Machine.{State, GoOn, stay, loading, staging, unlocking, undoing, placing, place_one, tested, refusing, judged, mending, record_seen, looked, saw, refused, none_stands, passed_by, go_front}
 use Rattle.commit_machine.specs.Machine as machine
-use Rattle.commit_machine.proofs.records.InFile.{record_of-written, record_of-is, valid-names}
+use Rattle.commit_machine.proofs.records.InFile.{record_of-written, record_of-is}
 use Rattle.commit_machine.proofs.records.Same.{same_refl, same_false}
 use Rattle.commit_driver.specs.declared.step.Passed.{Passed}
 use Rattle.commit_driver.specs.declared.step.Passed.TheVariants as passed
@@ -47,7 +47,7 @@ use Rattle.commit_driver.specs.declared.place.Plan.{Plan}
 use Rattle.commit_driver.specs.declared.place.Place.{Place}
 use Rattle.commit_driver.specs.Steps.{unlocking_at, tested_at}
 use Rattle.commit_driver.specs.Judging.{JudgesSo}
-use Rattle.commit_driver.specs.Places.{nth, files_of, entries_of, file_way, ways_in, ways_of, nth_item, decided_entries, decided_record, outcome_way, passed_as, made_by, made_from, outcome_content, state_as, end_as, own_record, MayHide, WantedAs, IsMade, Holds, IsPlan, IsPlace, StandsFor}
+use Rattle.commit_driver.specs.Places.{nth, files_of, entries_of, tail_at, tails_for, file_way, file_ways, contents_in, ways_in, ways_of, nth_item, decided_entries, decided_record, outcome_way, passed_as, made_by, made_from, outcome_content, state_as, end_as, own_record, MayHide, WantedAs, IsMade, Holds, IsPlan, IsPlace, StandsFor}
 use Rattle.commit_driver.specs.Answers.{mending_at, judged_at, Finds, PassedSo, at_step, LooksAt, Looks, TakesAll, Takes, IsCommitOf, Follows}
 use Rattle.commit_driver.proofs.StateLemmas.{drop-some, length-map, none-left, loaded-by, made-more, placing-is, undoing-is, unlocking-all, staging-is}
 use Rattle.commit_driver.proofs.WayLemmas.{way-found, ways-by-name, decided-are}
@@ -67,6 +67,7 @@ refused-undoing j r (n ∷ ns) ls = refl
 refused-one : (j : Job) (way : Way) (r : Record) (x : Item) (xs : List Item) (ls : List (List ℕ)) → refused j (place_one way r x xs ls GoOn) ≡ machine.Releasing NoMemory
 refused-one j Replace r x xs ls = refl
 refused-one j Remove r x xs ls = refl
+refused-one j (Extend at) r x xs ls = refl
 
 refused-placing : (j : Job) (r : Record) (xs : List Item) (ls : List (List ℕ)) → refused j (placing r xs ls GoOn) ≡ machine.Releasing NoMemory
 refused-placing j r [] ls = refused-unlocking j r ls
@@ -195,27 +196,52 @@ seen-all (e ∷ es) (f ∷ fs) l d =
     let one : seen_files (x ∷ xs) e.name ≡ f = rw (same_refl e.name) refl in
     ap (λ (gs : List (Option (List ℕ))). f ∷ gs) (seen-all es fs (omega (arith, l)) d.1 ∙ sym (seen-later x xs names d.0)) ∙ ap (λ (g : Option (List ℕ)). g ∷ map (seen_files (x ∷ xs)) names) (sym one)
 
-way-is : (o : Option (List ℕ)) → outcome_way (outcome_for o) ≡ file_way o
-way-is None = refl
-way-is (Some b) = refl
+way-is : (adds : Bool) (seen now : Option (List ℕ)) → outcome_way (outcome_for adds seen now) ≡ file_way now (tail_at adds seen)
+way-is adds seen None = refl
+way-is false seen (Some bytes) = refl
+way-is true None (Some bytes) = refl
+way-is true (Some old) (Some bytes) = go (nat_le (length old) load_limit)
+  where
+    go : (b : Bool) → outcome_way (if b then jobs.Puts (Extend (length old)) (drop (length old) bytes) else jobs.Puts Replace bytes) ≡ file_way (Some bytes) (if b then Some (length old) else None)
+    go true = refl
+    go false = refl
+
+-- what the changes make of a file that was loaded so
+abbrev made_of : List Change → List (List ℕ) → Files → List ℕ → Option (List ℕ)
+made_of changes base files n = apply changes base (λ m. files n) n
 
 -- how files come to be is by what the changes make of them
-ways-are : (changes : List Change) (base : List (List ℕ)) (files : Files) (ns : List (List ℕ)) → map file_way (map (apply changes base files) ns) ≡ map (λ (x : Made). x.way) (made_from (map (edit_for changes base) ns) (map files ns))
+ways-are : (changes : List Change) (base : List (List ℕ)) (files : Files) (ns : List (List ℕ))
+    → file_ways (map (apply changes base files) ns) (tails_for changes ns (map files ns)) ≡ map (λ (x : Made). x.way) (made_from (map (edit_for changes base) ns) (map files ns))
 ways-are changes base files [] = refl
 ways-are changes base files (n ∷ ns) =
-    ap (λ (k : Way). k ∷ map file_way (map (apply changes base files) ns)) (ap file_way (apply-alone changes base files (λ m. files n) n refl) ∙ sym (way-is (apply changes base (λ m. files n) n)))
-    ∙ ap (λ (ks : List Way). outcome_way (outcome_for (apply changes base (λ m. files n) n)) ∷ ks) (ways-are changes base files ns)
+    let adds = only_adds changes n in
+    let rest = file_ways (map (apply changes base files) ns) (tails_for changes ns (map files ns)) in
+    ap (λ (f : Option (List ℕ)). file_way f (tail_at adds (files n)) ∷ rest) (apply-alone changes base files (λ m. files n) n refl)
+    ∙ ap (λ (k : Way). k ∷ rest) (sym (way-is adds (files n) (made_of changes base files n)))
+    ∙ ap (λ (ks : List Way). outcome_way (outcome_for adds (files n) (made_of changes base files n)) ∷ ks) (ways-are changes base files ns)
 
-content-is : (o : Option (List ℕ)) → outcome_content (outcome_for o) ≡ bytes_of o
-content-is None = refl
-content-is (Some b) = refl
+content-is : (adds : Bool) (seen now : Option (List ℕ)) → outcome_content (outcome_for adds seen now) ≡ drop (stay (file_way now (tail_at adds seen))) (bytes_of now)
+content-is adds seen None = refl
+content-is false seen (Some bytes) = refl
+content-is true None (Some bytes) = refl
+content-is true (Some old) (Some bytes) = go (nat_le (length old) load_limit)
+  where
+    go : (b : Bool) → outcome_content (if b then jobs.Puts (Extend (length old)) (drop (length old) bytes) else jobs.Puts Replace bytes) ≡ drop (stay (file_way (Some bytes) (if b then Some (length old) else None))) bytes
+    go true = refl
+    go false = refl
 
 -- what is staged for files is what the changes make of them
-contents-are : (changes : List Change) (base : List (List ℕ)) (files : Files) (ns : List (List ℕ)) → map bytes_of (map (apply changes base files) ns) ≡ map (λ (x : Made). x.content) (made_from (map (edit_for changes base) ns) (map files ns))
+contents-are : (changes : List Change) (base : List (List ℕ)) (files : Files) (ns : List (List ℕ))
+    → contents_in (map (apply changes base files) ns) (file_ways (map (apply changes base files) ns) (tails_for changes ns (map files ns))) ≡ map (λ (x : Made). x.content) (made_from (map (edit_for changes base) ns) (map files ns))
 contents-are changes base files [] = refl
 contents-are changes base files (n ∷ ns) =
-    ap (λ (b : List ℕ). b ∷ map bytes_of (map (apply changes base files) ns)) (ap bytes_of (apply-alone changes base files (λ m. files n) n refl) ∙ sym (content-is (apply changes base (λ m. files n) n)))
-    ∙ ap (λ (bs : List (List ℕ)). outcome_content (outcome_for (apply changes base (λ m. files n) n)) ∷ bs) (contents-are changes base files ns)
+    let adds = only_adds changes n in
+    let now = map (apply changes base files) ns in
+    let rest = contents_in now (file_ways now (tails_for changes ns (map files ns))) in
+    ap (λ (f : Option (List ℕ)). drop (stay (file_way f (tail_at adds (files n)))) (bytes_of f) ∷ rest) (apply-alone changes base files (λ m. files n) n refl)
+    ∙ ap (λ (b : List ℕ). b ∷ rest) (sym (content-is adds (files n) (made_of changes base files n)))
+    ∙ ap (λ (bs : List (List ℕ)). outcome_content (outcome_for adds (files n) (made_of changes base files n)) ∷ bs) (contents-are changes base files ns)
 
 -- a refusal names a file of the changes
 hide-one : (names : List (List ℕ)) (name : List ℕ) (o : Result (Option (List ℕ)) ℕ) (r : ChangeRefusal) → Mem name names → refusal_of name o ≡ Some r → MayHide names (cause_of r)
@@ -277,19 +303,34 @@ module _ (j : Job) (plan : Plan) (old : Place) (p : IsPlan j plan) (q : IsPlace 
     all-are : all_of j ≡ first_names cs
     all-are = ap (map (λ (e : Edit). e.name)) edits-are ∙ edit-names (first_names cs)
 
-    contents-made : (now : List (Option (List ℕ))) → now ≡ map (apply cs base F) (all_of j) → map bytes_of now ≡ map (λ (x : Made). x.content) all-made
-    contents-made now is =
-        ap (map bytes_of) (is ∙ ap (map (apply cs base F)) all-are)
-        ∙ contents-are cs base F (first_names cs)
-        ∙ ap (λ (fs : List (Option (List ℕ))). map (λ (x : Made). x.content) (made_from (map (edit_for cs base) (first_names cs)) fs)) (sym (seen-are ∙ ap (map F) all-are))
-        ∙ ap (λ (es : List Edit). map (λ (x : Made). x.content) (made_from es files)) (sym edits-are)
+    -- the files as they are to be, and how they come to be
+    abbrev now-files : List (List ℕ) → List (Option (List ℕ))
+    now-files ns = map (apply cs base F) ns
 
-    ways-made : (now : List (Option (List ℕ))) → now ≡ map (apply cs base F) (all_of j) → map file_way now ≡ map (λ (x : Made). x.way) all-made
-    ways-made now is =
-        ap (map file_way) (is ∙ ap (map (apply cs base F)) all-are)
-        ∙ ways-are cs base F (first_names cs)
-        ∙ ap (λ (fs : List (Option (List ℕ))). map (λ (x : Made). x.way) (made_from (map (edit_for cs base) (first_names cs)) fs)) (sym (seen-are ∙ ap (map F) all-are))
-        ∙ ap (λ (es : List Edit). map (λ (x : Made). x.way) (made_from es files)) (sym edits-are)
+    abbrev now-ways : List (List ℕ) → List Way
+    now-ways ns = file_ways (now-files ns) (tails_for cs ns (map F ns))
+
+    made-by-name : {B : Type 0} (f : Made → B) → map f (made_from (map (edit_for cs base) (first_names cs)) (map F (first_names cs))) ≡ map f all-made
+    made-by-name f =
+        ap (λ (fs : List (Option (List ℕ))). map f (made_from (map (edit_for cs base) (first_names cs)) fs)) (sym (seen-are ∙ ap (map F) all-are))
+        ∙ ap (λ (es : List Edit). map f (made_from es files)) (sym edits-are)
+
+    -- the ways are by the names of the files
+    ways-by : (now : List (Option (List ℕ))) → now ≡ map (apply cs base F) (all_of j) → file_ways now (tails_for cs (names_of plan.value) files) ≡ now-ways (first_names cs)
+    ways-by now is =
+        ap (λ (fs : List (Option (List ℕ))). file_ways fs (tails_for cs (names_of plan.value) files)) (is ∙ ap (map (apply cs base F)) all-are)
+        ∙ ap (λ (ns : List (List ℕ)). file_ways (now-files (first_names cs)) (tails_for cs ns files)) (p.names_are ∙ all-are)
+        ∙ ap (λ (fs : List (Option (List ℕ))). file_ways (now-files (first_names cs)) (tails_for cs (first_names cs) fs)) (seen-are ∙ ap (map F) all-are)
+
+    contents-made : (now : List (Option (List ℕ))) (ways : List Way) → now ≡ map (apply cs base F) (all_of j) → ways ≡ file_ways now (tails_for cs (names_of plan.value) files) → contents_in now ways ≡ map (λ (x : Made). x.content) all-made
+    contents-made now ways is so =
+        ap (λ (ws : List Way). contents_in now ws) (so ∙ ways-by now is)
+        ∙ ap (λ (fs : List (Option (List ℕ))). contents_in fs (now-ways (first_names cs))) (is ∙ ap (map (apply cs base F)) all-are)
+        ∙ contents-are cs base F (first_names cs)
+        ∙ made-by-name (λ (x : Made). x.content)
+
+    ways-made : (now : List (Option (List ℕ))) → now ≡ map (apply cs base F) (all_of j) → file_ways now (tails_for cs (names_of plan.value) files) ≡ map (λ (x : Made). x.way) all-made
+    ways-made now is = ways-by now is ∙ ways-are cs base F (first_names cs) ∙ made-by-name (λ (x : Made). x.way)
 
     -- the record of the decision is that of what was made
     go-made : (ways : List Way) → ways ≡ map (λ (x : Made). x.way) all-made → 0 < files_of plan → decided_record plan.value ways ≡ go_of j all-made
@@ -322,7 +363,7 @@ module _ (j : Job) (plan : Plan) (old : Place) (p : IsPlan j plan) (q : IsPlace 
     no-memory done [] l = absurd (omega (arith, l))
     no-memory done (x ∷ left) l = refl
 
-    judged-follows : (result : Result Unit Trouble) (fs : List (Option (List ℕ))) (ws : List Way) (go : List ℕ) → (result ≡ Ok tt → ws ≡ map file_way fs) → (result ≡ Ok tt → go ≡ written (decided_record plan.value ws)) → 0 < files_of plan → JudgesSo cs base (names_of plan.value) F result fs → Follows j (Now (judged_at (files_of plan) result) fs ws go) (Judged (j.refusal F))
+    judged-follows : (result : Result Unit Trouble) (fs : List (Option (List ℕ))) (ws : List Way) (go : List ℕ) → (result ≡ Ok tt → ws ≡ file_ways fs (tails_for cs (names_of plan.value) files)) → (result ≡ Ok tt → go ≡ written (decided_record plan.value ws)) → 0 < files_of plan → JudgesSo cs base (names_of plan.value) F result fs → Follows j (Now (judged_at (files_of plan) result) fs ws go) (Judged (j.refusal F))
     judged-follows (Ok u) fs ws go ways_are go_is some so =
         let none : j.refusal F ≡ None = refusal-is ∙ ap (option_map cause_of) so.0 in
         let made_so : fs ≡ map (apply cs base F) (all_of j) = so.1 ∙ ap (map (apply cs base F)) p.names_are in
@@ -331,7 +372,7 @@ module _ (j : Job) (plan : Plan) (old : Place) (p : IsPlan j plan) (q : IsPlace 
           distinct = (p.texts_are some-edits).distinct;
           names_are = names-made;
           ways_are = ways_so;
-          contents_are = contents-made fs made_so;
+          contents_are = contents-made fs ws made_so (ways_are refl);
           go_is = go_is refl ∙ ap written (go-made ws ways_so some);
         } in (
           staging [] all-made all-made,
@@ -366,7 +407,9 @@ module _ (j : Job) (plan : Plan) (old : Place) (p : IsPlan j plan) (q : IsPlace 
         let D : List (List ℕ) → Type 0 = λ ns. AreDistinct ns in
         let distinct = subst D (sym p.names_are) (p.texts_are some-edits).distinct in
         let seen = seen-are ∙ ap (map F) (sym p.names_are) in
-        subst (λ (x : Place). Follows j x (Judged (j.refusal F))) (sym t.is) (judged-follows t.result t.made t.ways t.go t.ways_are t.go_is some (t.judged F distinct seen))
+        let s = t.settles in
+        let at : now ≡ Now (judged_at (files_of plan) t.result) s.made s.ways s.go = t.is ∙ ap (λ (x : Place). (let y : Place = record x { step = judged_at (files_of plan) t.result } in y)) s.is in
+        subst (λ (x : Place). Follows j x (Judged (j.refusal F))) (sym at) (judged-follows t.result s.made s.ways s.go s.ways_are s.go_is some (s.judged F distinct seen))
 
   -- a file was loaded
   pub take-follows : (at : ℕ) (file : Option (List ℕ)) (now : Place) → at < files_of plan → Takes plan at file cs base old now → Follows j now (saw j (state_as j hidden made old.found old.seen old.files (step.Loading at)) file)

@@ -6,7 +6,7 @@ use Rattle.std.proofs.lemmas.List.{take_all, drop_all}
 use Rattle.commit_record.specs.declared.record.Entry.{Entry}
 use Rattle.commit_record.specs.declared.record.Record.{Record}
 use Rattle.commit_record.specs.declared.way.Way.{Way}
-use Rattle.commit_record.specs.declared.way.Way.TheVariants.{Replace, Remove}
+use Rattle.commit_record.specs.declared.way.Way.TheVariants.{Replace, Remove, Extend}
 use Rattle.commit_machine.specs.Jobs.{Ending, Outcome, Puts, Edit, Job, Made, edits_of, all_of}
 use Rattle.commit_machine.specs.Items.{Item, found_item, made_item}
 use Rattle.commit_machine.specs.Machine.{State, unlocking, undoing, placing, place_one, locking, loading, loaded, staging}
@@ -146,6 +146,8 @@ module _ (j : Job) (hidden : Ending) (made : List Made) (found : Record) (seen :
   place-is Replace at th = refl
   place-is Remove at GoOn = refl
   place-is Remove at (Answer e) = refl
+  place-is (Extend stays) at GoOn = refl
+  place-is (Extend stays) at (Answer e) = refl
 
   -- the ways are those of what is put in place
   abbrev pub WaysAre : Ways → Then → ℕ → Type 0

@@ -1,9 +1,9 @@
 -- How files come to be, by their numbers and by their names.
-use Rattle.std.proofs.Common.{◌≡◌, ℕ, zero, suc, ◌+◌, ◌<◌, Bool, true, false, not, ◌&&◌, ◌||◌, List, [], ◌∷◌, ◌++◌, length, map, take, get_or, refl, ap, sym, subst, inl, inr, ◌∙◌, add-one, arith}
+use Rattle.std.proofs.Common.{◌≡◌, ℕ, zero, suc, ◌+◌, ◌<◌, Bool, true, false, not, ◌&&◌, ◌||◌, List, [], ◌∷◌, ◌++◌, length, map, take, drop, get_or, Option, Some, refl, ap, sym, subst, inl, inr, ◌∙◌, add-one, arith}
 use Rattle.std.specs.Str.{bytes_eq}
 use Rattle.std.specs.List.{list_all, list_any}
 use Rattle.commit_record.specs.Names.{is_lawful}
-use Rattle.commit_record.specs.Format.{are_distinct, fit_phase, is_valid}
+use Rattle.commit_record.specs.Format.{are_distinct, fits_kind, fit_phase, is_valid}
 use Rattle.commit_record.specs.Ways.{way_of, entry_for}
 use Rattle.commit_record.specs.declared.record.Record.{Record}
 use Rattle.commit_record.specs.declared.record.Entry.{Entry}
@@ -11,12 +11,14 @@ use Rattle.commit_record.specs.declared.way.Way.{Way}
 use Rattle.commit_record.specs.declared.way.Way.TheVariants.{Replace}
 use Rattle.commit_machine.specs.Records.{has, AreDistinct}
 use Rattle.commit_machine.specs.Settled.{Mem}
-use Rattle.commit_machine.specs.Items.{Item, found_item, made_item}
+use Rattle.commit_machine.specs.Edits.{only_adds}
+use Rattle.folder_change.specs.declared.change.Change.{Change}
+use Rattle.commit_machine.specs.Items.{found_item, made_item}
 use Rattle.commit_machine.specs.Jobs.{Made, entries_for, made_at, way_made}
 use Rattle.commit_machine.proofs.records.Same.{same_refl, same_false, Mem_has}
-use Rattle.commit_machine.proofs.records.OfItems.{name-entry_for}
+use Rattle.commit_machine.proofs.records.OfItems.{name-entry_for, fits-entry_for}
 use Rattle.commit_machine.proofs.records.OfJob.{tests, any-phase}
-use Rattle.commit_driver.specs.Places.{nth, nth_item, decided_entries, decided_record}
+use Rattle.commit_driver.specs.Places.{nth, nth_item, tail_at, tails_for, file_way, file_ways, decided_entries, decided_record}
 
 nth-Mem : (ns : List (List ℕ)) (at : ℕ) → at < length ns → Mem (nth ns at) ns
 nth-Mem [] at l = absurd (omega (arith, l))
@@ -137,12 +139,76 @@ decided-distinct (e ∷ es) (w ∷ ws) l =
     ∙ ap (λ (b : Bool). not b && are_distinct (decided_entries es ws)) (decided-any e.name es ws (omega (arith, l)))
     ∙ ap (λ (b : Bool). not (list_any (λ (o : Entry). bytes_eq e.name o.name) es) && b) (decided-distinct es ws (omega (arith, l)))
 
+decided-kinds : (es : List Entry) (ways : List Way) → list_all fits_kind (decided_entries es ways) ≡ true
+decided-kinds [] ways = refl
+decided-kinds (e ∷ es) [] = refl
+decided-kinds (e ∷ es) (w ∷ ws) = rw (fits-entry_for w e.name, decided-kinds es ws) refl
+
 -- the record of the decision is valid
 pub decided-valid : (value : Record) (ways : List Way) → length ways ≡ length value.entries → is_valid value ≡ true → is_valid (decided_record value ways) ≡ true
 decided-valid value ways l h =
     let es = value.entries in
     let ds = decided_entries es ways in
-    ap (λ (n : ℕ). tests n (list_all (λ (e : Entry). is_lawful e.name) ds) (are_distinct ds && true)) (decided-long es ways l)
+    ap (λ (b : Bool). tests (length ds) (list_all (λ (e : Entry). is_lawful e.name) ds) (are_distinct ds && (b && true))) (decided-kinds es ways)
+    ∙ ap (λ (n : ℕ). tests n (list_all (λ (e : Entry). is_lawful e.name) ds) (are_distinct ds && true)) (decided-long es ways l)
     ∙ ap (λ (b : Bool). tests (length es) b (are_distinct ds && true)) (decided-lawful es ways l)
     ∙ ap (λ (b : Bool). tests (length es) (list_all (λ (e : Entry). is_lawful e.name) es) (b && true)) (decided-distinct es ways l)
-    ∙ any-phase (length es) (list_all (λ (e : Entry). is_lawful e.name) es) (are_distinct es) (fit_phase value.phase es) h
+    ∙ any-phase (length es) (list_all (λ (e : Entry). is_lawful e.name) es) (are_distinct es) (list_all fits_kind es && fit_phase value.phase es) h
+
+-- a value of one of a list
+pub get-map : {A B : Type 0} (f : A → B) (d : B) (xs : List A) (at : ℕ) (x : A) (ys : List A) → drop at xs ≡ x ∷ ys → get_or (map f xs) at d ≡ f x
+get-map f d [] zero x ys e = absurd (let h : [] ≡ x ∷ ys = e in cc)
+get-map f d [] (suc at) x ys e = absurd (let h : [] ≡ x ∷ ys = e in cc)
+get-map f d (z ∷ zs) zero x ys e = ap f (let same : z ≡ x = cc in same)
+get-map f d (z ∷ zs) (suc at) x ys e = get-map f d zs at x ys e
+
+-- one of what was made is what is found for its name
+pub made-found : (made : List Made) (at : ℕ) (x : Made) (ys : List Made) → AreDistinct (map (λ (x : Made). x.edit.name) made) → drop at made ≡ x ∷ ys → made_at made x.edit.name ≡ Some x
+made-found [] zero x ys d e = absurd (let h : [] ≡ x ∷ ys = e in cc)
+made-found [] (suc at) x ys d e = absurd (let h : [] ≡ x ∷ ys = e in cc)
+made-found (z ∷ zs) zero x ys d e = let same : z ≡ x = cc in let here = same_refl x.edit.name in subst (λ (w : Made). made_at (w ∷ zs) x.edit.name ≡ Some x) (sym same) (rw here refl)
+made-found (z ∷ zs) (suc at) x ys d e =
+    let ns = map (λ (y : Made). y.edit.name) zs in
+    let among : Mem x.edit.name ns = subst (λ (n : List ℕ). Mem n ns) (get-map (λ (y : Made). y.edit.name) [] zs at x ys e) (nth-Mem ns at (below zs at x ys e)) in
+    let other = behind z.edit.name x.edit.name ns d.0 among in
+    rw other (made-found zs at x ys d.1 e)
+  where
+    below : (zs : List Made) (at : ℕ) (x : Made) (ys : List Made) → drop at zs ≡ x ∷ ys → at < length (map (λ (y : Made). y.edit.name) zs)
+    below [] zero x ys e = absurd (let h : [] ≡ x ∷ ys = e in cc)
+    below [] (suc at) x ys e = absurd (let h : [] ≡ x ∷ ys = e in cc)
+    below (z ∷ zs) zero x ys e = omega arith
+    below (z ∷ zs) (suc at) x ys e = let l = below zs at x ys e in omega (arith, l)
+
+-- the ways of files, by their numbers
+pub ways-long : (files : List (Option (List ℕ))) (tails : List (Option ℕ)) → length tails ≡ length files → length (file_ways files tails) ≡ length files
+ways-long [] tails l = refl
+ways-long (f ∷ fs) [] l = absurd (omega (arith, l))
+ways-long (f ∷ fs) (t ∷ ts) l = ap suc (ways-long fs ts (omega (arith, l)))
+
+pub tails-long : (changes : List Change) (ns : List (List ℕ)) (files : List (Option (List ℕ))) → length files ≡ length ns → length (tails_for changes ns files) ≡ length files
+tails-long changes [] [] l = refl
+tails-long changes [] (f ∷ fs) l = absurd (omega (arith, l))
+tails-long changes (n ∷ ns) [] l = absurd (omega (arith, l))
+tails-long changes (n ∷ ns) (f ∷ fs) l = ap suc (tails-long changes ns fs (omega (arith, l)))
+
+ways_taken : (files : List (Option (List ℕ))) (tails : List (Option ℕ)) (at : ℕ) (f : Option (List ℕ)) (t : Option ℕ) → at < length files → at < length tails
+    → file_ways (take (suc at) files) (take (suc at) tails) ≡ file_ways (take at files) (take at tails) ++ file_way (get_or files at f) (get_or tails at t) ∷ []
+ways_taken [] tails at x y l k = absurd (omega (arith, l))
+ways_taken (f ∷ fs) [] at x y l k = absurd (omega (arith, k))
+ways_taken (f ∷ fs) (t ∷ ts) zero x y l k = refl
+ways_taken (f ∷ fs) (t ∷ ts) (suc at) x y l k = ap (λ (ws : List Way). file_way f t ∷ ws) (ways_taken fs ts at x y (omega (arith, l)) (omega (arith, k)))
+
+pub ways-more : (files : List (Option (List ℕ))) (tails : List (Option ℕ)) (at : ℕ) (f : Option (List ℕ)) (t : Option ℕ) → at < length files → at < length tails
+    → file_ways (take (at + 1) files) (take (at + 1) tails) ≡ file_ways (take at files) (take at tails) ++ file_way (get_or files at f) (get_or tails at t) ∷ []
+ways-more files tails at f t l k = ap (λ (n : ℕ). file_ways (take n files) (take n tails)) (add-one at) ∙ ways_taken files tails at f t l k
+
+tails_taken : (changes : List Change) (es : List Entry) (files : List (Option (List ℕ))) (at : ℕ) (d : Entry) (f : Option (List ℕ)) → at < length es → at < length files
+    → tails_for changes (map (λ (e : Entry). e.name) (take (suc at) es)) (take (suc at) files) ≡ tails_for changes (map (λ (e : Entry). e.name) (take at es)) (take at files) ++ tail_at (only_adds changes (get_or es at d).name) (get_or files at f) ∷ []
+tails_taken changes [] files at d x l k = absurd (omega (arith, l))
+tails_taken changes (e ∷ es) [] at d x l k = absurd (omega (arith, k))
+tails_taken changes (e ∷ es) (f ∷ fs) zero d x l k = refl
+tails_taken changes (e ∷ es) (f ∷ fs) (suc at) d x l k = ap (λ (ts : List (Option ℕ)). tail_at (only_adds changes e.name) f ∷ ts) (tails_taken changes es fs at d x (omega (arith, l)) (omega (arith, k)))
+
+pub tails-more : (changes : List Change) (es : List Entry) (files : List (Option (List ℕ))) (at : ℕ) (d : Entry) (f : Option (List ℕ)) → at < length es → at < length files
+    → tails_for changes (map (λ (e : Entry). e.name) (take (at + 1) es)) (take (at + 1) files) ≡ tails_for changes (map (λ (e : Entry). e.name) (take at es)) (take at files) ++ tail_at (only_adds changes (get_or es at d).name) (get_or files at f) ∷ []
+tails-more changes es files at d f l k = ap (λ (n : ℕ). tails_for changes (map (λ (e : Entry). e.name) (take n es)) (take n files)) (add-one at) ∙ tails_taken changes es files at d f l k

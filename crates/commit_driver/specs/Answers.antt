@@ -39,7 +39,7 @@ use Rattle.commit_driver.specs.declared.place.Plan.{Plan}
 use Rattle.commit_driver.specs.declared.place.Place.{Place}
 use Rattle.commit_driver.specs.Steps.{passed_at, placing_at, tested_at, undoing_at, unlocking_at, staging_at, faulted_at, long_at, short_at, went_at, weight}
 use Rattle.commit_driver.specs.Judging.{Judges, TroubleFits}
-use Rattle.commit_driver.specs.Places.{files_of, entries_of, file_way, ways_in, ways_of, decided_record, IsPlan, IsPlace, StandsFor}
+use Rattle.commit_driver.specs.Places.{files_of, entries_of, file_ways, tails_for, ways_in, ways_of, decided_record, IsPlan, IsPlace, StandsFor}
 
 -- the answer as the machine has it
 abbrev pub reply_as : Reply → machine.Reply
@@ -96,26 +96,32 @@ Looks plan None old now = now ≡ at_step old (if plan.commits then step.Prepari
 Looks plan (Some bytes) old now = (result : Result Found End) × Finds bytes result × LooksAt result old now
 
 -- How the files come to be is settled, and the text of the decision is written, if the files were judged so, unless memory runs out.
-pub record WritesGo (plan : Plan) (judged : Result Unit Trouble) (old : Place) (result : Result Unit Trouble) (now : Place) : Type 0 where
+pub record WritesGo (plan : Plan) (tails : List (Option ℕ)) (judged : Result Unit Trouble) (old : Place) (result : Result Unit Trouble) (now : Place) : Type 0 where
   pub same : (result ≡ judged) ⊎ (result ≡ Err trouble.Memory)
   pub ways : List Way
-  pub ways_are : result ≡ Ok tt → ways ≡ map file_way old.files
+  pub ways_are : result ≡ Ok tt → ways ≡ file_ways old.files tails
   pub go : List ℕ
   pub go_is : result ≡ Ok tt → go ≡ written (decided_record plan.value ways)
   pub is : now ≡ record old { ways = ways; go = go }
 
 -- What is made of the files once all are loaded. Then it is settled how they come to be, and the text of the decision is written.
-pub record TakesAll (plan : Plan) (files : List (Option (List ℕ))) (changes : List Change) (base : List (List ℕ)) (old now : Place) : Type 0 where
-  pub result : Result Unit Trouble
+pub record Settles (plan : Plan) (changes : List Change) (base : List (List ℕ)) (old : Place) (result : Result Unit Trouble) (now : Place) : Type 0 where
   pub made : List (Option (List ℕ))
-  pub judged : Judges changes base (names_of plan.value) files result made
+  pub judged : Judges changes base (names_of plan.value) old.files result made
   pub fits : TroubleFits (files_of plan) result
-  pub long : length made ≡ length files
+  pub long : length made ≡ length old.files
   pub ways : List Way
-  pub ways_are : result ≡ Ok tt → ways ≡ map file_way made
+  pub ways_are : result ≡ Ok tt → ways ≡ file_ways made (tails_for changes (names_of plan.value) old.files)
   pub go : List ℕ
   pub go_is : result ≡ Ok tt → go ≡ written (decided_record plan.value ways)
-  pub is : now ≡ record old { step = judged_at (files_of plan) result; files = made; ways = ways; go = go }
+  pub is : now ≡ record old { files = made; ways = ways; go = go }
+
+-- the place once this file, the last, is loaded
+pub record TakesAll (plan : Plan) (files : List (Option (List ℕ))) (changes : List Change) (base : List (List ℕ)) (old now : Place) : Type 0 where
+  pub result : Result Unit Trouble
+  pub place : Place
+  pub settles : Settles plan changes base (record old { files = files }) result place
+  pub is : now ≡ record place { step = judged_at (files_of plan) result }
 
 abbrev pub Takes : Plan → ℕ → Option (List ℕ) → List Change → List (List ℕ) → Place → Place → Type 0
 Takes plan at file changes base old now =
@@ -159,6 +165,7 @@ abbrev pub is_settled : Step → Bool
 is_settled (step.Undoing at e locks th) = settled_then th
 is_settled (step.Placing at th) = settled_then th
 is_settled (step.Removing at th) = settled_then th
+is_settled (step.Extending at th) = settled_then th
 is_settled (step.Discarding at th) = settled_then th
 is_settled (step.Unlocking at e th) = settled_then th
 is_settled (step.Erasing th) = settled_then th
@@ -187,6 +194,7 @@ abbrev pub Caused : ℕ → ℕ → Step → Type 0
 Caused before now (step.Undoing at e locks th) = ThenCaused before now th
 Caused before now (step.Placing at th) = ThenCaused before now th
 Caused before now (step.Removing at th) = ThenCaused before now th
+Caused before now (step.Extending at th) = ThenCaused before now th
 Caused before now (step.Discarding at th) = ThenCaused before now th
 Caused before now (step.Unlocking at e th) = ThenCaused before now th
 Caused before now (step.Erasing th) = ThenCaused before now th

@@ -1,5 +1,5 @@
 -- The machine's state that a place stands for.
-use Rattle.std.specs.Prelude.{◌≡◌, ◌⊎◌, ◌≤◌, ◌+◌, ℕ, true, List, [], ◌∷◌, map, take, drop, get_or, length, is_some, All}
+use Rattle.std.specs.Prelude.{◌≡◌, ◌⊎◌, ◌≤◌, ◌+◌, ℕ, Bool, true, false, nat_le, if◌then◌else◌, List, [], ◌∷◌, map, take, drop, get_or, length, is_some, All}
 use Rattle.std.specs.declared.option.Option.{Option}
 use Rattle.std.specs.declared.option.Option.TheVariants.{Some, None}
 use Rattle.std.specs.Option.{option_map}
@@ -11,14 +11,17 @@ use Rattle.commit_record.specs.Ways.{way_of, entry_for}
 use Rattle.commit_record.specs.declared.record.Entry.{Entry}
 use Rattle.commit_record.specs.declared.record.Record.{Record}
 use Rattle.commit_record.specs.declared.way.Way.{Way}
-use Rattle.commit_record.specs.declared.way.Way.TheVariants.{Replace, Remove}
+use Rattle.commit_record.specs.declared.way.Way.TheVariants.{Replace, Remove, Extend}
 use Rattle.commit_machine.specs.Names.{record_name, new_name, right_name, staged_name}
 use Rattle.commit_machine.specs.Records.{names_of, AreDistinct}
 use Rattle.commit_machine.specs.Settled.{Mem}
 use Rattle.commit_machine.specs.Jobs.{Ending, Outcome, Puts, Edit, Job, Made, edits_of, all_of, prepare_of, go_of}
 use Rattle.commit_machine.specs.Jobs as jobs
+use Rattle.commit_machine.specs.Edits.{only_adds}
+use Rattle.folder_change.specs.declared.change.Change.{Change}
+use Rattle.host_port.specs.Calls.{load_limit}
 use Rattle.commit_machine.specs.Items.{Item, found_items, made_items}
-use Rattle.commit_machine.specs.Machine.{State, next, go_front, undoing, unlocking, locking, loading, staging}
+use Rattle.commit_machine.specs.Machine.{State, stay, next, go_front, undoing, unlocking, locking, loading, staging}
 use Rattle.commit_machine.specs.Machine as machine
 use Rattle.commit_driver.specs.declared.step.Passed.{Passed}
 use Rattle.commit_driver.specs.declared.step.Passed.TheVariants as passed
@@ -49,10 +52,27 @@ files_of plan = length plan.value.entries
 abbrev pub entries_of : Place → ℕ
 entries_of place = length place.found.entries
 
--- how a file comes to be that is to be so
-abbrev pub file_way : Option (List ℕ) → Way
-file_way None = Remove
-file_way (Some bytes) = Replace
+-- how a file comes to be that is to be so, if so many of its bytes stay
+abbrev pub file_way : Option (List ℕ) → Option ℕ → Way
+file_way None tail = Remove
+file_way (Some bytes) None = Replace
+file_way (Some bytes) (Some at) = Extend at
+
+abbrev pub file_ways : List (Option (List ℕ)) → List (Option ℕ) → List Way
+file_ways [] tails = []
+file_ways (file ∷ files) [] = []
+file_ways (file ∷ files) (tail ∷ tails) = file_way file tail ∷ file_ways files tails
+
+-- how many bytes of a loaded file stay, if it stands and is only added to
+abbrev pub tail_at : Bool → Option (List ℕ) → Option ℕ
+tail_at false file = None
+tail_at true None = None
+tail_at true (Some bytes) = if nat_le (length bytes) load_limit then Some (length bytes) else None
+
+abbrev pub tails_for : List Change → List (List ℕ) → List (Option (List ℕ)) → List (Option ℕ)
+tails_for changes [] files = []
+tails_for changes (n ∷ ns) [] = []
+tails_for changes (n ∷ ns) (file ∷ files) = tail_at (only_adds changes n) file ∷ tails_for changes ns files
 
 -- how the files of entries that were found come to be, and those of a plan
 abbrev pub ways_in : List Entry → List Way → Ways
@@ -85,17 +105,25 @@ name_in plan place (name.Staged k) = nth plan.staged k
 name_in plan place (name.Found k) = nth (names_of place.found) k
 name_in plan place (name.FoundStaged k) = nth place.found_staged k
 
--- what is staged for the file with this number
-abbrev pub content_at : List (Option (List ℕ)) → ℕ → List ℕ
-content_at files k = bytes_of (get_or files k None)
+-- what is staged for the file with this number: what comes behind the bytes that stay
+abbrev pub content_at : List (Option (List ℕ)) → List Way → ℕ → List ℕ
+content_at files ways k = drop (stay (get_or ways k Replace)) (bytes_of (get_or files k None))
+
+-- what is staged for files that come to be so
+abbrev pub contents_in : List (Option (List ℕ)) → List Way → List (List ℕ)
+contents_in [] ways = []
+contents_in (file ∷ files) [] = bytes_of file ∷ contents_in files []
+contents_in (file ∷ files) (way ∷ ways) = drop (stay way) (bytes_of file) ∷ contents_in files ways
 
 -- the machine's call that a call is
 abbrev pub call_in : Plan → Place → Call → machine.Call
 call_in plan place (call.Load x) = machine.ToLoad (name_in plan place x)
 call_in plan place call.StagePrepare = machine.ToStage plan.new plan.prepare
 call_in plan place call.StageGo = machine.ToStage plan.new place.go
-call_in plan place (call.StageFile k) = machine.ToStage (nth plan.staged k) (content_at place.files k)
+call_in plan place (call.StageFile k) = machine.ToStage (nth plan.staged k) (content_at place.files place.ways k)
 call_in plan place (call.Publish x y) = machine.ToPublish (name_in plan place x) (name_in plan place y)
+call_in plan place (call.Extend k) = machine.ToExtend (nth (names_of plan.value) k) (stay (get_or place.ways k Replace)) (content_at place.files place.ways k)
+call_in plan place (call.ExtendFound k) = machine.ToExtend (nth (names_of place.found) k) (stay (get_or (map way_of place.found.entries) k Replace)) (bytes_of place.seen)
 call_in plan place (call.Erase x) = machine.ToErase (name_in plan place x)
 call_in plan place (call.Lock k) = machine.ToLock (nth (names_of plan.value) k) plan.value.token
 call_in plan place (call.Unlock k) = machine.ToUnlock (nth (names_of plan.value) k) plan.value.token
@@ -185,6 +213,8 @@ state_as j hidden made found seen files (step.Placing at th) =
 state_as j hidden made found seen files (step.Testing at) = machine.Testing found (nth_item (found_items found) at) (drop (at + 1) (found_items found)) (names_of found)
 state_as j hidden made found seen files (step.Removing at th) =
     machine.Removing (record_as j made found th) (item_seen th seen (nth_item (items_as j made found th) at)) (drop (at + 1) (items_as j made found th)) (names_as j found th) (then_as j hidden found th)
+state_as j hidden made found seen files (step.Extending at th) =
+    machine.Extending (record_as j made found th) (item_seen th seen (nth_item (items_as j made found th) at)) (drop (at + 1) (items_as j made found th)) (names_as j found th) (then_as j hidden found th)
 state_as j hidden made found seen files (step.Discarding at th) =
     machine.Discarding (record_as j made found th) (item_seen th seen (nth_item (items_as j made found th) at)) (drop (at + 1) (items_as j made found th)) (names_as j found th) (then_as j hidden found th)
 state_as j hidden made found seen files (step.Unlocking at end th) =
@@ -235,7 +265,7 @@ pub record IsMade (j : Job) (made : List Made) (files : List (Option (List ℕ))
   pub distinct : AreDistinct (all_of j)
   pub names_are : map (λ x. x.edit.name) made ≡ all_of j
   pub ways_are : ways ≡ map (λ x. x.way) made
-  pub contents_are : map bytes_of files ≡ map (λ x. x.content) made
+  pub contents_are : contents_in files ways ≡ map (λ x. x.content) made
   pub go_is : go ≡ written (go_of j made)
 
 -- an entry is put in place of a record that was found, or of the own one once it is decided
@@ -248,6 +278,7 @@ PlacesSo j made files ways go (then.Answer e) = ⊥
 abbrev pub Holds : Job → List Made → List (Option (List ℕ)) → List Way → List ℕ → Step → Type 0
 Holds j made files ways go (step.Placing at th) = PlacesSo j made files ways go th
 Holds j made files ways go (step.Removing at th) = PlacesSo j made files ways go th
+Holds j made files ways go (step.Extending at th) = PlacesSo j made files ways go th
 Holds j made files ways go (step.Discarding at th) = PlacesSo j made files ways go th
 Holds j made files ways go step.Preparing = is_some j.edits ≡ true
 Holds j made files ways go step.Publishing = is_some j.edits ≡ true

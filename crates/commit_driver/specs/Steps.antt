@@ -1,7 +1,7 @@
 -- How far a job has come, by numbers alone.
 use Rattle.std.specs.Prelude.{◌<◌, ◌≤◌, ◌+◌, ◌-◌, ◌*◌, ℕ, Bool, true, false, Option, Some, None, nat_lt, if◌then◌else◌}
 use Rattle.commit_record.specs.declared.way.Way.{Way}
-use Rattle.commit_record.specs.declared.way.Way.TheVariants.{Replace, Remove}
+use Rattle.commit_record.specs.declared.way.Way.TheVariants.{Replace, Remove, Extend}
 use Rattle.commit_driver.specs.declared.step.Passed.{Passed}
 use Rattle.commit_driver.specs.declared.step.Passed.TheVariants.{Before, After, Unknown}
 use Rattle.commit_driver.specs.declared.step.Recovered.TheVariants as recovered
@@ -10,7 +10,7 @@ use Rattle.commit_driver.specs.declared.step.End.TheVariants.{Done, Recovered, R
 use Rattle.commit_driver.specs.declared.step.Then.{Then}
 use Rattle.commit_driver.specs.declared.step.Then.TheVariants.{GoOn, Answer}
 use Rattle.commit_driver.specs.declared.step.Step.{Step}
-use Rattle.commit_driver.specs.declared.step.Step.TheVariants.{Seizing, Looking, Undoing, Placing, Testing, Removing, Discarding, Unlocking, Erasing, Clearing, Preparing, Publishing, Locking, Loading, Staging, Deciding, Committing, Checking, Releasing, Ended}
+use Rattle.commit_driver.specs.declared.step.Step.TheVariants.{Seizing, Looking, Undoing, Placing, Testing, Removing, Extending, Discarding, Unlocking, Erasing, Clearing, Preparing, Publishing, Locking, Loading, Staging, Deciding, Committing, Checking, Releasing, Ended}
 use Rattle.commit_driver.specs.declared.next.Name.{Name}
 use Rattle.commit_driver.specs.declared.next.Name.TheVariants as name
 use Rattle.commit_driver.specs.declared.next.Call.{Call}
@@ -29,6 +29,10 @@ abbrev pub unlock_at : Then → ℕ → Call
 unlock_at GoOn at = call.UnlockFound at
 unlock_at (Answer e) at = call.Unlock at
 
+abbrev pub extend_at : Then → ℕ → Call
+extend_at GoOn at = call.ExtendFound at
+extend_at (Answer e) at = call.Extend at
+
 -- the call that a step is for
 abbrev pub call_at : Step → Option Call
 call_at Seizing = Some call.Seize
@@ -37,6 +41,7 @@ call_at (Undoing at end locks th) = Some (call.Erase (staged_at th at))
 call_at (Placing at th) = Some (call.Publish (staged_at th at) (file_at th at))
 call_at (Testing at) = Some (call.Load (name.FoundStaged at))
 call_at (Removing at th) = Some (call.Erase (file_at th at))
+call_at (Extending at th) = Some (extend_at th at)
 call_at (Discarding at th) = Some (call.Erase (staged_at th at))
 call_at (Unlocking at end th) = Some (unlock_at th at)
 call_at (Erasing th) = Some (call.Erase name.Record)
@@ -74,6 +79,7 @@ Fits n m (Undoing at end locks th) = (at < end) × (end ≤ count_at n m th) × 
 Fits n m (Placing at th) = (at < count_at n m th) × ThenFits n m th
 Fits n m (Testing at) = at < m
 Fits n m (Removing at th) = (at < count_at n m th) × ThenFits n m th
+Fits n m (Extending at th) = (at < count_at n m th) × ThenFits n m th
 Fits n m (Discarding at th) = (at < count_at n m th) × ThenFits n m th
 Fits n m (Unlocking at end th) = (at < end) × (end ≤ count_at n m th) × ThenFits n m th
 Fits n m (Erasing th) = ThenFits n m th
@@ -96,6 +102,8 @@ NameFits n m x = Unit {0}
 abbrev pub CallFits : ℕ → ℕ → Call → Type 0
 CallFits n m (call.Load x) = NameFits n m x
 CallFits n m (call.Publish x y) = NameFits n m x × NameFits n m y
+CallFits n m (call.Extend k) = k < n
+CallFits n m (call.ExtendFound k) = k < m
 CallFits n m (call.Erase x) = NameFits n m x
 CallFits n m (call.StageFile k) = k < n
 CallFits n m (call.Lock k) = k < n
@@ -110,14 +118,25 @@ unlocking_at at end th = if nat_lt at end then Unlocking at end th else Erasing 
 abbrev pub undoing_at : ℕ → ℕ → ℕ → Then → Step
 undoing_at at end locks th = if nat_lt at end then Undoing at end locks th else unlocking_at 0 locks th
 
--- a removal of a record that was found may be done already
+-- a removal or an extension of a record that was found may be done already
 abbrev pub removing_at : ℕ → Then → Step
 removing_at at GoOn = Testing at
 removing_at at (Answer e) = Removing at (Answer e)
 
+abbrev pub extending_at : ℕ → Then → Step
+extending_at at GoOn = Testing at
+extending_at at (Answer e) = Extending at (Answer e)
+
 abbrev pub place_at : Way → ℕ → Then → Step
 place_at Replace at th = Placing at th
 place_at Remove at th = removing_at at th
+place_at (Extend stays) at th = extending_at at th
+
+-- its staged file is known to stand; that of a file that is replaced isn't looked for
+abbrev pub known_at : Way → ℕ → Step
+known_at Replace at = Removing at GoOn
+known_at Remove at = Removing at GoOn
+known_at (Extend stays) at = Extending at GoOn
 
 -- how the files come to be: those of the entries that were found, and those of the plan
 abbrev pub Ways : Type 0
@@ -146,6 +165,7 @@ abbrev pub passed_at : Step → Passed
 passed_at (Undoing at end locks th) = Before
 passed_at (Placing at th) = passed_then th
 passed_at (Removing at th) = passed_then th
+passed_at (Extending at th) = passed_then th
 passed_at (Discarding at th) = passed_then th
 passed_at (Unlocking at end th) = passed_then th
 passed_at (Erasing th) = passed_then th
@@ -173,9 +193,9 @@ short_at n (Testing at) = Releasing NoMemory
 short_at n (Loading at) = unlocking_at 0 n (Answer NoMemory)
 short_at n s = Releasing (Failed (passed_at s))
 
--- after a look for the staged file of a removal, if m entries were found
+-- after a look for the staged file of a removal or an extension, if m entries were found
 abbrev pub tested_at : Ways → ℕ → ℕ → Bool → Step
-tested_at ways m at true = Removing at GoOn
+tested_at ways m at true = known_at (ways GoOn at) at
 tested_at ways m at false = placing_at ways (at + 1) m GoOn
 
 -- after a record was closed that was decided or wasn't
@@ -190,6 +210,7 @@ went_at ways commits n m decided Seizing false = Ended RightBusy
 went_at ways commits n m decided (Undoing at end locks th) did = undoing_at (at + 1) end locks th
 went_at ways commits n m decided (Placing at th) did = placing_at ways (at + 1) (count_at n m th) th
 went_at ways commits n m decided (Removing at th) did = Discarding at th
+went_at ways commits n m decided (Extending at th) did = Discarding at th
 went_at ways commits n m decided (Discarding at th) did = placing_at ways (at + 1) (count_at n m th) th
 went_at ways commits n m decided (Unlocking at end th) did = unlocking_at (at + 1) end th
 went_at ways commits n m decided (Erasing th) did = closed_at decided th
@@ -218,6 +239,7 @@ weight (Undoing at end locks th) = (then_rank th + 5) * 51 + (16 - at)
 weight (Placing at th) = (then_rank th + 5) * 51 + (3 * (16 - at) + 2)
 weight (Testing at) = 15 * 51 + (3 * (16 - at) + 2)
 weight (Removing at th) = (then_rank th + 5) * 51 + (3 * (16 - at) + 1)
+weight (Extending at th) = (then_rank th + 5) * 51 + (3 * (16 - at) + 1)
 weight (Discarding at th) = (then_rank th + 5) * 51 + 3 * (16 - at)
 weight (Unlocking at end th) = (then_rank th + 4) * 51 + (16 - at)
 weight (Erasing th) = (then_rank th + 3) * 51

@@ -8,11 +8,11 @@ ghost use Rattle.commit_machine.specs.Records.{has, names_of};
 ghost use Rattle.folder_change.specs.Changes.{name_of};
 ghost use Rattle.commit_driver.specs.declared.step.Step.TheVariants as Step;
 ghost use Rattle.commit_record.specs.Format.{is_valid};
-ghost use Rattle.commit_driver.specs.Steps.{call_at, unlocking_at, undoing_at, place_at, placing_at, tested_at, locking_at, staging_at, count_at, closed_at, passed_end, passed_then, passed_at, faulted_at, long_at, short_at, went_at, Fits};
+ghost use Rattle.commit_driver.specs.Steps.{call_at, unlocking_at, undoing_at, place_at, known_at, placing_at, tested_at, locking_at, staging_at, count_at, closed_at, passed_end, passed_then, passed_at, faulted_at, long_at, short_at, went_at, Fits};
 ghost use Rattle.commit_driver.specs.Places.{files_of, entries_of, ways_of, IsPlace, IsSafe};
-ghost use Rattle.commit_driver.specs.Answers.{Finds, PassedSo, Looks, WritesGo, Takes, SawSo, Answered, IsAnswer, IsAfter, mending_at, judged_at};
+ghost use Rattle.commit_driver.specs.Answers.{Finds, PassedSo, Looks, WritesGo, Settles, Takes, SawSo, Answered, IsAnswer, IsAfter, mending_at, judged_at};
 
-use crate::decision::{decided, own_way};
+use crate::decision::{decided, own_way, tails_for};
 use crate::judge::{Trouble, judge};
 use crate::{End, Passed, Place, Plan, Recovered, Step, Then};
 use commit_machine::staged_name;
@@ -108,7 +108,7 @@ fn way_at(place: &Place, at: usize, then: Then) -> Way
     }
 }
 
-// The first step for an entry. A removal that was found may be done already, so it is looked for first.
+// The first step for an entry. A removal or an extension that was found may be done already, so it is looked for first.
 fn place_one(way: Way, at: usize, then: Then) -> Step
     ensures { result ≡ place_at way at then }
 {
@@ -118,6 +118,20 @@ fn place_one(way: Way, at: usize, then: Then) -> Step
             Then::GoOn => Step::Testing(at),
             Then::Answer(_) => Step::Removing(at, then),
         },
+        Way::Extend(_) => match then {
+            Then::GoOn => Step::Testing(at),
+            Then::Answer(_) => Step::Extending(at, then),
+        },
+    }
+}
+
+// The step for an entry whose staged file was looked for and stands; that of a file that is replaced isn't looked for.
+fn place_known(way: Way, at: usize) -> Step
+    ensures { result ≡ known_at way at }
+{
+    match way {
+        Way::Replace | Way::Remove => Step::Removing(at, Then::GoOn),
+        Way::Extend(_) => Step::Extending(at, Then::GoOn),
     }
 }
 
@@ -156,13 +170,13 @@ fn placing_next(place: &Place, at: usize, then: Then) -> Step
     placing(place, at + 1, then)
 }
 
-// After the staged file of a removal was looked for.
+// After the staged file of a removal or an extension was looked for.
 fn tested(place: &Place, at: usize, stands: bool) -> Step
     requires { at < entries_of place.now }
     ensures { result ≡ tested_at (ways_of place.now) (entries_of place.now) at stands }
 {
     if stands {
-        Step::Removing(at, Then::GoOn)
+        place_known(way_at(place, at, Then::GoOn), at)
     } else {
         placing_next(place, at, Then::GoOn)
     }
@@ -203,9 +217,10 @@ fn passed_at(step: Step) -> Passed
     ensures { result ≡ passed_at step }
 {
     match step {
-        Step::Placing(_, then) | Step::Removing(_, then) | Step::Discarding(_, then) => {
-            passed_then(then)
-        }
+        Step::Placing(_, then)
+        | Step::Removing(_, then)
+        | Step::Extending(_, then)
+        | Step::Discarding(_, then) => passed_then(then),
         Step::Unlocking(_, _, then) | Step::Erasing(then) => passed_then(then),
         Step::Releasing(end) | Step::Ended(end) => passed_end(end),
         Step::Checking => Passed::Unknown,
@@ -255,7 +270,7 @@ fn went(commits: bool, files: usize, place: &Place, did: bool) -> Step
         Step::Seizing => Step::Ended(End::RightBusy),
         Step::Undoing(at, end, locks, then) => undoing(at + 1, end, locks, then),
         Step::Placing(at, then) | Step::Discarding(at, then) => placing_next(place, at, then),
-        Step::Removing(at, then) => Step::Discarding(at, then),
+        Step::Removing(at, then) | Step::Extending(at, then) => Step::Discarding(at, then),
         Step::Unlocking(at, end, then) => unlocking(at + 1, end, then),
         Step::Erasing(then) => closed(is_decided(&place.found), then),
         Step::Clearing(_) if commits => Step::Preparing,
@@ -376,14 +391,16 @@ fn write_decision(
     alloc: Global,
     plan: &Plan,
     place: &mut Place,
+    tails: &[Option<u64>],
     judged: Result<(), Trouble>,
 ) -> Result<(), Trouble>
     requires files { length place.old.files ≡ files_of plan.now }
+    requires tails { length tails.now ≡ files_of plan.now }
     requires valid { is_valid plan.now.value ≡ true }
-    ensures { WritesGo plan.now judged place.old result place.new }
+    ensures { WritesGo plan.now tails.now judged place.old result place.new }
 {
     match judged {
-        Ok(()) => match decided(alloc, &plan.value, place.files.items()) {
+        Ok(()) => match decided(alloc, &plan.value, place.files.items(), tails) {
             Ok(decision) => {
                 place.ways = decision.ways;
                 place.go = decision.text;
@@ -392,6 +409,30 @@ fn write_decision(
             Err(Memory) => Err(Trouble::Memory),
         },
         Err(why) => Err(why),
+    }
+}
+
+// All files are loaded: what the changes make of them is judged, and what becomes of them settled.
+fn settle(
+    alloc: Global,
+    plan: &Plan,
+    place: &mut Place,
+    changes: &[Change],
+    base: Option<&Folder>,
+) -> Result<(), Trouble>
+    requires files { length place.old.files ≡ files_of plan.now }
+    requires valid { is_valid plan.now.value ≡ true }
+    requires named { All (λ c. has (names_of plan.now.value) (name_of c) ≡ true) changes.now }
+    requires based { All (λ c. IsTrue (is_rewrite c) → IsSome base) changes.now }
+    ensures { Settles plan.now changes.now (base_list (option_copied base.entry)) place.old result place.new }
+{
+    let entries = plan.value.entries.items();
+    match tails_for(alloc, changes, entries, place.files.items()) {
+        Ok(tails) => {
+            let result = judge(alloc, changes, base, entries, &mut place.files);
+            write_decision(alloc, plan, place, tails.items(), result)
+        }
+        Err(Memory) => Err(Trouble::Memory),
     }
 }
 
@@ -417,8 +458,7 @@ fn take(
     if at + 1 < entries.len() {
         place.step = Step::Loading(at + 1);
     } else {
-        let result = judge(alloc, changes, base, entries, &mut place.files);
-        let result = write_decision(alloc, plan, place, result);
+        let result = settle(alloc, plan, place, changes, base);
         place.step = judged(entries.len(), result);
     }
 }

@@ -3,7 +3,7 @@ ghost use Rattle.std.specs.Prelude.{true, OnErr};
 ghost use Rattle.host_port.specs.Calls.{Rose, LoadCause};
 ghost use Rattle.host_port.specs.Names.{IsFileName};
 ghost use Rattle.host_port.specs.Ran.{Ran};
-ghost use Rattle.commit_machine.specs.Machine.{ToLoad, ToStage, ToPublish, ToErase, ToLock, ToSeize, ToRelease, Went};
+ghost use Rattle.commit_machine.specs.Machine.{ToLoad, ToStage, ToPublish, ToExtend, ToErase, ToLock, ToSeize, ToRelease, Went};
 ghost use Rattle.commit_driver.specs.Did.{Did, DidUnlock, told_reply, done_reply, load_reply};
 
 use host_port::{DiskFault, Host, LoadAnswer, LoadError};
@@ -35,6 +35,15 @@ pub fn publish<H: Host>(host: &mut H, from: &[u8], to: &[u8]) -> Result<bool, Di
     ensures cause { OnErr result (Rose (H.world.counts host.old).disks (H.world.counts host.new).disks) }
 {
     host.publish(from, to)
+}
+
+/// Gives a file another tail.
+pub fn extend<H: Host>(host: &mut H, name: &[u8], at: u64, bytes: &[u8]) -> Result<(), DiskFault>
+    requires { IsFileName name.now }
+    ensures ran { Ran H.world host.old host.new (Did (ToExtend name.now at bytes.now) (done_reply result)) }
+    ensures cause { OnErr result (Rose (H.world.counts host.old).disks (H.world.counts host.new).disks) }
+{
+    host.extend(name, at, bytes)
 }
 
 /// Takes a file away.

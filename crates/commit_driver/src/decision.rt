@@ -1,30 +1,98 @@
 // The record of a decision, once it is known what is to stand in the files.
-ghost use Rattle.std.specs.Prelude.{◌≡◌, true, length, map, get_or, IfOk};
+ghost use Rattle.std.specs.Prelude.{◌≡◌, ◌&&◌, ◌||◌, not, true, None, length, map, get_or, IfOk};
+ghost use Rattle.std.specs.Str.{bytes_eq};
+ghost use Rattle.folder_change.specs.Changes.{name_of};
 ghost use Rattle.commit_record.specs.Format.{is_valid, written};
 ghost use Rattle.commit_record.specs.declared.way.Way.TheVariants as Way;
-ghost use Rattle.commit_driver.specs.Places.{file_way, decided_entries, decided_record};
+ghost use Rattle.commit_machine.specs.Edits.{is_added, only_adds};
+ghost use Rattle.commit_driver.specs.Places.{tail_at, tails_for, file_way, file_ways, decided_entries, decided_record};
 
 use commit_record::{Entry, Phase, Record, Way, entry_for, write};
+use folder_change::{Change, change_name};
 use mail_text::{Items, Memory, Text};
 use std::alloc::Global;
 
-// How a file comes to be that is to be so: if it is to be absent, it is removed.
-fn file_way(file: &Option<Text>) -> Way
-    ensures { result ≡ file_way file.now }
+/// The most bytes of a file that was loaded.
+const MOST_BYTES: usize = 268_435_456;
+
+// Whether a change puts its bytes behind those of the file.
+fn is_added(change: &Change) -> bool
+    ensures { result ≡ is_added change.now }
+{
+    match change {
+        Change::Add { .. } | Change::AddRaw { .. } => true,
+        Change::Rewrite { .. } | Change::Front { .. } => false,
+    }
+}
+
+// Whether all changes of the file of this name do.
+fn only_adds(changes: &[Change], name: &[u8]) -> bool
+    ensures { result ≡ only_adds changes.now name.now }
+{
+    changes.iter().all(|change| !(name == change_name(change)) || is_added(change))
+}
+
+// How many bytes of a loaded file stay, if it stands and is only added to.
+fn tail_at(adds: bool, file: &Option<Text>) -> Option<u64>
+    ensures { result ≡ tail_at adds file.now }
 {
     match file {
-        Some(_) => Way::Replace,
-        None => Way::Remove,
+        Some(text) if adds && text.bytes().len() <= MOST_BYTES => Some(text.bytes().len() as u64),
+        _ => None,
+    }
+}
+
+/// How many bytes of each loaded file stay, if it stands and is only added to.
+pub fn tails_for(
+    alloc: Global,
+    changes: &[Change],
+    entries: &[Entry],
+    files: &[Option<Text>],
+) -> Result<Items<Option<u64>>, Memory>
+    requires { length files.now ≡ length entries.now }
+    ensures { IfOk result (λ tails. tails ≡ tails_for changes.now (map (λ e. e.name) entries.now) files.now) }
+{
+    let mut tails = Items::new(alloc);
+    for at in 0..entries.len() {
+        let adds = only_adds(changes, entries[at].name.bytes());
+        tails.push(tail_at(adds, &files[at]))?;
+    }
+    Ok(tails)
+}
+
+// How a file comes to be that is to be so, if so many of its bytes stay: if it is to be absent, it is removed.
+fn file_way(file: &Option<Text>, tail: Option<u64>) -> Way
+    ensures { result ≡ file_way file.now tail }
+{
+    match (file, tail) {
+        (None, _) => Way::Remove,
+        (Some(_), None) => Way::Replace,
+        (Some(_), Some(at)) => Way::Extend(at),
+    }
+}
+
+// How many bytes of the file with this number stay.
+fn own_tail(tails: &[Option<u64>], at: usize) -> Option<u64>
+    ensures { result ≡ get_or tails.now at None }
+{
+    match tails.get(at) {
+        Some(tail) => *tail,
+        None => None,
     }
 }
 
 // How files come to be that are to be so.
-fn ways_of(alloc: Global, files: &[Option<Text>]) -> Result<Items<Way>, Memory>
-    ensures { IfOk result (λ ways. ways ≡ map file_way files.now) }
+fn ways_of(
+    alloc: Global,
+    files: &[Option<Text>],
+    tails: &[Option<u64>],
+) -> Result<Items<Way>, Memory>
+    requires { length tails.now ≡ length files.now }
+    ensures { IfOk result (λ ways. ways ≡ file_ways files.now tails.now) }
 {
     let mut ways = Items::new(alloc);
-    for file in files {
-        ways.push(file_way(file))?;
+    for at in 0..files.len() {
+        ways.push(file_way(&files[at], own_tail(tails, at)))?;
     }
     Ok(ways)
 }
@@ -74,14 +142,21 @@ pub struct Decision {
     pub text: Text,
 }
 
-/// The decision of files that are to be so. `value` is its record as if all were replaced.
-pub fn decided(alloc: Global, value: &Record, files: &[Option<Text>]) -> Result<Decision, Memory>
+/// The decision of files that are to be so, of which so many bytes stay. `value` is its record as if all were
+/// replaced.
+pub fn decided(
+    alloc: Global,
+    value: &Record,
+    files: &[Option<Text>],
+    tails: &[Option<u64>],
+) -> Result<Decision, Memory>
     requires valid { is_valid value.now ≡ true }
     requires files { length files.now ≡ length value.now.entries }
-    ensures ways { IfOk result (λ d. d.ways ≡ map file_way files.now) }
+    requires tails { length tails.now ≡ length value.now.entries }
+    ensures ways { IfOk result (λ d. d.ways ≡ file_ways files.now tails.now) }
     ensures text { IfOk result (λ d. d.text ≡ written (decided_record value.now d.ways)) }
 {
-    let ways = ways_of(alloc, files)?;
+    let ways = ways_of(alloc, files, tails)?;
     let text = decided_text(alloc, value, ways.items())?;
     Ok(Decision { ways, text })
 }

@@ -1,20 +1,23 @@
 // A job is driven over a host.
-ghost use Rattle.std.specs.Prelude.{◌≡◌, Some, true, length, All, IsTrue, IsSome, option_copied};
+ghost use Rattle.std.specs.Prelude.{◌≡◌, ◌<◌, Some, true, length, drop, All, IsTrue, IsSome, option_copied};
 ghost use Rattle.host_port.specs.Ran.{Ran};
 ghost use Rattle.folder_change.specs.Changes.{name_of, is_rewrite};
 ghost use Rattle.folder_change.specs.Outcomes.{base_list, bytes_of};
 ghost use Rattle.commit_machine.specs.Records.{has, names_of};
 ghost use Rattle.commit_machine.specs.Jobs.{Job};
+ghost use Rattle.commit_machine.specs.Machine.{stay};
 ghost use Rattle.commit_driver.specs.declared.step.Step.TheVariants as Step;
 ghost use Rattle.commit_driver.specs.declared.step.End.{End};
 ghost use Rattle.commit_driver.specs.Did.{load_reply, told_reply, done_reply};
 ghost use Rattle.commit_driver.specs.Steps.{CallFits, EndFits};
-ghost use Rattle.commit_driver.specs.Places.{files_of, entries_of, call_in, begun, IsPlan, IsPlace, IsSafe};
+ghost use Rattle.commit_driver.specs.Places.{files_of, entries_of, content_at, call_in, begun, IsPlan, IsPlace, IsSafe};
 ghost use Rattle.commit_driver.specs.Answers.{IsAnswer, ReplyCaused, EndCaused, reply_as};
 ghost use Rattle.commit_driver.specs.Drives.{Performed, IsFor, Drives};
 
-use crate::calls::{erase, load, lock, publish, release, seize, stage, unlock};
+use crate::calls::{erase, extend, load, lock, publish, release, seize, stage, unlock};
+use crate::decision::own_way;
 use crate::{Call, End, Name, Place, Plan, Reply, Step, after, named, next_call};
+use commit_record::{Way, way_of};
 use folder_change::Change;
 use host_port::{DiskFault, Host, LoadAnswer, LoadError};
 use mail_text::Text;
@@ -50,14 +53,44 @@ fn done(answer: Result<(), DiskFault>) -> Reply
     }
 }
 
-// What is staged for a file.
-fn content_of(file: &Option<Text>) -> &[u8]
+// The bytes of a file; an absent one has none.
+fn bytes_of(file: &Option<Text>) -> &[u8]
     ensures { result.now ≡ bytes_of file.now }
 {
     match file {
         Some(text) => text.bytes(),
         None => b"",
     }
+}
+
+// How many bytes of a file that comes to be so stay.
+fn stay(way: Way) -> u64
+    ensures { result ≡ stay way }
+{
+    match way {
+        Way::Extend(at) => at,
+        Way::Replace | Way::Remove => 0,
+    }
+}
+
+// What follows so many bytes.
+fn behind(bytes: &[u8], count: u64) -> &[u8]
+    ensures { result.now ≡ drop count bytes.now }
+{
+    if (bytes.len() as u64) < count {
+        return b"";
+    }
+    let (_, rest) = bytes.split_at(count as usize);
+    rest
+}
+
+// What is staged for the file with this number.
+fn content_at(place: &Place, at: usize) -> &[u8]
+    requires { at < length place.now.files }
+    ensures { result.now ≡ content_at place.now.files place.now.ways at }
+{
+    let way = own_way(place.ways.items(), at);
+    behind(bytes_of(&place.files.items()[at]), stay(way))
 }
 
 /// Makes a call on the host.
@@ -80,8 +113,18 @@ pub fn perform<H: Host>(
         Call::StagePrepare => done(stage(host, plan.new.bytes(), plan.prepare.bytes())),
         Call::StageGo => done(stage(host, plan.new.bytes(), place.go.bytes())),
         Call::StageFile(at) => {
-            let content = content_of(&place.files.items()[at]);
+            let content = content_at(place, at);
             done(stage(host, named(plan, place, Name::Staged(at)), content))
+        }
+        Call::Extend(at) => {
+            let name = named(plan, place, Name::File(at));
+            let stays = stay(own_way(place.ways.items(), at));
+            done(extend(host, name, stays, content_at(place, at)))
+        }
+        Call::ExtendFound(at) => {
+            let name = named(plan, place, Name::Found(at));
+            let stays = stay(way_of(&place.found.entries.items()[at]));
+            done(extend(host, name, stays, bytes_of(&place.seen)))
         }
         Call::Publish(from, to) => {
             told(publish(host, named(plan, place, from), named(plan, place, to)))

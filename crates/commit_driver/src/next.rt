@@ -37,6 +37,10 @@ pub enum Call {
     /// What is to stand in a file is made.
     StageFile(usize),
     Publish(Name, Name),
+    /// A file of the plan gets its tail.
+    Extend(usize),
+    /// An entry's file gets its tail.
+    ExtendFound(usize),
     Erase(Name),
     /// A file is locked.
     Lock(usize),
@@ -79,6 +83,8 @@ fn call_at(step: Step) -> Option<Call>
         Step::Placing(at, then) => Some(Call::Publish(staged_at(then, at), file_at(then, at))),
         Step::Testing(at) => Some(Call::Load(Name::FoundStaged(at))),
         Step::Removing(at, then) => Some(Call::Erase(file_at(then, at))),
+        Step::Extending(at, Then::GoOn) => Some(Call::ExtendFound(at)),
+        Step::Extending(at, Then::Answer(_)) => Some(Call::Extend(at)),
         Step::Discarding(at, then) => Some(Call::Erase(staged_at(then, at))),
         Step::Unlocking(at, _, Then::GoOn) => Some(Call::UnlockFound(at)),
         Step::Unlocking(at, _, Then::Answer(_)) => Some(Call::Unlock(at)),

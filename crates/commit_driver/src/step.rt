@@ -70,11 +70,13 @@ pub enum Step {
     Undoing(usize, usize, usize, Then),
     /// The staged file of this entry is put in place.
     Placing(usize, Then),
-    /// The staged file of this entry of a record that was found, which removes a file, is looked for.
+    /// The staged file of this entry of a record that was found, which removes or extends a file, is looked for.
     Testing(usize),
     /// The file of this entry is taken away.
     Removing(usize, Then),
-    /// Then its staged file is.
+    /// The file of this entry gets its tail.
+    Extending(usize, Then),
+    /// Then its staged file is taken away.
     Discarding(usize, Then),
     /// The lock of this entry is taken away, up to the second number.
     Unlocking(usize, usize, Then),

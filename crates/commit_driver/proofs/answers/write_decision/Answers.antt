@@ -9,4 +9,4 @@ pub returns-in-Err : goal.returns-in-Err
 returns-in-Err c =
     let plan = c.args.plan.now in
     let place = c.args.place.now in
-    subst (λ (r : Result Unit Trouble). WritesGo plan r place (Err c.in-Err.why) place) (sym c.in-Err.is) (not-judged plan place c.in-Err.why)
+    subst (λ (r : Result Unit Trouble). WritesGo plan c.args.tails.now r place (Err c.in-Err.why) place) (sym c.in-Err.is) (not-judged plan c.args.tails.now place c.in-Err.why)

@@ -1,6 +1,7 @@
-use Rattle.std.proofs.Common.{◌≡◌, map, take}
-use Rattle.commit_driver.specs.Places.{file_way}
+use Rattle.std.proofs.Common.{◌≡◌, take}
+use Rattle.commit_driver.specs.Places.{file_ways}
 use Rattle.commit_driver.proofs.decision.ways_of.Given as goal
 
-abbrev pub invariant-loop-file : goal.invariant-loop-file
-invariant-loop-file l = l.ways ≡ map file_way (take l.file-index l.files)
+-- those of the files so far
+abbrev pub invariant-loop-at : goal.invariant-loop-at
+invariant-loop-at l = l.ways ≡ file_ways (take l.at l.files) (take l.at l.tails)
