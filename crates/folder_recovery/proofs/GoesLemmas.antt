@@ -6,12 +6,12 @@ use Rattle.std.proofs.lemmas.Bool.{cases_Bool}
 use Rattle.host_port.specs.declared.event.Event.{Event}
 use Rattle.commit_record.specs.declared.record.Record.{Record}
 use Rattle.commit_record.specs.declared.way.Way.{Way}
-use Rattle.commit_record.specs.declared.way.Way.TheVariants.{Replace, Remove}
+use Rattle.commit_record.specs.declared.way.Way.TheVariants.{Replace, Remove, Extend}
 use Rattle.commit_machine.specs.Records.{record_of, is_go, names_of}
 use Rattle.commit_machine.specs.Items.{Item, found_items}
 use Rattle.commit_machine.specs.Jobs.{Passed, Before, Ending, Recovered, Refused, Failed, NoMemory, Job}
 use Rattle.commit_machine.specs.Edits.{recovery_for}
-use Rattle.commit_machine.specs.Machine.{State, Seizing, Looking, Undoing, Placing, Testing, Removing, Discarding, Unlocking, Erasing, Clearing, Releasing, Ended, GoOn, Reply, Went, Saw, Long, Short, unlocking, undoing, place_one, placing, tested, record_seen, refused, after_reply, passed_at, passed_ending}
+use Rattle.commit_machine.specs.Machine.{State, Seizing, Looking, Undoing, Placing, Testing, Removing, Extending, Discarding, Unlocking, Erasing, Clearing, Releasing, Ended, GoOn, Reply, Went, Saw, Long, Short, unlocking, undoing, place_one, place_known, placing, tested, record_seen, refused, after_reply, passed_at, passed_ending}
 use Rattle.commit_machine.specs.Goes.{reply, Goes}
 
 -- nothing is decided in a recovery
@@ -30,6 +30,7 @@ Mends (Undoing r n ns ls GoOn) = Unit {0}
 Mends (Placing r x xs ls GoOn) = Unit {0}
 Mends (Testing r x xs ls) = Unit {0}
 Mends (Removing r x xs ls GoOn) = Unit {0}
+Mends (Extending r x xs ls GoOn) = Unit {0}
 Mends (Discarding r x xs ls GoOn) = Unit {0}
 Mends (Unlocking r n ns GoOn) = Unit {0}
 Mends (Erasing r GoOn) = Unit {0}
@@ -49,6 +50,12 @@ mends-undoing r (n ∷ ns) ls = tt
 mends-one : (way : Way) (r : Record) (x : Item) (xs : List Item) (ls : List (List ℕ)) → Mends (place_one way r x xs ls GoOn)
 mends-one Replace r x xs ls = tt
 mends-one Remove r x xs ls = tt
+mends-one (Extend at) r x xs ls = tt
+
+mends-known : (way : Way) (r : Record) (x : Item) (xs : List Item) (ls : List (List ℕ)) → Mends (place_known way r x xs ls GoOn)
+mends-known Replace r x xs ls = tt
+mends-known Remove r x xs ls = tt
+mends-known (Extend at) r x xs ls = tt
 
 mends-placing : (r : Record) (xs : List Item) (ls : List (List ℕ)) → Mends (placing r xs ls GoOn)
 mends-placing r [] ls = mends-unlocking r ls
@@ -56,7 +63,7 @@ mends-placing r (x ∷ xs) ls = mends-one x.way r x xs ls
 
 mends-tested : (r : Record) (x : Item) (xs : List Item) (ls : List (List ℕ)) (c : Option (List ℕ)) → Mends (tested r x xs ls c)
 mends-tested r x xs ls None = mends-placing r xs ls
-mends-tested r x xs ls (Some bytes) = tt
+mends-tested r x xs ls (Some bytes) = mends-known x.way r (record x { staged = Some bytes }) xs ls
 
 mends-seen : (o : Option Record) → Mends (record_seen o)
 mends-seen None = tt
@@ -76,6 +83,7 @@ before (Undoing r n ns ls GoOn) h = refl
 before (Placing r x xs ls GoOn) h = refl
 before (Testing r x xs ls) h = refl
 before (Removing r x xs ls GoOn) h = refl
+before (Extending r x xs ls GoOn) h = refl
 before (Discarding r x xs ls GoOn) h = refl
 before (Unlocking r n ns GoOn) h = refl
 before (Erasing r GoOn) h = refl
@@ -99,6 +107,7 @@ module _ (actor : List ℕ) (token : ℕ) where
   mends-refused (Placing r x xs ls GoOn) h = tt
   mends-refused (Testing r x xs ls) h = tt
   mends-refused (Removing r x xs ls GoOn) h = tt
+  mends-refused (Extending r x xs ls GoOn) h = tt
   mends-refused (Discarding r x xs ls GoOn) h = tt
   mends-refused (Unlocking r n ns GoOn) h = tt
   mends-refused (Erasing r GoOn) h = tt
@@ -118,6 +127,7 @@ module _ (actor : List ℕ) (token : ℕ) where
   mends-reply (Testing r x xs ls) (Saw c) h = mends-tested r x xs ls c
   mends-reply (Testing r x xs ls) (Long m) h = tt
   mends-reply (Removing r x xs ls GoOn) (Went b) h = tt
+  mends-reply (Extending r x xs ls GoOn) (Went b) h = tt
   mends-reply (Discarding r x xs ls GoOn) (Went b) h = mends-placing r xs ls
   mends-reply (Unlocking r n ns GoOn) (Went b) h = mends-unlocking r ns
   mends-reply (Erasing r GoOn) (Went b) h = tt
@@ -131,6 +141,7 @@ module _ (actor : List ℕ) (token : ℕ) where
   mends-reply (Placing r x xs ls GoOn) Short h = tt
   mends-reply (Testing r x xs ls) Short h = tt
   mends-reply (Removing r x xs ls GoOn) Short h = tt
+  mends-reply (Extending r x xs ls GoOn) Short h = tt
   mends-reply (Discarding r x xs ls GoOn) Short h = tt
   mends-reply (Unlocking r n ns GoOn) Short h = tt
   mends-reply (Erasing r GoOn) Short h = tt
@@ -141,6 +152,7 @@ module _ (actor : List ℕ) (token : ℕ) where
   mends-reply (Placing q x xs ls GoOn) r h = fails (Placing q x xs ls GoOn) h
   mends-reply (Testing q x xs ls) r h = fails (Testing q x xs ls) h
   mends-reply (Removing q x xs ls GoOn) r h = fails (Removing q x xs ls GoOn) h
+  mends-reply (Extending q x xs ls GoOn) r h = fails (Extending q x xs ls GoOn) h
   mends-reply (Discarding q x xs ls GoOn) r h = fails (Discarding q x xs ls GoOn) h
   mends-reply (Unlocking q n ns GoOn) r h = fails (Unlocking q n ns GoOn) h
   mends-reply (Erasing q GoOn) r h = fails (Erasing q GoOn) h

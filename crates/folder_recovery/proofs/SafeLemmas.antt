@@ -29,7 +29,7 @@ use Rattle.folder_recovery.proofs.ToldLemmas.{is-told}
 use Rattle.folder_recovery.proofs.BusyLemmas.{busy-met}
 
 pub recovery-is-job : (actor : List ℕ) (token : ℕ) → token < 2 ^ 64 → IsJob (recovery_for actor token)
-recovery-is-job actor token fits = record { token_fits = fits; valid = λ es is. absurd (cc); plain = λ e m. absurd m }
+recovery-is-job actor token fits = record { token_fits = fits; valid = λ es is. absurd (cc); plain = λ e m. absurd m; extends = λ e m. absurd m }
 
 -- a recovery ends somewhere
 pub ends-somewhere : (j : Job) (es : List Event) (result : Result Recovered RecoverError) → Recovers j es result → (end : Ending) × GoesTo j es end

@@ -11,14 +11,14 @@ use Rattle.host_port.specs.declared.event.Seen.{Seen}
 use Rattle.host_port.specs.declared.event.Seen.TheVariants as seen
 use Rattle.commit_record.specs.declared.record.Record.{Record}
 use Rattle.commit_record.specs.declared.way.Way.{Way}
-use Rattle.commit_record.specs.declared.way.Way.TheVariants.{Replace, Remove}
+use Rattle.commit_record.specs.declared.way.Way.TheVariants.{Replace, Remove, Extend}
 use Rattle.commit_machine.specs.Names.{record_name, new_name, right_name, staged_name}
 use Rattle.commit_machine.specs.Records.{record_of, is_go, names_of}
 use Rattle.commit_machine.specs.Items.{Item, found_items}
 use Rattle.commit_machine.specs.Jobs.{Before, Found, Nothing, Busy, NotARecord, TooLarge, Ending, Recovered, Refused, Failed, NoMemory, Job}
 use Rattle.commit_machine.specs.Edits.{recovery_for}
-use Rattle.commit_machine.specs.Machine.{State, Seizing, Looking, Undoing, Placing, Testing, Removing, Discarding, Unlocking, Erasing, Clearing, Releasing, Ended, GoOn, ToLoad, ToErase, ToPublish, ToUnlock, ToSeize, ToRelease, unlocking, undoing, place_one, placing, mending, record_seen, found_of, next, refused, after_reply}
-use Rattle.commit_machine.specs.Goes.{IsOf, loads, publishes, erases, unlocks, seizes, releases, IsNext, reply, Goes}
+use Rattle.commit_machine.specs.Machine.{State, Seizing, Looking, Undoing, Placing, Testing, Removing, Extending, Discarding, Unlocking, Erasing, Clearing, Releasing, Ended, GoOn, ToLoad, ToExtend, ToErase, ToPublish, ToUnlock, ToSeize, ToRelease, unlocking, undoing, stay, place_one, place_known, placing, mending, record_seen, found_of, next, refused, after_reply}
+use Rattle.commit_machine.specs.Goes.{IsOf, loads, publishes, extends, extend_fails, erases, unlocks, seizes, releases, IsNext, reply, Goes}
 use Rattle.commit_driver.specs.declared.step.Recovered.{Recovered as Found_answer}
 use Rattle.folder_recovery.specs.declared.error.RecoverError.{RecoverError}
 use Rattle.folder_recovery.specs.declared.error.RecoverError.TheVariants as error
@@ -39,6 +39,7 @@ Heads x (Undoing r n ns ls GoOn) = x ≡ Recovered (found_of r)
 Heads x (Placing r y ys ls GoOn) = x ≡ Recovered (found_of r)
 Heads x (Testing r y ys ls) = x ≡ Recovered (found_of r)
 Heads x (Removing r y ys ls GoOn) = x ≡ Recovered (found_of r)
+Heads x (Extending r y ys ls GoOn) = x ≡ Recovered (found_of r)
 Heads x (Discarding r y ys ls GoOn) = x ≡ Recovered (found_of r)
 Heads x (Unlocking r n ns GoOn) = x ≡ Recovered (found_of r)
 Heads x (Erasing r GoOn) = x ≡ Recovered (found_of r)
@@ -56,6 +57,12 @@ heads_undoing x r (n ∷ ns) ls h = h
 heads_one : (x : Ending) (way : Way) (r : Record) (y : Item) (ys : List Item) (ls : List (List ℕ)) → x ≡ Recovered (found_of r) → Heads x (place_one way r y ys ls GoOn)
 heads_one x Replace r y ys ls h = h
 heads_one x Remove r y ys ls h = h
+heads_one x (Extend at) r y ys ls h = h
+
+heads_known : (x : Ending) (way : Way) (r : Record) (y : Item) (ys : List Item) (ls : List (List ℕ)) → x ≡ Recovered (found_of r) → Heads x (place_known way r y ys ls GoOn)
+heads_known x Replace r y ys ls h = h
+heads_known x Remove r y ys ls h = h
+heads_known x (Extend at) r y ys ls h = h
 
 heads_placing : (x : Ending) (r : Record) (ys : List Item) (ls : List (List ℕ)) → x ≡ Recovered (found_of r) → Heads x (placing r ys ls GoOn)
 heads_placing x r [] ls h = heads_unlocking x r ls h
@@ -66,6 +73,10 @@ heads_mending x r h = elim (cases_Bool (is_go r)) [ inl y ↦ rw y (heads_placin
 
 erase-is : (n : List ℕ) (e : Event) → IsOf (ToErase n) e → (done : Bool) × (failed : Bool) × (e ≡ event.Erase n done failed)
 erase-is n e (erases {done = done} {failed = failed}) = (done, failed, refl)
+
+extend-is : {c : List ℕ} (n : List ℕ) (at : ℕ) (e : Event) → IsOf (ToExtend n at c) e → (tail : List ℕ) × (failed : Bool) × (e ≡ event.Extend n at tail failed)
+extend-is n at e (extends {c = c}) = (c, false, refl)
+extend-is n at e (extend_fails {left = tail}) = (tail, true, refl)
 
 publish-is : (from to : List ℕ) (e : Event) → IsOf (ToPublish from to) e → (done : Bool) × (failed : Bool) × (e ≡ event.Publish from to done failed)
 publish-is from to e (publishes {done = done} {failed = failed}) = (done, failed, refl)
@@ -107,7 +118,7 @@ module _ (actor : List ℕ) (token : ℕ) where
 
   testing-stays : (x : Ending) (r : Record) (y : Item) (ys : List Item) (ls : List (List ℕ)) → x ≡ Recovered (found_of r) → (s : Seen) → (Stays x (Testing r y ys ls) (event.Load (staged_name r.token y.name) s)) ⊎ (s ≡ seen.Memory)
   testing-stays x r y ys ls h (seen.Bytes None held) = inl (inl (heads_placing x r ys ls h, λ es. refl))
-  testing-stays x r y ys ls h (seen.Bytes (Some bytes) held) = inl (inl (h, λ es. refl))
+  testing-stays x r y ys ls h (seen.Bytes (Some bytes) held) = inl (inl (heads_known x y.way r (record y { staged = Some bytes }) ys ls h, λ es. refl))
   testing-stays x r y ys ls h (seen.TooLarge k) = inl (inr (Refused (TooLarge (staged_name r.token y.name) k), refl, λ m. refl))
   testing-stays x r y ys ls h seen.Failed = inl (inr (Failed Before, refl, λ m. refl))
   testing-stays x r y ys ls h seen.Memory = inr refl
@@ -115,6 +126,10 @@ module _ (actor : List ℕ) (token : ℕ) where
   removing-stays : (x : Ending) (r : Record) (y : Item) (ys : List Item) (ls : List (List ℕ)) → x ≡ Recovered (found_of r) → (done failed : Bool) → Stays x (Removing r y ys ls GoOn) (event.Erase y.name done failed)
   removing-stays x r y ys ls h done true = inr (Failed Before, refl, λ m. refl)
   removing-stays x r y ys ls h done false = inl (h, λ es. refl)
+
+  extending-stays : (x : Ending) (r : Record) (y : Item) (ys : List Item) (ls : List (List ℕ)) → x ≡ Recovered (found_of r) → (tail : List ℕ) (failed : Bool) → Stays x (Extending r y ys ls GoOn) (event.Extend y.name (stay y.way) tail failed)
+  extending-stays x r y ys ls h tail true = inr (Failed Before, refl, λ m. refl)
+  extending-stays x r y ys ls h tail false = inl (h, λ es. refl)
 
   discarding-stays : (x : Ending) (r : Record) (y : Item) (ys : List Item) (ls : List (List ℕ)) → x ≡ Recovered (found_of r) → (done failed : Bool) → Stays x (Discarding r y ys ls GoOn) (event.Erase (staged_name r.token y.name) done failed)
   discarding-stays x r y ys ls h done true = inr (Failed Before, refl, λ m. refl)
@@ -143,6 +158,7 @@ module _ (actor : List ℕ) (token : ℕ) where
       let w = load-is (staged_name r.token y.name) e is in
       subst (Passes x (Testing r y ys ls)) (sym w.1) (elim (testing-stays x r y ys ls h w.0) [ inl z ↦ inl z | inr m ↦ inr (ap (λ (s : Seen). after_reply job (Testing r y ys ls) (reply (event.Load (staged_name r.token y.name) s))) m) ])
   stays x (Removing r y ys ls GoOn) e h is = let w = erase-is y.name e is in subst (Passes x (Removing r y ys ls GoOn)) (sym w.2) (inl (removing-stays x r y ys ls h w.0 w.1))
+  stays x (Extending r y ys ls GoOn) e h is = let w = extend-is y.name (stay y.way) e is in subst (Passes x (Extending r y ys ls GoOn)) (sym w.2) (inl (extending-stays x r y ys ls h w.0 w.1))
   stays x (Discarding r y ys ls GoOn) e h is = let w = erase-is (staged_name r.token y.name) e is in subst (Passes x (Discarding r y ys ls GoOn)) (sym w.2) (inl (discarding-stays x r y ys ls h w.0 w.1))
   stays x (Unlocking r n ns GoOn) e h is = let w = unlock-is n r.token e is in subst (Passes x (Unlocking r n ns GoOn)) (sym w.2) (inl (unlocking-stays x r n ns h w.0 w.1))
   stays x (Erasing r GoOn) e h is = let w = erase-is (record_name actor) e is in subst (Passes x (Erasing r GoOn)) (sym w.2) (inl (erasing-stays x r h w.0 w.1))
@@ -155,6 +171,7 @@ module _ (actor : List ℕ) (token : ℕ) where
   refuses x (Placing r y ys ls GoOn) h = refl
   refuses x (Testing r y ys ls) h = refl
   refuses x (Removing r y ys ls GoOn) h = refl
+  refuses x (Extending r y ys ls GoOn) h = refl
   refuses x (Discarding r y ys ls GoOn) h = refl
   refuses x (Unlocking r n ns GoOn) h = refl
   refuses x (Erasing r GoOn) h = refl

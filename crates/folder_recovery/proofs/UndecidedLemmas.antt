@@ -7,8 +7,8 @@ use Rattle.host_port.specs.Own.{own}
 use Rattle.commit_machine.specs.Names.{new_name, staged_name}
 use Rattle.commit_machine.specs.Edits.{recovery_for}
 use Rattle.commit_machine.specs.Jobs.{Job}
-use Rattle.commit_machine.specs.Machine.{State, Seizing, Looking, Undoing, Placing, Testing, Removing, Discarding, Unlocking, Erasing, Clearing, Releasing, Ended, GoOn, next, refused, after_reply}
-use Rattle.commit_machine.specs.Goes.{IsNext, Goes, loads, publishes, erases, unlocks, seizes, releases, reply}
+use Rattle.commit_machine.specs.Machine.{State, Seizing, Looking, Undoing, Placing, Testing, Removing, Extending, Discarding, Unlocking, Erasing, Clearing, Releasing, Ended, GoOn, next, refused, after_reply}
+use Rattle.commit_machine.specs.Goes.{IsNext, Goes, loads, publishes, extends, extend_fails, erases, unlocks, seizes, releases, reply}
 use Rattle.commit_machine.specs.Due.{is_decision}
 use Rattle.commit_machine.specs.Laws.{decisions}
 use Rattle.commit_machine.proofs.records.Same.{same_false}
@@ -31,6 +31,8 @@ module _ (actor : List ℕ) (token : ℕ) where
   event-undecided (Placing r x xs ls GoOn) _ d h (publishes {done = done} {failed = failed}) = placed-undecided r.token x.name done failed d
   event-undecided (Testing r x xs ls) _ d h loads = refl
   event-undecided (Removing r x xs ls GoOn) _ d h erases = refl
+  event-undecided (Extending r x xs ls GoOn) _ d h extends = refl
+  event-undecided (Extending r x xs ls GoOn) _ d h extend_fails = refl
   event-undecided (Discarding r x xs ls GoOn) _ d h erases = refl
   event-undecided (Unlocking r n ns GoOn) _ d h unlocks = refl
   event-undecided (Erasing r GoOn) _ d h erases = refl
