@@ -11,9 +11,14 @@ use Rattle.commit_record.specs.declared.record.Record.{Record}
 use Rattle.commit_machine.specs.Names.{record_name, new_name, right_name, staged_name}
 use Rattle.commit_machine.specs.Jobs.{TooLarge, Ending, Refused, Failed, Edit, Job, Made, all_of, prepare_of, go_of}
 use Rattle.commit_machine.specs.Items.{Item}
-use Rattle.commit_machine.specs.Machine.{State, Seizing, Looking, Undoing, Placing, Testing, Removing, Discarding, Unlocking, Erasing, Clearing, Preparing, Publishing, Locking, Loading, Staging, Deciding, Committing, Checking, Releasing, Ended, Answer, ToLoad, ToStage, ToErase, ToPublish, ToLock, ToUnlock, ToSeize, ToRelease, unlocking, undoing, refusing, next, refused, after_reply}
-use Rattle.commit_machine.specs.Goes.{IsOf, loads, stages, stage_fails, publishes, erases, locks, unlocks, seizes, releases, IsNext, reply, Goes}
+use Rattle.folder_change.specs.Outcomes.{bytes_of}
+use Rattle.commit_machine.specs.Machine.{stay, State, Seizing, Looking, Undoing, Placing, Testing, Removing, Extending, Discarding, Unlocking, Erasing, Clearing, Preparing, Publishing, Locking, Loading, Staging, Deciding, Committing, Checking, Releasing, Ended, Answer, ToLoad, ToStage, ToExtend, ToErase, ToPublish, ToLock, ToUnlock, ToSeize, ToRelease, unlocking, undoing, refusing, next, refused, after_reply}
+use Rattle.commit_machine.specs.Goes.{IsOf, loads, stages, stage_fails, publishes, extends, extend_fails, erases, locks, unlocks, seizes, releases, IsNext, reply, Goes}
 use Rattle.commit_driver.specs.Drives.{is_past_limit}
+
+pub extend-is : (n : List ℕ) (at : ℕ) (c : List ℕ) (e : Event) → IsOf (ToExtend n at c) e → (tail : List ℕ) × (failed : Bool) × (e ≡ event.Extend n at tail failed)
+extend-is n at k e (extends {c = c}) = (c, false, refl)
+extend-is n at c e (extend_fails {left = tail}) = (tail, true, refl)
 
 pub erase-is : (n : List ℕ) (e : Event) → IsOf (ToErase n) e → (done : Bool) × (failed : Bool) × (e ≡ event.Erase n done failed)
 erase-is n e (erases {done = done} {failed = failed}) = (done, failed, refl)
@@ -207,6 +212,7 @@ module _ (j : Job) where
   led (Placing r x xs ls th) e is = let w = publish-is (staged_name r.token x.name) x.name e is in subst (Led (Placing r x xs ls th)) (sym w.2) (λ h. absurd (cc))
   led (Testing r x xs ls) e is = let w = load-is (staged_name r.token x.name) e is in subst (Led (Testing r x xs ls)) (sym w.1) (l-testing r x xs ls (staged_name r.token x.name) w.0)
   led (Removing r x xs ls th) e is = let w = erase-is x.name e is in subst (Led (Removing r x xs ls th)) (sym w.2) (λ h. absurd (cc))
+  led (Extending r x xs ls th) e is = let w = extend-is x.name (stay x.way) (bytes_of x.staged) e is in subst (Led (Extending r x xs ls th)) (sym w.2) (λ h. absurd (cc))
   led (Discarding r x xs ls th) e is = let w = erase-is (staged_name r.token x.name) e is in subst (Led (Discarding r x xs ls th)) (sym w.2) (λ h. absurd (cc))
   led (Unlocking r n ns th) e is = let w = unlock-is n r.token e is in subst (Led (Unlocking r n ns th)) (sym w.2) (λ h. absurd (cc))
   led (Erasing r th) e is = let w = erase-is (record_name j.actor) e is in subst (Led (Erasing r th)) (sym w.2) (λ h. absurd (cc))

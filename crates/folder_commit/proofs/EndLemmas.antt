@@ -6,12 +6,12 @@ use Rattle.std.proofs.lemmas.Bool.{cases_Bool}
 use Rattle.host_port.specs.declared.event.Event.{Event}
 use Rattle.commit_record.specs.declared.record.Record.{Record}
 use Rattle.commit_record.specs.declared.way.Way.{Way}
-use Rattle.commit_record.specs.declared.way.Way.TheVariants.{Replace, Remove}
+use Rattle.commit_record.specs.declared.way.Way.TheVariants.{Replace, Remove, Extend}
 use Rattle.commit_machine.specs.Records.{record_of, is_go, names_of}
 use Rattle.commit_machine.specs.Items.{Item, found_items, made_items}
 use Rattle.commit_machine.specs.Settled.{Files}
 use Rattle.commit_machine.specs.Jobs.{Ending, Done, Recovered, Refused, NoMemory, Refusal, Outcome, Puts, Edit, Job, Made, all_of, seen_files, prepare_of, go_of}
-use Rattle.commit_machine.specs.Machine.{State, Seizing, Looking, Undoing, Placing, Testing, Removing, Discarding, Unlocking, Erasing, Clearing, Preparing, Publishing, Locking, Loading, Staging, Deciding, Committing, Checking, Releasing, Ended, Then, GoOn, Answer, Reply, Went, Saw, Long, Short, Fault, unlocking, undoing, removing, tested, place_one, placing, staging, record_seen, judged, loading, locking, loaded, refused, after_reply}
+use Rattle.commit_machine.specs.Machine.{State, Seizing, Looking, Undoing, Placing, Testing, Removing, Extending, Discarding, Unlocking, Erasing, Clearing, Preparing, Publishing, Locking, Loading, Staging, Deciding, Committing, Checking, Releasing, Ended, Then, GoOn, Answer, Reply, Went, Saw, Long, Short, Fault, unlocking, undoing, removing, extending, tested, place_one, place_known, placing, staging, record_seen, judged, loading, locking, loaded, refused, after_reply}
 use Rattle.commit_machine.specs.Goes.{reply, Goes}
 
 -- the ends of a commit
@@ -27,6 +27,7 @@ abbrev Commits : State → Type 0
 Commits (Undoing r n ns ls th) = EndsThen th
 Commits (Placing r x xs ls th) = EndsThen th
 Commits (Removing r x xs ls th) = EndsThen th
+Commits (Extending r x xs ls th) = EndsThen th
 Commits (Discarding r x xs ls th) = EndsThen th
 Commits (Unlocking r n ns th) = EndsThen th
 Commits (Erasing r th) = EndsThen th
@@ -46,9 +47,19 @@ c-removing : (r : Record) (x : Item) (xs : List Item) (ls : List (List ℕ)) (th
 c-removing r x xs ls GoOn h = tt
 c-removing r x xs ls (Answer e) h = h
 
+c-extending : (r : Record) (x : Item) (xs : List Item) (ls : List (List ℕ)) (th : Then) → EndsThen th → Commits (extending r x xs ls th)
+c-extending r x xs ls GoOn h = tt
+c-extending r x xs ls (Answer e) h = h
+
+c-known : (way : Way) (r : Record) (x : Item) (xs : List Item) (ls : List (List ℕ)) → Commits (place_known way r x xs ls GoOn)
+c-known Replace r x xs ls = tt
+c-known Remove r x xs ls = tt
+c-known (Extend at) r x xs ls = tt
+
 c-one : (way : Way) (r : Record) (x : Item) (xs : List Item) (ls : List (List ℕ)) (th : Then) → EndsThen th → Commits (place_one way r x xs ls th)
 c-one Replace r x xs ls th h = h
 c-one Remove r x xs ls th h = c-removing r x xs ls th h
+c-one (Extend at) r x xs ls th h = c-extending r x xs ls th h
 
 c-placing : (r : Record) (xs : List Item) (ls : List (List ℕ)) (th : Then) → EndsThen th → Commits (placing r xs ls th)
 c-placing r [] ls th h = c-unlocking r ls th h
@@ -56,7 +67,7 @@ c-placing r (x ∷ xs) ls th h = c-one x.way r x xs ls th h
 
 c-tested : (r : Record) (x : Item) (xs : List Item) (ls : List (List ℕ)) (c : Option (List ℕ)) → Commits (tested r x xs ls c)
 c-tested r x xs ls None = c-placing r xs ls GoOn tt
-c-tested r x xs ls (Some bytes) = tt
+c-tested r x xs ls (Some bytes) = c-known x.way r (record x { staged = Some bytes }) xs ls
 
 c-seen : (o : Option Record) → Commits (record_seen o)
 c-seen None = tt
@@ -94,7 +105,9 @@ module _ (actor : List ℕ) (token : ℕ) (edits : List Edit) (refusal : Files �
   c-refused (Placing r x xs ls (Answer e)) h = h
   c-refused (Testing r x xs ls) h = tt
   c-refused (Removing r x xs ls GoOn) h = tt
+  c-refused (Extending r x xs ls GoOn) h = tt
   c-refused (Removing r x xs ls (Answer e)) h = h
+  c-refused (Extending r x xs ls (Answer e)) h = h
   c-refused (Discarding r x xs ls GoOn) h = tt
   c-refused (Discarding r x xs ls (Answer e)) h = h
   c-refused (Unlocking r n ns GoOn) h = tt
@@ -120,6 +133,7 @@ module _ (actor : List ℕ) (token : ℕ) (edits : List Edit) (refusal : Files �
   c-went (Placing r x xs ls th) b h = c-placing r xs ls th h
   c-went (Testing r x xs ls) b h = tt
   c-went (Removing r x xs ls th) b h = h
+  c-went (Extending r x xs ls th) b h = h
   c-went (Discarding r x xs ls th) b h = c-placing r xs ls th h
   c-went (Unlocking r n ns th) b h = c-unlocking r ns th h
   c-went (Erasing r GoOn) b h = tt

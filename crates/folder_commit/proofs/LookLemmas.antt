@@ -11,7 +11,7 @@ use Rattle.host_port.specs.declared.event.Seen.TheVariants as seen
 use Rattle.folder_change.specs.declared.change.Change.{Change}
 use Rattle.commit_machine.specs.Names.{record_name, new_name, right_name}
 use Rattle.commit_machine.specs.Jobs.{Before, After, Unknown, Ending, Done, Failed, Job, Made, all_of}
-use Rattle.commit_machine.specs.Machine.{State, Seizing, Placing, Removing, Discarding, Unlocking, Erasing, Committing, Checking, Releasing, Ended, Then, GoOn, Answer, Fault, next, refused, after_reply, faulted, passed_at, passed_then, passed_ending, passed_by, go_front}
+use Rattle.commit_machine.specs.Machine.{State, Seizing, Placing, Removing, Extending, Discarding, Unlocking, Erasing, Committing, Checking, Releasing, Ended, Then, GoOn, Answer, Fault, next, refused, after_reply, faulted, passed_at, passed_then, passed_ending, passed_by, go_front}
 use Rattle.commit_machine.specs.Goes.{IsNext, Goes, reply}
 use Rattle.commit_machine.specs.Edits.{first_names, job_for}
 use Rattle.commit_machine.specs.Restraints.{is_failed}
@@ -56,6 +56,7 @@ known-then (Answer a) h = known-passed a h
 known-at : (s : State) → Clean s → is_bad s ≡ false → is_unknown_end (Failed (passed_at s)) ≡ false
 known-at (Placing r x xs ls th) h b = known-then th h
 known-at (Removing r x xs ls th) h b = known-then th h
+known-at (Extending r x xs ls th) h b = known-then th h
 known-at (Discarding r x xs ls th) h b = known-then th h
 known-at (Unlocking r n ns th) h b = known-then th h
 known-at (Erasing r th) h b = known-then th h
@@ -73,6 +74,8 @@ fails-so (event.Stage n c true) h = refl
 fails-so (event.Stage n c false) h = absurd (cc)
 fails-so (event.Publish from to done true) h = refl
 fails-so (event.Publish from to done false) h = absurd (cc)
+fails-so (event.Extend n at tail true) h = refl
+fails-so (event.Extend n at tail false) h = absurd (cc)
 fails-so (event.Erase n done true) h = refl
 fails-so (event.Erase n done false) h = absurd (cc)
 fails-so (event.Lock n t got true) h = refl

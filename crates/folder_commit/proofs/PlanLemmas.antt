@@ -1,26 +1,29 @@
 -- The files that changes name, and the plan of their commit.
-use Rattle.std.proofs.Common.{◌≡◌, ◌≢◌, ◌⊎◌, ℕ, zero, suc, ◌^◌, ◌<◌, ◌≤◌, Bool, true, false, ◌&&◌, ◌||◌, not, List, [], ◌∷◌, ◌++◌, length, map, get_or, refl, ap, sym, subst, inl, inr, ◌∙◌, arith, append-nil, if◌then◌else◌}
+use Rattle.std.proofs.Common.{◌≡◌, ◌≢◌, ◌⊎◌, ℕ, zero, suc, ◌^◌, ◌<◌, ◌≤◌, Bool, true, false, ◌&&◌, ◌||◌, not, List, [], ◌∷◌, ◌++◌, length, map, get_or, refl, ap, sym, subst, inl, inr, ◌∙◌, arith, append-nil, if◌then◌else◌, Option, Some, None, drop, lit<}
 use Rattle.std.specs.Prelude.{All, nat_lt, nat_le}
 use Rattle.std.specs.List.{list_any, list_all}
 use Rattle.std.specs.Str.{bytes_eq}
 use Rattle.std.proofs.lemmas.Grind.{common_steps}
-use Rattle.std.proofs.lemmas.Bool.{cases_Bool, and_parts, or_right, or_left, not-true, cond-true}
+use Rattle.std.proofs.lemmas.Bool.{leb-true, le-leb, cases_Bool, and_parts, or_right, or_left, not-true, cond-true}
 use Rattle.std.proofs.lemmas.List.Elements.{All-head, All-tail}
 use Rattle.host_port.specs.Names.{has_no_zero}
 use Rattle.folder_change.specs.declared.change.Change.{Change}
 use Rattle.folder_change.specs.Changes.{name_of}
-use Rattle.commit_record.specs.Format.{is_valid, is_replace, fit_phase, are_distinct, written}
+use Rattle.commit_record.specs.Format.{is_valid, is_replace, fits_kind, fit_phase, are_distinct, written}
 use Rattle.commit_record.specs.Names.{is_lawful}
 use Rattle.commit_record.specs.declared.record.Phase.{Phase}
 use Rattle.commit_record.specs.declared.record.Phase.TheVariants.{Prepare, Go}
 use Rattle.commit_record.specs.Ways.{entry_for}
-use Rattle.commit_record.specs.declared.way.Way.TheVariants.{Replace}
+use Rattle.commit_record.specs.declared.way.Way.TheVariants.{Replace, Remove, Extend}
+use Rattle.host_port.specs.Disk.{reaches}
+use Rattle.host_port.specs.Calls.{load_limit}
+use Rattle.folder_change.specs.Apply.{apply}
 use Rattle.commit_record.specs.declared.record.Entry.{Entry}
 use Rattle.commit_machine.specs.Names.{actor_limit, is_record_name, staged_name}
 use Rattle.commit_machine.specs.Records.{names_of, has, AreDistinct}
 use Rattle.commit_machine.specs.Settled.{Mem}
-use Rattle.commit_machine.specs.Jobs.{Edit, IsJob, all_of}
-use Rattle.commit_machine.specs.Edits.{first_names, without, edit_for, job_for}
+use Rattle.commit_machine.specs.Jobs.{Puts, Edit, IsJob, all_of}
+use Rattle.commit_machine.specs.Edits.{first_names, without, only_adds, outcome_for, edit_for, job_for}
 use Rattle.commit_machine.proofs.records.Same.{same_refl, same_or_not}
 use Rattle.commit_driver.specs.Places.{nth, IsPlan, IsSafe}
 use Rattle.commit_driver.specs.Answers.{IsCommitOf}
@@ -180,6 +183,13 @@ fits-phase : (phase : Phase) (ns : List (List ℕ)) → fit_phase phase (replace
 fits-phase Prepare ns = all-replace ns
 fits-phase Go ns = refl
 
+all-kinds : (ns : List (List ℕ)) → list_all fits_kind (replaced ns) ≡ true
+all-kinds [] = refl
+all-kinds (n ∷ ns) = all-kinds ns
+
+fits-both : (phase : Phase) (ns : List (List ℕ)) → (list_all fits_kind (replaced ns) && fit_phase phase (replaced ns)) ≡ true
+fits-both phase ns = rw (all-kinds ns, fits-phase phase ns) refl
+
 some-first : (cs : List Change) → 1 ≤ length cs → 1 ≤ length (first_names cs)
 some-first [] h = absurd (omega (arith, h))
 some-first (c ∷ cs) h = omega arith
@@ -189,8 +199,8 @@ is-valid-plan actor phase token cs files some few =
     let ns = first_names cs in
     let long = length-replaced ns in
     let least = some-first cs some in
-    tests (nat_lt 0 (length (replaced ns))) (nat_le (length (replaced ns)) 16) (list_all (λ (e : Entry). is_lawful e.name) (replaced ns)) (are_distinct (replaced ns)) (fit_phase phase (replaced ns))
-    (grind (arith, common_steps)) (grind (arith, common_steps)) (all-lawful actor ns (names-first (Filed actor) cs files)) (are-distinct ns (distinct-first cs)) (fits-phase phase ns)
+    tests (nat_lt 0 (length (replaced ns))) (nat_le (length (replaced ns)) 16) (list_all (λ (e : Entry). is_lawful e.name) (replaced ns)) (are_distinct (replaced ns)) (list_all fits_kind (replaced ns) && fit_phase phase (replaced ns))
+    (grind (arith, common_steps)) (grind (arith, common_steps)) (all-lawful actor ns (names-first (Filed actor) cs files)) (are-distinct ns (distinct-first cs)) (fits-both phase ns)
 
 -- the names of the plan
 pub plan-names : (ns : List (List ℕ)) → map (λ (e : Entry). e.name) (replaced ns) ≡ ns
@@ -266,11 +276,33 @@ edit-file actor cs base (n ∷ ns) e h (inr m) = edit-file actor cs base ns e h.
 plain-name : (actor name : List ℕ) → is_file_name actor name ≡ true → is_record_name actor name ≡ false
 plain-name actor name h = not-true (is_record_name actor name) (and_parts (not (is_record_name actor name)) _ (and_parts (is_lawful name) _ h).1).0
 
+-- what is staged as a tail is one of a file that stands so far
+outcome-extends : (adds : Bool) (seen now : Option (List ℕ)) (at : ℕ) (content : List ℕ) → outcome_for adds seen now ≡ Puts (Extend at) content → (reaches at seen ≡ true) × (at < 2 ^ 64)
+outcome-extends adds seen None at content e = absurd (let w : Puts Remove [] ≡ Puts (Extend at) content = e in cc)
+outcome-extends false seen (Some bytes) at content e = absurd (let w : Puts Replace bytes ≡ Puts (Extend at) content = e in cc)
+outcome-extends true None (Some bytes) at content e = absurd (let w : Puts Replace bytes ≡ Puts (Extend at) content = e in cc)
+outcome-extends true (Some old) (Some bytes) at content e = go (nat_le (length old) load_limit) refl e
+  where
+    small : (n most : ℕ) → n ≤ most → most < 2 ^ 64 → n < 2 ^ 64
+    small n most le fits = omega arith
+
+    go : (b : Bool) → nat_le (length old) load_limit ≡ b → (if b then Puts (Extend (length old)) (drop (length old) bytes) else Puts Replace bytes) ≡ Puts (Extend at) content → (reaches at (Some old) ≡ true) × (at < 2 ^ 64)
+    go true is h =
+        let same : length old ≡ at = cc in
+        (le-leb at (length old) (omega (arith, same)), subst (λ (n : ℕ). n < 2 ^ 64) same (small (length old) load_limit (leb-true (length old) load_limit is) (lit< tt)))
+    go false is h = absurd (cc)
+
+edit-extends : (cs : List Change) (base ns : List (List ℕ)) (e : Edit) → Mem e (map (edit_for cs base) ns) → (seen : Option (List ℕ)) (at : ℕ) (content : List ℕ) → e.by seen ≡ Puts (Extend at) content → (reaches at seen ≡ true) × (at < 2 ^ 64)
+edit-extends cs base [] e m seen at content h = absurd m
+edit-extends cs base (n ∷ ns) e (inl is) seen at content h = outcome-extends (only_adds cs n) seen (apply cs base (λ m. seen) n) at content (ap (λ (x : Edit). x.by seen) (sym is) ∙ h)
+edit-extends cs base (n ∷ ns) e (inr m) seen at content h = edit-extends cs base ns e m seen at content h
+
 pub is-job : (actor : List ℕ) (token : ℕ) (cs : List Change) (base : List (List ℕ)) → token < 2 ^ 64 → AreFiles actor cs → 1 ≤ length cs → length (first_names cs) ≤ 16 → IsJob (job_for actor token cs base)
 is-job actor token cs base fits files some few = record {
   token_fits = fits;
   valid = λ es is. ap (λ (ns : List (List ℕ)). is_valid (record_for Prepare token ns)) (all-first actor token cs base) ∙ is-valid-plan actor Prepare token cs files some few;
   plain = λ e m. plain-name actor e.name (edit-file actor cs base (first_names cs) e (names-first (Filed actor) cs files) m);
+  extends = λ e m. edit-extends cs base (first_names cs) e m;
 }
 
 pub nth-Mem : (ns : List (List ℕ)) (k : ℕ) → k < length ns → Mem (nth ns k) ns

@@ -11,12 +11,13 @@ use Rattle.host_port.specs.declared.event.Seen.TheVariants as seen
 use Rattle.commit_record.specs.Format.{written}
 use Rattle.commit_record.specs.declared.record.Record.{Record}
 use Rattle.commit_record.specs.declared.way.Way.{Way}
-use Rattle.commit_record.specs.declared.way.Way.TheVariants.{Replace, Remove}
+use Rattle.commit_record.specs.declared.way.Way.TheVariants.{Replace, Remove, Extend}
+use Rattle.folder_change.specs.Outcomes.{bytes_of}
 use Rattle.commit_machine.specs.Names.{record_name, new_name, right_name, staged_name}
 use Rattle.commit_machine.specs.Records.{record_of, is_go, names_of}
 use Rattle.commit_machine.specs.Items.{Item, found_items, made_items}
 use Rattle.commit_machine.specs.Jobs.{Found, Refusal, Busy, TooLarge, Ending, Done, Refused, Failed, NoMemory, Outcome, Puts, Edit, Job, Made, all_of, edits_of, prepare_of, go_of, seen_files}
-use Rattle.commit_machine.specs.Machine.{State, Seizing, Looking, Undoing, Placing, Testing, Removing, Discarding, Unlocking, Erasing, Clearing, Preparing, Publishing, Locking, Loading, Staging, Deciding, Committing, Checking, Releasing, Ended, Then, GoOn, Answer, unlocking, undoing, removing, place_one, placing, staging, mended, none_stands, mending, record_seen, refusing, judged, loading, locking, loaded, next, refused, after_reply}
+use Rattle.commit_machine.specs.Machine.{State, Seizing, Looking, Undoing, Placing, Testing, Removing, Extending, Discarding, Unlocking, Erasing, Clearing, Preparing, Publishing, Locking, Loading, Staging, Deciding, Committing, Checking, Releasing, Ended, Then, GoOn, Answer, unlocking, undoing, removing, extending, stay, place_one, place_known, placing, staging, mended, none_stands, mending, record_seen, refusing, judged, loading, locking, loaded, next, refused, after_reply}
 use Rattle.commit_machine.specs.Goes.{IsNext, reply, Goes}
 use Rattle.commit_machine.specs.Restraints.{is_failed}
 use Rattle.commit_driver.specs.declared.step.Passed.TheVariants as passed
@@ -24,7 +25,7 @@ use Rattle.folder_commit.specs.declared.error.CommitError.{CommitError}
 use Rattle.folder_commit.specs.declared.error.CommitError.TheVariants as error
 use Rattle.folder_commit.specs.Ends.{AnswersAs, Commits}
 use Rattle.folder_commit.specs.Told.{is_fault, TellsFaults}
-use Rattle.folder_commit.proofs.CleanLemmas.{erase-is, publish-is, lock-is, unlock-is, seize-is, load-is, release-is, stage-is}
+use Rattle.folder_commit.proofs.CleanLemmas.{extend-is, erase-is, publish-is, lock-is, unlock-is, seize-is, load-is, release-is, stage-is}
 
 -- the end of a call that failed
 abbrev pub is_failed_end : Ending → Bool
@@ -47,6 +48,7 @@ abbrev pub Clean : State → Type 0
 Clean (Undoing r n ns ls th) = CleanThen th
 Clean (Placing r x xs ls th) = CleanThen th
 Clean (Removing r x xs ls th) = CleanThen th
+Clean (Extending r x xs ls th) = CleanThen th
 Clean (Discarding r x xs ls th) = CleanThen th
 Clean (Unlocking r n ns th) = CleanThen th
 Clean (Erasing r th) = CleanThen th
@@ -68,9 +70,19 @@ good_removing : (r : Record) (x : Item) (xs : List Item) (ls : List (List ℕ)) 
 good_removing r x xs ls GoOn h = (tt, refl)
 good_removing r x xs ls (Answer e) h = (h, refl)
 
+good_extending : (r : Record) (x : Item) (xs : List Item) (ls : List (List ℕ)) (th : Then) → CleanThen th → Good (extending r x xs ls th)
+good_extending r x xs ls GoOn h = (tt, refl)
+good_extending r x xs ls (Answer e) h = (h, refl)
+
+good_known : (way : Way) (r : Record) (x : Item) (xs : List Item) (ls : List (List ℕ)) → Good (place_known way r x xs ls GoOn)
+good_known Replace r x xs ls = (tt, refl)
+good_known Remove r x xs ls = (tt, refl)
+good_known (Extend at) r x xs ls = (tt, refl)
+
 good_one : (way : Way) (r : Record) (x : Item) (xs : List Item) (ls : List (List ℕ)) (th : Then) → CleanThen th → Good (place_one way r x xs ls th)
 good_one Replace r x xs ls th h = (h, refl)
 good_one Remove r x xs ls th h = good_removing r x xs ls th h
+good_one (Extend at) r x xs ls th h = good_extending r x xs ls th h
 
 good_placing : (r : Record) (xs : List Item) (ls : List (List ℕ)) (th : Then) → CleanThen th → Good (placing r xs ls th)
 good_placing r [] ls th h = good_unlocking r ls th h
@@ -127,7 +139,9 @@ module _ (j : Job) where
   refused_bad (Placing r x xs ls (Answer e)) h = (h, refl)
   refused_bad (Testing r x xs ls) h = (tt, refl)
   refused_bad (Removing r x xs ls GoOn) h = (tt, refl)
+  refused_bad (Extending r x xs ls GoOn) h = (tt, refl)
   refused_bad (Removing r x xs ls (Answer e)) h = (h, refl)
+  refused_bad (Extending r x xs ls (Answer e)) h = (h, refl)
   refused_bad (Discarding r x xs ls GoOn) h = (tt, refl)
   refused_bad (Discarding r x xs ls (Answer e)) h = (h, refl)
   refused_bad (Unlocking r n ns GoOn) h = (tt, refl)
@@ -160,7 +174,7 @@ module _ (j : Job) where
 
   testing-bad : (r : Record) (x : Item) (xs : List Item) (ls : List (List ℕ)) (m : List ℕ) (s : Seen) → Steps (Testing r x xs ls) (event.Load m s)
   testing-bad r x xs ls m (seen.Bytes None held) = good_placing r xs ls GoOn tt
-  testing-bad r x xs ls m (seen.Bytes (Some bytes) held) = (tt, refl)
+  testing-bad r x xs ls m (seen.Bytes (Some bytes) held) = good_known x.way r (record x { staged = Some bytes }) xs ls
   testing-bad r x xs ls m (seen.TooLarge k) = (tt, refl)
   testing-bad r x xs ls m seen.Failed = (tt, refl)
   testing-bad r x xs ls m seen.Memory = (tt, refl)
@@ -168,6 +182,10 @@ module _ (j : Job) where
   removing-bad : (r : Record) (x : Item) (xs : List Item) (ls : List (List ℕ)) (th : Then) → CleanThen th → (m : List ℕ) (done failed : Bool) → Steps (Removing r x xs ls th) (event.Erase m done failed)
   removing-bad r x xs ls th h m done true = (tt, refl)
   removing-bad r x xs ls th h m done false = (h, refl)
+
+  extending-bad : (r : Record) (x : Item) (xs : List Item) (ls : List (List ℕ)) (th : Then) → CleanThen th → (m : List ℕ) (at : ℕ) (tail : List ℕ) (failed : Bool) → Steps (Extending r x xs ls th) (event.Extend m at tail failed)
+  extending-bad r x xs ls th h m at tail true = (tt, refl)
+  extending-bad r x xs ls th h m at tail false = (h, refl)
 
   discarding-bad : (r : Record) (x : Item) (xs : List Item) (ls : List (List ℕ)) (th : Then) → CleanThen th → (m : List ℕ) (done failed : Bool) → Steps (Discarding r x xs ls th) (event.Erase m done failed)
   discarding-bad r x xs ls th h m done true = (tt, refl)
@@ -251,6 +269,7 @@ module _ (j : Job) where
   step-bad (Placing r x xs ls th) e h is = let w = publish-is (staged_name r.token x.name) x.name e is in subst (Steps (Placing r x xs ls th)) (sym w.2) (placing-bad r x xs ls th h (staged_name r.token x.name) x.name w.0 w.1)
   step-bad (Testing r x xs ls) e h is = let w = load-is (staged_name r.token x.name) e is in subst (Steps (Testing r x xs ls)) (sym w.1) (testing-bad r x xs ls (staged_name r.token x.name) w.0)
   step-bad (Removing r x xs ls th) e h is = let w = erase-is x.name e is in subst (Steps (Removing r x xs ls th)) (sym w.2) (removing-bad r x xs ls th h x.name w.0 w.1)
+  step-bad (Extending r x xs ls th) e h is = let w = extend-is x.name (stay x.way) (bytes_of x.staged) e is in subst (Steps (Extending r x xs ls th)) (sym w.2) (extending-bad r x xs ls th h x.name (stay x.way) w.0 w.1)
   step-bad (Discarding r x xs ls th) e h is = let w = erase-is (staged_name r.token x.name) e is in subst (Steps (Discarding r x xs ls th)) (sym w.2) (discarding-bad r x xs ls th h (staged_name r.token x.name) w.0 w.1)
   step-bad (Unlocking r n ns th) e h is = let w = unlock-is n r.token e is in subst (Steps (Unlocking r n ns th)) (sym w.2) (unlocking-bad r n ns th h n r.token w.0 w.1)
   step-bad (Erasing r th) e h is = let w = erase-is (record_name j.actor) e is in subst (Steps (Erasing r th)) (sym w.2) (erasing-bad r th h (record_name j.actor) w.0 w.1)

@@ -13,13 +13,14 @@ use Rattle.host_port.specs.declared.event.Seen.TheVariants as seen
 use Rattle.commit_record.specs.Format.{written}
 use Rattle.commit_record.specs.declared.record.Record.{Record}
 use Rattle.commit_record.specs.declared.way.Way.{Way}
-use Rattle.commit_record.specs.declared.way.Way.TheVariants.{Replace, Remove}
+use Rattle.commit_record.specs.declared.way.Way.TheVariants.{Replace, Remove, Extend}
+use Rattle.folder_change.specs.Outcomes.{bytes_of}
 use Rattle.commit_machine.specs.Names.{record_name, new_name, right_name, staged_name}
 use Rattle.commit_machine.specs.Records.{record_of, is_go, names_of}
 use Rattle.commit_machine.specs.Items.{Item, found_items, made_items}
 use Rattle.commit_machine.specs.Settled.{Files, Mem}
 use Rattle.commit_machine.specs.Jobs.{Found, Refusal, Busy, NotARecord, TooLarge, Ending, Done, Refused, NoMemory, Edit, Job, Made, all_names, all_of, prepare_of, go_of, made_at, seen_files}
-use Rattle.commit_machine.specs.Machine.{State, Seizing, Looking, Undoing, Placing, Testing, Removing, Discarding, Unlocking, Erasing, Clearing, Preparing, Publishing, Locking, Loading, Staging, Deciding, Committing, Checking, Releasing, Ended, Then, GoOn, Answer, unlocking, undoing, removing, place_one, placing, staging, mending, record_seen, refusing, judged, loading, locking, loaded, next, refused, after_reply}
+use Rattle.commit_machine.specs.Machine.{State, Seizing, Looking, Undoing, Placing, Testing, Removing, Extending, Discarding, Unlocking, Erasing, Clearing, Preparing, Publishing, Locking, Loading, Staging, Deciding, Committing, Checking, Releasing, Ended, Then, GoOn, Answer, unlocking, undoing, removing, extending, stay, place_one, place_known, placing, staging, mending, record_seen, refusing, judged, loading, locking, loaded, next, refused, after_reply}
 use Rattle.commit_machine.specs.Goes.{IsNext, reply, Goes}
 use Rattle.commit_machine.specs.Restraints.{is_failed}
 use Rattle.commit_machine.proofs.records.Names.{staged-new}
@@ -29,7 +30,7 @@ use Rattle.folder_commit.specs.declared.error.CommitError.{CommitError}
 use Rattle.folder_commit.specs.declared.error.CommitError.TheVariants as error
 use Rattle.folder_commit.specs.Ends.{AnswersAs}
 use Rattle.folder_commit.specs.Told.{seen_in, by_decision, by_changes, by_load, by_lock, by_standing, by_record, by_right, TellsFaults, TellsEnd}
-use Rattle.folder_commit.proofs.CleanLemmas.{erase-is, publish-is, lock-is, unlock-is, seize-is, load-is, release-is, stage-is, AllQuiet, cleans-refusing, all-quiet}
+use Rattle.folder_commit.proofs.CleanLemmas.{extend-is, erase-is, publish-is, lock-is, unlock-is, seize-is, load-is, release-is, stage-is, AllQuiet, cleans-refusing, all-quiet}
 
 or_parts : (a b : Bool) → (a || b) ≡ false → (a ≡ false) × (b ≡ false)
 or_parts true b h = absurd (cc)
@@ -97,6 +98,7 @@ module _ (actor : List ℕ) (token : ℕ) (first : Edit) (more : List Edit) (ref
   end_from (Placing r x xs ls th) es = end_then th es
   end_from (Testing r x xs ls) es = locks_from es
   end_from (Removing r x xs ls th) es = end_then th es
+  end_from (Extending r x xs ls th) es = end_then th es
   end_from (Discarding r x xs ls th) es = end_then th es
   end_from (Unlocking r n ns th) es = end_then th es
   end_from (Erasing r th) es = end_then th es
@@ -128,6 +130,7 @@ module _ (actor : List ℕ) (token : ℕ) (first : Edit) (more : List Edit) (ref
   Shape (Placing r x xs ls th) es = ShownThen th es
   Shape (Testing r x xs ls) es = Shown [] es
   Shape (Removing r x xs ls th) es = ShownThen th es
+  Shape (Extending r x xs ls th) es = ShownThen th es
   Shape (Discarding r x xs ls th) es = ShownThen th es
   Shape (Unlocking r n ns th) es = ShownThen th es
   Shape (Erasing r th) es = ShownThen th es
@@ -154,9 +157,19 @@ module _ (actor : List ℕ) (token : ℕ) (first : Edit) (more : List Edit) (ref
   so_removing r x xs ls GoOn es h = (h, refl)
   so_removing r x xs ls (Answer e) es h = (h, refl)
 
+  so_extending : (r : Record) (x : Item) (xs : List Item) (ls : List (List ℕ)) (th : Then) (es : List Event) → ShownThen th es → Ends_so (extending r x xs ls th) es (end_then th es)
+  so_extending r x xs ls GoOn es h = (h, refl)
+  so_extending r x xs ls (Answer e) es h = (h, refl)
+
+  so_known : (way : Way) (r : Record) (x : Item) (xs : List Item) (ls : List (List ℕ)) (es : List Event) → Shown [] es → Ends_so (place_known way r x xs ls GoOn) es (locks_from es)
+  so_known Replace r x xs ls es h = (h, refl)
+  so_known Remove r x xs ls es h = (h, refl)
+  so_known (Extend at) r x xs ls es h = (h, refl)
+
   so_one : (way : Way) (r : Record) (x : Item) (xs : List Item) (ls : List (List ℕ)) (th : Then) (es : List Event) → ShownThen th es → Ends_so (place_one way r x xs ls th) es (end_then th es)
   so_one Replace r x xs ls th es h = (h, refl)
   so_one Remove r x xs ls th es h = so_removing r x xs ls th es h
+  so_one (Extend at) r x xs ls th es h = so_extending r x xs ls th es h
 
   so_placing : (r : Record) (xs : List Item) (ls : List (List ℕ)) (th : Then) (es : List Event) → ShownThen th es → Ends_so (placing r xs ls th) es (end_then th es)
   so_placing r [] ls th es h = so_unlocking r ls th es h
@@ -243,7 +256,7 @@ module _ (actor : List ℕ) (token : ℕ) (first : Edit) (more : List Edit) (ref
 
   w-testing : (r : Record) (x : Item) (xs : List Item) (ls : List (List ℕ)) (s : Seen) → is_failed (event.Load (staged_name r.token x.name) s) ≡ false → Walks (Testing r x xs ls) (event.Load (staged_name r.token x.name) s)
   w-testing r x xs ls (seen.Bytes None held) h = λ es k. so_placing r xs ls GoOn es (shown-staged r.token x.name None held es k)
-  w-testing r x xs ls (seen.Bytes (Some bytes) held) h = λ es k. (shown-staged r.token x.name (Some bytes) held es k, refl)
+  w-testing r x xs ls (seen.Bytes (Some bytes) held) h = λ es k. so_known x.way r (record x { staged = Some bytes }) xs ls es (shown-staged r.token x.name (Some bytes) held es k)
   w-testing r x xs ls (seen.TooLarge k) h = λ es k. (tt, refl)
   w-testing r x xs ls seen.Failed h = absurd (cc)
   w-testing r x xs ls seen.Memory h = λ es k. (tt, refl)
@@ -251,6 +264,18 @@ module _ (actor : List ℕ) (token : ℕ) (first : Edit) (more : List Edit) (ref
   w-removing : (r : Record) (x : Item) (xs : List Item) (ls : List (List ℕ)) (th : Then) (m : List ℕ) (d f : Bool) → f ≡ false → Walks (Removing r x xs ls th) (event.Erase m d f)
   w-removing r x xs ls th m d true h = absurd (cc)
   w-removing r x xs ls th m d false h = λ es k. (shown-erase th m d false es k, sym (skip-erase th m d false es))
+
+  skip-extend : (th : Then) (m : List ℕ) (at : ℕ) (tail : List ℕ) (f : Bool) (es : List Event) → end_then th (event.Extend m at tail f ∷ es) ≡ end_then th es
+  skip-extend GoOn m at tail f es = refl
+  skip-extend (Answer a) m at tail f es = refl
+
+  shown-extend : (th : Then) (m : List ℕ) (at : ℕ) (tail : List ℕ) (f : Bool) (es : List Event) → ShownThen th (event.Extend m at tail f ∷ es) → ShownThen th es
+  shown-extend GoOn m at tail f es h = h
+  shown-extend (Answer a) m at tail f es h = tt
+
+  w-extending : (r : Record) (x : Item) (xs : List Item) (ls : List (List ℕ)) (th : Then) (m : List ℕ) (at : ℕ) (tail : List ℕ) (f : Bool) → f ≡ false → Walks (Extending r x xs ls th) (event.Extend m at tail f)
+  w-extending r x xs ls th m at tail true h = absurd (cc)
+  w-extending r x xs ls th m at tail false h = λ es k. (shown-extend th m at tail false es k, sym (skip-extend th m at tail false es))
 
   w-discarding : (r : Record) (x : Item) (xs : List Item) (ls : List (List ℕ)) (th : Then) (m : List ℕ) (d f : Bool) → f ≡ false → Walks (Discarding r x xs ls th) (event.Erase m d f)
   w-discarding r x xs ls th m d true h = absurd (cc)
@@ -340,6 +365,7 @@ module _ (actor : List ℕ) (token : ℕ) (first : Edit) (more : List Edit) (ref
   walks (Placing r x xs ls th) e is h = let w = publish-is (staged_name r.token x.name) x.name e is in subst (Walks (Placing r x xs ls th)) (sym w.2) (w-placing r x xs ls th x.name w.0 w.1 (same-failed e _ w.2 h))
   walks (Testing r x xs ls) e is h = let w = load-is (staged_name r.token x.name) e is in subst (Walks (Testing r x xs ls)) (sym w.1) (w-testing r x xs ls w.0 (same-failed e _ w.1 h))
   walks (Removing r x xs ls th) e is h = let w = erase-is x.name e is in subst (Walks (Removing r x xs ls th)) (sym w.2) (w-removing r x xs ls th x.name w.0 w.1 (same-failed e _ w.2 h))
+  walks (Extending r x xs ls th) e is h = let w = extend-is x.name (stay x.way) (bytes_of x.staged) e is in subst (Walks (Extending r x xs ls th)) (sym w.2) (w-extending r x xs ls th x.name (stay x.way) w.0 w.1 (same-failed e _ w.2 h))
   walks (Discarding r x xs ls th) e is h = let w = erase-is (staged_name r.token x.name) e is in subst (Walks (Discarding r x xs ls th)) (sym w.2) (w-discarding r x xs ls th (staged_name r.token x.name) w.0 w.1 (same-failed e _ w.2 h))
   walks (Unlocking r n ns th) e is h = let w = unlock-is n r.token e is in subst (Walks (Unlocking r n ns th)) (sym w.2) (w-unlocking r n ns th n r.token w.0 w.1 (same-failed e _ w.2 h))
   walks (Erasing r th) e is h = let w = erase-is (record_name actor) e is in subst (Walks (Erasing r th)) (sym w.2) (w-erasing r th (record_name actor) w.0 w.1 (same-failed e _ w.2 h))
@@ -408,7 +434,9 @@ module _ (actor : List ℕ) (token : ℕ) (first : Edit) (more : List Edit) (ref
   wants (Placing r x xs ls (Answer a)) es end goes k = (tt, refl)
   wants (Testing r x xs ls) es end goes k = wants-end es end goes
   wants (Removing r x xs ls GoOn) es end goes k = wants-end es end goes
+  wants (Extending r x xs ls GoOn) es end goes k = wants-end es end goes
   wants (Removing r x xs ls (Answer a)) es end goes k = (tt, refl)
+  wants (Extending r x xs ls (Answer a)) es end goes k = (tt, refl)
   wants (Discarding r x xs ls GoOn) es end goes k = wants-end es end goes
   wants (Discarding r x xs ls (Answer a)) es end goes k = (tt, refl)
   wants (Unlocking r n ns GoOn) es end goes k = wants-end es end goes
