@@ -13,12 +13,12 @@ use Rattle.host_port.specs.Calls.{load_limit, FitsLoad, IsTooLarge}
 use Rattle.host_port.specs.Ends.{is_owner, is_open}
 use Rattle.host_port.specs.Ran.{Agrees, Honest}
 use Rattle.commit_record.specs.declared.record.Record.{Record}
-use Rattle.commit_record.specs.declared.record.EntryKind.{EntryKind}
-use Rattle.commit_record.specs.declared.record.EntryKind.TheVariants.{Replace, Remove}
-use Rattle.commit_machine.specs.Records.{kind_of}
+use Rattle.commit_record.specs.declared.way.Way.{Way}
+use Rattle.commit_record.specs.declared.way.Way.TheVariants.{Replace, Remove, Extend}
+use Rattle.commit_machine.specs.Items.{Item}
 use Rattle.commit_machine.specs.Jobs.{Ending, Job}
-use Rattle.commit_machine.specs.Machine.{Then, GoOn, Answer, State, Seizing, Looking, Undoing, Placing, Testing, Removing, Discarding, Unlocking, Erasing, Clearing, Preparing, Publishing, Locking, Loading, Staging, Deciding, Committing, Checking, Releasing, Ended, Call, ToLoad, ToStage, ToPublish, ToErase, ToLock, ToUnlock, ToSeize, ToRelease, Reply, Went, Saw, Long, Short, Fault, unlocking, undoing, removing, place_one, placing, faulted, next, after_reply, refused}
-use Rattle.commit_machine.specs.Goes.{IsOf, loads, stages, stage_fails, publishes, erases, locks, unlocks, seizes, releases, IsNext, reply, Goes}
+use Rattle.commit_machine.specs.Machine.{Then, GoOn, Answer, State, Seizing, Looking, Undoing, Placing, Testing, Extending, Removing, Discarding, Unlocking, Erasing, Clearing, Preparing, Publishing, Locking, Loading, Staging, Deciding, Committing, Checking, Releasing, Ended, Call, ToLoad, ToStage, ToPublish, ToExtend, ToErase, ToLock, ToUnlock, ToSeize, ToRelease, Reply, Went, Saw, Long, Short, Fault, unlocking, undoing, removing, extending, place_one, placing, faulted, next, after_reply, refused}
+use Rattle.commit_machine.specs.Goes.{IsOf, loads, stages, stage_fails, publishes, extends, extend_fails, erases, locks, unlocks, seizes, releases, IsNext, reply, Goes}
 use Rattle.play_likeness.specs.Loads.{Tells, LoadsTell}
 use Rattle.play_likeness.specs.Jobs.{is_hindered, JobsAreAlike}
 
@@ -32,6 +32,7 @@ abbrev is_lost : State → Bool
 is_lost (Undoing r n ns ls th) = ends_so th
 is_lost (Placing r n ns ls th) = ends_so th
 is_lost (Removing r n ns ls th) = ends_so th
+is_lost (Extending r n ns ls th) = ends_so th
 is_lost (Discarding r n ns ls th) = ends_so th
 is_lost (Unlocking r n ns th) = ends_so th
 is_lost (Erasing r th) = ends_so th
@@ -48,17 +49,22 @@ lost-undoing : (r : Record) (ns ls : List (List ℕ)) (th : Then) → ends_so th
 lost-undoing r [] ls th h = lost-unlocking r ls th h
 lost-undoing r (n ∷ ns) ls th h = h
 
-lost-removing : (r : Record) (n : List ℕ) (ns ls : List (List ℕ)) (th : Then) → ends_so th ≡ true → is_lost (removing r n ns ls th) ≡ true
-lost-removing r n ns ls GoOn h = absurd (true≢false (sym h))
-lost-removing r n ns ls (Answer e) h = h
+lost-removing : (r : Record) (x : Item) (xs : List Item) (ls : List (List ℕ)) (th : Then) → ends_so th ≡ true → is_lost (removing r x xs ls th) ≡ true
+lost-removing r x xs ls GoOn h = absurd (true≢false (sym h))
+lost-removing r x xs ls (Answer e) h = h
 
-lost-one : (kind : EntryKind) (r : Record) (n : List ℕ) (ns ls : List (List ℕ)) (th : Then) → ends_so th ≡ true → is_lost (place_one kind r n ns ls th) ≡ true
-lost-one Replace r n ns ls th h = h
-lost-one Remove r n ns ls th h = lost-removing r n ns ls th h
+lost-extending : (r : Record) (x : Item) (xs : List Item) (ls : List (List ℕ)) (th : Then) → ends_so th ≡ true → is_lost (extending r x xs ls th) ≡ true
+lost-extending r x xs ls GoOn h = absurd (true≢false (sym h))
+lost-extending r x xs ls (Answer e) h = h
 
-lost-placing : (r : Record) (ns ls : List (List ℕ)) (th : Then) → ends_so th ≡ true → is_lost (placing r ns ls th) ≡ true
+lost-one : (way : Way) (r : Record) (x : Item) (xs : List Item) (ls : List (List ℕ)) (th : Then) → ends_so th ≡ true → is_lost (place_one way r x xs ls th) ≡ true
+lost-one Replace r x xs ls th h = h
+lost-one Remove r x xs ls th h = lost-removing r x xs ls th h
+lost-one (Extend at) r x xs ls th h = lost-extending r x xs ls th h
+
+lost-placing : (r : Record) (xs : List Item) (ls : List (List ℕ)) (th : Then) → ends_so th ≡ true → is_lost (placing r xs ls th) ≡ true
 lost-placing r [] ls th h = lost-unlocking r ls th h
-lost-placing r (n ∷ ns) ls th h = lost-one (kind_of r n) r n ns ls th h
+lost-placing r (x ∷ xs) ls th h = lost-one x.way r x xs ls th h
 
 lost-faulted : (s : State) → is_lost (faulted s) ≡ true
 lost-faulted (Committing made) = refl
@@ -76,6 +82,8 @@ module _ (j : Job) where
   refused-lost (Testing r n ns ls) = inr refl
   refused-lost (Removing r n ns ls GoOn) = inr refl
   refused-lost (Removing r n ns ls (Answer e)) = inl refl
+  refused-lost (Extending r n ns ls GoOn) = inr refl
+  refused-lost (Extending r n ns ls (Answer e)) = inl refl
   refused-lost (Discarding r n ns ls GoOn) = inr refl
   refused-lost (Discarding r n ns ls (Answer e)) = inl refl
   refused-lost (Unlocking r n ns GoOn) = inr refl
@@ -112,6 +120,11 @@ module _ (j : Job) where
   lost-reply (Removing r n ns ls (Answer e)) (Saw c) h = refl
   lost-reply (Removing r n ns ls (Answer e)) (Long k) h = refl
   lost-reply (Removing r n ns ls (Answer e)) Short h = h
+  lost-reply (Extending r n ns ls GoOn) reply h = absurd (true≢false (sym h))
+  lost-reply (Extending r n ns ls (Answer e)) (Went b) h = h
+  lost-reply (Extending r n ns ls (Answer e)) (Saw c) h = refl
+  lost-reply (Extending r n ns ls (Answer e)) (Long k) h = refl
+  lost-reply (Extending r n ns ls (Answer e)) Short h = h
   lost-reply (Discarding r n ns ls GoOn) reply h = absurd (true≢false (sym h))
   lost-reply (Discarding r n ns ls (Answer e)) (Went b) h = lost-placing r ns ls (Answer e) h
   lost-reply (Discarding r n ns ls (Answer e)) (Saw c) h = refl
@@ -176,6 +189,7 @@ abbrev event_on : Disk → Call → Event
 event_on d (ToLoad n) = event.Load n (load_on d n)
 event_on d (ToStage n c) = event.Stage n (Some c) false
 event_on d (ToPublish from to) = event.Publish from to (is_some (d.files from)) false
+event_on d (ToExtend n at tail) = event.Extend n at tail false
 event_on d (ToErase n) = event.Erase n true false
 event_on d (ToLock n t) = event.Lock n t (is_none (d.locks n)) false
 event_on d (ToUnlock n t) = event.Unlock n t (is_owner t (d.locks n)) false
@@ -204,6 +218,8 @@ call-event j s d c e es stages is tell found = refl
 call-event j s d c e es stage_fails is tell found = absurd (found (lost-faulted s))
 call-event j s d c e es (publishes {from = from} {to = to} {done = done} {failed = true}) is tell found = absurd (found (lost-faulted s))
 call-event j s d c e es (publishes {from = from} {to = to} {done = done} {failed = false}) is tell found = ap (λ (b : Bool). event.Publish from to b false) is
+call-event j s d c e es extends is tell found = refl
+call-event j s d c e es extend_fails is tell found = absurd (found (lost-faulted s))
 call-event j s d c e es (erases {failed = true}) is tell found = absurd (found (lost-faulted s))
 call-event j s d c e es (erases {n = n} {failed = false}) is tell found = ap (λ (b : Bool). event.Erase n b false) is
 call-event j s d c e es (locks {failed = true}) is tell found = absurd (found (lost-faulted s))
