@@ -1,5 +1,5 @@
 -- Rows with another mark, and the blocks that are all deleted.
-use Rattle.std.proofs.Common.{◌≡◌, ◌≢◌, ◌<◌, ◌/◌, ℕ, zero, suc, Bool, true, false, List, [], ◌∷◌, length, Option, Some, refl, sym, ap, ◌∙◌, inl, inr, slice_get, slice_set, subst, arith}
+use Rattle.std.proofs.Common.{◌≡◌, ◌≢◌, ◌⊎◌, ◌<◌, ◌/◌, ℕ, zero, suc, Bool, true, false, List, [], ◌∷◌, ◌++◌, length, Option, Some, refl, sym, ap, ◌∙◌, inl, inr, slice_get, slice_set, subst, arith}
 use Rattle.std.specs.Prelude.{unwrap_or}
 use Rattle.std.specs.Option.{option_map_or}
 use Rattle.std.proofs.lemmas.Bool.{cases_eq, false≢true}
@@ -48,3 +48,46 @@ pub dead-still : (rows : List Row) (flags : List Bool) (k : ℕ) (row : Row) →
     → (k / block_size < length flags → ⊥) → AreDead flags (slice_set rows k row)
 dead-still rows flags k row dead past j flag =
     live-elsewhere rows k j row (λ e. past (let lt = flagged flags (j / block_size) flag in subst (λ (n : ℕ). n / block_size < length flags) e lt)) (dead j flag)
+
+-- a flag that is set back leaves the rows of the others
+pub dead-unflagged : (rows : List Row) (flags : List Bool) (b : ℕ) → AreDead flags rows → b < length flags → AreDead (slice_set flags b false) rows
+dead-unflagged rows flags b dead within j flag = elim (cases_eq (j / block_size) b) [
+  | inl e ↦ absurd (false≢true (sym (ap (λ (o : Option Bool). unwrap_or o false) (ap (slice_get (slice_set flags b false)) e ∙ same-slot flags b false within)) ∙ flag))
+  | inr ne ↦ dead j (sym (ap (λ (o : Option Bool). unwrap_or o false) (other-slot flags b (j / block_size) false ne)) ∙ flag)
+]
+
+-- and isn't set then
+pub unset : (flags : List Bool) (b : ℕ) → b < length flags → flag_at (slice_set flags b false) b ≡ false
+unset flags b within = ap (λ (o : Option Bool). unwrap_or o false) (same-slot flags b false within)
+
+-- there is none past the end
+pub none-past : (flags : List Bool) (b : ℕ) → (b < length flags → ⊥) → flag_at flags b ≡ false
+none-past flags b past = go (flag_at flags b) refl
+  where
+    go : (x : Bool) → flag_at flags b ≡ x → x ≡ false
+    go true is = absurd (past (flagged flags b is))
+    go false is = refl
+
+-- one more that isn't set
+pub more-flags : (flags : List Bool) (b : ℕ) → flag_at (flags ++ false ∷ []) b ≡ true → flag_at flags b ≡ true
+more-flags [] zero is = is
+more-flags [] (suc b) is = is
+more-flags (f ∷ fs) zero is = is
+more-flags (f ∷ fs) (suc b) is = more-flags fs b is
+
+-- a row behind others, and those before it
+row-behind : (rows : List Row) (row : Row) (j : ℕ) → (j ≡ length rows) ⊎ (live_at (rows ++ row ∷ []) j ≡ live_at rows j)
+row-behind [] row zero = inl refl
+row-behind [] row (suc j) = inr refl
+row-behind (x ∷ xs) row zero = inr refl
+row-behind (x ∷ xs) row (suc j) = elim (row-behind xs row j) [
+  | inl e ↦ inl (ap suc e)
+  | inr same ↦ inr same
+]
+
+-- a row comes behind the others in a block that isn't flagged
+pub dead-behind : (rows : List Row) (flags : List Bool) (row : Row) → AreDead flags rows → flag_at flags (length rows / block_size) ≡ false → AreDead flags (rows ++ row ∷ [])
+dead-behind rows flags row dead none j flag = elim (row-behind rows row j) [
+  | inl e ↦ absurd (false≢true (sym (ap (λ (n : ℕ). flag_at flags (n / block_size)) e ∙ none) ∙ flag))
+  | inr same ↦ same ∙ dead j flag
+]

@@ -1,4 +1,5 @@
-ghost use Rattle.std.specs.Prelude.{◌≡◌, ◌≤◌, ◌*◌, ◌/◌, ℕ, [], false, true, length, IfOk};
+ghost use Rattle.std.specs.Prelude.{◌≡◌, ◌≤◌, ◌*◌, ◌/◌, ℕ, List, [], ◌∷◌, ◌++◌, false, true, length, IfOk, OnOk};
+ghost use Rattle.message_state.specs.declared.row.Row.{Row};
 ghost use Rattle.message_state.specs.LiveRows.{live_at, marked, flag_at, AreDead, block_size, IsNextLive, IsPreviousLive};
 
 use crate::{Mark, Row, State};
@@ -84,6 +85,38 @@ fn set_mark_at(rows: &mut Items<Row>, dead: &mut Vec<bool>, k: usize, mark: Mark
     }
 }
 
+// Sets the flag of a block back, if it has one.
+fn unflag(dead: &mut Vec<bool>, block: usize)
+    ensures keeps { (rows : List Row) → AreDead dead.old.items rows → AreDead dead.new.items rows }
+    ensures unset { flag_at dead.new.items block ≡ false }
+{
+    if block < dead.len() {
+        dead[block] = false;
+    }
+}
+
+// Makes room for the flag of a block, if it is the one behind those that there are.
+fn make_flag(dead: &mut Vec<bool>, block: usize) -> Result<(), Memory>
+    ensures flags { (b : ℕ) → flag_at dead.new.items b ≡ true → flag_at dead.old.items b ≡ true }
+{
+    if dead.len() <= block {
+        dead.push(false)?;
+    }
+    Ok(())
+}
+
+// Puts a row behind these, in a block that isn't all deleted then.
+fn add_row(rows: &mut Items<Row>, dead: &mut Vec<bool>, row: Row) -> Result<(), Memory>
+    requires { AreDead dead.old.items rows.old }
+    ensures ok { OnOk result (rows.new ≡ rows.old ++ row ∷ []) }
+    ensures dead { AreDead dead.new.items rows.new }
+{
+    let block = rows.items().len() / BLOCK;
+    unflag(dead, block);
+    make_flag(dead, block)?;
+    rows.push(row)
+}
+
 impl RowList {
     /// No rows. It takes no memory.
     pub fn new(alloc: Global) -> RowList
@@ -116,6 +149,16 @@ impl RowList {
         ensures { self.new ≡ marked self.old k mark }
     {
         set_mark_at(&mut self.rows, &mut self.dead, k, mark);
+    }
+
+    /// Puts rows behind these.
+    pub fn add(&mut self, more: Items<Row>) -> Result<(), Memory>
+        ensures { OnOk result (self.new ≡ self.old ++ more) }
+    {
+        for row in more.into_vec() {
+            add_row(&mut self.rows, &mut self.dead, row)?;
+        }
+        Ok(())
     }
 
     /// The place of the first row at or after place `from` that isn't deleted.
