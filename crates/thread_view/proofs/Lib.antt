@@ -9,3 +9,4 @@ mod ThreadLemmas
 mod TrailLemmas
 mod WalkLemmas
 pub mod ViewsLemmas
+mod OneViewLemmas

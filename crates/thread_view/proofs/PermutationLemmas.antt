@@ -22,10 +22,10 @@ at-has (x ∷ xs) q on =
       | inr n ↦ let at = at-has xs q (sym (ap (λ (b : Bool). b || list_any (eqb q) xs) (ne_eqb q x n)) ∙ on) in (suc at.0, omega arith, at.2)
     ]
 
-has-first : (x q : ℕ) (xs : List ℕ) → q ≡ x → has (x ∷ xs) q ≡ true
+pub has-first : (x q : ℕ) (xs : List ℕ) → q ≡ x → has (x ∷ xs) q ≡ true
 has-first x q xs e = ap (λ (b : Bool). b || has xs q) (eq-eqb q x e)
 
-has-other : (x q : ℕ) (xs : List ℕ) → q ≢ x → has (x ∷ xs) q ≡ has xs q
+pub has-other : (x q : ℕ) (xs : List ℕ) → q ≢ x → has (x ∷ xs) q ≡ has xs q
 has-other x q xs n = ap (λ (b : Bool). b || has xs q) (ne_eqb q x n)
 
 lacks : (x : ℕ) (xs : List ℕ) → AllByRecursion (λ y. eqb x y ≡ false) xs → has xs x ≡ false
@@ -39,7 +39,7 @@ flips x y =
       | inr n ↦ ne_eqb x y n ∙ sym (ne_eqb y x (λ e. n (sym e)))
     ]
 
-none-has : (ys : List ℕ) → ((q : ℕ) → has ys q ≡ true → has [] q ≡ true) → ys ≡ []
+pub none-has : (ys : List ℕ) → ((q : ℕ) → has ys q ≡ true → has [] q ≡ true) → ys ≡ []
 none-has [] back = refl
 none-has (y ∷ ys) back = absurd (true≢false (sym (back y (has-first y y ys refl))))
 
@@ -69,7 +69,7 @@ same_numbers (x ∷ xs) ys dx dy to back =
 range-has : (n q : ℕ) → 1 ≤ q → q ≤ n → has (range_with_len 1 n) q ≡ true
 range-has n q low high = has-at (range_with_len 1 n) (q - 1) q (omega (arith, length-range_with_len 1 n)) (get_or-range_with_len 1 n (q - 1) 0 (omega arith) ∙ omega arith)
 
-has-range : (n q : ℕ) → has (range_with_len 1 n) q ≡ true → (1 ≤ q) × (q ≤ n)
+pub has-range : (n q : ℕ) → has (range_with_len 1 n) q ≡ true → (1 ≤ q) × (q ≤ n)
 has-range n q on =
     let at = at-has (range_with_len 1 n) q on in
     let lt : at.0 < n = omega (arith, length-range_with_len 1 n, at.1) in

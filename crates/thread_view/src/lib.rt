@@ -11,6 +11,6 @@ mod view;
 mod views;
 mod walk;
 
-pub use laws::threads_stand_together;
+pub use laws::{threads_stand_together, views_are_alike};
 pub use view::{Key, View, ViewKind};
 pub use views::view_of;
