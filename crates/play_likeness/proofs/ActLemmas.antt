@@ -37,7 +37,7 @@ use Rattle.play_likeness.specs.Plays.{IsGiven, takes_no_line}
 use Rattle.play_likeness.proofs.JobLemmas.{load_on, load-seen}
 use Rattle.play_likeness.proofs.AnswerLemmas.{IsFrom, attempt-same, recovery-same, recovery-goes}
 use Rattle.play_likeness.proofs.MomentLemmas.{moment-same}
-use Rattle.play_likeness.proofs.ViewLemmas.{views_are_alike}
+use Rattle.thread_view.proofs.OneViewLemmas.{views_are_alike}
 
 -- the same is still to come, on both sides
 pub record Level (i : Input) (o : Outside) (j : Input) (p : Outside) : Type 0 where

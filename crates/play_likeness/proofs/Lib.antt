@@ -1,7 +1,6 @@
 pub mod JobLemmas
 pub mod AnswerLemmas
 pub mod MomentLemmas
-pub mod ViewLemmas
 pub mod LineLemmas
 pub mod ActLemmas
 pub mod AlikeLemmas

@@ -1,5 +1,4 @@
 pub mod Loads
 pub mod Jobs
 pub mod Outside
-pub mod Views
 pub mod Plays

@@ -1,6 +1,5 @@
 ghost use Rattle.play_likeness.specs.Jobs.{JobsAreAlike};
 ghost use Rattle.play_likeness.specs.Plays.{PlaysAreAlike};
-ghost use Rattle.play_likeness.specs.Views.{ViewsAreAlike};
 
 use message_state::a_text_has_one_row;
 
@@ -8,11 +7,6 @@ use message_state::a_text_has_one_row;
 /// ended neither by a failed call nor for want of memory.
 pub fn jobs_are_alike()
     ensures { JobsAreAlike }
-{}
-
-/// Messages have one view of a kind: rows and a kind fix the order, and how many messages each stands under.
-pub fn views_are_alike()
-    ensures { ViewsAreAlike }
 {}
 
 /// A play that takes no line of the input, and comes to its end, prints the same and leaves the same disk whenever it is

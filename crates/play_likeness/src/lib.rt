@@ -3,4 +3,4 @@
 
 mod laws;
 
-pub use laws::{jobs_are_alike, plays_are_alike, views_are_alike};
+pub use laws::{jobs_are_alike, plays_are_alike};
