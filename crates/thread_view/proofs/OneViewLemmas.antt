@@ -63,9 +63,9 @@ module _ {K : Type 0} (compare : K → K → Ordering) (total : IsTotalOrder com
             (behind f (f y) ys x t.0 (sym (has-other y x ys n) ∙ to x (has-first x x xs refl))))
       ] in
       let apart : (q : ℕ) → has xs q ≡ true → q ≢ x = λ q on e.
-          let b = behind f (f x) xs x s.0 (ap (has xs) (sym e) ∙ on) in turns (f x) (f x) b b in
+      let b = behind f (f x) xs x s.0 (ap (has xs) (sym e) ∙ on) in turns (f x) (f x) b b in
       let differ : (q : ℕ) → has ys q ≡ true → q ≢ y = λ q on e.
-          let b = behind f (f y) ys y t.0 (ap (has ys) (sym e) ∙ on) in turns (f y) (f y) b b in
+      let b = behind f (f y) ys y t.0 (ap (has ys) (sym e) ∙ on) in turns (f y) (f y) b b in
       let rest = one-order f xs ys s.1 t.1
       (λ q on. sym (has-other y q ys (λ e. apart q on (e ∙ sym first))) ∙ to q (has-more x q xs on))
       (λ q on. sym (has-other x q xs (λ e. differ q on (e ∙ first))) ∙ back q (has-more y q ys on)) in
@@ -128,12 +128,13 @@ threaded-one rows v d w e one two =
     let same : (q : ℕ) → has w q ≡ true → two.path q ≡ one.path q = λ q on. one-path rows two.path one.path two.paths one.paths (length (two.path q)) q (omega arith) (within q on) in
     let ascend : IsStrictlySortedBy (slice_cmp nat_cmp) (map one.path w) = subst (IsStrictlySortedBy (slice_cmp nat_cmp)) (map-same two.path one.path w same) two.ascend in
     let order : v ≡ w = one-order (slice_cmp nat_cmp) nat_list_cmp_total one.path v w one.ascend ascend
-    (same-has (range_with_len 1 (length rows)) v w one.once two.once) (same-has (range_with_len 1 (length rows)) w v two.once one.once) in
-    (order,
-    one.depths
-    ∙ ap (map (λ k. length (one.path k) - 1)) order
-    ∙ map-same (λ k. length (one.path k) - 1) (λ k. length (two.path k) - 1) w (λ q on. ap (λ (l : List ℕ). length l - 1) (sym (same q on)))
-    ∙ sym two.depths)
+    (same-has (range_with_len 1 (length rows)) v w one.once two.once) (same-has (range_with_len 1 (length rows)) w v two.once one.once) in (
+      order,
+      one.depths
+          ∙ ap (map (λ k. length (one.path k) - 1)) order
+          ∙ map-same (λ k. length (one.path k) - 1) (λ k. length (two.path k) - 1) w (λ q on. ap (λ (l : List ℕ). length l - 1) (sym (same q on)))
+          ∙ sym two.depths,
+    )
 
 -- ---- each kind
 
