@@ -15,7 +15,7 @@ use Rattle.commit_machine.specs.Records.{record_in}
 use Rattle.commit_machine.specs.Settled.{Files, hides, placed}
 use Rattle.commit_machine.specs.Jobs.{Job, IsJob, Edit, Ending, all_of}
 use Rattle.commit_machine.specs.Machine.{State, Call, Seizing, Ended, next, after_reply}
-use Rattle.commit_machine.specs.Goes.{IsOf, loads, stages, stage_fails, publishes, erases, locks, unlocks, seizes, releases, IsNext, reply}
+use Rattle.commit_machine.specs.Goes.{IsOf, loads, stages, stage_fails, publishes, extends, extend_fails, erases, locks, unlocks, seizes, releases, IsNext, reply}
 use Rattle.commit_machine.specs.Goes as machine
 use Rattle.commit_machine.specs.Edits.{job_for}
 use Rattle.commit_machine.specs.Lawful.{IsFresh}
@@ -146,6 +146,8 @@ call-silent c e loads = refl
 call-silent c e stages = refl
 call-silent c e stage_fails = refl
 call-silent c e publishes = refl
+call-silent c e extends = refl
+call-silent c e extend_fails = refl
 call-silent c e erases = refl
 call-silent c e locks = refl
 call-silent c e unlocks = refl

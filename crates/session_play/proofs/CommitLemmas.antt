@@ -13,7 +13,7 @@ use Rattle.folder_change.specs.declared.change.Change.{Change}
 use Rattle.commit_machine.specs.Jobs.{Job}
 use Rattle.commit_machine.specs.Machine.{State, Seizing, Ended, Call, next, after_reply}
 use Rattle.commit_machine.specs.Edits.{job_for}
-use Rattle.commit_machine.specs.Goes.{IsOf, loads, stages, stage_fails, publishes, erases, locks, unlocks, seizes, releases, IsNext, reply}
+use Rattle.commit_machine.specs.Goes.{IsOf, loads, stages, stage_fails, publishes, extends, extend_fails, erases, locks, unlocks, seizes, releases, IsNext, reply}
 use Rattle.commit_machine.specs.Goes as machine
 use Rattle.folder_commit.specs.declared.error.CommitError.{CommitError}
 use Rattle.folder_commit.specs.declared.error.CommitError.TheVariants as error
@@ -103,6 +103,8 @@ call-streams c e es loads h = record { in_ok = h.in_ok; out_ok = h.out_ok; bytes
 call-streams c e es stages h = record { in_ok = h.in_ok; out_ok = h.out_ok; bytes = h.bytes }
 call-streams c e es stage_fails h = record { in_ok = h.in_ok; out_ok = h.out_ok; bytes = h.bytes }
 call-streams c e es publishes h = record { in_ok = h.in_ok; out_ok = h.out_ok; bytes = h.bytes }
+call-streams c e es extends h = record { in_ok = h.in_ok; out_ok = h.out_ok; bytes = h.bytes }
+call-streams c e es extend_fails h = record { in_ok = h.in_ok; out_ok = h.out_ok; bytes = h.bytes }
 call-streams c e es erases h = record { in_ok = h.in_ok; out_ok = h.out_ok; bytes = h.bytes }
 call-streams c e es locks h = record { in_ok = h.in_ok; out_ok = h.out_ok; bytes = h.bytes }
 call-streams c e es unlocks h = record { in_ok = h.in_ok; out_ok = h.out_ok; bytes = h.bytes }
