@@ -7,9 +7,6 @@ use Rattle.mail_text.specs.Lines.{with_feed}
 abbrev pub bad_arguments : List ℕ → List ℕ
 bad_arguments name = with_feed (name ++ codes ": bad arguments")
 
-abbrev pub not_built : List ℕ → List ℕ
-not_built name = with_feed (name ++ codes ": not built")
-
 -- the word is no list word
 abbrev pub bad_list : List ℕ → List ℕ
 bad_list word = with_feed (word ++ codes ": bad message list")

@@ -6,6 +6,7 @@ use message_show::FieldSets;
 use message_state::Shown;
 use quit_rules::Open;
 use rc_conditionals::{Conditions, Mode};
+use thread_view::ViewKind;
 
 /// The state of a session between two commands. Calls that take one ask for a valid one: what it shows is valid, its
 /// rows are those of the folder's texts, marks aside, its marks are those of the folder, and a line has room for two
@@ -18,6 +19,8 @@ pub struct Desk {
     pub previous: Text,
     /// Its messages as they are shown.
     pub shown: Shown,
+    /// How these are put in order.
+    pub view: ViewKind,
     /// The variables.
     pub vars: Vars,
     /// The aliases.

@@ -33,6 +33,8 @@ pub enum Ask {
         changes: Items<Change>,
         reply: Text,
     },
+    /// What was added to the folder's file is taken in.
+    Newmail,
     /// The messages of the folder are shown in a view of this kind.
     View {
         kind: ViewKind,

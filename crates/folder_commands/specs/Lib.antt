@@ -2,3 +2,4 @@ pub mod Saving
 pub mod Leaving
 pub mod Making
 pub mod Opening
+pub mod Growing

@@ -1,8 +1,10 @@
 //! Commands that put messages into files: copy, Copy, save, Save and write, each of which comes to one change of one
 //! file, or to the line that refuses it; and quit and file, which come to the changes of mbox and of the folder.
-//! Nothing is changed yet. What these make of the file that is opened is said here too.
+//! Nothing is changed yet. What these make of the file that is opened is said here too, and what was added to the
+//! open one.
 #![tactic(auto)]
 
+mod growing;
 mod laws;
 mod leaving;
 mod making;
@@ -10,6 +12,7 @@ mod opening;
 mod saving;
 mod wanted;
 
+pub use growing::{grow_folder, newmail, news_line};
 pub use laws::made_is_applied;
 pub use leaving::quit;
 pub use making::made_folder;

@@ -50,7 +50,7 @@ fn made(
 }
 
 // Opens a mailbox, or refuses the file by its messages.
-fn listed(alloc: Global, name: &[u8], bytes: Text) -> Result<Folder, Refusal>
+pub(crate) fn listed(alloc: Global, name: &[u8], bytes: Text) -> Result<Folder, Refusal>
     ensures { Means result (listed name.now bytes (list_of bytes)) }
 {
     match Folder::open(alloc, bytes) {
@@ -109,7 +109,7 @@ fn openable_file(
 }
 
 // Refuses a file that has changed.
-fn changed(alloc: Global, name: &[u8], at: u64) -> Refusal
+pub(crate) fn changed(alloc: Global, name: &[u8], at: u64) -> Refusal
     ensures { IsRefusal result (changed_at name.now at) }
 {
     let mut buffer = Buffer::new();

@@ -22,7 +22,7 @@ use Rattle.command_desk.specs.Faults.{bad_arguments}
 use Rattle.setting_commands.specs.Conditions.{turns_or_fault, opening, turning_alone}
 use Rattle.read_commands.specs.declared.origin.Origin.{Origin}
 use Rattle.read_commands.specs.Commands.{name_of, takes_no_words, meaning, meaning_of, read_or_fault}
-use Rattle.read_commands.specs.Origins.{line_if_unbuilt, line_of_origin, allowed, read_from, is_condition, turns_lines, is_defining, commanded, commanded_outside}
+use Rattle.read_commands.specs.Origins.{line_of_origin, allowed, read_from, is_condition, turns_lines, is_defining, commanded, commanded_outside}
 use Rattle.session_state.specs.Bringing.{brings_lines}
 use Rattle.session_asks.proofs.SourcingLemmas.{defining_brings_none}
 use Rattle.mailx_session.specs.Rounds.{is_uncounted}
@@ -58,15 +58,14 @@ command-brings line desk h =
     (named-brings (bytes_eq (name_of line.word) (codes "if")) (bytes_eq (name_of line.word) (codes "else")) desk line.words)
 
 -- where one is read, it is carried out or refused
-unless-brings : (a b : Option (List ℕ)) (line : CommandLine) (desk : Desk) → brings_lines (meaning line desk) ≡ false
-    → brings_lines (next (unless a (λ said. said) (unless b (λ said. said) (Ok line))) (λ c. meaning c desk)) ≡ false
-unless-brings (Some w) b line desk quiet = refl
-unless-brings None (Some w) line desk quiet = refl
-unless-brings None None line desk quiet = quiet
+unless-brings : (found : Option (List ℕ)) (line : CommandLine) (desk : Desk) → brings_lines (meaning line desk) ≡ false
+    → brings_lines (next (unless found (λ said. said) (Ok line)) (λ c. meaning c desk)) ≡ false
+unless-brings (Some w) line desk quiet = refl
+unless-brings None line desk quiet = quiet
 
 read-brings : (from : Origin) (desk : Desk) (r : Result CommandLine LineError) → turns_lines r ≡ true
     → brings_lines (next (next (read_or_fault r) (allowed from)) (λ c. meaning c desk)) ≡ false
-read-brings from desk (Ok line) turns = unless-brings (line_if_unbuilt line) (line_of_origin from line) line desk (command-brings line desk turns)
+read-brings from desk (Ok line) turns = unless-brings (line_of_origin from line) line desk (command-brings line desk turns)
 read-brings from desk (Err e) turns = refl
 
 -- a line that is read where lines aren't carried out brings nothing

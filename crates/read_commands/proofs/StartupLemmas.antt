@@ -23,7 +23,7 @@ use Rattle.command_desk.specs.declared.naming.Naming.TheVariants as naming
 use Rattle.command_desk.specs.declared.steps.Steps.{Steps}
 use Rattle.command_desk.specs.Answers.{OrFault, next, unless, quietly}
 use Rattle.command_desk.specs.Effects.{renames, unchanged}
-use Rattle.command_desk.specs.Faults.{bad_arguments, not_built, not_in_startup, too_many_aliases}
+use Rattle.command_desk.specs.Faults.{bad_arguments, not_in_startup, too_many_aliases}
 use Rattle.command_desk.specs.FileNames.{expanded}
 use Rattle.setting_commands.specs.Setting.{set, unset, sets, first_refusal, setting_of}
 use Rattle.setting_commands.specs.Sourcing.{source, bringing}
@@ -33,7 +33,7 @@ use Rattle.macro_commands.specs.Defining.{define, undef, definition_line, or_mac
 use Rattle.macro_commands.specs.Calling.{call, calling_or_fault}
 use Rattle.read_commands.specs.declared.origin.Origin.{Origin}
 use Rattle.read_commands.specs.declared.origin.Origin.TheVariants.{Startup}
-use Rattle.read_commands.specs.Commands.{is_built, meaning, meaning_of, name_of, has_words_too_many, read_or_fault}
+use Rattle.read_commands.specs.Commands.{meaning, meaning_of, name_of, has_words_too_many, read_or_fault}
 use Rattle.read_commands.specs.Origins.{allowed, commanded, commanded_outside, is_defining, is_of_startup, is_startup_ask, passes_over, read_from, AsksLittle}
 
 either-little : (b : Bool) (x y : OrFault Steps) → AsksLittle x → AsksLittle y → AsksLittle (if b then x else y)
@@ -148,14 +148,12 @@ row-little other line desk is = absurd (cc is)
 
 -- a line that was read, if it may stand in such a file
 allowed-little : (line : CommandLine) (desk : Desk) → AsksLittle (next (allowed Startup line) (λ l. meaning l desk))
-allowed-little line desk = go (is_built line.command) (is_of_startup line.command) (not_built (name_of line.word)) (not_in_startup (name_of line.word))
+allowed-little line desk = go (is_of_startup line.command) (not_in_startup (name_of line.word))
     (λ is. either-little (has_words_too_many line) (Err (bad_arguments (name_of line.word))) (meaning_of line.command line desk) tt (row-little line.command line desk is))
   where
-    go : (built held : Bool) (x y : List ℕ) → (held ≡ true → AsksLittle (meaning line desk))
-        → AsksLittle (next (unless (if built then None else Some x) (λ said. said) (unless (if held then None else Some y) (λ said. said) (Ok line))) (λ l. meaning l desk))
-    go true true x y little = little refl
-    go true false x y little = tt
-    go false held x y little = tt
+    go : (held : Bool) (x : List ℕ) → (held ≡ true → AsksLittle (meaning line desk)) → AsksLittle (next (unless (if held then None else Some x) (λ said. said) (Ok line)) (λ l. meaning l desk))
+    go true x little = little refl
+    go false x little = tt
 
 read-little : (m : OrFault CommandLine) (desk : Desk) → AsksLittle (next (next m (allowed Startup)) (λ l. meaning l desk))
 read-little (Ok line) desk = allowed-little line desk

@@ -15,7 +15,7 @@ use Rattle.command_desk.specs.declared.steps.Ask.TheVariants as asks
 use Rattle.command_desk.specs.declared.steps.Steps.{Steps}
 use Rattle.command_desk.specs.Answers.{OrFault, next, quietly}
 use Rattle.command_desk.specs.Effects.{unchanged}
-use Rattle.command_desk.specs.Faults.{bad_arguments, not_built, unknown_command, open_quote, line_too_long}
+use Rattle.command_desk.specs.Faults.{bad_arguments, unknown_command, open_quote, line_too_long}
 use Rattle.show_commands.specs.Printing.{print, top, print_following}
 use Rattle.show_commands.specs.Paging.{headers, scroll}
 use Rattle.mark_commands.specs.Deleting.{delete, delete_and_print, undelete}
@@ -30,6 +30,7 @@ use Rattle.folder_commands.specs.declared.wanted.Filing.{Filing}
 use Rattle.folder_commands.specs.Saving.{copy, copy_by_author, save, save_by_author, write}
 use Rattle.folder_commands.specs.Leaving.{quit}
 use Rattle.folder_commands.specs.Opening.{file}
+use Rattle.folder_commands.specs.Growing.{newmail}
 use Rattle.draft_commands.specs.Mailing.{mail}
 use Rattle.child_commands.specs.Running.{shell}
 use Rattle.child_commands.specs.Piping.{pipe}
@@ -105,12 +106,7 @@ meaning_of command.Quit line desk = Ok (quit desk)
 meaning_of command.Exit line desk = exit
 meaning_of command.Sort line desk = sort line.words
 meaning_of command.Thread line desk = thread (name_of line.word)
-meaning_of command.Newmail line desk = Err (not_built (name_of line.word))
-
--- all commands but this one are built
-abbrev pub is_built : Command → Bool
-is_built command.Newmail = false
-is_built other = true
+meaning_of command.Newmail line desk = Ok newmail
 
 -- the commands that take no words
 abbrev pub takes_no_words : Command → Bool
@@ -118,6 +114,7 @@ takes_no_words command.Defines = true
 takes_no_words command.Exit = true
 takes_no_words command.Folders = true
 takes_no_words command.Help = true
+takes_no_words command.Newmail = true
 takes_no_words command.Number = true
 takes_no_words command.Quit = true
 takes_no_words command.Scroll = true

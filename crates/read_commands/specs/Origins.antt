@@ -16,11 +16,11 @@ use Rattle.command_desk.specs.declared.steps.Ask.TheVariants as asks
 use Rattle.command_desk.specs.declared.steps.Steps.{Steps}
 use Rattle.command_desk.specs.Answers.{OrFault, next, unless, quietly}
 use Rattle.command_desk.specs.Effects.{unchanged}
-use Rattle.command_desk.specs.Faults.{not_built, not_in_startup, not_composing}
+use Rattle.command_desk.specs.Faults.{not_in_startup, not_composing}
 use Rattle.macro_commands.specs.Defining.{definition_line}
 use Rattle.read_commands.specs.declared.origin.Origin.{Origin}
 use Rattle.read_commands.specs.declared.origin.Origin.TheVariants as origin
-use Rattle.read_commands.specs.Commands.{name_of, is_built, meaning, read_or_fault}
+use Rattle.read_commands.specs.Commands.{name_of, meaning, read_or_fault}
 
 -- a start-up file may hold the command
 abbrev pub is_of_startup : Command → Bool
@@ -64,10 +64,6 @@ leaves_draft command.Call = true
 leaves_draft command.Source = true
 leaves_draft other = false
 
--- the line that refuses a command that isn't built
-abbrev pub line_if_unbuilt : CommandLine → Option (List ℕ)
-line_if_unbuilt line = if is_built line.command then None else Some (not_built (name_of line.word))
-
 -- the line that refuses a command where it comes from
 abbrev pub line_of_origin : Origin → CommandLine → Option (List ℕ)
 line_of_origin origin.Input line = None
@@ -76,13 +72,11 @@ line_of_origin origin.Startup line =
 line_of_origin origin.Draft line =
     if leaves_draft line.command then Some (not_composing (name_of line.word)) else None
 
--- a command that is built and may stand where it comes from, or the line that refuses it
+-- a command that may stand where it comes from, or the line that refuses it
 abbrev pub allowed : Origin → CommandLine → OrFault CommandLine
-allowed from line =
-    unless (line_if_unbuilt line) (λ said. said) (unless (line_of_origin from line) (λ said. said) (Ok line))
+allowed from line = unless (line_of_origin from line) (λ said. said) (Ok line)
 
--- a line as it is read: its form is looked at first, then whether its command is built, and then whether it may stand where
--- the line comes from
+-- a line as it is read: its form is looked at first, and then whether its command may stand where the line comes from
 abbrev pub read_from : Origin → List ℕ → OrFault CommandLine
 read_from from line = next (read_or_fault (reading line)) (allowed from)
 

@@ -6,12 +6,14 @@ ghost use Rattle.command_desk.specs.Desks.{IsDesk, IsWithin};
 ghost use Rattle.command_desk.specs.Effects.{effect};
 ghost use Rattle.folder_commands.specs.Saving.{IsFilingWithin};
 ghost use Rattle.folder_commands.specs.declared.wanted.Filing.{Filing};
-ghost use Rattle.read_commands.specs.Commands.{name_of, exit, filed, steps_of, has_words_too_many, is_built, meaning, meaning_of, read_or_fault};
+ghost use Rattle.read_commands.specs.Commands.{name_of, exit, filed, steps_of, has_words_too_many, meaning, meaning_of, read_or_fault};
 
 use child_commands::{folders, pipe, shell};
 use command_desk::{Ask, Desk, Refusal, Steps, fault, quietly, unchanged};
 use draft_commands::{followup, followup_authors, mail, reply, reply_authors};
-use folder_commands::{Filing, copy, copy_by_author, file, quit, save, save_by_author, write};
+use folder_commands::{
+    Filing, copy, copy_by_author, file, newmail, quit, save, save_by_author, write,
+};
 use line_words::{Command, CommandLine, LineError, read_line, whole_name};
 use macro_commands::{call, define, defines, undef};
 use mail_text::{Items, Memory};
@@ -55,6 +57,7 @@ fn has_words_too_many(line: &CommandLine) -> bool
         | Command::Exit
         | Command::Folders
         | Command::Help
+        | Command::Newmail
         | Command::Number
         | Command::Quit
         | Command::Scroll
@@ -164,15 +167,8 @@ fn carry_out(alloc: Global, line: &CommandLine, desk: &Desk) -> Result<Steps, Re
         Command::Scroll => scroll(alloc, desk, line.word.bytes() == b"z-".as_slice()),
         Command::Sort => sort(alloc, desk, words),
         Command::Thread => thread(alloc, desk, name_of(line.word.bytes())),
-        Command::Newmail => Err(fault(alloc, name_of(line.word.bytes()), b": not built")),
+        Command::Newmail => Ok(newmail(alloc)?),
     }
-}
-
-/// Whether a command is built.
-pub(crate) fn is_built(command: Command) -> bool
-    ensures { result ≡ is_built command }
-{
-    command != Command::Newmail
 }
 
 /// Reads a line, or refuses it by its form.

@@ -8,9 +8,9 @@ ghost use Rattle.command_desk.specs.Effects.{effect};
 ghost use Rattle.macro_commands.specs.Defining.{definition_line};
 ghost use Rattle.read_commands.specs.declared.origin.Origin.{Origin};
 ghost use Rattle.read_commands.specs.Commands.{meaning};
-ghost use Rattle.read_commands.specs.Origins.{is_of_startup, leaves_draft, line_if_unbuilt, line_of_origin, read_from, is_defining, turns_lines, passes_over, commanded, commanded_outside, AsksLittle};
+ghost use Rattle.read_commands.specs.Origins.{is_of_startup, leaves_draft, line_of_origin, read_from, is_defining, turns_lines, passes_over, commanded, commanded_outside, AsksLittle};
 
-use crate::dispatch::{command_line, is_built, name_of, perform};
+use crate::dispatch::{command_line, name_of, perform};
 use command_desk::{Desk, Refusal, Steps, fault, quietly, unchanged};
 use line_words::{Command, CommandLine, LineError, read_line};
 use macro_commands::definition_line;
@@ -90,27 +90,13 @@ fn allows(alloc: Global, origin: Origin, line: &CommandLine) -> Result<(), Refus
     }
 }
 
-// Refuses a command that isn't built.
-fn built(alloc: Global, line: &CommandLine) -> Result<(), Refusal>
-    ensures ok { OnOk result (line_if_unbuilt line.now ≡ None) }
-    ensures err { IfErr result (λ refusal. IsRefusedBy refusal (line_if_unbuilt line.now)) }
-{
-    if is_built(line.command) {
-        Ok(())
-    } else {
-        Err(fault(alloc, name_of(line.word.bytes()), b": not built"))
-    }
-}
-
-// Reads a line from somewhere. It is refused by its form, then if its command isn't built, and else if it may not
-// stand there: a start-up file holds settings, sets of fields, aliases, macros, conditions, `source`, `echo` and
+// Reads a line from somewhere. It is refused by its form, and else if it may not stand there: a start-up file holds settings, sets of fields, aliases, macros, conditions, `source`, `echo` and
 // comments alone, and a draft can't leave itself.
 #[tactic(auto, using(command_desk::proofs::MeansLemmas::means_refused_by, command_desk::proofs::MeansLemmas::unless_none))]
 fn read_command(alloc: Global, origin: Origin, line: &[u8]) -> Result<CommandLine, Refusal>
     ensures { Means result (read_from origin line.now) }
 {
     let line = command_line(alloc, line)?;
-    built(alloc, &line)?;
     allows(alloc, origin, &line)?;
     Ok(line)
 }

@@ -31,6 +31,7 @@ use Rattle.host_port.proofs.RanLemmas.{rose-back}
 use Rattle.compose_tilde.specs.Answering.{said_of}
 use Rattle.session_asks.specs.Calling.{called}
 use Rattle.session_asks.specs.Switching.{open_fault, switches}
+use Rattle.session_asks.specs.Renewing.{folder_fault, renews}
 use Rattle.session_asks.specs.Viewing.{views}
 use Rattle.thread_view.specs.declared.view.ViewKind.{ViewKind}
 use Rattle.session_asks.specs.Asks.{asked, all_done}
@@ -50,6 +51,9 @@ asked-lines s ask text is = ap (asked s) is
 
 pub asked-open : (s : SessionState) (ask : asked_of.Ask) (name : List ℕ) (changes : List Change) (reply : List ℕ) → ask ≡ asks.Open name changes reply → asked s ask ≡ switches s name changes reply (open_fault s name changes)
 asked-open s ask name changes reply is = ap (asked s) is
+
+pub asked-newmail : (s : SessionState) (ask : asked_of.Ask) → ask ≡ asks.Newmail → asked s ask ≡ renews s (folder_fault s)
+asked-newmail s ask is = ap (asked s) is
 
 pub asked-view : (s : SessionState) (ask : asked_of.Ask) (kind : ViewKind) → ask ≡ asks.View kind → asked s ask ≡ views s kind
 asked-view s ask kind is = ap (asked s) is

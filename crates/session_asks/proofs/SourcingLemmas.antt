@@ -102,7 +102,7 @@ same-desk s t (Ok answered.On) same = only-same s t same
 same-desk s t (Ok answered.Over) same = tt
 same-desk s t (Ok (answered.Refused line)) same = only-same s t same
 same-desk s t (Ok (answered.Ended e)) same = only-same s t same
-same-desk s t (Err e) same = only-same s t same
+same-desk s t (Err e) same = tt
 
 -- or its own desk
 pub keeps-desk : (s t : SessionState) (r : Result Asked RunError) → OnlyFrames s t → KeepsDesk s t r
@@ -110,7 +110,7 @@ keeps-desk s t (Ok answered.On) same = same
 keeps-desk s t (Ok answered.Over) same = tt
 keeps-desk s t (Ok (answered.Refused line)) same = same
 keeps-desk s t (Ok (answered.Ended e)) same = same
-keeps-desk s t (Err e) same = same
+keeps-desk s t (Err e) same = tt
 
 -- what a later ask keeps is kept in the whole stretch
 pub keeps-then : (a b c : SessionState) (r : Result Asked RunError) → OnlyFrames a b → KeepsDesk b c r → KeepsDesk a c r
@@ -118,7 +118,7 @@ keeps-then a b c (Ok answered.On) x y = only-then a b c x y
 keeps-then a b c (Ok answered.Over) x y = tt
 keeps-then a b c (Ok (answered.Refused line)) x y = only-then a b c x y
 keeps-then a b c (Ok (answered.Ended e)) x y = only-then a b c x y
-keeps-then a b c (Err e) x y = only-then a b c x y
+keeps-then a b c (Err e) x y = tt
 
 -- where the desk stays the state stays valid
 pub kept-valid : (s t : SessionState) → IsState s → OnlyBrings s t → OnlyFrames s t → IsState t
@@ -138,7 +138,7 @@ desk-then s t u (Ok answered.On) same keeps = only-then s t u same keeps
 desk-then s t u (Ok answered.Over) same keeps = tt
 desk-then s t u (Ok (answered.Refused line)) same keeps = only-then s t u same keeps
 desk-then s t u (Ok (answered.Ended e)) same keeps = only-then s t u same keeps
-desk-then s t u (Err e) same keeps = only-then s t u same keeps
+desk-then s t u (Err e) same keeps = tt
 
 -- one frame more
 left-more : (fs : List Pending) (f : Pending) → lines_left (fs ++ f ∷ []) ≡ lines_left fs + length f.lines
@@ -213,14 +213,14 @@ stays-same s t (Ok answered.On) same = tt
 stays-same s t (Ok answered.Over) same = tt
 stays-same s t (Ok (answered.Refused line)) same = same
 stays-same s t (Ok (answered.Ended e)) same = same
-stays-same s t (Err e) same = same
+stays-same s t (Err e) same = tt
 
 pub stays-on : (s t : SessionState) (r : Result Asked RunError) → is_on r ≡ true → StaysUnlessOn s t r
 stays-on s t (Ok answered.On) on = tt
 stays-on s t (Ok answered.Over) on = tt
 stays-on s t (Ok (answered.Refused line)) on = absurd (cc on)
 stays-on s t (Ok (answered.Ended e)) on = absurd (cc on)
-stays-on s t (Err e) on = absurd (cc on)
+stays-on s t (Err e) on = tt
 
 weight-falls : (c d l m x y z w : ℕ) → c < 100000 → d ≡ c + 1 → m + ((16 - y) + (32 - w)) * 2 ^ 64 ≤ l + ((16 - x) + (32 - z)) * 2 ^ 64 → (100000 - d) * 2 ^ 70 + m ≤ (100000 - c) * 2 ^ 70 + l
 weight-falls c d l m x y z w within more room = omega arith

@@ -22,6 +22,7 @@ use Rattle.session_state.specs.Saving.{saved}
 use Rattle.session_asks.specs.Sourcing.{source_fault, sourced}
 use Rattle.session_asks.specs.Calling.{called}
 use Rattle.session_asks.specs.Switching.{open_fault, switches}
+use Rattle.session_asks.specs.Renewing.{folder_fault, renews}
 use Rattle.session_asks.specs.Viewing.{views}
 
 -- what is asked for, and what its answer leaves
@@ -31,6 +32,7 @@ asked s (asks.Commit changes) = saved s changes
 asked s (asks.Source name) = sourced s name (source_fault s name)
 asked s (asks.Lines text) = Ret (called s text)
 asked s (asks.Open name changes reply) = switches s name changes reply (open_fault s name changes)
+asked s asks.Newmail = renews s (folder_fault s)
 asked s (asks.View kind) = views s kind
 asked s (asks.Draft draft file current) = beginning s draft file current (file_fault s file)
 asked s (asks.Child command input) = run_asked s command input
@@ -47,16 +49,21 @@ is_on (Ok answered.On) = true
 is_on (Ok answered.Over) = true
 is_on r = false
 
--- if not all was done, the state stays
+-- if what follows is refused, or the run ends, the state stays; one that is cut off is looked at no more
 abbrev pub StaysUnlessOn : SessionState → SessionState → Result Asked RunError → Type 0
 StaysUnlessOn old new (Ok answered.On) = Unit {0}
 StaysUnlessOn old new (Ok answered.Over) = Unit {0}
-StaysUnlessOn old new r = new ≡ old
+StaysUnlessOn old new (Ok (answered.Refused line)) = new ≡ old
+StaysUnlessOn old new (Ok (answered.Ended status)) = new ≡ old
+StaysUnlessOn old new (Err error) = Unit {0}
 
--- desk and draft stay, unless the command is over with an ask
+-- desk and draft stay, unless the command is over with an ask, or cut off in it
 abbrev pub KeepsDesk : SessionState → SessionState → Result Asked RunError → Type 0
+KeepsDesk old new (Ok answered.On) = OnlyFrames old new
 KeepsDesk old new (Ok answered.Over) = Unit {0}
-KeepsDesk old new r = OnlyFrames old new
+KeepsDesk old new (Ok (answered.Refused line)) = OnlyFrames old new
+KeepsDesk old new (Ok (answered.Ended status)) = OnlyFrames old new
+KeepsDesk old new (Err error) = Unit {0}
 
 -- a refusal leaves its line, or is a cut because memory ran out
 abbrev pub IsRefusedSo : Refusal → Result Asked RunError → Type 0

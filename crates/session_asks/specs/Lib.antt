@@ -2,6 +2,7 @@ pub mod Sourcing
 pub mod Calling
 pub mod Switching
 pub mod Viewing
+pub mod Renewing
 pub mod Beginning
 pub mod Running
 pub mod Openings

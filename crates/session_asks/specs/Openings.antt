@@ -10,6 +10,7 @@ use Rattle.mailx_vars.specs.Settings.{defaults, is_set}
 use Rattle.message_state.specs.declared.mark.State.TheVariants.{New, Unread}
 use Rattle.message_state.specs.declared.row.Row.{Row}
 use Rattle.message_state.specs.declared.shown.Shown.{Shown}
+use Rattle.thread_view.specs.declared.view.ViewKind.TheVariants.{Plain}
 use Rattle.rc_conditionals.specs.declared.conditions.Mode.{Mode}
 use Rattle.session_play.specs.Knowing.{AreRows}
 use Rattle.command_desk.specs.declared.desk.Desk.{Desk}
@@ -31,6 +32,7 @@ desk_with places mode terminal = record {
   folder = record { name = []; system = false; folder = []; marks = [] };
   previous = [];
   shown = record { rows = []; order = []; depth = []; current = 0 };
+  view = Plain;
   vars = defaults;
   aliases = [];
   own = record { user = places.user; alternates = [] };
@@ -93,9 +95,9 @@ plain rows = record { rows = rows; order = range_with_len 1 (length rows); depth
 abbrev pub is_system : SessionState → List ℕ → Bool
 is_system s name = bytes_eq name s.desk.places.mail && not (bytes_eq (placed s.here name) (placed s.here s.desk.places.mbox))
 
--- the desk with another folder, whose messages are shown so
+-- the desk with another folder, whose messages are shown so, by number
 abbrev pub with_folder : Desk → Open → Shown → Desk
-with_folder desk folder shown = record desk { folder = folder; shown = shown; fresh = true }
+with_folder desk folder shown = record desk { folder = folder; shown = shown; view = Plain; fresh = true }
 
 -- a folder of these bytes is opened, with the rows of its texts, in order of number
 unfoldable pub opened : SessionState → List ℕ → List ℕ → List Row → Desk

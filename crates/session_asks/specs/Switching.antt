@@ -20,7 +20,6 @@ use Rattle.show_commands.specs.Paging.{current_page}
 use Rattle.folder_commands.specs.Making.{made_folder}
 use Rattle.folder_commands.specs.Opening.{opening_line}
 use Rattle.session_asks.specs.declared.opening.Opening.{Opening}
-use Rattle.session_asks.specs.declared.switching.Laid.{Laid}
 use Rattle.session_state.specs.declared.state.SessionState.{SessionState}
 use Rattle.session_state.specs.declared.status.Status.{Status}
 use Rattle.session_state.specs.States.{with_desk}
@@ -72,11 +71,3 @@ switched_to s name changes reply (Ok bytes) = Ask (Know (Rows (texts_of bytes)))
 abbrev pub switches : SessionState → List ℕ → List Change → List ℕ → Option (List ℕ) → Play (After SessionState Status)
 switches s name changes reply (Some line) = Ret (Refused line)
 switches s name changes reply None = Ask (Try (placed s.here name)) (λ f. switched_to s name changes reply (loaded_folder s.desk changes name f))
-
--- the desk with such parts of a folder
-abbrev pub with_laid : Desk → Laid → Desk
-with_laid desk laid = record desk { folder = laid.folder; shown = laid.shown; page = laid.page; fresh = laid.fresh; previous = laid.previous }
-
--- its own ones
-abbrev pub laid_on : Desk → Laid
-laid_on desk = record { folder = desk.folder; shown = desk.shown; page = desk.page; fresh = desk.fresh; previous = desk.previous }

@@ -11,9 +11,9 @@ use Rattle.session_state.specs.declared.state.SessionState.{SessionState}
 use Rattle.session_state.specs.declared.status.Status.{Status}
 use Rattle.session_state.specs.States.{with_desk}
 
--- the desk with its messages in this view
+-- the desk with its messages in this view, and by its kind from then on
 abbrev pub in_view : Desk → View → Desk
-in_view desk view = record desk { shown = record desk.shown { order = view.order; depth = view.depth } }
+in_view desk view = record desk { shown = record desk.shown { order = view.order; depth = view.depth }; view = view.kind }
 
 -- the messages are shown in a view of this kind, and the command is over
 abbrev pub views : SessionState → ViewKind → Play (After SessionState Status)

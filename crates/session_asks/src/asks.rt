@@ -13,6 +13,7 @@ ghost use Rattle.session_state.specs.Answers.{after_asks, in_play, LineCaused, E
 
 use crate::beginning::begin_recorded;
 use crate::calling::call;
+use crate::renewing::renew;
 use crate::running::run_asked;
 use crate::sourcing::source;
 use crate::switching::switch;
@@ -52,6 +53,7 @@ fn do_ask<H: Host>(
             changes,
             reply,
         } => switch(alloc, state, host, name.bytes(), changes, &reply),
+        Wanted::Newmail => renew(alloc, state, host),
         Wanted::View { kind } => view(alloc, state, kind),
         Wanted::Draft {
             draft,

@@ -7,6 +7,7 @@ mod bringing;
 mod calling;
 mod greetings;
 mod opening;
+mod renewing;
 mod running;
 mod sourcing;
 mod switching;

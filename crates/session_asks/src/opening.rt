@@ -1,5 +1,5 @@
 // The state that a session begins with, and the rows and the view of a folder that is opened.
-ghost use Rattle.std.specs.Prelude.{◌≡◌, [], ◌++◌, ◌<◌, ◌≤◌, length, map, All, IfOk, IfSome, replicate, codes};
+ghost use Rattle.std.specs.Prelude.{◌≡◌, [], ◌++◌, ◌<◌, ◌≤◌, ◌+◌, drop, length, map, All, IfOk, OnOk, IfSome, replicate, codes};
 ghost use Rattle.std.specs.List.{range_with_len, position};
 ghost use Rattle.show_commands.specs.Paging.{page_size};
 ghost use Rattle.mail_dates.specs.Clock.{IsInYears};
@@ -22,6 +22,7 @@ use rc_conditionals::{Conditions, Mode};
 use read_commands::{Desk, Open, Refusal, page_of, page_size};
 use session_state::{Frames, Outcome, SessionState, front_of, placed};
 use std::alloc::Global;
+use thread_view::ViewKind;
 
 /// The most bytes of the name of an actor.
 const ACTOR_LIMIT: usize = 4_021;
@@ -48,8 +49,8 @@ fn is_system(alloc: Global, state: &SessionState, name: &[u8]) -> Result<bool, M
     Ok(name == places.mail.bytes() && file.bytes() != mbox.bytes())
 }
 
-// The folder without messages.
-fn no_folder(alloc: Global) -> Result<Folder, Memory>
+/// The folder without messages.
+pub(crate) fn no_folder(alloc: Global) -> Result<Folder, Memory>
     ensures { IfOk result (λ folder. folder ≡ []) }
 {
     match Folder::open(alloc, Text::new(alloc)) {
@@ -79,6 +80,7 @@ fn first_desk(alloc: Global, places: Places, mode: Mode, terminal: bool) -> Resu
             depth: Items::new(alloc),
             current: 0,
         },
+        view: ViewKind::Plain,
         vars,
         aliases: Aliases::new(alloc),
         own: Own {
@@ -152,17 +154,28 @@ pub(crate) fn known_page_size(alloc: Global, desk: &Desk) -> Result<Option<usize
     }
 }
 
-/// The rows of a folder's messages.
-pub(crate) fn rows_of(alloc: Global, folder: &Folder) -> Result<Items<Row>, Memory>
-    ensures rows { IfOk result (λ rows. AreRows (texts_of folder.now) rows) }
+/// The rows of a folder's messages from a place on, counted from 0.
+pub(crate) fn rows_from(alloc: Global, folder: &Folder, first: usize) -> Result<Items<Row>, Memory>
+    requires { first ≤ length (texts_of folder.now) }
+    ensures rows { IfOk result (λ rows. AreRows (drop first (texts_of folder.now)) rows) }
     ensures years { IfOk result (λ rows. All (λ (row : Row). IfSome row.moment IsInYears) rows) }
-    ensures few { IfOk result (λ rows. length rows ≤ message_limit) }
+    ensures few { IfOk result (λ rows. first + length rows ≤ message_limit) }
 {
-    let mut rows = Items::of(Vec::with_capacity(alloc, folder.count())?);
-    for k in 0..folder.count() {
+    let mut rows = Items::of(Vec::with_capacity(alloc, folder.count() - first)?);
+    for k in first..folder.count() {
         rows.push(row_of(alloc, folder.message(k).text())?)?;
     }
     Ok(rows)
+}
+
+/// Puts the marks of rows behind others.
+pub(crate) fn push_marks(marks: &mut Items<Mark>, rows: &[Row]) -> Result<(), Memory>
+    ensures { OnOk result (marks.new ≡ marks.old ++ map (λ (row : Row). row.mark) rows.now) }
+{
+    for row in rows {
+        marks.push(row.mark)?;
+    }
+    Ok(())
 }
 
 /// The marks of the rows.
@@ -170,9 +183,7 @@ pub(crate) fn marks_of(alloc: Global, rows: &[Row]) -> Result<Items<Mark>, Memor
     ensures { IfOk result (λ marks. marks ≡ map (λ (row : Row). row.mark) rows.now) }
 {
     let mut marks = Items::new(alloc);
-    for row in rows {
-        marks.push(row.mark)?;
-    }
+    push_marks(&mut marks, rows)?;
     Ok(marks)
 }
 
@@ -236,7 +247,7 @@ pub fn opening_of(
     ensures { IfOk result (IsOpening state.now name folder) }
 {
     let size = known_page_size(alloc, &state.desk)?;
-    let rows = rows_of(alloc, &folder)?;
+    let rows = rows_from(alloc, &folder, 0)?;
     let marks = marks_of(alloc, rows.items())?;
     let shown = plain_view(alloc, rows)?;
     let system = is_system(alloc, state, name.bytes())?;
@@ -277,6 +288,7 @@ pub fn put_folder(desk: &mut Desk, size: Option<usize>, folder: Open, shown: Sho
 {
     desk.folder = folder;
     desk.shown = shown;
+    desk.view = ViewKind::Plain;
     desk.fresh = true;
     desk.page = page_here(desk, size);
 }

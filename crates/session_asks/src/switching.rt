@@ -11,13 +11,13 @@ ghost use Rattle.session_state.specs.States.{IsState};
 ghost use Rattle.mailx_vars.specs.Names.{is_short_name};
 ghost use Rattle.session_asks.specs.Openings.{IsKnownSize, IsOpening, with_folder};
 ghost use Rattle.session_state.specs.Bringing.{OnlyBrings};
-ghost use Rattle.session_asks.specs.Switching.{open_fault, loaded_folder, laid_as, announcement, announced, switching, switched_to, switches, with_laid, laid_on};
+ghost use Rattle.session_asks.specs.Switching.{open_fault, loaded_folder, laid_as, announcement, announced, switching, switched_to, switches};
 ghost use Rattle.session_state.specs.Answers.{after_asks, in_play, LineCaused, EndsByAsk};
 ghost use Rattle.session_asks.specs.Asks.{KeepsDesk, IsRefusedSo};
 
 use crate::asks::all_done;
 use crate::greetings::announcement;
-use crate::opening::{Opening, opening_of, page_here};
+use crate::opening::{Opening, opening_of, put_folder};
 use command_desk::{Refusal, fault, line_of};
 use folder_change::Change;
 use folder_commands::made_folder;
@@ -25,22 +25,10 @@ use host_port::Host;
 use mail_text::{Items, Memory, Text};
 use mailx_vars::is_short_name;
 use mbox_scan::Folder;
-use message_state::Shown;
-use read_commands::{Desk, Open};
+use read_commands::Desk;
 use session_play::{Found, try_load};
 use session_state::{Asked, RunError, SessionState, commit, names_fault, placed, say};
 use std::alloc::Global;
-use std::mem;
-
-/// What stands on the desk for a folder.
-#[derive(Drop)]
-pub(crate) struct Laid {
-    folder: Open,
-    shown: Shown,
-    page: usize,
-    fresh: bool,
-    previous: Text,
-}
 
 // What stands in the way of a load: what is wrong with the name of the file, or else with that of one that is changed.
 fn open_fault(
@@ -79,33 +67,12 @@ fn loaded_folder(
     }
 }
 
-// Puts these parts on the desk, and hands out its own ones.
-fn exchange(desk: &mut Desk, other: Laid) -> Laid
-    ensures put { desk.new ≡ with_laid desk.old other }
-    ensures taken { result ≡ laid_on desk.old }
-{
-    let folder = mem::replace(&mut desk.folder, other.folder);
-    let shown = mem::replace(&mut desk.shown, other.shown);
-    let previous = mem::replace(&mut desk.previous, other.previous);
-    let before = Laid {
-        folder,
-        shown,
-        page: desk.page,
-        fresh: desk.fresh,
-        previous,
-    };
-    desk.page = other.page;
-    desk.fresh = other.fresh;
-    before
-}
-
-// Puts a folder on the desk, and hands out what stood there.
-fn lay(desk: &mut Desk, opening: Opening, previous: Text) -> Laid
+// Puts a folder on the desk in place of the one of this name.
+fn lay(desk: &mut Desk, opening: Opening, previous: Text)
     requires size { IsKnownSize (page_size desk.old) opening.size }
     requires some { IfSome opening.size (λ n. 0 < n) }
     requires desk { IsDesk (with_folder desk.old opening.folder opening.shown) }
     ensures put { desk.new ≡ laid_as desk.old opening previous }
-    ensures taken { result ≡ laid_on desk.old }
     ensures valid { IsDesk desk.new }
 {
     let Opening {
@@ -113,18 +80,8 @@ fn lay(desk: &mut Desk, opening: Opening, previous: Text) -> Laid
         folder,
         shown,
     } = opening;
-    let before = exchange(
-        desk,
-        Laid {
-            folder,
-            shown,
-            page: 0,
-            fresh: true,
-            previous,
-        },
-    );
-    desk.page = page_here(desk, size);
-    before
+    put_folder(desk, size, folder, shown);
+    desk.previous = previous;
 }
 
 // Prints a reply and then the lines of the folder on the desk.
@@ -145,7 +102,7 @@ fn say_opened<H: Host>(
     }
 }
 
-// Puts a folder on the desk and prints its lines after the reply. If they can't be printed the desk is as before.
+// Puts a folder on the desk and prints its lines after the reply.
 fn announce<H: Host>(
     alloc: Global,
     state: &mut SessionState,
@@ -166,14 +123,9 @@ fn announce<H: Host>(
     ensures end { IfOk result EndsByAsk }
     ensures cause { LineCaused (H.world.counts host.old) (H.world.counts host.new) result }
 {
-    let before = lay(&mut state.desk, opening, previous);
-    match say_opened(alloc, host, &state.desk, reply) {
-        Ok(()) => Ok(Asked::Over),
-        Err(error) => {
-            let _opened = exchange(&mut state.desk, before);
-            Err(error)
-        }
-    }
+    lay(&mut state.desk, opening, previous);
+    say_opened(alloc, host, &state.desk, reply)?;
+    Ok(Asked::Over)
 }
 
 // Commits the changes and opens the folder.
@@ -251,8 +203,8 @@ fn switch_to<H: Host>(
     }
 }
 
-// What a refusal leaves.
-fn refused_by(refusal: Refusal) -> Result<Asked, RunError>
+/// What a refusal leaves.
+pub(crate) fn refused_by(refusal: Refusal) -> Result<Asked, RunError>
     ensures refused { IsRefusedSo refusal result }
     ensures end { IfOk result EndsByAsk }
     ensures cause { (old : Counts) (new : Counts) → LineCaused old new result }

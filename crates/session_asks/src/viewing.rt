@@ -19,13 +19,10 @@ fn show_in(alloc: Global, state: &mut SessionState, kind: ViewKind) -> Result<()
     ensures valid { IsState state.new }
     ensures stays { OnErr result (state.new ≡ state.old) }
 {
-    let View {
-        order,
-        depth,
-        kind: _,
-    } = view_of(alloc, state.desk.shown.rows.items(), kind)?;
+    let View { order, depth, kind } = view_of(alloc, state.desk.shown.rows.items(), kind)?;
     state.desk.shown.order = order;
     state.desk.shown.depth = depth;
+    state.desk.view = kind;
     Ok(())
 }
 

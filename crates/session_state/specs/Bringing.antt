@@ -75,6 +75,7 @@ abbrev pub brings : asked_of.Ask → Bool
 brings (asks.Source name) = true
 brings (asks.Lines text) = true
 brings (asks.Open name changes reply) = true
+brings asks.Newmail = true
 brings (asks.View kind) = true
 brings (asks.Draft draft file current) = true
 brings ask = false

@@ -1,7 +1,7 @@
 use Rattle.std.proofs.Common.{refl, ap, inl}
 use Rattle.host_port.proofs.RanLemmas.{Ran-none, Ran-map}
 use Rattle.read_commands.specs.Origins.{is_startup_ask}
-use Rattle.session_asks.proofs.AskLemmas.{asked-say, asked-commit, asked-source, asked-lines, asked-open, asked-view, asked-draft, asked-child, asked-exit, run-asked-as}
+use Rattle.session_asks.proofs.AskLemmas.{asked-say, asked-commit, asked-source, asked-lines, asked-open, asked-newmail, asked-view, asked-draft, asked-child, asked-exit, run-asked-as}
 use Rattle.session_asks.proofs.SourcingLemmas.{kept-valid, keeps-desk, called-goes, called-caused, ends-by-ask, asks-go-on}
 use Rattle.session_asks.proofs.asks.do_ask.Goals as goal
 
@@ -52,6 +52,9 @@ returns-in-Lines-clause-done g c = ends-by-ask c.call.result c.call.ensures.goes
 pub returns-in-Open-clause-ran : goal.returns-in-Open-clause-ran
 returns-in-Open-clause-ran g c = rw (asked-open c.args.state.now c.args.ask _ _ _ c.in-Open.is) (rw c.bytes-in-Open.ensures at c.switch.ensures.ran)
 
+pub returns-in-Newmail-clause-ran : goal.returns-in-Newmail-clause-ran
+returns-in-Newmail-clause-ran g c = rw (asked-newmail c.args.state.now c.args.ask c.in-Newmail.is) c.renew.ensures.ran
+
 pub returns-in-View-clause-ran : goal.returns-in-View-clause-ran
 returns-in-View-clause-ran g c = rw (asked-view c.args.state.now c.args.ask _ c.in-View.is) (Ran-none c.view.ensures.goes)
 
@@ -81,6 +84,9 @@ returns-in-Child-clause-goes_on g c = λ little. absurd (cc (ap is_startup_ask c
 
 pub returns-in-Exit-clause-goes_on : goal.returns-in-Exit-clause-goes_on
 returns-in-Exit-clause-goes_on g c = λ little. absurd (cc (ap is_startup_ask c.in-Exit.is, little))
+
+pub returns-in-Newmail-clause-goes_on : goal.returns-in-Newmail-clause-goes_on
+returns-in-Newmail-clause-goes_on g c = λ little. absurd (cc (ap is_startup_ask c.in-Newmail.is, little))
 
 pub returns-in-View-clause-goes_on : goal.returns-in-View-clause-goes_on
 returns-in-View-clause-goes_on g c = λ little. absurd (cc (ap is_startup_ask c.in-View.is, little))

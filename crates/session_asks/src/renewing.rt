@@ -1,0 +1,233 @@
+// What was added to the file of the folder is taken in.
+ghost use Rattle.std.specs.Prelude.{◌≡◌, ◌++◌, ◌-◌, ◌≤◌, [], None, true, length, map, IfErr, IfOk, OnErr, OnOk};
+ghost use Rattle.host_port.specs.Ran.{Ran};
+ghost use Rattle.mbox_scan.specs.Mailbox.{texts_of};
+ghost use Rattle.message_state.specs.declared.row.Row.{Row};
+ghost use Rattle.mailx_vars.specs.Names.{is_short_name};
+ghost use Rattle.session_play.specs.declared.act.Found.{Found};
+ghost use Rattle.session_play.specs.Play.{Ask, Try, Goes};
+ghost use Rattle.command_desk.specs.Answers.{IsRefused};
+ghost use Rattle.command_desk.specs.Desks.{IsDesk};
+ghost use Rattle.session_state.specs.Answers.{after_asks, in_play, LineCaused, EndsByAsk};
+ghost use Rattle.session_state.specs.Bringing.{OnlyBrings};
+ghost use Rattle.session_state.specs.States.{IsState, with_desk};
+ghost use Rattle.session_asks.specs.Asks.{KeepsDesk};
+ghost use Rattle.session_asks.specs.Renewing.{folder_fault, loaded_again, taking, telling, renews, IsGrown, ShowsMore, StaysIfRefused, TakesIn};
+
+use crate::opening::{no_folder, push_marks, rows_from};
+use crate::switching::refused_by;
+use command_desk::{Refusal, fault, line_of};
+use folder_commands::{grow_folder, news_line};
+use host_port::Host;
+use mail_text::{Items, Memory, Text};
+use mailx_vars::is_short_name;
+use mbox_scan::Folder;
+use message_state::{Order, RowList, Shown};
+use read_commands::Desk;
+use session_play::{Found, try_load};
+use session_state::{Asked, RunError, SessionState, placed, say};
+use std::alloc::Global;
+use thread_view::{View, view_of};
+
+// What is wrong with the name of the folder's file.
+fn folder_fault(alloc: Global, state: &SessionState) -> Result<Option<Text>, Memory>
+    ensures { IfOk result (λ fault. fault ≡ folder_fault state.now) }
+{
+    let name = state.desk.folder.name.bytes();
+    let file = placed(alloc, state.here.bytes(), name)?;
+    if is_short_name(file.bytes()) {
+        Ok(None)
+    } else {
+        Ok(Some(line_of(alloc, name, b": bad name")?))
+    }
+}
+
+// Puts the bytes of its file in place of the folder's, if they only add messages.
+fn grow_bytes(alloc: Global, desk: &mut Desk, found: Option<Found>) -> Result<(), Refusal>
+    ensures ok { OnOk result (IsGrown desk.old found desk.new) }
+    ensures err { IfErr result (λ refusal. IsRefused refusal (loaded_again desk.old found)) }
+    ensures stays { OnErr result (desk.new ≡ desk.old) }
+{
+    match found {
+        Some(Found::Bytes { held: true, .. }) => {
+            Err(fault(alloc, desk.folder.name.bytes(), b": busy"))
+        }
+        Some(Found::Bytes { bytes, held: false }) => {
+            let bytes = bytes.unwrap_or(Text::new(alloc));
+            grow_folder(
+                alloc,
+                &mut desk.folder.folder,
+                desk.folder.name.bytes(),
+                bytes,
+            )
+        }
+        Some(Found::TooLarge { .. }) => {
+            Err(fault(alloc, desk.folder.name.bytes(), b": too large"))
+        }
+        None => Err(fault(alloc, desk.folder.name.bytes(), b": cannot be read")),
+    }
+}
+
+// Shows the messages of the folder that aren't shown yet, with their own marks, in a view made anew. Message 1 becomes
+// current where none was.
+fn show_more(alloc: Global, desk: &mut Desk) -> Result<(), Memory>
+    requires listed { length desk.old.shown.rows ≤ length (texts_of desk.old.folder.folder) }
+    requires marks { desk.old.folder.marks ≡ map (λ (row : Row). row.mark) desk.old.shown.rows }
+    ensures shows { OnOk result (ShowsMore desk.old desk.new) }
+    ensures places { desk.new.places ≡ desk.old.places }
+{
+    let shown = desk.shown.rows.items().len();
+    let more = rows_from(alloc, &desk.folder.folder, shown)?;
+    push_marks(&mut desk.folder.marks, more.items())?;
+    desk.shown.rows.add(more)?;
+    let View { order, depth, .. } = view_of(alloc, desk.shown.rows.items(), desk.view)?;
+    desk.shown.order = order;
+    desk.shown.depth = depth;
+    if desk.shown.current == 0 {
+        desk.shown.current = desk.shown.rows.items().len().min(1) as u32;
+    }
+    Ok(())
+}
+
+// Takes the folder's messages off the desk.
+fn clear(alloc: Global, desk: &mut Desk, none: Folder)
+    requires none { none ≡ [] }
+    requires width { 2 ≤ desk.old.places.width }
+    ensures { IsDesk desk.new }
+{
+    desk.folder.folder = none;
+    desk.folder.marks = Items::new(alloc);
+    desk.shown = Shown {
+        rows: RowList::new(alloc),
+        order: Order::new(alloc),
+        depth: Items::new(alloc),
+        current: 0,
+    };
+}
+
+// Takes in what was added to the folder's file, by what its load found. If memory runs out in it the desk is left
+// without messages.
+fn take_in(alloc: Global, desk: &mut Desk, found: Option<Found>) -> Result<(), Refusal>
+    requires { IsDesk desk.old }
+    ensures ok { OnOk result (TakesIn desk.old found desk.new) }
+    ensures err { IfErr result (λ refusal. IsRefused refusal (loaded_again desk.old found)) }
+    ensures valid { IsDesk desk.new }
+    ensures stays { IfErr result (λ refusal. StaysIfRefused refusal desk.old desk.new) }
+{
+    let none = no_folder(alloc)?;
+    grow_bytes(alloc, desk, found)?;
+    match show_more(alloc, desk) {
+        Ok(()) => Ok(()),
+        Err(Memory) => {
+            clear(alloc, desk, none);
+            Err(Refusal::Memory)
+        }
+    }
+}
+
+// Prints how many messages came.
+fn tell<H: Host>(alloc: Global, host: &mut H, count: usize) -> Result<(), RunError>
+    ensures ran { Ran H.world host.old host.new
+        (λ es. Goes (Ask (Say (news_line count)) Ret) es (in_play (λ u. u) result)) }
+    ensures cause { LineCaused (H.world.counts host.old) (H.world.counts host.new) result }
+{
+    match news_line(alloc, count) {
+        Ok(line) => say(host, line.bytes()),
+        Err(Memory) => Err(RunError::Memory),
+    }
+}
+
+// Takes in what was added to the folder's file, by what its load found, and prints how many messages came.
+fn take_in_and_tell<H: Host>(
+    alloc: Global,
+    state: &mut SessionState,
+    host: &mut H,
+    found: Option<Found>,
+) -> Result<Asked, RunError>
+    requires state { IsState state.old }
+    ensures ran { Ran H.world host.old host.new
+        (λ es. Goes (taking state.old (loaded_again state.old.desk found)) es (in_play (after_asks state.new) result)) }
+    ensures brings { OnlyBrings state.old state.new }
+    ensures valid { IsState state.new }
+    ensures desk { KeepsDesk state.old state.new result }
+    ensures end { IfOk result EndsByAsk }
+    ensures cause { LineCaused (H.world.counts host.old) (H.world.counts host.new) result }
+{
+    let before = state.desk.shown.rows.items().len();
+    match take_in(alloc, &mut state.desk, found) {
+        Ok(()) => {
+            tell(alloc, host, state.desk.shown.rows.items().len() - before)?;
+            Ok(Asked::Over)
+        }
+        Err(refusal) => refused_by(refusal),
+    }
+}
+
+// Loads the file of the folder and takes in what was added to it.
+fn load_again<H: Host>(
+    alloc: Global,
+    state: &mut SessionState,
+    host: &mut H,
+    file: &[u8],
+) -> Result<Asked, RunError>
+    requires state { IsState state.old }
+    requires file { is_short_name file.now ≡ true }
+    ensures ran { Ran H.world host.old host.new (λ es. Goes (Ask (Try file.now) (λ f.
+        taking state.old (loaded_again state.old.desk f))) es (in_play (after_asks state.new) result)) }
+    ensures brings { OnlyBrings state.old state.new }
+    ensures valid { IsState state.new }
+    ensures desk { KeepsDesk state.old state.new result }
+    ensures end { IfOk result EndsByAsk }
+    ensures cause { LineCaused (H.world.counts host.old) (H.world.counts host.new) result }
+{
+    match try_load(alloc, host, file) {
+        Ok(found) => take_in_and_tell(alloc, state, host, found),
+        Err(_) => Err(RunError::Memory),
+    }
+}
+
+// Loads the file of the folder, whose name was tested, and takes in what was added to it.
+fn renew_tested<H: Host>(
+    alloc: Global,
+    state: &mut SessionState,
+    host: &mut H,
+) -> Result<Asked, RunError>
+    requires state { IsState state.old }
+    requires name { folder_fault state.old ≡ None }
+    ensures ran { Ran H.world host.old host.new
+        (λ es. Goes (renews state.old None) es (in_play (after_asks state.new) result)) }
+    ensures brings { OnlyBrings state.old state.new }
+    ensures valid { IsState state.new }
+    ensures desk { KeepsDesk state.old state.new result }
+    ensures end { IfOk result EndsByAsk }
+    ensures cause { LineCaused (H.world.counts host.old) (H.world.counts host.new) result }
+{
+    match placed(alloc, state.here.bytes(), state.desk.folder.name.bytes()) {
+        Ok(file) => load_again(alloc, state, host, file.bytes()),
+        Err(Memory) => Err(RunError::Memory),
+    }
+}
+
+/// Takes in what was added to the folder's file, and prints how many messages came: they stand with their own marks
+/// behind those that there are, in a view made anew. A file that is held or can't be read, or whose messages don't begin
+/// with those of the folder, is refused by its line.
+pub(crate) fn renew<H: Host>(
+    alloc: Global,
+    state: &mut SessionState,
+    host: &mut H,
+) -> Result<Asked, RunError>
+    requires { IsState state.old }
+    ensures ran { Ran H.world host.old host.new
+        (λ es. Goes (renews state.old (folder_fault state.old)) es (in_play (after_asks state.new) result)) }
+    ensures brings { OnlyBrings state.old state.new }
+    ensures valid { IsState state.new }
+    ensures desk { KeepsDesk state.old state.new result }
+    ensures end { IfOk result EndsByAsk }
+    ensures cause { LineCaused (H.world.counts host.old) (H.world.counts host.new) result }
+{
+    match folder_fault(alloc, state) {
+        Ok(Some(line)) => Ok(Asked::Refused { line }),
+        Ok(None) => renew_tested(alloc, state, host),
+        Err(Memory) => Err(RunError::Memory),
+    }
+}
