@@ -10,6 +10,7 @@ use Rattle.host_port.specs.declared.event.Event.TheVariants as event
 use Rattle.host_port.specs.Disk.{disk}
 use Rattle.mbox_scan.specs.Mailbox.{list_of, message_limit}
 use Rattle.message_state.specs.RowLaws.{OneRow}
+use Rattle.thread_view.specs.ViewLaws.{ViewsAreAlike}
 use Rattle.session_play.specs.declared.act.Found.{Found}
 use Rattle.session_play.specs.declared.act.Found.TheVariants as found
 use Rattle.session_play.specs.declared.recovering.RecoveryAnswer.{RecoveryAnswer}
@@ -243,13 +244,13 @@ end-same : (may : Bool) (l : Option (List ℕ)) (es fs : List Event) → SaysAtE
 end-same may None es fs is was ok fine = is ∙ sym was
 end-same may (Some bytes) es fs is was ok fine = last-same may bytes es fs is was ok fine
 
-pub runs_are_alike : OneRow → RunsAreAlike
-runs_are_alike one_row start env d o s t es fs one two =
+pub runs_are_alike : OneRow → ViewsAreAlike → RunsAreAlike
+runs_are_alike one_row one_view start env d o s t es fs one two =
     let w = one.run.whole in
     let v = two.run.whole in
     let g = given-apart d o one.left es w.front w.behind w.is one.given in
     let h = given-apart d o two.left fs v.front v.behind v.is two.given in
-    let gone = loop-alike one_row (round env) Same (λ x y i j same. round-alike env same) w.plays v.plays s t one.ended two.ended no_input no_input recovers d o g.between o h.between (level-first o) g.first h.first in
+    let gone = loop-alike one_row one_view (round env) Same (λ x y i j same. round-alike env same) w.plays v.plays s t one.ended two.ended no_input no_input recovers d o g.between o h.between (level-first o) g.first h.first in
     let ending : SaysAtEnd (may_say start) (line_at_end (actor_in env) s) w.behind = (subst (λ (out : Result Status Stop). Ending (actor_in env) (may_say start) s out w.behind) one.ended w.ending).1 in
     let other : SaysAtEnd (may_say start) (line_at_end (actor_in env) t) v.behind = (subst (λ (out : Result Status Stop). Ending (actor_in env) (may_say start) t out v.behind) two.ended v.ending).1 in
     let behind : w.behind ≡ v.behind = end-same (may_say start) (line_at_end (actor_in env) s) w.behind v.behind ending

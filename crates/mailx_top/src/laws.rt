@@ -5,6 +5,7 @@ ghost use Rattle.mailx_top.specs.Quits.{QuitsKeepAppended};
 ghost use Rattle.mailx_top.specs.Replies.{RunsReplyAfter};
 
 use message_state::a_text_has_one_row;
+use thread_view::views_are_alike;
 
 /// In a run that is safe each accepted commit has its decision. If it rewrites a file of which it has no other
 /// change, what others appended meanwhile follows the rewritten messages, from the decision on, at each moment and at
@@ -40,4 +41,5 @@ pub fn runs_are_alike()
     ensures { RunsAreAlike }
 {
     a_text_has_one_row();
+    views_are_alike();
 }

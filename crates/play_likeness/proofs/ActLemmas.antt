@@ -37,7 +37,7 @@ use Rattle.play_likeness.specs.Plays.{IsGiven, takes_no_line}
 use Rattle.play_likeness.proofs.JobLemmas.{load_on, load-seen}
 use Rattle.play_likeness.proofs.AnswerLemmas.{IsFrom, attempt-same, recovery-same, recovery-goes}
 use Rattle.play_likeness.proofs.MomentLemmas.{moment-same}
-use Rattle.thread_view.proofs.OneViewLemmas.{views_are_alike}
+use Rattle.thread_view.specs.ViewLaws.{ViewsAreAlike}
 
 -- the same is still to come, on both sides
 pub record Level (i : Input) (o : Outside) (j : Input) (p : Outside) : Type 0 where
@@ -147,7 +147,7 @@ with-children i j o p xs ys same l = record { text = l.text; children = same; ti
 with-times : (i j : Input) (o p : Outside) (xs ys : List ℤ) → xs ≡ ys → Level i o j p → Level i (record o { times = xs }) j (record p { times = ys })
 with-times i j o p xs ys same l = record { text = l.text; children = l.children; times = same; end = l.end; other_end = l.other_end }
 
-module _ (one_row : OneRow) where
+module _ (one_row : OneRow) (one_view : ViewsAreAlike) where
   rows-same : (texts : List (List ℕ)) (rows more : List Row) → AllZip IsRow texts rows → AllZip IsRow texts more → rows ≡ more
   rows-same [] [] [] one two = refl
   rows-same [] [] (s ∷ more) one two = absurd two
@@ -161,7 +161,7 @@ module _ (one_row : OneRow) where
 
   fact-same : (q : Question) (f g : Fact q) → IsFact q f → IsFact q g → f ≡ g
   fact-same (Rows texts) f g one two = rows-same texts f g one two
-  fact-same (Viewed kind rows) f g one two = views_are_alike kind rows f g one two
+  fact-same (Viewed kind rows) f g one two = one_view kind rows f g one two
 
   module _ (d : Disk) (es fs : List Event) (i j : Input) (o m p n : Outside) (given : IsGiven d o m es) (also : IsGiven d p n fs) (level : Level i o j p) where
     -- the events are the same, and the outside is left as it was

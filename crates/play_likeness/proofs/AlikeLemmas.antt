@@ -8,6 +8,7 @@ use Rattle.host_port.specs.declared.event.Event.TheVariants as event
 use Rattle.host_port.specs.Disk.{Disk, disk, after}
 use Rattle.host_port.specs.Ran.{Honest}
 use Rattle.message_state.specs.RowLaws.{OneRow}
+use Rattle.thread_view.specs.ViewLaws.{ViewsAreAlike}
 use Rattle.session_play.specs.declared.stop.Stop.{Stop}
 use Rattle.session_play.specs.Acts.{AllActs}
 use Rattle.session_play.specs.Input.{Input, no_input}
@@ -143,7 +144,7 @@ pub record LoopsGone {R : Type 0} (r u : R) (d : Disk) (es fs : List Event) : Ty
   pub end : r ≡ u
   pub alike : AreAlike d es fs
 
-module _ (one_row : OneRow) where
+module _ (one_row : OneRow) (one_view : ViewsAreAlike) where
   goes-alike : {R : Type 0} (Ends : R → Input → R → Input → Type 0) {i j : Input} {x y : Play R} → Alike Ends i j x y → (d : Disk) (o m p n : Outside) (es fs : List Event) (r u : R) → Level i o j p
       → Goes x es (Ok r) → Goes y fs (Ok u) → IsGiven d o m es → IsGiven d p n fs → Gone Ends r u d es fs m n
   goes-alike {R} Ends (ret {i = i} {j = j} {r = v} {u = w} e) d o m p n es fs r u level (none, inl is) (also_none, inl was) given also = record {
@@ -158,7 +159,7 @@ module _ (one_row : OneRow) where
   goes-alike {R} Ends (ask {i = i} {j = j} act {go = go} {ho = ho} free each) d o m p n es fs r u level (inl (a, front, rest, is, did, more)) (inl (b, front', rest', was, did', more')) given also =
       let g = given-apart d o m es front rest is given in
       let h = given-apart d p n fs front' rest' was also in
-      let same = did-same one_row d front front' i j o g.between p h.between g.first h.first level act free a b did did' in
+      let same = did-same one_row one_view d front front' i j o g.between p h.between g.first h.first level act free a b did did' in
       let next = goes-alike Ends (each a) (disk d front) g.between m h.between n rest rest' r u same.level more
       (subst (λ (c : Answer act). Goes (ho c) rest' (Ok u)) (sym same.answer) more') g.then (subst (λ (e : Disk). IsGiven e h.between n rest') (sym same.leaves) h.then) in
       record {
@@ -216,6 +217,6 @@ module _ (one_row : OneRow) where
 pub level-first : (o : Outside) → Level no_input o no_input o
 level-first o = record { text = refl; children = refl; times = refl; end = λ e. absurd (cc e); other_end = λ e. absurd (cc e) }
 
-pub plays_are_alike : OneRow → PlaysAreAlike
-plays_are_alike one_row p d o a b es fs all given also goes went =
-    (goes-alike one_row (λ r i u j. Unit {0}) (itself (λ r i u j. Unit {0}) no_input no_input p all (λ r. tt)) d o a o b es fs tt tt (level-first o) goes went given also).alike
+pub plays_are_alike : OneRow → ViewsAreAlike → PlaysAreAlike
+plays_are_alike one_row one_view p d o a b es fs all given also goes went =
+    (goes-alike one_row one_view (λ r i u j. Unit {0}) (itself (λ r i u j. Unit {0}) no_input no_input p all (λ r. tt)) d o a o b es fs tt tt (level-first o) goes went given also).alike
