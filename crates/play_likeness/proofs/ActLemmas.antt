@@ -13,7 +13,7 @@ use Rattle.host_port.specs.declared.event.ChildAnswer.{ChildAnswer}
 use Rattle.host_port.specs.Disk.{Disk, disk}
 use Rattle.commit_machine.specs.Jobs.{Job}
 use Rattle.commit_machine.specs.Machine.{State, Call, next, after_reply, Seizing, Ended}
-use Rattle.commit_machine.specs.Goes.{IsOf, loads, stages, stage_fails, publishes, erases, locks, unlocks, seizes, releases, IsNext, reply}
+use Rattle.commit_machine.specs.Goes.{IsOf, loads, stages, stage_fails, publishes, extends, extend_fails, erases, locks, unlocks, seizes, releases, IsNext, reply}
 use Rattle.commit_machine.specs.Goes as machine
 use Rattle.commit_machine.specs.Edits.{job_for, recovery_for}
 use Rattle.folder_change.specs.declared.change.Change.{Change}
@@ -104,6 +104,8 @@ call-gives c e es o p loads g = g
 call-gives c e es o p stages g = g
 call-gives c e es o p stage_fails g = g
 call-gives c e es o p publishes g = g
+call-gives c e es o p extends g = g
+call-gives c e es o p extend_fails g = g
 call-gives c e es o p erases g = g
 call-gives c e es o p locks g = g
 call-gives c e es o p unlocks g = g
