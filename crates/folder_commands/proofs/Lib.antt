@@ -1,2 +1,3 @@
 pub mod NextLemmas
 pub mod MakingLemmas
+pub mod GrowingLemmas

@@ -24,7 +24,7 @@ use borrow.Author.Tests.{lt-ltb}
 abbrev pub failed : ScanError → Result Folder ScanError
 failed e = Err e
 
-has-list : (b : List ℕ) → (list_of b ≡ None → ⊥) → list_of b ≡ Some (texts_of b)
+pub has-list : (b : List ℕ) → (list_of b ≡ None → ⊥) → list_of b ≡ Some (texts_of b)
 unfolding list_of
 has-list b some = ⊎_elim (λ t. cond-true _ _ _ t) (λ f. absurd (some (cond-false _ _ _ f))) (cases_Bool (is_mailbox b))
 

@@ -1,5 +1,5 @@
 // What was added to the file of the open folder.
-ghost use Rattle.std.specs.Prelude.{◌≡◌, ◌++◌, codes, Ok, true, IfOk, IfErr, OnOk, OnErr};
+ghost use Rattle.std.specs.Prelude.{◌≡◌, ◌++◌, ℕ, List, codes, drop, length, Ok, true, IfOk, IfErr, OnOk, OnErr};
 ghost use Rattle.mbox_scan.specs.Mailbox.{texts_of, list_of};
 ghost use Rattle.command_desk.specs.Answers.{IsRefused};
 ghost use Rattle.folder_commands.specs.Making.{listed};
@@ -34,7 +34,6 @@ fn changed_from(alloc: Global, folder: &Folder, bytes: &[u8]) -> Result<Option<u
 // folder is as before.
 fn grow_by_tail(folder: &mut Folder, bytes: &[u8]) -> Result<bool, Memory>
     ensures grown { result ≡ Ok true → (name : List ℕ) → grown name folder.old bytes.now ≡ Ok folder.new }
-    ensures bytes { result ≡ Ok true → folder.new ≡ bytes.now }
     ensures stays { (result ≡ Ok true → ⊥) → folder.new ≡ folder.old }
 {
     let own = folder.bytes().len();
@@ -69,6 +68,8 @@ pub fn grow_folder(
     bytes: Text,
 ) -> Result<(), Refusal>
     ensures ok { OnOk result (grown name.now folder.old bytes ≡ Ok folder.new) }
+    ensures more { OnOk result (texts_of folder.new ≡ texts_of folder.old
+        ++ drop (length (texts_of folder.old)) (texts_of folder.new)) }
     ensures err { IfErr result (λ refusal. IsRefused refusal (grown name.now folder.old bytes)) }
     ensures stays { OnErr result (folder.new ≡ folder.old) }
 {

@@ -18,7 +18,6 @@ use Rattle.rc_conditionals.specs.declared.conditions.Condition.{Condition}
 use Rattle.rc_conditionals.specs.declared.error.CondError.{CondError}
 use Rattle.rc_conditionals.specs.Turns.{turned}
 use Rattle.command_desk.specs.declared.desk.Desk.{Desk}
-use Rattle.command_desk.specs.declared.effects.Effects.{Effects}
 use Rattle.command_desk.specs.declared.naming.Naming.TheVariants as naming
 use Rattle.command_desk.specs.declared.steps.Steps.{Steps}
 use Rattle.command_desk.specs.Answers.{OrFault, next, unless, quietly}
@@ -27,7 +26,7 @@ use Rattle.command_desk.specs.Faults.{bad_arguments, not_in_startup, too_many_al
 use Rattle.command_desk.specs.FileNames.{expanded}
 use Rattle.setting_commands.specs.Setting.{set, unset, sets, first_refusal, setting_of}
 use Rattle.setting_commands.specs.Sourcing.{source, bringing}
-use Rattle.setting_commands.specs.Conditions.{condition, opening, turning, turning_alone, turns_or_fault}
+use Rattle.setting_commands.specs.Conditions.{condition, opening, turning_alone, turns_or_fault}
 use Rattle.naming_commands.specs.Naming.{alias, unalias, alternates, ignore, retain}
 use Rattle.macro_commands.specs.Defining.{define, undef, definition_line, or_macro_fault}
 use Rattle.macro_commands.specs.Calling.{call, calling_or_fault}
