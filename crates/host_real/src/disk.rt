@@ -9,6 +9,7 @@ use crate::paths::{Place, actor_of, is_staged, path_of, place_of};
 use crate::reading::load;
 use crate::reasons::FileError;
 use crate::rights::Rights;
+use crate::tails::extend;
 use host_port::LoadAnswer;
 use std::alloc::Global;
 use std::fs::{File, Files};
@@ -95,6 +96,19 @@ impl Disk {
             refuse_broken(rt, self.alloc, &self.marks, file.as_str(), digits.as_str())?;
         }
         rename_file(rt, from.path(), to.path())
+    }
+
+    /// Gives a file another tail, if the lock of a run that has staged that tail stands, and nobody else has added to
+    /// the file.
+    pub fn extend<R: Files<File = File>>(
+        &self,
+        rt: &R,
+        name: &[u8],
+        at: u64,
+        tail: &[u8],
+    ) -> Result<(), FileError> {
+        let place = self.place(rt, name)?;
+        extend(rt, self.alloc, &self.marks, place.path(), at, tail)
     }
 
     /// Takes a file away: one of mailx's own making, or one whose lock stands and that is as it was locked.

@@ -36,13 +36,15 @@ fn give(file: &File, of: &Metadata) -> Result<(), Error> {
     file.set_permissions(Permissions::from_mode(of.mode() & MODE_BITS))
 }
 
-// What the system's administrator finds where a staged file is to go, if it is another user's: that user's it stays.
-fn anothers<R: Files>(rt: &R, place: &Place) -> Result<Option<Metadata>, Error> {
-    match place {
-        Place::Staged { file, .. } if user() == 0 => {
-            Ok(look(rt, file.as_str())?.filter(|found| found.is_file() && found.uid() != 0))
-        }
-        _ => Ok(None),
+/// What the system's administrator writes in the place of another user's file stays that user's: it gets the owner,
+/// the group and the mode of what stands there.
+pub fn give_as<R: Files>(rt: &R, file: &File, path: &str) -> Result<(), Error> {
+    if user() != 0 {
+        return Ok(());
+    }
+    match look(rt, path)? {
+        Some(found) if found.is_file() && found.uid() != 0 => give(file, &found),
+        _ => Ok(()),
     }
 }
 
@@ -56,8 +58,8 @@ pub fn write_file<R: Files<File = File>>(
     let path = place.path();
     let mut file = create_private(rt, path)?;
     file.write_all(bytes)?;
-    if let Some(found) = anothers(rt, place)? {
-        give(&file, &found)?;
+    if let Place::Staged { file: replaced, .. } = place {
+        give_as(rt, &file, replaced.as_str())?;
     }
     file.sync_all()?;
     Ok(sync_folder(rt, path)?)

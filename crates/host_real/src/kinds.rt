@@ -2,12 +2,15 @@
 use crate::paths::{folder_of, last_part, own_paths};
 use crate::reasons::FileError;
 use std::alloc::Global;
-use std::fs::{Files, Metadata};
+use std::fs::{Files, Metadata, OpenOptions};
 use std::io::{Error, ErrorKind};
 use std::os::unix::fs::MetadataExt;
 
 /// The mode bits of a folder in which each may make files and none may remove those of another.
 const SHARED_FOLDER: u32 = 0o1002;
+
+/// The system's number of an error: what is asked isn't permitted.
+const NOT_PERMITTED: i32 = 1;
 
 /// A file as it was at a moment: which one it is, its length, and when its contents and what is known of it changed.
 #[derive(Clone, Copy, PartialEq)]
@@ -129,20 +132,34 @@ pub fn is_systems_link<R: Files>(rt: &R, link: &Metadata) -> bool {
     }
 }
 
-/// Whether what stands at a path may be replaced or removed: nothing, or a regular file of this user. The system's
-/// administrator may replace the file of any user.
-pub fn may_be_replaced<R: Files>(rt: &R, path: &str) -> Result<(), FileError> {
+/// Refuses what may not be changed: what is no regular file of this user. The system's administrator may change the
+/// file of any user.
+pub fn refuse_kind(found: &Metadata) -> Result<(), FileError> {
+    if !found.is_file() {
+        Err(FileError::NotRegular)
+    } else if user() != 0 && found.uid() != user() {
+        Err(FileError::NotOwn)
+    } else {
+        Ok(())
+    }
+}
+
+// Whether an error of opening a file for writing says that only its mode is against it, so that another may take its
+// place. Of a file that is immutable, or only added to, the system answers otherwise.
+fn is_of_mode(error: &Error) -> bool {
+    error.kind() == ErrorKind::PermissionDenied && error.raw_os_error() != Some(NOT_PERMITTED)
+}
+
+/// Whether what stands at a path may be extended, replaced or removed: nothing, or a regular file of this user that
+/// the system lets him change. That is asked by opening it for writing, once it is known to be no device or pipe.
+pub fn may_be_changed<R: Files>(rt: &R, path: &str) -> Result<(), FileError> {
     match look(rt, path)? {
-        None => Ok(()),
-        Some(found) => {
-            if !found.is_file() {
-                Err(FileError::NotRegular)
-            } else if user() != 0 && found.uid() != user() {
-                Err(FileError::NotOwn)
-            } else {
-                Ok(())
-            }
-        }
+        None => return Ok(()),
+        Some(found) => refuse_kind(&found)?,
+    }
+    match OpenOptions::new().write(true).open(rt, path) {
+        Err(error) if !is_of_mode(&error) => Err(FileError::from(error)),
+        _ => Ok(()),
     }
 }
 

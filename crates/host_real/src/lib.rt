@@ -15,6 +15,7 @@ mod real;
 mod reasons;
 mod rights;
 mod streams;
+mod tails;
 #[cfg(test)]
 mod tests;
 mod waiting;

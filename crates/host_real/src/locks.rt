@@ -1,7 +1,7 @@
 // Locks made of files. The lock on F is the file F.lock, which holds its owner's token.
 use crate::files::{remove_file, write_new};
 use crate::kinds::{
-    Stamp, is_absence, is_empty_place, is_out_of_reach, look, may_be_replaced, stamp_at,
+    Stamp, is_absence, is_empty_place, is_out_of_reach, look, may_be_changed, stamp_at,
 };
 use crate::paths::{Place, beside_path, is_token, lock_path, staged_path, token_text};
 use crate::reasons::FileError;
@@ -131,7 +131,7 @@ fn put_lock<R: Files>(
     lock: &str,
     token: u64,
 ) -> Result<bool, FileError> {
-    may_be_replaced(rt, path)?;
+    may_be_changed(rt, path)?;
     if is_held(rt, lock)? {
         return Ok(false);
     }
@@ -140,7 +140,7 @@ fn put_lock<R: Files>(
     write_new(rt, lock, beside.as_str(), digits.as_bytes())
 }
 
-/// Puts a lock on a file that may be replaced. False if one stands: another's is waited for.
+/// Puts a lock on a file that may be changed. False if one stands: another's is waited for.
 pub fn lock<R: Files + Clock>(
     rt: &R,
     alloc: Global,
@@ -205,14 +205,14 @@ fn is_untouched(now: Option<Stamp>, mark: Option<&Mark>, lock: &Stamp) -> bool {
     }
 }
 
-/// Refuses to replace or remove a file whose lock with this token was broken, or that was changed under it.
-pub fn refuse_broken<R: Files>(
+/// Whether a file is as it was locked with this token. A lock that was broken is an error.
+pub fn is_as_locked<R: Files>(
     rt: &R,
     alloc: Global,
     marks: &Marks,
     file: &str,
     digits: &str,
-) -> Result<(), FileError> {
+) -> Result<bool, FileError> {
     let lock = lock_path(alloc, file)?;
     let Some(standing) = stamp_at(rt, lock.as_str())? else {
         return Err(FileError::LockGone);
@@ -222,11 +222,35 @@ pub fn refuse_broken<R: Files>(
         _ => return Err(FileError::LockGone),
     }
     let now = stamp_at(rt, file)?;
-    if is_untouched(now, marks.find(file, digits), &standing) {
+    Ok(is_untouched(now, marks.find(file, digits), &standing))
+}
+
+/// Refuses to replace or remove a file whose lock with this token was broken, or that was changed under it.
+pub fn refuse_broken<R: Files>(
+    rt: &R,
+    alloc: Global,
+    marks: &Marks,
+    file: &str,
+    digits: &str,
+) -> Result<(), FileError> {
+    if is_as_locked(rt, alloc, marks, file, digits)? {
         Ok(())
     } else {
         Err(FileError::Changed)
     }
+}
+
+/// The token of the lock on a file by a run that has staged what is to become of it.
+pub fn locker_of<R: Files>(rt: &R, alloc: Global, file: &str) -> Result<String, FileError> {
+    let lock = lock_path(alloc, file)?;
+    let Some(digits) = owner_of(rt, alloc, lock.as_str())? else {
+        return Err(FileError::LockGone);
+    };
+    let staged = staged_path(alloc, file, digits.as_str())?;
+    if is_empty_place(rt, staged.as_str()) {
+        return Err(FileError::LockGone);
+    }
+    Ok(digits)
 }
 
 /// Refuses to remove a file that isn't locked by a run which has staged its removal, or that was changed meanwhile.
@@ -236,13 +260,6 @@ pub fn refuse_unlocked<R: Files>(
     marks: &Marks,
     file: &str,
 ) -> Result<(), FileError> {
-    let lock = lock_path(alloc, file)?;
-    let Some(digits) = owner_of(rt, alloc, lock.as_str())? else {
-        return Err(FileError::LockGone);
-    };
-    let staged = staged_path(alloc, file, digits.as_str())?;
-    if is_empty_place(rt, staged.as_str()) {
-        return Err(FileError::LockGone);
-    }
+    let digits = locker_of(rt, alloc, file)?;
     refuse_broken(rt, alloc, marks, file, digits.as_str())
 }

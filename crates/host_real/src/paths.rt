@@ -77,9 +77,15 @@ pub fn lock_path(alloc: Global, path: &str) -> Result<String, AllocError> {
     format!(in alloc; "{path}.lock")
 }
 
-/// The name under which a lock is written before it is linked into place. No mailbox has such a name.
+/// The name under which a lock is written before it is linked into place, and a copy before it takes the place of its
+/// file. No mailbox has such a name.
 pub fn beside_path(alloc: Global, path: &str, token: u64) -> Result<String, AllocError> {
     format!(in alloc; "{path}.lock.mx{token:016x}")
+}
+
+/// The same name, by the digits of the token.
+pub fn beside_name(alloc: Global, path: &str, digits: &str) -> Result<String, AllocError> {
+    format!(in alloc; "{path}.lock.mx{digits}")
 }
 
 /// The digits of a token.

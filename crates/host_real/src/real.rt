@@ -143,6 +143,11 @@ impl<R: Files<File = File> + Input + Print + Eprint + Processes + Clock + Drop> 
         counted(&self.rt, self.alloc, to, answer, &mut self.disks)
     }
 
+    fn extend(&mut self, name: &[u8], at: u64, bytes: &[u8]) -> Result<(), DiskFault> {
+        let answer = self.disk.extend(&self.rt, name, at, bytes);
+        counted(&self.rt, self.alloc, name, answer, &mut self.disks)
+    }
+
     fn erase(&mut self, name: &[u8]) -> Result<(), DiskFault> {
         let answer = self.disk.erase(&self.rt, name);
         counted(&self.rt, self.alloc, name, answer, &mut self.disks)

@@ -41,6 +41,10 @@ enum Name {
     LinkStaged,
     LinkLock,
     Waited,
+    Grown,
+    GrownLock,
+    GrownStaged,
+    Twin,
 }
 
 /// A call on the disk.
@@ -50,7 +54,9 @@ enum Call {
     Stage(Name),
     StageLong(Name),
     StageEmpty(Name),
+    StageTorn(Name),
     Publish(Name, Name),
+    Extend(Name, u64),
     Erase(Name),
     Lock(Name, u64),
     Unlock(Name, u64),
@@ -87,6 +93,10 @@ fn path(name: Name) -> &'static [u8]
         Name::LinkStaged => b"link.mx00000000000000ab",
         Name::LinkLock => b"link.lock",
         Name::Waited => b"waited",
+        Name::Grown => b"grown",
+        Name::GrownLock => b"grown.lock",
+        Name::GrownStaged => b"grown.mx00000000000000ab",
+        Name::Twin => b"twin",
     }
 }
 
@@ -105,7 +115,8 @@ fn done<E: Drop>(answer: Result<(), E>) -> u8 {
     }
 }
 
-// What a load saw: a lock, no file, an empty one, the text that is staged here, the token of a lock, or another text.
+// What a load saw: a lock, no file, an empty one, the text that is staged here, the same twice, the token of a lock, or
+// another text.
 fn seen(answer: Result<LoadAnswer, LoadError>) -> u8 {
     match answer {
         Err(_) => b'!',
@@ -115,6 +126,7 @@ fn seen(answer: Result<LoadAnswer, LoadError>) -> u8 {
             (false, Some(bytes)) => match bytes.bytes() {
                 b"" => b'e',
                 b"mail" => b'm',
+                b"mailmail" => b'd',
                 b"00000000000000ab" => b't',
                 _ => b'?',
             },
@@ -128,7 +140,9 @@ fn called(alloc: Global, host: &mut RealHost<HostRuntime>, call: Call) -> u8 {
         Call::Stage(name) => done(host.stage(path(name), b"mail")),
         Call::StageLong(name) => done(host.stage(path(name), b"longer mail")),
         Call::StageEmpty(name) => done(host.stage(path(name), b"")),
+        Call::StageTorn(name) => done(host.stage(path(name), b"mailm\0")),
         Call::Publish(from, to) => answer(host.publish(path(from), path(to))),
+        Call::Extend(name, at) => done(host.extend(path(name), at, b"mail")),
         Call::Erase(name) => done(host.erase(path(name))),
         Call::Lock(name, token) => answer(host.lock(path(name), token)),
         Call::Unlock(name, token) => done(host.unlock(path(name), token)),
@@ -386,6 +400,71 @@ fn folders_and_links(rt: HostRuntime) -> Result<(), Fail> {
     assert!(rt; made && rt.symlink_metadata("link")?.is_symlink());
     let cleared = rt.remove_file("link").is_ok() && rt.remove_file("pointed").is_ok();
     assert!(rt; held && cleared && rt.remove_dir("folder").is_ok());
+    Ok(())
+}
+
+// A file that is absent, has no lock, or no staged tail isn't extended, nor one that is shorter than what stays. A tail
+// that is there already, or was begun, is made whole; bytes of another are no tail.
+const EXTENDED: [Call; 21] = [
+    Call::Extend(Name::Grown, 0),
+    Call::Lock(Name::Grown, 0xab),
+    Call::Stage(Name::GrownStaged),
+    Call::Extend(Name::Grown, 0),
+    Call::Unlock(Name::Grown, 0xab),
+    Call::Stage(Name::Grown),
+    Call::Extend(Name::Grown, 4),
+    Call::Lock(Name::Grown, 0xab),
+    Call::Extend(Name::Grown, 5),
+    Call::Extend(Name::Grown, 4),
+    Call::Extend(Name::Grown, 4),
+    Call::StageTorn(Name::Grown),
+    Call::Extend(Name::Grown, 4),
+    Call::Unlock(Name::Grown, 0xab),
+    Call::Load(Name::Grown),
+    Call::Lock(Name::Grown, 0xab),
+    Call::StageLong(Name::Grown),
+    Call::Extend(Name::Grown, 4),
+    Call::Erase(Name::GrownStaged),
+    Call::Extend(Name::Grown, 11),
+    Call::Erase(Name::GrownLock),
+];
+
+// Of two names the other keeps what it had; a link stays, and what it stands for is extended.
+const TWO_NAMES: [Call; 13] = [
+    Call::Lock(Name::Grown, 0xab),
+    Call::Stage(Name::GrownStaged),
+    Call::Extend(Name::Grown, 4),
+    Call::Erase(Name::GrownStaged),
+    Call::Unlock(Name::Grown, 0xab),
+    Call::Load(Name::Grown),
+    Call::Load(Name::Twin),
+    Call::Lock(Name::Link, 0xab),
+    Call::Stage(Name::LinkStaged),
+    Call::Extend(Name::Link, 4),
+    Call::Erase(Name::LinkStaged),
+    Call::Unlock(Name::Link, 0xab),
+    Call::Load(Name::Twin),
+];
+
+#[test]
+fn files_are_extended(rt: HostRuntime) -> Result<(), Fail> {
+    let alloc = rt.alloc();
+    let mut host = RealHost::new(rt, alloc, SCRATCH, Duration::ZERO)?;
+    let extended = answers(alloc, &mut host, &EXTENDED)?;
+    assert_eq!(rt; extended.bytes(), b"!y.!..!y!.....dy.!.!.".as_slice());
+    assert!(rt; rt.remove_file("grown").is_ok());
+    Ok(())
+}
+
+#[test]
+fn files_with_two_names_are_extended(rt: HostRuntime) -> Result<(), Fail> {
+    let alloc = rt.alloc();
+    let mut host = RealHost::new(rt, alloc, SCRATCH, Duration::ZERO)?;
+    let staged = gives(alloc, &mut host, &[Call::Stage(Name::Grown)], b".")?;
+    let made = rt.hard_link("grown", "twin").is_ok() && rt.symlink("twin", "link").is_ok();
+    let extended = gives(alloc, &mut host, &TWO_NAMES, b"y....dmy....d")?;
+    let cleared = rt.remove_file("link").is_ok() && rt.remove_file("twin").is_ok();
+    assert!(rt; staged && made && extended && cleared && rt.remove_file("grown").is_ok());
     Ok(())
 }
 
