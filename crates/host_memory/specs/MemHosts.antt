@@ -75,7 +75,8 @@ pub record IsAsPlanned (old new : MemHost) (failed : Bool) : Type 0 where
   pub told : (trace : List Event) → host_told new ≡ Some trace → (failed ≡ fails_next old) × (own : Event) × AddsOne old.tape.trace.items trace (steps_before old.plan.foreign (next_call old.calls)) own
 
 -- A call on the disk takes the next number. While the host tells its trace afterwards, it added the steps that the plan
--- has before this call and its own event, which is as the plan has it: carried out, or failing with this part done.
+-- has before this call and its own event, which is as the plan has it: carried out, or failing with this part done. It
+-- failed exactly if the plan has a part for it or the disk refused it.
 pub record IsDoneAsPlanned (old new : MemHost) (whole : Event) (part : Option Part) (failed : Bool) : Type 0 where
   pub plan : new.plan ≡ old.plan
   pub calls : new.calls ≡ next_call old.calls

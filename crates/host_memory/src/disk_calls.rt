@@ -1,7 +1,7 @@
 // What the calls on the disk of a host in memory add to its tape.
 ghost use Rattle.std.specs.Prelude.{◌≡◌, ◌++◌, ◌∷◌, [], Some, None, true, false, IfOk, is_err};
 ghost use Rattle.host_port.specs.Disk.{disk};
-ghost use Rattle.host_port.specs.Calls.{Staged, Published, Erased, Locked, Unlocked, Seized};
+ghost use Rattle.host_port.specs.Calls.{Staged, Published, Extended, Erased, Locked, Unlocked, Seized};
 ghost use Rattle.std.specs.Option.{option_copied};
 ghost use Rattle.host_memory.specs.Plans.{Ended, TapeAddsCall, TapeAddsPlanned, answer_of, as_planned};
 ghost use Rattle.host_memory.specs.Standings.{disk_now};
@@ -22,7 +22,7 @@ fn tell_planned(
     tape: &mut Tape,
     event: Event,
     part: Option<&Part>,
-) -> Result<bool, Memory>
+) -> Result<Result<bool, DiskFault>, Memory>
     ensures told { IfOk result
         (λ _. tape.new.trace.items
         ≡ tape.old.trace.items ++ as_planned (disk_now tape.old.standing) event (option_copied part.entry) ∷ []) }
@@ -66,7 +66,7 @@ pub fn tell_disk(
             let part = failing(plan.fails.items(), call);
             let answer = tell_planned(alloc, tape, event, part)?;
             match part {
-                None => Ok(Ok(answer)),
+                None => Ok(answer),
                 Some(_) => Ok(Err(DiskFault)),
             }
         }
@@ -134,6 +134,39 @@ pub fn tell_publish(
         failed: false,
     };
     tell_disk(alloc, plan, call, tape, event)
+}
+
+/// Tells that a file was given another tail, or what a failing call left.
+pub fn tell_extend(
+    alloc: Global,
+    plan: &Plan,
+    call: u64,
+    tape: &mut Tape,
+    name: &[u8],
+    at: u64,
+    tail: &[u8],
+) -> Result<Result<(), DiskFault>, Memory>
+    ensures ok { IfOk result
+        (λ r. TapeAddsCall tape.old tape.new (steps_before plan.entry.now.foreign call)
+        (Extended name.now at tail.now r)) }
+    ensures planned { IfOk result
+        (λ r. TapeAddsPlanned tape.old tape.new (steps_before plan.entry.now.foreign call)
+        (event.Extend name.now at tail.now false) (part_at plan.entry.now.fails call) (is_err r)) }
+    ensures start { tape.new.start ≡ tape.old.start }
+{
+    let name = Text::copy(alloc, name)?;
+    let tail = Text::copy(alloc, tail)?;
+    let event = Event::Extend {
+        name,
+        at,
+        tail,
+        failed: false,
+    };
+    match tell_disk(alloc, plan, call, tape, event) {
+        Ok(Ok(_)) => Ok(Ok(())),
+        Ok(Err(fault)) => Ok(Err(fault)),
+        Err(memory) => Err(memory),
+    }
 }
 
 /// Tells that a file was taken away, or that the call failed.

@@ -1,13 +1,14 @@
 // How a call on the disk of a host in memory ends.
-ghost use Rattle.std.specs.Prelude.{◌≡◌, OnOk};
+ghost use Rattle.std.specs.Prelude.{◌≡◌, OnOk, IfOk, drop};
 ghost use Rattle.std.specs.Option.{option_copied};
-ghost use Rattle.host_port.specs.Ends.{carried_out, cut_short, left, is_after, is_owner, is_open};
+ghost use Rattle.host_port.specs.Ends.{carried_out, cut_short, left, left_tail, tail_of, is_after, is_owner, is_open};
+ghost use Rattle.host_port.specs.Disk.{reaches};
 ghost use Rattle.host_memory.specs.Plans.{as_planned, answer_of};
 ghost use Rattle.host_memory.specs.Standings.{disk_now};
 ghost use Rattle.host_memory.specs.Views.{named};
 
 use crate::standing::{Standing, copy_found};
-use host_port::{Event, Holder, Part};
+use host_port::{DiskFault, Event, Holder, Part};
 use mail_text::{Memory, Text};
 use std::alloc::Global;
 
@@ -43,6 +44,16 @@ fn may_seize(disk: &Standing, name: &[u8]) -> bool
     }
 }
 
+// Whether a file stands that has so many bytes at least.
+fn reaches(disk: &Standing, name: &[u8], at: u64) -> bool
+    ensures { result ≡ reaches at (named disk.now.files name.now) }
+{
+    match disk.files.get(name) {
+        None => false,
+        Some(text) => at <= text.bytes().len() as u64,
+    }
+}
+
 // Marks a call as done or not, and as failed or not.
 fn mark(done: &mut bool, failed: &mut bool, is_done: bool, is_failed: bool)
     ensures done { done.new ≡ is_done }
@@ -64,6 +75,12 @@ pub fn carry_out(disk: &Standing, event: &mut Event)
             failed,
             ..
         } => mark(done, failed, disk.files.has(from.bytes()), false),
+        Event::Extend {
+            name,
+            at,
+            failed,
+            ..
+        } => *failed = !reaches(disk, name.bytes(), *at),
         Event::Erase { done, failed, .. } => mark(done, failed, true, false),
         Event::Lock {
             name,
@@ -107,6 +124,47 @@ pub fn leave(
     Ok(())
 }
 
+// What follows so many bytes.
+fn behind(bytes: &[u8], count: u64) -> &[u8]
+    ensures { result.now ≡ drop count bytes.now }
+{
+    if (bytes.len() as u64) < count {
+        return b"";
+    }
+    let (_, rest) = bytes.split_at(count as usize);
+    rest
+}
+
+// What stands behind so many bytes of a file.
+fn tail_there(alloc: Global, disk: &Standing, name: &[u8], at: u64) -> Result<Text, Memory>
+    ensures { IfOk result (λ t. t ≡ tail_of at (named disk.now.files name.now)) }
+{
+    match disk.files.get(name) {
+        None => Ok(Text::new(alloc)),
+        Some(text) => Text::copy(alloc, behind(text.bytes(), at)),
+    }
+}
+
+/// What a failing call leaves behind so many bytes of a file that it would give another tail.
+pub fn leave_tail(
+    alloc: Global,
+    disk: &Standing,
+    name: &[u8],
+    at: u64,
+    tail: &mut Text,
+    part: &Part,
+) -> Result<(), Memory>
+    ensures { OnOk result (tail.new ≡ left_tail (tail_of at (named disk.now.files name.now)) tail.old part.now) }
+{
+    match part {
+        Part::Before => *tail = tail_there(alloc, disk, name, at)?,
+        Part::After => {}
+        Part::Bytes(text) => *tail = Text::copy(alloc, text.bytes())?,
+        Part::Nothing => *tail = tail_there(alloc, disk, name, at)?,
+    }
+    Ok(())
+}
+
 /// Makes an event of a call its failing form on this disk, with the part of the call that was done.
 pub fn cut(alloc: Global, disk: &Standing, event: &mut Event, part: &Part) -> Result<(), Memory>
     ensures { OnOk result (event.new ≡ cut_short (disk_now disk.now) event.old part.now) }
@@ -127,6 +185,15 @@ pub fn cut(alloc: Global, disk: &Standing, event: &mut Event, part: &Part) -> Re
             failed,
             ..
         } => mark(done, failed, whole && disk.files.has(from.bytes()), true),
+        Event::Extend {
+            name,
+            at,
+            tail,
+            failed,
+        } => {
+            leave_tail(alloc, disk, name.bytes(), *at, tail, part)?;
+            *failed = true;
+        }
         Event::Erase { done, failed, .. } => mark(done, failed, whole, true),
         Event::Lock {
             name,
@@ -171,23 +238,25 @@ pub fn settle(
     }
 }
 
-/// What a call answers if it can answer false.
-pub fn answer(event: &Event) -> bool
+/// What a call answers that is carried out: a fault if the disk refuses it, and else a truth, if it can answer false.
+pub fn answer(event: &Event) -> Result<bool, DiskFault>
     ensures { result ≡ answer_of event.now }
 {
     match event {
-        Event::Publish { done, .. } => *done,
-        Event::Lock { got, .. } => *got,
-        Event::Seize { got, .. } => *got,
-        Event::In { .. } => true,
-        Event::Out { .. } => true,
-        Event::Load { .. } => true,
-        Event::Stage { .. } => true,
-        Event::Erase { .. } => true,
-        Event::Unlock { .. } => true,
-        Event::Release { .. } => true,
-        Event::Child { .. } => true,
-        Event::Now { .. } => true,
-        Event::Foreign { .. } => true,
+        Event::Publish { done, .. } => Ok(*done),
+        Event::Extend { failed: true, .. } => Err(DiskFault),
+        Event::Extend { .. } => Ok(true),
+        Event::Lock { got, .. } => Ok(*got),
+        Event::Seize { got, .. } => Ok(*got),
+        Event::In { .. } => Ok(true),
+        Event::Out { .. } => Ok(true),
+        Event::Load { .. } => Ok(true),
+        Event::Stage { .. } => Ok(true),
+        Event::Erase { .. } => Ok(true),
+        Event::Unlock { .. } => Ok(true),
+        Event::Release { .. } => Ok(true),
+        Event::Child { .. } => Ok(true),
+        Event::Now { .. } => Ok(true),
+        Event::Foreign { .. } => Ok(true),
     }
 }

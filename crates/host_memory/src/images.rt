@@ -9,12 +9,12 @@ ghost use Rattle.host_memory.specs.Views.{disk_of, NamesOnce};
 ghost use Rattle.host_port.specs.declared.event.Event.{Event};
 
 use crate::DiskView;
-use crate::ending::{is_whole, leave, owns};
+use crate::ending::{is_whole, leave, leave_tail, owns};
 use crate::named::Named;
-use crate::standing::{Standing, copy_found, effect, effect_of_step, rename, write};
+use crate::standing::{Standing, copy_found, effect, effect_of_step, extend, rename, write};
 use crate::tape::{copy_files, copy_locks, show_files, show_locks};
 use host_port::{Event, Part};
-use mail_text::Memory;
+use mail_text::{Memory, Text};
 use std::alloc::Global;
 
 // The disk after these events.
@@ -45,6 +45,11 @@ fn stop(alloc: Global, disk: &mut Standing, event: &Event, part: &Part) -> Resul
         }
         Event::Publish { from, to, .. } if whole && disk.files.has(from.bytes()) => {
             rename(alloc, &mut disk.files, from.bytes(), to.bytes())
+        }
+        Event::Extend { name, at, tail, .. } => {
+            let mut tail = Text::copy(alloc, tail.bytes())?;
+            leave_tail(alloc, disk, name.bytes(), *at, &mut tail, part)?;
+            extend(alloc, &mut disk.files, name.bytes(), *at, tail.bytes())
         }
         Event::Erase { name, .. } if whole => disk.files.put(alloc, name.bytes(), None),
         Event::Lock { name, token, .. } if whole && !disk.locks.has(name.bytes()) => {

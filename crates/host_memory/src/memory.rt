@@ -4,7 +4,7 @@ ghost use Rattle.std.specs.Option.{option_copied};
 ghost use Rattle.host_port.specs.Disk.{disk};
 ghost use Rattle.host_port.specs.Ends.{stopped};
 ghost use Rattle.host_port.specs.Names.{IsFileName};
-ghost use Rattle.host_port.specs.Calls.{Calls, NeverFall, Rose, Filled, Said, Loaded, LoadCause, Staged, Published, Erased, Locked, Unlocked, Seized, Released, ChildRan, ChildCause, TimeTold};
+ghost use Rattle.host_port.specs.Calls.{Calls, NeverFall, Rose, Filled, Said, Loaded, LoadCause, Staged, Published, Extended, Erased, Locked, Unlocked, Seized, Released, ChildRan, ChildCause, TimeTold};
 ghost use Rattle.host_memory.specs.Children.{next_given};
 ghost use Rattle.host_memory.specs.Tapes.{ShowsSame};
 ghost use Rattle.host_memory.specs.Views.{disk_of, NamesOnce};
@@ -15,7 +15,9 @@ use crate::calls::{
     failing, tell_failed_load, tell_in, tell_load, tell_now, tell_out, tell_release,
 };
 use crate::children::{Run, tell_child, used_after};
-use crate::disk_calls::{tell_erase, tell_lock, tell_publish, tell_seize, tell_stage, tell_unlock};
+use crate::disk_calls::{
+    tell_erase, tell_extend, tell_lock, tell_publish, tell_seize, tell_stage, tell_unlock,
+};
 use crate::images::{image, show};
 use crate::named::Named;
 use crate::standing::Standing;
@@ -29,8 +31,8 @@ use std::alloc::Global;
 
 /// A host in memory. It tells its trace until one of its calls is refused memory; from then on it is lost.
 ///
-/// Until it is lost a call that can fail is answered a fault exactly if its plan names the call's number, and the
-/// steps of others stand where the plan has them.
+/// Until it is lost a call that can fail is answered a fault exactly if its plan names the call's number or it would
+/// extend a file that is absent or shorter, and the steps of others stand where the plan has them.
 #[derive(Drop)]
 pub struct MemHost {
     alloc: Global,
@@ -315,6 +317,38 @@ impl Host for MemHost {
         if !self.lost {
             match tell_publish(self.alloc, &self.plan, self.calls, &mut self.tape, from, to) {
                 Ok(Ok(answer)) => return Ok(answer),
+                Ok(Err(_)) => {}
+                Err(_) => self.lost = true,
+            }
+        }
+        self.disks = self.disks.saturating_add(1);
+        Err(DiskFault)
+    }
+
+    fn extend(&mut self, name: &[u8], at: u64, bytes: &[u8]) -> Result<(), DiskFault>
+        requires { IsFileName name.now }
+        ensures start { host_start self.new ≡ host_start self.old }
+        ensures call { Calls host_world self.old self.new (Extended name.now at bytes.now result) }
+        ensures counts { NeverFall (host_counts self.old) (host_counts self.new) }
+        ensures cause { OnErr result (Rose (host_counts self.old).disks (host_counts self.new).disks) }
+        ensures planned { IsDoneAsPlanned self.old self.new (event.Extend name.now at bytes.now false)
+            (next_part self.old) (is_err result) }
+        ensures kept { TakesNothing self.old self.new }
+        ensures counted { host_counts self.new ≡ after_disk (is_err result) (host_counts self.old) }
+        ensures lost { is_lost self.new ≡ true → is_err result ≡ true }
+    {
+        self.calls = self.calls.saturating_add(1);
+        if !self.lost {
+            match tell_extend(
+                self.alloc,
+                &self.plan,
+                self.calls,
+                &mut self.tape,
+                name,
+                at,
+                bytes,
+            ) {
+                Ok(Ok(())) => return Ok(()),
                 Ok(Err(_)) => {}
                 Err(_) => self.lost = true,
             }

@@ -1,7 +1,7 @@
 // What stands on the disk of a host in memory, and what events make of it.
 ghost use Rattle.std.specs.Prelude.{◌≡◌, List, ℕ, OnOk, OnErr, IfOk};
 ghost use Rattle.std.specs.Option.{option_copied};
-ghost use Rattle.host_port.specs.Disk.{with_at, after, after_step};
+ghost use Rattle.host_port.specs.Disk.{with_at, extended, after, after_step};
 ghost use Rattle.host_memory.specs.Standings.{disk_now};
 ghost use Rattle.host_port.specs.Disk.{SameDisk};
 ghost use Rattle.host_memory.specs.Views.{named};
@@ -71,6 +71,46 @@ pub fn rename(alloc: Global, files: &mut Named<Text>, from: &[u8], to: &[u8]) ->
     Ok(())
 }
 
+// A file with another tail behind so many bytes. An absent or shorter one is as it was.
+fn extended(
+    alloc: Global,
+    file: Option<&Text>,
+    at: u64,
+    tail: &[u8],
+) -> Result<Option<Text>, Memory>
+    ensures { IfOk result (λ r. r ≡ extended (option_copied file.entry) at tail.now) }
+{
+    let Some(text) = file else {
+        return Ok(None);
+    };
+    let bytes = text.bytes();
+    if (bytes.len() as u64) < at {
+        return Ok(Some(Text::copy(alloc, bytes)?));
+    }
+    let (front, _) = bytes.split_at(at as usize);
+    let mut made = Text::copy(alloc, front)?;
+    made.push(tail)?;
+    Ok(Some(made))
+}
+
+/// Gives a file another tail behind so many bytes. An absent or shorter one stays as it was.
+pub fn extend(
+    alloc: Global,
+    files: &mut Named<Text>,
+    name: &[u8],
+    at: u64,
+    tail: &[u8],
+) -> Result<(), Memory>
+    ensures ok { OnOk result
+        ((q : List ℕ)
+        → named files.new q
+        ≡ with_at (named files.old) name.now (extended (named files.old name.now) at tail.now) q) }
+    ensures err { OnErr result (files.new ≡ files.old) }
+{
+    let made = extended(alloc, files.get(name), at, tail)?;
+    files.put(alloc, name, made)
+}
+
 /// Carries out a step of another. If memory runs out, all is as before.
 pub fn effect_of_step(alloc: Global, disk: &mut Standing, step: &ForeignStep) -> Result<(), Memory>
     ensures ok { OnOk result (SameDisk (disk_now disk.new) (after_step (disk_now disk.old) step.now)) }
@@ -123,6 +163,13 @@ pub fn effect(alloc: Global, disk: &mut Standing, event: &Event) -> Result<(), M
             done: true,
             ..
         } => rename(alloc, &mut disk.files, from.bytes(), to.bytes()),
+        Event::Extend { name, at, tail, .. } => extend(
+            alloc,
+            &mut disk.files,
+            name.bytes(),
+            *at,
+            tail.bytes(),
+        ),
         Event::Erase {
             name,
             done: true,
