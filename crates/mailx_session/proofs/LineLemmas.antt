@@ -64,6 +64,7 @@ use Rattle.session_asks.specs.Asks.{asked}
 use Rattle.session_asks.specs.Beginning.{with_new_draft, subject_asked, view_in, begun, at_message, placed, file_fault, beginning}
 use Rattle.session_asks.specs.Running.{after_run}
 use Rattle.session_asks.specs.Sourcing.{source_fault, after_load, sourced}
+use Rattle.session_asks.specs.Renewing.{folder_fault, loaded_again, taking, renews}
 use Rattle.session_asks.specs.Switching.{open_fault, loaded_folder, switched, announced, switched_to, switches}
 use Rattle.draft_sending.specs.Sending.{letter_of, text_of, unsent_by, refused_by, unrecorded, saved_one, buried, burying, lost, unsent, after_sender, sending, after_record, recording, posting, addressing, ended, ended_draft, quitted}
 use Rattle.mailx_session.specs.Drafting.{released, told, took_answer, given, after_fetch, fetched, after_child, written, put, needed, took_line, drafted, draft_play}
@@ -235,6 +236,15 @@ module _ (actor : List ℕ) (token : ℕ) (o : Outcome) where
   switches-obeys s name changes reply (Some line) like = tt
   switches-obeys s name changes reply None like = (tt, λ f. switched-obeys s name changes reply (loaded_folder s.desk changes name f) like)
 
+  -- mail that came meanwhile, or a refusal
+  taking-obeys : (s : SessionState) (f : OrFault (List ℕ)) → Like s → Asks (taking s f)
+  taking-obeys s (Err line) like = tt
+  taking-obeys s (Ok bytes) like = (tt, λ more. (tt, λ view. (tt, λ u. like)))
+
+  renews-obeys : (s : SessionState) (fault : Option (List ℕ)) → Like s → Asks (renews s fault)
+  renews-obeys s (Some line) like = tt
+  renews-obeys s None like = (tt, λ f. taking-obeys s (loaded_again s.desk f) like)
+
   called-ends : (b : Bool) (t : SessionState) → Like t → AskEnds Like (EndsAs o) nothing_met (if b then On t else Refused calls_too_deep)
   called-ends true t like = like
   called-ends false t like = tt
@@ -269,6 +279,7 @@ module _ (actor : List ℕ) (token : ℕ) (o : Outcome) where
   ask-obeys s (asks.Source name) like = sourced-obeys s name (source_fault s name) like
   ask-obeys s (asks.Lines text) like = called-ends (nat_lt (calls s.frames) call_limit) (with_lines kinds.Call s text) like
   ask-obeys s (asks.Open name changes reply) like = switches-obeys s name changes reply (open_fault s name changes) like
+  ask-obeys s asks.Newmail like = renews-obeys s (folder_fault s) like
   ask-obeys s (asks.View kind) like = (tt, λ view. like)
   ask-obeys s (asks.Draft draft file current) like = beginning-obeys s draft file current (file_fault s file) like
   ask-obeys s (asks.Child command input) like = (tt, λ a. run-obeys s a like)

@@ -68,7 +68,7 @@ pub(crate) fn carry_out<H: Host>(
     ensures goes_on { list_all is_startup_ask steps.asks ≡ true → GoesOn result }
     ensures done { IfOk result EndsByLine }
     ensures end { IfOk result (StaysAtEnd state.old state.new) }
-    ensures err { OnErr result (state.new ≡ state.old) }
+    ensures err { list_any brings steps.asks ≡ false → OnErr result (state.new ≡ state.old) }
     ensures cause { LineCaused (H.world.counts host.old) (H.world.counts host.new) result }
 {
     let Steps { asks, effects } = steps;
@@ -85,8 +85,8 @@ pub(crate) fn carry_out<H: Host>(
     }
 }
 
-/// Carries out a line from somewhere, without its line feed. The desk changes only if the run goes on, and not if
-/// the line is refused, and so do the lines that wait and the draft; nothing else changes.
+/// Carries out a line from somewhere, without its line feed. If it is refused nothing changes, and one that brings nothing
+/// changes the desk only if the run goes on; beside desk, lines that wait and draft nothing changes at all.
 pub(crate) fn carry_line<H: Host>(
     alloc: Global,
     state: &mut SessionState,
@@ -106,7 +106,8 @@ pub(crate) fn carry_line<H: Host>(
         → IfOk result (λ flow. flow ≡ Flow.Go) }
     ensures done { EndsFrom origin result }
     ensures end { IfOk result (StaysAtEnd state.old state.new) }
-    ensures err { OnErr result (state.new ≡ state.old) }
+    ensures err { brings_lines (commanded origin state.old.desk line.now) ≡ false
+        → OnErr result (state.new ≡ state.old) }
     ensures cause { LineCaused (H.world.counts host.old) (H.world.counts host.new) result }
 {
     match perform_line(alloc, origin, line, &state.desk) {
@@ -135,7 +136,8 @@ fn command_line<H: Host>(
         → IfOk result (λ flow. flow ≡ Flow.Go) }
     ensures done { IfOk result EndsByLine }
     ensures end { IfOk result (StaysAtEnd state.old (rested state.new)) }
-    ensures err { OnErr result (rested state.new ≡ state.old) }
+    ensures err { brings_lines (commanded Origin.Input state.old.desk line.now) ≡ false
+        → OnErr result (rested state.new ≡ state.old) }
     ensures cause { LineCaused (H.world.counts host.old) (H.world.counts host.new) result }
 {
     state.count = 1;
@@ -163,7 +165,9 @@ fn typed_line<H: Host>(
     ensures escape_goes_on { RefusesLine state.old line.now → IfOk result (λ flow. flow ≡ Flow.Go) }
     ensures done { IfOk result EndsByLine }
     ensures end { is_drafting state.old ≡ false → IfOk result (StaysAtEnd state.old (rested state.new)) }
-    ensures err { is_drafting state.old ≡ false → OnErr result (rested state.new ≡ state.old) }
+    ensures err { is_drafting state.old ≡ false
+        → brings_lines (commanded Origin.Input state.old.desk line.now) ≡ false
+        → OnErr result (rested state.new ≡ state.old) }
     ensures cause { LineCaused (H.world.counts host.old) (H.world.counts host.new) result }
 {
     if state.draft.is_some() {

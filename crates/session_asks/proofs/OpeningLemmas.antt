@@ -1,5 +1,5 @@
 -- The desk of a folder that is opened is valid.
-use Rattle.std.proofs.Common.{◌≡◌, Bool, ◌≤◌, ℕ, List, [], ◌∷◌, ◌++◌, length, map, refl, sym, ap, ◌∙◌, arith}
+use Rattle.std.proofs.Common.{◌≡◌, Bool, ◌≤◌, ℕ, zero, suc, List, [], ◌∷◌, ◌++◌, length, map, drop, refl, sym, ap, ◌∙◌, arith}
 use Rattle.std.specs.Prelude.{All, IfSome}
 use Rattle.std.specs.List.{AllZip, range_with_len}
 use Rattle.std.proofs.lemmas.List.Sorted.{IsPermutation-refl}
@@ -68,3 +68,20 @@ unfolding opened
 laid-is s name bytes o is =
     ap (λ (f : Open). with_page (with_folder s.desk f o.shown)) is.folder
     ∙ ap (λ (shown : Shown). with_page (with_folder s.desk (record { name = name; system = is_system s name; folder = bytes; marks = map (λ (row : Row). row.mark) is.rows }) shown)) is.shown
+
+-- what stands behind so many of a list that grows at its end
+pub drop-behind : {A : Type 0} (n : ℕ) (xs ys : List A) → n ≤ length xs → drop n (xs ++ ys) ≡ drop n xs ++ ys
+drop-behind zero xs ys within = refl
+drop-behind (suc n) [] ys within = absurd (omega (arith, within))
+drop-behind (suc n) (x ∷ xs) ys within = drop-behind n xs ys (omega (arith, within))
+
+-- the desk without messages of its folder
+pub cleared-desk : (desk : Desk) → 2 ≤ desk.places.width
+    → IsDesk (record desk { folder = record desk.folder { folder = []; marks = [] }; shown = record { rows = []; order = []; depth = []; current = 0 } })
+unfolding texts_of pieces starts
+cleared-desk desk wide = record {
+  shown = record { few = omega arith; order = IsPermutation-refl []; depths = refl; current = omega arith; years = λ k d within. absurd (omega arith) };
+  rows = tt;
+  marks = refl;
+  width = wide;
+}

@@ -1,18 +1,19 @@
 // What was added to the file of the folder is taken in.
-ghost use Rattle.std.specs.Prelude.{◌≡◌, ◌++◌, ◌-◌, ◌≤◌, [], None, true, length, map, IfErr, IfOk, OnErr, OnOk};
+ghost use Rattle.std.specs.Prelude.{◌≡◌, ◌++◌, ◌≤◌, [], None, true, drop, length, map, IfErr, IfOk, OnErr, OnOk};
 ghost use Rattle.host_port.specs.Ran.{Ran};
 ghost use Rattle.mbox_scan.specs.Mailbox.{texts_of};
 ghost use Rattle.message_state.specs.declared.row.Row.{Row};
+ghost use Rattle.message_state.specs.ShownRows.{IsShown};
+ghost use Rattle.folder_commands.specs.Growing.{news_line};
 ghost use Rattle.mailx_vars.specs.Names.{is_short_name};
-ghost use Rattle.session_play.specs.declared.act.Found.{Found};
-ghost use Rattle.session_play.specs.Play.{Ask, Try, Goes};
+ghost use Rattle.session_play.specs.Play.{Ask, Ret, Say, Try, Goes};
 ghost use Rattle.command_desk.specs.Answers.{IsRefused};
 ghost use Rattle.command_desk.specs.Desks.{IsDesk};
 ghost use Rattle.session_state.specs.Answers.{after_asks, in_play, LineCaused, EndsByAsk};
 ghost use Rattle.session_state.specs.Bringing.{OnlyBrings};
-ghost use Rattle.session_state.specs.States.{IsState, with_desk};
+ghost use Rattle.session_state.specs.States.{IsState};
 ghost use Rattle.session_asks.specs.Asks.{KeepsDesk};
-ghost use Rattle.session_asks.specs.Renewing.{folder_fault, loaded_again, taking, telling, renews, IsGrown, ShowsMore, StaysIfRefused, TakesIn};
+ghost use Rattle.session_asks.specs.Renewing.{folder_fault, loaded_again, taking, renews, IsGrown, ShowsMore, StaysIfRefused, TakesIn};
 
 use crate::opening::{no_folder, push_marks, rows_from};
 use crate::switching::refused_by;
@@ -45,6 +46,8 @@ fn folder_fault(alloc: Global, state: &SessionState) -> Result<Option<Text>, Mem
 // Puts the bytes of its file in place of the folder's, if they only add messages.
 fn grow_bytes(alloc: Global, desk: &mut Desk, found: Option<Found>) -> Result<(), Refusal>
     ensures ok { OnOk result (IsGrown desk.old found desk.new) }
+    ensures more { OnOk result (texts_of desk.new.folder.folder ≡ texts_of desk.old.folder.folder
+        ++ drop (length (texts_of desk.old.folder.folder)) (texts_of desk.new.folder.folder)) }
     ensures err { IfErr result (λ refusal. IsRefused refusal (loaded_again desk.old found)) }
     ensures stays { OnErr result (desk.new ≡ desk.old) }
 {
@@ -73,7 +76,9 @@ fn grow_bytes(alloc: Global, desk: &mut Desk, found: Option<Found>) -> Result<()
 fn show_more(alloc: Global, desk: &mut Desk) -> Result<(), Memory>
     requires listed { length desk.old.shown.rows ≤ length (texts_of desk.old.folder.folder) }
     requires marks { desk.old.folder.marks ≡ map (λ (row : Row). row.mark) desk.old.shown.rows }
+    requires shown { IsShown desk.old.shown }
     ensures shows { OnOk result (ShowsMore desk.old desk.new) }
+    ensures shown { OnOk result (IsShown desk.new.shown) }
     ensures places { desk.new.places ≡ desk.old.places }
 {
     let shown = desk.shown.rows.items().len();
