@@ -53,6 +53,18 @@ fn named(host: &mut MemHost, kind: &str, name: &[u8], token: u64, bytes: &[u8]) 
     }
 }
 
+// A call that gives a file another tail: its name, how many bytes stay, and the tail.
+fn put_extended(host: &mut MemHost, line: &str, out: &mut Answer) {
+    let (name, rest) = cut(line);
+    let (at, tail) = cut(rest);
+    let name = out.decoded(name);
+    let tail = out.decoded(tail);
+    if !is_name(name.bytes()) {
+        return out.put_plain(b"no name");
+    }
+    out.put_plain(done(host.extend(name.bytes(), number(at), tail.bytes())));
+}
+
 fn put_named(host: &mut MemHost, kind: &str, rest: &str, out: &mut Answer) {
     let (first, last) = cut(rest);
     let name = out.decoded(first);
@@ -151,6 +163,7 @@ pub fn put_call(host: &mut MemHost, line: &str, out: &mut Answer) {
             let bytes = out.decoded(rest);
             out.put_plain(done(host.say(bytes.bytes())));
         }
+        "extend" => put_extended(host, rest, out),
         "child" => put_child(host, rest, out),
         "send" => put_sent(host, rest, out),
         "now" => out.put_shown(&host.now()),

@@ -9,6 +9,7 @@
 //! |---|---|
 //! | `do fill` | the bytes of the input that come, of 8 at most |
 //! | `do say TEXT`, `do stage NAME TEXT`, `do erase NAME` | `done` or `fault` |
+//! | `do extend NAME N TEXT` | the same, of a file of which N bytes stay |
 //! | `do unlock NAME TOKEN`, `do release NAME` | `done` or `fault` |
 //! | `do publish FROM TO`, `do lock NAME TOKEN`, `do seize NAME` | `yes`, `no` or `fault` |
 //! | `do load NAME` | what was seen |
@@ -31,6 +32,8 @@
 //! | `names ACTOR TOKEN NAME` | the names of the record, of the new one, of the right and of a staged file |
 //! | `taken ACTOR NAME` | whether the name is that of the actor's record |
 //! | `large` | what comes of files past a limit |
+//!
+//! Of `write` a NAME with `!` before it is removed, and one with `+N:` before it extended behind N bytes.
 //!
 //! A change of `do commit` is `KIND NAME TEXT|TEXT..`, and BASE, which may be left out with its slash, the text
 //! that the rewrites were made for. The kinds are `keep` and `drop`, which are rewrites, `add`, `front` and `raw`.

@@ -1,18 +1,28 @@
 // Records of commits.
-use case_blocks::{Answer, cut};
-use commit_record::{Entry, EntryKind, Phase, Record, RecordError, is_valid, read, write};
+use case_blocks::{Answer, cut, number};
+use commit_record::{Entry, Phase, Record, RecordError, Way, entry_for, is_valid, read, write};
 use mail_text::{Items, Memory};
 use std::alloc::Global;
 use std::str;
 
-// An entry by its name; an exclamation mark before it removes the file.
+// How a file comes to be, and its name: `!` before it removes the file, and `+N:` extends it behind N bytes.
+fn way(marked: &str) -> (Way, &str) {
+    if let Some(name) = marked.strip_prefix('!') {
+        return (Way::Remove, name);
+    }
+    match marked.strip_prefix('+') {
+        Some(rest) => {
+            let (at, name) = rest.split_once(':').unwrap_or((rest, ""));
+            (Way::Extend(number(at)), name)
+        }
+        None => (Way::Replace, marked),
+    }
+}
+
 fn entry(marked: &str, out: &mut Answer) -> Entry {
-    let (kind, name) = match marked.strip_prefix('!') {
-        Some(name) => (EntryKind::Remove, name),
-        None => (EntryKind::Replace, marked),
-    };
+    let (way, name) = way(marked);
     let name = out.decoded(name);
-    Entry { kind, name }
+    entry_for(way, name)
 }
 
 fn entries(names: &str, out: &mut Answer) -> Items<Entry> {
@@ -27,7 +37,7 @@ fn entries(names: &str, out: &mut Answer) -> Items<Entry> {
 }
 
 fn are_same(a: &Entry, b: &Entry) -> bool {
-    a.kind == b.kind && a.name.bytes() == b.name.bytes()
+    a.kind == b.kind && a.at == b.at && a.name.bytes() == b.name.bytes()
 }
 
 fn same(a: &Record, b: &Record) -> bool {

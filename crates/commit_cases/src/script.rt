@@ -19,6 +19,7 @@ fn letter(event: &Event) -> u8 {
         },
         Event::Stage { .. } => b's',
         Event::Publish { .. } => b'p',
+        Event::Extend { .. } => b'x',
         Event::Erase { .. } => b'e',
         Event::Lock { .. } => b'k',
         Event::Unlock { .. } => b'u',

@@ -20,7 +20,7 @@ use Rattle.host_port.specs.declared.host.LoadError.TheVariants as error
 use Rattle.host_port.specs.declared.host.ChildError.{ChildError}
 use Rattle.host_port.specs.declared.host.ChildError.TheVariants as child_error
 use Rattle.host_port.specs.Disk.{Disk}
-use Rattle.host_port.specs.Calls.{Calls, Filled, Said, Loaded, Staged, Published, Erased, Locked, Unlocked, Seized, Released, ChildRan, TimeTold}
+use Rattle.host_port.specs.Calls.{Calls, Filled, Said, Loaded, Staged, Published, Extended, Erased, Locked, Unlocked, Seized, Released, ChildRan, TimeTold}
 use Rattle.host_port.specs.Own.{own}
 use Rattle.host_port.proofs.RanLemmas.{own-append}
 use Rattle.host_memory.specs.declared.memory.MemHost.{MemHost}
@@ -120,6 +120,10 @@ staged-takes name bytes (Err fault) d e is = nothing e _ is.1 (record { alone = 
 pub published-takes : (from to : List ℕ) (r : Result Bool DiskFault) (d : Disk) (e : Event) → Published from to r d e → Took [] e
 published-takes from to (Ok done) d e is = nothing e _ is.0 (record { alone = refl; is = refl })
 published-takes from to (Err fault) d e is = nothing e _ is.1 (record { alone = refl; is = refl })
+
+pub extended-takes : (name : List ℕ) (at : ℕ) (bytes : List ℕ) (r : Result Unit DiskFault) (d : Disk) (e : Event) → Extended name at bytes r d e → Took [] e
+extended-takes name at bytes (Ok u) d e is = nothing e _ is.0 (record { alone = refl; is = refl })
+extended-takes name at bytes (Err fault) d e is = nothing e _ is.1 (record { alone = refl; is = refl })
 
 pub erased-takes : (name : List ℕ) (r : Result Unit DiskFault) (d : Disk) (e : Event) → Erased name r d e → Took [] e
 erased-takes name (Ok u) d e is = nothing e _ is (record { alone = refl; is = refl })

@@ -60,6 +60,10 @@ impl Host for Scripted {
         self.memory.publish(from, to)
     }
 
+    fn extend(&mut self, name: &[u8], at: u64, bytes: &[u8]) -> Result<(), DiskFault> {
+        self.memory.extend(name, at, bytes)
+    }
+
     fn erase(&mut self, name: &[u8]) -> Result<(), DiskFault> {
         self.memory.erase(name)
     }
