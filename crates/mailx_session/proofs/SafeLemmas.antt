@@ -39,7 +39,7 @@ use Rattle.compose_tilde.specs.Lines.{asks_subject}
 use Rattle.session_asks.specs.Beginning.{view_in, with_new_draft, subject_asked, composing}
 use Rattle.draft_sending.specs.Sending.{ended_draft}
 use Rattle.mailx_session.specs.Leaving.{leaving, InputEnds, then_leaves, ends_before, cut_before}
-use Rattle.mailx_session.specs.Rounds.{typed_play, is_uncounted, waiting_play, WaitingGo, none, more, ended, short, LineGoes, typed, cut_short, DraftEnds, told, told_last, untold, FinishGo, finished, onward, left, lost}
+use Rattle.mailx_session.specs.Rounds.{typed_play, waiting_play, WaitingGo, none, more, ended, short, LineGoes, typed, cut_short, DraftEnds, told, told_last, untold, FinishGo, finished, onward, left, lost}
 use Rattle.mailx_session.specs.Rounds as rounds
 use Rattle.mailx_session.specs.Startup.{startup_play, StartupGoes, begun, unread}
 use Rattle.mailx_session.specs.Safe.{Turn, Composing, Typed, Starting, Waiting, Finishing, Leaving, TurnPlay, on_to, waiting_turn, finishing_turn, turn_play, IsStepSafe, IsSafeCall}

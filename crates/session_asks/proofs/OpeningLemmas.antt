@@ -32,7 +32,7 @@ zip-push R (a ∷ xs) (b ∷ ys) x y h r = (h.0, zip-push R xs ys x y h.1 r)
 marks-aside : (t : List ℕ) (row : Row) → IsRow t row → IsRow t (record row { mark = mark_of t })
 marks-aside t row is = record { mark = refl; texts = is.texts; references = is.references; reply = is.reply; moment = is.moment; size = is.size }
 
-all-aside : (texts : List (List ℕ)) (rows : List Row) → AreRows texts rows → AreRowsButMarks texts rows
+pub all-aside : (texts : List (List ℕ)) (rows : List Row) → AreRows texts rows → AreRowsButMarks texts rows
 all-aside [] [] h = tt
 all-aside [] (r ∷ rs) h = absurd h
 all-aside (t ∷ ts) [] h = absurd h

@@ -124,14 +124,6 @@ keeps-then a b c (Err e) x y = tt
 pub kept-valid : (s t : SessionState) → IsState s → OnlyBrings s t → OnlyFrames s t → IsState t
 kept-valid s t is b same = subst IsState (sym same) (record { desk = is.desk; actor = is.actor })
 
--- the desk stays too where not all was done
-pub off-desk : (s t : SessionState) (r : Result Asked RunError) → KeepsDesk s t r → is_on r ≡ false → OnlyFrames s t
-off-desk s t (Ok answered.On) keeps off = absurd (cc off)
-off-desk s t (Ok answered.Over) keeps off = absurd (cc off)
-off-desk s t (Ok (answered.Refused line)) keeps off = keeps
-off-desk s t (Ok (answered.Ended e)) keeps off = keeps
-off-desk s t (Err e) keeps off = keeps
-
 -- the desk stays in one ask after another, the first of which left it
 pub desk-then : (s t u : SessionState) (r : Result Asked RunError) → OnlyFrames s t → KeepsDesk t u r → KeepsDesk s u r
 desk-then s t u (Ok answered.On) same keeps = only-then s t u same keeps

@@ -3,6 +3,7 @@ ghost use Rattle.std.specs.Prelude.{◌≡◌, ◌++◌, ◌≤◌, [], None, tr
 ghost use Rattle.host_port.specs.Ran.{Ran};
 ghost use Rattle.mbox_scan.specs.Mailbox.{texts_of};
 ghost use Rattle.message_state.specs.declared.row.Row.{Row};
+ghost use Rattle.session_play.specs.Steps.{Over};
 ghost use Rattle.message_state.specs.ShownRows.{IsShown};
 ghost use Rattle.folder_commands.specs.Growing.{news_line};
 ghost use Rattle.mailx_vars.specs.Names.{is_short_name};
@@ -10,10 +11,11 @@ ghost use Rattle.session_play.specs.Play.{Ask, Ret, Say, Try, Goes};
 ghost use Rattle.command_desk.specs.Answers.{IsRefused};
 ghost use Rattle.command_desk.specs.Desks.{IsDesk};
 ghost use Rattle.session_state.specs.Answers.{after_asks, in_play, LineCaused, EndsByAsk};
+ghost use Rattle.session_state.specs.declared.state.SessionState.{SessionState};
 ghost use Rattle.session_state.specs.Bringing.{OnlyBrings};
-ghost use Rattle.session_state.specs.States.{IsState};
+ghost use Rattle.session_state.specs.States.{IsState, with_desk};
 ghost use Rattle.session_asks.specs.Asks.{KeepsDesk};
-ghost use Rattle.session_asks.specs.Renewing.{folder_fault, loaded_again, taking, renews, IsGrown, ShowsMore, StaysIfRefused, TakesIn};
+ghost use Rattle.session_asks.specs.Renewing.{current_among, folder_fault, loaded_again, taking, telling, renews, IsGrown, ShowsMore, StaysIfRefused, TakesIn};
 
 use crate::opening::{no_folder, push_marks, rows_from};
 use crate::switching::refused_by;
@@ -23,7 +25,7 @@ use host_port::Host;
 use mail_text::{Items, Memory, Text};
 use mailx_vars::is_short_name;
 use mbox_scan::Folder;
-use message_state::{Order, RowList, Shown};
+use message_state::{Order, Row, RowList, Shown};
 use read_commands::Desk;
 use session_play::{Found, try_load};
 use session_state::{Asked, RunError, SessionState, placed, say};
@@ -71,6 +73,17 @@ fn grow_bytes(alloc: Global, desk: &mut Desk, found: Option<Found>) -> Result<()
     }
 }
 
+// The message that is current among these: message 1 if none was and one came.
+fn current_among(current: u32, rows: &[Row]) -> u32
+    ensures { result ≡ current_among current rows.now }
+{
+    if current == 0 {
+        rows.len().min(1) as u32
+    } else {
+        current
+    }
+}
+
 // Shows the messages of the folder that aren't shown yet, with their own marks, in a view made anew. Message 1 becomes
 // current where none was.
 fn show_more(alloc: Global, desk: &mut Desk) -> Result<(), Memory>
@@ -79,6 +92,7 @@ fn show_more(alloc: Global, desk: &mut Desk) -> Result<(), Memory>
     requires shown { IsShown desk.old.shown }
     ensures shows { OnOk result (ShowsMore desk.old desk.new) }
     ensures shown { OnOk result (IsShown desk.new.shown) }
+    ensures longer { OnOk result (length desk.old.shown.rows ≤ length desk.new.shown.rows) }
     ensures places { desk.new.places ≡ desk.old.places }
 {
     let shown = desk.shown.rows.items().len();
@@ -88,9 +102,7 @@ fn show_more(alloc: Global, desk: &mut Desk) -> Result<(), Memory>
     let View { order, depth, .. } = view_of(alloc, desk.shown.rows.items(), desk.view)?;
     desk.shown.order = order;
     desk.shown.depth = depth;
-    if desk.shown.current == 0 {
-        desk.shown.current = desk.shown.rows.items().len().min(1) as u32;
-    }
+    desk.shown.current = current_among(desk.shown.current, desk.shown.rows.items());
     Ok(())
 }
 
@@ -116,6 +128,7 @@ fn take_in(alloc: Global, desk: &mut Desk, found: Option<Found>) -> Result<(), R
     requires { IsDesk desk.old }
     ensures ok { OnOk result (TakesIn desk.old found desk.new) }
     ensures err { IfErr result (λ refusal. IsRefused refusal (loaded_again desk.old found)) }
+    ensures longer { OnOk result (length desk.old.shown.rows ≤ length desk.new.shown.rows) }
     ensures valid { IsDesk desk.new }
     ensures stays { IfErr result (λ refusal. StaysIfRefused refusal desk.old desk.new) }
 {
@@ -130,14 +143,31 @@ fn take_in(alloc: Global, desk: &mut Desk, found: Option<Found>) -> Result<(), R
     }
 }
 
-// Prints how many messages came.
-fn tell<H: Host>(alloc: Global, host: &mut H, count: usize) -> Result<(), RunError>
-    ensures ran { Ran H.world host.old host.new
-        (λ es. Goes (Ask (Say (news_line count)) Ret) es (in_play (λ u. u) result)) }
+// Prints bytes, with which the command is over.
+fn say_last<H: Host>(host: &mut H, bytes: &Text) -> Result<Asked, RunError>
+    ensures ran { (s : SessionState) → Ran H.world host.old host.new
+        (λ es. Goes (Ask (Say bytes.now) (λ _. Ret (Over s))) es (in_play (after_asks s) result)) }
+    ensures desk { (s : SessionState) → (t : SessionState) → KeepsDesk s t result }
+    ensures end { IfOk result EndsByAsk }
     ensures cause { LineCaused (H.world.counts host.old) (H.world.counts host.new) result }
 {
-    match news_line(alloc, count) {
-        Ok(line) => say(host, line.bytes()),
+    match say(host, bytes.bytes()) {
+        Ok(()) => Ok(Asked::Over),
+        Err(error) => Err(error),
+    }
+}
+
+// Prints how many messages came to so many on a desk.
+fn tell<H: Host>(alloc: Global, host: &mut H, before: usize, desk: &Desk) -> Result<Asked, RunError>
+    requires { before ≤ length desk.now.shown.rows }
+    ensures ran { (s : SessionState) → length s.desk.shown.rows ≡ before → Ran H.world host.old host.new
+        (λ es. Goes (telling s desk.now) es (in_play (after_asks (with_desk s desk.now)) result)) }
+    ensures desk { (s : SessionState) → (t : SessionState) → KeepsDesk s t result }
+    ensures end { IfOk result EndsByAsk }
+    ensures cause { LineCaused (H.world.counts host.old) (H.world.counts host.new) result }
+{
+    match news_line(alloc, desk.shown.rows.items().len() - before) {
+        Ok(line) => say_last(host, &line),
         Err(Memory) => Err(RunError::Memory),
     }
 }
@@ -160,10 +190,7 @@ fn take_in_and_tell<H: Host>(
 {
     let before = state.desk.shown.rows.items().len();
     match take_in(alloc, &mut state.desk, found) {
-        Ok(()) => {
-            tell(alloc, host, state.desk.shown.rows.items().len() - before)?;
-            Ok(Asked::Over)
-        }
+        Ok(()) => tell(alloc, host, before, &state.desk),
         Err(refusal) => refused_by(refusal),
     }
 }

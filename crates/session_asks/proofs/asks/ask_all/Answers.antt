@@ -1,4 +1,4 @@
-use Rattle.std.proofs.Common.{rules, ◌≡◌, false, List, [], ◌∷◌, length, refl, sym, ap, ◌∙◌}
+use Rattle.std.proofs.Common.{rules, ◌≡◌, false, [], ◌∷◌, length, refl, sym, ap, ◌∙◌}
 use Rattle.std.specs.List.{list_all, list_any}
 use Rattle.host_port.proofs.RanLemmas.{Ran-then, Ran-map, Ran-none}
 use Rattle.session_play.specs.Steps.{in_order}

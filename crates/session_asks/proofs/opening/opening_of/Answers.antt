@@ -1,4 +1,4 @@
-use Rattle.std.proofs.Common.{◌≡◌, ◌≤◌, length, List, map, refl, ap, ◌∙◌, sym, subst}
+use Rattle.std.proofs.Common.{arith, ◌≡◌, ◌≤◌, length, List, map, refl, ap, ◌∙◌, sym, subst}
 use Rattle.message_state.specs.declared.mark.Mark.{Mark}
 use Rattle.message_state.specs.declared.row.Row.{Row}
 use Rattle.message_state.specs.declared.shown.Shown.{Shown}
@@ -14,7 +14,8 @@ returns c =
     let marks : c.in_ok-marks.marks ≡ map (λ (row : Row). row.mark) rows = c.in_ok-marks.ensures ∙ ap (map (λ (row : Row). row.mark)) c.items.ensures in
     let system : c.in_ok-system.system ≡ is_system c.args.state.now c.args.name = rw c.bytes.ensures at c.in_ok-system.ensures in
     let within : first_current rows ≤ length rows = subst (λ (s : Shown). s.current ≤ length rows) c.in_ok-shown.ensures.shown c.in_ok-shown.ensures.current in
-    let plainly = opened-desk desk c.args.name c.args.folder c.in_ok-system.system rows c.requires.width c.in_ok-rows.ensures.rows c.in_ok-rows.ensures.years c.in_ok-rows.ensures.few within in
+    let few = c.in_ok-rows.ensures.few in
+    let plainly = opened-desk desk c.args.name c.args.folder c.in_ok-system.system rows c.requires.width c.in_ok-rows.ensures.rows c.in_ok-rows.ensures.years (omega (arith, few)) within in
     record {
       rows = rows;
       are = c.in_ok-rows.ensures.rows;
