@@ -1,4 +1,4 @@
-use Rattle.std.proofs.Common.{◌≡◌, ◌≤◌, ◌++◌, ◌+◌, ℕ, List, length, drop, ap, subst, arith}
+use Rattle.std.proofs.Common.{◌≡◌, ◌≤◌, ◌++◌, ℕ, List, length, drop, ap, subst, arith}
 use Rattle.std.proofs.lemmas.List.{length-append}
 use Rattle.mbox_scan.specs.Mailbox.{texts_of}
 use Rattle.command_desk.specs.declared.desk.Desk.{Desk}
