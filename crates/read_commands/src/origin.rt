@@ -90,8 +90,8 @@ fn allows(alloc: Global, origin: Origin, line: &CommandLine) -> Result<(), Refus
     }
 }
 
-// Reads a line from somewhere. It is refused by its form, and else if it may not stand there: a start-up file holds settings, sets of fields, aliases, macros, conditions, `source`, `echo` and
-// comments alone, and a draft can't leave itself.
+// Reads a line from somewhere. It is refused by its form, and else if it may not stand there: a start-up file holds
+// settings, sets, aliases, macros, conditions, `source`, `echo` and comments alone, and a draft can't leave itself.
 #[tactic(auto, using(command_desk::proofs::MeansLemmas::means_refused_by, command_desk::proofs::MeansLemmas::unless_none))]
 fn read_command(alloc: Global, origin: Origin, line: &[u8]) -> Result<CommandLine, Refusal>
     ensures { Means result (read_from origin line.now) }
