@@ -4,7 +4,9 @@ use crate::dates::put_moment;
 use case_blocks::Answer;
 use mail_headers::Header;
 use mail_text::{Items, Memory, Text};
-use message_state::{Act, Mark, Order, Row, RowList, State, after, mark_of, row_of, stamped};
+use message_state::{
+    Act, Mark, Order, Row, RowList, Standing, State, after, mark_of, row_of, stamped,
+};
 use std::alloc::Global;
 
 const ACTS: [Act; 7] = [
@@ -21,7 +23,7 @@ pub fn put(case: &[Text], out: &mut Answer) {
     let text = field(case, 2);
     match words(case, 1) {
         "acts" => put_acts(state_of(text), out),
-        "no rows" => out.put_found(RowList::new(out.alloc()).next_live(0)),
+        "no rows" => out.put_found(RowList::new(out.alloc()).next(Standing::Live, 0)),
         "new order" => out.put_numbers(Order::new(out.alloc()).items()),
         _ => {
             let done = put_made(case, out);
@@ -36,6 +38,7 @@ fn put_made(case: &[Text], out: &mut Answer) -> Result<(), Memory> {
         "stamp" => put_stamped(text, out),
         "row" => put_row(text, out),
         "live" => put_live(case, out),
+        "dead" => put_dead(case, out),
         "order" => {
             put_order(&Order::by_number(out.alloc(), number(case, 2))?, out);
             Ok(())
@@ -139,26 +142,46 @@ fn rows(alloc: Global, count: u32) -> Result<Items<Row>, Memory> {
     Ok(rows)
 }
 
-// Deletes all rows but these.
-fn delete_others(list: &mut RowList, live: &[u32]) {
-    let deleted = Mark {
-        state: State::Deleted,
-        seen: false,
-    };
+// Gives all rows but these a state.
+fn set_others(list: &mut RowList, these: &[u32], state: State) {
     for k in 0..list.items().len() {
-        if !live.iter().any(|n| *n as usize == k) {
-            list.set_mark(k, deleted);
+        if !these.iter().any(|n| *n as usize == k) {
+            list.set_mark(k, Mark { state, seen: false });
         }
     }
 }
 
-// The nearest rows that aren't deleted at or after a place, and before it.
+// Deletes all rows but these.
+fn delete_others(list: &mut RowList, live: &[u32]) {
+    set_others(list, live, State::Deleted);
+}
+
+// Gives all rows back but these.
+fn give_back_others(list: &mut RowList, dead: &[u32]) {
+    set_others(list, dead, State::Read);
+}
+
+// The nearest rows that stand so at or after a place, and before it.
+fn put_near(list: &RowList, standing: Standing, k: usize, out: &mut Answer) {
+    out.put_found(list.next(standing, k));
+    out.put(b" ");
+    out.put_found(list.previous(standing, k));
+}
+
+// The nearest rows that aren't deleted at or after a place, and before it, where all but some are deleted.
 fn put_live(case: &[Text], out: &mut Answer) -> Result<(), Memory> {
     let mut list = RowList::of(out.alloc(), rows(out.alloc(), number(case, 2))?)?;
     delete_others(&mut list, numbers(words(case, 3), out).items());
-    out.put_found(list.next_live(place(case, 4)));
-    out.put(b" ");
-    out.put_found(list.previous_live(place(case, 4)));
+    put_near(&list, Standing::Live, place(case, 4), out);
+    Ok(())
+}
+
+// The nearest deleted rows at or after a place, and before it, where all were deleted and all but some given back.
+fn put_dead(case: &[Text], out: &mut Answer) -> Result<(), Memory> {
+    let mut list = RowList::of(out.alloc(), rows(out.alloc(), number(case, 2))?)?;
+    delete_others(&mut list, &[]);
+    give_back_others(&mut list, numbers(words(case, 3), out).items());
+    put_near(&list, Standing::Dead, place(case, 4), out);
     Ok(())
 }
 

@@ -4,7 +4,8 @@ use Rattle.std.specs.List.{range_with_len, find}
 use Rattle.message_state.specs.declared.shown.Shown.{Shown}
 use Rattle.message_state.specs.ShownRows.{IsShown}
 use Rattle.std.proofs.lemmas.Bool.{cases_lt}
-use Rattle.message_state.specs.LiveRows.{live_at, IsPreviousLive}
+use Rattle.message_state.specs.LiveRows.{live_at, IsPrevious}
+use Rattle.message_state.specs.declared.mark.Standing.TheVariants as standing
 use Rattle.message_list.specs.Places.{in_base, before_message}
 use Rattle.message_list.specs.declared.list.Purpose.TheVariants.{Live}
 use Rattle.message_list.proofs.ViewLemmas.{order_length, in_base-message}
@@ -28,7 +29,7 @@ dead-left shown ns m low dead = ap (λ (b : Bool). b && not (is_among ns m)) (li
 
 -- the nearest message before another that is left, by the nearest live row
 pub left-found : (shown : Shown) → IsShown shown → shown.order ≡ range_with_len 1 (length shown.order) → (ns : List ℕ) (last end row : ℕ) → last ≤ length shown.rows → end < last
-    → ((m : ℕ) → end < m → m < last → is_left shown ns m ≡ false) → IsPreviousLive shown.rows end (Some row) → is_among ns (row + 1) ≡ false
+    → ((m : ℕ) → end < m → m < last → is_left shown ns m ≡ false) → IsPrevious standing.Live shown.rows end (Some row) → is_among ns (row + 1) ≡ false
     → Some (row + 1) ≡ find (is_left shown ns) (before_message shown last)
 left-found shown valid by ns last end row high below none is apart =
     let same = order_length shown valid in
@@ -41,7 +42,7 @@ left-found shown valid by ns last end row high below none is apart =
     ]))
 
 pub left-none : (shown : Shown) → IsShown shown → shown.order ≡ range_with_len 1 (length shown.order) → (ns : List ℕ) (last end : ℕ) → last ≤ length shown.rows → end < last
-    → ((m : ℕ) → end < m → m < last → is_left shown ns m ≡ false) → IsPreviousLive shown.rows end None
+    → ((m : ℕ) → end < m → m < last → is_left shown ns m ≡ false) → IsPrevious standing.Live shown.rows end None
     → None ≡ find (is_left shown ns) (before_message shown last)
 left-none shown valid by ns last end high below none is =
     let same = order_length shown valid in

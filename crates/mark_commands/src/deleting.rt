@@ -19,7 +19,7 @@ use command_desk::{
 use mail_text::{Memory, Text};
 use message_list::{Purpose, in_base, next_live, place_of};
 use message_show::How;
-use message_state::{Act, Shown};
+use message_state::{Act, Shown, Standing};
 use std::alloc::Global;
 
 // Whether message n is live and isn't among those that are deleted now.
@@ -74,7 +74,7 @@ fn left_by_number(shown: &Shown, among: &Among<'_>, last: u32) -> Option<u32>
     ensures { result ≡ find (is_left shown.now among.now) (before_message shown.now last) }
 {
     let mut end = last as usize - 1;
-    while let Some(row) = shown.rows.previous_live(end) {
+    while let Some(row) = shown.rows.previous(Standing::Live, end) {
         let n = row as u32 + 1;
         if !among.has(n) {
             return Some(n);

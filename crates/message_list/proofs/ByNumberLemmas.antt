@@ -10,7 +10,7 @@ use Rattle.message_state.specs.declared.shown.Shown.{Shown}
 use Rattle.message_state.specs.LiveRows.{live_at, is_live}
 use Rattle.message_state.specs.ShownRows.{IsShown}
 use Rattle.message_list.specs.declared.list.Purpose.TheVariants.{Live}
-use Rattle.message_list.specs.Places.{in_base, place_of, after_message, before_message, next_of}
+use Rattle.message_list.specs.Places.{in_base, place_of, after_message, before_message}
 use Rattle.message_list.proofs.ListFacts.{find_first, find_none}
 use Rattle.message_list.proofs.ViewLemmas.{place_at, place_none, order_length, message_at}
 
@@ -85,18 +85,3 @@ pub after-nothing : (shown : Shown) → IsShown shown → (p : ℕ → Bool) (k 
 after-nothing shown valid p k nowhere =
     let none : place_of shown k ≡ None = place_none shown k (λ i lt e. nowhere (let m = message_at shown valid i lt in (omega (arith, m.0, e), omega (arith, m.1, e)))) in
     ap (λ (o : Option ℕ). find p (option_map_or (λ i. drop (i + 1) shown.order) o [])) none
-
--- the next live message by the next live row
-pub next-found : (shown : Shown) (valid : IsShown shown) → shown.order ≡ range_with_len 1 (length shown.order) → (k row : ℕ) → 1 ≤ k → k ≤ row → row < length shown.rows → live_at shown.rows row ≡ true
-    → ((j : ℕ) → k ≤ j → j < row → live_at shown.rows j ≡ false) → next_of shown Live k ≡ Some (row + 1)
-next-found shown valid by k row low high within live none =
-    let same = order_length shown valid in
-    after-found shown valid by (in_base shown Live) k (row + 1) low (omega arith) (omega arith)
-    (live-message shown (row + 1) (omega arith) ∙ ap (live_at shown.rows) (let e : row + 1 - 1 ≡ row = omega arith in e) ∙ live)
-    (λ m a b. live-message shown m (omega arith) ∙ none (m - 1) (omega arith) (omega arith))
-
-pub next-none : (shown : Shown) (valid : IsShown shown) → shown.order ≡ range_with_len 1 (length shown.order) → (k : ℕ) → 1 ≤ k → k ≤ length shown.rows
-    → ((j : ℕ) → k ≤ j → live_at shown.rows j ≡ false) → next_of shown Live k ≡ None
-next-none shown valid by k low high none =
-    let same = order_length shown valid in
-    after-none shown valid by (in_base shown Live) k low (omega arith) (λ m a. live-message shown m (omega arith) ∙ none (m - 1) (omega arith))

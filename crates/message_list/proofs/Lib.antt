@@ -8,4 +8,5 @@ pub mod WordLemmas
 pub mod MarkLemmas
 pub mod SelectionLemmas
 pub mod ByNumberLemmas
+pub mod ByRowLemmas
 pub mod ChosenLemmas

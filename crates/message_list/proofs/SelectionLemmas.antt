@@ -55,6 +55,12 @@ module _ (shown : Shown) (valid : IsShown shown) (purpose : Purpose) (item : Ite
       ]))
 
 module _ (shown : Shown) (purpose : Purpose) where
+  -- a word that names no message
+  pub misses_all : (item : Item) → ((n : ℕ) → names shown purpose item n ≡ false) → finds shown purpose item ≡ false
+  misses_all item none =
+      list_any_none (names shown purpose item) (base_of shown purpose)
+      (All-from_get_or (λ n. names shown purpose item n ≡ false) (base_of shown purpose) 0 (λ q lt. none (get_or (base_of shown purpose) q 0)))
+
   -- each word finds something
   pub all_met : (items : List Item) → ((i : ℕ) (d : Item) → i < length items → finds shown purpose (get_or items i d) ≡ true) → first_missing shown purpose items ≡ None
   all_met items found = ap (option_map (λ item. item.word)) (find_none (λ item. not (finds shown purpose item)) items (λ i d lt. ap not (found i d lt)))

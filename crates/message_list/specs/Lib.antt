@@ -1,6 +1,7 @@
 pub mod ListWords
 pub mod LocalParts
 pub mod Places
+pub mod ByRow
 pub mod Naming
 pub mod Selections
 pub mod Marking

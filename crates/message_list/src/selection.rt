@@ -2,7 +2,7 @@ ghost use Rattle.std.specs.Prelude.{◌≡◌, ◌≤◌, ◌<◌, ◌==◌, ◌
 ghost use Rattle.std.specs.List.{find};
 ghost use Rattle.message_state.specs.ShownRows.{IsShown};
 ghost use Rattle.message_list.specs.Places.{in_base, is_for};
-ghost use Rattle.message_list.specs.Naming.{names, has_letter};
+ghost use Rattle.message_list.specs.Naming.{names, has_letter, is_message};
 ghost use Rattle.message_list.specs.Selections.{default_message, selection, base_of, is_named, finds, first_missing, IsUnmet, IsMissing, IsNoSuch};
 ghost use Rattle.message_list.specs.Marking.{kind_fits, is_hit, is_selected, kind_reaches, AreLandmarks, IsSpanOf, AddsMarks, AreMarks};
 
@@ -10,7 +10,9 @@ use crate::author::is_author;
 use crate::list::{Item, Kind, ListError, ListSpec, Purpose};
 use crate::span::{Landmarks, Span, landmarks_of, span_of};
 use crate::subject::holds_ascii;
-use crate::view::{at_or_before, first_of, in_base, is_for, row_at};
+use crate::view::{
+    at_or_before, first_of, in_base, is_for, last_of, next_of, previous_of, row_at,
+};
 use mail_text::{Memory, Text};
 use message_state::{Row, Shown, State};
 use std::alloc::Global;
@@ -19,8 +21,8 @@ use std::alloc::Global;
 /// `purpose`) that a word names. Without a word it is the default message alone: the current one if it is in the
 /// base set; for `Purpose::Dead` the nearest deleted one at or before it in the view, else the first deleted one.
 /// `NoSuch` comes exactly if a word names no message of the base set, and has the first such word; `NoneMatch`
-/// exactly if there is no word and no default message. A list of one number or `.` is answered without a walk
-/// over the view.
+/// exactly if there is no word and no default message. In a view by number a list of one number, `.`, `+`, `-`, `^`
+/// or `$`, or of no word, is answered without a walk over the view.
 pub fn select(
     alloc: Global,
     list: &ListSpec,
@@ -103,7 +105,7 @@ fn single(alloc: Global, n: u32) -> Result<Vec<u32>, Memory>
     Ok(found)
 }
 
-// What a list of one word selects. A number and `.` need no walk.
+// What a list of one word selects. A word that names a message by its place needs no walk.
 fn select_one(
     alloc: Global,
     items: &[Item],
@@ -118,10 +120,42 @@ fn select_one(
     ensures met { IfOk result (λ found. first_missing shown.now purpose items.now ≡ None) }
     ensures err { IfErr result (IsMissing shown.now purpose items.now) }
 {
+    let current = shown.current;
     match item.kind {
         Kind::Number(k) => select_message(alloc, item, k, shown, purpose),
-        Kind::Current => select_message(alloc, item, u64::from(shown.current), shown, purpose),
+        Kind::Current => select_message(alloc, item, u64::from(current), shown, purpose),
+        Kind::Next => select_found(alloc, item, next_of(shown, purpose, current), shown, purpose),
+        Kind::Previous => select_found(
+            alloc,
+            item,
+            previous_of(shown, purpose, current),
+            shown,
+            purpose,
+        ),
+        Kind::First => select_found(alloc, item, first_of(shown, purpose), shown, purpose),
+        Kind::Last => select_found(alloc, item, last_of(shown, purpose), shown, purpose),
         _ => select_named(alloc, items, shown, purpose),
+    }
+}
+
+// What a list of one word selects that names this message alone, or none.
+fn select_found(
+    alloc: Global,
+    item: &Item,
+    message: Option<u32>,
+    shown: &Shown,
+    purpose: Purpose,
+) -> Result<Vec<u32>, ListError>
+    requires valid { IsShown shown.now }
+    requires named { (n : ℕ) → names shown.now purpose item.now n ≡ is_message message n }
+    ensures ok { IfOk result
+        (λ found. found.items ≡ filter (is_named shown.now purpose (item.now ∷ [])) (base_of shown.now purpose)) }
+    ensures met { IfOk result (λ found. first_missing shown.now purpose (item.now ∷ []) ≡ None) }
+    ensures err { IfErr result (IsMissing shown.now purpose (item.now ∷ [])) }
+{
+    match message {
+        Some(n) => select_message(alloc, item, u64::from(n), shown, purpose),
+        None => Err(no_such(alloc, &item.word)),
     }
 }
 

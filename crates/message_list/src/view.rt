@@ -1,14 +1,14 @@
-ghost use Rattle.std.specs.Prelude.{◌≡◌, ◌<◌, ◌≤◌, ◌+◌, ◌-◌, length, reverse, IfSome};
+ghost use Rattle.std.specs.Prelude.{◌≡◌, ◌<◌, ◌≤◌, ◌+◌, length, reverse, take, drop, slice_get, true, IfSome};
 ghost use Rattle.std.specs.Option.{option_copied};
 ghost use Rattle.std.specs.List.{find};
 ghost use Rattle.message_state.specs.LiveRows.{is_live};
 ghost use Rattle.message_state.specs.ShownRows.{IsShown};
-ghost use Rattle.std.specs.List.{range_with_len};
 ghost use Rattle.message_list.specs.declared.list.Purpose.TheVariants.{Live};
-ghost use Rattle.message_list.specs.Places.{row_at, is_for, in_base, place_of, after_message, before_message, back_from, first_of, last_of, next_of, previous_of};
+ghost use Rattle.message_list.specs.Places.{row_at, is_for, in_base, place_of, back_from, first_of, last_of, next_of, previous_of};
+ghost use Rattle.message_list.specs.ByRow.{IsByRow, IsNextFor, IsPreviousFor};
 
 use crate::list::Purpose;
-use message_state::{Mark, Row, Shown, State};
+use message_state::{Mark, Row, Shown, Standing, State};
 
 /// Whether a message of this mark isn't deleted.
 pub fn is_live(mark: Mark) -> bool
@@ -38,32 +38,11 @@ pub fn next_live(shown: &Shown, k: u32) -> Option<u32>
     requires { IsShown shown.now }
     ensures { result ≡ next_of shown.now Live k }
 {
-    if shown.order.is_by_number() {
-        next_by_number(shown, k)
-    } else {
-        next_of(shown, Purpose::Live, k)
-    }
+    next_of(shown, Purpose::Live, k)
 }
 
-// The next message after message `k` that isn't deleted, in the view by number, without a walk over deleted messages.
-fn next_by_number(shown: &Shown, k: u32) -> Option<u32>
-    requires shown { IsShown shown.now }
-    requires by_number { shown.now.order ≡ range_with_len 1 (length shown.now.order) }
-    ensures { result ≡ next_of shown.now Live k }
-{
-    if k == 0 {
-        return None;
-    }
-    if k as usize > shown.rows.items().len() {
-        return None;
-    }
-    match shown.rows.next_live(k as usize) {
-        Some(row) => Some(row as u32 + 1),
-        None => None,
-    }
-}
-
-/// The nearest message before message `k` in the view that isn't deleted. None also if `k` is no message.
+/// The nearest message before message `k` in the view that isn't deleted. None also if `k` is no message. In a view
+/// by number it is found without a walk over deleted messages.
 pub fn previous_live(shown: &Shown, k: u32) -> Option<u32>
     requires { IsShown shown.now }
     ensures { result ≡ previous_of shown.now Live k }
@@ -119,19 +98,14 @@ pub(crate) fn find_place(shown: &Shown, k: u64) -> Option<usize>
 pub(crate) fn first_of(shown: &Shown, purpose: Purpose) -> Option<u32>
     ensures { result ≡ first_of shown.now purpose }
 {
-    shown
-        .order
-        .items()
-        .iter()
-        .copied()
-        .find(|n| in_base(shown, purpose, *n))
+    first_from(shown, purpose, 0)
 }
 
 // The last one.
 pub(crate) fn last_of(shown: &Shown, purpose: Purpose) -> Option<u32>
     ensures { result ≡ last_of shown.now purpose }
 {
-    nearest(shown, purpose, shown.order.items())
+    last_before(shown, purpose, shown.order.items().len())
 }
 
 // The next message of the base set after message `k` in the view.
@@ -140,10 +114,7 @@ pub(crate) fn next_of(shown: &Shown, purpose: Purpose, k: u32) -> Option<u32>
     ensures { result ≡ next_of shown.now purpose k }
 {
     match find_place(shown, u64::from(k)) {
-        Some(p) => {
-            let (_, after) = shown.order.items().split_at(p + 1);
-            after.iter().copied().find(|n| in_base(shown, purpose, *n))
-        }
+        Some(p) => first_from(shown, purpose, p + 1),
         None => None,
     }
 }
@@ -154,10 +125,7 @@ pub(crate) fn previous_of(shown: &Shown, purpose: Purpose, k: u32) -> Option<u32
     ensures { result ≡ previous_of shown.now purpose k }
 {
     match find_place(shown, u64::from(k)) {
-        Some(p) => {
-            let (before, _) = shown.order.items().split_at(p);
-            nearest(shown, purpose, before)
-        }
+        Some(p) => last_before(shown, purpose, p),
         None => None,
     }
 }
@@ -168,21 +136,80 @@ pub(crate) fn at_or_before(shown: &Shown, purpose: Purpose, k: u32) -> Option<u3
     ensures { result ≡ find (in_base shown.now purpose) (back_from shown.now k) }
 {
     match find_place(shown, u64::from(k)) {
-        Some(p) => {
-            let (front, _) = shown.order.items().split_at(p + 1);
-            nearest(shown, purpose, front)
-        }
+        Some(p) => last_before(shown, purpose, p + 1),
         None => None,
     }
 }
 
-// The last of these messages that is in the base set.
-fn nearest(shown: &Shown, purpose: Purpose, messages: &[u32]) -> Option<u32>
-    ensures { result ≡ find (in_base shown.now purpose) (reverse messages.now) }
+// Whether messages stand at the places of their rows: the view is by number.
+fn is_by_row(shown: &Shown) -> bool
+    ensures { result ≡ true → IsByRow shown.now }
 {
-    messages
+    shown.order.is_by_number() && shown.order.items().len() == shown.rows.items().len()
+}
+
+// The message at a place of an order.
+fn message_at(order: &[u32], place: usize) -> Option<u32>
+    ensures { result ≡ slice_get order.now place }
+{
+    order.get(place).copied()
+}
+
+// The first message of the base set at or after a place of the view.
+fn first_from(shown: &Shown, purpose: Purpose, place: usize) -> Option<u32>
+    requires { place ≤ length shown.now.order }
+    ensures { result ≡ find (in_base shown.now purpose) (drop place shown.now.order) }
+{
+    if is_by_row(shown) {
+        let row = next_row(shown, purpose, place)?;
+        return message_at(shown.order.items(), row);
+    }
+    let (_, after) = shown.order.items().split_at(place);
+    after.iter().copied().find(|n| in_base(shown, purpose, *n))
+}
+
+// The last message of the base set before a place of the view.
+fn last_before(shown: &Shown, purpose: Purpose, place: usize) -> Option<u32>
+    requires { place ≤ length shown.now.order }
+    ensures { result ≡ find (in_base shown.now purpose) (reverse (take place shown.now.order)) }
+{
+    if is_by_row(shown) {
+        let row = previous_row(shown, purpose, place)?;
+        return message_at(shown.order.items(), row);
+    }
+    let (before, _) = shown.order.items().split_at(place);
+    before
         .iter()
         .rev()
         .copied()
         .find(|n| in_base(shown, purpose, *n))
+}
+
+// The first row at or after row `from`, from 0, whose message is in the base set.
+fn next_row(shown: &Shown, purpose: Purpose, from: usize) -> Option<usize>
+    ensures { IsNextFor purpose shown.now.rows from result }
+{
+    match purpose {
+        Purpose::Live => shown.rows.next(Standing::Live, from),
+        Purpose::Dead => shown.rows.next(Standing::Dead, from),
+        Purpose::Any => {
+            if from < shown.rows.items().len() {
+                Some(from)
+            } else {
+                None
+            }
+        }
+    }
+}
+
+// The last row before row `end`, from 0, whose message is in the base set.
+fn previous_row(shown: &Shown, purpose: Purpose, end: usize) -> Option<usize>
+    requires { end ≤ length shown.now.rows }
+    ensures { IsPreviousFor purpose shown.now.rows end result }
+{
+    match purpose {
+        Purpose::Live => shown.rows.previous(Standing::Live, end),
+        Purpose::Dead => shown.rows.previous(Standing::Dead, end),
+        Purpose::Any => end.checked_sub(1),
+    }
 }

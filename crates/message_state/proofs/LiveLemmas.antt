@@ -1,10 +1,11 @@
--- Rows with another mark, and the blocks that are all deleted.
+-- Rows with another mark, and the blocks in which none stands so.
 use Rattle.std.proofs.Common.{◌≡◌, ◌≢◌, ◌⊎◌, ◌<◌, ◌/◌, ℕ, zero, suc, Bool, true, false, List, [], ◌∷◌, ◌++◌, length, Option, Some, refl, sym, ap, ◌∙◌, inl, inr, slice_get, slice_set, subst, arith}
 use Rattle.std.specs.Prelude.{unwrap_or}
 use Rattle.std.specs.Option.{option_map_or}
 use Rattle.std.proofs.lemmas.Bool.{cases_eq, false≢true}
 use Rattle.message_state.specs.declared.row.Row.{Row}
-use Rattle.message_state.specs.LiveRows.{is_live, live_at, flag_at, AreDead, block_size}
+use Rattle.message_state.specs.declared.mark.Standing.{Standing}
+use Rattle.message_state.specs.LiveRows.{stands, stands_at, flag_at, AreWithout, IsLookedAt, block_size}
 
 other-slot : {X : Type 0} (xs : List X) (i j : ℕ) (y : X) → j ≢ i → slice_get (slice_set xs i y) j ≡ slice_get xs j
 other-slot [] i j y ne = refl
@@ -24,8 +25,8 @@ past-slot (y ∷ ys) zero x is = omega arith
 past-slot (y ∷ ys) (suc i) x is = let lt = past-slot ys i x is in omega arith
 
 -- another mark at one place leaves the rows at others
-live-elsewhere : (rows : List Row) (k j : ℕ) (row : Row) → j ≢ k → live_at rows j ≡ false → live_at (slice_set rows k row) j ≡ false
-live-elsewhere rows k j row ne dead = ap (λ (o : Option Row). option_map_or (λ (r : Row). is_live r.mark) o false) (other-slot rows k j row ne) ∙ dead
+stands-elsewhere : (s : Standing) (rows : List Row) (k j : ℕ) (row : Row) → j ≢ k → stands_at s rows j ≡ false → stands_at s (slice_set rows k row) j ≡ false
+stands-elsewhere s rows k j row ne none = ap (λ (o : Option Row). option_map_or (λ (r : Row). stands s r.mark) o false) (other-slot rows k j row ne) ∙ none
 
 -- a flag that is set stands in the list
 flagged : (flags : List Bool) (b : ℕ) → flag_at flags b ≡ true → b < length flags
@@ -33,32 +34,49 @@ flagged [] b is = absurd (false≢true is)
 flagged (f ∷ fs) zero is = omega arith
 flagged (f ∷ fs) (suc b) is = let lt = flagged fs b is in omega arith
 
--- the blocks once the row at place k was given another mark, and its block was looked at again
-pub dead-again : (rows : List Row) (flags : List Bool) (k : ℕ) (row : Row) (now : Bool) → AreDead flags rows
-    → (now ≡ true → (j : ℕ) → j / block_size ≡ k / block_size → live_at (slice_set rows k row) j ≡ false)
-    → k / block_size < length flags → AreDead (slice_set flags (k / block_size) now) (slice_set rows k row)
-dead-again rows flags k row now dead looked within j flag = elim (cases_eq (j / block_size) (k / block_size)) [
-  | inl e ↦ looked (sym (ap (λ (o : Option Bool). unwrap_or o false) (ap (slice_get (slice_set flags (k / block_size) now)) e ∙ same-slot flags (k / block_size) now within)) ∙ flag) j e
-  | inr ne ↦ live-elsewhere rows k j row (λ e. ne (ap (λ (n : ℕ). n / block_size) e))
-      (dead j (sym (ap (λ (o : Option Bool). unwrap_or o false) (other-slot flags (k / block_size) (j / block_size) now ne)) ∙ flag))
+-- a flag at another place, and that which was set
+other-flag : (flags : List Bool) (b block : ℕ) (now : Bool) → b ≢ block → flag_at (slice_set flags block now) b ≡ flag_at flags b
+other-flag flags b block now ne = ap (λ (o : Option Bool). unwrap_or o false) (other-slot flags block b now ne)
+
+same-flag : (flags : List Bool) (block : ℕ) (now : Bool) → block < length flags → flag_at (slice_set flags block now) block ≡ now
+same-flag flags block now within = ap (λ (o : Option Bool). unwrap_or o false) (same-slot flags block now within)
+
+-- a block that has a flag was looked at
+pub looked-set : (s : Standing) (rows : List Row) (flags : List Bool) (k : ℕ) (now : Bool) → k / block_size < length flags
+    → (now ≡ true → (j : ℕ) → j / block_size ≡ k / block_size → stands_at s rows j ≡ false) → IsLookedAt s rows k flags (slice_set flags (k / block_size) now)
+looked-set s rows flags k now within looked = record {
+  here = λ j e flag. looked (sym (same-flag flags (k / block_size) now within) ∙ flag) j e;
+  others = λ b ne flag. sym (other-flag flags b (k / block_size) now ne) ∙ flag;
+}
+
+-- a block that has none
+pub looked-past : (s : Standing) (rows : List Row) (flags : List Bool) (k : ℕ) → (k / block_size < length flags → ⊥) → IsLookedAt s rows k flags flags
+looked-past s rows flags k past = record {
+  here = λ j e flag. absurd (past (flagged flags (k / block_size) flag));
+  others = λ b ne flag. flag;
+}
+
+-- the blocks once the row at place k has another mark, and its block was looked at
+pub without-again : (s : Standing) (rows : List Row) (flags now : List Bool) (k : ℕ) (row : Row) → AreWithout s flags rows → IsLookedAt s (slice_set rows k row) k flags now
+    → AreWithout s now (slice_set rows k row)
+without-again s rows flags now k row without looked j flag = elim (cases_eq (j / block_size) (k / block_size)) [
+  | inl e ↦ looked.here j e (sym (ap (flag_at now) e) ∙ flag)
+  | inr ne ↦ stands-elsewhere s rows k j row (λ e. ne (ap (λ (n : ℕ). n / block_size) e)) (without j (looked.others (j / block_size) ne flag))
 ]
 
--- the blocks once the row at place k was given another mark, and its block has no flag
-pub dead-still : (rows : List Row) (flags : List Bool) (k : ℕ) (row : Row) → AreDead flags rows
-    → (k / block_size < length flags → ⊥) → AreDead flags (slice_set rows k row)
-dead-still rows flags k row dead past j flag =
-    live-elsewhere rows k j row (λ e. past (let lt = flagged flags (j / block_size) flag in subst (λ (n : ℕ). n / block_size < length flags) e lt)) (dead j flag)
+-- no flag is set that wasn't
+pub without-fewer : (s : Standing) (rows : List Row) (flags now : List Bool) → AreWithout s flags rows → ((b : ℕ) → flag_at now b ≡ true → flag_at flags b ≡ true) → AreWithout s now rows
+without-fewer s rows flags now without fewer j flag = without j (fewer (j / block_size) flag)
 
--- a flag that is set back leaves the rows of the others
-pub dead-unflagged : (rows : List Row) (flags : List Bool) (b : ℕ) → AreDead flags rows → b < length flags → AreDead (slice_set flags b false) rows
-dead-unflagged rows flags b dead within j flag = elim (cases_eq (j / block_size) b) [
-  | inl e ↦ absurd (false≢true (sym (ap (λ (o : Option Bool). unwrap_or o false) (ap (slice_get (slice_set flags b false)) e ∙ same-slot flags b false within)) ∙ flag))
-  | inr ne ↦ dead j (sym (ap (λ (o : Option Bool). unwrap_or o false) (other-slot flags b (j / block_size) false ne)) ∙ flag)
+-- a flag that is set back
+pub fewer-set : (flags : List Bool) (block b : ℕ) → block < length flags → flag_at (slice_set flags block false) b ≡ true → flag_at flags b ≡ true
+fewer-set flags block b within flag = elim (cases_eq b block) [
+  | inl e ↦ absurd (false≢true (sym (ap (flag_at (slice_set flags block false)) e ∙ same-flag flags block false within) ∙ flag))
+  | inr ne ↦ sym (other-flag flags b block false ne) ∙ flag
 ]
 
--- and isn't set then
-pub unset : (flags : List Bool) (b : ℕ) → b < length flags → flag_at (slice_set flags b false) b ≡ false
-unset flags b within = ap (λ (o : Option Bool). unwrap_or o false) (same-slot flags b false within)
+pub unset : (flags : List Bool) (block : ℕ) → block < length flags → flag_at (slice_set flags block false) block ≡ false
+unset flags block within = same-flag flags block false within
 
 -- there is none past the end
 pub none-past : (flags : List Bool) (b : ℕ) → (b < length flags → ⊥) → flag_at flags b ≡ false
@@ -75,19 +93,23 @@ more-flags [] (suc b) is = is
 more-flags (f ∷ fs) zero is = is
 more-flags (f ∷ fs) (suc b) is = more-flags fs b is
 
+pub last-flag : (flags : List Bool) → flag_at (flags ++ false ∷ []) (length flags) ≡ false
+last-flag [] = refl
+last-flag (f ∷ fs) = last-flag fs
+
 -- a row behind others, and those before it
-row-behind : (rows : List Row) (row : Row) (j : ℕ) → (j ≡ length rows) ⊎ (live_at (rows ++ row ∷ []) j ≡ live_at rows j)
-row-behind [] row zero = inl refl
-row-behind [] row (suc j) = inr refl
-row-behind (x ∷ xs) row zero = inr refl
-row-behind (x ∷ xs) row (suc j) = elim (row-behind xs row j) [
+row-behind : (s : Standing) (rows : List Row) (row : Row) (j : ℕ) → (j ≡ length rows) ⊎ (stands_at s (rows ++ row ∷ []) j ≡ stands_at s rows j)
+row-behind s [] row zero = inl refl
+row-behind s [] row (suc j) = inr refl
+row-behind s (x ∷ xs) row zero = inr refl
+row-behind s (x ∷ xs) row (suc j) = elim (row-behind s xs row j) [
   | inl e ↦ inl (ap suc e)
   | inr same ↦ inr same
 ]
 
 -- a row comes behind the others in a block that isn't flagged
-pub dead-behind : (rows : List Row) (flags : List Bool) (row : Row) → AreDead flags rows → flag_at flags (length rows / block_size) ≡ false → AreDead flags (rows ++ row ∷ [])
-dead-behind rows flags row dead none j flag = elim (row-behind rows row j) [
+pub without-behind : (s : Standing) (rows : List Row) (flags : List Bool) (row : Row) → AreWithout s flags rows → flag_at flags (length rows / block_size) ≡ false → AreWithout s flags (rows ++ row ∷ [])
+without-behind s rows flags row without none j flag = elim (row-behind s rows row j) [
   | inl e ↦ absurd (false≢true (sym (ap (λ (n : ℕ). flag_at flags (n / block_size)) e ∙ none) ∙ flag))
-  | inr same ↦ same ∙ dead j flag
+  | inr same ↦ same ∙ without j flag
 ]

@@ -17,7 +17,7 @@ pub use laws::{
     a_text_has_one_row, acts_by_the_table, comments_are_the_same, each_text_has_a_row,
     stamps_keep_texts_proper, stamps_read_back,
 };
-pub use mark::{Act, Mark, State, after};
+pub use mark::{Act, Mark, Standing, State, after};
 pub use order::Order;
 pub use row::{Row, row_of};
 pub use row_list::RowList;

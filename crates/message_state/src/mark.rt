@@ -29,6 +29,15 @@ pub struct Mark {
     pub seen: bool,
 }
 
+/// Whether a message is deleted.
+#[derive(Clone, Copy, Debug, PartialEq, Eq)]
+pub enum Standing {
+    /// It isn't.
+    Live,
+    /// It is.
+    Dead,
+}
+
 /// What a command does to a message.
 #[derive(Clone, Copy, Debug, PartialEq, Eq)]
 pub enum Act {

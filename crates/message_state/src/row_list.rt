@@ -1,8 +1,9 @@
-ghost use Rattle.std.specs.Prelude.{◌≡◌, ◌≤◌, ◌*◌, ◌/◌, ℕ, List, [], ◌∷◌, ◌++◌, false, true, length, IfOk, OnOk};
+ghost use Rattle.std.specs.Prelude.{◌≡◌, ◌≤◌, ◌<◌, ◌*◌, ◌/◌, ℕ, List, [], ◌∷◌, ◌++◌, false, true, length, IfOk, OnOk};
 ghost use Rattle.message_state.specs.declared.row.Row.{Row};
-ghost use Rattle.message_state.specs.LiveRows.{live_at, marked, flag_at, AreDead, block_size, IsNextLive, IsPreviousLive};
+ghost use Rattle.message_state.specs.declared.mark.Standing.TheVariants as standing;
+ghost use Rattle.message_state.specs.LiveRows.{stands, stands_at, marked, flag_at, AreWithout, block_size, IsLookedAt, IsNext, IsPrevious};
 
-use crate::{Mark, Row, State};
+use crate::{Mark, Row, Standing, State};
 use mail_text::{Items, Memory};
 use std::alloc::Global;
 use std::marker::Model;
@@ -10,110 +11,140 @@ use std::marker::Model;
 // How many rows a block has.
 const BLOCK: usize = 1_024;
 
-/// The rows of messages by number. Contracts see them as the list. It knows blocks of rows that are all deleted, so
-/// that the nearest row that isn't is found without a walk.
+/// The rows of messages by number. Contracts see them as the list. It knows blocks of rows that are all deleted, and
+/// blocks of which none is, so that the nearest row of either kind is found without a walk.
 #[derive(Drop)]
 pub struct RowList {
     rows: Items<Row>,
     // for each block of rows, whether it is known that all of them are deleted
     dead: Vec<bool>,
+    // for each block of rows, whether it is known that none of them is
+    live: Vec<bool>,
 }
 
 impl Model for RowList {
     ghost use Rattle.std.specs.Prelude.{List};
     ghost use Rattle.message_state.specs.declared.row.Row.{Row};
-    ghost use Rattle.message_state.specs.LiveRows.{AreDead};
+    ghost use Rattle.message_state.specs.declared.mark.Standing.TheVariants.{Live, Dead};
+    ghost use Rattle.message_state.specs.LiveRows.{AreWithout};
 
     ghost Value = { List Row };
 
     ghost view = { λ r. r.rows };
 
-    ghost invariant = { λ r. AreDead r.dead.items r.rows };
+    ghost invariant = { λ r. AreWithout Live r.dead.items r.rows × AreWithout Dead r.live.items r.rows };
 }
 
-// Whether the row at place `k` is there and isn't deleted.
-fn live_at(rows: &[Row], k: usize) -> bool
-    ensures { result ≡ live_at rows.now k }
+// Whether a message of this mark stands so.
+fn stands(standing: Standing, mark: Mark) -> bool
+    ensures { result ≡ stands standing mark }
+{
+    match standing {
+        Standing::Live => mark.state != State::Deleted,
+        Standing::Dead => mark.state == State::Deleted,
+    }
+}
+
+// Whether a row at place `k` is there and its message stands so.
+fn stands_at(standing: Standing, rows: &[Row], k: usize) -> bool
+    ensures { result ≡ stands_at standing rows.now k }
 {
     match rows.get(k) {
-        Some(row) => row.mark.state != State::Deleted,
+        Some(row) => stands(standing, row.mark),
         None => false,
     }
 }
 
-// Whether a row in this block isn't deleted, of place `k` and the places beside it. It only saves a walk.
-fn is_live_beside(rows: &[Row], block: usize, k: usize) -> bool {
-    if k / BLOCK == block && live_at(rows, k) {
+// Whether a message of this block stands so, of place `k` and the places beside it. It only saves a walk.
+fn stands_beside(standing: Standing, rows: &[Row], block: usize, k: usize) -> bool {
+    if k / BLOCK == block && stands_at(standing, rows, k) {
         true
-    } else if k < rows.len() && (k + 1) / BLOCK == block && live_at(rows, k + 1) {
+    } else if k < rows.len() && (k + 1) / BLOCK == block && stands_at(standing, rows, k + 1) {
         true
     } else {
-        k > 0 && (k - 1) / BLOCK == block && live_at(rows, k - 1)
+        k > 0 && (k - 1) / BLOCK == block && stands_at(standing, rows, k - 1)
     }
 }
 
-// Whether all rows of a block are deleted. Looked at first is place `k` with those beside it.
-fn is_dead(rows: &[Row], block: usize, k: usize) -> bool
+// Whether no message of a block stands so. Looked at first is place `k` with those beside it.
+fn is_without(standing: Standing, rows: &[Row], block: usize, k: usize) -> bool
     requires { block * block_size ≤ length rows.now }
-    ensures { result ≡ true → (k : ℕ) → k / block_size ≡ block → live_at rows.now k ≡ false }
+    ensures { result ≡ true → (k : ℕ) → k / block_size ≡ block → stands_at standing rows.now k ≡ false }
 {
-    if is_live_beside(rows, block, k) {
+    if stands_beside(standing, rows, block, k) {
         return false;
     }
     let start = block * BLOCK;
     for i in 0..BLOCK {
-        if live_at(rows, start + i) {
+        if stands_at(standing, rows, start + i) {
             return false;
         }
     }
     true
 }
 
-// Gives the row at place `k` another mark, and looks again whether its block is all deleted.
-fn set_mark_at(rows: &mut Items<Row>, dead: &mut Vec<bool>, k: usize, mark: Mark)
-    requires { AreDead dead.old.items rows.old }
+// Looks again whether no message stands so in the block of place `k`, whose row has another mark.
+fn look_again(standing: Standing, rows: &[Row], flags: &mut Vec<bool>, k: usize)
+    requires { k < length rows.now }
+    ensures { IsLookedAt standing rows.now k flags.old.items flags.new.items }
+{
+    let block = k / BLOCK;
+    let now = is_without(standing, rows, block, k);
+    if block < flags.len() {
+        flags[block] = now;
+    }
+}
+
+// Gives the row at place `k` another mark, and looks at its block again.
+fn set_mark_at(
+    rows: &mut Items<Row>,
+    dead: &mut Vec<bool>,
+    live: &mut Vec<bool>,
+    k: usize,
+    mark: Mark,
+)
+    requires dead { AreWithout standing.Live dead.old.items rows.old }
+    requires live { AreWithout standing.Dead live.old.items rows.old }
     ensures rows { rows.new ≡ marked rows.old k mark }
-    ensures dead { AreDead dead.new.items rows.new }
+    ensures dead { AreWithout standing.Live dead.new.items rows.new }
+    ensures live { AreWithout standing.Dead live.new.items rows.new }
 {
     if k < rows.items().len() {
         rows.get_mut(k).mark = mark;
-        let block = k / BLOCK;
-        let now = is_dead(rows.items(), block, k);
-        if block < dead.len() {
-            dead[block] = now;
-        }
+        look_again(Standing::Live, rows.items(), dead, k);
+        look_again(Standing::Dead, rows.items(), live, k);
     }
 }
 
-// Sets the flag of a block back, if it has one.
-fn unflag(dead: &mut Vec<bool>, block: usize)
-    ensures keeps { (rows : List Row) → AreDead dead.old.items rows → AreDead dead.new.items rows }
-    ensures unset { flag_at dead.new.items block ≡ false }
+// Sets the flag of a block back, or makes room for it if it is the one behind those that there are.
+fn unflag(flags: &mut Vec<bool>, block: usize) -> Result<(), Memory>
+    ensures flags { (b : ℕ) → flag_at flags.new.items b ≡ true → flag_at flags.old.items b ≡ true }
+    ensures unset { flag_at flags.new.items block ≡ false }
 {
-    if block < dead.len() {
-        dead[block] = false;
-    }
-}
-
-// Makes room for the flag of a block, if it is the one behind those that there are.
-fn make_flag(dead: &mut Vec<bool>, block: usize) -> Result<(), Memory>
-    ensures flags { (b : ℕ) → flag_at dead.new.items b ≡ true → flag_at dead.old.items b ≡ true }
-{
-    if dead.len() <= block {
-        dead.push(false)?;
+    if block < flags.len() {
+        flags[block] = false;
+    } else if block == flags.len() {
+        flags.push(false)?;
     }
     Ok(())
 }
 
-// Puts a row behind these, in a block that isn't all deleted then.
-fn add_row(rows: &mut Items<Row>, dead: &mut Vec<bool>, row: Row) -> Result<(), Memory>
-    requires { AreDead dead.old.items rows.old }
+// Puts a row behind these, in a block without a flag then.
+fn add_row(
+    rows: &mut Items<Row>,
+    dead: &mut Vec<bool>,
+    live: &mut Vec<bool>,
+    row: Row,
+) -> Result<(), Memory>
+    requires dead { AreWithout standing.Live dead.old.items rows.old }
+    requires live { AreWithout standing.Dead live.old.items rows.old }
     ensures ok { OnOk result (rows.new ≡ rows.old ++ row ∷ []) }
-    ensures dead { AreDead dead.new.items rows.new }
+    ensures dead { AreWithout standing.Live dead.new.items rows.new }
+    ensures live { AreWithout standing.Dead live.new.items rows.new }
 {
     let block = rows.items().len() / BLOCK;
-    unflag(dead, block);
-    make_flag(dead, block)?;
+    unflag(dead, block)?;
+    unflag(live, block)?;
     rows.push(row)
 }
 
@@ -125,6 +156,7 @@ impl RowList {
         RowList {
             rows: Items::new(alloc),
             dead: Vec::new(alloc),
+            live: Vec::new(alloc),
         }
     }
 
@@ -134,7 +166,8 @@ impl RowList {
     {
         let blocks = rows.items().len() / BLOCK + 1;
         let dead = vec![in alloc; false; blocks]?;
-        Ok(RowList { rows, dead })
+        let live = vec![in alloc; false; blocks]?;
+        Ok(RowList { rows, dead, live })
     }
 
     /// The rows as a slice.
@@ -148,7 +181,7 @@ impl RowList {
     pub fn set_mark(&mut self, k: usize, mark: Mark)
         ensures { self.new ≡ marked self.old k mark }
     {
-        set_mark_at(&mut self.rows, &mut self.dead, k, mark);
+        set_mark_at(&mut self.rows, &mut self.dead, &mut self.live, k, mark);
     }
 
     /// Puts rows behind these.
@@ -156,46 +189,70 @@ impl RowList {
         ensures { OnOk result (self.new ≡ self.old ++ more) }
     {
         for row in more.into_vec() {
-            add_row(&mut self.rows, &mut self.dead, row)?;
+            add_row(&mut self.rows, &mut self.dead, &mut self.live, row)?;
         }
         Ok(())
     }
 
-    /// The place of the first row at or after place `from` that isn't deleted.
-    pub fn next_live(&self, from: usize) -> Option<usize>
-        ensures { IsNextLive self.now from result }
+    // The flags of blocks in which no message stands so.
+    fn without(&self, standing: Standing) -> &[bool]
+        ensures { AreWithout standing result.now self.now }
     {
-        let rows = self.rows.items();
-        let mut k = from;
-        while k < rows.len() {
-            if is_flagged(&self.dead, k / BLOCK) {
-                k = (k / BLOCK + 1) * BLOCK;
-            } else if live_at(rows, k) {
-                return Some(k);
-            } else {
-                k += 1;
-            }
+        match standing {
+            Standing::Live => &self.dead,
+            Standing::Dead => &self.live,
         }
-        None
     }
 
-    /// The place of the last row before place `end` that isn't deleted.
-    pub fn previous_live(&self, end: usize) -> Option<usize>
-        ensures { IsPreviousLive self.now end result }
+    /// The place of the first row at or after place `from` whose message stands so.
+    pub fn next(&self, standing: Standing, from: usize) -> Option<usize>
+        ensures { IsNext standing self.now from result }
     {
-        let rows = self.rows.items();
-        let mut k = end;
-        while k > 0 {
-            if is_flagged(&self.dead, (k - 1) / BLOCK) {
-                k = (k - 1) / BLOCK * BLOCK;
-            } else if live_at(rows, k - 1) {
-                return Some(k - 1);
-            } else {
-                k -= 1;
-            }
-        }
-        None
+        next_in(standing, self.rows.items(), self.without(standing), from)
     }
+
+    /// The place of the last row before place `end` whose message stands so.
+    pub fn previous(&self, standing: Standing, end: usize) -> Option<usize>
+        ensures { IsPrevious standing self.now end result }
+    {
+        previous_in(standing, self.rows.items(), self.without(standing), end)
+    }
+}
+
+// The place of the first row at or after place `from` whose message stands so. Flagged blocks are passed over.
+fn next_in(standing: Standing, rows: &[Row], flags: &[bool], from: usize) -> Option<usize>
+    requires { AreWithout standing flags.now rows.now }
+    ensures { IsNext standing rows.now from result }
+{
+    let mut k = from;
+    while k < rows.len() {
+        if is_flagged(flags, k / BLOCK) {
+            k = (k / BLOCK + 1) * BLOCK;
+        } else if stands_at(standing, rows, k) {
+            return Some(k);
+        } else {
+            k += 1;
+        }
+    }
+    None
+}
+
+// The place of the last row before place `end` whose message stands so. Flagged blocks are passed over.
+fn previous_in(standing: Standing, rows: &[Row], flags: &[bool], end: usize) -> Option<usize>
+    requires { AreWithout standing flags.now rows.now }
+    ensures { IsPrevious standing rows.now end result }
+{
+    let mut k = end;
+    while k > 0 {
+        if is_flagged(flags, (k - 1) / BLOCK) {
+            k = (k - 1) / BLOCK * BLOCK;
+        } else if stands_at(standing, rows, k - 1) {
+            return Some(k - 1);
+        } else {
+            k -= 1;
+        }
+    }
+    None
 }
 
 // The flag of a block, false if there is none.

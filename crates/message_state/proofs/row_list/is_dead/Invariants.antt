@@ -1,6 +1,0 @@
-use Rattle.std.proofs.Common.{◌≡◌, ℕ, false, ◌+◌, ◌<◌}
-use Rattle.message_state.specs.LiveRows.{live_at}
-use Rattle.message_state.proofs.row_list.is_dead.Given as goal
-
-abbrev pub invariant-loop-i : goal.invariant-loop-i
-invariant-loop-i l = (j : ℕ) → j < l.i → live_at l.rows (l.start + j) ≡ false
