@@ -1,18 +1,21 @@
 -- Aliases as the code keeps them: entries of a map, and borrowed names of a walk.
-use Rattle.std.proofs.Common.{◌≡◌, ◌<◌, ◌+◌, ℕ, zero, suc, List, [], ◌∷◌, ◌++◌, refl, sym, ap, ◌∙◌, map, true, false, ⊎_elim, Vec, option_map, slice_get, position, Bool, length, arith, true≢false}
-use Rattle.std.specs.Prelude.{if◌then◌else◌, is_some, not, ◌||◌, nat_lt, unwrap_or}
+use Rattle.std.proofs.Common.{◌≡◌, ◌<◌, ℕ, List, [], ◌∷◌, ◌++◌, refl, sym, ap, ◌∙◌, map, true, false, Vec, option_map, take, Bool, length, ◌-◌, arith, true≢false}
+use Rattle.std.specs.Prelude.{if◌then◌else◌, is_some, ◌||◌}
 use Rattle.std.specs.Borrow.{Bor}
 use Rattle.std.specs.declared.alloc.Global.{Global}
 use Rattle.std.specs.declared.option.Option.{Option}
 use Rattle.std.specs.declared.option.Option.TheVariants.{Some, None}
-use Rattle.std.specs.List.{list_any, position_or_len}
-use Rattle.std.specs.Map.{lookup, remove_entry, keys_of, values_of}
+use Rattle.std.specs.List.{list_any}
+use Rattle.std.specs.Option.{option_map_or}
+use Rattle.std.proofs.lemmas.List.{take_all}
+use Rattle.std.specs.Map.{lookup, lookup_entry, remove_entry, set_value, keys_of}
 use Rattle.std.specs.Str.{bytes_eq}
-use Rattle.std.proofs.lemmas.Bool.{cases_Bool, cond-true, cond-false, ltb-true}
-use Rattle.indexmap.specs.IndexMap.{insert_entry, set_value_at}
+use Rattle.indexmap.specs.IndexMap.{insert_entry}
+use Rattle.lru.specs.LruCache.{LruCache, demoted, put_entries}
 use Rattle.indexmap.specs.IndexSet.{insert_key}
 use Rattle.alias_groups.specs.Entries.{Entry, groups_in}
-use Rattle.alias_groups.specs.Groups.{members_of, with_members, without}
+use Rattle.alias_groups.specs.Groups.{is_alias, members_of, with_members, without}
+use Rattle.alias_groups.proofs.SameLemmas.{same-refl}
 use Rattle.alias_groups.specs.Walk.{is_among, with_alias}
 use Rattle.alias_groups.proofs.WalkLemmas.{Names}
 
@@ -21,6 +24,9 @@ Key = Vec ℕ Global
 
 abbrev pub Members : Type 0
 Members = Vec (List ℕ) Global
+
+abbrev pub Cache : Type 0
+Cache = LruCache Key Members
 
 abbrev pub same_key : List ℕ → Key → Bool
 same_key name k = bytes_eq name k.items
@@ -51,89 +57,72 @@ without-view (e ∷ es) name = go (bytes_eq name e.0.items) (without-view es nam
     go true rest = refl
     go false rest = ap (λ l. (e.0.items, e.1.items) ∷ l) rest
 
-pub length-view : (es : List Entry) → length (groups_in es) ≡ length es
-length-view [] = refl
-length-view (e ∷ es) = let rest = length-view es in omega arith
-
-pub members_at-view : (es : List Entry) (k : ℕ) → option_map (λ (e : Entry). e.1.items) (slice_get es k) ≡ slice_get (values_of (groups_in es)) k
-members_at-view [] k = refl
-members_at-view (e ∷ es) zero = refl
-members_at-view (e ∷ es) (suc k) = members_at-view es k
-
-pub name-view : (es : List Entry) (k : ℕ) → option_map (λ (e : Entry). e.0.items) (slice_get es k) ≡ slice_get (keys_of (groups_in es)) k
-name-view [] k = refl
-name-view (e ∷ es) zero = refl
-name-view (e ∷ es) (suc k) = name-view es k
-
 -- ---- a new alias
-pub new-view : (es : List Entry) (k : Key) (v : Members) → lookup (same_key k.items) es ≡ None → groups_in (insert_entry keys_same es k v) ≡ with_members (groups_in es) k.items v.items
-new-view [] k v none = refl
-new-view (e ∷ es) k v none = go (bytes_eq k.items e.0.items) none (new-view es k v)
+none-found : {X : Type 0} (o : Option X) → is_some o ≡ false → o ≡ None
+none-found None h = refl
+none-found (Some x) h = absurd (true≢false h)
+
+-- no key passes that the name of no alias equals
+unfound : (es : List Entry) (name : List ℕ) → is_alias (groups_in es) name ≡ false → lookup (same_key name) es ≡ None
+unfound es name none =
+    none-found (lookup (same_key name) es) (sym (is_some-map (λ (v : Members). v.items) (lookup (same_key name) es)) ∙ ap is_some (members-view es name) ∙ none)
+
+no-entry : (test : Key → Bool) (es : List Entry) → lookup test es ≡ None → lookup_entry test es ≡ None
+no-entry test [] none = refl
+no-entry test (e ∷ es) none = go (test e.0) none (no-entry test es)
   where
-    go : (b : Bool) → (if b then Some e.1 else lookup (same_key k.items) es) ≡ None → (lookup (same_key k.items) es ≡ None → groups_in (insert_entry keys_same es k v) ≡ with_members (groups_in es) k.items v.items)
-        → groups_in (if b then (e.0, v) ∷ es else e ∷ insert_entry keys_same es k v) ≡ (if b then (e.0.items, e.1.items ++ v.items) ∷ groups_in es else (e.0.items, e.1.items) ∷ with_members (groups_in es) k.items v.items)
+    go : (b : Bool) → (if b then Some e.1 else lookup test es) ≡ None → (lookup test es ≡ None → lookup_entry test es ≡ None) → (if b then Some e else lookup_entry test es) ≡ None
+    go true h rest = absurd (cc h)
+    go false h rest = rest h
+
+-- it goes last
+with-last : (es : List Entry) (k : Key) (v : Members) → lookup (same_key k.items) es ≡ None → groups_in (es ++ (k, v) ∷ []) ≡ with_members (groups_in es) k.items v.items
+with-last [] k v none = refl
+with-last (e ∷ es) k v none = go (bytes_eq k.items e.0.items) none (with-last es k v)
+  where
+    go : (b : Bool) → (if b then Some e.1 else lookup (same_key k.items) es) ≡ None → (lookup (same_key k.items) es ≡ None → groups_in (es ++ (k, v) ∷ []) ≡ with_members (groups_in es) k.items v.items)
+        → groups_in (e ∷ (es ++ (k, v) ∷ [])) ≡ (if b then (e.0.items, e.1.items ++ v.items) ∷ groups_in es else (e.0.items, e.1.items) ∷ with_members (groups_in es) k.items v.items)
     go true h rest = absurd (cc h)
     go false h rest = ap (λ l. (e.0.items, e.1.items) ∷ l) (rest h)
 
-none-found : {X : Type 0} (o : Option X) → false ≡ is_some o → o ≡ None
-none-found None h = refl
-none-found (Some x) h = absurd (true≢false (sym h))
+-- what is put first, and then last
+put-first : (cache : Cache) (k : Key) (v : Members) → lookup (same_key k.items) cache.entries ≡ None → length cache.entries < cache.cap → put_entries keys_same cache k v ≡ (k, v) ∷ cache.entries
+put-first cache k v none room =
+    ap (λ (o : Option Entry). option_map_or (λ (e : Entry). (e.0, v) ∷ remove_entry (keys_same k) cache.entries) o ((k, v) ∷ take (cache.cap - 1) cache.entries)) (no-entry (keys_same k) cache.entries none)
+    ∙ ap (λ (es : List Entry). (k, v) ∷ es) (take_all (cache.cap - 1) cache.entries (omega arith))
 
-pub new_view : (es : List Entry) (k : Key) (v : Members) (name : List ℕ) → k.items ≡ name → false ≡ is_some (lookup (same_key name) es) → groups_in (insert_entry keys_same es k v) ≡ with_members (groups_in es) name v.items
-new_view es k v name is none =
-    new-view es k v (ap (λ (n : List ℕ). lookup (same_key n) es) is ∙ none-found (lookup (same_key name) es) none)
-    ∙ ap (λ (n : List ℕ). with_members (groups_in es) n v.items) is
+put-last : (es : List Entry) (k : Key) (v : Members) → demoted (same_key k.items) ((k, v) ∷ es) ≡ es ++ (k, v) ∷ []
+put-last es k v =
+    ap (λ (b : Bool). option_map_or (λ (e : Entry). (if b then es else (k, v) ∷ remove_entry (same_key k.items) es) ++ e ∷ []) (if b then Some (k, v) else lookup_entry (same_key k.items) es) ((k, v) ∷ es)) (same-refl k.items)
 
--- ---- more members at a place
-abbrev pub IsPlace : List ℕ → List Entry → ℕ → Type 0
-IsPlace name [] k = ⊥
-IsPlace name (e ∷ es) zero = bytes_eq name e.0.items ≡ true
-IsPlace name (e ∷ es) (suc k) = (bytes_eq name e.0.items ≡ false) × IsPlace name es k
+pub put-view : (cache : Cache) (k : Key) (v : Members) (name : List ℕ) → k.items ≡ name → is_alias (groups_in cache.entries) name ≡ false → length cache.entries < cache.cap
+    → groups_in (demoted (same_key name) (put_entries keys_same cache k v)) ≡ with_members (groups_in cache.entries) name v.items
+put-view cache k v name is none room =
+    let unnamed : lookup (same_key k.items) cache.entries ≡ None = ap (λ (n : List ℕ). lookup (same_key n) cache.entries) is ∙ unfound cache.entries name none in
+    ap (λ (n : List ℕ). groups_in (demoted (same_key n) (put_entries keys_same cache k v))) (sym is)
+    ∙ ap (λ (es : List Entry). groups_in (demoted (same_key k.items) es)) (put-first cache k v unnamed room)
+    ∙ ap groups_in (put-last cache.entries k v)
+    ∙ with-last cache.entries k v unnamed
+    ∙ ap (λ (n : List ℕ). with_members (groups_in cache.entries) n v.items) is
 
-at-place : (name : List ℕ) (es : List Entry) (k : ℕ) → position_or_len (same_key name) (keys_of es) ≡ k → k < length (keys_of es) → IsPlace name es k
-at-place name [] k is lt = absurd (omega arith)
-at-place name (e ∷ es) zero is lt = go (bytes_eq name e.0.items) is
+-- ---- more members
+pub more-view : (es : List Entry) (name : List ℕ) (to : Names) (old new : Members) → lookup (same_key name) es ≡ Some old → new.items ≡ old.items ++ to → groups_in (set_value (same_key name) es new) ≡ with_members (groups_in es) name to
+more-view [] name to old new found is = absurd (cc found)
+more-view (e ∷ es) name to old new found is = go (bytes_eq name e.0.items) found (more-view es name to old new)
   where
-    go : (b : Bool) → (if not b then 1 + position_or_len (same_key name) (keys_of es) else 0) ≡ 0 → b ≡ true
-    go true h = refl
-    go false h = absurd (omega arith)
-at-place name (e ∷ es) (suc k) is lt = go (bytes_eq name e.0.items) is (λ h. at-place name es k h (omega arith))
+    go : (b : Bool) → (if b then Some e.1 else lookup (same_key name) es) ≡ Some old → (lookup (same_key name) es ≡ Some old → new.items ≡ old.items ++ to → groups_in (set_value (same_key name) es new) ≡ with_members (groups_in es) name to)
+        → groups_in (if b then (e.0, new) ∷ es else e ∷ set_value (same_key name) es new) ≡ (if b then (e.0.items, e.1.items ++ to) ∷ groups_in es else (e.0.items, e.1.items) ∷ with_members (groups_in es) name to)
+    go true h rest = let own : e.1 ≡ old = cc h in ap (λ (m : Names). (e.0.items, m) ∷ groups_in es) (is ∙ ap (λ (v : Members). v.items ++ to) (sym own))
+    go false h rest = ap (λ l. (e.0.items, e.1.items) ∷ l) (rest h is)
+
+pub same-view : (es : List Entry) (name : List ℕ) (old new : Members) → lookup (same_key name) es ≡ Some old → new.items ≡ old.items → groups_in (set_value (same_key name) es new) ≡ groups_in es
+same-view [] name old new found is = refl
+same-view (e ∷ es) name old new found is = go (bytes_eq name e.0.items) found (same-view es name old new)
   where
-    go : (b : Bool) → (if not b then 1 + position_or_len (same_key name) (keys_of es) else 0) ≡ suc k → (position_or_len (same_key name) (keys_of es) ≡ k → IsPlace name es k) → (b ≡ false) × IsPlace name es k
-    go true h rest = absurd (omega arith)
-    go false h rest = (refl, rest (omega arith))
-
-pub place-found : (name : List ℕ) (es : List Entry) (k : ℕ) → Some k ≡ position (same_key name) (keys_of es) → (k < length (keys_of es)) × IsPlace name es k
-place-found name es k found =
-    ⊎_elim
-    (λ lt. let is : position_or_len (same_key name) (keys_of es) ≡ k = sym (ap (λ o. unwrap_or o 0) (found ∙ cond-true _ _ _ lt)) in
-    let within : k < length (keys_of es) = let inside = ltb-true _ _ lt in omega arith in (within, at-place name es k is within))
-    (λ ge. absurd (cc (found ∙ cond-false _ _ _ ge)))
-    (cases_Bool (nat_lt (position_or_len (same_key name) (keys_of es)) (length (keys_of es))))
-
-length-keys : (es : List Entry) → length (keys_of es) ≡ length es
-length-keys [] = refl
-length-keys (e ∷ es) = let rest = length-keys es in omega arith
-
-pub place_within : (name : List ℕ) (es : List Entry) (k : ℕ) → Some k ≡ position (same_key name) (keys_of es) → k < length es
-place_within name es k found = let within = (place-found name es k found).0 in let e = length-keys es in omega arith
-
-more-at : (name : List ℕ) (to : Names) (old new : Members) → new.items ≡ old.items ++ to → (es : List Entry) (k : ℕ) → IsPlace name es k → slice_get (map (λ (e : Entry). e.1) es) k ≡ Some old
-    → groups_in (set_value_at es k new) ≡ with_members (groups_in es) name to
-more-at name to old new is [] k at value = absurd at
-more-at name to old new is (e ∷ es) zero at value =
-    let own : e.1 ≡ old = cc value in
-    ap (λ (m : Names). (e.0.items, m) ∷ groups_in es) (is ∙ ap (λ (v : Members). v.items ++ to) (sym own)) ∙ sym (cond-true _ _ _ at)
-more-at name to old new is (e ∷ es) (suc k) at value = ap (λ l. (e.0.items, e.1.items) ∷ l) (more-at name to old new is es k at.1 value) ∙ sym (cond-false _ _ _ at.0)
-
-pub more-view : (name : List ℕ) (to : Names) (old new : Members) (es : List Entry) (k : ℕ) → new.items ≡ old.items ++ to → Some k ≡ position (same_key name) (keys_of es) → slice_get (map (λ (e : Entry). e.1) es) k ≡ Some old
-    → groups_in (set_value_at es k new) ≡ with_members (groups_in es) name to
-more-view name to old new es k is found value = more-at name to old new is es k (place-found name es k found).1 value
-
-pub same-view : (old new : Members) (es : List Entry) (k : ℕ) → new.items ≡ old.items → slice_get (map (λ (e : Entry). e.1) es) k ≡ Some old → groups_in (set_value_at es k new) ≡ groups_in es
-same-view old new [] k is value = refl
-same-view old new (e ∷ es) zero is value = let own : e.1 ≡ old = cc value in ap (λ (m : Names). (e.0.items, m) ∷ groups_in es) (is ∙ ap (λ (v : Members). v.items) (sym own))
-same-view old new (e ∷ es) (suc k) is value = ap (λ l. (e.0.items, e.1.items) ∷ l) (same-view old new es k is value)
+    go : (b : Bool) → (if b then Some e.1 else lookup (same_key name) es) ≡ Some old → (lookup (same_key name) es ≡ Some old → new.items ≡ old.items → groups_in (set_value (same_key name) es new) ≡ groups_in es)
+        → groups_in (if b then (e.0, new) ∷ es else e ∷ set_value (same_key name) es new) ≡ (e.0.items, e.1.items) ∷ groups_in es
+    go true h rest = let own : e.1 ≡ old = cc h in ap (λ (m : Names). (e.0.items, m) ∷ groups_in es) (is ∙ ap (λ (v : Members). v.items) (sym own))
+    go false h rest = ap (λ l. (e.0.items, e.1.items) ∷ l) (rest h is)
 
 -- ---- borrowed names of a walk
 abbrev pub Borrowed : Type 0

@@ -1,22 +1,20 @@
 -- Aliases that are removed together, and members that are counted.
-use Rattle.std.proofs.Common.{◌≡◌, ◌≤◌, ◌+◌, ℕ, Bool, true, false, not, filter, List, [], ◌∷◌, ◌++◌, refl, sym, ap, ◌∙◌, arith, subst, length, ⊎_elim, true≢false}
-use Rattle.std.specs.Prelude.{if◌then◌else◌, ◌||◌, sum_by, nat_lt}
+use Rattle.std.proofs.Common.{◌≡◌, ◌≤◌, ◌<◌, ◌+◌, ℕ, zero, suc, take, get_or, Bool, true, false, not, List, [], ◌∷◌, ◌++◌, refl, sym, ap, ◌∙◌, arith, subst, length, ⊎_elim, true≢false}
+use Rattle.std.specs.Prelude.{if◌then◌else◌, ◌||◌, nat_lt}
 use Rattle.std.specs.declared.option.Option.{Option}
 use Rattle.std.specs.declared.option.Option.TheVariants.{Some, None}
-use Rattle.std.specs.List.{fold, IsDistinct, AllByRecursion}
-use Rattle.std.specs.Map.{keys_of, values_of}
+use Rattle.std.specs.List.{IsDistinct, AllByRecursion}
+use Rattle.std.specs.Map.{keys_of}
 use Rattle.std.specs.Str.{bytes_eq}
-use Rattle.std.proofs.lemmas.Bool.{cases_Bool, cond-true, cond-false, ltb-false}
+use Rattle.std.proofs.lemmas.Bool.{cases_Bool, cond-true, ltb-false}
 use Rattle.std.proofs.lemmas.List.Sums.{sum_by-cons}
-use Rattle.alias_groups.specs.Entries.{Entry, groups_in}
-use Rattle.alias_groups.specs.Groups.{AreGroups, Group, define_refusal, member_count}
-use Rattle.alias_groups.specs.Removal.{distinct_names, without_these}
-use Rattle.alias_groups.specs.Walk.{is_among, with_alias}
+use Rattle.alias_groups.specs.Groups.{AreGroups, Group, define_refusal, member_count, without}
+use Rattle.alias_groups.specs.Removal.{without_these}
+use Rattle.alias_groups.specs.Walk.{is_among}
 use Rattle.alias_groups.specs.declared.error.AliasError.{AliasError}
 use Rattle.alias_groups.specs.declared.error.AliasError.TheVariants.{TooMany}
-use Rattle.alias_groups.proofs.EntryLemmas.{Members}
 use Rattle.alias_groups.proofs.GroupLemmas.{count_of}
-use Rattle.alias_groups.proofs.SameLemmas.{to-same}
+use Rattle.alias_groups.proofs.SameLemmas.{to-same, same-symm}
 use Rattle.alias_groups.proofs.WalkLemmas.{Names}
 
 -- ---- names, each once
@@ -32,34 +30,53 @@ among-append : (names : Names) (x n : List ℕ) → is_among (names ++ x ∷ [])
 among-append [] x n = or-none (bytes_eq n x)
 among-append (y ∷ ys) x n = ap (λ (b : Bool). bytes_eq n y || b) (among-append ys x n) ∙ sym (or-assoc (bytes_eq n y) (is_among ys n) (bytes_eq n x))
 
-or-same : (a b : Bool) → (b ≡ true → a ≡ true) → a ≡ (a || b)
-or-same true b h = refl
-or-same false true h = h refl
-or-same false false h = refl
-
-among-with : (names : Names) (x n : List ℕ) → is_among (with_alias names x) n ≡ (is_among names n || bytes_eq n x)
-among-with names x n =
-    ⊎_elim
-    (λ t. ap (λ (l : Names). is_among l n) (cond-true _ _ _ t) ∙ or-same (is_among names n) (bytes_eq n x) (λ same. ap (is_among names) (to-same n x same) ∙ t))
-    (λ f. ap (λ (l : Names). is_among l n) (cond-false _ _ _ f) ∙ among-append names x n)
-    (cases_Bool (is_among names x))
-
-among-fold : (before names : Names) (n : List ℕ) → is_among (fold with_alias before names) n ≡ (is_among before n || is_among names n)
-among-fold before [] n = sym (or-none (is_among before n))
-among-fold before (x ∷ xs) n =
-    among-fold (with_alias before x) xs n
-    ∙ ap (λ (b : Bool). b || is_among xs n) (among-with before x n)
-    ∙ or-assoc (is_among before n) (bytes_eq n x) (is_among xs n)
-
 -- ---- aliases that are left
-kept-same : (groups : List Group) (xs ys : Names) → ((n : List ℕ) → is_among xs n ≡ is_among ys n) → without_these groups xs ≡ without_these groups ys
-kept-same [] xs ys same = refl
-kept-same (g ∷ gs) xs ys same =
-    ap (λ (b : Bool). if not b then g ∷ without_these gs xs else without_these gs xs) (same g.0)
-    ∙ ap (λ (l : List Group). if not (is_among ys g.0) then g ∷ l else l) (kept-same gs xs ys same)
+-- a name that is apart from all
+apart-left : (x : List ℕ) (groups : List Group) (names : Names) → AllByRecursion (λ y. bytes_eq x y ≡ false) (keys_of groups) → without_these groups (names ++ x ∷ []) ≡ without_these groups names
+apart-left x [] names h = refl
+apart-left x (g ∷ gs) names h =
+    let same : is_among (names ++ x ∷ []) g.0 ≡ is_among names g.0 = among-append names x g.0 ∙ ap (λ (b : Bool). is_among names g.0 || b) (same-symm g.0 x ∙ h.0) ∙ or-none (is_among names g.0) in
+    ap (λ (b : Bool). if not b then g ∷ without_these gs (names ++ x ∷ []) else without_these gs (names ++ x ∷ [])) same
+    ∙ ap (λ (l : List Group). if not (is_among names g.0) then g ∷ l else l) (apart-left x gs names h.1)
 
-pub without-distinct : (groups : List Group) (names : Names) → without_these groups (distinct_names names) ≡ without_these groups names
-without-distinct groups names = kept-same groups (distinct_names names) names (λ n. among-fold [] names n)
+-- one more is taken out
+pick : (g : Group) (left right out : List Group) (b c : Bool) → (c ≡ true → left ≡ right) → out ≡ right → (if not b then (if c then left else g ∷ out) else out) ≡ (if not (b || c) then g ∷ right else right)
+pick g left right out true c eq same = same
+pick g left right out false true eq same = eq refl
+pick g left right out false false eq same = ap (λ l. g ∷ l) same
+
+spread : (g : Group) (left : List Group) (x : List ℕ) (b : Bool) → without (if not b then g ∷ left else left) x ≡ (if not b then (if bytes_eq x g.0 then left else g ∷ without left x) else without left x)
+spread g left x true = refl
+spread g left x false = refl
+
+pub out-these : (groups : List Group) (names : Names) (x : List ℕ) → IsDistinct bytes_eq (keys_of groups) → without (without_these groups names) x ≡ without_these groups (names ++ x ∷ [])
+unfolding IsDistinct
+out-these [] names x h = refl
+out-these (g ∷ gs) names x h =
+    let left = without_these gs names in
+    let right = without_these gs (names ++ x ∷ []) in
+    spread g left x (is_among names g.0)
+    ∙ pick g left right (without left x) (is_among names g.0) (bytes_eq x g.0)
+    (λ t. sym (apart-left x gs names (subst (λ (n : List ℕ). AllByRecursion (λ y. bytes_eq n y ≡ false) (keys_of gs)) (sym (to-same x g.0 t)) h.0)))
+    (out-these gs names x h.1)
+    ∙ ap (λ (b : Bool). if not b then g ∷ right else right) (ap (λ (b : Bool). is_among names g.0 || b) (same-symm x g.0) ∙ sym (among-append names x g.0))
+
+-- the names up to a place, and one more
+take-suc : (names : Names) (i : ℕ) (x : List ℕ) → i < length names → x ≡ get_or names i x → take (suc i) names ≡ take i names ++ x ∷ []
+take-suc [] i x lt is = absurd (omega arith)
+take-suc (y ∷ ys) zero x lt is = ap (λ z. z ∷ []) (sym is)
+take-suc (y ∷ ys) (suc i) x lt is = ap (λ l. y ∷ l) (take-suc ys i x (omega arith) is)
+
+pub out-next : (groups : List Group) (names : Names) (i : ℕ) (x : List ℕ) → AreGroups groups → i < length names → x ≡ get_or names i x
+    → without (without_these groups (take i names)) x ≡ without_these groups (take (i + 1) names)
+out-next groups names i x are lt is =
+    out-these groups (take i names) x are.distinct
+    ∙ ap (without_these groups) (sym (take-suc names i x lt is) ∙ ap (λ (n : ℕ). take n names) (let e : suc i ≡ i + 1 = omega arith in e))
+
+-- without names all stay
+pub out-none : (groups : List Group) → groups ≡ without_these groups []
+out-none [] = refl
+out-none (g ∷ gs) = ap (λ l. g ∷ l) (out-none gs)
 
 count-these : (groups : List Group) (names : Names) → member_count (without_these groups names) ≤ member_count groups
 count-these [] names = omega arith
@@ -91,32 +108,6 @@ pub are_these : (groups now : List Group) (names : Names) → now ≡ without_th
 are_these groups now names is are =
     subst (λ (g : List Group). AreGroups g) (sym is)
     (record { few = (let less = count-these groups names in let f = are.few in omega arith); distinct = distinct-these groups names are.distinct })
-
--- ---- entries
-pub kept-view : (es : List Entry) (names : Names) → groups_in (filter (λ e. not (is_among names e.0.items)) es) ≡ without_these (groups_in es) names
-kept-view [] names = refl
-kept-view (e ∷ es) names = go (is_among names e.0.items) (kept-view es names)
-  where
-    go : (b : Bool) → groups_in (filter (λ e. not (is_among names e.0.items)) es) ≡ without_these (groups_in es) names
-        → groups_in (if not b then e ∷ filter (λ e. not (is_among names e.0.items)) es else filter (λ e. not (is_among names e.0.items)) es)
-        ≡ (if not b then (e.0.items, e.1.items) ∷ without_these (groups_in es) names else without_these (groups_in es) names)
-    go true rest = rest
-    go false rest = ap (λ l. (e.0.items, e.1.items) ∷ l) rest
-
--- how many members some lists have
-abbrev pub count_in : List Members → ℕ
-count_in lists = sum_by (λ (m : Members). length m.items) lists
-
-pub count-more : (m : Members) (lists : List Members) → count_in (m ∷ lists) ≡ length m.items + count_in lists
-count-more m lists = sum_by-cons (λ (m : Members). length m.items) m lists
-
-pub count-view : (es : List Entry) → count_in (values_of es) ≡ member_count (groups_in es)
-count-view [] = refl
-count-view (e ∷ es) =
-    let a = count-more e.1 (values_of es) in
-    let b = sum_by-cons count_of (e.0.items, e.1.items) (groups_in es) in
-    let rest = count-view es in
-    omega arith
 
 -- ---- members that aren't refused
 abbrev pub is-refused : Option AliasError → Bool

@@ -5,3 +5,4 @@ pub mod Removal
 pub mod Expansion
 pub mod Unwinding
 pub mod GroupLaws
+pub mod Listing

@@ -1,9 +1,7 @@
 -- Aliases that are changed if nothing is in the way, and those that are removed together.
-use Rattle.std.specs.Prelude.{ℕ, not, List, [], map, filter, is_none, if◌then◌else◌}
-use Rattle.std.specs.Borrow.{Bor}
-use Rattle.std.specs.List.{fold}
+use Rattle.std.specs.Prelude.{ℕ, not, List, filter, is_none, if◌then◌else◌}
 use Rattle.alias_groups.specs.Groups.{Group, define_refusal, with_members}
-use Rattle.alias_groups.specs.Walk.{is_among, with_alias}
+use Rattle.alias_groups.specs.Walk.{is_among}
 
 -- once an alias has more members; if they are refused all stays
 abbrev pub given : List Group → List ℕ → List (List ℕ) → List Group
@@ -12,11 +10,3 @@ given groups name to = if is_none (define_refusal groups to) then with_members g
 -- the aliases but those of these names
 abbrev pub without_these : List Group → List (List ℕ) → List Group
 without_these groups names = filter (λ g. not (is_among names g.0)) groups
-
--- names that are borrowed
-abbrev pub names_of : List (Bor (List ℕ)) → List (List ℕ)
-names_of keys = map (λ k. k.now) keys
-
--- the names, each once, byte for byte
-abbrev pub distinct_names : List (List ℕ) → List (List ℕ)
-distinct_names names = fold with_alias [] names

@@ -1,17 +1,16 @@
-ghost use Rattle.std.specs.Prelude.{◌≡◌, ◌≤◌, ◌<◌, ◌+◌, ◌↔◌, [], length, slice_get, option_map, unwrap_or, is_some, IsSome, IfOk, IfErr, OnOk, OnErr, MatchOption, Ok, Err, Some};
-ghost use Rattle.std.specs.Map.{keys_of, values_of};
-ghost use Rattle.std.specs.Prelude.{position};
-ghost use Rattle.std.specs.Str.{bytes_eq};
+ghost use Rattle.std.specs.Prelude.{◌≡◌, ◌≤◌, ◌<◌, ◌+◌, [], false, true, length, option_map, unwrap_or, is_some, IfOk, IfErr, OnOk, OnErr, MatchOption, Ok, Err};
+ghost use Rattle.std.specs.List.{flat_map};
 ghost use Rattle.alias_groups.specs.Groups.{AreGroups, define_refusal, is_alias, member_count, members_of, with_members, without};
 ghost use Rattle.alias_groups.specs.Entries.{groups_in};
 ghost use Rattle.alias_groups.specs.Expansion.{expansion};
+ghost use Rattle.alias_groups.specs.Listing.{alias_line, listed};
 ghost use Rattle.alias_groups.specs.Removal.{given, without_these};
 
 use crate::error::{AliasError, ExpandError};
+use crate::listing::put_alias;
 use crate::own::{Own, dropped_names};
-use crate::removal::{count_members, names_in, take_out_these};
 use crate::walk::expand_all;
-use indexmap::IndexMap;
+use lru::LruCache;
 use mail_text::{Memory, Text};
 use std::alloc::Global;
 use std::marker::Model;
@@ -19,11 +18,14 @@ use std::marker::Model;
 /// The most members that all aliases can have together.
 const MEMBER_LIMIT: usize = 100_000;
 
+// Names with their members. Each stays where it is, and is found, put last or taken out in constant time.
+type Groups = LruCache<Vec<u8>, Vec<Text>>;
+
 /// Aliases with their members, in order of first definition. Contracts see the list of pairs of name and members.
 #[derive(Drop)]
 pub struct Aliases {
     alloc: Global,
-    groups: IndexMap<Vec<u8>, Vec<Text>>,
+    groups: Groups,
     members: usize,
 }
 
@@ -51,69 +53,96 @@ fn copies(alloc: Global, names: &[Text]) -> Result<Vec<Text>, Memory>
     Ok(copies)
 }
 
-// Puts members at the end of the list of the alias at place `k`.
-fn append_at(
-    groups: &mut IndexMap<Vec<u8>, Vec<Text>>,
-    k: usize,
-    name: &[u8],
-    mut more: Vec<Text>,
-) -> Result<(), Memory>
-    requires { Some k ≡ position (λ key. bytes_eq name.now key.items) (keys_of groups.old.entries) }
+// Puts members at the end of the list of an alias.
+fn append(groups: &mut Groups, name: &[u8], mut more: Vec<Text>) -> Result<(), Memory>
+    requires { is_alias (groups_in groups.old.entries) name.now ≡ true }
     ensures ok { OnOk result
         (groups_in groups.new.entries ≡ with_members (groups_in groups.old.entries) name.now more.items) }
     ensures err { OnErr result (groups_in groups.new.entries ≡ groups_in groups.old.entries) }
 {
-    let list = &mut groups[k];
+    let Some(list) = groups.peek_mut(name) else {
+        return Ok(());
+    };
     match list.append(&mut more) {
         Ok(()) => Ok(()),
         Err(_) => Err(Memory),
     }
 }
 
+// Puts an alias behind the others.
+fn push(alloc: Global, groups: &mut Groups, name: &[u8], members: Vec<Text>) -> Result<(), Memory>
+    requires { is_alias (groups_in groups.old.entries) name.now ≡ false }
+    ensures ok { OnOk result
+        (groups_in groups.new.entries ≡ with_members (groups_in groups.old.entries) name.now members.items) }
+    ensures err { OnErr result (groups_in groups.new.entries ≡ groups_in groups.old.entries) }
+{
+    if groups.len() >= groups.cap().get() {
+        return Err(Memory);
+    }
+    let key = name.to_vec(alloc)?;
+    groups.put(key, members)?;
+    groups.demote(name);
+    Ok(())
+}
+
 // Puts members at the end of the list of an alias, which goes last if it is new.
-fn append(
-    alloc: Global,
-    groups: &mut IndexMap<Vec<u8>, Vec<Text>>,
-    name: &[u8],
-    more: Vec<Text>,
-) -> Result<(), Memory>
+fn put(alloc: Global, groups: &mut Groups, name: &[u8], more: Vec<Text>) -> Result<(), Memory>
     ensures ok { OnOk result
         (groups_in groups.new.entries ≡ with_members (groups_in groups.old.entries) name.now more.items) }
     ensures err { OnErr result (groups_in groups.new.entries ≡ groups_in groups.old.entries) }
 {
-    match groups.get_index_of(name) {
-        Some(k) => append_at(groups, k, name, more),
-        None => {
-            let key = name.to_vec(alloc)?;
-            groups.insert(key, more)?;
-            Ok(())
-        }
+    if is_in(groups, name) {
+        append(groups, name, more)
+    } else {
+        push(alloc, groups, name, more)
     }
 }
 
+// Whether an alias has this name.
+fn is_in(groups: &Groups, name: &[u8]) -> bool
+    ensures { result ≡ is_alias (groups_in groups.now.entries) name.now }
+{
+    groups.contains(name)
+}
+
 // Takes an alias out, and says how many members it had; none if it wasn't defined.
-fn take_out(groups: &mut IndexMap<Vec<u8>, Vec<Text>>, name: &[u8]) -> Option<usize>
+fn take_out(groups: &mut Groups, name: &[u8]) -> Option<usize>
     ensures said { is_some result ≡ is_alias (groups_in groups.old.entries) name.now }
     ensures groups { groups_in groups.new.entries ≡ without (groups_in groups.old.entries) name.now }
     ensures members { member_count (groups_in groups.new.entries) + unwrap_or result 0
         ≡ member_count (groups_in groups.old.entries) }
 {
-    match groups.shift_remove(name) {
+    match groups.pop(name) {
         Some(members) => Some(members.as_slice().len()),
         None => None,
     }
 }
 
+// Takes out the aliases of these names, and says how many members they had.
+fn take_out_all(groups: &mut Groups, names: &[Text]) -> usize
+    requires { AreGroups (groups_in groups.old.entries) }
+    ensures groups { groups_in groups.new.entries ≡ without_these (groups_in groups.old.entries) names.now }
+    ensures members { member_count (groups_in groups.new.entries) + result
+        ≡ member_count (groups_in groups.old.entries) }
+{
+    let mut members = 0;
+    for name in names {
+        members += take_out(groups, name.bytes()).unwrap_or(0);
+    }
+    members
+}
+
 impl Aliases {
-    /// No aliases. It takes no memory.
-    pub fn new(alloc: Global) -> Aliases
-        ensures { result ≡ [] }
+    /// No aliases.
+    pub fn new(alloc: Global) -> Result<Aliases, Memory>
+        ensures { IfOk result (λ aliases. aliases ≡ []) }
     {
-        Aliases {
+        let groups = LruCache::unbounded(alloc)?;
+        Ok(Aliases {
             alloc,
-            groups: IndexMap::new(alloc),
+            groups,
             members: 0,
-        }
+        })
     }
 
     /// Puts members at the end of the list of an alias. One that is defined keeps its place, a new one goes last.
@@ -129,7 +158,7 @@ impl Aliases {
             return Err(e);
         }
         let more = copies(self.alloc, to)?;
-        append(self.alloc, &mut self.groups, name, more)?;
+        put(self.alloc, &mut self.groups, name, more)?;
         self.members += to.len();
         Ok(())
     }
@@ -172,58 +201,44 @@ impl Aliases {
         }
     }
 
-    /// Removes the aliases of these names, in time that grows with the aliases and the names. One that isn't defined is
-    /// passed over. If memory runs out, all is as before.
-    pub fn remove_all(&mut self, names: &[Text]) -> Result<(), Memory>
-        ensures ok { OnOk result (self.new ≡ without_these self.old names.now) }
-        ensures err { OnErr result (self.new ≡ self.old) }
+    /// Removes the aliases of these names, in time that grows with the names. One that isn't defined is passed over. It
+    /// takes no memory.
+    pub fn remove_all(&mut self, names: &[Text])
+        ensures { self.new ≡ without_these self.old names.now }
     {
-        let gone = names_in(self.alloc, names)?;
-        take_out_these(&mut self.groups, &gone);
-        self.members = count_members(&self.groups);
-        Ok(())
+        self.members -= take_out_all(&mut self.groups, names);
     }
 
     /// The members of an alias; none exactly if the name isn't defined. It takes no memory.
     pub fn members(&self, name: &[u8]) -> Option<&[Text]>
         ensures { option_map (λ members. members.now) result ≡ members_of self.now name.now }
     {
-        match self.groups.get(name) {
+        match self.groups.peek(name) {
             Some(members) => Some(members.as_slice()),
             None => None,
         }
     }
 
-    /// How many aliases there are. Their names are distinct, and they have at most 100,000 members together.
-    pub fn count(&self) -> usize
-        ensures count { result ≡ length self.now }
-        ensures groups { AreGroups self.now }
+    /// All aliases as they are listed, one a line, in order of first definition.
+    pub fn lines(&self, alloc: Global) -> Result<Text, Memory>
+        ensures { IfOk result (λ lines. lines ≡ flat_map alias_line self.now) }
     {
-        self.groups.len()
+        let mut out = Text::new(alloc);
+        for (name, members) in self.groups.iter() {
+            put_alias(&mut out, name.as_slice(), members.as_slice())?;
+        }
+        Ok(out)
     }
 
-    /// The name of the alias at place `k`, from 0, in order of first definition; none past the last. It takes no
-    /// memory.
-    pub fn name(&self, k: usize) -> Option<&[u8]>
-        ensures name { option_map (λ name. name.now) result ≡ slice_get (keys_of self.now) k }
-        ensures found { IsSome result ↔ (k < length self.now) }
+    /// The alias of this name as it is listed; nothing if the name isn't defined.
+    pub fn line(&self, alloc: Global, name: &[u8]) -> Result<Text, Memory>
+        ensures { IfOk result (λ line. line ≡ listed self.now name.now) }
     {
-        match self.groups.get_index(k) {
-            Some((name, _)) => Some(name.as_slice()),
-            None => None,
+        let mut out = Text::new(alloc);
+        if let Some(members) = self.members(name) {
+            put_alias(&mut out, name, members)?;
         }
-    }
-
-    /// The members of the alias at place `k`, from 0, in order of first definition; none past the last. It takes no
-    /// memory.
-    pub fn members_at(&self, k: usize) -> Option<&[Text]>
-        ensures members { option_map (λ members. members.now) result ≡ slice_get (values_of self.now) k }
-        ensures found { IsSome result ↔ (k < length self.now) }
-    {
-        match self.groups.get_index(k) {
-            Some((_, members)) => Some(members.as_slice()),
-            None => None,
-        }
+        Ok(out)
     }
 
     /// The names that names stand for, in the order in which a walk over them first reaches each. A name that is no

@@ -4,8 +4,8 @@
 mod aliases;
 mod error;
 mod laws;
+mod listing;
 mod own;
-mod removal;
 mod walk;
 
 pub use aliases::Aliases;

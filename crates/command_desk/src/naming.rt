@@ -85,7 +85,10 @@ impl Desk {
     {
         match naming {
             Naming::Alias { name, members } => self.aliases.give(name.bytes(), members.items()),
-            Naming::Unalias { names } => self.aliases.remove_all(names.items()),
+            Naming::Unalias { names } => {
+                self.aliases.remove_all(names.items());
+                Ok(())
+            }
             Naming::Alternates { names } => {
                 self.own.alternates = names;
                 Ok(())

@@ -5,29 +5,41 @@ use case_blocks::{Answer, cut};
 use mail_text::{Items, Memory, Text};
 
 pub fn put(case: &[Text], out: &mut Answer) {
+    if words(case, 1) == "once" {
+        return put_once(words(case, 2), out);
+    }
+    match Aliases::new(out.alloc()) {
+        Ok(mut aliases) => put_with(&mut aliases, case, out),
+        Err(Memory) => out.put_bad(),
+    }
+}
+
+// A case that begins without aliases.
+fn put_with(aliases: &mut Aliases, case: &[Text], out: &mut Answer) {
     match words(case, 1) {
-        "done" => put_done(words(case, 2), out),
-        "expand" => put_expanded(case, out),
-        "chain" => put_chain(number(case, 2), false, out),
-        "cycle" => put_chain(number(case, 2), true, out),
-        "group" => put_group(number(case, 2), out),
-        "once" => put_once(words(case, 2), out),
+        "done" => put_done(aliases, words(case, 2), out),
+        "expand" => put_expanded(aliases, case, out),
+        "chain" => put_chain(aliases, number(case, 2), false, out),
+        "cycle" => put_chain(aliases, number(case, 2), true, out),
+        "group" => put_group(aliases, number(case, 2), out),
         _ => out.put_bad(),
     }
 }
 
-// What each step answers, with `;` after it, and then the aliases that they leave, each as `NAME: MEMBER ..|`.
-fn put_done(steps: &str, out: &mut Answer) {
-    let mut aliases = Aliases::new(out.alloc());
+// What each step answers, with `;` after it, and then the aliases that they leave, as they are listed.
+fn put_done(aliases: &mut Aliases, steps: &str, out: &mut Answer) {
     for step in steps.split(';') {
-        put_step(&mut aliases, step, out);
+        put_step(aliases, step, out);
         out.put(b";");
     }
-    for k in 0..aliases.count() {
-        out.put(aliases.name(k).unwrap_or(b"?"));
-        out.put(b":");
-        put_names(aliases.members_at(k).unwrap_or(&[]), out);
-        out.put(b"|");
+    put_text(aliases.lines(out.alloc()), out);
+}
+
+// A text, if there was memory for it.
+fn put_text(text: Result<Text, Memory>, out: &mut Answer) {
+    match text {
+        Ok(text) => out.put(text.bytes()),
+        Err(Memory) => out.put_bad(),
     }
 }
 
@@ -39,7 +51,8 @@ fn put_step(aliases: &mut Aliases, step: &str, out: &mut Answer) {
         ("define", [name, to @ ..]) => put_defined(aliases, name, to, out),
         ("give", [name, to @ ..]) => out.note(aliases.give(name.bytes(), to)),
         ("remove", [name]) => out.put_flag(aliases.remove(name.bytes())),
-        ("remove-all", names) => out.note(aliases.remove_all(names)),
+        ("remove-all", names) => aliases.remove_all(names),
+        ("line", [name]) => put_text(aliases.line(out.alloc(), name.bytes()), out),
         ("members", [name]) => match aliases.members(name.bytes()) {
             Some(members) => put_names(members, out),
             None => out.put(b"none"),
@@ -65,15 +78,14 @@ fn put_names(names: &[Text], out: &mut Answer) {
 }
 
 // What names stand for, of a user with other names.
-fn put_expanded(case: &[Text], out: &mut Answer) {
+fn put_expanded(aliases: &mut Aliases, case: &[Text], out: &mut Answer) {
     let own = Own {
         user: out.copied(field(case, 2)),
         alternates: parts(words(case, 3), ' ', out),
     };
-    let mut aliases = Aliases::new(out.alloc());
     for line in words(case, 5).split(';') {
         if let [name, to @ ..] = parts(line, ' ', out).items() {
-            put_defined(&mut aliases, name, to, out);
+            put_defined(aliases, name, to, out);
             out.put(b";");
         }
     }
@@ -98,8 +110,7 @@ fn put_expansion(expansion: Result<Vec<Text>, ExpandError>, out: &mut Answer) {
 
 // `count` aliases, each with the next as its member and the last with the first if `closes`, and what the first stands
 // for.
-fn put_chain(count: u32, closes: bool, out: &mut Answer) {
-    let mut aliases = Aliases::new(out.alloc());
+fn put_chain(aliases: &mut Aliases, count: u32, closes: bool, out: &mut Answer) {
     for n in 0..count {
         let next = n.saturating_add(1);
         let last = closes && next == count;
@@ -109,21 +120,20 @@ fn put_chain(count: u32, closes: bool, out: &mut Answer) {
             out.put_shown(&error);
         }
     }
-    put_first(&aliases, out);
+    put_first(aliases, out);
 }
 
 // An alias of `count` names, and what it stands for.
-fn put_group(count: u32, out: &mut Answer) {
+fn put_group(aliases: &mut Aliases, count: u32, out: &mut Answer) {
     let mut names = Items::new(out.alloc());
     for n in 0..count {
         let name = numbered(n.saturating_add(1), out);
         out.note(names.push(name));
     }
-    let mut aliases = Aliases::new(out.alloc());
     let name = numbered(0, out);
-    put_defined(&mut aliases, &name, names.items(), out);
+    put_defined(aliases, &name, names.items(), out);
     out.put(b";");
-    put_first(&aliases, out);
+    put_first(aliases, out);
 }
 
 // What the name of number 0 stands for.

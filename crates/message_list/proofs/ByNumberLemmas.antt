@@ -12,7 +12,7 @@ use Rattle.message_state.specs.ShownRows.{IsShown}
 use Rattle.message_list.specs.declared.list.Purpose.TheVariants.{Live}
 use Rattle.message_list.specs.Places.{in_base, place_of, after_message, before_message}
 use Rattle.message_list.proofs.ListFacts.{find_first, find_none}
-use Rattle.message_list.proofs.ViewLemmas.{place_at, place_none, order_length, message_at}
+use Rattle.message_list.proofs.ViewLemmas.{place_at, place_none, message_at}
 
 -- a message is live where its row is
 pub live-message : (shown : Shown) (n : ℕ) → 1 ≤ n → in_base shown Live n ≡ live_at shown.rows (n - 1)

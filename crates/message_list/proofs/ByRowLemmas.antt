@@ -1,5 +1,5 @@
 -- Messages of the base set in a view by number, by their rows.
-use Rattle.std.proofs.Common.{◌≡◌, ℕ, ◌+◌, ◌-◌, ◌<◌, ◌≤◌, Bool, true, false, ◌==◌, List, [], length, get_or, Option, Some, None, sym, ap, ◌∙◌, arith, take, drop, slice_get, reverse}
+use Rattle.std.proofs.Common.{◌≡◌, ℕ, ◌+◌, ◌-◌, ◌<◌, ◌≤◌, false, ◌==◌, List, length, get_or, Option, Some, None, sym, ap, ◌∙◌, arith, take, drop, slice_get, reverse}
 use Rattle.std.specs.Option.{option_map_or}
 use Rattle.std.specs.List.{find}
 use Rattle.std.proofs.lemmas.Bool.{ne_eqb, cond-false}

@@ -10,9 +10,7 @@ use crate::author::is_author;
 use crate::list::{Item, Kind, ListError, ListSpec, Purpose};
 use crate::span::{Landmarks, Span, landmarks_of, span_of};
 use crate::subject::holds_ascii;
-use crate::view::{
-    at_or_before, first_of, in_base, is_for, last_of, next_of, previous_of, row_at,
-};
+use crate::view::{at_or_before, first_of, in_base, is_for, last_of, next_of, previous_of, row_at};
 use mail_text::{Memory, Text};
 use message_state::{Row, Shown, State};
 use std::alloc::Global;
@@ -124,7 +122,13 @@ fn select_one(
     match item.kind {
         Kind::Number(k) => select_message(alloc, item, k, shown, purpose),
         Kind::Current => select_message(alloc, item, u64::from(current), shown, purpose),
-        Kind::Next => select_found(alloc, item, next_of(shown, purpose, current), shown, purpose),
+        Kind::Next => select_found(
+            alloc,
+            item,
+            next_of(shown, purpose, current),
+            shown,
+            purpose,
+        ),
         Kind::Previous => select_found(
             alloc,
             item,

@@ -1,10 +1,10 @@
 -- Commands that name: aliases, the user's own names, and fields.
-use Rattle.std.specs.Prelude.{ℕ, List, [], ◌∷◌, ◌++◌, codes, is_some, if◌then◌else◌}
+use Rattle.std.specs.Prelude.{ℕ, List, [], ◌∷◌, codes, is_some, if◌then◌else◌}
 use Rattle.std.specs.List.{flat_map}
-use Rattle.std.specs.Option.{option_map_or}
 use Rattle.std.specs.declared.result.Result.TheVariants.{Err}
 use Rattle.mail_text.specs.Lines.{with_feed}
-use Rattle.alias_groups.specs.Groups.{Group, define_refusal, members_of}
+use Rattle.alias_groups.specs.Groups.{define_refusal}
+use Rattle.alias_groups.specs.Listing.{alias_line, listed}
 use Rattle.name_lists.specs.Names.{with_names}
 use Rattle.command_desk.specs.declared.desk.Desk.{Desk}
 use Rattle.command_desk.specs.declared.naming.Naming.TheVariants as naming
@@ -12,18 +12,6 @@ use Rattle.command_desk.specs.declared.steps.Steps.{Steps}
 use Rattle.command_desk.specs.Answers.{OrFault, says, quietly}
 use Rattle.command_desk.specs.Effects.{renames, unchanged}
 use Rattle.command_desk.specs.Faults.{bad_arguments, too_many_aliases}
-
--- words, each after a space
-abbrev pub spaced : List (List ℕ) → List ℕ
-spaced words = flat_map (λ word. 32 ∷ word) words
-
--- an alias as it is listed: `alias`, its name and its members
-abbrev pub alias_line : Group → List ℕ
-alias_line group = with_feed ((codes "alias " ++ group.0) ++ spaced group.1)
-
--- the alias of this name as it is listed; nothing if the name isn't defined
-abbrev pub listed : List Group → List ℕ → List ℕ
-listed groups name = option_map_or (λ members. alias_line (name, members)) (members_of groups name) []
 
 -- an alias gets these members, unless all aliases together would have too many
 abbrev pub given : Desk → List ℕ → List (List ℕ) → OrFault Steps

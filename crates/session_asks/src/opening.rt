@@ -66,6 +66,7 @@ fn first_desk(alloc: Global, places: Places, mode: Mode, terminal: bool) -> Resu
     let user = Text::copy(alloc, places.user.bytes())?;
     let vars = Vars::new(alloc)?;
     let folder = no_folder(alloc)?;
+    let aliases = Aliases::new(alloc)?;
     Ok(Desk {
         folder: Open {
             name: Text::new(alloc),
@@ -82,7 +83,7 @@ fn first_desk(alloc: Global, places: Places, mode: Mode, terminal: bool) -> Resu
         },
         view: ViewKind::Plain,
         vars,
-        aliases: Aliases::new(alloc),
+        aliases,
         own: Own {
             user,
             alternates: Items::new(alloc),

@@ -1,4 +1,4 @@
-use Rattle.std.proofs.Common.{ℕ, List, ap, ◌∙◌, slice_get, refl, length, subst, ◌≤◌}
+use Rattle.std.proofs.Common.{ℕ, List, ap, ◌∙◌, slice_get, refl, subst, ◌≤◌}
 use Rattle.message_list.proofs.ByRowLemmas.{back-found, back-none, count}
 use Rattle.message_list.proofs.view.last_before.Goals as goal
 
