@@ -3,14 +3,13 @@ ghost use Rattle.std.specs.Prelude.{◌≡◌, ◌++◌, List, ℕ, Option, Some
 ghost use Rattle.host_port.specs.Ran.{Ran};
 ghost use Rattle.mail_dates.specs.Clock.{IsPrintable};
 ghost use Rattle.folder_change.specs.Changes.{name_of};
-ghost use Rattle.session_play.specs.Play.{Play, Ask, Say, Go, Goes};
+ghost use Rattle.session_play.specs.Play.{Play, Ask, Say, Goes};
 ghost use Rattle.session_play.specs.Steps.{refused};
 ghost use Rattle.command_desk.specs.Answers.{OrFault, Means};
 ghost use Rattle.send_rules.specs.Addressing.{addressees};
 ghost use Rattle.send_rules.specs.Lines.{names_refused, sender_ended};
 ghost use Rattle.send_rules.specs.Recording.{dead, recorded};
 ghost use Rattle.draft_sending.specs.Sending.{addressing, after_record, after_sender, buried, burying, dead_reply, done, ended_draft, ended_with, given_up, letter_of, lost, lost_now, not_run, posting, quit_draft, recording, saved_one, sending, text_of, unsent, unsent_by};
-ghost use Rattle.session_state.specs.declared.status.Status.{Status};
 ghost use Rattle.session_state.specs.States.{IsState, KeepsButDraft, KeepsButOutcome, with_outcome, without_draft};
 ghost use Rattle.session_state.specs.Answers.{after_asks, in_play, next_of, LineCaused, EndsByAsk, EndsByLine};
 
@@ -27,9 +26,7 @@ use send_rules::{
 };
 use sender_port::{SendError, send};
 use session_play::now;
-use session_state::{
-    Asked, Flow, Outcome, RunError, SessionState, commit, go_on, not_sent, say, say_text,
-};
+use session_state::{Asked, Flow, Outcome, RunError, SessionState, commit, not_sent, refuse, say};
 use std::alloc::Global;
 
 /// A draft, and the moment at which it was done.
@@ -54,14 +51,16 @@ fn say_dead<H: Host>(
     state: &SessionState,
     host: &mut H,
     name: &[u8],
-) -> Result<(), RunError>
+) -> Result<Flow, RunError>
     ensures ran { Ran H.world host.old host.new
-        (λ es. Goes (refused {R = Status} state.now (dead_reply name.now)) es
-        (in_play (λ u. Go state.now) result)) }
+        (λ es. Goes (refused state.now (dead_reply name.now)) es (in_play (next_of state.now) result)) }
+    ensures go { IfOk result (λ flow. flow ≡ Flow.Go) }
     ensures cause { LineCaused (H.world.counts host.old) (H.world.counts host.new) result }
 {
-    let line = reply(alloc, name, b"Dead", 1)?;
-    say_text(state, host, &line)
+    match reply(alloc, name, b"Dead", 1) {
+        Ok(line) => refuse(state, host, &line),
+        Err(Memory) => Err(RunError::Memory),
+    }
 }
 
 // What follows the commit of a dead letter to this file.
@@ -81,10 +80,10 @@ fn buried<H: Host>(
     ensures cause { LineCaused (H.world.counts host.old) (H.world.counts host.new) result }
 {
     match asked {
-        Asked::On | Asked::Over => go_on(say_dead(alloc, state, host, name)),
+        Asked::On | Asked::Over => say_dead(alloc, state, host, name),
         Asked::Refused { line } => {
             state.outcome = Outcome::Refused;
-            go_on(say_text(state, host, &line))
+            refuse(state, host, &line)
         }
         Asked::Ended(status) => Ok(Flow::End(status)),
     }
@@ -124,7 +123,10 @@ fn bury<H: Host>(
     ensures done { IfOk result EndsByLine }
     ensures cause { LineCaused (H.world.counts host.old) (H.world.counts host.new) result }
 {
-    let name = Text::copy(alloc, change_name(&change))?;
+    let name = match Text::copy(alloc, change_name(&change)) {
+        Ok(name) => name,
+        Err(Memory) => return Err(RunError::Memory),
+    };
     match save_one(alloc, state, host, change) {
         Ok(asked) => buried(alloc, state, host, name.bytes(), asked),
         Err(error) => Err(error),
@@ -155,9 +157,10 @@ fn lose<H: Host>(
     ensures done { IfOk result EndsByLine }
     ensures cause { LineCaused (H.world.counts host.old) (H.world.counts host.new) result }
 {
-    match dead_of(alloc, state, letter)? {
-        Some(change) => bury(alloc, state, host, change),
-        None => Ok(Flow::Go),
+    match dead_of(alloc, state, letter) {
+        Ok(Some(change)) => bury(alloc, state, host, change),
+        Ok(None) => Ok(Flow::Go),
+        Err(Memory) => Err(RunError::Memory),
     }
 }
 
@@ -253,8 +256,10 @@ fn keep_refused<H: Host>(
     ensures done { IfOk result EndsByLine }
     ensures cause { LineCaused (H.world.counts host.old) (H.world.counts host.new) result }
 {
-    let line = ended_line(alloc, status, output)?;
-    keep_unsent(alloc, state, host, letter, Some(status), line.bytes())
+    match ended_line(alloc, status, output) {
+        Ok(line) => keep_unsent(alloc, state, host, letter, Some(status), line.bytes()),
+        Err(Memory) => Err(RunError::Memory),
+    }
 }
 
 // Prints that the sender could not be run, and puts the text to the dead letters.
@@ -292,9 +297,12 @@ fn deliver<H: Host>(
     ensures done { IfOk result EndsByLine }
     ensures cause { LineCaused (H.world.counts host.old) (H.world.counts host.new) result }
 {
-    let message = message_text(alloc, &letter.draft, letter.moment)?;
+    let message = match message_text(alloc, &letter.draft, letter.moment) {
+        Ok(message) => message,
+        Err(Memory) => return Err(RunError::Memory),
+    };
     match send(alloc, &state.desk.vars, names, message.bytes(), host) {
-        Ok(output) => go_on(say_text(state, host, &output)),
+        Ok(output) => refuse(state, host, &output),
         Err(SendError::Refused { status, output }) => {
             keep_refused(alloc, state, host, letter, status, output)
         }
@@ -434,12 +442,13 @@ fn post<H: Host>(
     ensures done { IfOk result EndsByLine }
     ensures cause { LineCaused (H.world.counts host.old) (H.world.counts host.new) result }
 {
-    match names_refused(alloc, names)? {
-        Some(line) => keep_unsent(alloc, state, host, letter, None, line.bytes()),
-        None => {
+    match names_refused(alloc, names) {
+        Ok(Some(line)) => keep_unsent(alloc, state, host, letter, None, line.bytes()),
+        Ok(None) => {
             let change = record_of(alloc, state, file, letter, names);
             record(alloc, state, host, letter, names, change)
         }
+        Err(Memory) => Err(RunError::Memory),
     }
 }
 
@@ -489,8 +498,10 @@ fn finish_at<H: Host>(
     ensures done { IfOk result EndsByLine }
     ensures cause { LineCaused (H.world.counts host.old) (H.world.counts host.new) result }
 {
-    let found = addressees(alloc, &state.desk, &letter.draft)?;
-    address(alloc, state, host, file, letter, found)
+    match addressees(alloc, &state.desk, &letter.draft) {
+        Ok(found) => address(alloc, state, host, file, letter, found),
+        Err(Memory) => Err(RunError::Memory),
+    }
 }
 
 // Sends a draft that is done.

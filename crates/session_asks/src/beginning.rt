@@ -98,8 +98,10 @@ pub(crate) fn begin<H: Host>(
     ensures begun { OnOk result (state.new ≡ with_new_draft state.old draft.now) }
     ensures cause { LineCaused (H.world.counts host.old) (H.world.counts host.new) result }
 {
-    let draft = flattened(alloc, draft)?;
-    begin_with(state, host, Compose::new(alloc, draft))
+    match flattened(alloc, draft) {
+        Ok(draft) => begin_with(state, host, Compose::new(alloc, draft)),
+        Err(Memory) => Err(RunError::Memory),
+    }
 }
 
 /// Begins the draft of send mode in the same way.
@@ -190,7 +192,10 @@ fn begin_placed<H: Host>(
     ensures end { IfOk result EndsByAsk }
     ensures cause { LineCaused (H.world.counts host.old) (H.world.counts host.new) result }
 {
-    let copy = file_copy(alloc, file)?;
+    let copy = match file_copy(alloc, file) {
+        Ok(copy) => copy,
+        Err(Memory) => return Err(RunError::Memory),
+    };
     match begin(alloc, state, host, draft) {
         Ok(_) => {
             move_to(alloc, state, current);
@@ -221,8 +226,9 @@ pub(crate) fn begin_recorded<H: Host>(
     ensures end { IfOk result EndsByAsk }
     ensures cause { LineCaused (H.world.counts host.old) (H.world.counts host.new) result }
 {
-    match file_fault(alloc, state, file)? {
-        Some(line) => Ok(Asked::Refused { line }),
-        None => begin_placed(alloc, state, host, draft, file, current),
+    match file_fault(alloc, state, file) {
+        Ok(Some(line)) => Ok(Asked::Refused { line }),
+        Ok(None) => begin_placed(alloc, state, host, draft, file, current),
+        Err(Memory) => Err(RunError::Memory),
     }
 }

@@ -36,5 +36,8 @@ pub(crate) fn call(alloc: Global, state: &mut SessionState, text: &Text) -> Resu
     ensures desk { OnlyFrames state.old state.new }
     ensures goes_on { IfOk result EndsNoRun }
 {
-    Ok(call_lines(alloc, state, text)?)
+    match call_lines(alloc, state, text) {
+        Ok(asked) => Ok(asked),
+        Err(Memory) => Err(RunError::Memory),
+    }
 }

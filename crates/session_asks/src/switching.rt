@@ -96,8 +96,10 @@ fn say_opened<H: Host>(
         (λ es. Goes (Ask (Say (reply.now ++ announcement desk.now)) Ret) es (in_play (λ u. u) result)) }
     ensures cause { LineCaused (H.world.counts host.old) (H.world.counts host.new) result }
 {
-    let text = announcement(alloc, desk, reply.bytes())?;
-    say(host, text.bytes())
+    match announcement(alloc, desk, reply.bytes()) {
+        Ok(text) => say(host, text.bytes()),
+        Err(Memory) => Err(RunError::Memory),
+    }
 }
 
 // Puts a folder on the desk and prints its lines after the reply.
@@ -193,8 +195,12 @@ fn switch_to<H: Host>(
     ensures end { IfOk result EndsByAsk }
     ensures cause { LineCaused (H.world.counts host.old) (H.world.counts host.new) result }
 {
-    let (opening, previous) = opening_named(alloc, state, name, folder)?;
-    leave_for(alloc, state, host, changes, reply, opening, previous)
+    match opening_named(alloc, state, name, folder) {
+        Ok((opening, previous)) => {
+            leave_for(alloc, state, host, changes, reply, opening, previous)
+        }
+        Err(Memory) => Err(RunError::Memory),
+    }
 }
 
 /// What a refusal leaves.
@@ -282,8 +288,10 @@ fn load_and_switch<H: Host>(
     ensures end { IfOk result EndsByAsk }
     ensures cause { LineCaused (H.world.counts host.old) (H.world.counts host.new) result }
 {
-    let file = placed(alloc, state.here.bytes(), name)?;
-    load_file(alloc, state, host, name, file.bytes(), changes, reply)
+    match placed(alloc, state.here.bytes(), name) {
+        Ok(file) => load_file(alloc, state, host, name, file.bytes(), changes, reply),
+        Err(Memory) => Err(RunError::Memory),
+    }
 }
 
 /// Opens a file in place of the folder, which is left by these changes: they are committed once the file was loaded.
@@ -306,8 +314,9 @@ pub(crate) fn switch<H: Host>(
     ensures end { IfOk result EndsByAsk }
     ensures cause { LineCaused (H.world.counts host.old) (H.world.counts host.new) result }
 {
-    match open_fault(alloc, state, name, changes.items())? {
-        Some(line) => Ok(Asked::Refused { line }),
-        None => load_and_switch(alloc, state, host, name, changes, reply),
+    match open_fault(alloc, state, name, changes.items()) {
+        Ok(Some(line)) => Ok(Asked::Refused { line }),
+        Ok(None) => load_and_switch(alloc, state, host, name, changes, reply),
+        Err(Memory) => Err(RunError::Memory),
     }
 }

@@ -1,5 +1,4 @@
 pub mod ActorLemmas
-pub mod MemoryLemmas
 pub mod NameLemmas
 pub mod OriginLemmas
 pub mod PendingLemmas
