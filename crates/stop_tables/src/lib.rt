@@ -1,0 +1,38 @@
+//! Whole runs of a program over a host in memory, and tables of what is left of them: each run is stopped inside every
+//! event, and so is each recovery of what that leaves. For the crates of tests.
+//!
+//! The lines of a script are those of `case_blocks`, and these:
+//!
+//! | Line | Meaning |
+//! |---|---|
+//! | `words WORD..` | the words of the command line, each between blanks |
+//! | `env NAME=VALUE` | a variable of the environment; HOME is `/h` |
+//! | `after TURN..` | what has become of the disk after these turns, in lines as `put_changes` puts them, to the next such line |
+//!
+//! The turns of a run are what decides how its disk is left. Before the first one the disk is as at the start.
+//!
+//! | Turn | It is |
+//! |---|---|
+//! | `commit` | the publication that decides a commit |
+//! | `early` | a step of another that changes a file which wasn't loaded before |
+//! | `other` | a step of another that changes one which was |
+//! | `busy` | a lock or a right that the run doesn't get |
+//! | `held` | a load outside a commit that sees a lock |
+//! | `unread` | the user's start-up file can't be read; where nothing is wanted after turns with it, what is wanted without it is |
+#![tactic(auto)]
+
+mod carrying;
+mod cuts;
+mod scripts;
+mod stops;
+mod tally;
+mod turning;
+
+pub use carrying::{
+    Decided, Ending, Program, Run, Scene, carry_out, put_recovery, recover, start_of,
+};
+pub use cuts::{Cut, count_cuts, cut_at};
+pub use scripts::{Script, is_wanted, read_script};
+pub use stops::put_stops;
+pub use tally::Tally;
+pub use turning::{OWN_START, RECORD, first, is_deciding, turns};
