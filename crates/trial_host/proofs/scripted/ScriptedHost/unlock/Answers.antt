@@ -1,10 +1,9 @@
-use Rattle.std.proofs.Common.{[]}
-use Rattle.trial_host.proofs.ScriptLemmas.{scripted, done-as-planned, unlocked-takes}
+use Rattle.trial_host.proofs.ScriptLemmas.{scripted-done, unlocked-quiet}
 use Rattle.trial_host.proofs.scripted.ScriptedHost.unlock.Goals as goal
 
 pub invariant_of-self : goal.invariant_of-self
 invariant_of-self c = record {
   scripted =
-      scripted c.args.self.now.memory c.unlock.new.self [] _ c.args.self.now.scripted c.unlock.ensures.planned.plan
-      (done-as-planned _ _ _ _ _ c.unlock.ensures.planned) c.unlock.ensures.call (unlocked-takes _ _ _) c.unlock.ensures.kept.input;
+      scripted-done c.args.self.now.memory c.unlock.new.self _ _ _ c.args.self.now.scripted c.unlock.ensures.planned c.unlock.ensures.call c.unlock.ensures.kept.input
+      (λ at. unlocked-quiet c.args.name.now c.args.token c.unlock.result);
 }
