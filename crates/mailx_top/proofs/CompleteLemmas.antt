@@ -182,10 +182,10 @@ loop-limit env (cut goes) same = absurd (cc same)
 -- ---- a run as a whole
 
 -- a status is that of an end or of a cut
-abbrev Comes : Status → Result Status Stop → Type 0
+abbrev pub Comes : Status → Result Status Stop → Type 0
 Comes s out = (out ≡ Ok s) ⊎ ((cause : Stop) × (out ≡ Err cause) × (s ≡ status_at_stop cause))
 
-comes : (actor : List ℕ) (may : Bool) (s : Status) (out : Result Status Stop) (behind : List Event) → Ending actor may s out behind → Comes s out
+pub comes : (actor : List ℕ) (may : Bool) (s : Status) (out : Result Status Stop) (behind : List Event) → Ending actor may s out behind → Comes s out
 comes actor may s (Ok e) behind (is, says) = inl (ap Ok (sym is))
 comes actor may s (Err cause) behind (is, says) = inr (cause, refl, is)
 

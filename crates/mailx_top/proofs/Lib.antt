@@ -14,3 +14,4 @@ pub mod RecordLemmas
 pub mod UnsentLemmas
 pub mod AlikeLemmas
 pub mod TryingLemmas
+pub mod TrialLemmas

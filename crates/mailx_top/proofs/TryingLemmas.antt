@@ -50,12 +50,12 @@ tried n s old new m ran start told same scripted = record {
   start = ap host_start same ∙ ran.start_is ∙ start;
   told = λ es is.
       let since = Ran-since [] es ran told (ap host_told (sym same) ∙ is) in
+      let goes = scripted.goes es is in
       record {
-        run = since.1;
-        alone = scripted.alone es is;
+        run = subst (IsRun (asked trial_words) trial_env s) goes.alone since.1;
         honest = subst (λ (d : Disk). Honest d es) start since.0;
         left = input_left m;
-        input = scripted.input es is;
+        goes = goes;
       };
 }
 

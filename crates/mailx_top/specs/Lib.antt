@@ -19,3 +19,4 @@ pub mod Fitting
 pub mod Replies
 pub mod Alike
 pub mod Trying
+pub mod AlikeTrials

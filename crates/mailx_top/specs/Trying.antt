@@ -7,12 +7,11 @@ use Rattle.std.specs.declared.result.Result.TheVariants.{Ok}
 use Rattle.host_port.specs.declared.event.Event.{Event}
 use Rattle.host_port.specs.declared.event.Event.TheVariants as event
 use Rattle.host_port.specs.Disk.{Disk, disk}
-use Rattle.host_port.specs.Own.{own}
 use Rattle.host_port.specs.Ran.{Honest}
 use Rattle.host_memory.specs.declared.memory.MemHost.{MemHost}
 use Rattle.host_memory.specs.MemHosts.{host_start, host_told}
-use Rattle.trial_host.specs.Texts.{numbered, trial_lines}
-use Rattle.trial_host.specs.Trials.{taken, trial_start}
+use Rattle.trial_host.specs.Texts.{numbered}
+use Rattle.trial_host.specs.Trials.{GoesPlainly, trial_start}
 use Rattle.mbox_scan.specs.Mailbox.{list_of}
 use Rattle.command_words.specs.declared.mode.Mode.{Mode}
 use Rattle.command_words.specs.declared.mode.Mode.TheVariants as mode
@@ -50,14 +49,13 @@ trial_words = codes "-N" ∷ codes "-f" ∷ codes "box" ∷ []
 abbrev pub trial_env : Environment
 trial_env = record { pairs = (codes "HOME", codes "/h") ∷ (codes "LOGNAME", codes "u") ∷ []; folder = []; terminal = false; token = 1 }
 
--- The events of a trial on n messages with its status: those of a run of its words, alone, from the disk that has this mailbox; each says what is so,
--- and the input that they took is of the lines.
+-- The events of a trial on n messages with its status: those of a run of its words on the disk that has this mailbox. Each says what is so, and they go
+-- as those of a host do on which nothing fails, and which has the lines.
 pub record IsTrial (n : ℕ) (s : Status) (es : List Event) : Type 0 where
-  pub run : IsRun (asked trial_words) trial_env s (own es)
-  pub alone : own es ≡ es
+  pub run : IsRun (asked trial_words) trial_env s es
   pub honest : Honest (trial_start n) es
   pub left : List ℕ
-  pub input : trial_lines ≡ taken es ++ left
+  pub goes : GoesPlainly es left
 
 -- a host in memory after a trial
 pub record HasTried (n : ℕ) (s : Status) (m : MemHost) : Type 0 where

@@ -1,4 +1,5 @@
 ghost use Rattle.mailx_top.specs.Alike.{RunsAreAlike};
+ghost use Rattle.mailx_top.specs.AlikeTrials.{TrialsAreAlike, TriesAreAlike};
 ghost use Rattle.mailx_top.specs.Appended.{RunsKeepAppended};
 ghost use Rattle.mailx_top.specs.Fitting.{RunsFit};
 ghost use Rattle.mailx_top.specs.Quits.{QuitsKeepAppended};
@@ -42,4 +43,14 @@ pub fn runs_are_alike()
 {
     a_text_has_one_row();
     views_are_alike();
+}
+
+/// A trial is a function of its number of messages: two on one number that neither want of memory nor a failed call on
+/// the disk cut off end with the same status, print the same bytes and leave the same disk. So two runs with `--try` of
+/// one number that end with status 0 print the same summary.
+pub fn trials_are_alike()
+    ensures trials { TrialsAreAlike }
+    ensures tries { TriesAreAlike }
+{
+    runs_are_alike();
 }

@@ -1,5 +1,5 @@
 // The whole run.
-ghost use Rattle.std.specs.Prelude.{◌≡◌, ◌++◌, ◌∷◌, true, List, Some, None, IfOk, codes};
+ghost use Rattle.std.specs.Prelude.{◌≡◌, ◌++◌, ◌∷◌, ℕ, true, List, Some, None, IfOk, codes};
 ghost use Rattle.host_port.specs.Calls.{Rose};
 ghost use Rattle.host_port.specs.Disk.{disk};
 ghost use Rattle.host_port.specs.Ran.{Ran};
@@ -18,7 +18,7 @@ ghost use Rattle.mailx_top.specs.Wants.{may_start, start_from};
 ghost use Rattle.folder_commit.specs.Safe.{MayCommit};
 ghost use Rattle.mailx_top.specs.Crash.{IsSafe};
 ghost use Rattle.mailx_top.specs.Words.{asked, may_say, options_of, start_by, start_of};
-ghost use Rattle.mailx_top.specs.Trying.{Does, DoesSafely, IsRefused, tries_of};
+ghost use Rattle.mailx_top.specs.Trying.{Does, DoesSafely, IsRefused, IsTriesEnd, tries_of};
 ghost use Rattle.std.specs.Option.{option_and_then};
 ghost use Rattle.command_words.specs.Readings.{reading};
 
@@ -378,6 +378,8 @@ pub fn run<H: Host>(alloc: Global, words: &[Text], env: &Environment, host: &mut
     ensures complete { (start_of (asked words.now) env.now.pairs ≡ None → ⊥)
         → IsStill (H.world.counts host.old) (H.world.counts host.new)
         → (es : List Event) → IsComplete (asked words.now) env.now result es }
+    // A run that tries itself ends with 0, with 8 for want of memory, or with 4 if its output fails.
+    ensures tries { (n : ℕ) → tries_of (reading words.now) env.now.pairs ≡ Some n → IsTriesEnd result }
     // A folder whose word stands for no file, or for a name that no file can have, is none, whatever the host tells,
     // if no start-up file is read.
     ensures bad_name { IsBadName env.now (start_of (asked words.now) env.now.pairs) → IsUnopened result }

@@ -29,6 +29,9 @@ returns-in-Err-clause-safe g c = λ before es at to may.
 pub returns-in-Err-clause-complete : goal.returns-in-Err-clause-complete
 returns-in-Err-clause-complete g c = λ some still es run free. tt
 
+pub returns-in-Err-clause-tries : goal.returns-in-Err-clause-tries
+returns-in-Err-clause-tries g c = λ n is. tt
+
 -- a trial
 pub returns-in-Some-clause-run : goal.returns-in-Some-clause-run
 returns-in-Some-clause-run g c =
@@ -58,6 +61,9 @@ returns-in-Some-clause-complete g c = λ some.
     let none : start_of (asked c.args.words.now) env.pairs ≡ None =
     ap (λ (w : Option Wanted). start_of (option_and_then start_by w) env.pairs) (sym c.in-Ok.ensures) ∙ tries-start-none _ env.pairs _ (sym c.in-Some.ensures) in
     absurd (some none)
+
+pub returns-in-Some-clause-tries : goal.returns-in-Some-clause-tries
+returns-in-Some-clause-tries g c = λ n is. c.try_out.ensures.ends
 
 pub returns-in-Some-clause-bad_name : goal.returns-in-Some-clause-bad_name
 returns-in-Some-clause-bad_name g c = λ bad.
@@ -97,6 +103,11 @@ returns-clause-complete g c = λ some still es.
     let env = c.args.env.now in
     let C : Option Wanted → Type 0 = λ w. IsComplete (option_and_then start_by w) env c.carry_out.result es in
     subst C c.in-Ok.ensures (c.carry_out.ensures.complete (λ none. some (ap (λ (w : Option Wanted). start_of (option_and_then start_by w) env.pairs) (sym c.in-Ok.ensures) ∙ none)) still es)
+
+pub returns-clause-tries : goal.returns-clause-tries
+returns-clause-tries g c = λ n is.
+    let none = sym is ∙ ap (λ (w : Option Wanted). tries_of w c.args.env.now.pairs) (sym c.in-Ok.ensures) ∙ sym c.in-None.ensures in
+    absurd (cc none)
 
 pub returns-clause-bad_name : goal.returns-clause-bad_name
 returns-clause-bad_name g c = λ bad.
