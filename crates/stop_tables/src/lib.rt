@@ -18,7 +18,7 @@
 //! | `other` | a step of another that changes one which was |
 //! | `busy` | a lock or a right that the run doesn't get |
 //! | `held` | a load outside a commit that sees a lock |
-//! | `unread` | the user's start-up file can't be read; where nothing is wanted after turns with it, what is wanted without it is |
+//! | `unread` | the user's start-up file can't be read; if nothing is wanted after turns with it, that without it is |
 #![tactic(auto)]
 
 mod carrying;
