@@ -219,9 +219,11 @@ impl Aliases {
         }
     }
 
-    /// All aliases as they are listed, one a line, in order of first definition.
+    /// All aliases as they are listed, one a line, in order of first definition. Their names are distinct, and they have
+    /// at most 100,000 members together.
     pub fn lines(&self, alloc: Global) -> Result<Text, Memory>
-        ensures { IfOk result (λ lines. lines ≡ flat_map alias_line self.now) }
+        ensures lines { IfOk result (λ lines. lines ≡ flat_map alias_line self.now) }
+        ensures groups { AreGroups self.now }
     {
         let mut out = Text::new(alloc);
         for (name, members) in self.groups.iter() {
