@@ -1,5 +1,5 @@
 -- Entries and the lines that they stand on.
-use Rattle.std.proofs.Common.{◌≡◌, ℕ, ◌<◌, Bool, true, false, not, List, [], ◌∷◌, ◌++◌, length, length-append, get_or, map, refl, sym, ap, ◌∙◌, subst, arith, append_assoc, ⊎_elim}
+use Rattle.std.proofs.Common.{◌≡◌, ℕ, ◌<◌, Bool, true, false, not, List, [], ◌∷◌, ◌++◌, length, length-append, get_or, map, codes, refl, sym, ap, ◌∙◌, subst, arith, append_assoc, append-nil, ⊎_elim}
 use Rattle.std.specs.Bool.{if◌then◌else◌}
 use Rattle.std.specs.List.{join_with_byte, take_while, AllByRecursion}
 use Rattle.std.proofs.lemmas.Bool.{cond-true, cond-false, cases_Bool, false≢true}
@@ -10,7 +10,7 @@ use Rattle.mail_headers.specs.Field.{Field, is_folded, begins_field, field_of, f
 use Rattle.mail_headers.specs.Header.{Entry, field, other, entry_bytes, has_bytes, entries_from}
 use Rattle.mail_headers.proofs.EntryLemmas.{colon_split}
 use Rattle.mail_headers.proofs.FieldLemmas.{is_folded-begins, HasName-begins, name_length-append, join-lines, entries_from-field, entries_from-folded, entries_from-other, entries_from-unfolded, entries_from-nil}
-use Rattle.message_state.specs.Stamp.{is_status, without_status}
+use Rattle.message_state.specs.Stamp.{is_named, without, field_lines}
 use Rattle.message_state.proofs.StampLemmas.{after_feeds, after_feeds-append}
 
 -- a line of a header has a byte and no line feed
@@ -175,7 +175,7 @@ entries-StandOn true (l ∷ ls) lines =
     (cases_Bool (is_folded l)))
     (cases_Bool (begins_field l))
 
--- ---- without the `Status` fields
+-- ---- without the fields of a name
 
 StandOn-anywhere : (within : Bool) (es : List Entry) (ls : List (List ℕ)) → StandOn true es ls → StandOn within es ls
 StandOn-anywhere within [] ls on = on
@@ -202,28 +202,38 @@ other-HasLines within l es ls later on has = record {
 anywhere-HasLines : (within : Bool) (es : List Entry) → HasLines true es → HasLines within es
 anywhere-HasLines within es has = record { lines = has.lines; on = StandOn-anywhere within es has.lines has.on }
 
-pub without-head : (b : Bool) (e : Entry) (es : List Entry) → is_status e ≡ b → without_status (e ∷ es) ≡ (if not b then e ∷ without_status es else without_status es)
-without-head b e es is = ap (λ (x : Bool). if not x then e ∷ without_status es else without_status es) is
+pub without-head : (name : List ℕ) (b : Bool) (e : Entry) (es : List Entry) → is_named name e ≡ b → without name (e ∷ es) ≡ (if not b then e ∷ without name es else without name es)
+without-head name b e es is = ap (λ (x : Bool). if not x then e ∷ without name es else without name es) is
 
-pub without-HasLines : (within : Bool) (es : List Entry) (ls : List (List ℕ)) → StandOn within es ls → HasLines within (without_status es)
-without-HasLines within [] ls on = record { lines = []; on = refl }
-without-HasLines within (other l ∷ es) ls on = other-HasLines within l (without_status es) ls on.0 on.1 (without-HasLines false es on.0 on.2)
-without-HasLines within (field f ∷ es) ls on =
-    let later = without-HasLines true es on.0 on.2 in
+pub without-HasLines : (name : List ℕ) (within : Bool) (es : List Entry) (ls : List (List ℕ)) → StandOn within es ls → HasLines within (without name es)
+without-HasLines name within [] ls on = record { lines = []; on = refl }
+without-HasLines name within (other l ∷ es) ls on = other-HasLines within l (without name es) ls on.0 on.1 (without-HasLines name false es on.0 on.2)
+without-HasLines name within (field f ∷ es) ls on =
+    let later = without-HasLines name true es on.0 on.2 in
     ⊎_elim
-    (λ is. subst (HasLines within) (sym (without-head true (field f) es is)) (anywhere-HasLines within (without_status es) later))
-    (λ not_is. subst (HasLines within) (sym (without-head false (field f) es not_is)) (field-HasLines within f (without_status es) ls on.0 on.1 later))
-    (cases_Bool (is_status (field f)))
+    (λ is. subst (HasLines within) (sym (without-head name true (field f) es is)) (anywhere-HasLines within (without name es) later))
+    (λ not_is. subst (HasLines within) (sym (without-head name false (field f) es not_is)) (field-HasLines within f (without name es) ls on.0 on.1 later))
+    (cases_Bool (is_named name (field f)))
 
 -- ---- with a field last
 
-pub last-StandOn : (within : Bool) (es : List Entry) (ls : List (List ℕ)) (s : List ℕ) → begins_field s ≡ true → IsLine s → StandOn within es ls → StandOn within (es ++ field (field_of s) ∷ []) (ls ++ s ∷ [])
+last-StandOn : (within : Bool) (es : List Entry) (ls : List (List ℕ)) (s : List ℕ) → begins_field s ≡ true → IsLine s → StandOn within es ls → StandOn within (es ++ field (field_of s) ∷ []) (ls ++ s ∷ [])
 last-StandOn within [] ls s begins line on =
     ([], record { first = s; folded = []; whole = ap (λ (x : List (List ℕ)). x ++ s ∷ []) on; is = refl; begins = begins; first_line = line; are_lines = tt; are_folded = tt }, refl)
 last-StandOn within (field f ∷ es) ls s begins line on =
     (on.0 ++ s ∷ [], record { first = on.1.first; folded = on.1.folded; whole = ap (λ (x : List (List ℕ)). x ++ s ∷ []) on.1.whole ∙ ap (λ (x : List (List ℕ)). on.1.first ∷ x) (append_assoc on.1.folded on.0 (s ∷ [])); is = on.1.is; begins = on.1.begins; first_line = on.1.first_line; are_lines = on.1.are_lines; are_folded = on.1.are_folded }, last-StandOn true es on.0 s begins line on.2)
 last-StandOn within (other l ∷ es) ls s begins line on =
     (on.0 ++ s ∷ [], record { whole = ap (λ (x : List (List ℕ)). x ++ s ∷ []) on.1.whole; plain = on.1.plain; apart = on.1.apart; is_line = on.1.is_line }, last-StandOn false es on.0 s begins line on.2)
+
+-- the entry of a field's line, none if its value is empty
+abbrev pub new_entries : List ℕ → List ℕ → List Entry
+new_entries name [] = []
+new_entries name (b ∷ bs) = field (field_of (name ++ codes ": " ++ b ∷ bs)) ∷ []
+
+pub new-StandOn : (es : List Entry) (ls : List (List ℕ)) (name value : List ℕ) → begins_field (name ++ codes ": " ++ value) ≡ true → IsLine (name ++ codes ": " ++ value) → StandOn false es ls → StandOn false (es ++ new_entries name value) (ls ++ field_lines name value)
+new-StandOn es ls name [] begins line on =
+    subst (λ (x : List Entry). StandOn false x (ls ++ [])) (sym (append-nil es)) (subst (λ (x : List (List ℕ)). StandOn false es x) (sym (append-nil ls)) on)
+new-StandOn es ls name (b ∷ bs) begins line on = last-StandOn false es ls (name ++ codes ": " ++ b ∷ bs) begins line on
 
 -- ---- the bytes of the entries are those of their lines
 

@@ -33,6 +33,7 @@ found_last None = refl
 -- what was found, with what is left, makes the fields of a text
 pub record AreFound (t : List ℕ) (es : List Entry) (fields : RowFields) : Type 0 where
   pub status : found_with (codes "Status") fields.status es ≡ field_named (codes "Status") t
+  pub x_status : found_with (codes "X-Status") fields.x_status es ≡ field_named (codes "X-Status") t
   pub subject : found_with (codes "Subject") fields.subject es ≡ field_named (codes "Subject") t
   pub from : found_with (codes "From") fields.from es ≡ field_named (codes "From") t
   pub to : found_with (codes "To") fields.to es ≡ field_named (codes "To") t
@@ -42,9 +43,10 @@ pub record AreFound (t : List ℕ) (es : List Entry) (fields : RowFields) : Type
   pub reply : found_with (codes "In-Reply-To") fields.reply es ≡ field_named (codes "In-Reply-To") t
 
 -- nothing was found before the first entry
-pub are_found_first : (t : List ℕ) (es : List Entry) → es ≡ entries_of t → AreFound t es (record { status = None; subject = None; from = None; to = None; date = None; message_id = None; references = None; reply = None })
+pub are_found_first : (t : List ℕ) (es : List Entry) → es ≡ entries_of t → AreFound t es (record { status = None; x_status = None; subject = None; from = None; to = None; date = None; message_id = None; references = None; reply = None })
 are_found_first t es is = record {
   status = ap (find_named (codes "Status")) is;
+  x_status = ap (find_named (codes "X-Status")) is;
   subject = ap (find_named (codes "Subject")) is;
   from = ap (find_named (codes "From")) is;
   to = ap (find_named (codes "To")) is;
@@ -60,6 +62,7 @@ one_step t name old new e es is before = ap (λ (found : Option Field). found_wi
 pub are_found_step : (t : List ℕ) (old new : RowFields) (e : Entry) (es : List Entry) → AreWithEntry old e new → AreFound t (e ∷ es) old → AreFound t es new
 are_found_step t old new e es with_e before = record {
   status = one_step t (codes "Status") old.status new.status e es with_e.status before.status;
+  x_status = one_step t (codes "X-Status") old.x_status new.x_status e es with_e.x_status before.x_status;
   subject = one_step t (codes "Subject") old.subject new.subject e es with_e.subject before.subject;
   from = one_step t (codes "From") old.from new.from e es with_e.from before.from;
   to = one_step t (codes "To") old.to new.to e es with_e.to before.to;
@@ -72,6 +75,7 @@ are_found_step t old new e es with_e before = record {
 pub are_found_last : (t : List ℕ) (fields : RowFields) → AreFound t [] fields → AreFieldsOf t fields
 are_found_last t fields before = record {
   status = sym (found_last fields.status) ∙ before.status;
+  x_status = sym (found_last fields.x_status) ∙ before.x_status;
   subject = sym (found_last fields.subject) ∙ before.subject;
   from = sym (found_last fields.from) ∙ before.from;
   to = sym (found_last fields.to) ∙ before.to;

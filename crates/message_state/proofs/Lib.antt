@@ -5,9 +5,11 @@ pub mod CommentLemmas
 pub mod RowLemmas
 pub mod ProperLemmas
 pub mod TextsLemmas
-pub mod TakenLemmas
+pub mod NameLemmas
 pub mod StampLemmas
 pub mod StampLawLemmas
+pub mod FieldLines
+pub mod ValueLemmas
 pub mod TextLines
 pub mod LiveLemmas
 pub mod OrderLemmas

@@ -1,22 +1,26 @@
 -- A stamped text is proper where the text is.
 use Rattle.std.proofs.Common.{◌≡◌, ℕ, zero, suc, ◌+◌, ◌-◌, ◌<◌, ◌≤◌, Bool, true, false, List, [], ◌∷◌, ◌++◌, length, take, drop, get_or, Option, Some, None, codes, refl, sym, ap, subst, ◌∙◌, ⊎_elim, ◌⊎◌, inl, inr, arith, append_assoc, append-nil, length-append}
 use Rattle.std.specs.Prelude.{filter}
-use Rattle.std.specs.Bool.{if◌then◌else◌}
 use Rattle.std.specs.List.{range_with_len}
 use Rattle.std.proofs.lemmas.Bool.{cases_Bool, cases_lt, cond-true, cond-false, false≢true, and_from, eq-eqb}
 use Rattle.std.proofs.lemmas.List.{take_all, get_or-append_right, get_or-drop, length-take-le}
 use Rattle.memchr.specs.Find.{OccursAt}
-use Rattle.mail_headers.specs.Header.{from_line, header_lines, entries_of, has_two_feeds, body_of, EndsInNoFeed}
+use Rattle.mail_headers.specs.Header.{from_line, header_lines, has_two_feeds, body_of, EndsInNoFeed}
 use Rattle.mail_headers.proofs.FieldLemmas.{join-lines}
 use Rattle.mail_headers.proofs.LawLemmas.{parts-joined, two_feeds_is}
 use Rattle.mbox_scan.specs.Mailbox.{from_mark, two_feeds, break_mark, trimmed, is_start, starts, IsProper}
 use Rattle.mbox_scan.proofs.StartLemmas.{starts_with-OccursAt, OccursAt-starts_with, OccursAt-left, OccursAt-left_back, OccursAt-right, OccursAt-right_back, covers_no_feed, is_start-from, starts-single}
 use Rattle.mbox_scan.proofs.TextLemmas.{trimmed_len, trimmed_at, trimmed-take, trimmed-is}
+use Rattle.mail_text.specs.Lines.{HasNoFeed}
+use Rattle.message_state.specs.declared.mark.Flags.{Flags}
 use Rattle.message_state.specs.declared.mark.Mark.{Mark}
-use Rattle.message_state.specs.Stamp.{letters_of, has_letters, with_letters, stamped, body_part}
-use Rattle.message_state.specs.Status.{status_of}
-use Rattle.message_state.proofs.StampLemmas.{after_feeds, kept_part, text_of-is, with_letters-parts}
-use Rattle.message_state.proofs.StampLawLemmas.{stamp-rest}
+use Rattle.message_state.specs.Stamp.{letters_of, has_letters, with_value, with_letters, same_flags, flags_value, with_flags, stamped, body_part}
+use Rattle.message_state.specs.Status.{status_of, x_status_of, flags_of}
+use Rattle.message_state.proofs.StampLemmas.{after_feeds, text_of-is}
+use Rattle.message_state.proofs.EntryLines.{IsLine, AreLines}
+use Rattle.message_state.proofs.TextLines.{from_line-apart}
+use Rattle.message_state.proofs.FieldLines.{HasNewValue}
+use Rattle.message_state.proofs.StampLawLemmas.{letters-new, flags-new}
 
 -- ---- breaks
 
@@ -181,15 +185,22 @@ ends-same s t body of_s of_t last some feed =
     (omega (arith, ap (λ (l : List ℕ). length l) in_t.is, length-append in_t.front behind))
     (ap (λ (l : List ℕ). get_or l (length l - 1) 0) in_t.is ∙ last-behind in_t.front behind (omega arith) ∙ of_last)
 
-last-is : (front back : List ℕ) (b : ℕ) → get_or (front ++ (back ++ b ∷ [])) (length (front ++ (back ++ b ∷ [])) - 1) 0 ≡ b
-last-is front back b = last-behind front (back ++ b ∷ []) (omega (arith, length-append back (b ∷ []))) ∙ last-behind back (b ∷ []) (omega arith)
+line-untrimmed : (front l : List ℕ) → IsLine l → IsUntrimmed (front ++ 10 ∷ l)
+line-untrimmed front [] line some feed = absurd (false≢true line.bytes)
+line-untrimmed front (b ∷ l) line some feed =
+    let place : length (10 ∷ b ∷ l) - 1 ≡ suc (length (b ∷ l) - 1) = omega arith in
+    let last : get_or (b ∷ l) (length (b ∷ l) - 1) 0 ≡ 10 =
+    sym (ap (λ (i : ℕ). get_or (10 ∷ b ∷ l) i 0) place) ∙ sym (last-behind front (10 ∷ b ∷ l) (omega arith)) ∙ feed in
+    line.apart (length (b ∷ l) - 1) 0 (omega arith) last
 
-no-feed : (b : ℕ) → b ≡ 79 → b ≡ 10 → ⊥
-no-feed b letter feed = omega arith
+-- lines put behind a text that doesn't end in a line feed
+lines-untrimmed : (front : List ℕ) (ls : List (List ℕ)) → AreLines ls → IsUntrimmed front → IsUntrimmed (front ++ after_feeds ls)
+lines-untrimmed front [] lines last = subst IsUntrimmed (sym (append-nil front)) last
+lines-untrimmed front (l ∷ ls) lines last =
+    subst IsUntrimmed (append_assoc front (10 ∷ l) (after_feeds ls)) (lines-untrimmed (front ++ 10 ∷ l) ls lines.1 (line-untrimmed front l lines.0))
 
-last-letter : (seen : Bool) (front : List ℕ) → IsUntrimmed (front ++ (if seen then codes "RO" else codes "O"))
-last-letter true front some feed = no-feed _ (last-is front (82 ∷ []) 79) feed
-last-letter false front some feed = no-feed _ (last-is front [] 79) feed
+apart-untrimmed : (l : List ℕ) → HasNoFeed l → IsUntrimmed l
+apart-untrimmed l apart some feed = apart (length l - 1) 0 (omega arith) feed
 
 -- ---- fronts
 
@@ -237,32 +248,32 @@ proper-from t begins none last = record {
   one_start = starts-single t begins (λ k low high there. none k there);
 }
 
-with_letters-proper : (t : List ℕ) (m : Mark) (body : Option (List ℕ)) → body_of t ≡ body → body_of (with_letters (letters_of m) t) ≡ body_of t → IsProper t → IsProper (with_letters (letters_of m) t)
-with_letters-proper t m body of_t same proper =
-    let s = with_letters (letters_of m) t in
-    let parts = with_letters-parts (letters_of m) t in
-    let kept = kept_part (entries_of t) in
-    let shape : s ≡ from_line t ++ (kept ++ (codes "\nStatus: " ++ (letters_of m ++ body_part (body_of t)))) =
-    parts
-    ∙ append_assoc ((from_line t ++ kept) ++ codes "\nStatus: ") (letters_of m) (body_part (body_of t))
-    ∙ append_assoc (from_line t ++ kept) (codes "\nStatus: ") (letters_of m ++ body_part (body_of t))
-    ∙ append_assoc (from_line t) kept (codes "\nStatus: " ++ (letters_of m ++ body_part (body_of t))) in
-    let begins : OccursAt s from_mark 0 = subst (λ (l : List ℕ). OccursAt l from_mark 0) (sym shape) (OccursAt-left (from_line t) _ from_mark 0 (from-line t proper)) in
-    proper-from s begins (breaks-same s t (body_of t) same refl (no-break t proper)) (ends-by t m body of_t (same ∙ of_t) (untrimmed-is t proper.ends))
+new-proper : (name value t s : List ℕ) → HasNewValue name value t s → IsProper t → IsProper s
+new-proper name value t s new proper =
+    let begins : OccursAt s from_mark 0 = subst (λ (l : List ℕ). OccursAt l from_mark 0) (sym new.written) (OccursAt-left (from_line t) _ from_mark 0 (from-line t proper)) in
+    proper-from s begins (breaks-same s t (body_of t) new.body refl (no-break t proper)) (ends-by t s new.lines (body_of t) refl new.body new.are_lines new.written (untrimmed-is t proper.ends))
   where
-    ends-by : (t : List ℕ) (m : Mark) (body : Option (List ℕ)) → body_of t ≡ body → body_of (with_letters (letters_of m) t) ≡ body → IsUntrimmed t → IsUntrimmed (with_letters (letters_of m) t)
-    ends-by t m (Some body) of_t of_s last = ends-same (with_letters (letters_of m) t) t body of_s of_t last
-    ends-by t m None of_t of_s last =
-        let front = (from_line t ++ kept_part (entries_of t)) ++ codes "\nStatus: " in
-        let shape : with_letters (letters_of m) t ≡ front ++ letters_of m =
-        with_letters-parts (letters_of m) t ∙ ap (λ (o : Option (List ℕ)). (front ++ letters_of m) ++ body_part o) of_t ∙ append-nil (front ++ letters_of m) in
-        subst IsUntrimmed (sym shape) (last-letter m.seen front)
+    ends-by : (t s : List ℕ) (ls : List (List ℕ)) (body : Option (List ℕ)) → body_of t ≡ body → body_of s ≡ body_of t → AreLines ls → s ≡ from_line t ++ (after_feeds ls ++ body_part (body_of t)) → IsUntrimmed t → IsUntrimmed s
+    ends-by t s ls (Some body) of_t same lines written last = ends-same s t body (same ∙ of_t) of_t last
+    ends-by t s ls None of_t same lines written last =
+        let shape : s ≡ from_line t ++ after_feeds ls =
+        written ∙ ap (λ (o : Option (List ℕ)). from_line t ++ (after_feeds ls ++ body_part o)) of_t ∙ ap (λ (l : List ℕ). from_line t ++ l) (append-nil (after_feeds ls)) in
+        subst IsUntrimmed (sym shape) (lines-untrimmed (from_line t) ls lines (apart-untrimmed (from_line t) (from_line-apart t)))
 
-pub stamped-proper : (t : List ℕ) (m : Mark) → IsProper t → IsProper (stamped t m)
-stamped-proper t m proper =
+letters-proper : (m : Mark) (t : List ℕ) → IsProper t → IsProper (with_letters m t)
+letters-proper m t proper =
     ⊎_elim
     (λ has. subst IsProper (sym (cond-true _ _ _ has)) proper)
-    (λ lacks.
-    let is : stamped t m ≡ with_letters (letters_of m) t = cond-false _ _ _ lacks in
-    subst IsProper (sym is) (with_letters-proper t m (body_of t) refl (ap body_of (sym is) ∙ (stamp-rest t m).body) proper))
+    (λ lacks. subst IsProper (sym (cond-false _ _ _ lacks)) (new-proper (codes "Status") (letters_of m) t (with_value (codes "Status") (letters_of m) t) (letters-new m t) proper))
     (cases_Bool (has_letters (letters_of m) (status_of t)))
+
+flags-proper : (flags : Flags) (t : List ℕ) → IsProper t → IsProper (with_flags flags t)
+flags-proper flags t proper =
+    let value = flags_value flags (x_status_of t) in
+    ⊎_elim
+    (λ has. subst IsProper (sym (cond-true _ _ _ has)) proper)
+    (λ lacks. subst IsProper (sym (cond-false _ _ _ lacks)) (new-proper (codes "X-Status") value t (with_value (codes "X-Status") value t) (flags-new flags t) proper))
+    (cases_Bool (same_flags (flags_of t) flags))
+
+pub stamped-proper : (t : List ℕ) (m : Mark) → IsProper t → IsProper (stamped t m)
+stamped-proper t m proper = flags-proper m.flags (with_letters m t) (letters-proper m t proper)

@@ -1,121 +1,49 @@
--- The parts of a stamped text, and what its `Status` field says.
-use Rattle.std.proofs.Common.{◌≡◌, ℕ, Bool, true, false, not, ◌==◌, ◌||◌, List, [], ◌∷◌, ◌++◌, map, Option, Some, None, codes, refl, sym, ap, ◌∙◌, append_assoc, ⊎_elim}
+-- What the fields `Status` and `X-Status` of a stamped text say, and what it keeps.
+use Rattle.std.proofs.Common.{◌≡◌, ℕ, Bool, true, false, List, [], ◌∷◌, Option, Some, None, codes, refl, sym, ap, ◌∙◌, subst, ⊎_elim}
 use Rattle.std.specs.Bool.{if◌then◌else◌}
 use Rattle.std.specs.Option.{option_map}
-use Rattle.std.specs.List.{find, filter_map}
-use Rattle.std.proofs.lemmas.Bool.{cond-true, cond-false, cases_Bool, false≢true, eqb-true, or_cases}
+use Rattle.std.proofs.lemmas.Bool.{cond-true, cond-false, cases_Bool, false≢true, and_parts, and_from}
 use Rattle.std.proofs.lemmas.Slice.Eq.{bytes_eq-Decides}
-use Rattle.mail_text.specs.Ascii.{same_ascii}
-use Rattle.mail_text.specs.Lines.{lines_of}
-use Rattle.mail_headers.specs.Field.{Field, begins_field, field_of, unfolded, without_feeds, unless_last_blank, trim_start, trim_end}
-use Rattle.mail_text.specs.Ascii.{is_blank}
-use Rattle.mail_headers.specs.Header.{Entry, field, other, entry_bytes, field_in, from_line, header_lines, entries_of, entries_from, body_of}
-use Rattle.mail_headers.proofs.FieldLemmas.{join-lines}
+use Rattle.mail_text.specs.Lines.{lines_of, HasNoFeed}
+use Rattle.mail_headers.specs.Field.{Field, field_of, unfolded, trim_start, trim_end}
+use Rattle.mail_headers.specs.Header.{from_line, entries_of, body_of}
+use Rattle.message_state.specs.declared.mark.Flags.{Flags}
 use Rattle.message_state.specs.declared.mark.Mark.{Mark}
 use Rattle.message_state.specs.declared.mark.State.TheVariants.{New, Unread, Read}
-use Rattle.message_state.specs.Status.{status_of, has_letter, mark_of_value, mark_of_status, mark_of}
-use Rattle.message_state.specs.Stamp.{letters_of, has_letters, is_status, without_status, status_line, stamped_header, with_letters, body_part, stamped}
-use Rattle.message_state.specs.StampLaws.{letters_in, HasTheRest}
-use Rattle.message_state.proofs.StampLemmas.{after_feeds, after_feeds-append, text_of-is}
-use Rattle.message_state.proofs.EntryLines.{without-head, IsLine, HasLines, entries-StandOn, without-HasLines, last-StandOn, StandOn-entries, StandOn-bytes, StandOn-lines}
-use Rattle.message_state.proofs.TextLines.{last-parts, from_line-apart, header_lines-lines, apart-one}
+use Rattle.message_state.specs.Status.{status_of, x_status_of, raw_value, has_letter, flags_in, flags_of, mark_of}
+use Rattle.message_state.specs.Stamp.{without, with_value, letters_of, has_letters, with_letters, same_flags, flags_value, with_flags, stamped, is_stamped}
+use Rattle.message_state.specs.StampLaws.{letters_in, HasTheRest, IsLeftExactly, without_marks, foreign_letters}
+use Rattle.message_state.proofs.FieldLines.{IsFieldLine, HasNewValue, with_value-is, new_field, first-new, first-another, rest-kept, without-swap, status-line, x_status-line}
+use Rattle.message_state.proofs.TextLines.{apart-one}
+use Rattle.message_state.proofs.ValueLemmas.{foreign_in, foreign-kept, letter-unfolded, flags-read, same_flags-is, same_flags-of, value-apart}
 
--- ---- the line of a mark's letters
+-- ---- the field of a mark's letters
 
--- the line is a field `Status` with these letters
-pub record IsStatusLine (letters : List ℕ) : Type 0 where
-  begins : begins_field (status_line letters) ≡ true
-  line : IsLine (status_line letters)
-  named : is_status (field (field_of (status_line letters))) ≡ true
-  value : unfolded (field_of (status_line letters)) ≡ letters
+-- the letters have no line feed, and a field with them reads as them
+record AreLetters (letters : List ℕ) : Type 0 where
+  apart : HasNoFeed letters
+  reads : option_map unfolded (new_field (codes "Status") letters) ≡ Some letters
 
-seen-line : IsStatusLine (codes "RO")
+seen-letters : AreLetters (codes "RO")
 unfolding lines_of field_of trim_start trim_end
-seen-line = record { begins = refl; line = record { apart = apart-one (status_line (codes "RO")) refl; bytes = refl }; named = refl; value = refl }
+seen-letters = record { apart = apart-one (codes "RO") refl; reads = refl }
 
-unseen-line : IsStatusLine (codes "O")
+unseen-letters : AreLetters (codes "O")
 unfolding lines_of field_of trim_start trim_end
-unseen-line = record { begins = refl; line = record { apart = apart-one (status_line (codes "O")) refl; bytes = refl }; named = refl; value = refl }
+unseen-letters = record { apart = apart-one (codes "O") refl; reads = refl }
 
-line-by : (seen : Bool) → IsStatusLine (if seen then codes "RO" else codes "O")
-line-by true = seen-line
-line-by false = unseen-line
+letters-by : (seen : Bool) → AreLetters (if seen then codes "RO" else codes "O")
+letters-by true = seen-letters
+letters-by false = unseen-letters
 
-letters-line : (m : Mark) → IsStatusLine (letters_of m)
-letters-line m = line-by m.seen
+letters-are : (m : Mark) → AreLetters (letters_of m)
+letters-are m = letters-by m.seen
 
--- ---- the parts of a text with a new line
+letters-line : (m : Mark) → IsFieldLine (codes "Status") (letters_of m)
+letters-line m = status-line (letters_of m) (letters-are m).apart
 
--- the entries of the new header
-abbrev new_entries : List ℕ → List ℕ → List Entry
-new_entries letters t = without_status (entries_of t) ++ field (field_of (status_line letters)) ∷ []
-
-record IsStamped (letters t s : List ℕ) : Type 0 where
-  from_line : from_line s ≡ from_line t
-  entries : entries_of s ≡ new_entries letters t
-  body : body_of s ≡ body_of t
-
-kept-lines : (t : List ℕ) → HasLines false (without_status (entries_of t))
-kept-lines t = without-HasLines false (entries_of t) (header_lines t) (entries-StandOn false (header_lines t) (header_lines-lines t))
-
-with_letters-lines : (letters t : List ℕ) (kept : HasLines false (without_status (entries_of t))) → with_letters letters t ≡ from_line t ++ (after_feeds (kept.lines ++ status_line letters ∷ []) ++ body_part (body_of t))
-with_letters-lines letters t kept =
-    text_of-is (from_line t) (stamped_header letters t) (body_of t)
-    ∙ ap (λ (x : List ℕ). x ++ body_part (body_of t))
-    (join-lines (from_line t) (stamped_header letters t)
-    ∙ ap (λ (x : List ℕ). from_line t ++ x)
-    (after_feeds-append (map entry_bytes (without_status (entries_of t))) (status_line letters ∷ [])
-    ∙ ap (λ (x : List ℕ). x ++ after_feeds (status_line letters ∷ [])) (StandOn-bytes false (without_status (entries_of t)) kept.lines kept.on)
-    ∙ sym (after_feeds-append kept.lines (status_line letters ∷ []))))
-    ∙ append_assoc (from_line t) (after_feeds (kept.lines ++ status_line letters ∷ [])) (body_part (body_of t))
-
-with_letters-is : (letters t : List ℕ) → IsStatusLine letters → IsStamped letters t (with_letters letters t)
-with_letters-is letters t is =
-    let kept = kept-lines t in
-    let on = last-StandOn false (without_status (entries_of t)) kept.lines (status_line letters) is.begins is.line kept.on in
-    let lines = StandOn-lines false (new_entries letters t) (kept.lines ++ status_line letters ∷ []) on in
-    let parts = last-parts (with_letters letters t) (from_line t) (status_line letters) kept.lines (body_of t) (with_letters-lines letters t kept) (from_line-apart t) lines in
-    record {
-      from_line = parts.from_line;
-      entries = ap (entries_from false) parts.header_lines ∙ StandOn-entries false (new_entries letters t) (kept.lines ++ status_line letters ∷ []) on;
-      body = parts.body_of;
-    }
-
--- ---- its first `Status` field
-
-abbrev find_status : List Entry → Option Field
-find_status es = find (λ f. same_ascii f.name (codes "Status")) (filter_map field_in es)
-
-find_status-past : (es rest : List Entry) → find_status (without_status es ++ rest) ≡ find_status rest
-find_status-past [] rest = refl
-find_status-past (other l ∷ es) rest = find_status-past es rest
-find_status-past (field f ∷ es) rest =
-    ⊎_elim
-    (λ is. ap (λ (x : List Entry). find_status (x ++ rest)) (without-head true (field f) es is) ∙ find_status-past es rest)
-    (λ not_is. ap (λ (x : List Entry). find_status (x ++ rest)) (without-head false (field f) es not_is) ∙ cond-false _ _ _ not_is ∙ find_status-past es rest)
-    (cases_Bool (is_status (field f)))
-
-status_of-stamped : (letters t s : List ℕ) → IsStatusLine letters → IsStamped letters t s → status_of s ≡ Some (field_of (status_line letters))
-status_of-stamped letters t s is new =
-    ap find_status new.entries
-    ∙ find_status-past (entries_of t) (field (field_of (status_line letters)) ∷ [])
-    ∙ cond-true _ _ _ is.named
-
-without-last : (f : Field) (es : List Entry) → is_status (field f) ≡ true → without_status (without_status es ++ field f ∷ []) ≡ without_status es
-without-last f [] named = without-head true (field f) [] named
-without-last f (other l ∷ es) named = ap (λ (x : List Entry). other l ∷ x) (without-last f es named)
-without-last f (field g ∷ es) named =
-    let last = λ (x : List Entry). without_status (x ++ field f ∷ []) in
-    ⊎_elim
-    (λ is. ap last (without-head true (field g) es is) ∙ without-last f es named ∙ sym (without-head true (field g) es is))
-    (λ not_is.
-    ap last (without-head false (field g) es not_is)
-    ∙ without-head false (field g) (without_status es ++ field f ∷ []) not_is
-    ∙ ap (λ (x : List Entry). field g ∷ x) (without-last f es named)
-    ∙ sym (without-head false (field g) es not_is))
-    (cases_Bool (is_status (field g)))
-
--- ---- the laws
+pub letters-new : (m : Mark) (t : List ℕ) → HasNewValue (codes "Status") (letters_of m) t (with_value (codes "Status") (letters_of m) t)
+letters-new m t = with_value-is (codes "Status") (letters_of m) t (letters-line m)
 
 has_letters-true : (letters : List ℕ) (found : Option Field) → has_letters letters found ≡ true → option_map unfolded found ≡ Some letters
 has_letters-true letters None has = absurd (false≢true has)
@@ -125,130 +53,202 @@ has_letters-of : (letters : List ℕ) (found : Option Field) → option_map unfo
 has_letters-of letters None is = cc
 has_letters-of letters (Some f) is = let same : unfolded f ≡ letters = cc in (bytes_eq-Decides (unfolded f) letters).1 same
 
-stamped-same : (t : List ℕ) (m : Mark) → has_letters (letters_of m) (status_of t) ≡ true → stamped t m ≡ t
-stamped-same t m has = cond-true _ _ _ has
+letters-same : (m : Mark) (t : List ℕ) → has_letters (letters_of m) (status_of t) ≡ true → with_letters m t ≡ t
+letters-same m t has = cond-true _ _ _ has
 
-stamped-new : (t : List ℕ) (m : Mark) → has_letters (letters_of m) (status_of t) ≡ false → stamped t m ≡ with_letters (letters_of m) t
-stamped-new t m lacks = cond-false _ _ _ lacks
+letters-set : (m : Mark) (t : List ℕ) → has_letters (letters_of m) (status_of t) ≡ false → with_letters m t ≡ with_value (codes "Status") (letters_of m) t
+letters-set m t lacks = cond-false _ _ _ lacks
+
+letters-read : (m : Mark) (t : List ℕ) → letters_in (with_letters m t) ≡ Some (letters_of m)
+letters-read m t =
+    ⊎_elim
+    (λ has. ap letters_in (letters-same m t has) ∙ has_letters-true (letters_of m) (status_of t) has)
+    (λ lacks.
+    ap letters_in (letters-set m t lacks)
+    ∙ ap (option_map unfolded) (first-new (codes "Status") (letters_of m) t (with_value (codes "Status") (letters_of m) t) (letters-line m) (letters-new m t))
+    ∙ (letters-are m).reads)
+    (cases_Bool (has_letters (letters_of m) (status_of t)))
+
+-- letters leave the other field
+letters-beside : (m : Mark) (t : List ℕ) → x_status_of (with_letters m t) ≡ x_status_of t
+letters-beside m t =
+    ⊎_elim
+    (λ has. ap x_status_of (letters-same m t has))
+    (λ lacks.
+    ap x_status_of (letters-set m t lacks)
+    ∙ first-another (codes "Status") (codes "X-Status") (letters_of m) t (with_value (codes "Status") (letters_of m) t) refl (letters-line m) (letters-new m t))
+    (cases_Bool (has_letters (letters_of m) (status_of t)))
+
+nothing-differs : (name t s : List ℕ) → s ≡ t → HasTheRest (without name) t s
+nothing-differs name t s same = record { from_line = ap from_line same; entries = ap (λ (x : List ℕ). without name (entries_of x)) same; body = ap body_of same }
+
+rest-as : (name t s r : List ℕ) → r ≡ s → HasTheRest (without name) t s → HasTheRest (without name) t r
+rest-as name t s r is rest = subst (HasTheRest (without name) t) (sym is) rest
+
+letters-rest : (m : Mark) (t : List ℕ) → HasTheRest (without (codes "Status")) t (with_letters m t)
+letters-rest m t =
+    ⊎_elim
+    (λ has. nothing-differs (codes "Status") t (with_letters m t) (letters-same m t has))
+    (λ lacks.
+    let s = with_value (codes "Status") (letters_of m) t in
+    rest-as (codes "Status") t s (with_letters m t) (letters-set m t lacks) (rest-kept (codes "Status") (letters_of m) t s (letters-line m) (letters-new m t)))
+    (cases_Bool (has_letters (letters_of m) (status_of t)))
+
+-- ---- the field of flags
+
+flags-line : (flags : Flags) (t : List ℕ) → IsFieldLine (codes "X-Status") (flags_value flags (x_status_of t))
+flags-line flags t = x_status-line (flags_value flags (x_status_of t)) (value-apart flags (x_status_of t))
+
+pub flags-new : (flags : Flags) (t : List ℕ) → HasNewValue (codes "X-Status") (flags_value flags (x_status_of t)) t (with_value (codes "X-Status") (flags_value flags (x_status_of t)) t)
+flags-new flags t = with_value-is (codes "X-Status") (flags_value flags (x_status_of t)) t (flags-line flags t)
+
+flags-same : (flags : Flags) (t : List ℕ) → same_flags (flags_of t) flags ≡ true → with_flags flags t ≡ t
+flags-same flags t has = cond-true _ _ _ has
+
+flags-set : (flags : Flags) (t : List ℕ) → same_flags (flags_of t) flags ≡ false → with_flags flags t ≡ with_value (codes "X-Status") (flags_value flags (x_status_of t)) t
+flags-set flags t lacks = cond-false _ _ _ lacks
+
+x_status-set : (flags : Flags) (t : List ℕ) → same_flags (flags_of t) flags ≡ false → x_status_of (with_flags flags t) ≡ new_field (codes "X-Status") (flags_value flags (x_status_of t))
+x_status-set flags t lacks =
+    let value = flags_value flags (x_status_of t) in
+    ap x_status_of (flags-set flags t lacks)
+    ∙ first-new (codes "X-Status") value t (with_value (codes "X-Status") value t) (flags-line flags t) (flags-new flags t)
+
+-- a space in front is no letter
+read-value : (name value : List ℕ) → IsFieldLine name value → flags_in (raw_value (new_field name value)) ≡ flags_in value
+read-value name [] is = refl
+read-value name (b ∷ bs) is = ap flags_in is.value_is
+
+foreign-value : (name value : List ℕ) → IsFieldLine name value → foreign_in (raw_value (new_field name value)) ≡ foreign_in value
+foreign-value name [] is = refl
+foreign-value name (b ∷ bs) is = ap foreign_in is.value_is
+
+flags-given : (flags : Flags) (t : List ℕ) → flags_of (with_flags flags t) ≡ flags
+flags-given flags t =
+    ⊎_elim
+    (λ has. ap flags_of (flags-same flags t has) ∙ same_flags-is (flags_of t) flags has)
+    (λ lacks.
+    ap (λ (x : Option Field). flags_in (raw_value x)) (x_status-set flags t lacks)
+    ∙ read-value (codes "X-Status") (flags_value flags (x_status_of t)) (flags-line flags t)
+    ∙ flags-read flags (x_status_of t))
+    (cases_Bool (same_flags (flags_of t) flags))
+
+flags-others : (flags : Flags) (t : List ℕ) → foreign_letters (with_flags flags t) ≡ foreign_letters t
+flags-others flags t =
+    ⊎_elim
+    (λ has. ap foreign_letters (flags-same flags t has))
+    (λ lacks.
+    ap (λ (x : Option Field). foreign_in (raw_value x)) (x_status-set flags t lacks)
+    ∙ foreign-value (codes "X-Status") (flags_value flags (x_status_of t)) (flags-line flags t)
+    ∙ foreign-kept flags (x_status_of t))
+    (cases_Bool (same_flags (flags_of t) flags))
+
+flags-beside : (flags : Flags) (t : List ℕ) → status_of (with_flags flags t) ≡ status_of t
+flags-beside flags t =
+    ⊎_elim
+    (λ has. ap status_of (flags-same flags t has))
+    (λ lacks.
+    let value = flags_value flags (x_status_of t) in
+    ap status_of (flags-set flags t lacks)
+    ∙ first-another (codes "X-Status") (codes "Status") value t (with_value (codes "X-Status") value t) refl (flags-line flags t) (flags-new flags t))
+    (cases_Bool (same_flags (flags_of t) flags))
+
+flags-rest : (flags : Flags) (t : List ℕ) → HasTheRest (without (codes "X-Status")) t (with_flags flags t)
+flags-rest flags t =
+    ⊎_elim
+    (λ has. nothing-differs (codes "X-Status") t (with_flags flags t) (flags-same flags t has))
+    (λ lacks.
+    let value = flags_value flags (x_status_of t) in
+    let s = with_value (codes "X-Status") value t in
+    rest-as (codes "X-Status") t s (with_flags flags t) (flags-set flags t lacks) (rest-kept (codes "X-Status") value t s (flags-line flags t) (flags-new flags t)))
+    (cases_Bool (same_flags (flags_of t) flags))
+
+-- ---- both
 
 pub stamp-reads : (t : List ℕ) (m : Mark) → letters_in (stamped t m) ≡ Some (letters_of m)
-stamp-reads t m =
-    ⊎_elim
-    (λ has. ap letters_in (stamped-same t m has) ∙ has_letters-true (letters_of m) (status_of t) has)
-    (λ lacks.
-    let line = letters-line m in
-    ap letters_in (stamped-new t m lacks)
-    ∙ ap (option_map unfolded) (status_of-stamped (letters_of m) t (with_letters (letters_of m) t) line (with_letters-is (letters_of m) t line))
-    ∙ ap (λ (x : List ℕ). Some x) line.value)
-    (cases_Bool (has_letters (letters_of m) (status_of t)))
+stamp-reads t m = ap (option_map unfolded) (flags-beside m.flags (with_letters m t)) ∙ letters-read m t
+
+pub stamp-flags : (t : List ℕ) (m : Mark) → flags_of (stamped t m) ≡ m.flags
+stamp-flags t m = flags-given m.flags (with_letters m t)
+
+pub stamp-others : (t : List ℕ) (m : Mark) → foreign_letters (stamped t m) ≡ foreign_letters t
+stamp-others t m = flags-others m.flags (with_letters m t) ∙ ap (λ (x : Option Field). foreign_in (raw_value x)) (letters-beside m t)
+
+flags-after : (t : List ℕ) (m : Mark) → flags_of (with_letters m t) ≡ flags_of t
+flags-after t m = ap (λ (x : Option Field). flags_in (raw_value x)) (letters-beside m t)
+
+-- a text with the letters and the flags of the mark is its own stamped text
+pub stamp-same : (t : List ℕ) (m : Mark) → is_stamped t m ≡ true → stamped t m ≡ t
+stamp-same t m is =
+    let has = and_parts (has_letters (letters_of m) (status_of t)) (same_flags (flags_of t) m.flags) is in
+    let same = letters-same m t has.0 in
+    ap (with_flags m.flags) same ∙ flags-same m.flags t has.1
+
+-- and only such a text
+pub stamp-fixed : (t : List ℕ) (m : Mark) → stamped t m ≡ t → is_stamped t m ≡ true
+stamp-fixed t m same =
+    and_from _ _
+    (has_letters-of (letters_of m) (status_of t) (ap letters_in (sym same) ∙ stamp-reads t m))
+    (same_flags-of (flags_of t) m.flags (ap flags_of (sym same) ∙ stamp-flags t m))
+
+pub stamp-left : (t : List ℕ) (m : Mark) → IsLeftExactly t m
+stamp-left t m = record { left = stamp-same t m; has = stamp-fixed t m }
+
+stamp-has : (t : List ℕ) (m : Mark) → is_stamped (stamped t m) m ≡ true
+stamp-has t m = and_from _ _ (has_letters-of (letters_of m) (status_of (stamped t m)) (stamp-reads t m)) (same_flags-of (flags_of (stamped t m)) m.flags (stamp-flags t m))
 
 pub stamp-once : (t : List ℕ) (m : Mark) → stamped (stamped t m) m ≡ stamped t m
-stamp-once t m = stamped-same (stamped t m) m (has_letters-of (letters_of m) (status_of (stamped t m)) (stamp-reads t m))
+stamp-once t m = stamp-same (stamped t m) m (stamp-has t m)
 
-pub stamp-rest : (t : List ℕ) (m : Mark) → HasTheRest t (stamped t m)
+pub stamp-rest : (t : List ℕ) (m : Mark) → HasTheRest without_marks t (stamped t m)
 stamp-rest t m =
-    ⊎_elim
-    (λ has.
-    let same = stamped-same t m has in
+    let one = letters-rest m t in
+    let two = flags-rest m.flags (with_letters m t) in
+    let status = codes "Status" in
+    let x_status = codes "X-Status" in
     record {
-      from_line = ap from_line same;
-      entries = ap (λ (x : List ℕ). without_status (entries_of x)) same;
-      body = ap body_of same;
-    })
-    (λ lacks.
-    let new = stamped-new t m lacks in
-    let line = letters-line m in
-    let is = with_letters-is (letters_of m) t line in
-    record {
-      from_line = ap from_line new ∙ is.from_line;
-      entries = ap (λ (x : List ℕ). without_status (entries_of x)) new ∙ ap without_status is.entries ∙ without-last (field_of (status_line (letters_of m))) (entries_of t) line.named;
-      body = ap body_of new ∙ is.body;
-    })
-    (cases_Bool (has_letters (letters_of m) (status_of t)))
+      from_line = two.from_line ∙ one.from_line;
+      entries =
+          without-swap x_status status (entries_of (stamped t m))
+          ∙ ap (without status) two.entries
+          ∙ without-swap status x_status (entries_of (with_letters m t))
+          ∙ ap (without x_status) one.entries;
+      body = two.body ∙ one.body;
+    }
+
+pub stamp-keeps_flags : (t : List ℕ) (m : Mark) → flags_of t ≡ m.flags → HasTheRest (without (codes "Status")) t (stamped t m)
+stamp-keeps_flags t m same =
+    rest-as (codes "Status") t (with_letters m t) (stamped t m)
+    (flags-same m.flags (with_letters m t) (same_flags-of (flags_of (with_letters m t)) m.flags (flags-after t m ∙ same)))
+    (letters-rest m t)
+
+pub stamp-keeps_letters : (t : List ℕ) (m : Mark) → letters_in t ≡ Some (letters_of m) → HasTheRest (without (codes "X-Status")) t (stamped t m)
+stamp-keeps_letters t m same =
+    rest-as (codes "X-Status") t (with_flags m.flags t) (stamped t m)
+    (ap (with_flags m.flags) (letters-same m t (has_letters-of (letters_of m) (status_of t) same)))
+    (flags-rest m.flags t)
 
 -- ---- the mark of a stamped text
 
--- the letter that tells that a message was seen
-abbrev has_r : List ℕ → Bool
-has_r value = has_letter 82 value
+abbrev marked_by : Bool → Bool → Flags → Mark
+marked_by read old flags = if read then record { state = Read; seen = true; flags = flags } else (if old then record { state = Unread; seen = false; flags = flags } else record { state = New; seen = false; flags = flags })
 
-has_r-skip : (b : ℕ) (bs : List ℕ) → (b == 82) ≡ false → has_r (b ∷ bs) ≡ has_r bs
-has_r-skip b bs differs = ap (λ (x : Bool). x || has_r bs) differs
+seen-by : (read old : Bool) (flags : Flags) → (marked_by read old flags).seen ≡ read
+seen-by true old flags = refl
+seen-by false true flags = refl
+seen-by false false flags = refl
 
-has_r-without_feeds : (bs : List ℕ) → has_r (without_feeds bs) ≡ has_r bs
-has_r-without_feeds [] = refl
-has_r-without_feeds (b ∷ bs) =
-    let head = λ (x : Bool). has_r (if not x then b ∷ without_feeds bs else without_feeds bs) in
-    ⊎_elim
-    (λ is. ap head is ∙ has_r-without_feeds bs ∙ sym (has_r-skip b bs (ap (λ (x : ℕ). x == 82) (eqb-true b 10 is))))
-    (λ other. ap head other ∙ ap (λ (x : Bool). b == 82 || x) (has_r-without_feeds bs))
-    (cases_Bool (b == 10))
+seen-letter : (seen : Bool) → has_letter 82 (if seen then codes "RO" else codes "O") ≡ seen
+seen-letter true = refl
+seen-letter false = refl
 
-blank-differs : (b : ℕ) → is_blank b ≡ true → (b == 82) ≡ false
-blank-differs b blank =
-    ⊎_elim
-    (λ space. ap (λ (x : ℕ). x == 82) (eqb-true b 32 space))
-    (λ tab. ap (λ (x : ℕ). x == 82) (eqb-true b 9 tab))
-    (or_cases (b == 32) (b == 9) blank)
-
-has_r-trim_start : (bs : List ℕ) → has_r (trim_start bs) ≡ has_r bs
-unfolding trim_start
-has_r-trim_start [] = refl
-has_r-trim_start (b ∷ bs) =
-    ⊎_elim
-    (λ blank. ap has_r (cond-true _ _ _ blank) ∙ has_r-trim_start bs ∙ sym (has_r-skip b bs (blank-differs b blank)))
-    (λ other. ap has_r (cond-false _ _ _ other))
-    (cases_Bool (is_blank b))
-
-has_r-last : (b : ℕ) (bs : List ℕ) → has_r (unless_last_blank b bs) ≡ has_r (b ∷ bs)
-has_r-last b [] =
-    ⊎_elim
-    (λ blank. ap has_r (cond-true _ _ _ blank) ∙ sym (has_r-skip b [] (blank-differs b blank)))
-    (λ other. ap has_r (cond-false _ _ _ other))
-    (cases_Bool (is_blank b))
-has_r-last b (c ∷ bs) = refl
-
-has_r-trim_end : (bs : List ℕ) → has_r (trim_end bs) ≡ has_r bs
-unfolding trim_end
-has_r-trim_end [] = refl
-has_r-trim_end (b ∷ bs) = has_r-last b (trim_end bs) ∙ ap (λ (x : Bool). b == 82 || x) (has_r-trim_end bs)
-
-has_r-unfolded : (f : Field) → has_r (unfolded f) ≡ has_r f.value
-has_r-unfolded f = has_r-trim_end (trim_start (without_feeds f.value)) ∙ has_r-trim_start (without_feeds f.value) ∙ has_r-without_feeds f.value
-
-abbrev letters_by : Bool → List ℕ
-letters_by seen = if seen then codes "RO" else codes "O"
-
-abbrev seen_mark : Mark
-seen_mark = record { state = Read; seen = true }
-
-abbrev old_mark : Mark
-old_mark = record { state = Unread; seen = false }
-
-abbrev new_mark : Mark
-new_mark = record { state = New; seen = false }
-
-by_old : (old : Bool) → (if old then old_mark else new_mark).seen ≡ false
-by_old true = refl
-by_old false = refl
-
-seen-value : (value : List ℕ) → (mark_of_value value).seen ≡ has_r value
-seen-value value =
-    let by = λ (x : Bool). (if x then seen_mark else (if has_letter 79 value then old_mark else new_mark)).seen in
-    ⊎_elim
-    (λ is. ap by is ∙ sym is)
-    (λ not_is. ap by not_is ∙ by_old (has_letter 79 value) ∙ sym not_is)
-    (cases_Bool (has_r value))
-
-has_r-letters : (seen : Bool) → has_r (letters_by seen) ≡ seen
-has_r-letters true = refl
-has_r-letters false = refl
-
-seen-status : (m : Mark) (found : Option Field) → option_map unfolded found ≡ Some (letters_of m) → (mark_of_status found).seen ≡ m.seen
-seen-status m None is = cc
-seen-status m (Some f) is =
+seen-found : (m : Mark) (found : Option Field) → option_map unfolded found ≡ Some (letters_of m) → has_letter 82 (raw_value found) ≡ m.seen
+seen-found m None is = cc
+seen-found m (Some f) is =
     let same : unfolded f ≡ letters_of m = cc in
-    seen-value f.value ∙ sym (has_r-unfolded f) ∙ ap has_r same ∙ has_r-letters m.seen
+    sym (letter-unfolded 82 f refl) ∙ ap (has_letter 82) same ∙ seen-letter m.seen
 
 pub stamp-marks : (t : List ℕ) (m : Mark) → (mark_of (stamped t m)).seen ≡ m.seen
-stamp-marks t m = seen-status m (status_of (stamped t m)) (stamp-reads t m)
+stamp-marks t m =
+    let found = status_of (stamped t m) in
+    seen-by (has_letter 82 (raw_value found)) (has_letter 79 (raw_value found)) (flags_of (stamped t m)) ∙ seen-found m found (stamp-reads t m)

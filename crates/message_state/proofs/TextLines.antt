@@ -82,19 +82,40 @@ pub record HasTextParts (t from : List ℕ) (ls : List (List ℕ)) (body : Optio
   pub header_lines : header_lines t ≡ ls
   pub body_of : body_of t ≡ body
 
-some-parts : (t from m : List ℕ) (ls : List (List ℕ)) (body : Option (List ℕ)) → t ≡ from ++ (after_feeds (m ∷ ls) ++ body_part body) → HasNoFeed from → AreLines (m ∷ ls) → HasTextParts t from (m ∷ ls) body
-some-parts t from m ls body is apart lines =
+no-parts : (t from : List ℕ) (body : Option (List ℕ)) → t ≡ from ++ body_part body → HasNoFeed from → HasTextParts t from [] body
+no-parts t [] None is apart =
+    let none : t ≡ [] = is in
+    let all : lines_of t ≡ [] = ap lines_of none ∙ lines_of-nil in
+    record {
+      from_line = ap first_line all;
+      header_lines = ap (λ (x : List (List ℕ)). take_while has_bytes (drop 1 x)) all;
+      body_of = ap body_of none ∙ body_of-feeds [] None tt;
+    }
+no-parts t (b ∷ l) None is apart =
+    let all = ap lines_of (is ∙ append-nil (b ∷ l)) ∙ lines_of-some b l apart in
+    record {
+      from_line = ap first_line all;
+      header_lines = ap (λ (x : List (List ℕ)). take_while has_bytes (drop 1 x)) all;
+      body_of = ap body_of is ∙ body_of-past (b ∷ l) [] apart ∙ body_of-feeds [] None tt;
+    }
+no-parts t from (Some body) is apart =
+    let all = ap lines_of is ∙ lines_of-before_feed from (10 ∷ body) apart ∙ ap (λ (x : List (List ℕ)). from ∷ x) (lines_of-feed 10 body refl) in
+    record {
+      from_line = ap first_line all;
+      header_lines = ap (λ (x : List (List ℕ)). take_while has_bytes (drop 1 x)) all ∙ take_while-header [] (Some body) tt;
+      body_of = ap body_of is ∙ body_of-past from (body_part (Some body)) apart ∙ body_of-feeds [] (Some body) tt;
+    }
+
+-- the parts of a text that is made of a From line, lines and a body
+pub text-parts : (t from : List ℕ) (ls : List (List ℕ)) (body : Option (List ℕ)) → t ≡ from ++ (after_feeds ls ++ body_part body) → HasNoFeed from → AreLines ls → HasTextParts t from ls body
+text-parts t from [] body is apart lines = no-parts t from body is apart
+text-parts t from (m ∷ ls) body is apart lines =
     let all = ap lines_of is ∙ lines_of-text from m ls body apart lines in
     record {
       from_line = ap first_line all;
       header_lines = ap (λ (x : List (List ℕ)). take_while has_bytes (drop 1 x)) all ∙ take_while-header (m ∷ ls) body lines;
       body_of = ap body_of is ∙ body_of-past from (after_feeds (m ∷ ls) ++ body_part body) apart ∙ body_of-feeds (m ∷ ls) body lines;
     }
-
--- the parts of a text whose header has a last line
-pub last-parts : (t from s : List ℕ) (ls : List (List ℕ)) (body : Option (List ℕ)) → t ≡ from ++ (after_feeds (ls ++ s ∷ []) ++ body_part body) → HasNoFeed from → AreLines (ls ++ s ∷ []) → HasTextParts t from (ls ++ s ∷ []) body
-last-parts t from s [] body is apart lines = some-parts t from s [] body is apart lines
-last-parts t from s (l ∷ ls) body is apart lines = some-parts t from l (ls ++ s ∷ []) body is apart lines
 
 -- ---- what holds of any text's lines
 

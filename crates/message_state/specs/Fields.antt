@@ -23,6 +23,7 @@ name_length (other line) = 0
 -- each is the first field of its name
 pub record AreFieldsOf (t : List ℕ) (fields : RowFields) : Type 0 where
   pub status : fields.status ≡ field_named (codes "Status") t
+  pub x_status : fields.x_status ≡ field_named (codes "X-Status") t
   pub subject : fields.subject ≡ field_named (codes "Subject") t
   pub from : fields.from ≡ field_named (codes "From") t
   pub to : fields.to ≡ field_named (codes "To") t
@@ -34,6 +35,7 @@ pub record AreFieldsOf (t : List ℕ) (fields : RowFields) : Type 0 where
 -- each is the field that was found before, else the entry if it has that field's name
 pub record AreWithEntry (old : RowFields) (e : Entry) (fields : RowFields) : Type 0 where
   pub status : fields.status ≡ or_entry (codes "Status") old.status e
+  pub x_status : fields.x_status ≡ or_entry (codes "X-Status") old.x_status e
   pub subject : fields.subject ≡ or_entry (codes "Subject") old.subject e
   pub from : fields.from ≡ or_entry (codes "From") old.from e
   pub to : fields.to ≡ or_entry (codes "To") old.to e

@@ -4,10 +4,11 @@ ghost use Rattle.message_state.specs.Fields.{name_length, or_entry, AreFieldsOf,
 use mail_headers::{EntryRef, FieldRef, entries_in};
 use mail_text::same_ascii;
 
-// The fields that a row is made from: the first of each name.
+// The fields that a mark and a row are made from: the first of each name.
 #[derive(Drop)]
 pub(crate) struct RowFields<'a> {
     pub(crate) status: Option<FieldRef<'a>>,
+    pub(crate) x_status: Option<FieldRef<'a>>,
     pub(crate) subject: Option<FieldRef<'a>>,
     pub(crate) from: Option<FieldRef<'a>>,
     pub(crate) to: Option<FieldRef<'a>>,
@@ -17,12 +18,13 @@ pub(crate) struct RowFields<'a> {
     pub(crate) reply: Option<FieldRef<'a>>,
 }
 
-// The fields of a text's header that a row is made from, in one walk over it.
+// The fields of a text's header that a mark and a row are made from, in one walk over it.
 pub(crate) fn row_fields(text: &[u8]) -> RowFields<'_>
     ensures { AreFieldsOf text.now result }
 {
     let mut fields = RowFields {
         status: None,
+        x_status: None,
         subject: None,
         from: None,
         to: None,
@@ -49,6 +51,7 @@ fn take_entry<'a>(fields: &mut RowFields<'a>, entry: &EntryRef<'a>)
         }
         6 => take_field(&mut fields.status, entry, b"Status"),
         7 => take_field(&mut fields.subject, entry, b"Subject"),
+        8 => take_field(&mut fields.x_status, entry, b"X-Status"),
         10 => {
             take_field(&mut fields.message_id, entry, b"Message-ID");
             take_field(&mut fields.references, entry, b"References");

@@ -1,5 +1,5 @@
 ghost use Rattle.std.specs.Prelude.{◌≡◌, ◌≢◌};
-ghost use Rattle.message_state.specs.States.{state_after, after};
+ghost use Rattle.message_state.specs.States.{state_after, sees, flags_after, after};
 
 /// What has become of a message in a session.
 #[derive(Clone, Copy, Debug, PartialEq, Eq)]
@@ -20,13 +20,26 @@ pub enum State {
     Mboxed,
 }
 
-/// A message's state, and whether it was ever seen.
+/// What the user or another program has noted of a message.
+#[derive(Clone, Copy, Debug, PartialEq, Eq)]
+pub struct Flags {
+    /// It was answered.
+    pub answered: bool,
+    /// It is to stand out.
+    pub flagged: bool,
+    /// It isn't finished.
+    pub draft: bool,
+}
+
+/// A message's state, whether it was ever seen, and its flags.
 #[derive(Clone, Copy, Debug, PartialEq, Eq)]
 pub struct Mark {
     /// What has become of it.
     pub state: State,
     /// Whether it was ever seen, in this session or an earlier one.
     pub seen: bool,
+    /// What was noted of it.
+    pub flags: Flags,
 }
 
 /// Whether a message is deleted.
@@ -55,22 +68,57 @@ pub enum Act {
     Touch,
     /// It was saved to a file.
     Save,
+    /// It is flagged.
+    Flag,
+    /// It is flagged no more.
+    Unflag,
+    /// It counts as answered.
+    Answered,
+    /// It counts as answered no more.
+    Unanswered,
+    /// It counts as a draft.
+    Draft,
+    /// It counts as a draft no more.
+    Undraft,
 }
 
-/// The mark after an act.
+/// The mark after an act. An act that sets or clears a flag changes nothing else.
 pub fn after(mark: Mark, act: Act) -> Mark
     ensures { result ≡ after mark act }
 {
-    let state = state_after(mark.state, act);
-    let sees = match act {
-        Act::Look => mark.state != State::Deleted,
-        Act::Undelete | Act::Mbox | Act::Touch | Act::Save => state != mark.state,
-        Act::Delete | Act::Hold => false,
-    };
     Mark {
-        state,
-        seen: mark.seen || sees,
+        state: state_after(mark.state, act),
+        seen: mark.seen || sees(mark.state, act),
+        flags: flags_after(mark.flags, act),
     }
+}
+
+// Whether the message is then seen.
+fn sees(state: State, act: Act) -> bool
+    ensures { result ≡ sees state act }
+{
+    match act {
+        Act::Look => state != State::Deleted,
+        Act::Undelete | Act::Mbox | Act::Touch | Act::Save => state_after(state, act) != state,
+        _ => false,
+    }
+}
+
+// The flags after an act.
+fn flags_after(flags: Flags, act: Act) -> Flags
+    ensures { result ≡ flags_after flags act }
+{
+    let mut flags = flags;
+    match act {
+        Act::Flag => flags.flagged = true,
+        Act::Unflag => flags.flagged = false,
+        Act::Answered => flags.answered = true,
+        Act::Unanswered => flags.answered = false,
+        Act::Draft => flags.draft = true,
+        Act::Undraft => flags.draft = false,
+        _ => {}
+    }
+    flags
 }
 
 // The state after an act.
@@ -90,6 +138,7 @@ fn state_after(state: State, act: Act) -> State
             Act::Mbox => State::Mboxed,
             Act::Touch => touched(state),
             Act::Save => State::Saved,
+            _ => state,
         },
     }
 }

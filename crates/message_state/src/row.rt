@@ -10,7 +10,7 @@ use crate::Mark;
 use crate::fields::row_fields;
 use crate::ids::{first_id, ids_of};
 use crate::row_texts::RowTexts;
-use crate::status::mark_of_status;
+use crate::status::mark_of_fields;
 use mail_addresses::{FoundAddress, first_address};
 use mail_dates::{Moment, read_date, read_from_line};
 use mail_headers::{FieldRef, UnfoldedValue, from_line_in, unfold_value};
@@ -20,7 +20,7 @@ use std::alloc::Global;
 /// What is known of a message without reading it again.
 #[derive(Drop)]
 pub struct Row {
-    /// Its state, and whether it was seen.
+    /// Its state, whether it was seen, and its flags.
     pub mark: Mark,
     /// Its subject, its author, its addressee and its own identifier.
     pub texts: RowTexts,
@@ -42,7 +42,7 @@ pub fn row_of(alloc: Global, text: &[u8]) -> Result<Row, Memory>
 {
     let fields = row_fields(text);
     let line = after_from(from_line_in(text));
-    let mark = mark_of_status(&fields.status);
+    let mark = mark_of_fields(&fields.status, &fields.x_status);
     let moment = moment_of(alloc, fields.date, line)?;
     let references = ids_in(alloc, fields.references)?;
     let reply = ids_in(alloc, fields.reply)?;
