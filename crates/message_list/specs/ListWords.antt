@@ -51,12 +51,12 @@ mark_of word = None
 abbrev pub plain_kind : List ℕ → Kind
 plain_kind word = if is_numeral word then is.Number (number_in word) else unwrap_or (option_or (mark_of word) (range_of word)) is.Address
 
--- the letter after a `:`, one of five and alone
+-- the letter after a `:`, one of eight and alone
 abbrev pub letter_of : List ℕ → Option Kind
-letter_of (letter ∷ []) = if list_any (λ b. b == letter) (codes "dnoru") then Some (is.Letter letter) else None
+letter_of (letter ∷ []) = if list_any (λ b. b == letter) (codes "adfnortu") then Some (is.Letter letter) else None
 letter_of text = None
 
--- the kind of a word, and none of a bad one: the empty word, one that begins with `(`, `/` alone, `:` without one of the five letters
+-- the kind of a word, and none of a bad one: the empty word, one that begins with `(`, `/` alone, `:` without one of the eight letters
 abbrev pub kind_of : List ℕ → Option Kind
 kind_of [] = None
 kind_of (b ∷ rest) =

@@ -16,7 +16,7 @@ use Rattle.message_list.specs.Selections.{is_named}
 abbrev pub kind_fits : Kind → List ℕ → Row → Bool
 kind_fits Address word row = is_author word row.texts.author
 kind_fits Subject word row = holds_ascii (drop 1 word) row.texts.subject
-kind_fits (Letter letter) word row = has_letter letter row.mark.state
+kind_fits (Letter letter) word row = has_letter letter row.mark
 kind_fits kind word row = true
 
 -- a word of this kind names message n as far as its row isn't asked

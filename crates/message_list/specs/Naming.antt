@@ -5,6 +5,8 @@ use Rattle.std.specs.List.{list_any, range_with_len}
 use Rattle.memchr.specs.Find.{occurs_at}
 use Rattle.std.specs.Str.{str_to_ascii_lowercase}
 use Rattle.mail_text.specs.Ascii.{same_ascii}
+use Rattle.message_state.specs.declared.mark.Flags.{Flags}
+use Rattle.message_state.specs.declared.mark.Mark.{Mark}
 use Rattle.message_state.specs.declared.mark.State.{State}
 use Rattle.message_state.specs.declared.mark.State.TheVariants.{New, Unread, Read, Deleted}
 use Rattle.message_state.specs.declared.shown.Shown.{Shown}
@@ -52,13 +54,21 @@ abbrev pub is_author : List ℕ → List ℕ → Bool
 is_author word author = same_ascii author word || (not (list_any (λ b. b == 64) word) && same_ascii (local_part author) word)
 
 -- d is deleted, n new, o neither read nor new, r read, u unread
-abbrev pub has_letter : ℕ → State → Bool
-has_letter letter state =
+abbrev pub has_state_letter : ℕ → State → Bool
+has_state_letter letter state =
     (letter == 100 && place state == place Deleted)
     || (letter == 110 && place state == place New)
     || (letter == 111 && not (place state == place Read) && not (place state == place New))
     || (letter == 114 && place state == place Read)
     || (letter == 117 && place state == place Unread)
+
+-- a is answered, f flagged, t a draft
+abbrev pub has_flag_letter : ℕ → Flags → Bool
+has_flag_letter letter flags = (letter == 97 && flags.answered) || (letter == 102 && flags.flagged) || (letter == 116 && flags.draft)
+
+-- the letter is one of the state or of a flag
+abbrev pub has_letter : ℕ → Mark → Bool
+has_letter letter mark = has_state_letter letter mark.state || has_flag_letter letter mark.flags
 
 -- a word of this kind names message n
 abbrev pub kind_names : Kind → List ℕ → Shown → Purpose → ℕ → Bool
@@ -72,7 +82,7 @@ kind_names Last word shown purpose n = is_message (last_of shown purpose) n
 kind_names All word shown purpose n = true
 kind_names Address word shown purpose n = row_passes (λ row. is_author word row.texts.author) shown n
 kind_names Subject word shown purpose n = row_passes (λ row. holds_ascii (drop 1 word) row.texts.subject) shown n
-kind_names (Letter letter) word shown purpose n = row_passes (λ row. has_letter letter row.mark.state) shown n
+kind_names (Letter letter) word shown purpose n = row_passes (λ row. has_letter letter row.mark) shown n
 
 -- the item's word names message n
 abbrev pub names : Shown → Purpose → Item → ℕ → Bool

@@ -38,13 +38,16 @@ fn plain_kind(word: &[u8]) -> Kind
     }
 }
 
-// The kind of the letter after a `:`, if it is one of the five and alone.
+// The kind of the letter after a `:`, if it is one of the eight and alone.
 fn letter_of(text: &[u8]) -> Option<Kind>
     ensures { result ≡ letter_of text.now }
 {
     match text {
         [letter] => {
-            if matches!(*letter, b'd' | b'n' | b'o' | b'r' | b'u') {
+            if matches!(
+                *letter,
+                b'a' | b'd' | b'f' | b'n' | b'o' | b'r' | b't' | b'u'
+            ) {
                 Some(Kind::Letter(*letter))
             } else {
                 None

@@ -49,7 +49,7 @@ pub enum Kind {
     Address,
     /// `/` and a string: the messages whose subject holds it.
     Subject,
-    /// `:` and one of the letters `dnoru`: the messages in a state.
+    /// `:` and one of the letters `adfnortu`: the messages in a state, or with a flag.
     Letter(u8),
 }
 

@@ -8,7 +8,7 @@ use std::alloc::Global;
 
 /// Reads the words of a message list: the items are the words in order, each with its kind. `Syntax` comes exactly
 /// if a word is bad, and names the first such word: the empty word, a word that begins with `(`, `/` alone, and
-/// `:` with anything but one of the letters `dnoru` after it.
+/// `:` with anything but one of the letters `adfnortu` after it.
 pub fn read_list(alloc: Global, words: &[Text]) -> Result<ListSpec, ListError>
     ensures ok { IfOk result (λ list. AreItems words.now list.items) }
     ensures err { IfErr result (IsBadList words.now) }

@@ -2,7 +2,7 @@ ghost use Rattle.std.specs.Prelude.{◌≡◌, ◌≤◌, ◌<◌, ◌==◌, ◌
 ghost use Rattle.std.specs.List.{find};
 ghost use Rattle.message_state.specs.ShownRows.{IsShown};
 ghost use Rattle.message_list.specs.Places.{in_base, is_for};
-ghost use Rattle.message_list.specs.Naming.{names, has_letter, is_message};
+ghost use Rattle.message_list.specs.Naming.{names, has_state_letter, has_flag_letter, has_letter, is_message};
 ghost use Rattle.message_list.specs.Selections.{default_message, selection, base_of, is_named, finds, first_missing, IsUnmet, IsMissing, IsNoSuch};
 ghost use Rattle.message_list.specs.Marking.{kind_fits, is_hit, is_selected, kind_reaches, AreLandmarks, IsSpanOf, AddsMarks, AreMarks};
 
@@ -12,7 +12,7 @@ use crate::span::{Landmarks, Span, landmarks_of, span_of};
 use crate::subject::holds_ascii;
 use crate::view::{at_or_before, first_of, in_base, is_for, last_of, next_of, previous_of, row_at};
 use mail_text::{Memory, Text};
-use message_state::{Row, Shown, State};
+use message_state::{Flags, Mark, Row, Shown, State};
 use std::alloc::Global;
 
 /// The messages that a list selects, in the order of the view and each once: those of the base set (that of
@@ -317,7 +317,7 @@ fn fits(alloc: Global, item: &Item, row: &Row) -> Result<bool, Memory>
     match item.kind {
         Kind::Address => Ok(is_author(item.word.bytes(), row.texts.author())),
         Kind::Subject => holds_ascii(alloc, without_slash(&item.word), row.texts.subject()),
-        Kind::Letter(letter) => Ok(has_letter(letter, row.mark.state)),
+        Kind::Letter(letter) => Ok(has_letter(letter, row.mark)),
         _ => Ok(true),
     }
 }
@@ -332,9 +332,28 @@ fn without_slash(word: &Text) -> &[u8]
     }
 }
 
-// Whether a state is that of a letter.
-fn has_letter(letter: u8, state: State) -> bool
-    ensures { result ≡ has_letter letter state }
+// Whether a letter is that of the state or of a flag.
+fn has_letter(letter: u8, mark: Mark) -> bool
+    ensures { result ≡ has_letter letter mark }
+{
+    has_state_letter(letter, mark.state) || has_flag_letter(letter, mark.flags)
+}
+
+// Whether a letter is that of a flag.
+fn has_flag_letter(letter: u8, flags: Flags) -> bool
+    ensures { result ≡ has_flag_letter letter flags }
+{
+    match letter {
+        b'a' => flags.answered,
+        b'f' => flags.flagged,
+        b't' => flags.draft,
+        _ => false,
+    }
+}
+
+// Whether a letter is that of a state.
+fn has_state_letter(letter: u8, state: State) -> bool
+    ensures { result ≡ has_state_letter letter state }
 {
     match letter {
         b'd' => state == State::Deleted,
