@@ -1,9 +1,8 @@
 -- Messages by what becomes of them.
-use Rattle.std.proofs.Common.{◌≡◌, ℕ, zero, suc, ◌+◌, ◌≤◌, ◌<◌, Bool, true, false, ◌&&◌, List, [], ◌∷◌, ◌++◌, Option, length, length-append, map, take, drop, get_or, slice_get, refl, sym, ap, ◌∙◌, subst, arith, ⊎_elim, append-nil}
+use Rattle.std.proofs.Common.{◌≡◌, ℕ, zero, suc, ◌+◌, ◌≤◌, ◌<◌, Bool, true, false, ◌&&◌, List, [], ◌∷◌, ◌++◌, length, length-append, map, take, drop, get_or, slice_get, refl, sym, ap, ◌∙◌, subst, arith, ⊎_elim, append-nil}
 use Rattle.std.specs.Prelude.{if◌then◌else◌, filter}
-use Rattle.std.specs.declared.option.Option.TheVariants.{Some, None}
+use Rattle.std.specs.declared.option.Option.TheVariants.{Some}
 use Rattle.std.specs.List.{zip, prefix_len, take-map}
-use Rattle.std.specs.Option.{option_map}
 use Rattle.std.specs.Str.{bytes_eq}
 use Rattle.std.proofs.lemmas.Bool.{cases_Bool, cond-true, cond-false, and_parts, false≢true}
 use Rattle.std.proofs.lemmas.List.{length-map, map-append, take_more, take_all}
@@ -12,11 +11,9 @@ use Rattle.std.proofs.lemmas.List.Sums.{prefix_len-drop_yes, prefix_len-drop_no,
 use Rattle.std.proofs.lemmas.Option.{slice_get_within, get_or_from_slice_get}
 use Rattle.std.proofs.lemmas.Slice.Eq.{bytes_eq-Decides, slice_eq-Decides}
 use Rattle.std.proofs.lemmas.Slice.Zip.{get_or-zip, firsts-zip, length-zip}
-use Rattle.mail_headers.specs.Field.{Field, unfolded}
 use Rattle.message_state.specs.declared.mark.Mark.{Mark}
-use Rattle.message_state.specs.Status.{status_of}
-use Rattle.message_state.specs.Stamp.{letters_of, has_letters, with_letters, stamped}
-use Rattle.message_state.proofs.StampLawLemmas.{stamp-reads}
+use Rattle.message_state.specs.Stamp.{is_stamped}
+use Rattle.message_state.proofs.StampLawLemmas.{stamp-same, stamp-fixed}
 use Rattle.quit_rules.specs.declared.fate.Fate.{Fate}
 use Rattle.quit_rules.specs.declared.fate.Fate.TheVariants.{Stays, GoesToMbox, Leaves}
 use Rattle.quit_rules.specs.declared.fate.Rules.{Rules}
@@ -54,18 +51,6 @@ texts-more passes rules texts marks k t m text within mark both =
 
 pub count-messages : (texts : List (List ℕ)) (marks : List Mark) → length marks ≡ length texts → length (zip texts marks) ≡ length texts
 count-messages texts marks same = let e = length-zip texts marks in omega arith
-
--- ---- stamped already
-fixed-letters : (letters : List ℕ) (field : Option Field) → option_map unfolded field ≡ Some letters → has_letters letters field ≡ true
-fixed-letters letters None is = absurd (cc is)
-fixed-letters letters (Some f) is = let same : unfolded f ≡ letters = cc is in (bytes_eq-Decides (unfolded f) letters).1 same
-
--- a text that is its own stamped text has the letters of the mark
-pub stamp-fixed : (t : List ℕ) (m : Mark) → stamped t m ≡ t → has_letters (letters_of m) (status_of t) ≡ true
-stamp-fixed t m same = fixed-letters (letters_of m) (status_of t) (ap (λ (x : List ℕ). option_map unfolded (status_of x)) (sym same) ∙ stamp-reads t m)
-
-pub stamp-same : (t : List ℕ) (m : Mark) → has_letters (letters_of m) (status_of t) ≡ true → stamped t m ≡ t
-stamp-same t m has = cond-true _ _ _ has
 
 -- ---- the front that stays as it is
 -- a message that is unchanged is one text that stays, and none that goes to mbox
@@ -131,7 +116,7 @@ same-unchanged rules (m ∷ ms) same = ⊎_elim
     let whole : stamped_text m ∷ texts_where is_staying rules ms ≡ m.0 ∷ bare_texts ms = sym (ap (map stamped_text) (cond-true _ _ _ stays)) ∙ same in
     let first : stamped_text m ≡ m.0 = cc whole in
     let later : texts_where is_staying rules ms ≡ bare_texts ms = cc whole in
-    let is : is_unchanged rules m ≡ true = ap (λ (b : Bool). b && has_letters (letters_of m.1) (status_of m.0)) stays ∙ stamp-fixed m.0 m.1 first in
+    let is : is_unchanged rules m ≡ true = ap (λ (b : Bool). b && is_stamped m.0 m.1) stays ∙ stamp-fixed m.0 m.1 first in
     let step : unchanged_len rules (m ∷ ms) ≡ 1 + unchanged_len rules ms = cond-true _ _ _ is in
     let rest = same-unchanged rules ms later in
     omega arith)

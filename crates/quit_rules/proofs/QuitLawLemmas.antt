@@ -9,8 +9,8 @@ use Rattle.mbox_scan.specs.Mailbox.{texts_of}
 use Rattle.message_state.specs.declared.mark.State.{State}
 use Rattle.message_state.specs.declared.mark.State.TheVariants.{New, Unread, Read, Deleted, Preserved, Saved, Mboxed}
 use Rattle.message_state.specs.States.{place}
-use Rattle.message_state.specs.Status.{status_of}
-use Rattle.message_state.specs.Stamp.{letters_of, has_letters}
+use Rattle.message_state.specs.Stamp.{is_stamped}
+use Rattle.message_state.proofs.StampLawLemmas.{stamp-fixed}
 use Rattle.mailx_vars.specs.Settings.{Settings, is_set}
 use Rattle.folder_change.specs.declared.change.Change.{Change}
 use Rattle.folder_change.specs.declared.change.Change.TheVariants.{Rewrite}
@@ -21,7 +21,7 @@ use Rattle.quit_rules.specs.declared.open.Open.{Open}
 use Rattle.quit_rules.specs.Fates.{rules_of, fate_of, is_staying, is_boxed}
 use Rattle.quit_rules.specs.Plans.{IsOpen, Message, messages_of, stamped_text, texts_where, staying, boxed, same_texts, mbox_changes, folder_changes, quit_changes, is_unchanged, unchanged_len}
 use Rattle.quit_rules.specs.QuitLaws.{is_given_up, EachTextStands, IsOfFolder, NothingElseStands, EachStandsOnce, StaysAsItIs, UnchangedIsLeft}
-use Rattle.quit_rules.proofs.PlanLemmas.{count-messages, stamp-fixed, same-unchanged, all-staying, all-boxed, same-true, true-same}
+use Rattle.quit_rules.proofs.PlanLemmas.{count-messages, same-unchanged, all-staying, all-boxed, same-true, true-same}
 
 -- ---- each message has one of three fates
 -- the state is given up
@@ -190,7 +190,7 @@ rewrite-some folder vars same some =
     (cases_Bool (same_texts (staying folder vars) (texts_of folder.folder)))
 
 stays-unchanged : (folder : Open) (vars : Settings) (m : Message) → StaysAsItIs folder vars m → is_unchanged (rules_of folder vars) m ≡ true
-stays-unchanged folder vars m left = ap (λ (b : Bool). b && has_letters (letters_of m.1) (status_of m.0)) left.stays ∙ stamp-fixed m.0 m.1 left.stamped
+stays-unchanged folder vars m left = ap (λ (b : Bool). b && is_stamped m.0 m.1) left.stays ∙ stamp-fixed m.0 m.1 left.stamped
 
 all-unchanged : (folder : Open) (vars : Settings) (ms : List Message) → All (StaysAsItIs folder vars) ms → unchanged_len (rules_of folder vars) ms ≡ length ms
 all-unchanged folder vars [] all = refl

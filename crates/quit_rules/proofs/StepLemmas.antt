@@ -9,8 +9,7 @@ use Rattle.std.proofs.lemmas.List.Sums.{prefix_len-le-length}
 use Rattle.std.proofs.lemmas.Option.{slice_get_within}
 use Rattle.mbox_scan.specs.Mailbox.{texts_of}
 use Rattle.message_state.specs.declared.mark.Mark.{Mark}
-use Rattle.message_state.specs.Status.{status_of}
-use Rattle.message_state.specs.Stamp.{letters_of, has_letters, stamped}
+use Rattle.message_state.specs.Stamp.{stamped, is_stamped}
 use Rattle.mailx_vars.specs.Settings.{Settings, is_set}
 use Rattle.folder_change.specs.declared.change.Change.{Change}
 use Rattle.quit_rules.specs.declared.fate.Fate.{Fate}
@@ -34,21 +33,21 @@ stays-as : (rules : Rules) (marks slice : List Mark) (k : ℕ) (d : Mark) (f : F
 stays-as rules marks slice k d f b c same fated tested is =
     ap (λ (s : List Mark). is_staying (fate_of rules (get_or s k d).state)) (sym same) ∙ ap is_staying (sym fated) ∙ sym tested ∙ is
 
-letters-as : (marks slice : List Mark) (k : ℕ) (d : Mark) (t text : List ℕ) (l c : Bool) → slice ≡ marks → text ≡ t → l ≡ has_letters (letters_of (get_or slice k d)) (status_of text) → l ≡ c
-    → has_letters (letters_of (get_or marks k d)) (status_of t) ≡ c
-letters-as marks slice k d t text l c same is lettered found =
-    ap (λ (s : List Mark). has_letters (letters_of (get_or s k d)) (status_of t)) (sym same)
-    ∙ ap (λ (x : List ℕ). has_letters (letters_of (get_or slice k d)) (status_of x)) (sym is) ∙ sym lettered ∙ found
+stamped-as : (marks slice : List Mark) (k : ℕ) (d : Mark) (t text : List ℕ) (l c : Bool) → slice ≡ marks → text ≡ t → l ≡ is_stamped text (get_or slice k d) → l ≡ c
+    → is_stamped t (get_or marks k d) ≡ c
+stamped-as marks slice k d t text l c same is noted found =
+    ap (λ (s : List Mark). is_stamped t (get_or s k d)) (sym same)
+    ∙ ap (λ (x : List ℕ). is_stamped x (get_or slice k d)) (sym is) ∙ sym noted ∙ found
 
 -- one more message stays as it is
 pub step-go : (rules : Rules) (folder : Open) (slice : List Mark) (k : ℕ) (t text : List ℕ) (d : Mark) (f : Fate) (b l : Bool)
     → IsOpen folder → slice ≡ folder.marks → slice_get (texts_of folder.folder) k ≡ Some t → text ≡ t
-    → f ≡ fate_of rules (get_or slice k d).state → b ≡ is_staying f → l ≡ has_letters (letters_of (get_or slice k d)) (status_of text)
+    → f ≡ fate_of rules (get_or slice k d).state → b ≡ is_staying f → l ≡ is_stamped text (get_or slice k d)
     → unchanged_len rules (messages_of folder) ≡ k + unchanged_len rules (drop k (messages_of folder)) → b ≡ true → l ≡ true
     → unchanged_len rules (messages_of folder) ≡ k + 1 + unchanged_len rules (drop (k + 1) (messages_of folder))
-step-go rules folder slice k t text d f b l valid same there is fated tested lettered walked stays has =
+step-go rules folder slice k t text d f b l valid same there is fated tested noted walked stays has =
     unchanged-go rules (texts_of folder.folder) folder.marks k t (get_or folder.marks k d) there (marks-within folder k t valid there) (same-element folder.marks k d) valid walked
-    (and_from _ _ (stays-as rules folder.marks slice k d f b true same fated tested stays) (letters-as folder.marks slice k d t text l true same is lettered has))
+    (and_from _ _ (stays-as rules folder.marks slice k d f b true same fated tested stays) (stamped-as folder.marks slice k d t text l true same is noted has))
 
 -- the first message that doesn't
 pub step-leaves : (rules : Rules) (folder : Open) (slice : List Mark) (k : ℕ) (t : List ℕ) (d : Mark) (f : Fate) (b : Bool)
@@ -58,16 +57,16 @@ pub step-leaves : (rules : Rules) (folder : Open) (slice : List Mark) (k : ℕ) 
     → k ≡ unchanged_len rules (messages_of folder)
 step-leaves rules folder slice k t d f b valid same there fated tested walked leaves =
     unchanged-stop rules (texts_of folder.folder) folder.marks k t (get_or folder.marks k d) there (marks-within folder k t valid there) (same-element folder.marks k d) valid walked
-    (ap (λ (x : Bool). x && has_letters (letters_of (get_or folder.marks k d)) (status_of t)) (stays-as rules folder.marks slice k d f b false same fated tested leaves))
+    (ap (λ (x : Bool). x && is_stamped t (get_or folder.marks k d)) (stays-as rules folder.marks slice k d f b false same fated tested leaves))
 
 pub step-stamps : (rules : Rules) (folder : Open) (slice : List Mark) (k : ℕ) (t text : List ℕ) (d : Mark) (f : Fate) (b l : Bool)
     → IsOpen folder → slice ≡ folder.marks → slice_get (texts_of folder.folder) k ≡ Some t → text ≡ t
-    → f ≡ fate_of rules (get_or slice k d).state → b ≡ is_staying f → l ≡ has_letters (letters_of (get_or slice k d)) (status_of text)
+    → f ≡ fate_of rules (get_or slice k d).state → b ≡ is_staying f → l ≡ is_stamped text (get_or slice k d)
     → unchanged_len rules (messages_of folder) ≡ k + unchanged_len rules (drop k (messages_of folder)) → b ≡ true → l ≡ false
     → k ≡ unchanged_len rules (messages_of folder)
-step-stamps rules folder slice k t text d f b l valid same there is fated tested lettered walked stays has =
+step-stamps rules folder slice k t text d f b l valid same there is fated tested noted walked stays has =
     unchanged-stop rules (texts_of folder.folder) folder.marks k t (get_or folder.marks k d) there (marks-within folder k t valid there) (same-element folder.marks k d) valid walked
-    (λ j. stays-as rules folder.marks slice k d f b true same fated tested stays j && letters-as folder.marks slice k d t text l false same is lettered has j)
+    (λ j. stays-as rules folder.marks slice k d f b true same fated tested stays j && stamped-as folder.marks slice k d t text l false same is noted has j)
 
 -- all messages stay as they are
 pub step-end : (rules : Rules) (folder : Open) (slice : List Mark) (k count : ℕ) → IsOpen folder → slice ≡ folder.marks → count ≡ length (texts_of folder.folder) → count ≤ k → k ≤ count

@@ -5,8 +5,7 @@ use Rattle.std.specs.Str.{bytes_eq}
 use Rattle.std.specs.Cmp.Lexicographic.{pointwise}
 use Rattle.mbox_scan.specs.Mailbox.{texts_of}
 use Rattle.message_state.specs.declared.mark.Mark.{Mark}
-use Rattle.message_state.specs.Status.{status_of}
-use Rattle.message_state.specs.Stamp.{letters_of, has_letters, stamped}
+use Rattle.message_state.specs.Stamp.{stamped, is_stamped}
 use Rattle.mailx_vars.specs.Settings.{Settings, is_set}
 use Rattle.folder_change.specs.declared.change.Change.{Change}
 use Rattle.folder_change.specs.declared.change.Change.TheVariants.{Rewrite, Add, Front}
@@ -65,9 +64,9 @@ folder_changes texts folder vars =
 abbrev pub quit_changes : Open → Settings → List ℕ → List Change
 quit_changes folder vars mbox = mbox_changes (boxed folder vars) vars mbox ++ folder_changes (staying folder vars) folder vars
 
--- the message stays and has the letters of its mark
+-- the message stays and has the letters and the flags of its mark
 abbrev pub is_unchanged : Rules → Message → Bool
-is_unchanged rules m = is_staying (fate_of rules m.1.state) && has_letters (letters_of m.1) (status_of m.0)
+is_unchanged rules m = is_staying (fate_of rules m.1.state) && is_stamped m.0 m.1
 
 -- how many messages at the front are so
 abbrev pub unchanged_len : Rules → List Message → ℕ

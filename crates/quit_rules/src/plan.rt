@@ -1,37 +1,13 @@
 ghost use Rattle.std.specs.Prelude.{◌≡◌, ◌≤◌, length, take, IfOk};
 ghost use Rattle.mbox_scan.specs.Mailbox.{texts_of};
-ghost use Rattle.message_state.specs.Status.{status_of};
-ghost use Rattle.message_state.specs.Stamp.{letters_of, has_letters};
 ghost use Rattle.quit_rules.specs.Plans.{IsOpen, quit_changes, mbox_change, mbox_changes, unchanged_len, messages_of, ArePartsOf};
 
 use crate::{Fate, Open, Rules};
 use folder_change::Change;
-use mail_headers::{Header, unfolded};
 use mail_text::{Items, Memory, Text};
 use mailx_vars::Vars;
-use message_state::{Mark, stamped};
+use message_state::{is_stamped, stamped};
 use std::alloc::Global;
-
-// The letters of a mark in the field `Status`.
-fn letters_of(mark: Mark) -> &'static [u8]
-    ensures { result.now ≡ letters_of mark }
-{
-    if mark.seen { b"RO" } else { b"O" }
-}
-
-// Whether the text has the letters of its mark already. Then it is left as it is.
-fn has_letters(alloc: Global, text: &[u8], mark: Mark) -> Result<bool, Memory>
-    ensures { IfOk result (λ has. has ≡ has_letters (letters_of mark) (status_of text.now)) }
-{
-    let header = Header::read(alloc, text)?;
-    match header.field(b"Status") {
-        Some(status) => {
-            let value = unfolded(alloc, status)?;
-            Ok(value.bytes() == letters_of(mark))
-        }
-        None => Ok(false),
-    }
-}
 
 // How many messages at the front stay as they are.
 fn unchanged_len(alloc: Global, folder: &Open, rules: Rules) -> Result<usize, Memory>
@@ -42,7 +18,7 @@ fn unchanged_len(alloc: Global, folder: &Open, rules: Rules) -> Result<usize, Me
     for k in 0..folder.folder.count() {
         let mark = marks[k];
         let text = folder.folder.message(k).text();
-        if !rules.fate(mark.state).is_staying() || !has_letters(alloc, text, mark)? {
+        if !rules.fate(mark.state).is_staying() || !is_stamped(alloc, text, mark)? {
             return Ok(k);
         }
     }
