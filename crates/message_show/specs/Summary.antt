@@ -5,6 +5,8 @@ use Rattle.std.specs.List.{flat_map, position_or_len}
 use Rattle.mail_text.specs.Lines.{with_feed}
 use Rattle.mail_dates.specs.declared.moment.Moment.{Moment}
 use Rattle.mail_dates.specs.Printed.{short_date_text}
+use Rattle.message_state.specs.declared.mark.Flags.{Flags}
+use Rattle.message_state.specs.declared.mark.Mark.{Mark}
 use Rattle.message_state.specs.declared.mark.State.{State}
 use Rattle.message_state.specs.declared.mark.State.TheVariants.{New, Unread, Read, Deleted, Preserved, Saved, Mboxed}
 use Rattle.message_state.specs.declared.row.Row.{Row}
@@ -22,15 +24,23 @@ left_in places text = text ++ spaces (places - length text)
 abbrev pub right_in : ℕ → List ℕ → List ℕ
 right_in places text = spaces (places - length text) ++ text
 
--- the letter of a state
-abbrev pub state_letter : State → List ℕ
-state_letter New = codes "N"
-state_letter Unread = codes "U"
-state_letter Read = codes "R"
-state_letter Deleted = codes "D"
-state_letter Preserved = codes "P"
-state_letter Saved = codes "S"
-state_letter Mboxed = codes "M"
+-- the letter of flags, the first of flagged, answered and draft; without a flag this one
+abbrev pub flag_letter_or : List ℕ → Flags → List ℕ
+flag_letter_or letter flags = if flags.flagged then codes "F" else (if flags.answered then codes "A" else (if flags.draft then codes "T" else letter))
+
+-- the letter of a state; that of a flag goes before it if the message is new, unread or read
+abbrev pub letter_by : State → Flags → List ℕ
+letter_by New flags = flag_letter_or (codes "N") flags
+letter_by Unread flags = flag_letter_or (codes "U") flags
+letter_by Read flags = flag_letter_or (codes "R") flags
+letter_by Deleted flags = codes "D"
+letter_by Preserved flags = codes "P"
+letter_by Saved flags = codes "S"
+letter_by Mboxed flags = codes "M"
+
+-- the letter of a mark
+abbrev pub mark_letter : Mark → List ℕ
+mark_letter mark = letter_by mark.state mark.flags
 
 -- the date, or as many spaces
 abbrev pub date_column : Option Moment → List ℕ
@@ -41,12 +51,12 @@ date_column None = spaces 16
 abbrev pub steps_column : ℕ → List ℕ
 steps_column depth = spaces (2 * min depth 10)
 
--- the columns before the subject: the mark of the current message, the state, the number, the author, the date, the size and
--- the steps of depth
+-- the columns before the subject: whether the message is current, the letter of its mark, the number, the author, the date,
+-- the size and the steps of depth
 unfoldable pub columns : ℕ → ℕ → ℕ → Row → List ℕ
 columns current number depth row =
     (if number == current then codes ">" else codes " ")
-    ++ state_letter row.mark.state
+    ++ mark_letter row.mark
     ++ right_in 4 (decimal number) ++ codes " "
     ++ left_in 18 (take 18 row.texts.shown_author) ++ codes " "
     ++ date_column row.moment ++ codes " "

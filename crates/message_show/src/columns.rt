@@ -1,12 +1,12 @@
 // The columns of a summary line.
 ghost use Rattle.std.specs.Prelude.{◌≡◌, ◌≤◌, ◌-◌, ◌++◌, length, take, codes, decimal, OnOk, IfOk, IfSome, if◌then◌else◌, ◌==◌};
 ghost use Rattle.mail_dates.specs.Clock.{IsInYears};
-ghost use Rattle.message_show.specs.Summary.{spaces, left_in, right_in, state_letter, date_column, steps_column, columns};
+ghost use Rattle.message_show.specs.Summary.{spaces, left_in, right_in, flag_letter_or, mark_letter, date_column, steps_column, columns};
 
 use itoa::Buffer;
 use mail_dates::{Moment, print_short_date};
 use mail_text::{Memory, Text};
-use message_state::{Row, State};
+use message_state::{Flags, Mark, Row, State};
 use std::alloc::Global;
 
 const SPACES: [u8; 20] = [b' '; 20];
@@ -23,7 +23,7 @@ pub(crate) fn columns(
     ensures { IfOk result (λ line. line ≡ columns current number depth row.now) }
 {
     let mut line = Text::copy(alloc, current_mark(number, current))?;
-    line.push(state_letter(row.mark.state))?;
+    line.push(mark_letter(row.mark))?;
     push_right(&mut line, 4, u64::from(number))?;
     line.push(b" ")?;
     push_author(&mut line, row.texts.shown_author())?;
@@ -43,14 +43,29 @@ fn current_mark(number: u32, current: u32) -> &'static [u8]
     if number == current { b">" } else { b" " }
 }
 
-// The letter of a state.
-fn state_letter(state: State) -> &'static [u8]
-    ensures { result.now ≡ state_letter state }
+// The letter of flags, or this one if none is set.
+fn flag_letter_or(letter: &'static [u8], flags: Flags) -> &'static [u8]
+    ensures { result.now ≡ flag_letter_or letter.now flags }
 {
-    match state {
-        State::New => b"N",
-        State::Unread => b"U",
-        State::Read => b"R",
+    if flags.flagged {
+        b"F"
+    } else if flags.answered {
+        b"A"
+    } else if flags.draft {
+        b"T"
+    } else {
+        letter
+    }
+}
+
+// The letter of a mark: that of a flag goes before that of the state if the message is new, unread or read.
+fn mark_letter(mark: Mark) -> &'static [u8]
+    ensures { result.now ≡ mark_letter mark }
+{
+    match mark.state {
+        State::New => flag_letter_or(b"N", mark.flags),
+        State::Unread => flag_letter_or(b"U", mark.flags),
+        State::Read => flag_letter_or(b"R", mark.flags),
         State::Deleted => b"D",
         State::Preserved => b"P",
         State::Saved => b"S",
