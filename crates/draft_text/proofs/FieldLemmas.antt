@@ -1,8 +1,8 @@
 -- The fields of a draft as lines: each stands on one line, and is read there again.
-use Rattle.std.proofs.Common.{◌≡◌, ◌≢◌, ℕ, ◌<◌, ◌≤◌, Bool, true, false, ◌==◌, ◌&&◌, List, [], ◌∷◌, ◌++◌, length, drop, map, Option, codes, refl, sym, ap, ◌∙◌, subst, arith, ⊎_elim, append_assoc, append-nil}
+use Rattle.std.proofs.Common.{◌≡◌, ◌≢◌, ℕ, ◌≤◌, Bool, true, false, ◌==◌, ◌&&◌, List, [], ◌∷◌, ◌++◌, length, map, Option, codes, refl, sym, ap, ◌∙◌, subst, arith, ⊎_elim, append_assoc, append-nil}
 use Rattle.std.specs.Prelude.{nat_eq, nat_le, All}
 use Rattle.std.specs.List.{starts_with, flat_map, take_while, join_with_byte, filter_map, list_all, AllByRecursion}
-use Rattle.std.proofs.lemmas.Bool.{cond-true, cond-false, cases_Bool, and_parts, leb-true, eqb-false, ne_eqb}
+use Rattle.std.proofs.lemmas.Bool.{cond-true, cond-false, cases_Bool, and_parts, leb-true, eqb-false}
 use Rattle.std.proofs.lemmas.Grind.{flat_map-append}
 use Rattle.std.proofs.lemmas.List.Elements.{All-nil, All-cons, All-head, All-tail, All-append, recursion_from_All}
 use Rattle.std.proofs.lemmas.List.Folds.{flat_map-map}
@@ -20,7 +20,7 @@ use Rattle.mbox_scan.specs.Mailbox.{from_mark}
 use Rattle.message_state.specs.Stamp.{body_part}
 use Rattle.message_state.proofs.StampLemmas.{after_feeds}
 use Rattle.message_state.proofs.EntryLines.{IsLine, AreLines}
-use Rattle.message_state.proofs.TextLines.{HasTextParts, last-parts, apart-one}
+use Rattle.message_state.proofs.TextLines.{text-parts, apart-one}
 use Rattle.draft_text.specs.declared.draft.Draft.{Draft}
 use Rattle.draft_text.specs.Texts.{joined, spaced_field, filled, draft_values, all_filled, draft_fields, field_lines}
 use Rattle.draft_text.specs.DraftLaws.{HasFlatParts}
@@ -164,15 +164,6 @@ pub draft-alone : (draft : Draft) (m : Moment) → IsPrintable m → HasFlatPart
 unfolding draft_fields
 draft-alone draft m range flat = recursion_from_All StandsAlone (draft_fields draft m) (all-alone (draft_values draft m) (values-are draft m range flat))
 
--- the date is never empty, so a draft has a field
-pub draft-some : (draft : Draft) (m : Moment) → IsPrintable m → 0 < length (draft_fields draft m)
-unfolding draft_fields
-draft-some draft m range =
-    let long : length (date_text m) ≡ 31 = (date_is_plain m range).1 in
-    let some : (length (date_text m) == 0) ≡ false = ne_eqb _ _ (λ e. omega arith) in
-    let date : filled (codes "Date") (date_text m) ≡ spaced_field (codes "Date") (date_text m) ∷ [] = cond-false _ _ _ some in
-    subst (λ (fs : List Field). 0 < length (fs ++ all_filled (drop 1 (draft_values draft m)))) (sym date) (omega arith)
-
 -- ---- the lines of fields
 
 pub lines-are : (fs : List Field) → AllByRecursion StandsAlone fs → AreLines (map field_bytes fs)
@@ -222,36 +213,14 @@ whole-is line fs rest =
     ∙ ap (λ (x : List ℕ). x ++ 10 ∷ rest) (feeds-moved line (map field_bytes fs))
     ∙ append_assoc h (10 ∷ []) (10 ∷ rest)
 
--- lines by the last of them
-record HasLast (ls : List (List ℕ)) : Type 0 where
-  front : List (List ℕ)
-  last : List ℕ
-  is : ls ≡ front ++ last ∷ []
-
-has-last : (l : List ℕ) (ls : List (List ℕ)) → HasLast (l ∷ ls)
-has-last l [] = record { front = []; last = l; is = refl }
-has-last l (m ∷ ms) = let later = has-last m ms in record { front = l ∷ later.front; last = later.last; is = ap (λ (x : List (List ℕ)). l ∷ x) later.is }
-
-lines-parts : (t line : List ℕ) (ls : List (List ℕ)) (body : Option (List ℕ)) → 0 < length ls → t ≡ line ++ (after_feeds ls ++ body_part body) → HasNoFeed line → AreLines ls → HasTextParts t line ls body
-lines-parts t line [] body some is flat lines = absurd (omega arith)
-lines-parts t line (l ∷ ls) body some is flat lines =
-    let by = has-last l ls in
-    let cut : t ≡ line ++ (after_feeds (by.front ++ by.last ∷ []) ++ body_part body) = is ∙ ap (λ (x : List (List ℕ)). line ++ (after_feeds x ++ body_part body)) by.is in
-    subst (λ (x : List (List ℕ)). HasTextParts t line x body) (sym by.is) (last-parts t line by.last by.front body cut flat (subst AreLines by.is lines))
-
-length-lines : (fs : List Field) → length (map field_bytes fs) ≡ length fs
-length-lines [] = refl
-length-lines (f ∷ fs) = let later = length-lines fs in omega arith
-
 -- what is read of such a text
 pub record ReadsAs (t line : List ℕ) (fs : List Field) (part : Option (List ℕ)) : Type 0 where
   pub from_line : from_line t ≡ line
   pub entries : entries_of t ≡ map field fs
   pub body : body_of t ≡ part
 
-pub reads-as : (t line : List ℕ) (fs : List Field) (body : Option (List ℕ)) → 0 < length fs → t ≡ (line ++ after_feeds (map field_bytes fs)) ++ body_part body → HasNoFeed line → AllByRecursion StandsAlone fs → ReadsAs t line fs body
-reads-as t line fs body some is flat all =
+pub reads-as : (t line : List ℕ) (fs : List Field) (body : Option (List ℕ)) → t ≡ (line ++ after_feeds (map field_bytes fs)) ++ body_part body → HasNoFeed line → AllByRecursion StandsAlone fs → ReadsAs t line fs body
+reads-as t line fs body is flat all =
     let ls = map field_bytes fs in
-    let more : 0 < length ls = omega (arith, length-lines fs) in
-    let parts = lines-parts t line ls body more (is ∙ append_assoc line (after_feeds ls) (body_part body)) flat (lines-are fs all) in
+    let parts = text-parts t line ls body (is ∙ append_assoc line (after_feeds ls) (body_part body)) flat (lines-are fs all) in
     record { from_line = parts.from_line; entries = ap (entries_from false) parts.header_lines ∙ lines-entries false fs all; body = parts.body_of }

@@ -27,7 +27,7 @@ use Rattle.draft_text.specs.Texts.{draft_fields, field_lines, message_text, quot
 use Rattle.draft_text.specs.DraftLaws.{HasFlatParts, HasDraft}
 use Rattle.draft_text.proofs.BodyLemmas.{lines-end, if_any, if_any-or, trimmed-whole}
 use Rattle.draft_text.proofs.BreakLemmas.{IsQuiet, no-break}
-use Rattle.draft_text.proofs.FieldLemmas.{StandsAlone, plain-apart, draft-alone, draft-some, field_lines-are, lines-are, whole-is, reads-as}
+use Rattle.draft_text.proofs.FieldLemmas.{StandsAlone, plain-apart, draft-alone, field_lines-are, lines-are, whole-is, reads-as}
 
 -- ---- the message that is sent
 
@@ -38,7 +38,7 @@ sent-reads draft line m range flat apart =
     let rest = 10 ∷ fed draft.body in
     let whole : with_feed line ++ (field_lines fs ++ rest) ≡ (line ++ after_feeds (map field_bytes fs)) ++ body_part (Some (fed draft.body)) =
     sym (append_assoc (with_feed line) (field_lines fs) rest) ∙ whole-is line fs (fed draft.body) in
-    let reads = reads-as (with_feed line ++ (field_lines fs ++ rest)) line fs (Some (fed draft.body)) (draft-some draft m range) whole apart (draft-alone draft m range flat) in
+    let reads = reads-as (with_feed line ++ (field_lines fs ++ rest)) line fs (Some (fed draft.body)) whole apart (draft-alone draft m range flat) in
     record { from_line = reads.from_line; entries = reads.entries; body = ap (λ (o : Option (List ℕ)). unwrap_or o []) reads.body }
 
 -- ---- the text that is stored
@@ -75,7 +75,7 @@ stored-is draft user m range flat apart =
 pub stored-reads : (draft : Draft) (user : List ℕ) (m : Moment) → IsPrintable m → HasFlatParts draft → HasNoFeed user → HasDraft (mbox_text draft user m) (opening_line user m) (draft_fields draft m) (trimmed (quoted draft.body))
 stored-reads draft user m range flat apart =
     let body = trimmed (quoted draft.body) in
-    let reads = reads-as (mbox_text draft user m) (opening_line user m) (draft_fields draft m) (if_any body) (draft-some draft m range) (stored-is draft user m range flat apart) (opening-apart user m range apart) (draft-alone draft m range flat) in
+    let reads = reads-as (mbox_text draft user m) (opening_line user m) (draft_fields draft m) (if_any body) (stored-is draft user m range flat apart) (opening-apart user m range apart) (draft-alone draft m range flat) in
     record { from_line = reads.from_line; entries = reads.entries; body = ap (λ (o : Option (List ℕ)). unwrap_or o []) reads.body ∙ if_any-or body }
 
 -- ---- it has no break
