@@ -1,7 +1,7 @@
 -- Each command has a name.
 use Rattle.std.proofs.Common.{◌≡◌, ℕ, List, Some, codes, refl}
 use Rattle.line_words.specs.declared.command.Command.{Command}
-use Rattle.line_words.specs.declared.command.Command.TheVariants.{Alias, Alternates, Call, Copy, CopyByAuthor, Delete, DeleteAndPrint, Define, Defines, Ignore, Echo, Condition, Exit, File, Folders, Followup, FollowupAuthors, From, Headers, Help, Hold, Mail, Mbox, Newmail, Next, Pipe, Print, PrintAll, Quit, Reply, ReplyAuthors, Retain, Save, SaveByAuthor, Set, Size, Sort, Thread, Source, Top, Touch, Unalias, Undef, Undelete, Unset, Write, Scroll, Shell, Number, Comment}
+use Rattle.line_words.specs.declared.command.Command.TheVariants.{Alias, Alternates, Answered, Call, Copy, CopyByAuthor, Delete, DeleteAndPrint, Define, Defines, Ignore, Draft, Echo, Condition, Exit, File, Flag, Folders, Followup, FollowupAuthors, From, Headers, Help, Hold, Mail, Mbox, Newmail, Next, Pipe, Print, PrintAll, Quit, Reply, ReplyAuthors, Retain, Save, SaveByAuthor, Set, Size, Sort, Thread, Source, Top, Touch, Unalias, Unanswered, Undef, Undelete, Undraft, Unflag, Unset, Write, Scroll, Shell, Number, Comment}
 use Rattle.line_words.specs.Spellings.{spellings, command_of}
 
 pub each_named : (named : Command) → (word : List ℕ) × (command_of word ≡ Some named)
@@ -17,6 +17,7 @@ each_named ReplyAuthors = (codes "Reply", refl)
 each_named SaveByAuthor = (codes "Save", refl)
 each_named Alias = (codes "alias", refl)
 each_named Alternates = (codes "alternates", refl)
+each_named Answered = (codes "answered", refl)
 each_named Call = (codes "call", refl)
 each_named Copy = (codes "copy", refl)
 each_named Define = (codes "define", refl)
@@ -24,10 +25,12 @@ each_named Defines = (codes "defines", refl)
 each_named Delete = (codes "delete", refl)
 each_named Ignore = (codes "discard", refl)
 each_named DeleteAndPrint = (codes "dp", refl)
+each_named Draft = (codes "draft", refl)
 each_named Echo = (codes "echo", refl)
 each_named Condition = (codes "else", refl)
 each_named Exit = (codes "exit", refl)
 each_named File = (codes "file", refl)
+each_named Flag = (codes "flag", refl)
 each_named Folders = (codes "folders", refl)
 each_named Followup = (codes "followup", refl)
 each_named From = (codes "from", refl)
@@ -51,8 +54,11 @@ each_named Thread = (codes "thread", refl)
 each_named Top = (codes "top", refl)
 each_named Touch = (codes "touch", refl)
 each_named Unalias = (codes "unalias", refl)
+each_named Unanswered = (codes "unanswered", refl)
 each_named Undef = (codes "undef", refl)
 each_named Undelete = (codes "undelete", refl)
+each_named Undraft = (codes "undraft", refl)
+each_named Unflag = (codes "unflag", refl)
 each_named Unset = (codes "unset", refl)
 each_named Write = (codes "write", refl)
 each_named Scroll = (codes "z", refl)

@@ -3,7 +3,7 @@ use Rattle.std.specs.Prelude.{ℕ, Bool, not, ◌==◌, ◌&&◌, ◌||◌, List
 use Rattle.std.specs.Option.{option_map}
 use Rattle.std.specs.List.{find, before_first, starts_with}
 use Rattle.line_words.specs.declared.command.Command.{Command}
-use Rattle.line_words.specs.declared.command.Command.TheVariants.{Alias, Alternates, Call, Copy, CopyByAuthor, Delete, DeleteAndPrint, Define, Defines, Ignore, Echo, Condition, Exit, File, Folders, Followup, FollowupAuthors, From, Headers, Help, Hold, Mail, Mbox, Newmail, Next, Pipe, Print, PrintAll, Quit, Reply, ReplyAuthors, Retain, Save, SaveByAuthor, Set, Size, Sort, Thread, Source, Top, Touch, Unalias, Undef, Undelete, Unset, Write, Scroll, Shell, Number, Comment}
+use Rattle.line_words.specs.declared.command.Command.TheVariants.{Alias, Alternates, Answered, Call, Copy, CopyByAuthor, Delete, DeleteAndPrint, Define, Defines, Ignore, Draft, Echo, Condition, Exit, File, Flag, Folders, Followup, FollowupAuthors, From, Headers, Help, Hold, Mail, Mbox, Newmail, Next, Pipe, Print, PrintAll, Quit, Reply, ReplyAuthors, Retain, Save, SaveByAuthor, Set, Size, Sort, Thread, Source, Top, Touch, Unalias, Unanswered, Undef, Undelete, Undraft, Unflag, Unset, Write, Scroll, Shell, Number, Comment}
 
 -- a spelling of a command: what a word must begin with at least, and the whole name
 pub record Spelling : Type 0 where
@@ -35,6 +35,7 @@ spellings =
     ∷ spelled PrintAll (codes "T[ype]")
     ∷ spelled Alias (codes "a[lias]")
     ∷ spelled Alternates (codes "alt[ernates]")
+    ∷ spelled Answered (codes "answered")
     ∷ spelled Call (codes "call")
     ∷ spelled Copy (codes "c[opy]")
     ∷ spelled Define (codes "define")
@@ -42,12 +43,14 @@ spellings =
     ∷ spelled Delete (codes "d[elete]")
     ∷ spelled Ignore (codes "di[scard]")
     ∷ spelled DeleteAndPrint (codes "dp")
+    ∷ spelled Draft (codes "draft")
     ∷ spelled DeleteAndPrint (codes "dt")
     ∷ spelled Echo (codes "ec[ho]")
     ∷ spelled Condition (codes "el[se]")
     ∷ spelled Condition (codes "en[dif]")
     ∷ spelled Exit (codes "ex[it]")
     ∷ spelled File (codes "fi[le]")
+    ∷ spelled Flag (codes "flag")
     ∷ spelled File (codes "fold[er]")
     ∷ spelled Folders (codes "folders")
     ∷ spelled Followup (codes "fo[llowup]")
@@ -80,8 +83,11 @@ spellings =
     ∷ spelled Touch (codes "tou[ch]")
     ∷ spelled Print (codes "t[ype]")
     ∷ spelled Unalias (codes "una[lias]")
+    ∷ spelled Unanswered (codes "unanswered")
     ∷ spelled Undef (codes "undef")
     ∷ spelled Undelete (codes "u[ndelete]")
+    ∷ spelled Undraft (codes "undraft")
+    ∷ spelled Unflag (codes "unflag")
     ∷ spelled Unset (codes "uns[et]")
     ∷ spelled Thread (codes "unsort")
     ∷ spelled Thread (codes "unthread")

@@ -5,6 +5,8 @@ pub enum Command {
     Alias,
     /// `alt[ernates]`
     Alternates,
+    /// `answered`
+    Answered,
     /// `call`
     Call,
     /// `c[opy]`
@@ -21,6 +23,8 @@ pub enum Command {
     Defines,
     /// `di[scard]`, `ig[nore]`
     Ignore,
+    /// `draft`
+    Draft,
     /// `ec[ho]`
     Echo,
     /// `if`, `el[se]`, `en[dif]`
@@ -29,6 +33,8 @@ pub enum Command {
     Exit,
     /// `fi[le]`, `fold[er]`
     File,
+    /// `flag`
+    Flag,
     /// `folders`
     Folders,
     /// `fo[llowup]`
@@ -85,10 +91,16 @@ pub enum Command {
     Touch,
     /// `una[lias]`
     Unalias,
+    /// `unanswered`
+    Unanswered,
     /// `undef`
     Undef,
     /// `u[ndelete]`
     Undelete,
+    /// `undraft`
+    Undraft,
+    /// `unflag`
+    Unflag,
     /// `uns[et]`
     Unset,
     /// `w[rite]`

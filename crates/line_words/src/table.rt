@@ -15,7 +15,7 @@ pub(crate) struct Spelling {
 
 // The spellings of all commands, in the order of the bytes of their whole names.
 #[rattlefmt::skip]
-static SPELLINGS: [Spelling; 69] = [
+static SPELLINGS: [Spelling; 75] = [
     Spelling { command: Command::Shell, least: 1, whole: b"!" },
     Spelling { command: Command::Comment, least: 1, whole: b"#" },
     Spelling { command: Command::Number, least: 1, whole: b"=" },
@@ -29,6 +29,7 @@ static SPELLINGS: [Spelling; 69] = [
     Spelling { command: Command::PrintAll, least: 1, whole: b"Type" },
     Spelling { command: Command::Alias, least: 1, whole: b"alias" },
     Spelling { command: Command::Alternates, least: 3, whole: b"alternates" },
+    Spelling { command: Command::Answered, least: 8, whole: b"answered" },
     Spelling { command: Command::Call, least: 4, whole: b"call" },
     Spelling { command: Command::Copy, least: 1, whole: b"copy" },
     Spelling { command: Command::Define, least: 6, whole: b"define" },
@@ -36,12 +37,14 @@ static SPELLINGS: [Spelling; 69] = [
     Spelling { command: Command::Delete, least: 1, whole: b"delete" },
     Spelling { command: Command::Ignore, least: 2, whole: b"discard" },
     Spelling { command: Command::DeleteAndPrint, least: 2, whole: b"dp" },
+    Spelling { command: Command::Draft, least: 5, whole: b"draft" },
     Spelling { command: Command::DeleteAndPrint, least: 2, whole: b"dt" },
     Spelling { command: Command::Echo, least: 2, whole: b"echo" },
     Spelling { command: Command::Condition, least: 2, whole: b"else" },
     Spelling { command: Command::Condition, least: 2, whole: b"endif" },
     Spelling { command: Command::Exit, least: 2, whole: b"exit" },
     Spelling { command: Command::File, least: 2, whole: b"file" },
+    Spelling { command: Command::Flag, least: 4, whole: b"flag" },
     Spelling { command: Command::File, least: 4, whole: b"folder" },
     Spelling { command: Command::Folders, least: 7, whole: b"folders" },
     Spelling { command: Command::Followup, least: 2, whole: b"followup" },
@@ -74,8 +77,11 @@ static SPELLINGS: [Spelling; 69] = [
     Spelling { command: Command::Touch, least: 3, whole: b"touch" },
     Spelling { command: Command::Print, least: 1, whole: b"type" },
     Spelling { command: Command::Unalias, least: 3, whole: b"unalias" },
+    Spelling { command: Command::Unanswered, least: 10, whole: b"unanswered" },
     Spelling { command: Command::Undef, least: 5, whole: b"undef" },
     Spelling { command: Command::Undelete, least: 1, whole: b"undelete" },
+    Spelling { command: Command::Undraft, least: 7, whole: b"undraft" },
+    Spelling { command: Command::Unflag, least: 6, whole: b"unflag" },
     Spelling { command: Command::Unset, least: 3, whole: b"unset" },
     Spelling { command: Command::Thread, least: 6, whole: b"unsort" },
     Spelling { command: Command::Thread, least: 8, whole: b"unthread" },
