@@ -1,2 +1,3 @@
 pub mod Deleting
+pub mod Flagging
 pub mod Leaving
