@@ -9,6 +9,7 @@ use Rattle.line_words.specs.declared.line.LineError.TheVariants as error
 use Rattle.line_words.specs.declared.command.Command.{Command}
 use Rattle.line_words.specs.declared.command.Command.TheVariants as command
 use Rattle.line_words.specs.Spellings.{whole_name}
+use Rattle.message_state.specs.declared.mark.Act.TheVariants as act
 use Rattle.message_show.specs.declared.text.How.TheVariants.{Kept, All}
 use Rattle.command_desk.specs.declared.desk.Desk.{Desk}
 use Rattle.command_desk.specs.declared.steps.Ask.TheVariants as asks
@@ -19,6 +20,7 @@ use Rattle.command_desk.specs.Faults.{bad_arguments, unknown_command, open_quote
 use Rattle.show_commands.specs.Printing.{print, top, print_following}
 use Rattle.show_commands.specs.Paging.{headers, scroll}
 use Rattle.mark_commands.specs.Deleting.{delete, delete_and_print, undelete}
+use Rattle.mark_commands.specs.Flagging.{flagging}
 use Rattle.mark_commands.specs.Leaving.{hold, mbox, touch}
 use Rattle.setting_commands.specs.Setting.{set, unset}
 use Rattle.setting_commands.specs.Conditions.{condition}
@@ -73,6 +75,12 @@ meaning_of command.Undelete line desk = undelete desk line.words
 meaning_of command.Hold line desk = hold desk line.words
 meaning_of command.Mbox line desk = mbox desk line.words
 meaning_of command.Touch line desk = touch desk line.words
+meaning_of command.Flag line desk = flagging act.Flag desk line.words
+meaning_of command.Unflag line desk = flagging act.Unflag desk line.words
+meaning_of command.Answered line desk = flagging act.Answered desk line.words
+meaning_of command.Unanswered line desk = flagging act.Unanswered desk line.words
+meaning_of command.Draft line desk = flagging act.Draft desk line.words
+meaning_of command.Undraft line desk = flagging act.Undraft desk line.words
 meaning_of command.Set line desk = set desk line.words
 meaning_of command.Unset line desk = unset desk line.words
 meaning_of command.Source line desk = source desk line.words

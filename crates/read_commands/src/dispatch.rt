@@ -17,8 +17,9 @@ use folder_commands::{
 use line_words::{Command, CommandLine, LineError, read_line, whole_name};
 use macro_commands::{call, define, defines, undef};
 use mail_text::{Items, Memory};
-use mark_commands::{delete, delete_and_print, hold, mbox, touch, undelete};
+use mark_commands::{delete, delete_and_print, flagging, hold, mbox, touch, undelete};
 use message_show::How;
+use message_state::Act;
 use naming_commands::{alias, alternates, ignore, retain, unalias};
 use setting_commands::{condition, set, source, unset};
 use show_commands::{echo, from, headers, help, number, print, print_following, scroll, size, top};
@@ -132,6 +133,12 @@ fn carry_out(alloc: Global, line: &CommandLine, desk: &Desk) -> Result<Steps, Re
         Command::Hold => hold(alloc, desk, words),
         Command::Mbox => mbox(alloc, desk, words),
         Command::Touch => touch(alloc, desk, words),
+        Command::Flag => flagging(alloc, Act::Flag, desk, words),
+        Command::Unflag => flagging(alloc, Act::Unflag, desk, words),
+        Command::Answered => flagging(alloc, Act::Answered, desk, words),
+        Command::Unanswered => flagging(alloc, Act::Unanswered, desk, words),
+        Command::Draft => flagging(alloc, Act::Draft, desk, words),
+        Command::Undraft => flagging(alloc, Act::Undraft, desk, words),
         Command::Set => set(alloc, desk, words),
         Command::Unset => unset(alloc, desk, words),
         Command::Source => source(alloc, desk, words),
