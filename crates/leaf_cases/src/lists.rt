@@ -2,7 +2,7 @@
 ghost use Rattle.message_state.specs.ShownRows.{IsShown};
 
 use crate::case::{field, number, numbers, parts, words};
-use crate::states::state_of;
+use crate::states::mark_in;
 use crate::view::shown_of;
 use case_blocks::Answer;
 use mail_text::{Memory, Text};
@@ -10,16 +10,13 @@ use message_list::{
     Purpose, author_local_part, before_at, first_live, in_base, is_live, next_live, place_of,
     previous_live, read_list, select,
 };
-use message_state::{Mark, Shown};
+use message_state::Shown;
 
 pub fn put(messages: &[Text], case: &[Text], out: &mut Answer) {
     match words(case, 1) {
         "local part" => out.put(author_local_part(field(case, 2))),
         "before at" => out.put(before_at(field(case, 2))),
-        "is live" => {
-            let state = state_of(field(case, 2));
-            out.put_flag(is_live(Mark { state, seen: true }));
-        }
+        "is live" => out.put_flag(is_live(mark_in(field(case, 2)))),
         _ => put_in_view(messages, case, out),
     }
 }

@@ -3,7 +3,7 @@ ghost use Rattle.quit_rules.specs.Plans.{IsOpen};
 
 use crate::case::{field, words};
 use crate::mailboxes::folder_of;
-use crate::states::state_of;
+use crate::states::mark_in;
 use case_blocks::Answer;
 use folder_change::Change;
 use mail_text::{Items, Memory, Text};
@@ -28,14 +28,12 @@ pub fn put(vars: &Vars, case: &[Text], out: &mut Answer) {
     }
 }
 
-// Marks, each the letter of its state, and `+` if the message was seen.
+// Marks, each of a word.
 fn marks(text: &str, out: &mut Answer) -> Items<Mark> {
     let mut marks = Items::new(out.alloc());
     for mark in text.split(' ') {
         if !mark.is_empty() {
-            let state = state_of(mark.as_bytes());
-            let seen = mark.ends_with('+');
-            out.note(marks.push(Mark { state, seen }));
+            out.note(marks.push(mark_in(mark.as_bytes())));
         }
     }
     marks

@@ -5,7 +5,7 @@ use case_blocks::Answer;
 use mail_headers::Header;
 use mail_text::{Items, Memory, Text};
 use message_state::{
-    Act, Mark, Order, Row, RowList, Standing, State, after, mark_of, row_of, stamped,
+    Act, Flags, Mark, Order, Row, RowList, Standing, State, after, mark_of, row_of, stamped,
 };
 use std::alloc::Global;
 
@@ -19,10 +19,20 @@ const ACTS: [Act; 7] = [
     Act::Save,
 ];
 
+const FLAGGING: [Act; 6] = [
+    Act::Flag,
+    Act::Unflag,
+    Act::Answered,
+    Act::Unanswered,
+    Act::Draft,
+    Act::Undraft,
+];
+
 pub fn put(case: &[Text], out: &mut Answer) {
     let text = field(case, 2);
     match words(case, 1) {
         "acts" => put_acts(state_of(text), out),
+        "flagging" => put_flagging(mark_in(text), out),
         "no rows" => out.put_found(RowList::new(out.alloc()).next(Standing::Live, 0)),
         "new order" => out.put_numbers(Order::new(out.alloc()).items()),
         _ => {
@@ -35,7 +45,7 @@ pub fn put(case: &[Text], out: &mut Answer) {
 fn put_made(case: &[Text], out: &mut Answer) -> Result<(), Memory> {
     let text = field(case, 2);
     match words(case, 1) {
-        "stamp" => put_stamped(text, out),
+        "stamp" => put_stamped(text, flags_in(field(case, 3)), out),
         "row" => put_row(text, out),
         "live" => put_live(case, out),
         "dead" => put_dead(case, out),
@@ -67,7 +77,25 @@ pub fn state_of(letter: &[u8]) -> State {
     }
 }
 
-// The letter of a state, and `+` if the message was seen.
+/// The flags of these letters.
+pub fn flags_in(letters: &[u8]) -> Flags {
+    Flags {
+        answered: letters.contains(&b'A'),
+        flagged: letters.contains(&b'F'),
+        draft: letters.contains(&b'T'),
+    }
+}
+
+/// The mark of a word: the letter of its state, `+` if the message was seen, and the letters of its flags.
+pub fn mark_in(word: &[u8]) -> Mark {
+    Mark {
+        state: state_of(word),
+        seen: word.contains(&b'+'),
+        flags: flags_in(word),
+    }
+}
+
+// The letter of a state, `+` if the message was seen, and the letters of flags.
 fn put_mark(out: &mut Answer, mark: Mark) {
     out.put(match mark.state {
         State::New => b"N",
@@ -79,23 +107,40 @@ fn put_mark(out: &mut Answer, mark: Mark) {
         State::Mboxed => b"M",
     });
     out.put(if mark.seen { b"+" } else { b"-" });
+    put_flags(out, mark.flags);
+}
+
+fn put_flags(out: &mut Answer, flags: Flags) {
+    out.put(if flags.answered { b"A" } else { b"" });
+    out.put(if flags.flagged { b"F" } else { b"" });
+    out.put(if flags.draft { b"T" } else { b"" });
 }
 
 // What each act makes of a message of a state that wasn't seen, and of one that was.
 fn put_acts(state: State, out: &mut Answer) {
     for act in ACTS {
-        put_mark(out, after(Mark { state, seen: false }, act));
-        put_mark(out, after(Mark { state, seen: true }, act));
+        for seen in [false, true] {
+            let flags = flags_in(b"");
+            put_mark(out, after(Mark { state, seen, flags }, act));
+        }
         out.put(b" ");
     }
 }
 
-// The mark of a text, and the text stamped as read and as new.
-fn put_stamped(text: &[u8], out: &mut Answer) -> Result<(), Memory> {
+// What each act that sets or clears a flag makes of a mark.
+fn put_flagging(mark: Mark, out: &mut Answer) {
+    for act in FLAGGING {
+        put_mark(out, after(mark, act));
+        out.put(b" ");
+    }
+}
+
+// The mark of a text, and the text stamped as read and as new with these flags.
+fn put_stamped(text: &[u8], flags: Flags, out: &mut Answer) -> Result<(), Memory> {
     put_mark(out, mark_of(&Header::read(out.alloc(), text)?));
     for (state, seen) in [(State::Read, true), (State::New, false)] {
         out.put(b"<");
-        out.put_made(stamped(out.alloc(), text, Mark { state, seen }));
+        out.put_made(stamped(out.alloc(), text, Mark { state, seen, flags }));
         out.put(b">");
     }
     Ok(())
@@ -146,7 +191,15 @@ fn rows(alloc: Global, count: u32) -> Result<Items<Row>, Memory> {
 fn set_others(list: &mut RowList, these: &[u32], state: State) {
     for k in 0..list.items().len() {
         if !these.iter().any(|n| *n as usize == k) {
-            list.set_mark(k, Mark { state, seen: false });
+            let flags = flags_in(b"");
+            list.set_mark(
+                k,
+                Mark {
+                    state,
+                    seen: false,
+                    flags,
+                },
+            );
         }
     }
 }
