@@ -1,3 +1,4 @@
 pub mod FrontLemmas
+pub mod HoldingLemmas
 pub mod LineLemmas
 pub mod NumberLemmas

@@ -1,4 +1,5 @@
 pub mod Ascii
+pub mod Holding
 pub mod Lending
 pub mod Lines
 pub mod Number

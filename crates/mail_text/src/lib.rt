@@ -1,8 +1,9 @@
-//! Byte texts and lists of values, which contracts see as lists; a text by lines; numbers in digits; comparison without
-//! ASCII case; blanks.
+//! Byte texts and lists of values, which contracts see as lists; a text by lines; numbers in digits; comparison and
+//! search without ASCII case; blanks.
 #![tactic(auto)]
 
 mod ascii;
+mod holding;
 mod items;
 mod memory;
 mod number;
@@ -15,6 +16,7 @@ ghost use Rattle.std.specs.List.{flat_map};
 ghost use Rattle.mail_text.specs.Lines.{lines_of, with_feed, fed, HasNoFeed};
 
 pub use ascii::{is_blank, same_ascii};
+pub use holding::holds_ascii;
 pub use items::Items;
 pub use memory::Memory;
 pub use number::read_number;

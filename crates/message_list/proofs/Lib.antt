@@ -1,4 +1,3 @@
-pub mod SubjectLemmas
 pub mod QuoteLemmas
 pub mod ListFacts
 pub mod ViewLemmas

@@ -1,5 +1,6 @@
 -- How the walk over a view finds what a word names: by the places where a message can stand, and by its row.
 use Rattle.std.specs.Prelude.{◌≡◌, ℕ, ◌-◌, ◌<◌, ◌≤◌, Bool, true, false, ◌&&◌, ◌||◌, nat_le, nat_lt, List, [], length, drop, slice_index, slice_index_or}
+use Rattle.mail_text.specs.Holding.{holds_ascii}
 use Rattle.message_state.specs.declared.row.Row.{Row}
 use Rattle.message_state.specs.declared.shown.Shown.{Shown}
 use Rattle.message_list.specs.declared.list.Kind.{Kind}
@@ -9,7 +10,7 @@ use Rattle.message_list.specs.declared.list.Purpose.{Purpose}
 use Rattle.message_list.specs.declared.span.Span.{Span}
 use Rattle.message_list.specs.declared.span.Landmarks.{Landmarks}
 use Rattle.message_list.specs.Places.{row_passes, is_for, in_base, first_of, last_of, next_of, previous_of}
-use Rattle.message_list.specs.Naming.{is_author, holds_ascii, has_letter, kind_names, names}
+use Rattle.message_list.specs.Naming.{is_author, has_letter, kind_names, names}
 use Rattle.message_list.specs.Selections.{is_named}
 
 -- what a word of this kind asks of a row

@@ -1,10 +1,9 @@
 -- Which messages a word of a list names.
-use Rattle.std.specs.Prelude.{ℕ, ◌+◌, Bool, true, false, not, ◌&&◌, ◌||◌, ◌==◌, nat_le, List, length, drop, Option, Some, None}
+use Rattle.std.specs.Prelude.{ℕ, Bool, true, false, not, ◌&&◌, ◌||◌, ◌==◌, nat_le, List, drop, Option, Some, None}
 use Rattle.std.specs.Option.{option_and_then}
-use Rattle.std.specs.List.{list_any, range_with_len}
-use Rattle.memchr.specs.Find.{occurs_at}
-use Rattle.std.specs.Str.{str_to_ascii_lowercase}
+use Rattle.std.specs.List.{list_any}
 use Rattle.mail_text.specs.Ascii.{same_ascii}
+use Rattle.mail_text.specs.Holding.{holds_ascii}
 use Rattle.message_state.specs.declared.mark.Flags.{Flags}
 use Rattle.message_state.specs.declared.mark.Mark.{Mark}
 use Rattle.message_state.specs.declared.mark.State.{State}
@@ -40,14 +39,6 @@ end_place shown purpose end = option_and_then (place_of shown) (end_message show
 abbrev pub is_between : Option ℕ → Option ℕ → Option ℕ → Bool
 is_between (Some a) (Some b) (Some p) = nat_le a p && nat_le p b
 is_between a b p = false
-
--- the string stands at some place of the text
-unfoldable pub holds : List ℕ → List ℕ → Bool
-holds string text = list_any (occurs_at text string) (range_with_len 0 (length text + 1))
-
--- the string stands at some place of the text, the case of ASCII letters aside
-abbrev pub holds_ascii : List ℕ → List ℕ → Bool
-holds_ascii string text = holds (str_to_ascii_lowercase string) (str_to_ascii_lowercase text)
 
 -- the author is the word, or, if the word has no `@`, the author's local part is; the case of ASCII letters aside
 abbrev pub is_author : List ℕ → List ℕ → Bool

@@ -8,7 +8,6 @@ mod list;
 mod read;
 mod selection;
 mod span;
-mod subject;
 mod view;
 
 pub use author::{author_local_part, before_at};

@@ -9,9 +9,8 @@ ghost use Rattle.message_list.specs.Marking.{kind_fits, is_hit, is_selected, kin
 use crate::author::is_author;
 use crate::list::{Item, Kind, ListError, ListSpec, Purpose};
 use crate::span::{Landmarks, Span, landmarks_of, span_of};
-use crate::subject::holds_ascii;
 use crate::view::{at_or_before, first_of, in_base, is_for, last_of, next_of, previous_of, row_at};
-use mail_text::{Memory, Text};
+use mail_text::{Memory, Text, holds_ascii};
 use message_state::{Flags, Mark, Row, Shown, State};
 use std::alloc::Global;
 

@@ -2,9 +2,9 @@ use Rattle.std.proofs.Common.{◌≡◌, List, ℕ, sym, ap, ◌∙◌, arith}
 use Rattle.std.proofs.lemmas.List.{length-map}
 use Rattle.std.specs.Str.{str_to_ascii_lowercase}
 use Rattle.std.specs.Char.{to_ascii_lowercase}
-use Rattle.message_list.specs.Naming.{holds}
-use Rattle.message_list.proofs.SubjectLemmas.{holds-found, holds-short}
-use Rattle.message_list.proofs.subject.holds_ascii.Goals as goal
+use Rattle.mail_text.specs.Holding.{holds}
+use Rattle.mail_text.proofs.HoldingLemmas.{holds-found, holds-short}
+use Rattle.mail_text.proofs.holding.holds_ascii.Goals as goal
 
 pub returns-then-text-string : goal.returns-then-text-string
 returns-then-text-string c =

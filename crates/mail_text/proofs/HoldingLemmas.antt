@@ -6,7 +6,7 @@ use Rattle.std.proofs.lemmas.List.Folds.{list_any_at, list_any_none}
 use Rattle.std.proofs.lemmas.List.FromFn.{length-range_with_len, get_or-range_with_len}
 use Rattle.memchr.specs.Find.{OccursAt, FindsNeedle, occurs_at}
 use Rattle.memchr.proofs.lemmas.MatchLemmas.{occurs_at-true, OccursAt-true}
-use Rattle.message_list.specs.Naming.{holds}
+use Rattle.mail_text.specs.Holding.{holds}
 
 -- a place where the string stands
 pub holds-at : (string text : List ℕ) (k : ℕ) → OccursAt text string k → holds string text ≡ true
