@@ -10,7 +10,8 @@ use Rattle.mail_addresses.specs.Lexical.{texts}
 use Rattle.mail_addresses.specs.Listing.{pieces_from, Reads, IsFirstAddress}
 use Rattle.mail_dates.specs.FromLines.{sender_of}
 use Rattle.message_state.specs.declared.row.Row.{Row}
-use Rattle.message_state.specs.Rows.{IsFirstOf, IsRow, spec_or, after_from, value_or_empty}
+use Rattle.mail_dates.specs.Messages.{after_from}
+use Rattle.message_state.specs.Rows.{IsFirstOf, IsRow, spec_or, value_or_empty}
 use Rattle.name_lists.specs.Names.{has_name, with_names}
 use Rattle.alias_groups.specs.declared.own.Own.{Own}
 use Rattle.alias_groups.specs.Expansion.{dropped_names}

@@ -9,7 +9,8 @@ use Rattle.mail_headers.specs.Header.{field_named}
 use Rattle.mail_dates.specs.FromLines.{sender_of}
 use Rattle.message_state.specs.declared.row.Row.{Row}
 use Rattle.message_state.specs.Ids.{first_id}
-use Rattle.message_state.specs.Rows.{after_from, ids_named, value_or_empty}
+use Rattle.mail_dates.specs.Messages.{after_from}
+use Rattle.message_state.specs.Rows.{ids_named, value_or_empty}
 use Rattle.alias_groups.specs.declared.own.Own.{Own}
 use Rattle.alias_groups.specs.Expansion.{dropped_names}
 use Rattle.name_lists.specs.Names.{has_name, with_name, with_names}

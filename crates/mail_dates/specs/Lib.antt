@@ -2,6 +2,7 @@ pub mod Clock
 pub mod DateFields
 pub mod FromLines
 pub mod Laws
+pub mod Messages
 pub mod Names
 pub mod Parts
 pub mod Printed

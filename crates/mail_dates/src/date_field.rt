@@ -28,8 +28,10 @@ fn skip_day_name(text: &[u8]) -> Option<&[u8]>
     Some(rest)
 }
 
-// The day number of a year, a month and a day as they are written.
-fn written_date(year: &[u8], month: &[u8], day: &[u8]) -> Option<i32>
+/// The day number, 0 for 1 January 1970, of a year of two to four digits, a month's name and a day of one or two digits,
+/// as a `Date` field has them (RFC 5322, sections 3.3 and 4.3); the case of ASCII letters is ignored. None if one of them
+/// isn't written so, or the calendar has no such day in the years 1 to 9999.
+pub fn written_date(year: &[u8], month: &[u8], day: &[u8]) -> Option<i32>
     ensures value { result ≡ written_date year.now month.now day.now }
     ensures bound { IfSome result IsDayInYears }
 {

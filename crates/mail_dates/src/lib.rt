@@ -5,6 +5,7 @@
 mod date_field;
 mod from_line;
 mod law;
+mod message;
 mod moment;
 mod names;
 mod parts;
@@ -12,12 +13,13 @@ mod print;
 mod values;
 mod zone;
 
-pub use date_field::read_date;
+pub use date_field::{read_date, written_date};
 pub use from_line::{FromLine, read_from_line};
 pub use law::{
     day_has_date, printed_date_reads, printed_dates_are_plain, printed_from_date_reads,
     short_date_is_plain,
 };
-pub use moment::Moment;
+pub use message::{after_from, moment_of};
+pub use moment::{Moment, day_of};
 pub use print::{print_date, print_from_date, print_short_date};
 pub use zone::{Zone, ZoneError, moment_at, utc, zone_of};

@@ -10,7 +10,8 @@ use Rattle.message_state.specs.declared.mark.Mark.{Mark}
 use Rattle.message_state.specs.declared.row.Row.{Row}
 use Rattle.message_state.specs.Ids.{first_id}
 use Rattle.message_state.specs.RowTexts.{Texts}
-use Rattle.message_state.specs.Rows.{IsFirstOf, AreTextsOf, IsRow, spec_or, name_or, after_from, value_or_empty, moment_of, ids_named}
+use Rattle.mail_dates.specs.Messages.{after_from, moment_of}
+use Rattle.message_state.specs.Rows.{IsFirstOf, AreTextsOf, IsRow, spec_or, name_or, value_or_empty, ids_named}
 use Rattle.message_state.proofs.TextsLemmas.{texts-same}
 use Rattle.message_state.specs.Status.{mark_of}
 

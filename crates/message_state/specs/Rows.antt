@@ -1,13 +1,12 @@
 -- What a summary, a selection and a view know of a message.
-use Rattle.std.specs.Prelude.{◌≡◌, ℕ, ◌+◌, ◌==◌, List, [], length, drop, Option, Some, None, codes, if◌then◌else◌}
-use Rattle.std.specs.Option.{option_map, option_or, option_and_then, unwrap_or}
+use Rattle.std.specs.Prelude.{◌≡◌, ℕ, ◌+◌, ◌==◌, List, [], length, Option, Some, None, codes, if◌then◌else◌}
+use Rattle.std.specs.Option.{option_map, unwrap_or}
 use Rattle.mail_headers.specs.Field.{Field, unfolded}
-use Rattle.mail_headers.specs.Header.{from_line, field_named}
+use Rattle.mail_headers.specs.Header.{field_named}
 use Rattle.mail_addresses.specs.declared.address.Address.{Address}
 use Rattle.mail_addresses.specs.Listing.{IsFirstAddress}
-use Rattle.mail_dates.specs.declared.moment.Moment.{Moment}
-use Rattle.mail_dates.specs.DateFields.{date_of}
-use Rattle.mail_dates.specs.FromLines.{sender_of, arrival_of}
+use Rattle.mail_dates.specs.FromLines.{sender_of}
+use Rattle.mail_dates.specs.Messages.{after_from, moment_of}
 use Rattle.message_state.specs.declared.row.Row.{Row}
 use Rattle.message_state.specs.Status.{mark_of}
 use Rattle.message_state.specs.Ids.{ids_of, first_id}
@@ -16,10 +15,6 @@ use Rattle.message_state.specs.RowTexts.{Texts}
 -- the unfolded value of a field, empty if there is none
 abbrev pub value_or_empty : Option Field → List ℕ
 value_or_empty field = unwrap_or (option_map unfolded field) []
-
--- the From line without the `From ` in front
-abbrev pub after_from : List ℕ → List ℕ
-after_from t = drop 5 (from_line t)
 
 -- the first address of a value, if there is a value
 abbrev pub IsFirstIn : Option (List ℕ) → Option Address → Type 0
@@ -51,14 +46,6 @@ HasAuthor field sender texts = (found : Option Address) × IsFirstOf field found
 -- the addressee is the first address of the field, or empty
 abbrev pub HasAddressee : Option Field → Texts → Type 0
 HasAddressee field texts = (found : Option Address) × IsFirstOf field found × (texts.to ≡ spec_or [] found)
-
--- the date of a field, if there is a field and it reads
-abbrev pub date_in : Option Field → Option Moment
-date_in field = option_and_then (λ f. date_of (unfolded f)) field
-
--- a message's moment is its `Date` if that reads, else its From line's, if there is one
-abbrev pub moment_of : List ℕ → Option Moment
-moment_of t = option_or (date_in (field_named (codes "Date") t)) (arrival_of (after_from t))
 
 -- the ids of a field
 abbrev pub ids_named : List ℕ → List ℕ → List (List ℕ)

@@ -1,10 +1,10 @@
-ghost use Rattle.std.specs.Prelude.{◌≡◌, [], drop, IfOk, IfSome};
-ghost use Rattle.std.specs.Option.{option_map, option_or, unwrap_or};
+ghost use Rattle.std.specs.Prelude.{◌≡◌, [], IfOk, IfSome};
+ghost use Rattle.std.specs.Option.{option_map, unwrap_or};
 ghost use Rattle.mail_headers.specs.Field.{unfolded};
 ghost use Rattle.mail_dates.specs.Clock.{IsInYears};
-ghost use Rattle.mail_dates.specs.FromLines.{sender_of, arrival_of};
+ghost use Rattle.mail_dates.specs.FromLines.{sender_of};
 ghost use Rattle.message_state.specs.Ids.{ids_of};
-ghost use Rattle.message_state.specs.Rows.{value_or_empty, IsFirstIn, AreTextsIn, spec_or, display_name, name_or, date_in, IsRow};
+ghost use Rattle.message_state.specs.Rows.{value_or_empty, IsFirstIn, AreTextsIn, spec_or, display_name, name_or, IsRow};
 
 use crate::Mark;
 use crate::fields::row_fields;
@@ -12,7 +12,7 @@ use crate::ids::{first_id, ids_of};
 use crate::row_texts::RowTexts;
 use crate::status::mark_of_fields;
 use mail_addresses::{FoundAddress, first_address};
-use mail_dates::{Moment, read_date, read_from_line};
+use mail_dates::{Moment, after_from, moment_of, read_from_line};
 use mail_headers::{FieldRef, UnfoldedValue, from_line_in, unfold_value};
 use mail_text::{Items, Memory, Text};
 use std::alloc::Global;
@@ -62,19 +62,6 @@ pub fn row_of(alloc: Global, text: &[u8]) -> Result<Row, Memory>
         moment,
         size: text.len() as u64 + 1,
     })
-}
-
-// The From line without the `From ` in front.
-fn after_from(line: &[u8]) -> &[u8]
-    ensures { result.now ≡ drop 5 line.now }
-{
-    if line.len() < 5 {
-        let (_, rest) = line.split_at(line.len());
-        rest
-    } else {
-        let (_, rest) = line.split_at(5);
-        rest
-    }
 }
 
 // The texts of a row, from fields and from what the From line has after `From `.
@@ -175,28 +162,6 @@ fn spec_of<'v>(found: &'v Option<FoundAddress<'_>>) -> &'v [u8]
     match found {
         Some(address) => address.spec(),
         None => &[],
-    }
-}
-
-// The date of a field if it reads, else the moment of the From line, which is read only then.
-fn moment_of(
-    alloc: Global,
-    date: Option<FieldRef<'_>>,
-    line: &[u8],
-) -> Result<Option<Moment>, Memory>
-    ensures moment { IfOk result (λ moment. moment ≡ option_or (date_in date.entry) (arrival_of line.now)) }
-    ensures years { IfOk result (λ moment. IfSome moment IsInYears) }
-{
-    let written = match date {
-        Some(field) => {
-            let value = unfold_value(alloc, field)?;
-            read_date(value.bytes())
-        }
-        None => None,
-    };
-    match written {
-        Some(moment) => Ok(Some(moment)),
-        None => Ok(read_from_line(line).moment),
     }
 }
 
