@@ -1,0 +1,7 @@
+pub mod CriterionLemmas
+pub mod MatchingLemmas
+pub mod NameLemmas
+pub mod ReadLemmas
+pub mod SpanLemmas
+pub mod StepLemmas
+pub mod TokenLemmas

@@ -1,0 +1,10 @@
+use Rattle.std.proofs.Common.{◌≡◌}
+use Rattle.mail_search.specs.Meaning.{field_holds}
+use Rattle.mail_search.proofs.MatchingLemmas.{holding_in}
+use Rattle.mail_search.proofs.matching.field_holds.Given as goal
+
+-- what is left tells of the whole header
+abbrev pub invariant-loop-entry : goal.invariant-loop-entry
+invariant-loop-entry l =
+    (goal.iterator-loop-entry).can_next l.entry-iterator × (goal.iterator-loop-entry).is_finite l.entry-iterator
+    × (holding_in l.name l.string l.entry-iterator ≡ field_holds l.name l.string l.text)

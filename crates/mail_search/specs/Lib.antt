@@ -1,0 +1,9 @@
+pub mod Days
+pub mod Grammar
+pub mod Keys
+pub mod Known
+pub mod Meaning
+pub mod Names
+pub mod Reading
+pub mod Steps
+pub mod Tokens

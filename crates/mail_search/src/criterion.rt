@@ -1,0 +1,98 @@
+ghost use Rattle.std.specs.Prelude.{◌≡◌};
+
+use mail_text::{Items, Text};
+
+/// What is known of a message beside its text.
+#[derive(Clone, Copy, Debug, PartialEq, Eq)]
+pub struct Facts {
+    /// It was read.
+    pub seen: bool,
+    /// It is deleted.
+    pub deleted: bool,
+    /// It was answered.
+    pub answered: bool,
+    /// It is flagged.
+    pub flagged: bool,
+    /// It is a draft.
+    pub draft: bool,
+}
+
+/// One of the facts.
+#[derive(Clone, Copy)]
+pub(crate) enum Fact {
+    Seen,
+    Deleted,
+    Answered,
+    Flagged,
+    Draft,
+}
+
+/// Which moment a day is asked of: when the message came, by its From line, or its own, by its field `Date` first.
+#[derive(Clone, Copy)]
+pub(crate) enum Clock {
+    Arrival,
+    Message,
+}
+
+/// How a day stands to another: before it, the same, or not before it.
+#[derive(Clone, Copy)]
+pub(crate) enum Order {
+    Before,
+    On,
+    Since,
+}
+
+/// A key that isn't made of others.
+#[derive(Drop)]
+pub(crate) enum Test {
+    /// It always holds.
+    All,
+    /// The fact holds, or it doesn't.
+    Is(Fact, bool),
+    /// Some field of the first name, unfolded, holds the second string.
+    Field(Text, Text),
+    /// The body holds the string.
+    Body(Text),
+    /// The text after its first line holds the string.
+    Text(Text),
+    /// The message has more bytes.
+    Larger(u64),
+    /// The message has fewer bytes.
+    Smaller(u64),
+    /// The day of the message's moment is in this order to the day of this number, 0 for 1 January 1970.
+    Day(Clock, Order, i32),
+}
+
+/// A step over a stack of keys: puts a test on top, negates the key on top, or makes one key of the two on top.
+#[derive(Drop)]
+pub(crate) enum Step {
+    Test(Test),
+    Not,
+    Or,
+    Both,
+}
+
+/// A search criterion. Contracts see the tree of its keys, by `key_of`.
+#[derive(Drop)]
+pub struct Criterion {
+    // each key stands after the keys that it is made of
+    steps: Items<Step>,
+}
+
+impl Criterion {
+    ghost use Rattle.mail_search.specs.Steps.{keys_of, last_key, key_of};
+
+    // The criterion whose keys these steps make.
+    pub(crate) fn of(steps: Items<Step>) -> Criterion
+        ensures { key_of result ≡ last_key (keys_of steps) }
+    {
+        Criterion { steps }
+    }
+
+    // The steps.
+    pub(crate) fn steps(&self) -> &[Step]
+        ensures { last_key (keys_of result.now) ≡ key_of self.now }
+    {
+        self.steps.items()
+    }
+}

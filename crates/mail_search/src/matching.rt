@@ -1,0 +1,234 @@
+ghost use Rattle.std.specs.Prelude.{◌≡◌, List, true, false, if◌then◌else◌, IfOk, OnOk, IfSome};
+ghost use Rattle.mail_text.specs.Holding.{holds_ascii};
+ghost use Rattle.mail_headers.specs.Field.{unfolded};
+ghost use Rattle.mail_headers.specs.Header.{field_named};
+ghost use Rattle.mail_dates.specs.Clock.{IsInYears};
+ghost use Rattle.mail_search.specs.Keys.{Key};
+ghost use Rattle.mail_search.specs.Steps.{with_step, key_of};
+ghost use Rattle.mail_search.specs.Known.{known_or, IsKnown};
+ghost use Rattle.mail_search.specs.declared.matching.Held.TheVariants.{Known};
+ghost use Rattle.mail_search.specs.Meaning.{fact_in, field_holds, after_first_line, size_of, moment_by, day_at, is_in_order, day_passes, passes, key_holds};
+
+use crate::criterion::{Clock, Criterion, Fact, Facts, Order, Step, Test};
+use crate::stack::Stack;
+use mail_dates::{Moment, after_from, day_of, moment_of, read_from_line};
+use mail_headers::{FieldRef, Header, entries_in, from_line_in, unfold_value};
+use mail_text::{Memory, holds_ascii, same_ascii};
+use std::alloc::Global;
+
+/// Whether a key holds: it is known, or is still to be asked of a test.
+#[derive(Clone, Copy)]
+pub(crate) enum Held<'a> {
+    Known(bool),
+    Open(&'a Test),
+}
+
+/// Whether a message of this text, of which these facts are known, meets the criterion. The text ends before its last
+/// line feed. Each key reads it once at most, and a key that can't change the answer doesn't, if it isn't made of others.
+/// Fails only if memory runs out.
+pub fn matches(
+    alloc: Global,
+    criterion: &Criterion,
+    text: &[u8],
+    facts: &Facts,
+) -> Result<bool, Memory>
+    ensures { IfOk result (λ held. held ≡ key_holds text.now facts.now (key_of criterion.now)) }
+{
+    let mut held = Stack::new(alloc);
+    for step in criterion.steps() {
+        carry_out(alloc, step, text, facts, &mut held)?;
+    }
+    ask(alloc, held.pop(), true, text, facts)
+}
+
+// Carries a step out on what is known of the keys so far, the last one on top.
+fn carry_out<'a>(
+    alloc: Global,
+    step: &'a Step,
+    text: &[u8],
+    facts: &Facts,
+    held: &mut Stack<Held<'a>>,
+) -> Result<(), Memory>
+    ensures { OnOk result ((keys : List Key) → IsKnown text.now facts.now held.old keys
+        → IsKnown text.now facts.now held.new (with_step keys step.now)) }
+{
+    match step {
+        Step::Test(test) => held.push(Held::Open(test)),
+        Step::Not => match held.pop() {
+            Some(one) => {
+                let one = ask(alloc, Some(one), true, text, facts)?;
+                held.push(Held::Known(!one))
+            }
+            None => Ok(()),
+        },
+        Step::Or => {
+            let Some(second) = held.pop() else {
+                return Ok(());
+            };
+            let first = ask(alloc, held.pop(), false, text, facts)?;
+            held.push(either_of(first, second))
+        }
+        Step::Both => {
+            let Some(second) = held.pop() else {
+                return Ok(());
+            };
+            let first = ask(alloc, held.pop(), true, text, facts)?;
+            held.push(both_of(first, second))
+        }
+    }
+}
+
+// Whether one of two keys holds, by whether the first does.
+fn either_of(first: bool, second: Held<'_>) -> Held<'_>
+    ensures { result ≡ (if first then Known true else second.entry) }
+{
+    if first { Held::Known(true) } else { second }
+}
+
+// Whether both of two keys hold, by whether the first does.
+fn both_of(first: bool, second: Held<'_>) -> Held<'_>
+    ensures { result ≡ (if first then second.entry else Known false) }
+{
+    if first { second } else { Held::Known(false) }
+}
+
+// Whether the key holds; what is given if there is none.
+fn ask(
+    alloc: Global,
+    held: Option<Held<'_>>,
+    otherwise: bool,
+    text: &[u8],
+    facts: &Facts,
+) -> Result<bool, Memory>
+    ensures { IfOk result (λ answer. answer ≡ known_or text.now facts.now otherwise held.entry) }
+{
+    match held {
+        Some(Held::Known(known)) => Ok(known),
+        Some(Held::Open(test)) => passes(alloc, test, text, facts),
+        None => Ok(otherwise),
+    }
+}
+
+// Whether the message passes the test.
+fn passes(alloc: Global, test: &Test, text: &[u8], facts: &Facts) -> Result<bool, Memory>
+    ensures { IfOk result (λ passed. passed ≡ passes text.now facts.now test.now) }
+{
+    match test {
+        Test::All => Ok(true),
+        Test::Is(fact, true) => Ok(fact_in(facts, *fact)),
+        Test::Is(fact, false) => Ok(!fact_in(facts, *fact)),
+        Test::Field(name, string) => field_holds(alloc, name.bytes(), string.bytes(), text),
+        Test::Body(string) => {
+            let header = Header::read(alloc, text)?;
+            holds_ascii(alloc, string.bytes(), header.body())
+        }
+        Test::Text(string) => holds_ascii(alloc, string.bytes(), after_first_line(text)),
+        Test::Larger(limit) => Ok(*limit < size_of(text)),
+        Test::Smaller(limit) => Ok(size_of(text) < *limit),
+        Test::Day(clock, order, limit) => {
+            let moment = moment_by(alloc, *clock, text)?;
+            Ok(day_passes(*order, *limit, moment))
+        }
+    }
+}
+
+fn fact_in(facts: &Facts, fact: Fact) -> bool
+    ensures { result ≡ fact_in facts.now fact }
+{
+    match fact {
+        Fact::Seen => facts.seen,
+        Fact::Deleted => facts.deleted,
+        Fact::Answered => facts.answered,
+        Fact::Flagged => facts.flagged,
+        Fact::Draft => facts.draft,
+    }
+}
+
+// How many bytes the message has, its last line feed with them.
+fn size_of(text: &[u8]) -> u64
+    ensures { result ≡ size_of text.now }
+{
+    text.len() as u64 + 1
+}
+
+// The text after its first line.
+fn after_first_line(text: &[u8]) -> &[u8]
+    ensures { result.now ≡ after_first_line text.now }
+{
+    let end = from_line_in(text).len();
+    if end < text.len() {
+        let (_, after) = text.split_at(end + 1);
+        after
+    } else {
+        &[]
+    }
+}
+
+// Whether some field of this name, unfolded, holds the string.
+fn field_holds(alloc: Global, name: &[u8], string: &[u8], text: &[u8]) -> Result<bool, Memory>
+    ensures { IfOk result (λ held. held ≡ field_holds name.now string.now text.now) }
+{
+    for entry in entries_in(text) {
+        if let Some(field) = entry.field() {
+            if same_ascii(field.name(), name) && value_holds(alloc, field, string)? {
+                return Ok(true);
+            }
+        }
+    }
+    Ok(false)
+}
+
+// Whether the value of the field, unfolded, holds the string.
+fn value_holds(alloc: Global, field: FieldRef<'_>, string: &[u8]) -> Result<bool, Memory>
+    ensures { IfOk result (λ held. held ≡ holds_ascii string.now (unfolded field.entry)) }
+{
+    let value = unfold_value(alloc, field)?;
+    holds_ascii(alloc, string, value.bytes())
+}
+
+// The first field of this name.
+fn first_field<'a>(name: &[u8], text: &'a [u8]) -> Option<FieldRef<'a>>
+    ensures { result ≡ field_named name.now text.now }
+{
+    for entry in entries_in(text) {
+        if let Some(field) = entry.field() {
+            if same_ascii(field.name(), name) {
+                return Some(field);
+            }
+        }
+    }
+    None
+}
+
+// When the message came, or its own moment.
+fn moment_by(alloc: Global, clock: Clock, text: &[u8]) -> Result<Option<Moment>, Memory>
+    ensures moment { IfOk result (λ moment. moment ≡ moment_by clock text.now) }
+    ensures years { IfOk result (λ moment. IfSome moment IsInYears) }
+{
+    let line = after_from(from_line_in(text));
+    match clock {
+        Clock::Arrival => Ok(read_from_line(line).moment),
+        Clock::Message => moment_of(alloc, first_field(b"Date", text), line),
+    }
+}
+
+// Whether the day of the moment is in this order to the day of this number; without a moment it is in none.
+fn day_passes(order: Order, limit: i32, moment: Option<Moment>) -> bool
+    requires { IfSome moment IsInYears }
+    ensures { result ≡ day_passes order limit moment }
+{
+    match moment {
+        Some(moment) => is_in_order(order, day_of(moment), i64::from(limit)),
+        None => false,
+    }
+}
+
+fn is_in_order(order: Order, day: i64, limit: i64) -> bool
+    ensures { result ≡ is_in_order order day limit }
+{
+    match order {
+        Order::Before => day < limit,
+        Order::On => day == limit,
+        Order::Since => day >= limit,
+    }
+}
