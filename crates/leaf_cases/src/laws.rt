@@ -61,6 +61,7 @@ fn speak_of_sessions() {
     comments_are_the_same();
     a_text_has_one_row();
     each_text_has_a_row();
+    mail_search::one_criterion();
     line_words::a_word_names_one_command();
     line_words::lines_are_cut_into_words();
     line_words::words_read_back();

@@ -24,6 +24,7 @@ mod lists;
 mod macros;
 mod mailboxes;
 mod quits;
+mod searches;
 mod show;
 mod states;
 mod texts;
@@ -51,6 +52,7 @@ fn put_answer(kept: &mut Kept, case: &[Text], out: &mut Answer) {
         "command" => commands::put(case, out),
         "vars" => vars::put(&mut kept.vars, case, out),
         "messages" => kept.keep_messages(case, out),
+        "search" => searches::put(case, out),
         "list" => lists::put(kept.messages.items(), case, out),
         "show" => show::put(kept.messages.items(), case, out),
         "view" => views::put(kept.messages.items(), case, out),

@@ -1,0 +1,40 @@
+// Cases of search criteria.
+use crate::case::{field, words};
+use case_blocks::Answer;
+use mail_search::{Criterion, Facts, SearchError, matches, read_criterion};
+use mail_text::Text;
+
+pub fn put(case: &[Text], out: &mut Answer) {
+    match read_criterion(out.alloc(), field(case, 2)) {
+        Ok(criterion) => put_of(&criterion, case, out),
+        Err(SearchError::Syntax) => out.put(b"none"),
+        Err(SearchError::Memory) => out.lack(),
+    }
+}
+
+fn put_of(criterion: &Criterion, case: &[Text], out: &mut Answer) {
+    match words(case, 1) {
+        "read" => out.put(b"one"),
+        "match" => put_match(criterion, case, out),
+        _ => out.put_bad(),
+    }
+}
+
+// Whether a message meets the criterion: its facts by their first letters, and its text.
+fn put_match(criterion: &Criterion, case: &[Text], out: &mut Answer) {
+    let facts = facts_of(words(case, 3));
+    match matches(out.alloc(), criterion, field(case, 4), &facts) {
+        Ok(held) => out.put_flag(held),
+        Err(_) => out.lack(),
+    }
+}
+
+fn facts_of(letters: &str) -> Facts {
+    Facts {
+        seen: letters.contains('s'),
+        deleted: letters.contains('d'),
+        answered: letters.contains('a'),
+        flagged: letters.contains('f'),
+        draft: letters.contains('r'),
+    }
+}
