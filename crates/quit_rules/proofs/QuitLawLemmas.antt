@@ -1,5 +1,5 @@
 -- What holds of every quit.
-use Rattle.std.proofs.Common.{◌≡◌, ◌⊎◌, inl, inr, ℕ, zero, suc, ◌+◌, ◌≤◌, ◌<◌, Bool, true, false, ◌&&◌, ◌||◌, ◌==◌, List, [], ◌∷◌, ◌++◌, length, map, get_or, refl, sym, ap, ◌∙◌, arith, ⊎_elim}
+use Rattle.std.proofs.Common.{◌≡◌, ◌⊎◌, inl, inr, ℕ, zero, suc, ◌+◌, ◌≤◌, ◌<◌, Bool, true, false, ◌&&◌, ◌||◌, ◌==◌, List, [], ◌∷◌, ◌++◌, length, map, get_or, refl, sym, ap, ◌∙◌, arith, ⊎_elim, append-nil}
 use Rattle.std.specs.Prelude.{if◌then◌else◌, filter, not, codes, Contains, All}
 use Rattle.std.specs.List.{zip, prefix_len}
 use Rattle.std.proofs.lemmas.Bool.{cases_Bool, cond-true, cond-false, false≢true}
@@ -19,7 +19,8 @@ use Rattle.quit_rules.specs.declared.fate.Fate.TheVariants.{Stays, GoesToMbox, L
 use Rattle.quit_rules.specs.declared.fate.Rules.{Rules}
 use Rattle.quit_rules.specs.declared.open.Open.{Open}
 use Rattle.quit_rules.specs.Fates.{rules_of, fate_of, is_staying, is_boxed}
-use Rattle.quit_rules.specs.Plans.{IsOpen, Message, messages_of, stamped_text, texts_where, staying, boxed, same_texts, mbox_changes, folder_changes, quit_changes, is_unchanged, unchanged_len}
+use Rattle.quit_rules.specs.Plans.{IsOpen, Message, messages_of, stamped_text, texts_where, staying, boxed, same_texts, mbox_changes, folder_changes, leaving_changes, is_unchanged, unchanged_len}
+use Rattle.quit_rules.specs.Gathering.{gathered_changes}
 use Rattle.quit_rules.specs.QuitLaws.{is_given_up, EachTextStands, IsOfFolder, NothingElseStands, EachStandsOnce, StaysAsItIs, UnchangedIsLeft}
 use Rattle.quit_rules.proofs.PlanLemmas.{count-messages, same-unchanged, all-staying, all-boxed, same-true, true-same}
 
@@ -170,9 +171,9 @@ stands-once folder vars = all-counted (rules_of folder vars) (messages_of folder
 
 -- ---- the plan
 -- where all stay as they are there is no change
-pub quit-none : (folder : Open) (vars : Settings) (mbox : List ℕ) → IsOpen folder → unchanged_len (rules_of folder vars) (messages_of folder) ≡ length (messages_of folder)
-    → quit_changes folder vars mbox ≡ []
-quit-none folder vars mbox same all =
+pub leaving-none : (folder : Open) (vars : Settings) (mbox : List ℕ) → IsOpen folder → unchanged_len (rules_of folder vars) (messages_of folder) ≡ length (messages_of folder)
+    → leaving_changes folder vars mbox ≡ []
+leaving-none folder vars mbox same all =
     let rules = rules_of folder vars in
     let ms = messages_of folder in
     let stay : staying folder vars ≡ texts_of folder.folder = all-staying rules ms all ∙ firsts-zip (texts_of folder.folder) folder.marks same in
@@ -200,15 +201,17 @@ all-unchanged folder vars (m ∷ ms) all =
     omega arith
 
 pub unchanged-left : UnchangedIsLeft
-unchanged-left folder vars mbox same all = quit-none folder vars mbox same (all-unchanged folder vars (messages_of folder) all)
+unchanged-left folder vars mbox gathered same all =
+    ap (λ (l : List Change). gathered_changes gathered ++ l) (leaving-none folder vars mbox same (all-unchanged folder vars (messages_of folder) all))
+    ∙ append-nil (gathered_changes gathered)
 
 -- the changes where one message doesn't stay as it is
-pub quit-some : (folder : Open) (vars : Settings) (mbox : List ℕ) (rules : Rules) (unchanged count : ℕ) (stay go : List (List ℕ)) (first : List Change) (name : List ℕ) (keep : Bool)
+pub leaving-some : (folder : Open) (vars : Settings) (mbox : List ℕ) (rules : Rules) (unchanged count : ℕ) (stay go : List (List ℕ)) (first : List Change) (name : List ℕ) (keep : Bool)
     → IsOpen folder → rules ≡ rules_of folder vars → unchanged ≡ unchanged_len rules (messages_of folder) → count ≡ length (texts_of folder.folder) → (unchanged ≡ count → ⊥)
     → stay ≡ texts_where is_staying rules (messages_of folder) → go ≡ texts_where is_boxed rules (messages_of folder)
     → first ≡ mbox_changes go vars mbox → name ≡ folder.name → keep ≡ is_set vars (codes "keep")
-    → first ++ Rewrite name stay keep ∷ [] ≡ quit_changes folder vars mbox
-quit-some folder vars mbox rules unchanged count stay go first name keep same are walked counted some stays goes changes named kept =
+    → first ++ Rewrite name stay keep ∷ [] ≡ leaving_changes folder vars mbox
+leaving-some folder vars mbox rules unchanged count stay go first name keep same are walked counted some stays goes changes named kept =
     let rest : stay ≡ staying folder vars = stays ∙ ap (λ (r : Rules). texts_where is_staying r (messages_of folder)) are in
     let away : go ≡ boxed folder vars = goes ∙ ap (λ (r : Rules). texts_where is_boxed r (messages_of folder)) are in
     let front : unchanged ≡ unchanged_len (rules_of folder vars) (messages_of folder) = walked ∙ ap (λ (r : Rules). unchanged_len r (messages_of folder)) are in

@@ -1,3 +1,4 @@
 pub mod Fates
+pub mod Gathering
 pub mod Plans
 pub mod QuitLaws

@@ -1,9 +1,11 @@
 -- What holds of every quit.
-use Rattle.std.specs.Prelude.{◌≡◌, ◌⊎◌, true, false, ◌+◌, ◌==◌, ◌&&◌, ◌||◌, not, ℕ, Bool, List, [], Contains, All, length, filter, codes}
+use Rattle.std.specs.Prelude.{◌≡◌, ◌⊎◌, true, false, ◌+◌, ◌==◌, ◌&&◌, ◌||◌, not, ℕ, Bool, List, Contains, All, length, filter, codes}
 use Rattle.message_state.specs.declared.mark.State.TheVariants.{Deleted, Saved}
 use Rattle.message_state.specs.States.{place}
 use Rattle.mailx_vars.specs.Settings.{Settings, is_set}
 use Rattle.quit_rules.specs.declared.open.Open.{Open}
+use Rattle.quit_rules.specs.declared.gathered.Gathered.{Gathered}
+use Rattle.quit_rules.specs.Gathering.{gathered_changes}
 use Rattle.quit_rules.specs.Fates.{rules_of, fate_of, is_staying}
 use Rattle.quit_rules.specs.Plans.{Message, messages_of, stamped_text, staying, boxed, quit_changes, IsOpen}
 
@@ -40,7 +42,7 @@ pub record StaysAsItIs (folder : Open) (vars : Settings) (m : Message) : Type 0 
   pub stays : is_staying (fate_of (rules_of folder vars) m.1.state) ≡ true
   pub stamped : stamped_text m ≡ m.0
 
--- if each message stays as it is, nothing is changed
+-- if each message stays as it is, nothing is changed but what was gathered
 abbrev pub UnchangedIsLeft : Type 0
-UnchangedIsLeft = (folder : Open) (vars : Settings) (mbox : List ℕ) → IsOpen folder
-    → All (StaysAsItIs folder vars) (messages_of folder) → quit_changes folder vars mbox ≡ []
+UnchangedIsLeft = (folder : Open) (vars : Settings) (mbox : List ℕ) (gathered : List Gathered) → IsOpen folder
+    → All (StaysAsItIs folder vars) (messages_of folder) → quit_changes folder vars mbox gathered ≡ gathered_changes gathered

@@ -8,7 +8,7 @@ pub fn a_quit_loses_nothing()
     ensures once { EachStandsOnce }
 {}
 
-/// A law of every quit: if each message stays and is stamped already, nothing is changed.
+/// A law of every quit: if each message stays and is stamped already, nothing is changed but what was gathered.
 pub fn what_is_unchanged_stays()
     ensures { UnchangedIsLeft }
 {}

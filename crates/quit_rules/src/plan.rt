@@ -1,8 +1,9 @@
 ghost use Rattle.std.specs.Prelude.{◌≡◌, ◌≤◌, length, take, IfOk};
 ghost use Rattle.mbox_scan.specs.Mailbox.{texts_of};
-ghost use Rattle.quit_rules.specs.Plans.{IsOpen, quit_changes, mbox_change, mbox_changes, unchanged_len, messages_of, ArePartsOf};
+ghost use Rattle.quit_rules.specs.Plans.{IsOpen, leaving_changes, quit_changes, mbox_change, mbox_changes, unchanged_len, messages_of, ArePartsOf};
 
-use crate::{Fate, Open, Rules};
+use crate::gathered::gathered_changes;
+use crate::{Fate, Gathered, Open, Rules};
 use folder_change::Change;
 use mail_text::{Items, Memory, Text};
 use mailx_vars::Vars;
@@ -96,17 +97,15 @@ fn mbox_changes(
     Ok(changes)
 }
 
-/// What a quit changes, in this order: the stamped texts that go to mbox are put there, if there are any; then
-/// the folder is rewritten to the stamped texts that stay, if these aren't the texts that it has. The base of
-/// that Rewrite is `folder`. If nothing has changed there is no change at all, and no text is copied.
-pub fn quit_changes(
+// The changes by which the folder is left. If nothing has changed there is no change at all, and no text is copied.
+fn leaving_changes(
     alloc: Global,
     folder: &Open,
     vars: &Vars,
     mbox: &[u8],
 ) -> Result<Vec<Change>, Memory>
     requires { IsOpen folder.now }
-    ensures { IfOk result (λ changes. changes.items ≡ quit_changes folder.now vars.now mbox.now) }
+    ensures { IfOk result (λ changes. changes.items ≡ leaving_changes folder.now vars.now mbox.now) }
 {
     let rules = Rules::of(folder, vars);
     let unchanged = unchanged_len(alloc, folder, rules)?;
@@ -122,5 +121,25 @@ pub fn quit_changes(
         list: staying,
         keep: vars.flag(b"keep"),
     })?;
+    Ok(changes)
+}
+
+/// What a quit changes, in this order: what was gathered is put at the end of its files; the stamped texts that go to
+/// mbox are put there, if there are any; then the folder is rewritten to the stamped texts that stay, if these aren't
+/// the texts that it has. The base of that Rewrite is `folder`. If nothing has changed, no text of the folder is copied.
+pub fn quit_changes(
+    alloc: Global,
+    folder: &Open,
+    vars: &Vars,
+    mbox: &[u8],
+    gathered: &[Gathered],
+) -> Result<Vec<Change>, Memory>
+    requires { IsOpen folder.now }
+    ensures { IfOk result
+        (λ changes. changes.items ≡ quit_changes folder.now vars.now mbox.now gathered.now) }
+{
+    let mut changes = gathered_changes(alloc, gathered)?;
+    let mut leaving = leaving_changes(alloc, folder, vars, mbox)?;
+    changes.append(&mut leaving)?;
     Ok(changes)
 }
