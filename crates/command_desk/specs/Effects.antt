@@ -7,10 +7,12 @@ use Rattle.mailx_vars.specs.declared.settings.Setting.{Setting}
 use Rattle.message_state.specs.declared.mark.Act.{Act}
 use Rattle.message_state.specs.declared.row.Row.{Row}
 use Rattle.message_state.specs.States.{after}
+use Rattle.quit_rules.specs.declared.gathered.Gathered.{Gathered}
 use Rattle.command_desk.specs.declared.desk.Desk.{Desk}
 use Rattle.command_desk.specs.declared.effects.Marking.{Marking}
 use Rattle.command_desk.specs.declared.effects.Effects.{Effects}
 use Rattle.command_desk.specs.declared.naming.Naming.{Naming}
+use Rattle.command_desk.specs.declared.naming.Naming.TheVariants as naming
 use Rattle.command_desk.specs.Naming.{renamed}
 use Rattle.command_desk.specs.Selecting.{last_message}
 
@@ -37,7 +39,7 @@ with_rows desk rows = record desk {
 abbrev pub with_current : Desk → ℕ → Bool → Desk
 with_current desk current fresh = record desk { shown = record desk.shown { current = current }; fresh = fresh }
 
--- the desk after changes but those of names: what isn't named stays
+-- the desk after changes but those of names and of what was gathered: what isn't named stays
 abbrev pub carried : Desk → List Marking → Option ℕ → Option Bool → Option ℕ → List Setting → Desk
 carried desk marks current fresh page settings =
     let with_marks = with_rows desk (rows_after desk.shown.rows marks) in
@@ -59,6 +61,10 @@ unchanged = record { marks = []; current = None; fresh = None; page = None; sett
 -- a change of names, and no other change
 abbrev pub renames : Naming → Effects
 renames change = record unchanged { naming = Some change }
+
+-- these changes, and this is gathered
+abbrev pub gathers : Effects → Gathered → Effects
+gathers effects gathered = record effects { naming = Some (naming.Gather gathered) }
 
 -- message n becomes current; it is unwritten, if another was current before
 abbrev pub moved : Desk → ℕ → Effects

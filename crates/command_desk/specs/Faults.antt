@@ -97,6 +97,10 @@ too_large name = with_feed (name ++ codes ": too large")
 abbrev pub too_many_names : List ℕ
 too_many_names = with_feed (codes "too many names")
 
+-- changes of as many files are gathered as may be
+abbrev pub too_many_files : List ℕ
+too_many_files = with_feed (codes "too many files")
+
 -- the message has no author
 abbrev pub no_author : List ℕ
 no_author = with_feed (codes "no author")

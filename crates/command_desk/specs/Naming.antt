@@ -1,5 +1,5 @@
--- Changes of what the user has named: aliases, own names, fields and macros.
-use Rattle.std.specs.Prelude.{ℕ, List, Option, is_some, if◌then◌else◌}
+-- Changes of what the user has named, which are aliases, own names, fields and macros, and of what was gathered.
+use Rattle.std.specs.Prelude.{ℕ, List, [], ◌∷◌, ◌++◌, Option, is_some, if◌then◌else◌}
 use Rattle.std.specs.List.{fold}
 use Rattle.std.specs.declared.option.Option.TheVariants.{Some}
 use Rattle.alias_groups.specs.Groups.{Group}
@@ -8,6 +8,7 @@ use Rattle.alias_groups.specs.declared.own.Own.{Own}
 use Rattle.mailx_macros.specs.Macros.{Definitions, begin_refusal, begun, ended, line_refusal, with_line, without}
 use Rattle.message_show.specs.FieldSets.{FieldNames}
 use Rattle.name_lists.specs.Names.{with_names}
+use Rattle.quit_rules.specs.declared.gathered.Gathered.{Gathered}
 use Rattle.command_desk.specs.declared.desk.Desk.{Desk}
 use Rattle.command_desk.specs.declared.naming.Naming.{Naming}
 use Rattle.command_desk.specs.declared.naming.Naming.TheVariants as naming
@@ -56,11 +57,17 @@ macros_after (Some naming.End) macros = ended macros
 macros_after (Some (naming.Undef names)) macros = without_these macros names
 macros_after other macros = macros
 
--- the desk after a change of names, if there is one
+-- what was gathered, and then what is gathered now
+abbrev pub gathered_after : Option Naming → List Gathered → List Gathered
+gathered_after (Some (naming.Gather one)) gathered = gathered ++ one ∷ []
+gathered_after other gathered = gathered
+
+-- the desk after a change of names or of what was gathered, if there is one
 abbrev pub renamed : Desk → Option Naming → Desk
 renamed desk change = record desk {
   aliases = aliases_after change desk.aliases;
   own = own_after change desk.own;
   sets = sets_after change desk.sets;
   macros = macros_after change desk.macros;
+  gathered = gathered_after change desk.gathered;
 }

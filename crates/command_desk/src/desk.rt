@@ -4,7 +4,7 @@ use mailx_macros::Macros;
 use mailx_vars::{Places, Vars};
 use message_show::FieldSets;
 use message_state::Shown;
-use quit_rules::Open;
+use quit_rules::{Gathering, Open};
 use rc_conditionals::{Conditions, Mode};
 use thread_view::ViewKind;
 
@@ -15,6 +15,8 @@ use thread_view::ViewKind;
 pub struct Desk {
     /// The open folder.
     pub folder: Open,
+    /// What was gathered, which is done when the folder is left.
+    pub gathered: Gathering,
     /// The name of the file that was open before it; empty if none was.
     pub previous: Text,
     /// Its messages as they are shown.

@@ -4,13 +4,14 @@ ghost use Rattle.mailx_vars.specs.Changes.{changed};
 ghost use Rattle.message_state.specs.declared.row.Row.{Row};
 ghost use Rattle.message_state.specs.declared.mark.Mark.{Mark};
 ghost use Rattle.command_desk.specs.Desks.{IsDesk, IsMessageOf};
-ghost use Rattle.command_desk.specs.Effects.{acted, effect, carried, unchanged, renames, moved, written, marking, markings, marked, marked_and_written};
+ghost use Rattle.command_desk.specs.Effects.{acted, effect, carried, unchanged, renames, gathers, moved, written, marking, markings, marked, marked_and_written};
 
 use crate::selecting::last_message;
 use crate::{Desk, Naming};
 use mail_text::{Items, Memory};
 use mailx_vars::{Setting, Vars};
 use message_state::{Act, Mark, RowList, after};
+use quit_rules::Gathered;
 use rc_conditionals::Conditions;
 use std::alloc::Global;
 
@@ -36,7 +37,7 @@ pub struct Effects {
     pub page: Option<usize>,
     /// Changes of variables, in order.
     pub settings: Items<Setting>,
-    /// A change of the names that the user has given.
+    /// A change of the names that the user has given, or of what was gathered.
     pub naming: Option<Naming>,
     /// The conditions that are open then.
     pub conditions: Option<Conditions>,
@@ -74,7 +75,7 @@ fn turn(conditions: &mut Conditions, turned: Option<Conditions>)
 }
 
 impl Desk {
-    // Carries out changes but those of names.
+    // Carries out changes but those of names and of what was gathered.
     fn carry(
         &mut self,
         marks: &[Marking],
@@ -96,7 +97,7 @@ impl Desk {
     }
 
     /// Carries out the changes of a command once what it asked for was done, in as much time as there are changes.
-    /// It takes no memory if no names are changed; if memory runs out, all is as before.
+    /// It takes no memory if no names are changed and nothing is gathered; if memory runs out, all is as before.
     pub fn settle(&mut self, effects: Effects) -> Result<(), Memory>
         requires before { IsDesk self.old }
         requires after { IsDesk (effect self.old effects) }
@@ -142,6 +143,16 @@ pub fn renames(alloc: Global, naming: Naming) -> Effects
     Effects {
         naming: Some(naming),
         ..unchanged(alloc)
+    }
+}
+
+/// These changes, none of which is one of names, and this is gathered. It takes no memory.
+pub fn gathers(effects: Effects, gathered: Gathered) -> Effects
+    ensures { result ≡ gathers effects gathered }
+{
+    Effects {
+        naming: Some(Naming::Gather { gathered }),
+        ..effects
     }
 }
 

@@ -14,14 +14,14 @@ mod steps;
 
 pub use desk::Desk;
 pub use effects::{
-    Effects, Marking, act_on, marked, marked_and_written, markings, moved, renames, unchanged,
-    written,
+    Effects, Marking, act_on, gathers, marked, marked_and_written, markings, moved, renames,
+    unchanged, written,
 };
 pub use faults::{fault, line_of};
 pub use file_names::{expanded, named_after, named_plainly};
 pub use lists::{as_lines, copies, put_lines};
 pub use messages::{message, printed, put_heading, put_printed};
 pub use naming::Naming;
-pub use quit_rules::Open;
+pub use quit_rules::{Gathered, Gathering, Open, What};
 pub use selecting::{Among, chosen, last_message, last_word, list_line, list_words, single};
 pub use steps::{Ask, Refusal, Steps, quietly, says};

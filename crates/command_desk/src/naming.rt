@@ -1,4 +1,5 @@
-// Changes of what the user has named: aliases, own names, fields and macros.
+// Changes for which a desk takes memory: of what the user has named, which are aliases, own names, fields and macros, and
+// of what was gathered.
 ghost use Rattle.std.specs.Prelude.{◌≡◌, None, IsOk, OnOk, OnErr};
 ghost use Rattle.mailx_macros.specs.Macros.{ended};
 ghost use Rattle.command_desk.specs.Naming.{begun_unless_refused, renamed, with_line_unless_refused, without_these};
@@ -6,9 +7,10 @@ ghost use Rattle.command_desk.specs.Naming.{begun_unless_refused, renamed, with_
 use crate::Desk;
 use mail_text::{Items, Memory, Text};
 use mailx_macros::{MacroError, Macros};
+use quit_rules::Gathered;
 
-/// A change of what the user has named: of aliases, of the user's own names, of the fields that are left out or kept,
-/// and of macros.
+/// A change for which a desk takes memory: of what the user has named, which are aliases, the user's own names, the
+/// fields that are left out or kept, and macros; or of what was gathered.
 #[derive(Drop)]
 pub enum Naming {
     /// An alias has more members; if they are refused all stays.
@@ -29,6 +31,8 @@ pub enum Naming {
     End,
     /// The macros of these names are removed; a name that isn't defined is passed over.
     Undef { names: Items<Text> },
+    /// This is gathered, after what was.
+    Gather { gathered: Gathered },
 }
 
 // Begins a definition, if that isn't refused.
@@ -78,7 +82,7 @@ fn undef_all(macros: &mut Macros, names: &[Text])
 }
 
 impl Desk {
-    // Changes names. If memory runs out, all is as before.
+    // Changes names, or what was gathered. If memory runs out, all is as before.
     fn take_naming(&mut self, naming: Naming) -> Result<(), Memory>
         ensures ok { OnOk result (self.new ≡ renamed self.old (Some naming)) }
         ensures err { OnErr result (self.new ≡ self.old) }
@@ -105,10 +109,11 @@ impl Desk {
                 undef_all(&mut self.macros, names.items());
                 Ok(())
             }
+            Naming::Gather { gathered } => self.gathered.push(gathered),
         }
     }
 
-    // Changes names, if they are changed. If memory runs out, all is as before.
+    // Changes names, or what was gathered, if they are changed. If memory runs out, all is as before.
     pub(crate) fn rename(&mut self, naming: Option<Naming>) -> Result<(), Memory>
         ensures ok { OnOk result (self.new ≡ renamed self.old naming) }
         ensures err { OnErr result (self.new ≡ self.old) }

@@ -18,6 +18,11 @@ pub enum Ask {
     Commit {
         changes: Items<Change>,
     },
+    /// What is to be put into the file of this name is gathered. Its name may be one that no file can have; then, and if
+    /// the changes that were gathered are of as many other files as they may be, what follows is refused.
+    Gather {
+        name: Text,
+    },
     /// The lines of the file of this name are carried out then. Its name may be one that no file can have.
     Source {
         name: Text,
