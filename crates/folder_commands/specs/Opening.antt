@@ -4,7 +4,6 @@ use Rattle.std.specs.List.{count_by}
 use Rattle.std.specs.Fmt.{decimal}
 use Rattle.std.specs.declared.result.Result.TheVariants.{Ok, Err}
 use Rattle.mail_text.specs.Lines.{with_feed}
-use Rattle.quit_rules.specs.Plans.{quit_changes}
 use Rattle.message_state.specs.declared.mark.State.{State}
 use Rattle.message_state.specs.declared.mark.State.TheVariants.{New, Unread}
 use Rattle.message_state.specs.declared.row.Row.{Row}
@@ -16,7 +15,7 @@ use Rattle.command_desk.specs.Answers.{OrFault, next, says}
 use Rattle.command_desk.specs.Effects.{unchanged}
 use Rattle.command_desk.specs.Faults.{bad_arguments}
 use Rattle.command_desk.specs.FileNames.{expanded}
-use Rattle.folder_commands.specs.Leaving.{left_reply}
+use Rattle.folder_commands.specs.Leaving.{changes_of, left_reply}
 
 -- the row's message is in this state
 abbrev pub is_in : State → Row → Bool
@@ -30,7 +29,7 @@ opening_line desk = with_feed (codes "\"" ++ desk.folder.name ++ codes "\": " ++
 -- the file of this name is opened once the changes of a quit were committed, of which is printed what a quit prints
 abbrev pub opens : Desk → List ℕ → Steps
 opens desk name = record {
-  asks = asks.Open name (quit_changes desk.folder desk.vars desk.places.mbox) (left_reply desk) ∷ [];
+  asks = asks.Open name (changes_of desk) (left_reply desk) ∷ [];
   effects = unchanged;
 }
 

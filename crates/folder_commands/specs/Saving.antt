@@ -6,7 +6,7 @@ use Rattle.std.specs.declared.result.Result.{Result}
 use Rattle.std.specs.declared.result.Result.TheVariants.{Ok, Err}
 use Rattle.mail_text.specs.Lines.{with_feed}
 use Rattle.mail_headers.specs.Header.{body_of}
-use Rattle.folder_change.specs.declared.change.Change.TheVariants.{Add, AddRaw}
+use Rattle.quit_rules.specs.declared.gathered.What.TheVariants.{Texts, Bytes}
 use Rattle.message_state.specs.declared.mark.Act.{Act}
 use Rattle.message_state.specs.declared.mark.Act.TheVariants.{Look, Save}
 use Rattle.message_list.specs.declared.list.Purpose.TheVariants.{Live}
@@ -30,16 +30,14 @@ body_line desk n = with_feed (unwrap_or (body_of (message_text desk n)) [])
 -- the texts of these are added to a file as they stand in the folder, and then an act is done on each
 abbrev pub adding : Act → Desk → List ℕ → List ℕ → Filing
 adding act desk ns name = record {
-  change = Add name (map (message_text desk) ns);
-  reply = reply name (codes "Appended") (length ns);
+  put = record { name = name; what = Texts (map (message_text desk) ns); reply = reply name (codes "Appended") (length ns) };
   effects = marked desk act ns;
 }
 
 -- the bodies of these are put at the end of a file, and then they are saved
 abbrev pub writing : Desk → List ℕ → List ℕ → Filing
 writing desk ns name = record {
-  change = AddRaw name (flat_map (body_line desk) ns);
-  reply = reply name (codes "Written") (length ns);
+  put = record { name = name; what = Bytes (flat_map (body_line desk) ns); reply = reply name (codes "Written") (length ns) };
   effects = marked desk Save ns;
 }
 

@@ -1,13 +1,24 @@
 // The command that leaves the folder.
 ghost use Rattle.std.specs.Prelude.{◌≡◌, ◌++◌, IfOk, OnOk};
 ghost use Rattle.command_desk.specs.Desks.{IsDesk, IsWithin};
-ghost use Rattle.folder_commands.specs.Leaving.{counted, left_reply, said, quit};
+ghost use Rattle.folder_commands.specs.Leaving.{changes_of, counted, left_reply, replies, said, quit};
 
 use crate::saving::reply;
 use command_desk::{Ask, Desk, Steps, unchanged};
+use folder_change::Change;
 use mail_text::{Items, Memory, Text};
-use quit_rules::{boxed, kept, quit_changes};
+use quit_rules::{Gathered, boxed, kept, quit_changes};
 use std::alloc::Global;
+
+// Puts the replies of what was gathered.
+fn put_replies(out: &mut Text, gathered: &[Gathered]) -> Result<(), Memory>
+    ensures { OnOk result (out.new ≡ out.old ++ replies gathered.now) }
+{
+    for one in gathered {
+        out.push(one.reply.bytes())?;
+    }
+    Ok(())
+}
 
 // Puts the line of what became of `count` messages, if there are any.
 fn put_count(
@@ -26,7 +37,7 @@ fn put_count(
     out.push(line.bytes())
 }
 
-/// What is printed once the folder was left.
+/// What is printed once the folder was left: the replies of what was gathered, and what became of the messages.
 pub(crate) fn left_reply(alloc: Global, desk: &Desk) -> Result<Text, Memory>
     requires { IsDesk desk.now }
     ensures { IfOk result (λ reply. reply ≡ left_reply desk.now) }
@@ -34,9 +45,24 @@ pub(crate) fn left_reply(alloc: Global, desk: &Desk) -> Result<Text, Memory>
     let mut out = Text::new(alloc);
     let saved = boxed(&desk.folder, &desk.vars);
     let held = kept(&desk.folder, &desk.vars);
+    put_replies(&mut out, desk.gathered.items())?;
     put_count(alloc, &mut out, desk.places.mbox.bytes(), b"Saved", saved)?;
     put_count(alloc, &mut out, desk.folder.name.bytes(), b"Held", held)?;
     Ok(out)
+}
+
+/// The changes by which the folder is left, after those that were gathered.
+pub(crate) fn changes_of(alloc: Global, desk: &Desk) -> Result<Vec<Change>, Memory>
+    requires { IsDesk desk.now }
+    ensures { IfOk result (λ changes. changes.items ≡ changes_of desk.now) }
+{
+    quit_changes(
+        alloc,
+        &desk.folder,
+        &desk.vars,
+        desk.places.mbox.bytes(),
+        desk.gathered.items(),
+    )
 }
 
 // Asks for bytes to be printed, if there are any.
@@ -49,14 +75,15 @@ fn ask_said(asks: &mut Items<Ask>, text: Text) -> Result<(), Memory>
     asks.push(Ask::Say(text))
 }
 
-/// `quit`, and the end of the input: the folder is left. What `quit_changes` gives for it is committed; then it is
-/// printed how many messages went to mbox and how many stay, each if there are any; then the run ends.
+/// `quit`, and the end of the input: the folder is left. What `quit_changes` gives for it is committed, what was gathered
+/// first; then the replies of that are printed, and how many messages went to mbox and how many stay, each if there are
+/// any; then the run ends.
 pub fn quit(alloc: Global, desk: &Desk) -> Result<Steps, Memory>
     requires { IsDesk desk.now }
     ensures steps { IfOk result (λ steps. steps ≡ quit desk.now) }
     ensures within { IsWithin desk.now result }
 {
-    let changes = quit_changes(alloc, &desk.folder, &desk.vars, desk.places.mbox.bytes())?;
+    let changes = changes_of(alloc, desk)?;
     let reply = left_reply(alloc, desk)?;
     let mut asks = Items::new(alloc);
     asks.push(Ask::Commit {

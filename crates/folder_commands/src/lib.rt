@@ -1,5 +1,6 @@
 //! Commands that put messages into files: copy, Copy, save, Save and write, each of which comes to one change of one
-//! file, or to the line that refuses it; and quit and file, which come to the changes of mbox and of the folder.
+//! file, or to the line that refuses it; and quit and file, which come to the changes that were gathered, and then those
+//! of mbox and of the folder.
 //! Nothing is changed yet. What these make of the file that is opened is said here too, and what was added to the
 //! open one.
 #![tactic(auto)]

@@ -5,12 +5,11 @@ ghost use Rattle.command_desk.specs.Answers.{Means};
 ghost use Rattle.command_desk.specs.Desks.{IsDesk, IsWithin};
 ghost use Rattle.folder_commands.specs.Opening.{is_in, opening_line, opens, file};
 
-use crate::leaving::left_reply;
+use crate::leaving::{changes_of, left_reply};
 use command_desk::{Ask, Desk, Refusal, Steps, expanded, fault, says, unchanged};
 use itoa::Buffer;
 use mail_text::{Items, Memory, Text};
 use message_state::{Row, State};
-use quit_rules::quit_changes;
 use std::alloc::Global;
 
 // How many messages are in a state.
@@ -43,7 +42,7 @@ fn opens(alloc: Global, desk: &Desk, name: Text) -> Result<Steps, Memory>
     requires { IsDesk desk.now }
     ensures { IfOk result (λ steps. steps ≡ opens desk.now name) }
 {
-    let changes = quit_changes(alloc, &desk.folder, &desk.vars, desk.places.mbox.bytes())?;
+    let changes = changes_of(alloc, desk)?;
     let reply = left_reply(alloc, desk)?;
     let mut asks = Items::new(alloc);
     asks.push(Ask::Open {

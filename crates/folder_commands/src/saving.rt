@@ -10,12 +10,12 @@ use crate::Filing;
 use command_desk::{
     Desk, Refusal, chosen, expanded, fault, last_word, list_words, marked, message, named_after,
 };
-use folder_change::Change;
 use itoa::Buffer;
 use mail_headers::Header;
 use mail_text::{Items, Memory, Text};
 use message_list::Purpose;
 use message_state::Act;
+use quit_rules::{Gathered, What};
 use std::alloc::Global;
 
 /// What is printed once `count` messages were put into the file of this name.
@@ -89,8 +89,11 @@ fn adding(
     let texts = texts_of(alloc, desk, numbers)?;
     let effects = marked(alloc, desk, act, numbers)?;
     Ok(Filing {
-        change: Change::Add { name, texts },
-        reply,
+        put: Gathered {
+            name,
+            what: What::Texts(texts),
+            reply,
+        },
         effects,
     })
 }
@@ -107,8 +110,11 @@ fn writing(alloc: Global, desk: &Desk, numbers: &[u32], name: Text) -> Result<Fi
     let bytes = bodies_of(alloc, desk, numbers)?;
     let effects = marked(alloc, desk, Act::Save, numbers)?;
     Ok(Filing {
-        change: Change::AddRaw { name, bytes },
-        reply,
+        put: Gathered {
+            name,
+            what: What::Bytes(bytes),
+            reply,
+        },
         effects,
     })
 }
