@@ -10,12 +10,14 @@ use Rattle.line_words.specs.declared.command.Command.{Command}
 use Rattle.line_words.specs.declared.command.Command.TheVariants as command
 use Rattle.line_words.specs.Spellings.{whole_name}
 use Rattle.message_state.specs.declared.mark.Act.TheVariants as act
+use Rattle.mailx_vars.specs.Settings.{is_set}
+use Rattle.quit_rules.specs.Gathering.{change_of}
 use Rattle.message_show.specs.declared.text.How.TheVariants.{Kept, All}
 use Rattle.command_desk.specs.declared.desk.Desk.{Desk}
 use Rattle.command_desk.specs.declared.steps.Ask.TheVariants as asks
 use Rattle.command_desk.specs.declared.steps.Steps.{Steps}
 use Rattle.command_desk.specs.Answers.{OrFault, next, quietly}
-use Rattle.command_desk.specs.Effects.{unchanged}
+use Rattle.command_desk.specs.Effects.{gathers, unchanged}
 use Rattle.command_desk.specs.Faults.{bad_arguments, unknown_command, open_quote, line_too_long}
 use Rattle.show_commands.specs.Printing.{print, top, print_following}
 use Rattle.show_commands.specs.Paging.{headers, scroll}
@@ -51,11 +53,19 @@ exit = Ok (record { asks = asks.Exit ∷ []; effects = unchanged })
 
 -- a change of a file is committed, and only once that was done the reply is printed, and then the rest follows
 abbrev pub steps_of : Filing → Steps
-steps_of filing = record { asks = asks.Commit (filing.change ∷ []) ∷ asks.Say filing.reply ∷ []; effects = filing.effects }
+steps_of filing = record { asks = asks.Commit (change_of filing.put ∷ []) ∷ asks.Say filing.put.reply ∷ []; effects = filing.effects }
+
+-- it is gathered with its reply, unless its name can't be that of one more, and the rest follows
+abbrev pub gathering : Filing → Steps
+gathering filing = record { asks = asks.Gather filing.put.name ∷ []; effects = gathers filing.effects filing.put }
+
+-- with the variable `batch` it is gathered, and else committed
+abbrev pub steps_by : Desk → Filing → Steps
+steps_by desk filing = if is_set desk.vars (codes "batch") then gathering filing else steps_of filing
 
 -- what a command comes to that puts messages into a file
-abbrev pub filed : OrFault Filing → OrFault Steps
-filed meant = next meant (λ filing. Ok (steps_of filing))
+abbrev pub filed : Desk → OrFault Filing → OrFault Steps
+filed desk meant = next meant (λ filing. Ok (steps_by desk filing))
 
 -- the command of a line, on a desk
 abbrev pub meaning_of : Command → CommandLine → Desk → OrFault Steps
@@ -96,11 +106,11 @@ meaning_of command.Undef line desk = undef desk line.words
 meaning_of command.Defines line desk = defines desk
 meaning_of command.Help line desk = help desk
 meaning_of command.Comment line desk = quietly unchanged
-meaning_of command.Copy line desk = filed (copy desk line.words)
-meaning_of command.CopyByAuthor line desk = filed (copy_by_author desk line.words)
-meaning_of command.Save line desk = filed (save desk line.words)
-meaning_of command.SaveByAuthor line desk = filed (save_by_author desk line.words)
-meaning_of command.Write line desk = filed (write desk line.words)
+meaning_of command.Copy line desk = filed desk (copy desk line.words)
+meaning_of command.CopyByAuthor line desk = filed desk (copy_by_author desk line.words)
+meaning_of command.Save line desk = filed desk (save desk line.words)
+meaning_of command.SaveByAuthor line desk = filed desk (save_by_author desk line.words)
+meaning_of command.Write line desk = filed desk (write desk line.words)
 meaning_of command.File line desk = file (name_of line.word) desk line.words
 meaning_of command.Mail line desk = mail desk line.words
 meaning_of command.Shell line desk = shell line.rest

@@ -6,17 +6,17 @@ ghost use Rattle.command_desk.specs.Desks.{IsDesk, IsWithin};
 ghost use Rattle.command_desk.specs.Effects.{effect};
 ghost use Rattle.folder_commands.specs.Saving.{IsFilingWithin};
 ghost use Rattle.folder_commands.specs.declared.wanted.Filing.{Filing};
-ghost use Rattle.read_commands.specs.Commands.{name_of, exit, filed, steps_of, has_words_too_many, meaning, meaning_of, read_or_fault};
+ghost use Rattle.read_commands.specs.Commands.{name_of, exit, filed, gathering, steps_by, steps_of, has_words_too_many, meaning, meaning_of, read_or_fault};
 
 use child_commands::{folders, pipe, shell};
-use command_desk::{Ask, Desk, Refusal, Steps, fault, quietly, unchanged};
+use command_desk::{Ask, Desk, Refusal, Steps, fault, gathers, quietly, unchanged};
 use draft_commands::{followup, followup_authors, mail, reply, reply_authors};
 use folder_commands::{
     Filing, copy, copy_by_author, file, newmail, quit, save, save_by_author, write,
 };
 use line_words::{Command, CommandLine, LineError, read_line, whole_name};
 use macro_commands::{call, define, defines, undef};
-use mail_text::{Items, Memory};
+use mail_text::{Items, Memory, Text};
 use mark_commands::{delete, delete_and_print, flagging, hold, mbox, touch, undelete};
 use message_show::How;
 use message_state::Act;
@@ -71,11 +71,8 @@ fn has_words_too_many(line: &CommandLine) -> bool
 fn steps_of(alloc: Global, filing: Filing) -> Result<Steps, Memory>
     ensures { IfOk result (λ steps. steps ≡ steps_of filing) }
 {
-    let Filing {
-        change,
-        reply,
-        effects,
-    } = filing;
+    let Filing { put, effects } = filing;
+    let (change, reply) = put.into_change();
     let mut changes = Items::new(alloc);
     changes.push(change)?;
     let mut asks = Items::new(alloc);
@@ -84,14 +81,39 @@ fn steps_of(alloc: Global, filing: Filing) -> Result<Steps, Memory>
     Ok(Steps { asks, effects })
 }
 
+// A change of a file is gathered, unless its name can't be that of one more, and the rest follows.
+fn gathering(alloc: Global, filing: Filing) -> Result<Steps, Memory>
+    ensures { IfOk result (λ steps. steps ≡ gathering filing) }
+{
+    let Filing { put, effects } = filing;
+    let name = Text::copy(alloc, put.name.bytes())?;
+    let mut asks = Items::new(alloc);
+    asks.push(Ask::Gather { name })?;
+    Ok(Steps {
+        asks,
+        effects: gathers(effects, put),
+    })
+}
+
+// What a change of a file comes to: with the variable `batch` it is gathered, and else committed.
+fn steps_by(alloc: Global, desk: &Desk, filing: Filing) -> Result<Steps, Memory>
+    ensures { IfOk result (λ steps. steps ≡ steps_by desk.now filing) }
+{
+    if desk.vars.flag(b"batch") {
+        gathering(alloc, filing)
+    } else {
+        steps_of(alloc, filing)
+    }
+}
+
 // What a command comes to that puts messages into a file.
 fn filed(alloc: Global, desk: &Desk, filing: Result<Filing, Refusal>) -> Result<Steps, Refusal>
     requires { IsFilingWithin desk.now filing }
-    ensures means { (meant : OrFault Filing) → Means filing meant → Means result (filed meant) }
+    ensures means { (meant : OrFault Filing) → Means filing meant → Means result (filed desk.now meant) }
     ensures within { IsWithin desk.now result }
 {
     match filing {
-        Ok(filing) => Ok(steps_of(alloc, filing)?),
+        Ok(filing) => Ok(steps_by(alloc, desk, filing)?),
         Err(refusal) => Err(refusal),
     }
 }
