@@ -30,6 +30,7 @@ use Rattle.host_port.specs.declared.event.ChildAnswer.{ChildAnswer}
 use Rattle.host_port.proofs.RanLemmas.{rose-back}
 use Rattle.compose_tilde.specs.Answering.{said_of}
 use Rattle.session_asks.specs.Calling.{called}
+use Rattle.session_asks.specs.Gathering.{gather_fault, gathers}
 use Rattle.session_asks.specs.Switching.{open_fault, switches}
 use Rattle.session_asks.specs.Renewing.{folder_fault, renews}
 use Rattle.session_asks.specs.Viewing.{views}
@@ -42,6 +43,9 @@ asked-say s ask bytes is = ap (asked s) is
 
 pub asked-commit : (s : SessionState) (ask : asked_of.Ask) (changes : List Change) → ask ≡ asks.Commit changes → asked s ask ≡ saved s changes
 asked-commit s ask changes is = ap (asked s) is
+
+pub asked-gather : (s : SessionState) (ask : asked_of.Ask) (name : List ℕ) → ask ≡ asks.Gather name → asked s ask ≡ Ret (gathers s (gather_fault s name))
+asked-gather s ask name is = ap (asked s) is
 
 pub asked-source : (s : SessionState) (ask : asked_of.Ask) (name : List ℕ) → ask ≡ asks.Source name → asked s ask ≡ sourced s name (source_fault s name)
 asked-source s ask name is = ap (asked s) is

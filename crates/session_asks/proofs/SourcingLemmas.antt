@@ -43,7 +43,6 @@ use Rattle.session_state.specs.States.{IsState, with_desk, with_draft, with_file
 use Rattle.session_state.specs.Bringing.{is_source, is_call, sources, calls, source_limit, origin_at, with_lines, brings, brings_lines, room, weight, AllFrom, HasPlace, OnlyBrings}
 use Rattle.session_state.proofs.OriginLemmas.{origin-added, all-added}
 use Rattle.session_asks.specs.Sourcing.{source_fault}
-use Rattle.session_asks.specs.Calling.{called}
 use Rattle.session_state.specs.Answers.{after_asks, in_play, stop_of, LineCaused, EndsByAsk, EndsNoRun, IsNoDiskFault, AsksGoOn}
 use Rattle.session_asks.specs.Asks.{is_on, StaysUnlessOn, KeepsDesk}
 use Rattle.command_desk.specs.declared.desk.Desk.{Desk}
@@ -263,11 +262,11 @@ pub defining_brings_none : (origin : Origin) (desk : Desk) (line : List ℕ) →
 defining_brings_none origin desk line defining =
     ap brings_lines (cond-true _ _ _ defining) ∙ definition-brings (bytes_eq line (codes "}")) (line_refusal desk.macros line) line
 
--- where a macro's lines are brought or refused, without an event
-pub called-goes : (s t : SessionState) (text : List ℕ) (r : Result Asked RunError) → IfOk r (λ asked. after_asks t asked ≡ called s text) → IfErr r (λ e. e ≡ error.Memory)
-    → Goes (Ret (called s text)) [] (in_play (after_asks t) r)
-called-goes s t text (Ok asked) means memory = (refl, inl (ap (λ (a : After SessionState Status). Ok a) means))
-called-goes s t text (Err e) means memory = at-memory-as (Ret (called s text)) e memory
+-- where what an ask leaves is known without an event
+pub left-goes : (t : SessionState) (left : After SessionState Status) (r : Result Asked RunError) → IfOk r (λ asked. after_asks t asked ≡ left) → IfErr r (λ e. e ≡ error.Memory)
+    → Goes (Ret left) [] (in_play (after_asks t) r)
+left-goes t left (Ok asked) means memory = (refl, inl (ap (λ (a : After SessionState Status). Ok a) means))
+left-goes t left (Err e) means memory = at-memory-as (Ret left) e memory
   where
     at-memory-as : (p : Play (After SessionState Status)) (e : RunError) → e ≡ error.Memory → Goes p [] (Err (stop_of e))
     at-memory-as p e same = subst (λ (x : RunError). Goes p [] (Err (stop_of x))) (sym same) (at-memory p)

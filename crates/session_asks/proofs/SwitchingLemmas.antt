@@ -52,8 +52,8 @@ announced-off s changes reply desk (Err e) off es went = goes-cut (saved s chang
 laid-switched : (s : SessionState) (name bytes : List ℕ) (o : Opening) (previous : List ℕ) (is : IsOpening s name bytes o) → previous ≡ s.desk.folder.name
     → laid_as s.desk o previous ≡ switched s name bytes is.rows
 laid-switched s name bytes o previous is same =
-    ap (λ (d : Desk). record d { previous = previous }) (laid-is s name bytes o is)
-    ∙ ap (λ (p : List ℕ). record (opened s name bytes is.rows) { previous = p }) same
+    ap (λ (d : Desk). record d { previous = previous; gathered = [] }) (laid-is s name bytes o is)
+    ∙ ap (λ (p : List ℕ). record (opened s name bytes is.rows) { previous = p; gathered = [] }) same
 
 -- a load that refuses the command
 pub refused-switched : (s : SessionState) (name : List ℕ) (changes : List Change) (reply : List ℕ) (f : OrFault (List ℕ)) (r : Refusal) (result : Result Asked RunError) (t : SessionState)

@@ -21,6 +21,7 @@ use Rattle.session_asks.specs.Running.{run_asked}
 use Rattle.session_state.specs.Saving.{saved}
 use Rattle.session_asks.specs.Sourcing.{source_fault, sourced}
 use Rattle.session_asks.specs.Calling.{called}
+use Rattle.session_asks.specs.Gathering.{gather_fault, gathers}
 use Rattle.session_asks.specs.Switching.{open_fault, switches}
 use Rattle.session_asks.specs.Renewing.{folder_fault, renews}
 use Rattle.session_asks.specs.Viewing.{views}
@@ -29,6 +30,7 @@ use Rattle.session_asks.specs.Viewing.{views}
 abbrev pub asked : SessionState → asked_of.Ask → Play (After SessionState Status)
 asked s (asks.Say bytes) = Ask (Say bytes) (λ _. Ret (On s))
 asked s (asks.Commit changes) = saved s changes
+asked s (asks.Gather name) = Ret (gathers s (gather_fault s name))
 asked s (asks.Source name) = sourced s name (source_fault s name)
 asked s (asks.Lines text) = Ret (called s text)
 asked s (asks.Open name changes reply) = switches s name changes reply (open_fault s name changes)

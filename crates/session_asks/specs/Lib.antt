@@ -1,5 +1,6 @@
 pub mod Sourcing
 pub mod Calling
+pub mod Gathering
 pub mod Switching
 pub mod Viewing
 pub mod Renewing

@@ -25,11 +25,12 @@ use Rattle.session_state.specs.declared.outcome.Outcome.TheVariants.{Fine}
 use Rattle.session_state.specs.Placing.{actor_for, front_of, placed}
 use Rattle.session_state.specs.States.{with_desk}
 
--- a desk without messages and without a previous file, with the variables that are set at the start; the user's own name is that of the
+-- a desk without messages, without a previous file and with nothing gathered, with the variables that are set at the start; the user's own name is that of the
 -- environment
 abbrev pub desk_with : Places → Mode → Bool → Desk
 desk_with places mode terminal = record {
   folder = record { name = []; system = false; folder = []; marks = [] };
+  gathered = [];
   previous = [];
   shown = record { rows = []; order = []; depth = []; current = 0 };
   view = Plain;

@@ -38,13 +38,13 @@ loaded_folder desk changes name (Some (found.TooLarge n)) = Err (too_large name)
 loaded_folder desk changes name (Some (found.Bytes file true)) = Err (busy name)
 loaded_folder desk changes name (Some (found.Bytes file false)) = made_folder changes (texts_of desk.folder.folder) name file
 
--- the desk with a folder of these bytes in place of its own, of which it is the previous file then
+-- the desk with a folder of these bytes in place of its own, of which it is the previous file then; nothing is gathered
 abbrev pub switched : SessionState → List ℕ → List ℕ → List Row → Desk
-switched s name bytes rows = record (opened s name bytes rows) { previous = s.desk.folder.name }
+switched s name bytes rows = record (opened s name bytes rows) { previous = s.desk.folder.name; gathered = [] }
 
 -- a folder that was opened, with the previous one's name, as it is put on the desk
 abbrev pub laid_as : Desk → Opening → List ℕ → Desk
-laid_as desk opening previous = record (with_page (with_folder desk opening.folder opening.shown)) { previous = previous }
+laid_as desk opening previous = record (with_page (with_folder desk opening.folder opening.shown)) { previous = previous; gathered = [] }
 
 -- what is printed of a folder that was opened: the opening line, and with `header` set the page of the current message
 unfoldable pub announcement : Desk → List ℕ

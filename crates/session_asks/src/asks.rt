@@ -13,6 +13,7 @@ ghost use Rattle.session_state.specs.Answers.{after_asks, in_play, LineCaused, E
 
 use crate::beginning::begin_recorded;
 use crate::calling::call;
+use crate::gathering::gather;
 use crate::renewing::renew;
 use crate::running::run_asked;
 use crate::sourcing::source;
@@ -46,6 +47,7 @@ fn do_ask<H: Host>(
     match ask {
         Wanted::Say(bytes) => say_line(host, &bytes),
         Wanted::Commit { changes } => commit(alloc, state, host, changes),
+        Wanted::Gather { name } => gather(alloc, state, name.bytes()),
         Wanted::Source { name } => source(alloc, state, host, name.bytes()),
         Wanted::Lines { text } => call(alloc, state, &text),
         Wanted::Open {

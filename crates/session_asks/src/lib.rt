@@ -5,6 +5,7 @@ mod asks;
 mod beginning;
 mod bringing;
 mod calling;
+mod gathering;
 mod greetings;
 mod opening;
 mod renewing;

@@ -18,6 +18,7 @@ use mailx_vars::{Places, Vars};
 use mbox_scan::Folder;
 use message_show::FieldSets;
 use message_state::{Mark, Order, Row, RowList, Shown, State, row_of};
+use quit_rules::Gathering;
 use rc_conditionals::{Conditions, Mode};
 use read_commands::{Desk, Open, Refusal, page_of, page_size};
 use session_state::{Frames, Outcome, SessionState, front_of, placed};
@@ -74,6 +75,7 @@ fn first_desk(alloc: Global, places: Places, mode: Mode, terminal: bool) -> Resu
             folder,
             marks: Items::new(alloc),
         },
+        gathered: Gathering::new(alloc),
         previous: Text::new(alloc),
         shown: Shown {
             rows: RowList::new(alloc),

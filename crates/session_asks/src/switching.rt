@@ -67,7 +67,7 @@ fn loaded_folder(
     }
 }
 
-// Puts a folder on the desk in place of the one of this name.
+// Puts a folder on the desk in place of the one of this name, and drops what was gathered.
 fn lay(desk: &mut Desk, opening: Opening, previous: Text)
     requires size { IsKnownSize (page_size desk.old) opening.size }
     requires some { IfSome opening.size (λ n. 0 < n) }
@@ -82,6 +82,7 @@ fn lay(desk: &mut Desk, opening: Opening, previous: Text)
     } = opening;
     put_folder(desk, size, folder, shown);
     desk.previous = previous;
+    desk.gathered.clear();
 }
 
 // Prints a reply and then the lines of the folder on the desk.

@@ -1,8 +1,8 @@
 use Rattle.std.proofs.Common.{refl, ap, inl}
 use Rattle.host_port.proofs.RanLemmas.{Ran-none, Ran-map}
 use Rattle.read_commands.specs.Origins.{is_startup_ask}
-use Rattle.session_asks.proofs.AskLemmas.{asked-say, asked-commit, asked-source, asked-lines, asked-open, asked-newmail, asked-view, asked-draft, asked-child, asked-exit, run-asked-as}
-use Rattle.session_asks.proofs.SourcingLemmas.{kept-valid, keeps-desk, called-goes, called-caused, ends-by-ask, asks-go-on}
+use Rattle.session_asks.proofs.AskLemmas.{asked-say, asked-commit, asked-gather, asked-source, asked-lines, asked-open, asked-newmail, asked-view, asked-draft, asked-child, asked-exit, run-asked-as}
+use Rattle.session_asks.proofs.SourcingLemmas.{kept-valid, keeps-desk, left-goes, called-caused, ends-by-ask, asks-go-on}
 use Rattle.session_asks.proofs.asks.do_ask.Goals as goal
 
 pub returns-in-Say-clause-ran : goal.returns-in-Say-clause-ran
@@ -10,6 +10,23 @@ returns-in-Say-clause-ran g c = rw (asked-say c.args.state.now c.args.ask _ c.in
 
 pub returns-in-Commit-clause-ran : goal.returns-in-Commit-clause-ran
 returns-in-Commit-clause-ran g c = rw (asked-commit c.args.state.now c.args.ask _ c.in-Commit.is) c.commit.ensures.ran
+
+pub returns-in-Gather-clause-ran : goal.returns-in-Gather-clause-ran
+returns-in-Gather-clause-ran g c =
+    rw (asked-gather c.args.state.now c.args.ask _ c.in-Gather.is)
+    (Ran-none (left-goes c.args.state.now _ c.gather.result (rw c.bytes-in-Gather.ensures at c.gather.ensures.means) c.gather.ensures.memory))
+
+pub returns-in-Gather-clause-desk : goal.returns-in-Gather-clause-desk
+returns-in-Gather-clause-desk g c = keeps-desk c.args.state.now c.args.state.now c.gather.result refl
+
+pub returns-in-Gather-clause-goes_on : goal.returns-in-Gather-clause-goes_on
+returns-in-Gather-clause-goes_on g c = λ little. asks-go-on c.gather.result c.gather.ensures.goes_on c.gather.ensures.memory
+
+pub returns-in-Gather-clause-done : goal.returns-in-Gather-clause-done
+returns-in-Gather-clause-done g c = ends-by-ask c.gather.result c.gather.ensures.goes_on
+
+pub returns-in-Gather-clause-cause : goal.returns-in-Gather-clause-cause
+returns-in-Gather-clause-cause g c = called-caused (g.H.Host.world.counts c.args.host.now) (g.H.Host.world.counts c.args.host.now) c.gather.result c.gather.ensures.memory
 
 pub returns-in-Source-clause-ran : goal.returns-in-Source-clause-ran
 returns-in-Source-clause-ran g c = rw (asked-source c.args.state.now c.args.ask _ c.in-Source.is) (rw c.bytes-in-Source.ensures at c.source.ensures.ran)
@@ -32,7 +49,7 @@ returns-in-Source-clause-cause g c = called-caused (g.H.Host.world.counts c.args
 pub returns-in-Lines-clause-ran : goal.returns-in-Lines-clause-ran
 returns-in-Lines-clause-ran g c =
     rw (asked-lines c.args.state.now c.args.ask _ c.in-Lines.is)
-    (Ran-none (called-goes c.args.state.now c.call.new.state _ c.call.result c.call.ensures.means c.call.ensures.memory))
+    (Ran-none (left-goes c.call.new.state _ c.call.result c.call.ensures.means c.call.ensures.memory))
 
 pub returns-in-Lines-clause-valid : goal.returns-in-Lines-clause-valid
 returns-in-Lines-clause-valid g c = kept-valid c.args.state.now c.call.new.state c.requires c.call.ensures.brings c.call.ensures.desk
