@@ -62,6 +62,7 @@ use Rattle.session_state.specs.declared.status.Status.{Status}
 use Rattle.session_state.specs.declared.status.Status.TheVariants as status
 use Rattle.session_asks.specs.Asks.{asked}
 use Rattle.session_asks.specs.Beginning.{with_new_draft, subject_asked, view_in, begun, at_message, placed, file_fault, beginning}
+use Rattle.session_asks.specs.Gathering.{gather_fault, gathers}
 use Rattle.session_asks.specs.Running.{after_run}
 use Rattle.session_asks.specs.Sourcing.{source_fault, after_load, sourced}
 use Rattle.session_asks.specs.Renewing.{folder_fault, loaded_again, taking, renews}
@@ -272,10 +273,16 @@ module _ (actor : List ℕ) (token : ℕ) (o : Outcome) where
   run-obeys s None like = tt
   run-obeys s (Some child) like = (tt, λ u. like)
 
+  -- a change that is gathered, or refused
+  gathers-ends : (fault : Option (List ℕ)) (s : SessionState) → Like s → AskEnds Like (EndsAs o) nothing_met (gathers s fault)
+  gathers-ends (Some line) s like = tt
+  gathers-ends None s like = like
+
   -- one ask
   ask-obeys : (s : SessionState) (ask : asked_of.Ask) → Like s → Asks (asked s ask)
   ask-obeys s (asks.Say bytes) like = (tt, λ u. like)
   ask-obeys s (asks.Commit changes) like = saved-obeys s changes like
+  ask-obeys s (asks.Gather name) like = gathers-ends (gather_fault s name) s like
   ask-obeys s (asks.Source name) like = sourced-obeys s name (source_fault s name) like
   ask-obeys s (asks.Lines text) like = called-ends (nat_lt (calls s.frames) call_limit) (with_lines kinds.Call s text) like
   ask-obeys s (asks.Open name changes reply) like = switches-obeys s name changes reply (open_fault s name changes) like
