@@ -1,10 +1,10 @@
 -- When a folder is left, its file has one change, to texts that can be read back, or none.
-use Rattle.std.proofs.Common.{◌≡◌, ◌≢◌, ◌⊎◌, inl, inr, ℕ, Bool, true, false, ◌==◌, List, [], ◌∷◌, ◌++◌, Option, Some, length, sym, ap, subst, ◌∙◌}
+use Rattle.std.proofs.Common.{◌≡◌, ◌≢◌, ◌⊎◌, inl, inr, ℕ, Bool, true, false, ◌==◌, List, [], ◌∷◌, ◌++◌, Option, Some, length, sym, ap, append_assoc, subst, ◌∙◌}
 use Rattle.std.specs.Prelude.{filter, codes, All, if◌then◌else◌}
 use Rattle.std.specs.List.{zip}
 use Rattle.std.proofs.lemmas.Bool.{cases_Bool, cond-true, cond-false}
 use Rattle.std.proofs.lemmas.List.{append-nil, map-append}
-use Rattle.std.proofs.lemmas.List.Elements.{All-nil, All-cons, All-head, All-tail, All-filter, All-map}
+use Rattle.std.proofs.lemmas.List.Elements.{All-nil, All-cons, All-head, All-tail, All-append, All-filter, All-map}
 use Rattle.host_port.specs.Disk.{disk}
 use Rattle.mbox_scan.specs.Mailbox.{IsProper, texts_of}
 use Rattle.mbox_scan.proofs.MailboxLemmas.{texts_of-proper}
@@ -20,8 +20,12 @@ use Rattle.session_play.specs.Committing.{Commit}
 use Rattle.play_safety.specs.Appended.{IsOnlyOne, IsRewritten}
 use Rattle.play_safety.proofs.AppendedLemmas.{others-left, rewrites-followed}
 use Rattle.quit_rules.specs.declared.open.Open.{Open}
+use Rattle.quit_rules.specs.declared.gathered.Gathered.{Gathered}
+use Rattle.quit_rules.specs.declared.gathered.What.{What}
+use Rattle.quit_rules.specs.declared.gathered.What.TheVariants.{Texts, Bytes}
+use Rattle.quit_rules.specs.Gathering.{change_of, gathered_changes, put}
 use Rattle.quit_rules.specs.Fates.{fate_of, is_staying, rules_of}
-use Rattle.quit_rules.specs.Plans.{Message, boxed, mbox_change, mbox_changes, messages_of, quit_changes, same_texts, stamped_text, staying}
+use Rattle.quit_rules.specs.Plans.{Message, boxed, folder_changes, mbox_change, mbox_changes, messages_of, quit_changes, same_texts, stamped_text, staying}
 use Rattle.quit_rules.proofs.PlanLemmas.{true-same}
 use Rattle.session_state.specs.Placing.{placed, placed_change, placed_changes}
 use Rattle.mailx_top.specs.Quits.{QuitsKeepAppended}
@@ -59,16 +63,48 @@ mbox-apart here n mbox texts vars apart = go (length texts == 0)
         All-cons (λ (other : Change). n ≢ name_of other) (placed_change here (mbox_change mbox texts append)) [] (other-file here n mbox texts append apart)
         (All-nil (λ (other : Change). n ≢ name_of other))
 
-pub folder-once : (here : List ℕ) (folder : Open) (vars : Settings) (mbox : List ℕ) → same_texts (staying folder vars) (texts_of folder.folder) ≡ false
-    → placed here folder.name ≢ placed here mbox
-    → IsOnlyOne (Rewrite (placed here folder.name) (staying folder vars) (is_set vars (codes "keep"))) (placed_changes here (quit_changes folder vars mbox))
-folder-once here folder vars mbox rewrites apart = record {
-  front = placed_changes here (mbox_changes (boxed folder vars) vars mbox);
+-- what was gathered for other files changes those
+put-apart : (here n name : List ℕ) (what : What) → n ≢ placed here name → n ≢ name_of (placed_change here (put name what))
+put-apart here n name (Texts texts) apart = apart
+put-apart here n name (Bytes bytes) apart = apart
+
+gathered-apart : (here n : List ℕ) (gathered : List Gathered) → All (λ (one : Gathered). n ≢ placed here one.name) gathered
+    → All (λ (other : Change). n ≢ name_of other) (placed_changes here (gathered_changes gathered))
+gathered-apart here n [] apart = All-nil (λ (other : Change). n ≢ name_of other)
+gathered-apart here n (one ∷ more) apart =
+    All-cons (λ (other : Change). n ≢ name_of other) (placed_change here (change_of one)) (placed_changes here (gathered_changes more))
+    (put-apart here n one.name one.what (All-head (λ (one : Gathered). n ≢ placed here one.name) one more apart))
+    (gathered-apart here n more (All-tail (λ (one : Gathered). n ≢ placed here one.name) one more apart))
+
+-- what stands before the change of the folder: what was gathered, and the change of mbox
+abbrev before_folder : Open → Settings → List ℕ → List Gathered → List Change
+before_folder folder vars mbox gathered = gathered_changes gathered ++ mbox_changes (boxed folder vars) vars mbox
+
+before-apart : (here n : List ℕ) (folder : Open) (vars : Settings) (mbox : List ℕ) (gathered : List Gathered) → n ≢ placed here mbox
+    → All (λ (one : Gathered). n ≢ placed here one.name) gathered → All (λ (other : Change). n ≢ name_of other) (placed_changes here (before_folder folder vars mbox gathered))
+before-apart here n folder vars mbox gathered apart elsewhere =
+    subst (All (λ (other : Change). n ≢ name_of other)) (sym (map-append (placed_change here) (gathered_changes gathered) (mbox_changes (boxed folder vars) vars mbox)))
+    (All-append (λ (other : Change). n ≢ name_of other) (placed_changes here (gathered_changes gathered)) (placed_changes here (mbox_changes (boxed folder vars) vars mbox))
+    (gathered-apart here n gathered elsewhere) (mbox-apart here n mbox (boxed folder vars) vars apart))
+
+-- the changes of a quit are these, and then that of the folder
+quit-parts : (folder : Open) (vars : Settings) (mbox : List ℕ) (gathered : List Gathered)
+    → quit_changes folder vars mbox gathered ≡ before_folder folder vars mbox gathered ++ folder_changes (staying folder vars) folder vars
+quit-parts folder vars mbox gathered =
+    sym (append_assoc (gathered_changes gathered) (mbox_changes (boxed folder vars) vars mbox) (folder_changes (staying folder vars) folder vars))
+
+pub folder-once : (here : List ℕ) (folder : Open) (vars : Settings) (mbox : List ℕ) (gathered : List Gathered)
+    → same_texts (staying folder vars) (texts_of folder.folder) ≡ false → placed here folder.name ≢ placed here mbox
+    → All (λ (one : Gathered). placed here folder.name ≢ placed here one.name) gathered
+    → IsOnlyOne (Rewrite (placed here folder.name) (staying folder vars) (is_set vars (codes "keep"))) (placed_changes here (quit_changes folder vars mbox gathered))
+folder-once here folder vars mbox gathered rewrites apart elsewhere = record {
+  front = placed_changes here (before_folder folder vars mbox gathered);
   rest = [];
   is =
-      map-append (placed_change here) (mbox_changes (boxed folder vars) vars mbox) _
-      ∙ ap (λ (cs : List Change). placed_changes here (mbox_changes (boxed folder vars) vars mbox) ++ placed_changes here cs) (cond-false _ _ _ rewrites);
-  others = (mbox-apart here (placed here folder.name) mbox (boxed folder vars) vars apart, All-nil (λ (other : Change). placed here folder.name ≢ name_of other));
+      ap (placed_changes here) (quit-parts folder vars mbox gathered)
+      ∙ map-append (placed_change here) (before_folder folder vars mbox gathered) _
+      ∙ ap (λ (cs : List Change). placed_changes here (before_folder folder vars mbox gathered) ++ placed_changes here cs) (cond-false _ _ _ rewrites);
+  others = (before-apart here (placed here folder.name) folder vars mbox gathered apart elsewhere, All-nil (λ (other : Change). placed here folder.name ≢ name_of other));
 }
 
 -- a file that stays, to which nothing changes
@@ -90,6 +126,9 @@ quits-keep start env status d es safe front behind e now c s left decides alone 
     mbox : List ℕ
     mbox = s.desk.places.mbox
 
+    gathered : List Gathered
+    gathered = s.desk.gathered
+
     file : List ℕ
     file = placed s.here folder.name
 
@@ -102,7 +141,7 @@ quits-keep start env status d es safe front behind e now c s left decides alone 
     keep : Bool
     keep = is_set vars (codes "keep")
 
-    changes : c.changes ≡ placed_changes s.here (quit_changes folder vars mbox)
+    changes : c.changes ≡ placed_changes s.here (quit_changes folder vars mbox gathered)
     changes = ap (λ (c : Commit). c.changes) leaves.commit
 
     for_base : c.base ≡ base
@@ -110,10 +149,11 @@ quits-keep start env status d es safe front behind e now c s left decides alone 
 
     none-here : same_texts list base ≡ true → All (λ (other : Change). file ≢ name_of other) c.changes
     none-here same =
-        let mine : List Change = mbox_changes (boxed folder vars) vars mbox in
+        let mine : List Change = before_folder folder vars mbox gathered in
         let whole : c.changes ≡ placed_changes s.here mine =
-        changes ∙ ap (λ (cs : List Change). placed_changes s.here (mine ++ cs)) (cond-true _ _ _ same) ∙ ap (placed_changes s.here) (append-nil mine) in
-        subst (All (λ (other : Change). file ≢ name_of other)) (sym whole) (mbox-apart s.here file mbox (boxed folder vars) vars leaves.apart)
+        changes ∙ ap (placed_changes s.here) (quit-parts folder vars mbox gathered)
+        ∙ ap (λ (cs : List Change). placed_changes s.here (mine ++ cs)) (cond-true _ _ _ same) ∙ ap (placed_changes s.here) (append-nil mine) in
+        subst (All (λ (other : Change). file ≢ name_of other)) (sym whole) (before-apart s.here file folder vars mbox gathered leaves.apart leaves.elsewhere)
 
     go : (same_texts list base ≡ true) ⊎ (same_texts list base ≡ false)
         → IsRewritten base list (settled_files (actor_in env) (disk d front) file) (settled_files (actor_in env) now file)
@@ -121,7 +161,7 @@ quits-keep start env status d es safe front behind e now c s left decides alone 
         left-as-is base list _ _ (true-same list base same)
         (others-left (actor_in env) env.token d es safe.commits safe.out safe.safe front behind e now c file left decides alone (none-here same))
     go (inr other) =
-        let one = subst (IsOnlyOne (Rewrite file list keep)) (sym changes) (folder-once s.here folder vars mbox other leaves.apart) in
+        let one = subst (IsOnlyOne (Rewrite file list keep)) (sym changes) (folder-once s.here folder vars mbox gathered other leaves.apart leaves.elsewhere) in
         let proper = staying-proper folder vars (texts_of-proper folder.folder leaves.read) in
         subst (λ (b : List (List ℕ)). IsRewritten b list (settled_files (actor_in env) (disk d front) file) (settled_files (actor_in env) now file)) for_base
         (rewrites-followed (actor_in env) env.token d es safe.commits safe.out safe.safe front behind e now c file list keep left decides alone one proper)

@@ -11,7 +11,7 @@ use Rattle.folder_change.specs.declared.change.Change.{Change}
 use Rattle.session_play.specs.declared.changing.Attempt.{Attempt}
 use Rattle.session_play.specs.declared.stop.Stop.{Stop}
 use Rattle.session_play.specs.Play.{Act, Answer, Changes, Play, Ret, Ask, Goes, Next, Last, Loop, again, last, cut}
-use Rattle.quit_rules.specs.Plans.{quit_changes}
+use Rattle.folder_commands.specs.Leaving.{changes_of}
 use Rattle.session_state.specs.declared.state.SessionState.{SessionState}
 use Rattle.session_state.specs.declared.outcome.Outcome.{Outcome}
 use Rattle.session_state.specs.declared.outcome.Outcome.TheVariants as outcome
@@ -34,7 +34,7 @@ first_answer (Ask act go) es out (inr how) = None
 
 -- what a quit changes in a state
 abbrev pub left_changes : SessionState → List Change
-left_changes s = quit_changes s.desk.folder s.desk.vars s.desk.places.mbox
+left_changes s = changes_of s.desk
 
 -- a quit is refused by what its changes were answered
 abbrev pub is_quit_refused : SessionState → Option Attempt → Bool

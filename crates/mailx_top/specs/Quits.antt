@@ -1,5 +1,5 @@
 -- What others append meanwhile follows the messages that stay when a folder is left.
-use Rattle.std.specs.Prelude.{◌≡◌, ◌≢◌, ℕ, true, List, ◌∷◌, ◌++◌}
+use Rattle.std.specs.Prelude.{◌≡◌, ◌≢◌, ℕ, true, List, ◌∷◌, ◌++◌, All}
 use Rattle.std.specs.declared.option.Option.{Option}
 use Rattle.host_port.specs.declared.event.Event.{Event}
 use Rattle.host_port.specs.Disk.{Disk, disk, after}
@@ -23,11 +23,12 @@ abbrev pub folder_file : SessionState → List ℕ
 folder_file s = placed s.here s.desk.folder.name
 
 -- The commit leaves the folder that is open in this state: the bytes that were read are a mailbox, the changes are those of a quit, and mbox is
--- another file.
+-- another file, as is each for which a change was gathered.
 pub record LeavesFolder (s : SessionState) (c : Commit) : Type 0 where
   pub read : is_mailbox s.desk.folder.folder ≡ true
   pub commit : c ≡ commit_of s (left_changes s)
   pub apart : folder_file s ≢ placed s.here s.desk.places.mbox
+  pub elsewhere : All (λ one. folder_file s ≢ placed s.here one.name) s.desk.gathered
 
 -- A commit of a run leaves a folder. From its decision on, at each moment and at each disk that a stop leaves, until the next decision or the next
 -- change of the file by others, what others had appended to the messages that were read follows those that stay.

@@ -24,7 +24,7 @@ pub fn decided_fit()
 
 /// If a commit of a run that is safe leaves a folder, what others appended to the messages that were read follows
 /// those that stay, from the decision on, at each moment and at each disk that a stop leaves, until the file is changed
-/// again; mbox is another file.
+/// again; mbox is another file, and so is each for which a change was gathered.
 pub fn quits_keep_appended()
     ensures { QuitsKeepAppended }
 {}
