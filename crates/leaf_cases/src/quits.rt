@@ -9,10 +9,11 @@ use folder_change::Change;
 use mail_text::{Items, Memory, Text};
 use mailx_vars::Vars;
 use message_state::Mark;
-use quit_rules::{Open, boxed, kept, quit_changes};
+use quit_rules::{Gathered, Gathering, Open, What, boxed, kept, quit_changes};
 
 /// The folder of a text with these marks, the system mailbox if the kind says so: how many messages stay and how
-/// many go to mbox, and the changes.
+/// many go to mbox, and the changes. If a file is named, the text after its name is gathered for it, as bytes if `raw`
+/// stands after that.
 pub fn put(vars: &Vars, case: &[Text], out: &mut Answer) {
     match folder_of(out.alloc(), field(case, 2)) {
         Ok(folder) => {
@@ -22,7 +23,7 @@ pub fn put(vars: &Vars, case: &[Text], out: &mut Answer) {
                 folder,
                 marks: marks(words(case, 3), out),
             };
-            put_open(&open, vars, out);
+            put_open(&open, vars, case, out);
         }
         Err(error) => out.put_shown(&error),
     }
@@ -39,21 +40,45 @@ fn marks(text: &str, out: &mut Answer) -> Items<Mark> {
     marks
 }
 
-fn put_open(opened: &Open, vars: &Vars, out: &mut Answer) {
+fn put_open(opened: &Open, vars: &Vars, case: &[Text], out: &mut Answer) {
     if opened.marks.items().len() == opened.folder.count() {
-        put_quit(opened, vars, out);
+        let gathering = gathering(case, out);
+        put_quit(opened, vars, gathering.items(), out);
     } else {
         out.put_bad();
     }
 }
 
-fn put_quit(opened: &Open, vars: &Vars, out: &mut Answer)
+// What is put into the file that is named.
+fn what(case: &[Text], out: &mut Answer) -> What {
+    let text = out.copied(field(case, 5));
+    if words(case, 6) == "raw" {
+        return What::Bytes(text);
+    }
+    let mut texts = Items::new(out.alloc());
+    out.note(texts.push(text));
+    What::Texts(texts)
+}
+
+// What is gathered, if a file is named.
+fn gathering(case: &[Text], out: &mut Answer) -> Gathering {
+    let mut gathering = Gathering::new(out.alloc());
+    if !field(case, 4).is_empty() {
+        let name = out.copied(field(case, 4));
+        let what = what(case, out);
+        let reply = out.copied(b"");
+        out.note(gathering.push(Gathered { name, what, reply }));
+    }
+    gathering
+}
+
+fn put_quit(opened: &Open, vars: &Vars, gathered: &[Gathered], out: &mut Answer)
     requires { IsOpen opened.now }
 {
     out.put_shown(&kept(opened, vars));
     out.put(b" ");
     out.put_shown(&boxed(opened, vars));
-    match quit_changes(out.alloc(), opened, vars, b"mbox") {
+    match quit_changes(out.alloc(), opened, vars, b"mbox", gathered) {
         Ok(changes) => put_changes(&changes, out),
         Err(Memory) => out.lack(),
     }
@@ -70,7 +95,11 @@ fn put_changes(changes: &[Change], out: &mut Answer) {
                 keep: true,
             } => put_change(b" keep ", name, list, out),
             Change::Rewrite { name, list, .. } => put_change(b" drop ", name, list, out),
-            Change::AddRaw { name, .. } => out.put(name.bytes()),
+            Change::AddRaw { name, bytes } => {
+                out.put(b" raw ");
+                out.put(name.bytes());
+                out.put_in_angles(bytes.bytes());
+            }
         }
     }
 }
