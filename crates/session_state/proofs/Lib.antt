@@ -1,4 +1,5 @@
 pub mod ActorLemmas
+pub mod MemoryLemmas
 pub mod NameLemmas
 pub mod OriginLemmas
 pub mod PendingLemmas

@@ -1,3 +1,4 @@
+use mail_text::Memory;
 use thiserror::Error;
 
 /// Why a line cuts the run off.
@@ -12,4 +13,15 @@ pub enum RunError {
     /// Out of memory.
     #[error("out of memory")]
     Memory,
+}
+
+impl From<Memory> for RunError {
+    ghost use Rattle.std.specs.Prelude.{◌≡◌};
+    ghost use Rattle.session_state.specs.declared.error.RunError.TheVariants.{Memory};
+
+    ghost from_gives = { λ _ e. e ≡ Memory };
+
+    fn from(_: Memory) -> RunError {
+        RunError::Memory
+    }
 }

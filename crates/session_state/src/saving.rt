@@ -212,10 +212,7 @@ fn followed(
     ensures end { IfOk result EndsByAsk }
 {
     match answer {
-        Ok(attempt) => match after_attempt(alloc, state, targets, attempt) {
-            Ok(asked) => Ok(asked),
-            Err(Memory) => Err(RunError::Memory),
-        },
+        Ok(attempt) => Ok(after_attempt(alloc, state, targets, attempt)?),
         Err(cause) => Err(error_of(cause)),
     }
 }
@@ -260,8 +257,6 @@ pub fn commit<H: Host>(
     ensures end { IfOk result EndsByAsk }
     ensures cause { LineCaused (H.world.counts host.old) (H.world.counts host.new) result }
 {
-    match place(alloc, state.here.bytes(), changes) {
-        Ok(targets) => commit_placed(alloc, state, host, &targets),
-        Err(Memory) => Err(RunError::Memory),
-    }
+    let targets = place(alloc, state.here.bytes(), changes)?;
+    commit_placed(alloc, state, host, &targets)
 }
