@@ -98,10 +98,8 @@ pub(crate) fn begin<H: Host>(
     ensures begun { OnOk result (state.new ≡ with_new_draft state.old draft.now) }
     ensures cause { LineCaused (H.world.counts host.old) (H.world.counts host.new) result }
 {
-    match flattened(alloc, draft) {
-        Ok(draft) => begin_with(state, host, Compose::new(alloc, draft)),
-        Err(Memory) => Err(RunError::Memory),
-    }
+    let draft = flattened(alloc, draft)?;
+    begin_with(state, host, Compose::new(alloc, draft))
 }
 
 /// Begins the draft of send mode in the same way.
@@ -192,10 +190,7 @@ fn begin_placed<H: Host>(
     ensures end { IfOk result EndsByAsk }
     ensures cause { LineCaused (H.world.counts host.old) (H.world.counts host.new) result }
 {
-    let copy = match file_copy(alloc, file) {
-        Ok(copy) => copy,
-        Err(Memory) => return Err(RunError::Memory),
-    };
+    let copy = file_copy(alloc, file)?;
     match begin(alloc, state, host, draft) {
         Ok(_) => {
             move_to(alloc, state, current);
@@ -226,9 +221,8 @@ pub(crate) fn begin_recorded<H: Host>(
     ensures end { IfOk result EndsByAsk }
     ensures cause { LineCaused (H.world.counts host.old) (H.world.counts host.new) result }
 {
-    match file_fault(alloc, state, file) {
-        Ok(Some(line)) => Ok(Asked::Refused { line }),
-        Ok(None) => begin_placed(alloc, state, host, draft, file, current),
-        Err(Memory) => Err(RunError::Memory),
+    match file_fault(alloc, state, file)? {
+        Some(line) => Ok(Asked::Refused { line }),
+        None => begin_placed(alloc, state, host, draft, file, current),
     }
 }

@@ -36,8 +36,5 @@ pub(crate) fn call(alloc: Global, state: &mut SessionState, text: &Text) -> Resu
     ensures desk { OnlyFrames state.old state.new }
     ensures goes_on { IfOk result EndsNoRun }
 {
-    match call_lines(alloc, state, text) {
-        Ok(asked) => Ok(asked),
-        Err(Memory) => Err(RunError::Memory),
-    }
+    Ok(call_lines(alloc, state, text)?)
 }

@@ -166,10 +166,8 @@ fn tell<H: Host>(alloc: Global, host: &mut H, before: usize, desk: &Desk) -> Res
     ensures end { IfOk result EndsByAsk }
     ensures cause { LineCaused (H.world.counts host.old) (H.world.counts host.new) result }
 {
-    match news_line(alloc, desk.shown.rows.items().len() - before) {
-        Ok(line) => say_last(host, &line),
-        Err(Memory) => Err(RunError::Memory),
-    }
+    let line = news_line(alloc, desk.shown.rows.items().len() - before)?;
+    say_last(host, &line)
 }
 
 // Takes in what was added to the folder's file, by what its load found, and prints how many messages came.
@@ -234,10 +232,8 @@ fn renew_tested<H: Host>(
     ensures end { IfOk result EndsByAsk }
     ensures cause { LineCaused (H.world.counts host.old) (H.world.counts host.new) result }
 {
-    match placed(alloc, state.here.bytes(), state.desk.folder.name.bytes()) {
-        Ok(file) => load_again(alloc, state, host, file.bytes()),
-        Err(Memory) => Err(RunError::Memory),
-    }
+    let file = placed(alloc, state.here.bytes(), state.desk.folder.name.bytes())?;
+    load_again(alloc, state, host, file.bytes())
 }
 
 /// Takes in what was added to the folder's file, and prints how many messages came: they stand with their own marks
@@ -257,9 +253,8 @@ pub(crate) fn renew<H: Host>(
     ensures end { IfOk result EndsByAsk }
     ensures cause { LineCaused (H.world.counts host.old) (H.world.counts host.new) result }
 {
-    match folder_fault(alloc, state) {
-        Ok(Some(line)) => Ok(Asked::Refused { line }),
-        Ok(None) => renew_tested(alloc, state, host),
-        Err(Memory) => Err(RunError::Memory),
+    match folder_fault(alloc, state)? {
+        Some(line) => Ok(Asked::Refused { line }),
+        None => renew_tested(alloc, state, host),
     }
 }

@@ -37,10 +37,7 @@ pub fn by_shell<H: Host>(
         (λ es. Goes (Ask (by_shell desk.now command.now input.now) Ret) es (in_play (λ a. a) result)) }
     ensures cause { LineCaused (H.world.counts host.old) (H.world.counts host.new) result }
 {
-    let args = match shell_args(alloc, command) {
-        Ok(args) => args,
-        Err(Memory) => return Err(RunError::Memory),
-    };
+    let args = shell_args(alloc, command)?;
     match run_child(alloc, host, desk.places.shell.bytes(), args.items(), input) {
         Ok(answer) => Ok(answer),
         Err(_) => Err(RunError::Memory),
@@ -54,10 +51,8 @@ fn say_of<H: Host>(host: &mut H, child: ChildAnswer) -> Result<Asked, RunError>
     ensures done { IfOk result EndsByAsk }
     ensures cause { LineCaused (H.world.counts host.old) (H.world.counts host.new) result }
 {
-    match said_of(child) {
-        Ok(bytes) => say_line(host, &bytes),
-        Err(Memory) => Err(RunError::Memory),
-    }
+    let bytes = said_of(child)?;
+    say_line(host, &bytes)
 }
 
 // What follows a command that was asked for.
@@ -73,10 +68,7 @@ fn after_run<H: Host>(
 {
     match answer {
         Some(child) => say_of(host, child),
-        None => match refused(alloc, b"command could not be run", b"") {
-            Ok(asked) => Ok(asked),
-            Err(Memory) => Err(RunError::Memory),
-        },
+        None => Ok(refused(alloc, b"command could not be run", b"")?),
     }
 }
 

@@ -79,10 +79,7 @@ fn load_file<H: Host>(
     ensures memory { IfErr result (λ e. e ≡ RunError.Memory) }
 {
     match try_load(alloc, host, file) {
-        Ok(found) => match after_load(alloc, state, name, found) {
-            Ok(asked) => Ok(asked),
-            Err(Memory) => Err(RunError::Memory),
-        },
+        Ok(found) => Ok(after_load(alloc, state, name, found)?),
         Err(_) => Err(RunError::Memory),
     }
 }
@@ -102,10 +99,8 @@ fn load_lines<H: Host>(
     ensures goes_on { IfOk result EndsNoRun }
     ensures memory { IfErr result (λ e. e ≡ RunError.Memory) }
 {
-    match placed(alloc, state.here.bytes(), name) {
-        Ok(file) => load_file(alloc, state, host, name, file.bytes()),
-        Err(Memory) => Err(RunError::Memory),
-    }
+    let file = placed(alloc, state.here.bytes(), name)?;
+    load_file(alloc, state, host, name, file.bytes())
 }
 
 /// Loads a file and brings its lines, unless something stands in the way.
@@ -123,9 +118,8 @@ pub(crate) fn source<H: Host>(
     ensures goes_on { IfOk result EndsNoRun }
     ensures memory { IfErr result (λ e. e ≡ RunError.Memory) }
 {
-    match source_fault(alloc, state, name) {
-        Ok(Some(line)) => Ok(Asked::Refused { line }),
-        Ok(None) => load_lines(alloc, state, host, name),
-        Err(Memory) => Err(RunError::Memory),
+    match source_fault(alloc, state, name)? {
+        Some(line) => Ok(Asked::Refused { line }),
+        None => load_lines(alloc, state, host, name),
     }
 }

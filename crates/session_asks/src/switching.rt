@@ -97,10 +97,8 @@ fn say_opened<H: Host>(
         (λ es. Goes (Ask (Say (reply.now ++ announcement desk.now)) Ret) es (in_play (λ u. u) result)) }
     ensures cause { LineCaused (H.world.counts host.old) (H.world.counts host.new) result }
 {
-    match announcement(alloc, desk, reply.bytes()) {
-        Ok(text) => say(host, text.bytes()),
-        Err(Memory) => Err(RunError::Memory),
-    }
+    let text = announcement(alloc, desk, reply.bytes())?;
+    say(host, text.bytes())
 }
 
 // Puts a folder on the desk and prints its lines after the reply.
@@ -196,12 +194,8 @@ fn switch_to<H: Host>(
     ensures end { IfOk result EndsByAsk }
     ensures cause { LineCaused (H.world.counts host.old) (H.world.counts host.new) result }
 {
-    match opening_named(alloc, state, name, folder) {
-        Ok((opening, previous)) => {
-            leave_for(alloc, state, host, changes, reply, opening, previous)
-        }
-        Err(Memory) => Err(RunError::Memory),
-    }
+    let (opening, previous) = opening_named(alloc, state, name, folder)?;
+    leave_for(alloc, state, host, changes, reply, opening, previous)
 }
 
 /// What a refusal leaves.
@@ -289,10 +283,8 @@ fn load_and_switch<H: Host>(
     ensures end { IfOk result EndsByAsk }
     ensures cause { LineCaused (H.world.counts host.old) (H.world.counts host.new) result }
 {
-    match placed(alloc, state.here.bytes(), name) {
-        Ok(file) => load_file(alloc, state, host, name, file.bytes(), changes, reply),
-        Err(Memory) => Err(RunError::Memory),
-    }
+    let file = placed(alloc, state.here.bytes(), name)?;
+    load_file(alloc, state, host, name, file.bytes(), changes, reply)
 }
 
 /// Opens a file in place of the folder, which is left by these changes: they are committed once the file was loaded.
@@ -315,9 +307,8 @@ pub(crate) fn switch<H: Host>(
     ensures end { IfOk result EndsByAsk }
     ensures cause { LineCaused (H.world.counts host.old) (H.world.counts host.new) result }
 {
-    match open_fault(alloc, state, name, changes.items()) {
-        Ok(Some(line)) => Ok(Asked::Refused { line }),
-        Ok(None) => load_and_switch(alloc, state, host, name, changes, reply),
-        Err(Memory) => Err(RunError::Memory),
+    match open_fault(alloc, state, name, changes.items())? {
+        Some(line) => Ok(Asked::Refused { line }),
+        None => load_and_switch(alloc, state, host, name, changes, reply),
     }
 }

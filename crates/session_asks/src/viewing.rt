@@ -40,8 +40,6 @@ pub(crate) fn view(
     ensures end { IfOk result EndsByAsk }
     ensures memory { IfErr result (λ e. e ≡ RunError.Memory) }
 {
-    match show_in(alloc, state, kind) {
-        Ok(()) => Ok(Asked::Over),
-        Err(Memory) => Err(RunError::Memory),
-    }
+    show_in(alloc, state, kind)?;
+    Ok(Asked::Over)
 }

@@ -1,22 +1,22 @@
 use Rattle.std.proofs.Common.{Ok}
 use Rattle.host_port.proofs.RanLemmas.{Ran-none, Ran-map}
-use Rattle.session_play.proofs.PlayLemmas.{at-memory}
 use Rattle.session_asks.specs.Switching.{switched_to}
+use Rattle.session_state.proofs.MemoryLemmas.{out-of-memory}
 use Rattle.session_asks.proofs.SwitchingLemmas.{know-switched}
 use Rattle.session_asks.proofs.switching.switch_to.Goals as goal
 
 pub leave_for-requires-clause-size : goal.leave_for-requires-clause-size
-leave_for-requires-clause-size g c = c.in-Ok.ensures.0.size
+leave_for-requires-clause-size g c = c.in_ok-opening_named.ensures.0.size
 
 pub leave_for-requires-clause-some : goal.leave_for-requires-clause-some
-leave_for-requires-clause-some g c = c.in-Ok.ensures.0.some
+leave_for-requires-clause-some g c = c.in_ok-opening_named.ensures.0.some
 
 pub leave_for-requires-clause-desk : goal.leave_for-requires-clause-desk
-leave_for-requires-clause-desk g c = c.in-Ok.ensures.0.valid
+leave_for-requires-clause-desk g c = c.in_ok-opening_named.ensures.0.valid
 
-pub returns-in-Ok-clause-ran : goal.returns-in-Ok-clause-ran
-returns-in-Ok-clause-ran g c =
-    Ran-map (know-switched c.args.state.now c.args.name.now c.args.folder c.args.changes c.args.reply.now _ _ _ c.in-Ok.ensures.0 c.in-Ok.ensures.1) c.leave_for.ensures.ran
+pub returns-clause-ran : goal.returns-clause-ran
+returns-clause-ran g c =
+    Ran-map (know-switched c.args.state.now c.args.name.now c.args.folder c.args.changes c.args.reply.now _ _ _ c.in_ok-opening_named.ensures.0 c.in_ok-opening_named.ensures.1) c.leave_for.ensures.ran
 
-pub returns-in-Err-clause-ran : goal.returns-in-Err-clause-ran
-returns-in-Err-clause-ran g c = Ran-none (at-memory (switched_to c.args.state.now c.args.name.now c.args.changes c.args.reply.now (Ok c.args.folder)))
+pub returns-in_err-opening_named-clause-ran : goal.returns-in_err-opening_named-clause-ran
+returns-in_err-opening_named-clause-ran g c = Ran-none (out-of-memory (switched_to c.args.state.now c.args.name.now c.args.changes c.args.reply.now (Ok c.args.folder)) _ c.from_residual.result c.from_residual.ensures.1)
