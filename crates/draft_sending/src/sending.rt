@@ -57,10 +57,8 @@ fn say_dead<H: Host>(
     ensures go { IfOk result (λ flow. flow ≡ Flow.Go) }
     ensures cause { LineCaused (H.world.counts host.old) (H.world.counts host.new) result }
 {
-    match reply(alloc, name, b"Dead", 1) {
-        Ok(line) => refuse(state, host, &line),
-        Err(Memory) => Err(RunError::Memory),
-    }
+    let line = reply(alloc, name, b"Dead", 1)?;
+    refuse(state, host, &line)
 }
 
 // What follows the commit of a dead letter to this file.
@@ -123,10 +121,7 @@ fn bury<H: Host>(
     ensures done { IfOk result EndsByLine }
     ensures cause { LineCaused (H.world.counts host.old) (H.world.counts host.new) result }
 {
-    let name = match Text::copy(alloc, change_name(&change)) {
-        Ok(name) => name,
-        Err(Memory) => return Err(RunError::Memory),
-    };
+    let name = Text::copy(alloc, change_name(&change))?;
     match save_one(alloc, state, host, change) {
         Ok(asked) => buried(alloc, state, host, name.bytes(), asked),
         Err(error) => Err(error),
@@ -157,10 +152,9 @@ fn lose<H: Host>(
     ensures done { IfOk result EndsByLine }
     ensures cause { LineCaused (H.world.counts host.old) (H.world.counts host.new) result }
 {
-    match dead_of(alloc, state, letter) {
-        Ok(Some(change)) => bury(alloc, state, host, change),
-        Ok(None) => Ok(Flow::Go),
-        Err(Memory) => Err(RunError::Memory),
+    match dead_of(alloc, state, letter)? {
+        Some(change) => bury(alloc, state, host, change),
+        None => Ok(Flow::Go),
     }
 }
 
@@ -256,10 +250,8 @@ fn keep_refused<H: Host>(
     ensures done { IfOk result EndsByLine }
     ensures cause { LineCaused (H.world.counts host.old) (H.world.counts host.new) result }
 {
-    match ended_line(alloc, status, output) {
-        Ok(line) => keep_unsent(alloc, state, host, letter, Some(status), line.bytes()),
-        Err(Memory) => Err(RunError::Memory),
-    }
+    let line = ended_line(alloc, status, output)?;
+    keep_unsent(alloc, state, host, letter, Some(status), line.bytes())
 }
 
 // Prints that the sender could not be run, and puts the text to the dead letters.
@@ -297,10 +289,7 @@ fn deliver<H: Host>(
     ensures done { IfOk result EndsByLine }
     ensures cause { LineCaused (H.world.counts host.old) (H.world.counts host.new) result }
 {
-    let message = match message_text(alloc, &letter.draft, letter.moment) {
-        Ok(message) => message,
-        Err(Memory) => return Err(RunError::Memory),
-    };
+    let message = message_text(alloc, &letter.draft, letter.moment)?;
     match send(alloc, &state.desk.vars, names, message.bytes(), host) {
         Ok(output) => refuse(state, host, &output),
         Err(SendError::Refused { status, output }) => {
@@ -442,13 +431,12 @@ fn post<H: Host>(
     ensures done { IfOk result EndsByLine }
     ensures cause { LineCaused (H.world.counts host.old) (H.world.counts host.new) result }
 {
-    match names_refused(alloc, names) {
-        Ok(Some(line)) => keep_unsent(alloc, state, host, letter, None, line.bytes()),
-        Ok(None) => {
+    match names_refused(alloc, names)? {
+        Some(line) => keep_unsent(alloc, state, host, letter, None, line.bytes()),
+        None => {
             let change = record_of(alloc, state, file, letter, names);
             record(alloc, state, host, letter, names, change)
         }
-        Err(Memory) => Err(RunError::Memory),
     }
 }
 
@@ -498,10 +486,8 @@ fn finish_at<H: Host>(
     ensures done { IfOk result EndsByLine }
     ensures cause { LineCaused (H.world.counts host.old) (H.world.counts host.new) result }
 {
-    match addressees(alloc, &state.desk, &letter.draft) {
-        Ok(found) => address(alloc, state, host, file, letter, found),
-        Err(Memory) => Err(RunError::Memory),
-    }
+    let found = addressees(alloc, &state.desk, &letter.draft)?;
+    address(alloc, state, host, file, letter, found)
 }
 
 // Sends a draft that is done.

@@ -13,13 +13,13 @@ use Rattle.draft_sending.specs.Sending.{after_sender}
 use Rattle.draft_sending.proofs.SendingLemmas.{ended-as, unrefused}
 use Rattle.draft_sending.proofs.sending.deliver.Goals as goal
 
-pub returns-in-Ok-send-clause-ran : goal.returns-in-Ok-send-clause-ran
-returns-in-Ok-send-clause-ran g c =
+pub returns-in-Ok-clause-ran : goal.returns-in-Ok-clause-ran
+returns-in-Ok-clause-ran g c =
     let s = c.args.state.now in
     let letter = c.args.letter.now in
     let names = c.args.names.now in
     Ran-then (goes-then (Ask (Child (program_of s.desk.vars) (sender_args names) (message_text letter.draft letter.moment)) (λ a. Ret (sent a))) (after_sender s letter) _ _)
-    (rw (c.bytes.ensures, c.in-Ok.ensures) at (c.in-Ok-send.ensures.ran (unrefused names c.requires.names))) c.refuse.ensures.ran
+    (rw (c.bytes.ensures, c.in_ok-message.ensures) at (c.in-Ok.ensures.ran (unrefused names c.requires.names))) c.refuse.ensures.ran
 
 pub returns-in-Err-Refused-clause-ran : goal.returns-in-Err-Refused-clause-ran
 returns-in-Err-Refused-clause-ran g c =
@@ -29,7 +29,7 @@ returns-in-Err-Refused-clause-ran g c =
     let a : Result (List ℕ) SendError = Err (send.Refused c.in-Err-Refused.status c.in-Err-Refused.output) in
     let fits : FitsSigned w32 c.in-Err-Refused.status = omega (arith, ints) in
     Ran-then (goes-then (Ask (Child (program_of s.desk.vars) (sender_args names) (message_text letter.draft letter.moment)) (λ a. Ret (sent a))) (after_sender s letter) a _)
-    (rw (c.bytes.ensures, c.in-Ok.ensures, c.in-Err-Refused.field-0-is) at (c.in-Err-Refused.ensures.ran (unrefused names c.requires.names))) (Ran-map (ended-as s letter (to_z w32 (of_z w32 c.in-Err-Refused.status)) c.in-Err-Refused.status c.in-Err-Refused.output _ (to_z-of_z fits)) c.keep_refused.ensures.ran)
+    (rw (c.bytes.ensures, c.in_ok-message.ensures, c.in-Err-Refused.field-0-is) at (c.in-Err-Refused.ensures.ran (unrefused names c.requires.names))) (Ran-map (ended-as s letter (to_z w32 (of_z w32 c.in-Err-Refused.status)) c.in-Err-Refused.status c.in-Err-Refused.output _ (to_z-of_z fits)) c.keep_refused.ensures.ran)
 
 pub returns-in-Err-Child-clause-ran : goal.returns-in-Err-Child-clause-ran
 returns-in-Err-Child-clause-ran g c =
@@ -37,12 +37,12 @@ returns-in-Err-Child-clause-ran g c =
     let letter = c.args.letter.now in
     let names = c.args.names.now in
     Ran-then (goes-then (Ask (Child (program_of s.desk.vars) (sender_args names) (message_text letter.draft letter.moment)) (λ a. Ret (sent a))) (after_sender s letter) _ _)
-    (rw (c.bytes.ensures, c.in-Ok.ensures, c.in-Err-Child.field-0-is) at (c.in-Err-Child.ensures.ran (unrefused names c.requires.names))) c.keep_not_run.ensures.ran
+    (rw (c.bytes.ensures, c.in_ok-message.ensures, c.in-Err-Child.field-0-is) at (c.in-Err-Child.ensures.ran (unrefused names c.requires.names))) c.keep_not_run.ensures.ran
 
-pub returns-clause-ran : goal.returns-clause-ran
-returns-clause-ran g c =
+pub returns-in-Err-Memory-clause-ran : goal.returns-in-Err-Memory-clause-ran
+returns-in-Err-Memory-clause-ran g c =
     let s = c.args.state.now in
     let letter = c.args.letter.now in
     let names = c.args.names.now in
     Ran-map (goes-cut (Ask (Child (program_of s.desk.vars) (sender_args names) (message_text letter.draft letter.moment)) (λ a. Ret (sent a))) (after_sender s letter) _)
-    (rw (c.bytes.ensures, c.in-Ok.ensures, c.in-Err-Memory.field-0-is) at (c.in-Err-Memory.ensures.ran (unrefused names c.requires.names)))
+    (rw (c.bytes.ensures, c.in_ok-message.ensures, c.in-Err-Memory.field-0-is) at (c.in-Err-Memory.ensures.ran (unrefused names c.requires.names)))
