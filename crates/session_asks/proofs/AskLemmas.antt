@@ -82,12 +82,6 @@ after-run s answer child is = ap (after_run s) is
 pub asked-exit : (s : SessionState) (ask : asked_of.Ask) → ask ≡ asks.Exit → asked s ask ≡ Ret (Ended (status_of s.outcome))
 asked-exit s ask is = ap (asked s) is
 
-pub never-fall-none : (c : Counts) → NeverFall c c
-never-fall-none c = record { ins = omega arith; outs = omega arith; disks = omega arith; children = omega arith }
-
-pub never-fall-then : (a b c : Counts) → NeverFall a b → NeverFall b c → NeverFall a c
-never-fall-then a b c x y = record { ins = omega arith; outs = omega arith; disks = omega arith; children = omega arith }
-
 -- a cause in a later call is one in the whole stretch
 pub caused-later : (a b c : Counts) (r : Result Asked RunError) → NeverFall a b → LineCaused b c r → LineCaused a c r
 caused-later a b c (Ok asked) fall t = tt

@@ -1,6 +1,5 @@
 use Rattle.host_port.proofs.RanLemmas.{Ran-then, Ran-map}
 use Rattle.session_state.specs.Answers.{stop_of}
-use Rattle.session_asks.proofs.AskLemmas.{never-fall-then}
 use Rattle.mailx_session.proofs.FinishLemmas.{ends-more, ends-left, ends-lost, ends-done, none-open}
 use Rattle.mailx_session.proofs.finishing.finish.Goals as goal
 
@@ -10,7 +9,6 @@ returns-then-is_none-clause-ran g c = Ran-map (ends-done c.args.state.now c.draf
 pub drafts-preserved : goal.drafts-preserved
 drafts-preserved g c = record {
   session = c.in-Ok-Go.ensures.session;
-  fall = never-fall-then _ _ _ c.drafts.invariant.fall c.in-Ok-Go.ensures.ran.never_fall;
   ran = Ran-then (ends-more c.args.state.now c.drafts.state c.end_one.new.state c.if-is_none.ensures) c.drafts.invariant.ran (rw c.in-Ok-Go.field-0-is at c.in-Ok-Go.ensures.ran);
   same = λ out. absurd (none-open c.args.state.now c.drafts.state c.drafts.invariant.same c.if-is_none.ensures out);
 }

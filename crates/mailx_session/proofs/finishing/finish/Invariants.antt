@@ -1,5 +1,4 @@
 use Rattle.std.specs.Prelude.{◌≡◌, false}
-use Rattle.host_port.specs.Calls.{NeverFall}
 use Rattle.host_port.specs.Ran.{Ran}
 use Rattle.session_state.specs.States.{IsSession, is_drafting}
 use Rattle.mailx_session.proofs.FinishLemmas.{open_weight, EndsSoFar}
@@ -8,7 +7,6 @@ use Rattle.mailx_session.proofs.finishing.finish.Given as goal
 abbrev pub invariant-drafts : goal.invariant-drafts
 invariant-drafts g l = record {
   session : IsSession l.state;
-  fall : NeverFall (g.H.Host.world.counts l.fn.host) (g.H.Host.world.counts l.host);
   ran : Ran g.H.Host.world l.fn.host l.host (EndsSoFar l.fn.state l.state);
   same : is_drafting l.fn.state ≡ false → l.state ≡ l.fn.state;
 }

@@ -2,7 +2,6 @@ use Rattle.std.proofs.Common.{◌<◌, refl, sym, ◌∙◌, ap, subst}
 use Rattle.host_port.proofs.RanLemmas.{Ran-then, Ran-map, Ran-none}
 use Rattle.session_state.specs.declared.state.SessionState.{SessionState}
 use Rattle.session_state.specs.Answers.{stop_of}
-use Rattle.session_asks.proofs.AskLemmas.{never-fall-none, never-fall-then}
 use Rattle.session_state.proofs.PendingLemmas.{less-then}
 use Rattle.session_asks.proofs.SourcingLemmas.{le-refl, weight-taken}
 use Rattle.mailx_session.proofs.RoundLemmas.{waits-none, waits-more, waits-ended, waits-cut, waits-over, waits-short, next-fewer, next-waits, none-next, at-most, below-most}
@@ -21,7 +20,6 @@ use Rattle.mailx_session.proofs.lines.waiting_lines.Goals as goal
 pub lines-init : goal.lines-init
 lines-init g c = record {
   state = c.requires;
-  fall = never-fall-none _;
   ran = Ran-none (waits-none c.args.state.now);
   nothing = λ over. refl;
   drafting = λ inside. refl;
@@ -54,7 +52,6 @@ lines-preserved g c =
     (subst (λ (s : SessionState). weight s < weight c.lines.state) (sym is.1) (weight-taken c.lines.state c.next_waiting.new.state.frames (next-fewer c.lines.state c.in-Ok-Some.line c.next_waiting.new.state.frames is.0))) in
     record {
       state = c.in-Ok-Go.ensures.state;
-      fall = never-fall-then _ _ _ c.lines.invariant.fall c.in-Ok-Go.ensures.ran.never_fall;
       ran = Ran-then (waits-more c.args.state.now c.lines.state c.next_waiting.new.state c.waiting_line.new.state c.in-Ok-Some.line is.0 is.1) c.lines.invariant.ran (rw c.in-Ok-Go.field-0-is at c.in-Ok-Go.ensures.ran);
       nothing = λ none. absurd (next-waits c.lines.state c.in-Ok-Some.line c.next_waiting.new.state.frames is.0 (ap (λ (s : SessionState). s.frames) (c.lines.invariant.nothing none) ∙ none));
       drafting = λ inside. absurd (none-next c.args.state.now c.lines.state c.in-Ok-Some.line c.next_waiting.new.state.frames (c.lines.invariant.drafting inside) inside is.0);

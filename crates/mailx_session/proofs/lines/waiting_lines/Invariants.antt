@@ -1,5 +1,4 @@
 use Rattle.std.specs.Prelude.{◌≡◌, ◌≤◌, ◌<◌, true, false, []}
-use Rattle.host_port.specs.Calls.{NeverFall}
 use Rattle.host_port.specs.Ran.{Ran}
 use Rattle.session_state.specs.States.{IsState, is_drafting}
 use Rattle.session_state.specs.Bringing.{weight}
@@ -10,7 +9,6 @@ use Rattle.mailx_session.proofs.lines.waiting_lines.Given as goal
 abbrev pub invariant-lines : goal.invariant-lines
 invariant-lines g l = record {
   state : IsState l.state;
-  fall : NeverFall (g.H.Host.world.counts l.fn.host) (g.H.Host.world.counts l.host);
   ran : Ran g.H.Host.world l.fn.host l.host (WaitsSoFar l.fn.state l.state);
   nothing : l.fn.state.frames ≡ [] → l.state ≡ l.fn.state;
   drafting : is_drafting l.fn.state ≡ true → l.state ≡ l.fn.state;

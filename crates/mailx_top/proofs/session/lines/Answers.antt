@@ -1,8 +1,7 @@
-use Rattle.std.proofs.Common.{[], refl}
+use Rattle.std.proofs.Common.{[], refl, arith}
 use Rattle.std.proofs.lemmas.Result.{err_from_is_err_and}
 use Rattle.host_port.proofs.RanLemmas.{Ran-none, Ran-then}
 use Rattle.session_play.proofs.LoopLemmas.{so-far-none}
-use Rattle.session_asks.proofs.AskLemmas.{never-fall-none, never-fall-then}
 use Rattle.mailx_top.proofs.EndLemmas.{any-env}
 use Rattle.mailx_top.proofs.WaitingLemmas.{so-far-leads}
 use Rattle.mailx_top.specs.Meaning.{Reading, round}
@@ -11,7 +10,7 @@ use Rattle.mailx_top.proofs.session.lines.Goals as goal
 
 pub lines-init : goal.lines-init
 lines-init g c = record {
-  fall = never-fall-none _;
+  fall = record { ins = omega arith; outs = omega arith; disks = omega arith; children = omega arith };
   ran = λ env. rw c.new-reader.ensures (Ran-none (so-far-none (round env) (Reading c.args.session.now no_input) [] refl));
 }
 
@@ -25,6 +24,6 @@ returns-in-Some-clause-ran g c = λ env. Ran-then (λ es fs so loop. so.whole fs
 
 pub lines-preserved : goal.lines-preserved
 lines-preserved g c = record {
-  fall = never-fall-then _ _ _ c.lines.invariant.fall (c.in_ok-end.ensures.ran any-env).never_fall;
+  fall = (Ran-then {S = λ es. Unit {0}} (λ front rest so leads. tt) (c.lines.invariant.ran any-env) (c.in_ok-end.ensures.ran any-env)).never_fall;
   ran = λ env. Ran-then (so-far-leads env _ _ _) (c.lines.invariant.ran env) (rw c.in_default.is at c.in_ok-end.ensures.ran env);
 }

@@ -7,7 +7,7 @@ use Rattle.read_commands.specs.Origins.{is_startup_ask}
 use Rattle.session_state.specs.Bringing.{brings}
 use Rattle.session_asks.specs.Asks.{asked, all_done}
 use Rattle.session_asks.proofs.SourcingLemmas.{brings_none, brings-then, keeps-then, only-then, quiet-parts, startup-parts}
-use Rattle.session_asks.proofs.AskLemmas.{never-fall-none, never-fall-then, caused-later, done-on, left-on, left-all, left-off, nothing-left}
+use Rattle.session_asks.proofs.AskLemmas.{caused-later, done-on, left-on, left-all, left-off, nothing-left}
 use Rattle.session_asks.proofs.asks.ask_all.Goals as goal
 
 pub loop-ask-init : goal.loop-ask-init
@@ -15,7 +15,6 @@ loop-ask-init g c =
     let all : c.into_iter-ask-iterator.result.rest.items ≡ c.args.asks = search rules in
     record {
       state = c.requires;
-      fall = never-fall-none _;
       ran = rw all (Ran-none (leads-none (in_order asked c.args.state.now c.args.asks)));
       brought = brings_none c.args.state.now c.args.state.now refl;
       desk = refl;
@@ -30,7 +29,6 @@ loop-ask-preserved g c =
     record {
       state = c.do_ask-asked.ensures.valid;
       desk = only-then c.args.state.now c.loop-ask.state c.do_ask-asked.new.state c.loop-ask.invariant.desk (rw on at c.do_ask-asked.ensures.desk);
-      fall = never-fall-then _ _ _ c.loop-ask.invariant.fall c.do_ask-asked.ensures.ran.never_fall;
       brought = brings-then c.args.state.now c.loop-ask.state c.do_ask-asked.new.state c.loop-ask.invariant.brought c.do_ask-asked.ensures.brings;
       quiet = λ none.
           let before = c.loop-ask.invariant.quiet none in
@@ -49,7 +47,6 @@ loop-ask-preserved-else-not-all_done-2 g c =
     record {
       state = c.do_ask-asked.ensures.valid;
       desk = only-then c.args.state.now c.loop-ask.state c.do_ask-asked.new.state c.loop-ask.invariant.desk (rw on at c.do_ask-asked.ensures.desk);
-      fall = never-fall-then _ _ _ c.loop-ask.invariant.fall c.do_ask-asked.ensures.ran.never_fall;
       brought = brings-then c.args.state.now c.loop-ask.state c.do_ask-asked.new.state c.loop-ask.invariant.brought c.do_ask-asked.ensures.brings;
       quiet = λ none.
           let before = c.loop-ask.invariant.quiet none in
@@ -87,7 +84,7 @@ returns-then-not-all_done-clause-goes_on g c = λ little.
 
 pub returns-then-not-all_done-clause-cause : goal.returns-then-not-all_done-clause-cause
 returns-then-not-all_done-clause-cause g c =
-    caused-later (g.H.Host.world.counts c.args.host.now) (g.H.Host.world.counts c.loop-ask.host) (g.H.Host.world.counts c.do_ask-asked.new.host) c.do_ask-asked.result c.loop-ask.invariant.fall c.do_ask-asked.ensures.cause
+    caused-later (g.H.Host.world.counts c.args.host.now) (g.H.Host.world.counts c.loop-ask.host) (g.H.Host.world.counts c.do_ask-asked.new.host) c.do_ask-asked.result c.loop-ask.invariant.ran.never_fall c.do_ask-asked.ensures.cause
 
 pub returns-clause-ran : goal.returns-clause-ran
 returns-clause-ran g c =

@@ -1,6 +1,5 @@
 use Rattle.std.specs.Prelude.{◌≡◌, true, false}
 use Rattle.std.specs.List.{list_all, list_any}
-use Rattle.host_port.specs.Calls.{NeverFall}
 use Rattle.host_port.specs.Ran.{Ran}
 use Rattle.read_commands.specs.Origins.{is_startup_ask}
 use Rattle.session_state.specs.Bringing.{brings, OnlyBrings}
@@ -11,7 +10,6 @@ use Rattle.session_asks.proofs.asks.ask_all.Given as goal
 abbrev pub invariant-loop-ask : goal.invariant-loop-ask
 invariant-loop-ask g l = record {
   state : IsState l.state;
-  fall : NeverFall (g.H.Host.world.counts l.fn.host) (g.H.Host.world.counts l.host);
   ran : Ran g.H.Host.world l.fn.host l.host (LeftOf l.fn.state l.fn.asks l.state l.ask-iterator.rest.items);
   brought : OnlyBrings l.fn.state l.state;
   desk : OnlyFrames l.fn.state l.state;
