@@ -15,7 +15,7 @@ returns-in-Ok-clause-ran g c =
     Ran-then (goes-then (saved_one s c.args.change) (buried s (name_of c.args.change)) _ _) c.in-Ok.ensures.ran
     (rw (c.bytes.ensures, c.in_ok-name.ensures, c.change_name.ensures) at c.buried.ensures.ran)
 
-pub returns-in-Err-clause-ran : goal.returns-in-Err-clause-ran
-returns-in-Err-clause-ran g c =
+pub returns-clause-ran : goal.returns-clause-ran
+returns-clause-ran g c =
     let s = c.args.state.now in
     Ran-map (goes-cut (saved_one s c.args.change) (buried s (name_of c.args.change)) _) c.in-Err.ensures.ran

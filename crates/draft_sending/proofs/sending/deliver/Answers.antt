@@ -4,12 +4,13 @@ use Rattle.std.specs.declared.result.Result.{Result}
 use Rattle.std.specs.declared.result.Result.TheVariants.{Err}
 use Rattle.sender_port.specs.declared.error.SendError.{SendError}
 use Rattle.sender_port.specs.declared.error.SendError.TheVariants as send
-use Rattle.host_port.proofs.RanLemmas.{Ran-then, Ran-map}
+use Rattle.host_port.proofs.RanLemmas.{Ran-none, Ran-then, Ran-map}
 use Rattle.draft_text.specs.Texts.{message_text}
 use Rattle.session_play.specs.Play.{Ask, Ret, Child}
 use Rattle.session_play.proofs.PlayLemmas.{goes-then, goes-cut}
 use Rattle.sender_port.specs.Sending.{program_of, sender_args, sent}
-use Rattle.draft_sending.specs.Sending.{after_sender}
+use Rattle.session_state.proofs.MemoryLemmas.{out-of-memory}
+use Rattle.draft_sending.specs.Sending.{after_sender, sending}
 use Rattle.draft_sending.proofs.SendingLemmas.{ended-as, unrefused}
 use Rattle.draft_sending.proofs.sending.deliver.Goals as goal
 
@@ -39,10 +40,14 @@ returns-in-Err-Child-clause-ran g c =
     Ran-then (goes-then (Ask (Child (program_of s.desk.vars) (sender_args names) (message_text letter.draft letter.moment)) (λ a. Ret (sent a))) (after_sender s letter) _ _)
     (rw (c.bytes.ensures, c.in_ok-message.ensures, c.in-Err-Child.field-0-is) at (c.in-Err-Child.ensures.ran (unrefused names c.requires.names))) c.keep_not_run.ensures.ran
 
-pub returns-in-Err-Memory-clause-ran : goal.returns-in-Err-Memory-clause-ran
-returns-in-Err-Memory-clause-ran g c =
+pub returns-clause-ran : goal.returns-clause-ran
+returns-clause-ran g c =
     let s = c.args.state.now in
     let letter = c.args.letter.now in
     let names = c.args.names.now in
     Ran-map (goes-cut (Ask (Child (program_of s.desk.vars) (sender_args names) (message_text letter.draft letter.moment)) (λ a. Ret (sent a))) (after_sender s letter) _)
     (rw (c.bytes.ensures, c.in_ok-message.ensures, c.in-Err-Memory.field-0-is) at (c.in-Err-Memory.ensures.ran (unrefused names c.requires.names)))
+
+pub returns-in_err-message-clause-ran : goal.returns-in_err-message-clause-ran
+returns-in_err-message-clause-ran g c =
+    Ran-none (out-of-memory (sending c.args.state.now c.args.letter.now c.args.names.now) _ c.from_residual.result c.from_residual.ensures.1)

@@ -6,17 +6,17 @@ use Rattle.session_asks.proofs.SwitchingLemmas.{know-switched}
 use Rattle.session_asks.proofs.switching.switch_to.Goals as goal
 
 pub leave_for-requires-clause-size : goal.leave_for-requires-clause-size
-leave_for-requires-clause-size g c = c.in_ok-opening_named.ensures.0.size
+leave_for-requires-clause-size g c = c.in_ok-opening.ensures.0.size
 
 pub leave_for-requires-clause-some : goal.leave_for-requires-clause-some
-leave_for-requires-clause-some g c = c.in_ok-opening_named.ensures.0.some
+leave_for-requires-clause-some g c = c.in_ok-opening.ensures.0.some
 
 pub leave_for-requires-clause-desk : goal.leave_for-requires-clause-desk
-leave_for-requires-clause-desk g c = c.in_ok-opening_named.ensures.0.valid
+leave_for-requires-clause-desk g c = c.in_ok-opening.ensures.0.valid
 
 pub returns-clause-ran : goal.returns-clause-ran
 returns-clause-ran g c =
-    Ran-map (know-switched c.args.state.now c.args.name.now c.args.folder c.args.changes c.args.reply.now _ _ _ c.in_ok-opening_named.ensures.0 c.in_ok-opening_named.ensures.1) c.leave_for.ensures.ran
+    Ran-map (know-switched c.args.state.now c.args.name.now c.args.folder c.args.changes c.args.reply.now _ _ _ c.in_ok-opening.ensures.0 c.in_ok-opening.ensures.1) c.leave_for.ensures.ran
 
-pub returns-in_err-opening_named-clause-ran : goal.returns-in_err-opening_named-clause-ran
-returns-in_err-opening_named-clause-ran g c = Ran-none (out-of-memory (switched_to c.args.state.now c.args.name.now c.args.changes c.args.reply.now (Ok c.args.folder)) _ c.from_residual.result c.from_residual.ensures.1)
+pub returns-in_err-opening-clause-ran : goal.returns-in_err-opening-clause-ran
+returns-in_err-opening-clause-ran g c = Ran-none (out-of-memory (switched_to c.args.state.now c.args.name.now c.args.changes c.args.reply.now (Ok c.args.folder)) _ c.from_residual.result c.from_residual.ensures.1)
