@@ -3,7 +3,7 @@ use Rattle.session_play.specs.Play.{Ask, Ret, Say}
 use Rattle.session_state.specs.Answers.{after_asks}
 use Rattle.session_state.specs.declared.answers.Asked.TheVariants as asked
 use Rattle.session_state.proofs.MemoryLemmas.{out-of-memory}
-use Rattle.session_asks.specs.Running.{said_of}
+use Rattle.compose_tilde.specs.Answering.{said_of}
 use Rattle.session_asks.proofs.running.say_of.Goals as goal
 
 pub returns-clause-ran : goal.returns-clause-ran
