@@ -1,5 +1,5 @@
 -- What is written is found where it is looked for.
-use Rattle.std.proofs.Common.{◌≡◌, ℕ, zero, suc, ◌+◌, ◌<◌, ◌≤◌, ◌^◌, true, false, List, [], ◌∷◌, ◌++◌, length, take, drop, nat_lt, nat_le, codes, decimal, Option, Some, None, append_assoc, length-append, if◌then◌else◌, IfOk, Ok, Err, ◌⊎◌, inl, inr, refl, sym, ap, ◌∙◌, arith, lit<}
+use Rattle.std.proofs.Common.{◌≡◌, ℕ, zero, suc, ℤ, pos, negsuc, ◌+◌, ◌<◌, ◌≤◌, ◌^◌, true, false, List, [], ◌∷◌, ◌++◌, length, take, drop, nat_lt, nat_le, codes, decimal, Option, Some, None, append_assoc, length-append, if◌then◌else◌, IfOk, Ok, Err, ◌⊎◌, inl, inr, refl, sym, ap, ◌∙◌, arith, lit<}
 use Rattle.std.proofs.lemmas.Bool.{and_parts, cond-true, cond-false, le-ltb, leb-true, ltb-true, eqb-true}
 use Rattle.std.proofs.lemmas.List.{append-nil, drop_at, take_at}
 use Rattle.std.proofs.lemmas.Nat.{from_be_bytes-to_be_bytes_8}
@@ -15,9 +15,11 @@ use Rattle.hex.specs.declared.error.FromHexError.{FromHexError}
 use Rattle.std.specs.declared.result.Result.{Result}
 use Rattle.mail_text.specs.Number.{number_of}
 use Rattle.commit_record.specs.Names.{is_lawful}
-use Rattle.commit_record.specs.Format.{at_word, entry_line, fits_at, fits_kind, fits_number, kind_word, phase_word, token_digits, IsWritten}
-use Rattle.commit_record.specs.Reading.{after, at_at, count_at, counted_head, counted_name_at, entries_at, entry_at, head_at, kind_at, name_at, number_at, or_else, phase_at, record_at, token_at, token_head, with_entries, with_value}
+use Rattle.commit_record.specs.Format.{at_word, entry_line, fits_at, fits_kind, fits_moment, fits_number, kind_word, most_files, phase_word, token_digits, version_line, IsWritten}
+use Rattle.commit_record.specs.Reading.{after, as_moment, at_at, count_at, counted_head, counted_name_at, entries_at, entry_at, head_at, kind_at, moment_at, moment_head, name_at, number_at, or_else, phase_at, phase_head, record_at, token_at, token_head, version_at, with_entries, with_value}
 use Rattle.commit_record.specs.declared.reader.Head.{Head}
+use Rattle.commit_record.specs.declared.reader.Version.{Version}
+use Rattle.commit_record.specs.declared.reader.Version.TheVariants.{One, Two}
 use Rattle.commit_record.specs.declared.record.Entry.{Entry}
 use Rattle.commit_record.specs.declared.record.EntryKind.{EntryKind}
 use Rattle.commit_record.specs.declared.record.EntryKind.TheVariants.{Replace, Remove, Extend}
@@ -26,8 +28,8 @@ use Rattle.commit_record.specs.declared.record.Phase.TheVariants.{Prepare, Go}
 use Rattle.commit_record.specs.declared.record.Record.{Record}
 use Rattle.commit_record.specs.declared.error.RecordError.{RecordError}
 use Rattle.commit_record.specs.declared.error.RecordError.TheVariants.{NotARecord, Memory}
-use Rattle.commit_record.proofs.FormatLemmas.{written-fronts}
-use Rattle.commit_record.proofs.NumberLemmas.{decimal-digits, number_of-decimal, prefix_len-stopped}
+use Rattle.commit_record.proofs.FormatLemmas.{moment_words, written-fronts}
+use Rattle.commit_record.proofs.NumberLemmas.{decimal-digits, late-fits, never-fits, number_of-decimal, prefix_len-stopped}
 
 pub after-front : (front rest : List ℕ) → after front (front ++ rest) ≡ Some rest
 unfolding after
@@ -183,35 +185,84 @@ count_at-count n rest fits =
     ap (option_and_then (λ (m : ℕ × List ℕ). with_value m.0 (after (codes "\n") m.1))) (number_at-decimal n 10 rest fits refl)
     ∙ ap (with_value n) (after-front (codes "\n") rest)
 
-abbrev head : Phase → ℕ → ℕ → Head
-head phase token count = record { phase = phase; token = token; count = count }
+abbrev head : Phase → ℕ → Option ℤ → ℕ → Head
+head phase token moment count = record { phase = phase; token = token; moment = moment; count = count }
 
-counted_head-count : (p : Phase) (t n : ℕ) (rest : List ℕ) → n < 2 ^ 64 → counted_head p t (codes "\nentries " ++ (decimal n ++ (codes "\n" ++ rest))) ≡ Some (head p t n, rest)
+counted_head-count : (p : Phase) (t n : ℕ) (o : Option ℤ) (rest : List ℕ) → n < 2 ^ 64 → counted_head p t o (codes "\nentries " ++ (decimal n ++ (codes "\n" ++ rest))) ≡ Some (head p t o n, rest)
 unfolding counted_head
-counted_head-count p t n rest fits =
-    ap (option_and_then (λ (b : List ℕ). option_map (λ (m : ℕ × List ℕ). (head p t m.0, m.1)) (count_at b))) (after-front (codes "\nentries ") (decimal n ++ 10 ∷ rest))
-    ∙ ap (option_map (λ (m : ℕ × List ℕ). (head p t m.0, m.1))) (count_at-count n rest fits)
+counted_head-count p t n o rest fits =
+    ap (option_and_then (λ (b : List ℕ). option_map (λ (m : ℕ × List ℕ). (head p t o m.0, m.1)) (count_at b))) (after-front (codes "\nentries ") (decimal n ++ 10 ∷ rest))
+    ∙ ap (option_map (λ (m : ℕ × List ℕ). (head p t o m.0, m.1))) (count_at-count n rest fits)
 
-token_head-token : (p : Phase) (t n : ℕ) (rest : List ℕ) → t < 2 ^ 64 → n < 2 ^ 64
-    → token_head p (codes "token " ++ (token_digits t ++ (codes "\nentries " ++ (decimal n ++ (codes "\n" ++ rest))))) ≡ Some (head p t n, rest)
+-- the version of a record with such a moment
+abbrev version_of : Option ℤ → Version
+version_of None = One
+version_of (Some m) = Two
+
+two-not-one : (rest : List ℕ) → after (codes "mailx-commit 1\n") (codes "mailx-commit 2\n" ++ rest) ≡ None
+unfolding after
+two-not-one rest = refl
+
+version_at-line : (o : Option ℤ) (rest : List ℕ) → version_at (version_line o ++ rest) ≡ Some (version_of o, rest)
+unfolding version_at
+version_at-line None rest = ap (λ (f : Option (List ℕ)). or_else (with_value One f) (with_value Two (after (codes "mailx-commit 2\n") (codes "mailx-commit 1\n" ++ rest)))) (after-front (codes "mailx-commit 1\n") rest)
+version_at-line (Some m) rest =
+    ap (λ (f : Option (List ℕ)). or_else (with_value One f) (with_value Two (after (codes "mailx-commit 2\n") (codes "mailx-commit 2\n" ++ rest)))) (two-not-one rest)
+    ∙ ap (with_value Two) (after-front (codes "mailx-commit 2\n") rest)
+
+-- what a record's moment has, which may follow
+abbrev behind_number : ℕ × List ℕ → Option (Option ℤ × List ℕ)
+behind_number n = option_map (λ (m : ℤ). (Some m, n.1)) (as_moment n.0)
+
+moment_at-words : (o : Option ℤ) (rest : List ℕ) → fits_moment o ≡ true → moment_at (version_of o) (moment_words o ++ (10 ∷ rest)) ≡ Some (o, 10 ∷ rest)
+unfolding moment_at
+moment_at-words None rest fits = refl
+moment_at-words (Some (pos n)) rest fits =
+    let late = late-fits n fits in
+    ap (λ (bytes : List ℕ). option_and_then (λ (b : List ℕ). option_and_then behind_number (number_at b)) (after (codes "\nmoment ") bytes)) (append_assoc (codes "\nmoment ") (decimal n) (10 ∷ rest))
+    ∙ ap (option_and_then (λ (b : List ℕ). option_and_then behind_number (number_at b))) (after-front (codes "\nmoment ") (decimal n ++ 10 ∷ rest))
+    ∙ ap (option_and_then behind_number) (number_at-decimal n 10 rest (small n 253_402_128_000 (leb-true _ _ late) (lit< tt)) refl)
+    ∙ ap (option_map (λ (m : ℤ). (Some m, 10 ∷ rest))) (cond-true _ _ _ late)
+moment_at-words (Some (negsuc n)) rest fits = absurd (never-fits n fits)
+
+moment_head-moment : (p : Phase) (t n : ℕ) (o : Option ℤ) (rest : List ℕ) → n < 2 ^ 64 → fits_moment o ≡ true
+    → moment_head (version_of o) p t (moment_words o ++ (codes "\nentries " ++ (decimal n ++ (codes "\n" ++ rest)))) ≡ Some (head p t o n, rest)
+unfolding moment_head
+moment_head-moment p t n o rest n_fits fits =
+    ap (option_and_then (λ (m : Option ℤ × List ℕ). counted_head p t m.0 m.1)) (moment_at-words o (codes "entries " ++ (decimal n ++ (codes "\n" ++ rest))) fits)
+    ∙ counted_head-count p t n o rest n_fits
+
+token_head-token : (p : Phase) (t n : ℕ) (o : Option ℤ) (rest : List ℕ) → t < 2 ^ 64 → n < 2 ^ 64 → fits_moment o ≡ true
+    → token_head (version_of o) p (codes "token " ++ (token_digits t ++ (moment_words o ++ (codes "\nentries " ++ (decimal n ++ (codes "\n" ++ rest)))))) ≡ Some (head p t o n, rest)
 unfolding token_head
-token_head-token p t n rest t_fits fits =
-    let behind = codes "\nentries " ++ (decimal n ++ (codes "\n" ++ rest)) in
-    ap (option_and_then (λ (b : List ℕ). option_and_then (λ (x : ℕ × List ℕ). counted_head p x.0 x.1) (token_at b))) (after-front (codes "token ") (token_digits t ++ behind))
-    ∙ ap (option_and_then (λ (x : ℕ × List ℕ). counted_head p x.0 x.1)) (token_at-digits t behind t_fits)
-    ∙ counted_head-count p t n rest fits
+token_head-token p t n o rest t_fits n_fits fits =
+    let behind = moment_words o ++ (codes "\nentries " ++ (decimal n ++ (codes "\n" ++ rest))) in
+    ap (option_and_then (λ (b : List ℕ). option_and_then (λ (x : ℕ × List ℕ). moment_head (version_of o) p x.0 x.1) (token_at b))) (after-front (codes "token ") (token_digits t ++ behind))
+    ∙ ap (option_and_then (λ (x : ℕ × List ℕ). moment_head (version_of o) p x.0 x.1)) (token_at-digits t behind t_fits)
+    ∙ moment_head-moment p t n o rest n_fits fits
 
-head_at-head : (p : Phase) (t n : ℕ) (rest : List ℕ) → t < 2 ^ 64 → n < 2 ^ 64
-    → head_at (codes "mailx-commit 1\nphase " ++ ((phase_word p ++ codes "\n") ++ (codes "token " ++ (token_digits t ++ (codes "\nentries " ++ (decimal n ++ (codes "\n" ++ rest))))))) ≡ Some (head p t n, rest)
+phase_head-phase : (p : Phase) (t n : ℕ) (o : Option ℤ) (rest : List ℕ) → t < 2 ^ 64 → n < 2 ^ 64 → fits_moment o ≡ true
+    → phase_head (version_of o) (codes "phase " ++ ((phase_word p ++ codes "\n") ++ (codes "token " ++ (token_digits t ++ (moment_words o ++ (codes "\nentries " ++ (decimal n ++ (codes "\n" ++ rest)))))))) ≡ Some (head p t o n, rest)
+unfolding phase_head
+phase_head-phase p t n o rest t_fits n_fits fits =
+    let behind = codes "token " ++ (token_digits t ++ (moment_words o ++ (codes "\nentries " ++ (decimal n ++ (codes "\n" ++ rest))))) in
+    ap (option_and_then (λ (b : List ℕ). option_and_then (λ (x : Phase × List ℕ). token_head (version_of o) x.0 x.1) (phase_at b))) (after-front (codes "phase ") ((phase_word p ++ codes "\n") ++ behind))
+    ∙ ap (option_and_then (λ (x : Phase × List ℕ). token_head (version_of o) x.0 x.1)) (phase_at-word p behind)
+    ∙ token_head-token p t n o rest t_fits n_fits fits
+
+head_at-head : (p : Phase) (t n : ℕ) (o : Option ℤ) (rest : List ℕ) → t < 2 ^ 64 → n < 2 ^ 64 → fits_moment o ≡ true
+    → head_at (version_line o ++ (codes "phase " ++ ((phase_word p ++ codes "\n") ++ (codes "token " ++ (token_digits t ++ (moment_words o ++ (codes "\nentries " ++ (decimal n ++ (codes "\n" ++ rest))))))))) ≡ Some (head p t o n, rest)
 unfolding head_at
-head_at-head p t n rest t_fits fits =
-    let behind = codes "token " ++ (token_digits t ++ (codes "\nentries " ++ (decimal n ++ (codes "\n" ++ rest)))) in
-    ap (option_and_then (λ (b : List ℕ). option_and_then (λ (x : Phase × List ℕ). token_head x.0 x.1) (phase_at b))) (after-front (codes "mailx-commit 1\nphase ") ((phase_word p ++ codes "\n") ++ behind))
-    ∙ ap (option_and_then (λ (x : Phase × List ℕ). token_head x.0 x.1)) (phase_at-word p behind)
-    ∙ token_head-token p t n rest t_fits fits
+head_at-head p t n o rest t_fits n_fits fits =
+    ap (option_and_then (λ (v : Version × List ℕ). phase_head v.0 v.1)) (version_at-line o (codes "phase " ++ ((phase_word p ++ codes "\n") ++ (codes "token " ++ (token_digits t ++ (moment_words o ++ (codes "\nentries " ++ (decimal n ++ (codes "\n" ++ rest)))))))))
+    ∙ phase_head-phase p t n o rest t_fits n_fits fits
 
 abbrev behind_head : Head × List ℕ → Option Record
-behind_head h = if nat_le h.0.count 16 then option_map (with_entries h.0) (entries_at h.0.count [] h.1) else None
+behind_head h = if nat_le h.0.count (most_files h.0.moment) then option_map (with_entries h.0) (entries_at h.0.count [] h.1) else None
+
+few-small : (n : ℕ) (o : Option ℤ) → n ≤ most_files o → n < 2 ^ 64
+few-small n None few = small n 16 few (lit< tt)
+few-small n (Some m) few = small n 256 few (lit< tt)
 
 -- the text of a valid record gives the record
 pub record_at-written : (bytes : List ℕ) (r : Record) → IsWritten bytes r → record_at bytes ≡ Some r
@@ -221,11 +272,13 @@ record_at-written bytes r is =
     let few = (and_parts _ _ behind).0 in
     let named = and_parts _ _ (and_parts _ _ behind).1 in
     let lawful = named.0 in
-    let kinds = (and_parts _ _ (and_parts _ _ named.1).1).0 in
-    let found : Head = head r.phase r.token (length r.entries) in
+    let of_kinds = and_parts _ _ (and_parts _ _ named.1).1 in
+    let kinds = of_kinds.0 in
+    let fits = (and_parts _ _ of_kinds.1).1 in
+    let found : Head = head r.phase r.token r.moment (length r.entries) in
     let lines = flat_map entry_line r.entries ++ codes "end\n" in
     ap (λ (text : List ℕ). option_and_then behind_head (head_at text)) (is.is ∙ written-fronts r)
-    ∙ ap (option_and_then behind_head) (head_at-head r.phase r.token (length r.entries) lines is.token_fits (small (length r.entries) 16 (leb-true _ _ few) (lit< tt)))
+    ∙ ap (option_and_then behind_head) (head_at-head r.phase r.token (length r.entries) r.moment lines is.token_fits (few-small (length r.entries) r.moment (leb-true _ _ few)) fits)
     ∙ cond-true _ _ _ few
     ∙ ap (option_map (with_entries found)) (entries_at-lines r.entries [] (codes "end\n") lawful is.numbers_fit kinds)
 

@@ -1,5 +1,5 @@
 -- How the parts of a record are found at the front of bytes, each with what follows it.
-use Rattle.std.specs.Prelude.{ℕ, zero, suc, nat_lt, nat_le, List, [], ◌∷◌, ◌++◌, length, take, drop, codes, Option, Some, None, if◌then◌else◌}
+use Rattle.std.specs.Prelude.{ℕ, zero, suc, ℤ, pos, nat_lt, nat_le, List, [], ◌∷◌, ◌++◌, length, take, drop, codes, Option, Some, None, if◌then◌else◌}
 use Rattle.std.specs.Char.{is_ascii_digit}
 use Rattle.std.specs.Int.{from_be_bytes, w64}
 use Rattle.std.specs.List.{prefix_len}
@@ -15,6 +15,9 @@ use Rattle.commit_record.specs.declared.record.EntryKind.TheVariants.{Replace, R
 use Rattle.commit_record.specs.declared.record.Entry.{Entry}
 use Rattle.commit_record.specs.declared.record.Record.{Record}
 use Rattle.commit_record.specs.declared.reader.Head.{Head}
+use Rattle.commit_record.specs.declared.reader.Version.{Version}
+use Rattle.commit_record.specs.declared.reader.Version.TheVariants.{One, Two}
+use Rattle.commit_record.specs.Format.{most_files}
 
 -- what follows a front
 unfoldable pub after : List ℕ → List ℕ → Option (List ℕ)
@@ -74,22 +77,43 @@ entries_at (suc n) entries bytes = option_and_then (λ e. entries_at n (entries 
 unfoldable pub count_at : List ℕ → Option (ℕ × List ℕ)
 count_at bytes = option_and_then (λ n. with_value n.0 (after (codes "\n") n.1)) (number_at bytes)
 
--- the number of entries, after this phase and this token
-unfoldable pub counted_head : Phase → ℕ → List ℕ → Option (Head × List ℕ)
-counted_head phase token bytes = option_and_then (λ b. option_map (λ n. (record { phase = phase; token = token; count = n.0 }, n.1)) (count_at b)) (after (codes "\nentries ") bytes)
+-- the version of a record, by its first line
+unfoldable pub version_at : List ℕ → Option (Version × List ℕ)
+version_at bytes = or_else (with_value One (after (codes "mailx-commit 1\n") bytes)) (with_value Two (after (codes "mailx-commit 2\n") bytes))
 
--- the token, and the number of entries, after this phase
-unfoldable pub token_head : Phase → List ℕ → Option (Head × List ℕ)
-token_head phase bytes = option_and_then (λ b. option_and_then (λ t. counted_head phase t.0 t.1) (token_at b)) (after (codes "token ") bytes)
+-- a number of seconds as a moment, unless it is past the last one
+abbrev pub as_moment : ℕ → Option ℤ
+as_moment n = if nat_le n 253_402_128_000 then Some (pos n) else None
+
+-- the moment of a record of this version
+unfoldable pub moment_at : Version → List ℕ → Option (Option ℤ × List ℕ)
+moment_at One bytes = Some (None, bytes)
+moment_at Two bytes = option_and_then (λ b. option_and_then (λ n. option_map (λ m. (Some m, n.1)) (as_moment n.0)) (number_at b)) (after (codes "\nmoment ") bytes)
+
+-- the number of entries, after this phase, this token and this moment
+unfoldable pub counted_head : Phase → ℕ → Option ℤ → List ℕ → Option (Head × List ℕ)
+counted_head phase token moment bytes = option_and_then (λ b. option_map (λ n. (record { phase = phase; token = token; moment = moment; count = n.0 }, n.1)) (count_at b)) (after (codes "\nentries ") bytes)
+
+-- the moment, and the number of entries, after this phase and this token
+unfoldable pub moment_head : Version → Phase → ℕ → List ℕ → Option (Head × List ℕ)
+moment_head version phase token bytes = option_and_then (λ m. counted_head phase token m.0 m.1) (moment_at version bytes)
+
+-- the token, the moment and the number of entries, after this phase
+unfoldable pub token_head : Version → Phase → List ℕ → Option (Head × List ℕ)
+token_head version phase bytes = option_and_then (λ b. option_and_then (λ t. moment_head version phase t.0 t.1) (token_at b)) (after (codes "token ") bytes)
+
+-- what a record of this version says before its entries
+unfoldable pub phase_head : Version → List ℕ → Option (Head × List ℕ)
+phase_head version bytes = option_and_then (λ b. option_and_then (λ p. token_head version p.0 p.1) (phase_at b)) (after (codes "phase ") bytes)
 
 -- what a record says before its entries
 unfoldable pub head_at : List ℕ → Option (Head × List ℕ)
-head_at bytes = option_and_then (λ b. option_and_then (λ p. token_head p.0 p.1) (phase_at b)) (after (codes "mailx-commit 1\nphase ") bytes)
+head_at bytes = option_and_then (λ v. phase_head v.0 v.1) (version_at bytes)
 
 -- the record of this head with these entries
 abbrev pub with_entries : Head → List Entry → Record
-with_entries head entries = record { phase = head.phase; token = head.token; entries = entries }
+with_entries head entries = record { phase = head.phase; token = head.token; moment = head.moment; entries = entries }
 
 -- the record that bytes may be the text of
 unfoldable pub record_at : List ℕ → Option Record
-record_at bytes = option_and_then (λ h. if nat_le h.0.count 16 then option_map (with_entries h.0) (entries_at h.0.count [] h.1) else None) (head_at bytes)
+record_at bytes = option_and_then (λ h. if nat_le h.0.count (most_files h.0.moment) then option_map (with_entries h.0) (entries_at h.0.count [] h.1) else None) (head_at bytes)

@@ -13,6 +13,6 @@ pub use error::RecordError;
 pub use laws::a_text_has_one_record;
 pub use reader::read;
 pub use record::{Entry, EntryKind, Phase, Record};
-pub use valid::{is_lawful, is_valid};
+pub use valid::{FILE_LIMIT, is_lawful, is_valid, most_files, nearest_moment};
 pub use way::{Way, entry_for, way_of};
 pub use writer::write;

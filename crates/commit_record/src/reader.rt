@@ -1,28 +1,39 @@
 // The record that a text gives. Its parts are looked for from the front, each with what follows it; then the record is
 // written, and its text compared with the bytes.
-ghost use Rattle.std.specs.Prelude.{◌≡◌, ◌≤◌, ◌⊎◌, [], true, length, IfOk};
+ghost use Rattle.std.specs.Prelude.{◌≡◌, ◌≤◌, ◌⊎◌, [], true, pos, length, IfOk};
 ghost use Rattle.std.specs.Bool.{Decides};
 ghost use Rattle.std.specs.Char.{is_ascii_digit};
 ghost use Rattle.std.specs.List.{list_all, prefix_len};
 ghost use Rattle.std.specs.Option.{option_copied, option_map};
 ghost use Rattle.std.specs.Str.{bytes_eq};
 ghost use Rattle.commit_record.specs.Format.{IsWritten, fits_number};
-ghost use Rattle.commit_record.specs.Reading.{after, at_at, count_at, counted_head, counted_name_at, entries_at, entry_at, head_at, kind_at, name_at, number_at, phase_at, record_at, token_at, token_head, with_entries};
+ghost use Rattle.commit_record.specs.Reading.{after, as_moment, at_at, count_at, counted_head, counted_name_at, entries_at, entry_at, head_at, kind_at, moment_at, moment_head, name_at, number_at, phase_at, phase_head, record_at, token_at, token_head, version_at, with_entries};
 
-use crate::valid::{MOST_ENTRIES, is_valid};
+use crate::valid::{LAST_MOMENT, is_valid, most_files};
 use crate::writer::write;
 use crate::{Entry, EntryKind, Phase, Record, RecordError};
 use mail_text::{Items, Memory, Text, read_number};
 use std::alloc::Global;
 
+/// The seconds of the last moment.
+const LAST_SECONDS: u64 = LAST_MOMENT as u64;
+
 /// The digits of a token.
 const TOKEN_DIGITS: usize = 16;
+
+// The version of a record: the second one has a moment, and more files.
+#[derive(Clone, Copy)]
+pub(crate) enum Version {
+    One,
+    Two,
+}
 
 // What a record says before its entries.
 #[derive(Clone, Copy)]
 pub(crate) struct Head {
     phase: Phase,
     token: u64,
+    moment: Option<i64>,
     count: u64,
 }
 
@@ -184,10 +195,64 @@ fn count_at(bytes: &[u8]) -> Option<(u64, &[u8])>
     Some((count, rest))
 }
 
-// The number of entries, after this phase and this token.
+// The version, by the first line.
+#[tactic(auto, unfolding(crate::specs::Reading::version_at))]
+fn version_at(bytes: &[u8]) -> Option<(Version, &[u8])>
+    ensures { option_map (λ p. (p.0, p.1.now)) result ≡ version_at bytes.now }
+{
+    match after(b"mailx-commit 1\n", bytes) {
+        Some(rest) => Some((Version::One, rest)),
+        None => match after(b"mailx-commit 2\n", bytes) {
+            Some(rest) => Some((Version::Two, rest)),
+            None => None,
+        },
+    }
+}
+
+// A number of seconds as a signed one.
+fn signed(seconds: u64) -> i64
+    requires { seconds ≤ 253_402_128_000 }
+    ensures { result ≡ pos seconds }
+{
+    seconds as i64
+}
+
+// A number of seconds as a moment, if there is none that is later.
+fn as_moment(seconds: u64) -> Option<i64>
+    ensures { result ≡ as_moment seconds }
+{
+    if seconds <= LAST_SECONDS {
+        Some(signed(seconds))
+    } else {
+        None
+    }
+}
+
+// The moment of a record of this version.
+#[tactic(auto, unfolding(crate::specs::Reading::moment_at))]
+fn moment_at(version: Version, bytes: &[u8]) -> Option<(Option<i64>, &[u8])>
+    ensures { option_map (λ p. (p.0, p.1.now)) result ≡ moment_at version bytes.now }
+{
+    match version {
+        Version::One => Some((None, bytes)),
+        Version::Two => {
+            let rest = after(b"\nmoment ", bytes)?;
+            let (seconds, rest) = number_at(rest)?;
+            let moment = as_moment(seconds)?;
+            Some((Some(moment), rest))
+        }
+    }
+}
+
+// The number of entries, after this phase, this token and this moment.
 #[tactic(auto, unfolding(crate::specs::Reading::counted_head))]
-fn counted_head(phase: Phase, token: u64, bytes: &[u8]) -> Option<(Head, &[u8])>
-    ensures { option_map (λ p. (p.0, p.1.now)) result ≡ counted_head phase token bytes.now }
+fn counted_head(
+    phase: Phase,
+    token: u64,
+    moment: Option<i64>,
+    bytes: &[u8],
+) -> Option<(Head, &[u8])>
+    ensures { option_map (λ p. (p.0, p.1.now)) result ≡ counted_head phase token moment bytes.now }
 {
     let rest = after(b"\nentries ", bytes)?;
     let (count, rest) = count_at(rest)?;
@@ -195,30 +260,49 @@ fn counted_head(phase: Phase, token: u64, bytes: &[u8]) -> Option<(Head, &[u8])>
         Head {
             phase,
             token,
+            moment,
             count,
         },
         rest,
     ))
 }
 
-// The token and the number of entries, after this phase.
+// The moment and the number of entries, after this phase and this token.
+#[tactic(auto, unfolding(crate::specs::Reading::moment_head))]
+fn moment_head(version: Version, phase: Phase, token: u64, bytes: &[u8]) -> Option<(Head, &[u8])>
+    ensures { option_map (λ p. (p.0, p.1.now)) result ≡ moment_head version phase token bytes.now }
+{
+    let (moment, rest) = moment_at(version, bytes)?;
+    counted_head(phase, token, moment, rest)
+}
+
+// The token, the moment and the number of entries, after this phase.
 #[tactic(auto, unfolding(crate::specs::Reading::token_head))]
-fn token_head(phase: Phase, bytes: &[u8]) -> Option<(Head, &[u8])>
-    ensures { option_map (λ p. (p.0, p.1.now)) result ≡ token_head phase bytes.now }
+fn token_head(version: Version, phase: Phase, bytes: &[u8]) -> Option<(Head, &[u8])>
+    ensures { option_map (λ p. (p.0, p.1.now)) result ≡ token_head version phase bytes.now }
 {
     let rest = after(b"token ", bytes)?;
     let (token, rest) = token_at(rest)?;
-    counted_head(phase, token, rest)
+    moment_head(version, phase, token, rest)
 }
 
-// The phase, the token and the number of entries.
+// The phase, the token, the moment and the number of entries of a record of this version.
+#[tactic(auto, unfolding(crate::specs::Reading::phase_head))]
+fn phase_head(version: Version, bytes: &[u8]) -> Option<(Head, &[u8])>
+    ensures { option_map (λ p. (p.0, p.1.now)) result ≡ phase_head version bytes.now }
+{
+    let rest = after(b"phase ", bytes)?;
+    let (phase, rest) = phase_at(rest)?;
+    token_head(version, phase, rest)
+}
+
+// What a record says before its entries.
 #[tactic(auto, unfolding(crate::specs::Reading::head_at))]
 fn head_at(bytes: &[u8]) -> Option<(Head, &[u8])>
     ensures { option_map (λ p. (p.0, p.1.now)) result ≡ head_at bytes.now }
 {
-    let rest = after(b"mailx-commit 1\nphase ", bytes)?;
-    let (phase, rest) = phase_at(rest)?;
-    token_head(phase, rest)
+    let (version, rest) = version_at(bytes)?;
+    phase_head(version, rest)
 }
 
 // The record of this head with these entries, if there are any.
@@ -229,6 +313,7 @@ fn with_entries(head: Head, entries: Option<Items<Entry>>) -> Option<Record>
     Some(Record {
         phase: head.phase,
         token: head.token,
+        moment: head.moment,
         entries,
     })
 }
@@ -239,7 +324,7 @@ fn record_at(alloc: Global, bytes: &[u8]) -> Result<Option<Record>, Memory>
     ensures { IfOk result (λ found. found ≡ record_at bytes.now) }
 {
     match head_at(bytes) {
-        Some((head, rest)) if head.count <= MOST_ENTRIES as u64 => {
+        Some((head, rest)) if head.count <= most_files(head.moment) as u64 => {
             let found = entries_at(alloc, head.count, rest)?;
             Ok(with_entries(head, found))
         }

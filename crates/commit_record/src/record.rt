@@ -38,6 +38,8 @@ pub struct Record {
     pub phase: Phase,
     /// The number that the commit's locks and staged files bear.
     pub token: u64,
+    /// When the commit began, in seconds since 1970 in UTC. A record of version 1 has no moment.
+    pub moment: Option<i64>,
     /// The files that it changes, in order.
     pub entries: Items<Entry>,
 }

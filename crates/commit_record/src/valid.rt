@@ -1,17 +1,23 @@
 // Which records are valid.
-ghost use Rattle.std.specs.Prelude.{◌≡◌, ◌-◌, ◌==◌, length, drop};
+ghost use Rattle.std.specs.Prelude.{◌≡◌, ◌-◌, ◌==◌, true, Some, length, drop};
 ghost use Rattle.std.specs.List.{list_all, list_any};
 ghost use Rattle.std.specs.Str.{bytes_eq};
 ghost use Rattle.commit_record.specs.Names.{is_lower_hex, is_staged_end, is_lawful};
-ghost use Rattle.commit_record.specs.Format.{are_distinct, fits_kind, is_replace, fit_phase, is_valid};
+ghost use Rattle.commit_record.specs.Format.{are_distinct, fits_kind, is_replace, fit_phase, fits_moment, nearest_moment, most_files, is_valid};
 
 use crate::{Entry, EntryKind, Phase, Record};
 
 /// The most bytes of a name.
 const LONGEST_NAME: usize = 4_000;
 
-/// The most entries of a record.
-pub(crate) const MOST_ENTRIES: usize = 16;
+/// The most files of any record.
+pub const FILE_LIMIT: usize = 256;
+
+/// The first moment that a record may have: the second day of 1970.
+pub(crate) const FIRST_MOMENT: i64 = 86_400;
+
+/// The last one: the beginning of the last day but one of the year 9999.
+pub(crate) const LAST_MOMENT: i64 = 253_402_128_000;
 
 /// The bytes of the end of a staged name: `.mx` and 16 digits.
 const STAGED_END: usize = 19;
@@ -122,16 +128,46 @@ fn fit_phase(phase: Phase, entries: &[Entry]) -> bool
     }
 }
 
-/// Whether the record has 1 to 16 entries with distinct lawful names, and before the decision replaces all files.
-/// Some bytes of a file stay only if it is extended. It takes no memory.
+// Whether a record may have this moment.
+fn fits_moment(moment: Option<i64>) -> bool
+    ensures { result ≡ fits_moment moment }
+{
+    match moment {
+        None => true,
+        Some(moment) => FIRST_MOMENT <= moment && moment <= LAST_MOMENT,
+    }
+}
+
+/// The moment of a record that is nearest to a time, in seconds since 1970 in UTC.
+pub fn nearest_moment(seconds: i64) -> i64
+    ensures value { result ≡ nearest_moment seconds }
+    ensures fits { fits_moment (Some result) ≡ true }
+{
+    seconds.clamp(FIRST_MOMENT, LAST_MOMENT)
+}
+
+/// The most entries of a record with this moment: 256, or 16 if it has none.
+pub fn most_files(moment: Option<i64>) -> usize
+    ensures { result ≡ most_files moment }
+{
+    match moment {
+        None => 16,
+        Some(_) => FILE_LIMIT,
+    }
+}
+
+/// Whether the record has 1 to 16 entries, or with a moment 1 to 256, with distinct lawful names, and before the
+/// decision replaces all files. Some bytes of a file stay only if it is extended, and a moment is from the second day of
+/// 1970 to the beginning of the last day but one of the year 9999. It takes no memory.
 pub fn is_valid(value: &Record) -> bool
     ensures { result ≡ is_valid value.now }
 {
     let entries = value.entries.items();
     !entries.is_empty()
-        && entries.len() <= MOST_ENTRIES
+        && entries.len() <= most_files(value.moment)
         && are_lawful(entries)
         && are_distinct(entries)
         && fit_kinds(entries)
         && fit_phase(value.phase, entries)
+        && fits_moment(value.moment)
 }

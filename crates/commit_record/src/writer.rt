@@ -1,7 +1,7 @@
 // A record as a text.
-ghost use Rattle.std.specs.Prelude.{◌≡◌, ◌++◌, [], true, length, codes, decimal, IfOk, OnOk};
+ghost use Rattle.std.specs.Prelude.{◌≡◌, ◌++◌, [], true, length, codes, decimal, unsigned_abs, IfOk, OnOk};
 ghost use Rattle.std.specs.List.{flat_map};
-ghost use Rattle.commit_record.specs.Format.{at_word, entry_line, is_valid, kind_word, phase_word, token_digits, written};
+ghost use Rattle.commit_record.specs.Format.{at_word, entry_line, is_valid, kind_word, moment_line, phase_word, token_digits, version_line, written};
 
 use crate::{Entry, EntryKind, Phase, Record};
 use itoa::Buffer;
@@ -45,6 +45,37 @@ fn push_token(alloc: Global, text: &mut Text, token: u64) -> Result<(), Memory>
     text.push(digits.as_bytes())
 }
 
+// The first line, which tells the version.
+fn version_line(moment: Option<i64>) -> &'static [u8]
+    ensures { result.now ≡ version_line moment }
+{
+    match moment {
+        None => b"mailx-commit 1\n",
+        Some(_) => b"mailx-commit 2\n",
+    }
+}
+
+// The seconds of a moment.
+fn seconds_of(moment: i64) -> u64
+    ensures { result ≡ unsigned_abs moment }
+{
+    moment.unsigned_abs()
+}
+
+// Puts the line of the moment at the end, if there is one.
+fn push_moment(text: &mut Text, moment: Option<i64>) -> Result<(), Memory>
+    ensures { OnOk result (text.new ≡ text.old ++ moment_line moment) }
+{
+    match moment {
+        None => Ok(()),
+        Some(moment) => {
+            text.push(b"moment ")?;
+            push_number(text, seconds_of(moment))?;
+            text.push(b"\n")
+        }
+    }
+}
+
 // Puts the number of bytes that stay at the end, if the file is extended.
 fn push_at(text: &mut Text, entry: &Entry) -> Result<(), Memory>
     ensures { OnOk result (text.new ≡ text.old ++ at_word entry.now.kind entry.now.at) }
@@ -83,19 +114,23 @@ fn push_entries(text: &mut Text, entries: &[Entry]) -> Result<(), Memory>
     Ok(())
 }
 
-/// The text of a record: `mailx-commit 1`, the phase, the token in 16 lower case hexadecimal digits, the number of
-/// entries, a line for each entry with its kind, the bytes that stay of a file that is extended, the number of bytes of
-/// its name and the name, and `end`; a line feed ends each line. The record has to be valid.
+/// The text of a record: `mailx-commit 2`, or `mailx-commit 1` if it has no moment, the phase, the token in 16 lower case
+/// hexadecimal digits, the moment, the number of entries, a line for each entry with its kind, the bytes that stay of a
+/// file that is extended, the number of bytes of its name and the name, and `end`; a line feed ends each line. The record
+/// has to be valid.
 pub fn write(alloc: Global, value: &Record) -> Result<Text, Memory>
     requires { is_valid value.now ≡ true }
     ensures { IfOk result (λ text. text ≡ written value.now) }
 {
     let entries = value.entries.items();
-    let mut text = Text::copy(alloc, b"mailx-commit 1\nphase ")?;
+    let mut text = Text::copy(alloc, version_line(value.moment))?;
+    text.push(b"phase ")?;
     text.push(phase_word(value.phase))?;
     text.push(b"\ntoken ")?;
     push_token(alloc, &mut text, value.token)?;
-    text.push(b"\nentries ")?;
+    text.push(b"\n")?;
+    push_moment(&mut text, value.moment)?;
+    text.push(b"entries ")?;
     push_number(&mut text, entries.len() as u64)?;
     text.push(b"\n")?;
     push_entries(&mut text, entries)?;
