@@ -1,5 +1,5 @@
 -- The edits that changes ask for.
-use Rattle.std.specs.Prelude.{◌≡◌, ℕ, Bool, true, false, not, ◌||◌, nat_le, List, [], ◌∷◌, map, drop, length, Option, Some, None, if◌then◌else◌}
+use Rattle.std.specs.Prelude.{◌≡◌, ℕ, ℤ, Bool, true, false, not, ◌||◌, nat_le, List, [], ◌∷◌, map, drop, length, Option, Some, None, if◌then◌else◌}
 use Rattle.std.specs.List.{list_all}
 use Rattle.std.specs.Option.{option_map}
 use Rattle.std.specs.Str.{bytes_eq}
@@ -11,7 +11,7 @@ use Rattle.folder_change.specs.Apply.{apply}
 use Rattle.host_port.specs.Calls.{load_limit}
 use Rattle.commit_machine.specs.Refusals.{ChangeRefusal, ChangedAt, TooLong, first_refusal}
 use Rattle.commit_machine.specs.Settled.{Files}
-use Rattle.commit_machine.specs.Jobs.{Refusal, TooLarge, Changed, Outcome, Puts, Edit, Job}
+use Rattle.commit_machine.specs.Jobs.{Refusal, TooLarge, Changed, Outcome, Puts, Edit, Job, at_time}
 use Rattle.commit_machine.specs.Due.{applied}
 
 abbrev pub without : List ℕ → List (List ℕ) → List (List ℕ)
@@ -57,18 +57,23 @@ abbrev pub cause_of : ChangeRefusal → Refusal
 cause_of (ChangedAt name at) = Changed name at
 cause_of (TooLong name length) = TooLarge name length
 
--- The commit of changes. It is refused if a change, in order, can't be made on the files that were loaded.
+-- The commit of changes, without a time. It is refused if a change, in order, can't be made on the files that were loaded.
 abbrev pub job_for : List ℕ → ℕ → List Change → List (List ℕ) → Job
 job_for actor token changes base = record {
   actor = actor;
   token = token;
+  time = None;
   edits = Some (edits_for changes base);
   refusal = λ files. option_map cause_of (first_refusal changes base files);
 }
 
+-- the commit that asks for the time and is told this
+abbrev pub timed_for : List ℕ → ℕ → ℤ → List Change → List (List ℕ) → Job
+timed_for actor token time changes base = at_time (Some time) (job_for actor token changes base)
+
 -- the recovery of an actor
 abbrev pub recovery_for : List ℕ → ℕ → Job
-recovery_for actor token = record { actor = actor; token = token; edits = None; refusal = λ files. None }
+recovery_for actor token = record { actor = actor; token = token; time = None; edits = None; refusal = λ files. None }
 
 -- the edits of changes make of files what the changes make of them
 abbrev pub EditsAreChanges : Type 0

@@ -65,6 +65,11 @@ is_disk (event.Seize name got failed) = true
 is_disk (event.Release name) = true
 is_disk (event.Foreign step) = false
 
+-- the event is a call on the disk, or asks for the time
+abbrev pub is_call : Event → Bool
+is_call (event.Now seconds) = true
+is_call e = is_disk e
+
 -- each event is as its row says, and an own one that may not change the disk leaves it
 pub record IsAsItsRow (e : Event) : Type 0 where
   pub answer : reply e ≡ (event_row e).answer

@@ -1,5 +1,5 @@
 -- Events that are, one by one, the machine's next calls.
-use Rattle.std.specs.Prelude.{◌≡◌, ◌⊎◌, ℕ, Bool, true, false, List, [], ◌∷◌}
+use Rattle.std.specs.Prelude.{◌≡◌, ◌⊎◌, ℕ, ℤ, Bool, true, false, List, [], ◌∷◌}
 use Rattle.std.specs.declared.option.Option.{Option}
 use Rattle.std.specs.declared.option.Option.TheVariants.{Some, None}
 use Rattle.host_port.specs.declared.event.Event.{Event}
@@ -7,10 +7,11 @@ use Rattle.host_port.specs.declared.event.Event.TheVariants as event
 use Rattle.host_port.specs.declared.event.Seen.{Seen}
 use Rattle.host_port.specs.declared.event.Seen.TheVariants as seen
 use Rattle.commit_machine.specs.Jobs.{Job}
-use Rattle.commit_machine.specs.Machine.{State, Call, ToLoad, ToStage, ToPublish, ToExtend, ToErase, ToLock, ToUnlock, ToSeize, ToRelease, Reply, Went, Saw, Long, Short, Fault, next, after_reply, refused}
+use Rattle.commit_machine.specs.Machine.{State, Call, ToAsk, ToLoad, ToStage, ToPublish, ToExtend, ToErase, ToLock, ToUnlock, ToSeize, ToRelease, Reply, Went, Saw, Long, Short, Fault, next, after_reply, refused}
 
 -- the event is one of this call, carried out or failing
 pub data IsOf : Call → Event → Type 0 where
+  asks : {time : ℤ} → IsOf (ToAsk time) (event.Now time)
   loads : {n : List ℕ} {s : Seen} → IsOf (ToLoad n) (event.Load n s)
   stages : {n c : List ℕ} → IsOf (ToStage n c) (event.Stage n (Some c) false)
   stage_fails : {n c : List ℕ} {left : Option (List ℕ)} → IsOf (ToStage n c) (event.Stage n left true)

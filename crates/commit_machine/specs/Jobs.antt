@@ -1,7 +1,8 @@
 -- What a commit or a recovery is to do, and how it may end.
-use Rattle.std.specs.Prelude.{◌≡◌, ◌<◌, ◌^◌, ℕ, true, false, List, [], ◌∷◌, map, Option, Some, None, if◌then◌else◌}
+use Rattle.std.specs.Prelude.{◌≡◌, ◌<◌, ◌^◌, ℕ, ℤ, true, false, List, [], ◌∷◌, map, Option, Some, None, if◌then◌else◌}
 use Rattle.std.specs.Str.{bytes_eq}
-use Rattle.commit_record.specs.Format.{is_valid}
+use Rattle.std.specs.Option.{option_map}
+use Rattle.commit_record.specs.Format.{is_valid, nearest_moment}
 use Rattle.commit_record.specs.Ways.{entry_for}
 use Rattle.commit_record.specs.declared.record.Phase.TheVariants.{Prepare, Go}
 use Rattle.commit_record.specs.declared.record.Entry.{Entry}
@@ -18,11 +19,11 @@ pub data Passed : Type 0 where
   After : Passed
   Unknown : Passed
 
--- what a recovery finds: no record, one that it undoes, one that it carries out
+-- what a recovery finds: no record, one that it undoes, one that it carries out, with the record's moment
 pub data Found : Type 0 where
   Nothing : Found
-  RolledBack : Found
-  Finished : Found
+  RolledBack : Option ℤ → Found
+  Finished : Option ℤ → Found
 
 -- why a job isn't done
 pub data Refusal : Type 0 where
@@ -53,12 +54,22 @@ pub record Edit : Type 0 where
   pub name : List ℕ
   pub by : Option (List ℕ) → Outcome
 
--- A commit has edits, a recovery has none. Why a commit is refused depends on the files that it loaded.
+-- A commit has edits, a recovery has none. A job with a time asks for it, once, and its records have the moment that is nearest to it. Why a
+-- commit is refused depends on the files that it loaded.
 pub record Job : Type 0 where
   pub actor : List ℕ
   pub token : ℕ
+  pub time : Option ℤ
   pub edits : Option (List Edit)
   pub refusal : Files → Option Refusal
+
+-- the job, with this time
+abbrev pub at_time : Option ℤ → Job → Job
+at_time time j = record j { time = time }
+
+-- the moment of a job's records
+abbrev pub moment_of : Job → Option ℤ
+moment_of j = option_map nearest_moment j.time
 
 -- an edit of which the file was loaded
 pub record Made : Type 0 where
@@ -82,7 +93,7 @@ entries_for way names = map (λ n. entry_for (way n) n) names
 
 -- the record before the decision
 abbrev pub prepare_of : Job → Record
-prepare_of j = record { phase = Prepare; token = j.token; entries = entries_for (λ n. Replace) (all_of j) }
+prepare_of j = record { phase = Prepare; token = j.token; moment = moment_of j; entries = entries_for (λ n. Replace) (all_of j) }
 
 -- what was made for a name
 abbrev pub made_at : List Made → List ℕ → Option Made
@@ -103,7 +114,7 @@ seen_files made n = seen_of (made_at made n)
 
 -- the record of the decision
 abbrev pub go_of : Job → List Made → Record
-go_of j made = record { phase = Go; token = j.token; entries = entries_for (λ n. way_made (made_at made n)) (all_of j) }
+go_of j made = record { phase = Go; token = j.token; moment = moment_of j; entries = entries_for (λ n. way_made (made_at made n)) (all_of j) }
 
 abbrev pub file_after : Option (List ℕ) → Outcome → Option (List ℕ)
 file_after seen (Puts way content) = put_in way seen (Some content)
@@ -112,8 +123,8 @@ file_after seen (Puts way content) = put_in way seen (Some content)
 abbrev pub outcome_of : Edit → Option (List ℕ) → Option (List ℕ)
 outcome_of e seen = file_after seen (e.by seen)
 
--- The record before the decision is valid, so there are 1 to 16 files of distinct lawful names, and none is a record name. A file is
--- extended only if it stands with the bytes that stay.
+-- The record before the decision is valid, so there are 1 to 16 files, or with a time 1 to 256, of distinct lawful names, and none is a
+-- record name. A file is extended only if it stands with the bytes that stay.
 pub record IsJob (j : Job) : Type 0 where
   pub token_fits : j.token < 2 ^ 64
   pub valid : (es : List Edit) → j.edits ≡ Some es → is_valid (prepare_of j) ≡ true

@@ -1,7 +1,7 @@
 -- One machine for commit and recovery: the next disk call by the state, and the state after its answer.
-use Rattle.std.specs.Prelude.{ℕ, Bool, true, false, ◌&&◌, ◌==◌, nat_eq, List, [], ◌∷◌, ◌++◌, codes, Option, Some, None, if◌then◌else◌}
+use Rattle.std.specs.Prelude.{ℕ, ℤ, Bool, true, false, ◌&&◌, ◌==◌, nat_eq, List, [], ◌∷◌, ◌++◌, codes, Option, Some, None, if◌then◌else◌}
 use Rattle.std.specs.List.{starts_with}
-use Rattle.commit_record.specs.Format.{line, phase_word, token_digits, written}
+use Rattle.commit_record.specs.Format.{line, phase_word, token_digits, version_line, written}
 use Rattle.commit_record.specs.declared.record.Phase.TheVariants.{Go}
 use Rattle.commit_record.specs.declared.record.Record.{Record}
 use Rattle.commit_record.specs.declared.way.Way.{Way}
@@ -10,7 +10,7 @@ use Rattle.folder_change.specs.Outcomes.{bytes_of}
 use Rattle.commit_machine.specs.Names.{record_name, new_name, right_name, staged_name}
 use Rattle.commit_machine.specs.Records.{record_of, is_go, names_of}
 use Rattle.commit_machine.specs.Items.{Item, found_items, made_items}
-use Rattle.commit_machine.specs.Jobs.{Passed, Before, After, Unknown, Found, Nothing, RolledBack, Finished, Busy, NotARecord, TooLarge, Ending, Done, Recovered, Refused, Failed, NoMemory, Refusal, Outcome, Puts, Edit, Job, Made, edits_of, all_of, seen_files, prepare_of, go_of}
+use Rattle.commit_machine.specs.Jobs.{Passed, Before, After, Unknown, Found, Nothing, RolledBack, Finished, Busy, NotARecord, TooLarge, Ending, Done, Recovered, Refused, Failed, NoMemory, Refusal, Outcome, Puts, Edit, Job, Made, moment_of, edits_of, all_of, seen_files, prepare_of, go_of}
 
 -- what follows when a record is done with: the rest of the job, or the end
 pub data Then : Type 0 where
@@ -19,6 +19,8 @@ pub data Then : Type 0 where
 
 pub data State : Type 0 where
   Seizing : State
+  -- the time is asked for, which is this
+  Timing : ℤ → State
   Looking : State
   -- a record, the name that is next, the names after it, and the names to unlock then
   Undoing : Record → List ℕ → List (List ℕ) → List (List ℕ) → Then → State
@@ -48,6 +50,8 @@ pub data State : Type 0 where
   Ended : Ending → State
 
 pub data Call : Type 0 where
+  -- the time, which is this
+  ToAsk : ℤ → Call
   ToLoad : List ℕ → Call
   ToStage : List ℕ → List ℕ → Call
   ToPublish : List ℕ → List ℕ → Call
@@ -64,6 +68,11 @@ pub data Reply : Type 0 where
   Long : ℕ → Reply
   Short : Reply
   Fault : Reply
+
+-- once the right is taken: a job with a time asks for it
+abbrev pub asking : Option ℤ → State
+asking None = Looking
+asking (Some time) = Timing time
 
 -- the states that a list of names leads to
 abbrev pub unlocking : Record → List (List ℕ) → Then → State
@@ -126,7 +135,7 @@ abbrev pub mending : Record → State
 mending r = if is_go r then placing r (found_items r) (names_of r) GoOn else undoing r (names_of r) (names_of r) GoOn
 
 abbrev pub found_of : Record → Found
-found_of r = if is_go r then Finished else RolledBack
+found_of r = if is_go r then Finished r.moment else RolledBack r.moment
 
 abbrev pub record_seen : Option Record → State
 record_seen None = Releasing (Refused NotARecord)
@@ -159,6 +168,7 @@ loaded j done e left seen (Puts way content) = loading j (done ++ (record { edit
 -- the next call; none at the end
 abbrev pub next : Job → State → Option Call
 next j Seizing = Some (ToSeize (right_name j.actor))
+next j (Timing time) = Some (ToAsk time)
 next j Looking = Some (ToLoad (record_name j.actor))
 next j (Undoing r n ns ls th) = Some (ToErase (staged_name r.token n))
 next j (Placing r x xs ls th) = Some (ToPublish (staged_name r.token x.name) x.name)
@@ -211,14 +221,14 @@ abbrev pub is_own_go : Job → Option Record → Bool
 is_own_go j None = false
 is_own_go j (Some r) = is_go r && (r.token == j.token)
 
--- the first three lines of the record of a token's decision
-unfoldable pub go_front : ℕ → List ℕ
-go_front token = line (codes "mailx-commit 1") ++ line (codes "phase " ++ phase_word Go) ++ line (codes "token " ++ token_digits token)
+-- the first three lines of the record of a token's decision, of the version of such a moment
+unfoldable pub go_front : Option ℤ → ℕ → List ℕ
+go_front moment token = version_line moment ++ line (codes "phase " ++ phase_word Go) ++ line (codes "token " ++ token_digits token)
 
 -- the decision was passed if what was loaded as the record begins with these lines
 abbrev pub passed_by : Job → Option (List ℕ) → Passed
 passed_by j None = Before
-passed_by j (Some bytes) = if starts_with nat_eq bytes (go_front j.token) then After else Before
+passed_by j (Some bytes) = if starts_with nat_eq bytes (go_front (moment_of j) j.token) then After else Before
 
 abbrev pub saw : Job → State → Option (List ℕ) → State
 saw j Looking c = looked j c
@@ -234,8 +244,9 @@ too_long j (Loading done e left) n = refusing j [] (all_of j) (Refused (TooLarge
 too_long j s n = Releasing (Failed (passed_at s))
 
 abbrev pub went_on : Job → State → Bool → State
-went_on j Seizing true = Looking
+went_on j Seizing true = asking j.time
 went_on j Seizing false = Ended (Refused (Busy (right_name j.actor)))
+went_on j (Timing time) b = Looking
 went_on j (Undoing r n ns ls th) b = undoing r ns ls th
 went_on j (Placing r x xs ls th) b = placing r xs ls th
 went_on j (Removing r x xs ls th) b = Discarding r x xs ls th
@@ -260,6 +271,7 @@ went_on j s b = Releasing (Failed (passed_at s))
 -- Memory runs out in place of the next call: the clean-up. A clean-up that has begun takes no memory, nor does what follows a decision.
 abbrev pub refused : Job → State → State
 refused j Seizing = Ended NoMemory
+refused j (Timing time) = Releasing NoMemory
 refused j Looking = Releasing NoMemory
 refused j (Undoing r n ns ls GoOn) = Releasing NoMemory
 refused j (Placing r x xs ls GoOn) = Releasing NoMemory

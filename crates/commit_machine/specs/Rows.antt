@@ -1,5 +1,5 @@
 -- A run makes several jobs, one after the other. The files that are due after its events, and what holds at each moment.
-use Rattle.std.specs.Prelude.{ℕ, List, [], ◌∷◌, ◌++◌, Option, Some, None, if◌then◌else◌}
+use Rattle.std.specs.Prelude.{ℕ, ℤ, List, [], ◌∷◌, ◌++◌, Option, Some, None, if◌then◌else◌}
 use Rattle.host_port.specs.declared.event.Event.{Event}
 use Rattle.host_port.specs.declared.event.Part.{Part}
 use Rattle.host_port.specs.Disk.{Disk, after, disk}
@@ -7,16 +7,16 @@ use Rattle.host_port.specs.Ends.{stopped}
 use Rattle.host_port.specs.Own.{own, OnlyLooks}
 use Rattle.host_port.specs.Ran.{Honest}
 use Rattle.commit_machine.specs.Settled.{Files, Locks}
-use Rattle.commit_machine.specs.Jobs.{Refusal, Ending, Done, Edit, Job, IsJob, edits_of}
+use Rattle.commit_machine.specs.Jobs.{Refusal, Ending, Done, Edit, Job, IsJob, at_time, edits_of}
 use Rattle.commit_machine.specs.Machine.{State, Seizing, Ended}
 use Rattle.commit_machine.specs.Goes.{Goes}
 use Rattle.commit_machine.specs.Lawful.{IsSound, IsFresh, OthersAreLawful}
 use Rattle.commit_machine.specs.Due.{settled_files, settled_locks, is_decision, files_then, locks_after}
 use Rattle.commit_machine.specs.Laws.{IsSettledAs, MetNoFault, in_flight}
 
--- the job of an actor with these edits
+-- the job of an actor with these edits, without a time: what is due doesn't depend on it
 abbrev pub job_as : List ℕ → ℕ → Option (List Edit) → (Files → Option Refusal) → Job
-job_as actor token edits refusal = record { actor = actor; token = token; edits = edits; refusal = refusal }
+job_as actor token edits refusal = record { actor = actor; token = token; time = None; edits = edits; refusal = refusal }
 
 -- the first edits of a queue, and what follows them
 abbrev pub first_edits : List (List Edit) → List Edit
@@ -81,8 +81,9 @@ accepted (p ∷ ps) more = accepted_in p (accepted ps more)
 
 -- The own events are the calls of a job from its start to a state, and others do what is lawful.
 pub record IsBracket (actor : List ℕ) (token : ℕ) (d : Disk) (edits : Option (List Edit)) (refusal : Files → Option Refusal) (last : State) (es : List Event) : Type 0 where
-  pub job : IsJob (job_as actor token edits refusal)
-  pub goes : Goes (job_as actor token edits refusal) Seizing (own es) last
+  pub time : Option ℤ
+  pub job : IsJob (at_time time (job_as actor token edits refusal))
+  pub goes : Goes (at_time time (job_as actor token edits refusal)) Seizing (own es) last
   pub honest : Honest d es
   pub lawful : OthersAreLawful actor token d es
 

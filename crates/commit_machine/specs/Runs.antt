@@ -21,7 +21,7 @@ use Rattle.commit_machine.specs.Lawful.{HasRight}
 use Rattle.commit_machine.specs.Due.{settled_files, settled_locks, applied, same_file, renewed, is_decision, locks_after}
 use Rattle.commit_machine.specs.Laws.{IsRun, IsSettledAs, in_flight}
 use Rattle.commit_machine.specs.Restraints.{is_failed, may_act}
-use Rattle.commit_machine.specs.EventRows.{is_disk}
+use Rattle.commit_machine.specs.EventRows.{is_call}
 
 -- the files due after one more event, if a decision makes this of them
 abbrev pub made_then : (Files → Files) → Job → Event → Disk → Files → Files
@@ -58,7 +58,7 @@ is_hindrance actor e = false
 -- At every moment, and at every image of a stop, the settled files are those that the accepted changes and others make, the settled locks are
 -- those of others, and the disk is sound. In the end the right is given up, and after a failed call no file and no lock is changed and no right
 -- taken. Where a record is made it is published: no publication of it is answered false but by a fault. A seizure is answered false only while
--- another has the right, and a lock only while one stands with another token than the run's. The own events are calls on the disk.
+-- another has the right, and a lock only while one stands with another token than the run's. The own events are calls on the disk, or ask for the time.
 pub record RunsSafely (make : Files → Files) (j : Job) (d : Disk) (es : List Event) : Type 0 where
   pub moments : (front rest : List Event) → es ≡ front ++ rest → IsDueAs make j d front (disk d front)
   pub stops : (front rest : List Event) (e : Event) (part : Part) → es ≡ front ++ e ∷ rest → IsDueAs make j d (front ++ in_flight (disk d front) e part) (stopped (disk d front) e part)
@@ -67,7 +67,7 @@ pub record RunsSafely (make : Files → Files) (j : Job) (d : Disk) (es : List E
   pub published : (front rest : List Event) (to : List ℕ) → es ≡ front ++ Publish (new_name j.actor) to false false ∷ rest → ⊥
   pub kept_out : (front rest : List Event) (n : List ℕ) → es ≡ front ++ Seize n false false ∷ rest → (disk d front).rights n ≡ Some Other
   pub locked_out : (front rest : List Event) (n : List ℕ) (t : ℕ) → es ≡ front ++ Lock n t false false ∷ rest → IsOthers j.token ((disk d front).locks n)
-  pub only_disk : (e : Event) → Mem e (own es) → is_disk e ≡ true
+  pub only_calls : (e : Event) → Mem e (own es) → is_call e ≡ true
 
 -- a run that ended is safe, if this is what the job's edits make of the files
 abbrev pub RunsAreSafe : Type 0

@@ -24,17 +24,17 @@ abbrev pub clean_up : List Event
 clean_up = Unlock out 1 true false ∷ Erase (record_name home) true false ∷ release
 
 abbrev pub record_too_long : List Event
-record_too_long = take 1 commit_of_one ++ Load (record_name home) (seen.TooLarge 5) ∷ release
+record_too_long = take 2 commit_of_one ++ Load (record_name home) (seen.TooLarge 5) ∷ release
 
 abbrev pub file_too_long : List Event
-file_too_long = take 5 commit_of_one ++ Load out (seen.TooLarge 5) ∷ clean_up
+file_too_long = take 6 commit_of_one ++ Load out (seen.TooLarge 5) ∷ clean_up
 
 abbrev pub no_memory : List Event
-no_memory = take 5 commit_of_one ++ Load out seen.Memory ∷ clean_up
+no_memory = take 6 commit_of_one ++ Load out seen.Memory ∷ clean_up
 
 -- memory runs out where the file would be staged
 abbrev pub no_memory_to_stage : List Event
-no_memory_to_stage = take 6 commit_of_one ++ clean_up
+no_memory_to_stage = take 7 commit_of_one ++ clean_up
 
 -- the first call fails
 abbrev pub failed_seizure : List Event
@@ -42,24 +42,24 @@ failed_seizure = Seize (right_name home) false true ∷ release
 
 -- the lock fails
 abbrev pub failed_before : List Event
-failed_before = take 4 commit_of_one ++ Lock out 1 false true ∷ release
+failed_before = take 5 commit_of_one ++ Lock out 1 false true ∷ release
 
 -- the staging fails, and leaves a part of the file
 abbrev pub failed_staging : List Event
-failed_staging = take 6 commit_of_one ++ Stage (staged_name 1 out) (Some (codes "")) true ∷ release
+failed_staging = take 7 commit_of_one ++ Stage (staged_name 1 out) (Some (codes "")) true ∷ release
 
 -- the decision fails, and so does the look at the record
 abbrev pub failed_unknown : List Event
-failed_unknown = take 8 commit_of_one ++ Publish (new_name home) (record_name home) true true ∷ Load (record_name home) seen.Failed ∷ release
+failed_unknown = take 9 commit_of_one ++ Publish (new_name home) (record_name home) true true ∷ Load (record_name home) seen.Failed ∷ release
 
 -- the decision fails, and the look at the record runs out of memory
 abbrev pub no_memory_to_look : List Event
-no_memory_to_look = take 8 commit_of_one ++ Publish (new_name home) (record_name home) true true ∷ Load (record_name home) seen.Memory ∷ release
+no_memory_to_look = take 9 commit_of_one ++ Publish (new_name home) (record_name home) true true ∷ Load (record_name home) seen.Memory ∷ release
 
 -- the decision fails; the record before it stands
 abbrev pub looked_before : List Event
 looked_before =
-    take 8 commit_of_one
+    take 9 commit_of_one
     ++ Publish (new_name home) (record_name home) false true
     ∷ Load (record_name home) (seen.Bytes (Some (written (record_for Prepare (out ∷ [])))) false)
     ∷ release
@@ -67,22 +67,22 @@ looked_before =
 -- the decision fails; its own record stands
 abbrev pub looked_after : List Event
 looked_after =
-    take 8 commit_of_one
+    take 9 commit_of_one
     ++ Publish (new_name home) (record_name home) true true
     ∷ Load (record_name home) (seen.Bytes (Some (written (record_for Go (out ∷ [])))) false)
     ∷ release
 
 -- what follows the decision fails
 abbrev pub failed_after : List Event
-failed_after = take 9 commit_of_one ++ Publish (staged_name 1 out) out false true ∷ release
+failed_after = take 10 commit_of_one ++ Publish (staged_name 1 out) out false true ∷ release
 
 -- what was put in place stays locked
 abbrev pub failed_unlock : List Event
-failed_unlock = take 10 commit_of_one ++ Unlock out 1 false true ∷ release
+failed_unlock = take 11 commit_of_one ++ Unlock out 1 false true ∷ release
 
 -- the record stays
 abbrev pub failed_erasure : List Event
-failed_erasure = take 11 commit_of_one ++ Erase (record_name home) false true ∷ release
+failed_erasure = take 12 commit_of_one ++ Erase (record_name home) false true ∷ release
 
 pub record TroubledRuns : Type 0 where
   pub record_too_long : MayEnd record_too_long (Refused (TooLarge (record_name home) 5))

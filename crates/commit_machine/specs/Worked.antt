@@ -1,5 +1,5 @@
 -- Worked runs: the events of a commit and of recoveries on small disks.
-use Rattle.std.specs.Prelude.{◌≡◌, ℕ, zero, suc, true, false, List, [], ◌∷◌, ◌++◌, codes, take, is_some}
+use Rattle.std.specs.Prelude.{◌≡◌, ℕ, zero, suc, ℤ, pos, true, false, List, [], ◌∷◌, ◌++◌, codes, take, is_some}
 use Rattle.std.specs.declared.option.Option.TheVariants.{Some, None}
 use Rattle.commit_record.specs.Format.{written}
 use Rattle.commit_record.specs.Ways.{entry_for}
@@ -8,7 +8,7 @@ use Rattle.commit_record.specs.declared.record.Phase.TheVariants.{Prepare, Go}
 use Rattle.commit_record.specs.declared.record.Record.{Record}
 use Rattle.commit_record.specs.declared.way.Way.TheVariants.{Replace, Remove, Extend as ExtendBy}
 use Rattle.host_port.specs.declared.event.Event.{Event}
-use Rattle.host_port.specs.declared.event.Event.TheVariants.{Load, Stage, Publish, Extend, Erase, Lock, Unlock, Seize, Release, Foreign}
+use Rattle.host_port.specs.declared.event.Event.TheVariants.{Load, Stage, Publish, Extend, Erase, Lock, Unlock, Seize, Release, Now, Foreign}
 use Rattle.host_port.specs.declared.event.ForeignStep.TheVariants as step
 use Rattle.host_port.specs.declared.event.Seen.TheVariants.{Bytes}
 use Rattle.host_port.specs.Disk.{Disk, with_at, after, after_step, disk}
@@ -16,13 +16,14 @@ use Rattle.host_port.specs.Ends.{carried_out}
 use Rattle.host_port.specs.Ran.{Honest}
 use Rattle.commit_machine.specs.Names.{record_name, new_name, right_name, staged_name}
 use Rattle.commit_machine.specs.Jobs.{Nothing, RolledBack, Finished, Busy, NotARecord, Changed, Ending, Done, Recovered, Refused, Puts, Edit, Job, entries_for}
-use Rattle.commit_machine.specs.Machine.{State, Seizing, Ended, Call, ToLoad, ToStage, ToPublish, ToExtend, ToErase, ToLock, ToUnlock, ToSeize, ToRelease, next, after_reply}
+use Rattle.commit_machine.specs.Machine.{State, Seizing, Ended, Call, ToAsk, ToLoad, ToStage, ToPublish, ToExtend, ToErase, ToLock, ToUnlock, ToSeize, ToRelease, next, after_reply}
 use Rattle.commit_machine.specs.Goes.{reply, Goes}
 use Rattle.commit_machine.specs.Due.{is_decision}
 use Rattle.commit_machine.specs.Laws.{IsRun}
 
 -- the event of a call that is carried out on a disk
 abbrev pub carried : Disk → Call → Event
+carried d (ToAsk time) = Now time
 carried d (ToLoad n) = Load n (Bytes (d.files n) (is_some (d.locks n)))
 carried d (ToStage n c) = carried_out d (Stage n (Some c) false)
 carried d (ToPublish from to) = carried_out d (Publish from to true false)
@@ -63,21 +64,25 @@ mbox = codes "/h/mbox"
 abbrev pub nothing : Disk
 nothing = record { files = λ n. None; locks = λ n. None; rights = λ n. None }
 
+-- when the commits are made
+abbrev pub morning : ℤ
+morning = pos 1_704_240_000
+
 -- the file becomes these bytes
 abbrev pub becomes : List ℕ → List ℕ → Edit
 becomes name bytes = record { name = name; by = λ seen. Puts Replace bytes }
 
 abbrev pub one_file : Job
-one_file = record { actor = home; token = 1; edits = Some (becomes out (codes "x") ∷ []); refusal = λ files. None }
+one_file = record { actor = home; token = 1; time = Some morning; edits = Some (becomes out (codes "x") ∷ []); refusal = λ files. None }
 
 abbrev pub two_files : Job
-two_files = record { actor = home; token = 1; edits = Some (becomes mbox (codes "x") ∷ becomes out (codes "y") ∷ []); refusal = λ files. None }
+two_files = record { actor = home; token = 1; time = Some morning; edits = Some (becomes mbox (codes "x") ∷ becomes out (codes "y") ∷ []); refusal = λ files. None }
 
 abbrev pub recovery : Job
-recovery = record { actor = home; token = 2; edits = None; refusal = λ files. None }
+recovery = record { actor = home; token = 2; time = None; edits = None; refusal = λ files. None }
 
 abbrev pub record_for : Phase → List (List ℕ) → Record
-record_for phase names = record { phase = phase; token = 1; entries = entries_for (λ n. Replace) names }
+record_for phase names = record { phase = phase; token = 1; moment = Some morning; entries = entries_for (λ n. Replace) names }
 
 -- the file is removed
 abbrev pub goes_away : List ℕ → Edit
@@ -85,7 +90,7 @@ goes_away name = record { name = name; by = λ seen. Puts Remove [] }
 
 -- one file becomes other bytes, the other is removed
 abbrev pub one_removed : Job
-one_removed = record { actor = home; token = 1; edits = Some (becomes mbox (codes "x") ∷ goes_away out ∷ []); refusal = λ files. None }
+one_removed = record { actor = home; token = 1; time = Some morning; edits = Some (becomes mbox (codes "x") ∷ goes_away out ∷ []); refusal = λ files. None }
 
 -- it stands at the start
 abbrev pub out_stands : Disk
@@ -93,23 +98,24 @@ out_stands = record nothing { files = with_at nothing.files out (Some (codes "ol
 
 -- the record of its decision
 abbrev pub removal_record : Record
-removal_record = record { phase = Go; token = 1; entries = entry_for Replace mbox ∷ entry_for Remove out ∷ [] }
+removal_record = record { phase = Go; token = 1; moment = Some morning; entries = entry_for Replace mbox ∷ entry_for Remove out ∷ [] }
 
 -- a file of three bytes gets this tail
 abbrev pub grows : List ℕ → List ℕ → Edit
 grows name bytes = record { name = name; by = λ seen. Puts (ExtendBy 3) bytes }
 
 abbrev pub one_extended : Job
-one_extended = record { actor = home; token = 1; edits = Some (grows out (codes "x") ∷ []); refusal = λ files. None }
+one_extended = record { actor = home; token = 1; time = Some morning; edits = Some (grows out (codes "x") ∷ []); refusal = λ files. None }
 
 -- the record of its decision
 abbrev pub extension_record : Record
-extension_record = record { phase = Go; token = 1; entries = entry_for (ExtendBy 3) out ∷ [] }
+extension_record = record { phase = Go; token = 1; moment = Some morning; entries = entry_for (ExtendBy 3) out ∷ [] }
 
--- a commit of one file has thirteen events, the ninth the decision
+-- a commit of one file has fourteen events, the tenth the decision
 abbrev pub commit_of_one : List Event
 commit_of_one =
     Seize (right_name home) true false
+    ∷ Now morning
     ∷ Load (record_name home) (Bytes None false)
     ∷ Stage (new_name home) (Some (written (record_for Prepare (out ∷ [])))) false
     ∷ Publish (new_name home) (record_name home) true false
@@ -124,10 +130,11 @@ commit_of_one =
     ∷ Release (right_name home)
     ∷ []
 
--- a commit of two files has eighteen
+-- a commit of two files has nineteen
 abbrev pub commit_of_two : List Event
 commit_of_two =
     Seize (right_name home) true false
+    ∷ Now morning
     ∷ Load (record_name home) (Bytes None false)
     ∷ Stage (new_name home) (Some (written (record_for Prepare (mbox ∷ out ∷ [])))) false
     ∷ Publish (new_name home) (record_name home) true false
@@ -160,6 +167,7 @@ recovery_of_none =
 abbrev pub commit_of_removal : List Event
 commit_of_removal =
     Seize (right_name home) true false
+    ∷ Now morning
     ∷ Load (record_name home) (Bytes None false)
     ∷ Stage (new_name home) (Some (written (record_for Prepare (mbox ∷ out ∷ [])))) false
     ∷ Publish (new_name home) (record_name home) true false
@@ -214,10 +222,11 @@ recovery_of_removed =
     ∷ Load (staged_name 1 out) (Bytes None false)
     ∷ closing_of_removal
 
--- a commit that adds to a file that stands has fourteen: after the decision the file gets its tail, and then the staged one is taken away
+-- a commit that adds to a file that stands has fifteen: after the decision the file gets its tail, and then the staged one is taken away
 abbrev pub commit_of_extension : List Event
 commit_of_extension =
     Seize (right_name home) true false
+    ∷ Now morning
     ∷ Load (record_name home) (Bytes None false)
     ∷ Stage (new_name home) (Some (written (record_for Prepare (out ∷ [])))) false
     ∷ Publish (new_name home) (record_name home) true false
@@ -233,9 +242,9 @@ commit_of_extension =
     ∷ Release (right_name home)
     ∷ []
 
--- the disk that it leaves if it stops inside the tenth, with another tail written
+-- the disk that it leaves if it stops inside the eleventh, with another tail written
 abbrev pub torn_tail : Disk
-torn_tail = after (disk out_stands (take 9 commit_of_extension)) (Extend out 3 (codes "zz") true)
+torn_tail = after (disk out_stands (take 10 commit_of_extension)) (Extend out 3 (codes "zz") true)
 
 -- a recovery writes the tail again
 abbrev pub recovery_of_extension : List Event
@@ -291,6 +300,7 @@ busy_second = after_step nothing (step.Lock out 9)
 abbrev pub commit_of_busy : List Event
 commit_of_busy =
     Seize (right_name home) true false
+    ∷ Now morning
     ∷ Load (record_name home) (Bytes None false)
     ∷ Stage (new_name home) (Some (written (record_for Prepare (mbox ∷ out ∷ [])))) false
     ∷ Publish (new_name home) (record_name home) true false
@@ -315,7 +325,7 @@ changed_file = record one_file { refusal = λ files. Some (Changed out 0) }
 
 -- a commit that is refused once its file is loaded undoes what it did
 abbrev pub commit_of_changed : List Event
-commit_of_changed = take 6 commit_of_one ++ Unlock out 1 true false ∷ Erase (record_name home) true false ∷ Release (right_name home) ∷ []
+commit_of_changed = take 7 commit_of_one ++ Unlock out 1 true false ∷ Erase (record_name home) true false ∷ Release (right_name home) ∷ []
 
 -- what stands as the record is none
 abbrev pub bad_record : Disk
@@ -325,20 +335,22 @@ bad_record = record nothing { files = with_at nothing.files (record_name home) (
 abbrev pub commit_over_bad : List Event
 commit_over_bad =
     Seize (right_name home) true false
+    ∷ Now morning
     ∷ Load (record_name home) (Bytes (Some (codes "x")) false)
     ∷ Release (right_name home)
     ∷ []
 
 abbrev pub later : Job
-later = record { actor = home; token = 2; edits = Some (becomes out (codes "z") ∷ []); refusal = λ files. None }
+later = record { actor = home; token = 2; time = Some morning; edits = Some (becomes out (codes "z") ∷ []); refusal = λ files. None }
 
 abbrev pub later_record : Phase → Record
-later_record phase = record { phase = phase; token = 2; entries = entries_for (λ n. Replace) (out ∷ []) }
+later_record phase = record { phase = phase; token = 2; moment = Some morning; entries = entries_for (λ n. Replace) (out ∷ []) }
 
 -- a commit over a record that was decided carries that one out first
 abbrev pub commit_over_decided : List Event
 commit_over_decided =
     Seize (right_name home) true false
+    ∷ Now morning
     ∷ Load (record_name home) (Bytes (Some (written (record_for Go (mbox ∷ out ∷ [])))) false)
     ∷ Publish (staged_name 1 mbox) mbox false false
     ∷ Publish (staged_name 1 out) out true false
@@ -374,6 +386,7 @@ commit_among_others =
     ∷ Foreign (step.Release (right_name home))
     ∷ Seize (right_name home) true false
     ∷ Foreign (step.Seize other_right)
+    ∷ Now morning
     ∷ Load (record_name home) (Bytes None false)
     ∷ Stage (new_name home) (Some (written (record_for Prepare (mbox ∷ out ∷ [])))) false
     ∷ Publish (new_name home) (record_name home) true false
@@ -403,24 +416,24 @@ commit_among_others =
 -- the worked runs are those that the machine makes
 pub record WorkedRuns : Type 0 where
   pub one : Makes one_file nothing commit_of_one Done
-  pub ninth : is_decision one_file (Publish (new_name home) (record_name home) true false) (disk nothing (take 8 commit_of_one)) ≡ true
+  pub tenth : is_decision one_file (Publish (new_name home) (record_name home) true false) (disk nothing (take 9 commit_of_one)) ≡ true
   pub two : Makes two_files nothing commit_of_two Done
   pub none : Makes recovery nothing recovery_of_none (Recovered Nothing)
-  pub decided : Makes recovery (stopped_at 13) recovery_of_decided (Recovered Finished)
-  pub undecided : Makes recovery (stopped_at 11) recovery_of_undecided (Recovered RolledBack)
+  pub decided : Makes recovery (stopped_at 14) recovery_of_decided (Recovered (Finished (Some morning)))
+  pub undecided : Makes recovery (stopped_at 12) recovery_of_undecided (Recovered (RolledBack (Some morning)))
   pub busy : Makes two_files busy_second commit_of_busy (Refused (Busy out))
   pub kept_out : Makes one_file held_right run_kept_out (Refused (Busy (right_name home)))
   pub recovery_kept_out : Makes recovery held_right run_kept_out (Refused (Busy (right_name home)))
   pub changed : Makes changed_file nothing commit_of_changed (Refused (Changed out 0))
   pub not_a_record : Makes one_file bad_record commit_over_bad (Refused NotARecord)
-  pub over_decided : Makes later (stopped_at 13) commit_over_decided Done
+  pub over_decided : Makes later (stopped_at 14) commit_over_decided Done
   pub removal : Makes one_removed out_stands commit_of_removal Done
   pub removed : (disk out_stands commit_of_removal).files out ≡ None
-  pub removal_decided : Makes recovery (removal_stopped_at 13) recovery_of_removal (Recovered Finished)
-  pub removal_half_done : Makes recovery (removal_stopped_at 14) recovery_of_removal (Recovered Finished)
-  pub removal_done : Makes recovery (removal_stopped_at 15) recovery_of_removed (Recovered Finished)
+  pub removal_decided : Makes recovery (removal_stopped_at 14) recovery_of_removal (Recovered (Finished (Some morning)))
+  pub removal_half_done : Makes recovery (removal_stopped_at 15) recovery_of_removal (Recovered (Finished (Some morning)))
+  pub removal_done : Makes recovery (removal_stopped_at 16) recovery_of_removed (Recovered (Finished (Some morning)))
   pub extension : Makes one_extended out_stands commit_of_extension Done
   pub extended : (disk out_stands commit_of_extension).files out ≡ Some (codes "oldx")
-  pub torn : Makes recovery torn_tail recovery_of_extension (Recovered Finished)
+  pub torn : Makes recovery torn_tail recovery_of_extension (Recovered (Finished (Some morning)))
   pub mended : (disk torn_tail recovery_of_extension).files out ≡ Some (codes "oldx")
   pub among_others : IsRun two_files nothing commit_among_others (Ended Done)

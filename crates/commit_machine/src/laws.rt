@@ -85,7 +85,7 @@ pub fn alone_goes()
     ensures { AloneGoes }
 {}
 
-/// A commit of one file has thirteen events, the ninth the decision, and one of two files eighteen.
+/// A commit of one file has fourteen events, the tenth the decision, and one of two files nineteen.
 /// A recovery carries out a record that was decided, and undoes one that wasn't. A commit does the same
 /// first if a record stands; if it finds its second file busy, it undoes what it did. Others may
 /// work meanwhile: there is a run among lawful steps.

@@ -4,7 +4,7 @@ use Rattle.std.proofs.lemmas.Bool.{and_parts, ltb-true, lt-ltb}
 use Rattle.std.specs.List.{list_all, list_any}
 use Rattle.std.specs.Option.{option_and_then}
 use Rattle.std.specs.Str.{bytes_eq}
-use Rattle.commit_record.specs.Format.{are_distinct, fits_kind, fits_number, fit_phase, is_valid, written, IsWritten}
+use Rattle.commit_record.specs.Format.{are_distinct, fits_kind, fits_moment, fits_number, fit_phase, is_valid, most_files, written, IsWritten}
 use Rattle.commit_record.specs.Names.{is_lawful}
 use Rattle.commit_record.specs.Reading.{record_at}
 use Rattle.commit_record.specs.declared.record.Entry.{Entry}
@@ -86,9 +86,9 @@ distinct-names (e ∷ es) h =
 pub valid-names : (r : Record) → is_valid r ≡ true → AreDistinct (names_of r)
 valid-names r h =
     let some = and_parts (nat_lt 0 (length r.entries)) _ h in
-    let few = and_parts (nat_le (length r.entries) 16) _ some.1 in
-    let lawful = and_parts (list_all (λ (e : Entry). is_lawful e.name) r.entries) (are_distinct r.entries && (list_all fits_kind r.entries && fit_phase r.phase r.entries)) few.1 in
-    distinct-names r.entries (and_parts (are_distinct r.entries) (list_all fits_kind r.entries && fit_phase r.phase r.entries) lawful.1).0
+    let few = and_parts (nat_le (length r.entries) (most_files r.moment)) _ some.1 in
+    let lawful = and_parts (list_all (λ (e : Entry). is_lawful e.name) r.entries) (are_distinct r.entries && (list_all fits_kind r.entries && (fit_phase r.phase r.entries && fits_moment r.moment))) few.1 in
+    distinct-names r.entries (and_parts (are_distinct r.entries) (list_all fits_kind r.entries && (fit_phase r.phase r.entries && fits_moment r.moment)) lawful.1).0
 
 pub stands-distinct : (c : Option (List ℕ)) (r : Record) → record_in c ≡ Some r → AreDistinct (names_of r)
 stands-distinct c r e = valid-names r (stands-valid c r e).0

@@ -1,5 +1,5 @@
 -- The records of a job are valid together, and its edits are of files of their own.
-use Rattle.std.proofs.Common.{◌≡◌, ◌≢◌, ℕ, ◌<◌, ◌^◌, lit<, Bool, true, false, ◌&&◌, List, [], ◌∷◌, length, Some, refl, ap, sym, subst, inl, inr, ◌∙◌, arith}
+use Rattle.std.proofs.Common.{◌≡◌, ◌≢◌, ℕ, ℤ, Option, ◌<◌, ◌^◌, lit<, Bool, true, false, ◌&&◌, List, [], ◌∷◌, length, Some, refl, ap, sym, subst, inl, inr, ◌∙◌, arith}
 use Rattle.std.proofs.lemmas.Bool.{and_parts, lt-ltb}
 use Rattle.std.specs.Str.{bytes_eq}
 use Rattle.commit_record.specs.Format.{is_valid}
@@ -11,14 +11,14 @@ use Rattle.commit_record.specs.declared.way.Way.TheVariants.{Replace, Remove, Ex
 use Rattle.commit_machine.specs.Names.{is_record_name}
 use Rattle.commit_machine.specs.Records.{way_in}
 use Rattle.commit_machine.specs.Settled.{Mem}
-use Rattle.commit_machine.specs.Jobs.{Edit, Job, Made, IsJob, edits_of, all_names, all_of, entries_for, prepare_of, go_of, made_at, way_made}
+use Rattle.commit_machine.specs.Jobs.{Edit, Job, Made, IsJob, moment_of, edits_of, all_names, all_of, entries_for, prepare_of, go_of, made_at, way_made}
 use Rattle.commit_machine.proofs.records.Same.{same_refl, same_or_not}
 use Rattle.commit_machine.proofs.records.InFile.{valid-lawful}
 use Rattle.commit_machine.proofs.records.OfItems.{name-entry_for, way-entry_for, fits-entry_for}
 use Rattle.commit_machine.proofs.standing.Decided.{IsDistinct, names_Mem}
 use Rattle.commit_machine.proofs.standing.KnownNext.{names-prepare}
 use Rattle.std.specs.List.{list_all, list_any}
-use Rattle.commit_record.specs.Format.{are_distinct, fits_kind, fits_number, fit_phase}
+use Rattle.commit_record.specs.Format.{are_distinct, fits_kind, fits_moment, fits_number, fit_phase, most_files}
 use Rattle.commit_record.specs.declared.record.Phase.TheVariants.{Prepare}
 use Rattle.std.proofs.Common.{not, nat_lt, nat_le, ◌||◌}
 use Rattle.std.proofs.lemmas.Bool.{or_left, or_right}
@@ -49,30 +49,35 @@ distinct-entries k l (n ∷ ns) =
     ∙ ap (λ (b : Bool). not (list_any (λ (e : Entry). bytes_eq (entry_for (k n) n).name e.name) (entries_for l ns)) && b) (distinct-entries k l ns)
     ∙ ap (λ (m : List ℕ). not (list_any (λ (e : Entry). bytes_eq m e.name) (entries_for l ns)) && are_distinct (entries_for l ns)) name
 
-abbrev pub tests : ℕ → Bool → Bool → Bool
-tests n a b = nat_lt 0 n && (nat_le n 16 && (a && b))
+abbrev pub tests : ℕ → ℕ → Bool → Bool → Bool
+tests most n a b = nat_lt 0 n && (nat_le n most && (a && b))
 
--- the tests of a decision's record on entries of these ways
-abbrev passes : (List ℕ → Way) → List (List ℕ) → Bool
-passes k ns = tests (length (entries_for k ns)) (list_all (λ (e : Entry). is_lawful e.name) (entries_for k ns)) (are_distinct (entries_for k ns) && true)
+-- the tests of a decision's record with this moment on entries of these ways
+abbrev passes : Option ℤ → (List ℕ → Way) → List (List ℕ) → Bool
+passes o k ns = tests (most_files o) (length (entries_for k ns)) (list_all (λ (e : Entry). is_lawful e.name) (entries_for k ns)) (are_distinct (entries_for k ns) && fits_moment o)
 
-valid-entries : (k l : List ℕ → Way) (ns : List (List ℕ)) → passes k ns ≡ passes l ns
-valid-entries k l ns =
-    ap (λ (n : ℕ). tests n (list_all (λ (e : Entry). is_lawful e.name) (entries_for k ns)) (are_distinct (entries_for k ns) && true)) (length-entries k l ns)
-    ∙ ap (λ (b : Bool). tests (length (entries_for l ns)) b (are_distinct (entries_for k ns) && true)) (lawful-entries k l ns)
-    ∙ ap (λ (b : Bool). tests (length (entries_for l ns)) (list_all (λ (e : Entry). is_lawful e.name) (entries_for l ns)) (b && true)) (distinct-entries k l ns)
+valid-entries : (o : Option ℤ) (k l : List ℕ → Way) (ns : List (List ℕ)) → passes o k ns ≡ passes o l ns
+valid-entries o k l ns =
+    let most = most_files o in
+    let fits = fits_moment o in
+    ap (λ (n : ℕ). tests most n (list_all (λ (e : Entry). is_lawful e.name) (entries_for k ns)) (are_distinct (entries_for k ns) && fits)) (length-entries k l ns)
+    ∙ ap (λ (b : Bool). tests most (length (entries_for l ns)) b (are_distinct (entries_for k ns) && fits)) (lawful-entries k l ns)
+    ∙ ap (λ (b : Bool). tests most (length (entries_for l ns)) (list_all (λ (e : Entry). is_lawful e.name) (entries_for l ns)) (b && fits)) (distinct-entries k l ns)
 
-without-last : (b c : Bool) → (b && c) ≡ true → (b && true) ≡ true
-without-last true c h = refl
-without-last false c h = h
+-- the last of the tests stays
+last-of : (k p f : Bool) → (k && (p && f)) ≡ true → f ≡ true
+last-of k p f h = (and_parts p f (and_parts k (p && f) h).1).1
 
 under : (a b c : Bool) → (b ≡ true → c ≡ true) → (a && b) ≡ true → (a && c) ≡ true
 under true b c more h = more h
 under false b c more h = h
 
 -- what a record passes before the decision it passes with it
-pub any-phase : (n : ℕ) (a b c : Bool) → tests n a (b && c) ≡ true → tests n a (b && true) ≡ true
-any-phase n a b c h = under (nat_lt 0 n) (nat_le n 16 && (a && (b && c))) (nat_le n 16 && (a && (b && true))) (under (nat_le n 16) (a && (b && c)) (a && (b && true)) (under a (b && c) (b && true) (without-last b c))) h
+pub any-phase : (most n : ℕ) (a b k p f : Bool) → tests most n a (b && (k && (p && f))) ≡ true → tests most n a (b && f) ≡ true
+any-phase most n a b k p f h =
+    under (nat_lt 0 n) (nat_le n most && (a && (b && (k && (p && f))))) (nat_le n most && (a && (b && f)))
+    (under (nat_le n most) (a && (b && (k && (p && f)))) (a && (b && f)) (under a (b && (k && (p && f))) (b && f) (under b (k && (p && f)) f (last-of k p f))))
+    h
 
 kinds-entries : (k : List ℕ → Way) (ns : List (List ℕ)) → list_all fits_kind (entries_for k ns) ≡ true
 kinds-entries k [] = refl
@@ -82,11 +87,12 @@ kinds-entries k (n ∷ ns) = rw (fits-entry_for (k n) n, kinds-entries k ns) ref
 pub valid-go : (j : Job) (made : List Made) → is_valid (prepare_of j) ≡ true → is_valid (go_of j made) ≡ true
 valid-go j made h =
     let K : List ℕ → Way = λ n. way_made (made_at made n) in
+    let o = moment_of j in
     let es = entries_for K (all_of j) in
     let ps = (prepare_of j).entries in
-    ap (λ (b : Bool). tests (length es) (list_all (λ (e : Entry). is_lawful e.name) es) (are_distinct es && (b && true))) (kinds-entries K (all_of j))
-    ∙ valid-entries K (λ n. Replace) (all_of j)
-    ∙ any-phase (length ps) (list_all (λ (e : Entry). is_lawful e.name) ps) (are_distinct ps) (list_all fits_kind ps && fit_phase Prepare ps) h
+    ap (λ (b : Bool). tests (most_files o) (length es) (list_all (λ (e : Entry). is_lawful e.name) es) (are_distinct es && (b && fits_moment o))) (kinds-entries K (all_of j))
+    ∙ valid-entries o K (λ n. Replace) (all_of j)
+    ∙ any-phase (most_files o) (length ps) (list_all (λ (e : Entry). is_lawful e.name) ps) (are_distinct ps) (list_all fits_kind ps) (fit_phase Prepare ps) (fits_moment o) h
 
 -- the numbers of the records fit
 number-entry_for : (way : Way) (n : List ℕ) → ((at : ℕ) → way ≡ Extend at → at < 2 ^ 64) → fits_number (entry_for way n) ≡ true
@@ -112,8 +118,8 @@ distinct_edits (e ∷ es) h =
 -- each file has one edit
 pub valid-distinct : (j : Job) → is_valid (prepare_of j) ≡ true → IsDistinct (edits_of j)
 valid-distinct j h =
-    let behind = (and_parts (list_all (λ (e : Entry). is_lawful e.name) (prepare_of j).entries) _ (and_parts (nat_le (length (prepare_of j).entries) 16) _ (and_parts (nat_lt 0 (length (prepare_of j).entries)) _ h).1).1).1 in
-    distinct_edits (edits_of j) (and_parts (are_distinct (prepare_of j).entries) (list_all fits_kind (prepare_of j).entries && fit_phase Prepare (prepare_of j).entries) behind).0
+    let behind = (and_parts (list_all (λ (e : Entry). is_lawful e.name) (prepare_of j).entries) _ (and_parts (nat_le (length (prepare_of j).entries) (most_files (moment_of j))) _ (and_parts (nat_lt 0 (length (prepare_of j).entries)) _ h).1).1).1 in
+    distinct_edits (edits_of j) (and_parts (are_distinct (prepare_of j).entries) (list_all fits_kind (prepare_of j).entries && (fit_phase Prepare (prepare_of j).entries && fits_moment (moment_of j))) behind).0
 
 -- the edits' files have lawful names, and none is a record name
 pub valid-plain : (j : Job) → IsJob j → is_valid (prepare_of j) ≡ true → (e : Edit) → Mem e (edits_of j) → (is_record_name j.actor e.name ≡ false) × (is_lawful e.name ≡ true)

@@ -9,7 +9,7 @@ use Rattle.commit_machine.specs.Names.{record_name, new_name, right_name, is_rec
 use Rattle.commit_machine.specs.Records.{record_in}
 use Rattle.commit_machine.specs.Settled.{Files, Locks}
 use Rattle.commit_machine.specs.Jobs.{Ending, Done, Recovered, Refused, Failed, NoMemory, Job}
-use Rattle.commit_machine.specs.Machine.{State, Seizing, Releasing, Ended, Call, ToLoad, ToStage, ToPublish, ToExtend, ToErase, ToLock, ToUnlock, ToSeize, ToRelease, after_reply}
+use Rattle.commit_machine.specs.Machine.{State, Seizing, Releasing, Ended, Call, ToAsk, ToLoad, ToStage, ToPublish, ToExtend, ToErase, ToLock, ToUnlock, ToSeize, ToRelease, after_reply}
 use Rattle.commit_machine.specs.Goes.{IsOf, releases, reply}
 use Rattle.commit_machine.specs.Due.{settled_files, settled_locks}
 use Rattle.commit_machine.proofs.standing.Known.{Ends, Knows}
@@ -36,6 +36,7 @@ is_release (Some c) = false
 
 release_call : (c : Call) (n : List ℕ) → IsOf c (event.Release n) → is_release (Some c) ≡ true
 release_call (ToRelease m) n releases = refl
+release_call (ToAsk m) n is = elim is [ ]
 release_call (ToLoad m) n is = elim is [ ]
 release_call (ToStage m c) n is = elim is [ ]
 release_call (ToPublish from to) n is = elim is [ ]

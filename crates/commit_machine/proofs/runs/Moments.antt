@@ -7,7 +7,7 @@ use Rattle.host_port.specs.Disk.{Disk, after}
 use Rattle.host_port.specs.Ran.{Agrees}
 use Rattle.commit_machine.specs.Settled.{Files, Locks}
 use Rattle.commit_machine.specs.Jobs.{Done, Recovered, Refused, Failed, NoMemory, Job, IsJob}
-use Rattle.commit_machine.specs.Machine.{State, Seizing, Looking, Undoing, Placing, Testing, Removing, Extending, Discarding, Unlocking, Erasing, Clearing, Preparing, Publishing, Locking, Loading, Staging, Deciding, Committing, Checking, Releasing, Ended, after_reply}
+use Rattle.commit_machine.specs.Machine.{State, Seizing, Timing, Looking, Undoing, Placing, Testing, Removing, Extending, Discarding, Unlocking, Erasing, Clearing, Preparing, Publishing, Locking, Loading, Staging, Deciding, Committing, Checking, Releasing, Ended, after_reply}
 use Rattle.commit_machine.specs.Goes.{reply}
 use Rattle.commit_machine.specs.Lawful.{IsSound}
 use Rattle.commit_machine.specs.Due.{settled_files, settled_locks, files_then}
@@ -51,6 +51,7 @@ renewed_is same tells old new value e = elim (cases_Bool (same old new)) [ inl y
 module _ (j : Job) (job : IsJob j) where
   pub own_step : (d : Disk) (files : Files) (owners : Locks) → ((n : List ℕ) → settled_files j.actor d n ≡ files n) → ((n : List ℕ) → settled_locks j.actor d n ≡ owners n) → IsSound j.actor d → (s : State) (e : Event) → IsNext (next j s) e → Agrees d e → Knows j s d → Kept j s e d files owners
   own_step d files owners settles locked sound Seizing e is agrees k = Right.step_seizing j job d files owners settles locked sound is k
+  own_step d files owners settles locked sound (Timing time) e is agrees k = Right.step_timing j job d files owners settles locked sound time is k
   own_step d files owners settles locked sound Looking e is agrees k = Right.step_looking j job d files owners settles locked sound is agrees k
   own_step d files owners settles locked sound (Undoing r n ns ls th) e is agrees k = Mending.step_undoing j job d files owners settles locked sound r n ns ls th is agrees k
   own_step d files owners settles locked sound (Placing r x xs ls th) e is agrees k = Mending.step_placing j job d files owners settles locked sound r x xs ls th is agrees k

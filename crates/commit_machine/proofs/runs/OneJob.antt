@@ -1,5 +1,5 @@
 -- What is due after one job or one stretch, where a run makes several.
-use Rattle.std.proofs.Common.{◌≡◌, ◌⊎◌, ℕ, suc, ◌≤◌, Bool, true, false, List, [], ◌∷◌, ◌++◌, Option, Some, None, ◌&&◌, if◌then◌else◌, refl, ap, sym, subst, inl, inr, ◌∙◌, arith, append_assoc}
+use Rattle.std.proofs.Common.{◌≡◌, ◌⊎◌, ℕ, ℤ, suc, ◌≤◌, Bool, true, false, List, [], ◌∷◌, ◌++◌, Option, Some, None, ◌&&◌, if◌then◌else◌, refl, ap, sym, subst, inl, inr, ◌∙◌, arith, append_assoc}
 use Rattle.std.proofs.lemmas.Bool.{cases_Bool}
 use Rattle.std.proofs.lemmas.List.{append-nil}
 use Rattle.std.specs.Str.{bytes_eq}
@@ -15,7 +15,7 @@ use Rattle.host_port.proofs.RanLemmas.{own-append, Honest-append}
 use Rattle.commit_machine.specs.Names.{new_name, record_name}
 use Rattle.commit_machine.specs.Records.{record_in}
 use Rattle.commit_machine.specs.Settled.{Files, Locks}
-use Rattle.commit_machine.specs.Jobs.{Ending, Refusal, Edit, Job, edits_of, outcome_of}
+use Rattle.commit_machine.specs.Jobs.{Ending, Refusal, Edit, Job, at_time, edits_of, outcome_of}
 use Rattle.commit_machine.specs.Machine.{State, Seizing, Ended, is_own_go, next, after_reply}
 use Rattle.commit_machine.specs.Goes.{Goes, reply}
 use Rattle.commit_machine.specs.Lawful.{IsSound, IsFresh, OthersAreLawful}
@@ -169,12 +169,14 @@ module _ (actor : List ℕ) (token : ℕ) where
   between (event.Load name seen ∷ es) d queue files owners s looks lawful = let more = between es d queue files owners s looks.1 lawful in record { due = more.due; fresh = more.fresh; rest = more.rest }
   between (e ∷ es) d queue files owners s looks lawful = absurd (let h = looks.0 in (cc h))
 
-  module _ (edits : Option (List Edit)) (refusal : Files → Option Refusal) where
-    abbrev pub job : Job
-    job = job_as actor token edits refusal
+  -- the events of a bracket are a run of its job
+  pub run-of : (edits : Option (List Edit)) (refusal : Files → Option Refusal) (d : Disk) (last : State) (es : List Event) (files : Files) (owners : Locks) → Stands d files owners
+      → (b : IsBracket actor token d edits refusal last es) → IsRun (at_time b.time (job_as actor token edits refusal)) d es last
+  run-of edits refusal d last es files owners s b = record { job = b.job; fresh = s.fresh; sound = s.sound; goes = b.goes; honest = b.honest; lawful = b.lawful }
 
-    pub run-of : (d : Disk) (last : State) (es : List Event) (files : Files) (owners : Locks) → Stands d files owners → IsBracket actor token d edits refusal last es → IsRun job d es last
-    run-of d last es files owners s b = record { job = b.job; fresh = s.fresh; sound = s.sound; goes = b.goes; honest = b.honest; lawful = b.lawful }
+  module _ (edits : Option (List Edit)) (refusal : Files → Option Refusal) (time : Option ℤ) where
+    abbrev pub job : Job
+    job = at_time time (job_as actor token edits refusal)
 
     -- what is due after a stretch of the job, as the run has it
     pub due-as : (d now : Disk) (queue left : List (List Edit)) (files : Files) (owners : Locks) (es : List Event) → Stands d files owners → Alike job d queue left files (settled_files actor d) es → IsDue job d es now → Due d queue files owners es now
@@ -192,16 +194,15 @@ module _ (actor : List ℕ) (token : ℕ) where
     ]
 
     -- a job that ends without a fault
-    pub whole : (d : Disk) (queue left : List (List Edit)) (files : Files) (owners : Locks) (es : List Event) (end : Ending) → Stands d files owners → IsBracket actor token d edits refusal (Ended end) es → MetNoFault end → Alike job d queue left files (settled_files actor d) es → Leaves d queue left files owners es
-    whole d queue left files owners es end s b fine a =
-        let run = run-of d (Ended end) es files owners s b in
+    pub whole : (d : Disk) (queue left : List (List Edit)) (files : Files) (owners : Locks) (es : List Event) (end : Ending) → Stands d files owners → IsRun job d es (Ended end) → MetNoFault end → Alike job d queue left files (settled_files actor d) es → Leaves d queue left files owners es
+    whole d queue left files owners es end s run fine a =
         record { due = due-as d (disk d es) queue left files owners es s a (crash_safe job d es (Ended end) run); fresh = nothing_left job d es end fine run; rest = a.rest }
 
-    pub not-decided : (d : Disk) (queue : List (List Edit)) (files : Files) (owners : Locks) (es : List Event) (end : Ending) → Stands d files owners → IsBracket actor token d edits refusal (Ended end) es → MetNoFault end → decisions job d 0 es ≡ 0 → Leaves d queue queue files owners es
-    not-decided d queue files owners es end s b fine none = whole d queue queue files owners es end s b fine (undecided job es d queue files (settled_files actor d) 0 (λ n. sym (s.settles n)) none)
+    pub not-decided : (d : Disk) (queue : List (List Edit)) (files : Files) (owners : Locks) (es : List Event) (end : Ending) → Stands d files owners → IsRun job d es (Ended end) → MetNoFault end → decisions job d 0 es ≡ 0 → Leaves d queue queue files owners es
+    not-decided d queue files owners es end s run fine none = whole d queue queue files owners es end s run fine (undecided job es d queue files (settled_files actor d) 0 (λ n. sym (s.settles n)) none)
 
-    pub was-decided : (d : Disk) (more : List (List Edit)) (files : Files) (owners : Locks) (es : List Event) (end : Ending) → Stands d files owners → IsBracket actor token d edits refusal (Ended end) es → MetNoFault end → decisions job d 0 es ≡ 1 → Leaves d (edits_of job ∷ more) more files owners es
-    was-decided d more files owners es end s b fine one = whole d (edits_of job ∷ more) more files owners es end s b fine (decided job es d more files (settled_files actor d) 0 (λ n. sym (s.settles n)) one)
+    pub was-decided : (d : Disk) (more : List (List Edit)) (files : Files) (owners : Locks) (es : List Event) (end : Ending) → Stands d files owners → IsRun job d es (Ended end) → MetNoFault end → decisions job d 0 es ≡ 1 → Leaves d (edits_of job ∷ more) more files owners es
+    was-decided d more files owners es end s run fine one = whole d (edits_of job ∷ more) more files owners es end s run fine (decided job es d more files (settled_files actor d) 0 (λ n. sym (s.settles n)) one)
 
   pub after-piece : (d : Disk) (queue left : List (List Edit)) (files : Files) (owners : Locks) (es : List Event) → Leaves d queue left files owners es → Stands (disk d es) (run_files actor token d queue files es) (run_locks actor token d owners es)
   after-piece d queue left files owners es l = record { settles = l.due.same_files; locked = l.due.same_locks; sound = l.due.sound; fresh = l.fresh }

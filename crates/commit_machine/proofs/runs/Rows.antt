@@ -1,5 +1,5 @@
 -- A run that makes several jobs, one after the other.
-use Rattle.std.proofs.Common.{◌≡◌, ℕ, Bool, true, false, List, [], ◌∷◌, ◌++◌, Option, if◌then◌else◌, refl, ap, sym, subst, ◌∙◌, append_assoc}
+use Rattle.std.proofs.Common.{◌≡◌, ℕ, ℤ, Bool, true, false, List, [], ◌∷◌, ◌++◌, Option, if◌then◌else◌, refl, ap, sym, subst, ◌∙◌, append_assoc}
 use Rattle.host_port.specs.declared.event.Event.{Event}
 use Rattle.host_port.specs.declared.event.Event.TheVariants as event
 use Rattle.host_port.specs.declared.event.Part.{Part}
@@ -7,11 +7,11 @@ use Rattle.host_port.specs.Disk.{Disk, after_step, disk}
 use Rattle.host_port.specs.Ends.{stopped, ended, is_after}
 use Rattle.host_port.proofs.RanLemmas.{disk-append}
 use Rattle.commit_machine.specs.Settled.{Files, Locks}
-use Rattle.commit_machine.specs.Jobs.{Ending, Done, Recovered, Refused, Failed, NoMemory, Refusal, Edit, Job, edits_of}
+use Rattle.commit_machine.specs.Jobs.{Ending, Done, Recovered, Refused, Failed, NoMemory, Refusal, Edit, Job, at_time}
 use Rattle.commit_machine.specs.Machine.{State, Ended}
 use Rattle.commit_machine.specs.Lawful.{IsFresh}
 use Rattle.commit_machine.specs.Due.{settled_files, settled_locks}
-use Rattle.commit_machine.specs.Laws.{TellsDecisions, in_flight, decisions}
+use Rattle.commit_machine.specs.Laws.{TellsDecisions, MetNoFault, in_flight, decisions}
 use Rattle.commit_machine.specs.Rows.{job_as, first_job, queue_after, run_files, run_locks, IsRunDue, Piece, Between, Bracket, piece_events, row_events, bracket_edits, accepted_in, accepted, IsBracket, IsBetween, IsPiece, AreInRow, IsRow, RowIsSafe, RowMoments, RowStops, RowStopsBetween}
 use Rattle.commit_machine.proofs.runs.Moments.{crash_safe}
 use Rattle.commit_machine.proofs.runs.Stops.{stop_safe}
@@ -21,26 +21,35 @@ use Rattle.commit_machine.proofs.runs.OneJob.{Stands, Due, Leaves, between, run-
 
 module _ (actor : List ℕ) (token : ℕ) where
   module _ (edits : Option (List Edit)) (refusal : Files → Option Refusal) where
-    abbrev job : Job
-    job = job_as actor token edits refusal
+    abbrev job : Option ℤ → Job
+    job time = at_time time (job_as actor token edits refusal)
 
-    moment : (d : Disk) (more : List (List Edit)) (files : Files) (owners : Locks) (es : List Event) (last : State) → Stands actor token d files owners → IsBracket actor token d edits refusal last es → Due actor token d (edits_of job ∷ more) files owners es (disk d es)
+    moment : (d : Disk) (more : List (List Edit)) (files : Files) (owners : Locks) (es : List Event) (last : State) → Stands actor token d files owners → IsBracket actor token d edits refusal last es → Due actor token d (bracket_edits edits ∷ more) files owners es (disk d es)
     moment d more files owners es last s b =
         let run = run-of actor token edits refusal d last es files owners s b in
-        let a = one-at-most actor token edits refusal d more files owners es last s run in
-        due-as actor token edits refusal d (disk d es) (edits_of job ∷ more) a.0 files owners es s a.1 (crash_safe job d es last run)
+        let a = one-at-most actor token edits refusal b.time d more files owners es last s run in
+        due-as actor token edits refusal b.time d (disk d es) (bracket_edits edits ∷ more) a.0 files owners es s a.1 (crash_safe (job b.time) d es last run)
 
     -- a job that ends without a fault says whether it was decided
-    ended-so : (d : Disk) (files : Files) (owners : Locks) (es : List Event) (end : Ending) → Stands actor token d files owners → IsBracket actor token d edits refusal (Ended end) es → TellsDecisions end (decisions job d 0 es)
-    ended-so d files owners es end s b = decisions_are_told job d es end (run-of actor token edits refusal d (Ended end) es files owners s b)
+    ended-so : (d : Disk) (files : Files) (owners : Locks) (es : List Event) (end : Ending) → Stands actor token d files owners → (b : IsBracket actor token d edits refusal (Ended end) es) → TellsDecisions end (decisions (job b.time) d 0 es)
+    ended-so d files owners es end s b = decisions_are_told (job b.time) d es end (run-of actor token edits refusal d (Ended end) es files owners s b)
+
+    -- it was decided, or it wasn't
+    decided-so : (d : Disk) (more : List (List Edit)) (files : Files) (owners : Locks) (es : List Event) (end : Ending) → Stands actor token d files owners → (b : IsBracket actor token d edits refusal (Ended end) es) → MetNoFault end → decisions (job b.time) d 0 es ≡ 1
+        → Leaves actor token d (bracket_edits edits ∷ more) more files owners es
+    decided-so d more files owners es end s b fine one = was-decided actor token edits refusal b.time d more files owners es end s (run-of actor token edits refusal d (Ended end) es files owners s b) fine one
+
+    undecided-so : (d : Disk) (more : List (List Edit)) (files : Files) (owners : Locks) (es : List Event) (end : Ending) → Stands actor token d files owners → (b : IsBracket actor token d edits refusal (Ended end) es) → MetNoFault end → decisions (job b.time) d 0 es ≡ 0
+        → Leaves actor token d more more files owners es
+    undecided-so d more files owners es end s b fine none = not-decided actor token edits refusal b.time d more files owners es end s (run-of actor token edits refusal d (Ended end) es files owners s b) fine none
 
   piece : (p : Piece) (d : Disk) (more : List (List Edit)) (files : Files) (owners : Locks) → Stands actor token d files owners → IsPiece actor token d p → Leaves actor token d (accepted_in p more) more files owners (piece_events p)
   piece (Between es) d more files owners s is = between actor token es d more files owners s is.looks is.lawful
-  piece (Bracket edits refusal Done es) d more files owners s is = was-decided actor token edits refusal d more files owners es Done s is.0 tt (ended-so edits refusal d files owners es Done s is.0)
-  piece (Bracket edits refusal (Recovered found) es) d more files owners s is = not-decided actor token edits refusal d more files owners es (Recovered found) s is.0 tt (ended-so edits refusal d files owners es (Recovered found) s is.0)
-  piece (Bracket edits refusal (Refused why) es) d more files owners s is = not-decided actor token edits refusal d more files owners es (Refused why) s is.0 tt (ended-so edits refusal d files owners es (Refused why) s is.0)
+  piece (Bracket edits refusal Done es) d more files owners s is = decided-so edits refusal d more files owners es Done s is.0 tt (ended-so edits refusal d files owners es Done s is.0)
+  piece (Bracket edits refusal (Recovered found) es) d more files owners s is = undecided-so edits refusal d more files owners es (Recovered found) s is.0 tt (ended-so edits refusal d files owners es (Recovered found) s is.0)
+  piece (Bracket edits refusal (Refused why) es) d more files owners s is = undecided-so edits refusal d more files owners es (Refused why) s is.0 tt (ended-so edits refusal d files owners es (Refused why) s is.0)
   piece (Bracket edits refusal (Failed passed) es) d more files owners s is = absurd is.1
-  piece (Bracket edits refusal NoMemory es) d more files owners s is = not-decided actor token edits refusal d more files owners es NoMemory s is.0 tt (ended-so edits refusal d files owners es NoMemory s is.0)
+  piece (Bracket edits refusal NoMemory es) d more files owners s is = undecided-so edits refusal d more files owners es NoMemory s is.0 tt (ended-so edits refusal d files owners es NoMemory s is.0)
 
   row : (ps : List Piece) (d : Disk) (more : List (List Edit)) (files : Files) (owners : Locks) → Stands actor token d files owners → AreInRow actor token d ps → Leaves actor token d (accepted ps more) more files owners (row_events ps)
   row [] d more files owners s in_row = record { due = record { same_files = s.settles; same_locks = s.locked; sound = s.sound }; fresh = s.fresh; rest = refl }
@@ -87,15 +96,15 @@ row_stops actor token d ps more edits refusal before e rest last part r b =
     let queue = bracket_edits edits ∷ more in
     let now = disk d (row_events ps) in
     let P : Disk → Type 0 = λ x. IsRunDue actor token d (accepted ps queue) (row_events ps ++ (before ++ in_flight x e part)) (stopped x e part) in
-    let job = job_as actor token edits refusal in
+    let job = at_time b.time (job_as actor token edits refusal) in
     let x = disk now before in
     let es = before ++ in_flight x e part in
     subst P (sym (disk-append d (row_events ps) before))
     (due-behind actor token d (stopped x e part) ps queue es r (λ s.
     let run = run-of actor token edits refusal now last (before ++ e ∷ rest) _ _ s b in
     let f = flight job now before e rest last part run in
-    let a = one-at-most actor token edits refusal now more _ _ es f.0 s f.1 in
-    due-as actor token edits refusal now (stopped x e part) queue a.0 _ _ es s a.1 (stop_safe job now before e rest last part run)))
+    let a = one-at-most actor token edits refusal b.time now more _ _ es f.0 s f.1 in
+    due-as actor token edits refusal b.time now (stopped x e part) queue a.0 _ _ es s a.1 (stop_safe job now before e rest last part run)))
 
 module _ (actor : List ℕ) (token : ℕ) (d : Disk) (queue : List (List Edit)) (files : Files) (owners : Locks) (s : Stands actor token d files owners) (before : List Event) where
   -- what is due where a run stops between jobs, once these events were done

@@ -10,8 +10,8 @@ use Rattle.host_port.specs.Own.{own}
 use Rattle.commit_machine.specs.Settled.{Files, Mem}
 use Rattle.commit_machine.specs.Jobs.{Edit, Job, edits_of, outcome_of}
 use Rattle.commit_machine.specs.Machine.{State, Seizing, Ended, Call, next, after_reply}
-use Rattle.commit_machine.specs.Goes.{IsOf, loads, stages, stage_fails, publishes, extends, extend_fails, erases, locks, unlocks, seizes, releases, IsNext, Goes, reply}
-use Rattle.commit_machine.specs.EventRows.{is_disk, EventsHaveRows}
+use Rattle.commit_machine.specs.Goes.{IsOf, asks, loads, stages, stage_fails, publishes, extends, extend_fails, erases, locks, unlocks, seizes, releases, IsNext, Goes, reply}
+use Rattle.commit_machine.specs.EventRows.{is_call, EventsHaveRows}
 use Rattle.commit_machine.specs.Due.{settled_files, applied, same_file, renewed, is_decision, files_then, files_after}
 use Rattle.commit_machine.specs.Laws.{IsRun, IsDue, in_flight}
 use Rattle.commit_machine.specs.Runs.{made_then, made_after, IsDueAs, RunsAreSafe}
@@ -47,28 +47,29 @@ module _ (make : Files → Files) (j : Job) (makes : (files : Files) (n : List �
   due_made : (d : Disk) (es : List Event) (now : Disk) → IsDue j d es now → IsDueAs make j d es now
   due_made d es now due = record { same_files = λ n. due.same_files n ∙ after_made es d (settled_files j.actor d) (settled_files j.actor d) (λ m. refl) n; same_locks = due.same_locks; sound = due.sound }
 
--- the own events are calls on the disk
-disk_of : {c : Call} {e : Event} → IsOf c e → is_disk e ≡ true
-disk_of loads = refl
-disk_of stages = refl
-disk_of stage_fails = refl
-disk_of publishes = refl
-disk_of extends = refl
-disk_of extend_fails = refl
-disk_of erases = refl
-disk_of locks = refl
-disk_of unlocks = refl
-disk_of seizes = refl
-disk_of releases = refl
+-- the own events are calls on the disk, or ask for the time
+call_of : {c : Call} {e : Event} → IsOf c e → is_call e ≡ true
+call_of asks = refl
+call_of loads = refl
+call_of stages = refl
+call_of stage_fails = refl
+call_of publishes = refl
+call_of extends = refl
+call_of extend_fails = refl
+call_of erases = refl
+call_of locks = refl
+call_of unlocks = refl
+call_of seizes = refl
+call_of releases = refl
 
-next_disk : (o : Option Call) (e : Event) → IsNext o e → is_disk e ≡ true
-next_disk None e is = absurd is
-next_disk (Some c) e is = disk_of is
+next_call : (o : Option Call) (e : Event) → IsNext o e → is_call e ≡ true
+next_call None e is = absurd is
+next_call (Some c) e is = call_of is
 
-goes_disk : (j : Job) (es : List Event) (s last : State) → Goes j s es last → (e : Event) → Mem e es → is_disk e ≡ true
-goes_disk j [] s last goes e m = absurd m
-goes_disk j (x ∷ es) s last goes e (inl is) = subst (λ (z : Event). is_disk z ≡ true) (sym is) (next_disk (next j goes.0) x goes.2)
-goes_disk j (x ∷ es) s last goes e (inr m) = goes_disk j es (after_reply j goes.0 (reply x)) last goes.3 e m
+goes_calls : (j : Job) (es : List Event) (s last : State) → Goes j s es last → (e : Event) → Mem e es → is_call e ≡ true
+goes_calls j [] s last goes e m = absurd m
+goes_calls j (x ∷ es) s last goes e (inl is) = subst (λ (z : Event). is_call z ≡ true) (sym is) (next_call (next j goes.0) x goes.2)
+goes_calls j (x ∷ es) s last goes e (inr m) = goes_calls j es (after_reply j goes.0 (reply x)) last goes.3 e m
 
 pub events_have_rows : EventsHaveRows
 events_have_rows (event.In b f) = record { answer = refl; failed = refl; acts = refl; changes = refl; keeps = λ d o h. refl }
@@ -107,5 +108,5 @@ runs_are_safe make j d es end makes run =
       published = λ front rest to is. record_published j d front rest (Ended end) to (subst G is run);
       kept_out = λ front rest n is. taken_by_another j d front rest (Ended end) n (subst G is run);
       locked_out = λ front rest n t is. locked_by_others j d front rest (Ended end) n t (subst G is run);
-      only_disk = goes_disk j (own es) Seizing (Ended end) run.goes;
+      only_calls = goes_calls j (own es) Seizing (Ended end) run.goes;
     }

@@ -8,8 +8,8 @@ use Rattle.host_port.specs.Ends.{is_owner}
 use Rattle.host_port.specs.Ran.{Agrees}
 use Rattle.commit_machine.specs.Settled.{Files, Locks}
 use Rattle.commit_machine.specs.Jobs.{Job, IsJob, edits_of}
-use Rattle.commit_machine.specs.Machine.{State, Seizing, Call, ToLoad, ToStage, ToPublish, ToExtend, ToErase, ToLock, ToUnlock, ToSeize, ToRelease, after_reply}
-use Rattle.commit_machine.specs.Goes.{IsOf, loads, stages, stage_fails, publishes, extends, extend_fails, erases, locks, unlocks, seizes, releases, reply}
+use Rattle.commit_machine.specs.Machine.{State, Seizing, Call, ToAsk, ToLoad, ToStage, ToPublish, ToExtend, ToErase, ToLock, ToUnlock, ToSeize, ToRelease, after_reply}
+use Rattle.commit_machine.specs.Goes.{IsOf, asks, loads, stages, stage_fails, publishes, extends, extend_fails, erases, locks, unlocks, seizes, releases, reply}
 use Rattle.commit_machine.specs.Lawful.{IsSound}
 use Rattle.commit_machine.specs.Due.{settled_files, settled_locks, files_then, is_decision, applied}
 use Rattle.commit_machine.proofs.standing.Known.{Knows}
@@ -31,6 +31,7 @@ use Rattle.commit_machine.proofs.runs.Moments.{file_true, lock_true, renewed_is}
 
 -- a failing form of an event is one of the same call
 cut_is : (d : Disk) (part : Part) (c : Call) {e : Event} → IsOf c e → IsOf c (cut_short d e part)
+cut_is d part (ToAsk time) asks = asks
 cut_is d part (ToLoad n) loads = loads
 cut_is d part (ToStage n c) stages = stage_fails
 cut_is d part (ToStage n c) stage_fails = stage_fails

@@ -3,7 +3,7 @@ use Rattle.std.proofs.Common.{◌≡◌, ℕ, List, [], ◌∷◌, ◌++◌, ref
 use Rattle.commit_record.specs.declared.record.Record.{Record}
 use Rattle.host_port.specs.declared.event.Event.{Event}
 use Rattle.commit_machine.specs.Jobs.{NoMemory, Job, all_of, prepare_of}
-use Rattle.commit_machine.specs.Machine.{GoOn, Answer, State, Seizing, Looking, Undoing, Placing, Testing, Removing, Extending, Discarding, Unlocking, Erasing, Clearing, Preparing, Publishing, Locking, Loading, Staging, Deciding, Committing, Checking, Releasing, Ended, unlocking, undoing, refused, next, after_reply}
+use Rattle.commit_machine.specs.Machine.{GoOn, Answer, State, Seizing, Timing, Looking, Undoing, Placing, Testing, Removing, Extending, Discarding, Unlocking, Erasing, Clearing, Preparing, Publishing, Locking, Loading, Staging, Deciding, Committing, Checking, Releasing, Ended, unlocking, undoing, refused, next, after_reply}
 use Rattle.commit_machine.specs.Goes.{IsNext, Goes, reply}
 use Rattle.commit_machine.specs.Laws.{StretchesJoin}
 
@@ -19,6 +19,7 @@ module _ (j : Job) where
   -- running out of memory twice is as running out once
   pub refused_twice : (s : State) → refused j (refused j s) ≡ refused j s
   refused_twice Seizing = refl
+  refused_twice (Timing time) = refl
   refused_twice Looking = refl
   refused_twice (Undoing r n ns ls GoOn) = refl
   refused_twice (Undoing r n ns ls (Answer e)) = refl

@@ -1,7 +1,7 @@
 -- The worked runs, by computing.
 use Rattle.std.proofs.Common.{◌≡◌, ◌≢◌, ℕ, zero, suc, ◌<◌, ◌^◌, Bool, true, false, List, [], ◌∷◌, ◌++◌, reverse, slice_index, take, codes, Option, Some, None, refl, ap, sym, subst, inl, inr, lit<, ◌∙◌}
 use Rattle.commit_record.specs.Format.{written, fits_number, is_valid}
-use Rattle.commit_record.specs.Reading.{record_at, head_at, after as text_after}
+use Rattle.commit_record.specs.Reading.{record_at, head_at, version_at, after as text_after}
 use Rattle.commit_record.specs.declared.record.Phase.TheVariants.{Prepare, Go}
 use Rattle.commit_record.specs.declared.record.Record.{Record}
 use Rattle.commit_record.specs.declared.way.Way.TheVariants.{Replace, Extend}
@@ -18,13 +18,13 @@ use Rattle.host_port.specs.Ran.{Honest, Agrees}
 use Rattle.commit_machine.specs.Names.{record_name, new_name, right_name, staged_name, is_record_name}
 use Rattle.commit_machine.specs.Records.{record_of, is_go, names_of, way_at}
 use Rattle.commit_machine.specs.Jobs.{Nothing, RolledBack, Finished, Busy, NotARecord, Changed, Done, Recovered, Refused, Puts, Edit, Job, IsJob, edits_of}
-use Rattle.commit_machine.specs.Machine.{State, Seizing, Ended, Call, ToLoad, ToStage, ToPublish, ToExtend, ToErase, ToLock, ToUnlock, ToSeize, ToRelease, next, after_reply, record_seen, is_own_go}
-use Rattle.commit_machine.specs.Goes.{reply, Goes, IsOf, IsNext, loads, stages, publishes, extends, extend_fails, erases, locks, unlocks, seizes, releases}
+use Rattle.commit_machine.specs.Machine.{State, Seizing, Ended, Call, ToAsk, ToLoad, ToStage, ToPublish, ToExtend, ToErase, ToLock, ToUnlock, ToSeize, ToRelease, next, after_reply, record_seen, is_own_go}
+use Rattle.commit_machine.specs.Goes.{reply, Goes, IsOf, IsNext, asks, loads, stages, publishes, extends, extend_fails, erases, locks, unlocks, seizes, releases}
 use Rattle.commit_machine.specs.Due.{is_decision}
 use Rattle.commit_machine.specs.Settled.{Mem}
 use Rattle.commit_machine.specs.Lawful.{standing, IsSound, IsGuarded, IsFresh, IsLawfulWrite, OthersAreLawful}
 use Rattle.commit_machine.specs.Laws.{IsRun}
-use Rattle.commit_machine.specs.Worked.{carried, alone, alone_last, AloneGoes, Makes, busy_second, commit_of_busy, held_right, run_kept_out, changed_file, commit_of_changed, bad_record, commit_over_bad, later, commit_over_decided, box, commit_among_others, home, out, mbox, nothing, one_file, two_files, recovery, record_for, commit_of_one, commit_of_two, recovery_of_none, stopped_at, recovery_of_decided, recovery_of_undecided, WorkedRuns, one_removed, out_stands, removal_record, commit_of_removal, removal_stopped_at, recovery_of_removal, recovery_of_removed, one_extended, extension_record, commit_of_extension, torn_tail, recovery_of_extension}
+use Rattle.commit_machine.specs.Worked.{carried, alone, alone_last, AloneGoes, Makes, busy_second, commit_of_busy, held_right, run_kept_out, changed_file, commit_of_changed, bad_record, commit_over_bad, later, commit_over_decided, box, commit_among_others, home, morning, out, mbox, nothing, one_file, two_files, recovery, record_for, commit_of_one, commit_of_two, recovery_of_none, stopped_at, recovery_of_decided, recovery_of_undecided, WorkedRuns, one_removed, out_stands, removal_record, commit_of_removal, removal_stopped_at, recovery_of_removal, recovery_of_removed, one_extended, extension_record, commit_of_extension, torn_tail, recovery_of_extension}
 use Rattle.std.proofs.lemmas.List.{reverse-append}
 use Rattle.commit_machine.proofs.records.Names.{lawful-staged}
 use Rattle.commit_machine.proofs.records.InFile.{record_of-written}
@@ -58,7 +58,7 @@ unfolding record_name new_name right_name staged_name encode_with
 changed = (refl, refl)
 
 not_a_record : Makes one_file bad_record commit_over_bad (Refused NotARecord)
-unfolding record_name new_name right_name staged_name encode_with record_of record_at head_at text_after
+unfolding record_name new_name right_name staged_name encode_with record_of record_at head_at version_at text_after
 not_a_record = (refl, refl)
 
 -- the records of the worked runs read
@@ -74,9 +74,9 @@ reads_go = reads (record_for Go (mbox ∷ out ∷ [])) refl refl refl
 reads_prepare : record_of (written (record_for Prepare (mbox ∷ out ∷ []))) ≡ Some (record_for Prepare (mbox ∷ out ∷ []))
 reads_prepare = reads (record_for Prepare (mbox ∷ out ∷ [])) refl refl refl
 
-ninth : is_decision one_file (event.Publish (new_name home) (record_name home) true false) (disk nothing (take 8 commit_of_one)) ≡ true
+tenth : is_decision one_file (event.Publish (new_name home) (record_name home) true false) (disk nothing (take 9 commit_of_one)) ≡ true
 unfolding record_name new_name right_name staged_name encode_with
-ninth = ap (is_own_go one_file) reads_one
+tenth = ap (is_own_go one_file) reads_one
 
 -- the run of a job from the record that it read
 from_record : Job → Disk → List ℕ → Option Record → List Event
@@ -86,17 +86,25 @@ from_record j d bytes o =
 last_from : Job → Disk → Option Record → State
 last_from j d o = alone_last 28 j (record_seen o) (after d (event.Seize (right_name home) true false))
 
-decided : Makes recovery (stopped_at 13) recovery_of_decided (Recovered Finished)
-unfolding record_name new_name right_name staged_name encode_with from_record last_from
-decided = (ap (from_record recovery (stopped_at 13) (written (record_for Go (mbox ∷ out ∷ [])))) reads_go, ap (last_from recovery (stopped_at 13)) reads_go)
+-- and of a job that asks for the time
+timed_record : Job → Disk → List ℕ → Option Record → List Event
+timed_record j d bytes o =
+    event.Seize (right_name home) true false ∷ event.Now morning ∷ event.Load (record_name home) (seen.Bytes (Some bytes) false) ∷ alone 27 j (record_seen o) (after d (event.Seize (right_name home) true false))
 
-undecided : Makes recovery (stopped_at 11) recovery_of_undecided (Recovered RolledBack)
-unfolding record_name new_name right_name staged_name encode_with from_record last_from
-undecided = (ap (from_record recovery (stopped_at 11) (written (record_for Prepare (mbox ∷ out ∷ [])))) reads_prepare, ap (last_from recovery (stopped_at 11)) reads_prepare)
+timed_last : Job → Disk → Option Record → State
+timed_last j d o = alone_last 27 j (record_seen o) (after d (event.Seize (right_name home) true false))
 
-over_decided : Makes later (stopped_at 13) commit_over_decided Done
+decided : Makes recovery (stopped_at 14) recovery_of_decided (Recovered (Finished (Some morning)))
 unfolding record_name new_name right_name staged_name encode_with from_record last_from
-over_decided = (ap (from_record later (stopped_at 13) (written (record_for Go (mbox ∷ out ∷ [])))) reads_go, ap (last_from later (stopped_at 13)) reads_go)
+decided = (ap (from_record recovery (stopped_at 14) (written (record_for Go (mbox ∷ out ∷ [])))) reads_go, ap (last_from recovery (stopped_at 14)) reads_go)
+
+undecided : Makes recovery (stopped_at 12) recovery_of_undecided (Recovered (RolledBack (Some morning)))
+unfolding record_name new_name right_name staged_name encode_with from_record last_from
+undecided = (ap (from_record recovery (stopped_at 12) (written (record_for Prepare (mbox ∷ out ∷ [])))) reads_prepare, ap (last_from recovery (stopped_at 12)) reads_prepare)
+
+over_decided : Makes later (stopped_at 14) commit_over_decided Done
+unfolding record_name new_name right_name staged_name encode_with timed_record timed_last
+over_decided = (ap (timed_record later (stopped_at 14) (written (record_for Go (mbox ∷ out ∷ [])))) reads_go, ap (timed_last later (stopped_at 14)) reads_go)
 
 removal : Makes one_removed out_stands commit_of_removal Done
 unfolding record_name new_name right_name staged_name encode_with
@@ -109,17 +117,17 @@ removed = refl
 reads_removal : record_of (written removal_record) ≡ Some removal_record
 reads_removal = reads removal_record refl refl refl
 
-removal_decided : Makes recovery (removal_stopped_at 13) recovery_of_removal (Recovered Finished)
+removal_decided : Makes recovery (removal_stopped_at 14) recovery_of_removal (Recovered (Finished (Some morning)))
 unfolding record_name new_name right_name staged_name encode_with from_record last_from
-removal_decided = (ap (from_record recovery (removal_stopped_at 13) (written removal_record)) reads_removal, ap (last_from recovery (removal_stopped_at 13)) reads_removal)
+removal_decided = (ap (from_record recovery (removal_stopped_at 14) (written removal_record)) reads_removal, ap (last_from recovery (removal_stopped_at 14)) reads_removal)
 
-removal_half_done : Makes recovery (removal_stopped_at 14) recovery_of_removal (Recovered Finished)
+removal_half_done : Makes recovery (removal_stopped_at 15) recovery_of_removal (Recovered (Finished (Some morning)))
 unfolding record_name new_name right_name staged_name encode_with from_record last_from
-removal_half_done = (ap (from_record recovery (removal_stopped_at 14) (written removal_record)) reads_removal, ap (last_from recovery (removal_stopped_at 14)) reads_removal)
+removal_half_done = (ap (from_record recovery (removal_stopped_at 15) (written removal_record)) reads_removal, ap (last_from recovery (removal_stopped_at 15)) reads_removal)
 
-removal_done : Makes recovery (removal_stopped_at 15) recovery_of_removed (Recovered Finished)
+removal_done : Makes recovery (removal_stopped_at 16) recovery_of_removed (Recovered (Finished (Some morning)))
 unfolding record_name new_name right_name staged_name encode_with from_record last_from
-removal_done = (ap (from_record recovery (removal_stopped_at 15) (written removal_record)) reads_removal, ap (last_from recovery (removal_stopped_at 15)) reads_removal)
+removal_done = (ap (from_record recovery (removal_stopped_at 16) (written removal_record)) reads_removal, ap (last_from recovery (removal_stopped_at 16)) reads_removal)
 
 extension : Makes one_extended out_stands commit_of_extension Done
 unfolding record_name new_name right_name staged_name encode_with
@@ -132,7 +140,7 @@ extended = refl
 reads_extension : record_of (written extension_record) ≡ Some extension_record
 reads_extension = reads extension_record refl refl refl
 
-torn : Makes recovery torn_tail recovery_of_extension (Recovered Finished)
+torn : Makes recovery torn_tail recovery_of_extension (Recovered (Finished (Some morning)))
 unfolding record_name new_name right_name staged_name encode_with from_record last_from
 torn = (ap (from_record recovery torn_tail (written extension_record)) reads_extension, ap (last_from recovery torn_tail) reads_extension)
 
@@ -142,6 +150,7 @@ mended = refl
 
 -- an event of a call that is carried out is one of it, and says what is so
 carried_is : (d : Disk) (c : Call) → IsOf c (carried d c)
+carried_is d (ToAsk time) = asks
 carried_is d (ToLoad n) = loads
 carried_is d (ToStage n c) = stages
 carried_is d (ToPublish from to) = publishes
@@ -157,6 +166,7 @@ carried_is d (ToSeize n) = seizes
 carried_is d (ToRelease n) = releases
 
 carried_agrees : (d : Disk) (c : Call) → Agrees d (carried d c)
+carried_agrees d (ToAsk time) = tt
 carried_agrees d (ToLoad n) = (refl, refl)
 carried_agrees d (ToStage n c) = tt
 carried_agrees d (ToPublish from to) = refl
@@ -296,7 +306,7 @@ two_goes = subst (Goes two_files Seizing commit_of_two) two.1 (subst (λ (es : L
 
 honest_among : Honest nothing commit_among_others
 unfolding record_name new_name right_name staged_name encode_with
-honest_among = (tt, (tt, (refl, (tt, ((refl, refl), (tt, (refl, (tt, (refl, (refl, (tt, (tt, ((refl, refl), ((refl, refl), (tt, (tt, (tt, (refl, (tt, (refl, (tt, (tt, (refl, (tt, (refl, (refl, (refl, (tt, tt))))))))))))))))))))))))))))
+honest_among = (tt, (tt, (refl, (tt, (tt, ((refl, refl), (tt, (refl, (tt, (refl, (refl, (tt, (tt, ((refl, refl), ((refl, refl), (tt, (tt, (tt, (refl, (tt, (refl, (tt, (tt, (refl, (tt, (refl, (refl, (refl, (tt, tt)))))))))))))))))))))))))))))
 
 abbrev so_far : ℕ → Disk
 so_far n = disk nothing (take n commit_among_others)
@@ -316,26 +326,26 @@ lawful_among = (
       tt,
       sound_none (so_far 4) refl,
       (
-        not_seven (so_far 7) the_prepare reads_prepare refl,
-        sound_prepare (so_far 8) the_prepare reads_prepare refl refl,
+        not_seven (so_far 8) the_prepare reads_prepare refl,
+        sound_prepare (so_far 9) the_prepare reads_prepare refl refl,
         (
-          staged_write (so_far 10) the_prepare reads_prepare refl (Some (codes "a")) refl,
-          sound_prepare (so_far 11) the_prepare reads_prepare refl refl,
+          staged_write (so_far 11) the_prepare reads_prepare refl (Some (codes "a")) refl,
+          sound_prepare (so_far 12) the_prepare reads_prepare refl refl,
           (
-            box_write (so_far 11) the_prepare reads_prepare refl (Some (codes "a")) refl,
-            sound_prepare (so_far 12) the_prepare reads_prepare refl refl,
+            box_write (so_far 12) the_prepare reads_prepare refl (Some (codes "a")) refl,
+            sound_prepare (so_far 13) the_prepare reads_prepare refl refl,
             (
-              box_write (so_far 18) the_go reads_go refl (Some (codes "ab")) refl,
-              sound_go (so_far 19) reads_go refl refl,
+              box_write (so_far 19) the_go reads_go refl (Some (codes "ab")) refl,
+              sound_go (so_far 20) reads_go refl refl,
               (
-                box_write (so_far 20) the_go reads_go refl None refl,
-                sound_go (so_far 21) reads_go refl refl,
+                box_write (so_far 21) the_go reads_go refl None refl,
+                sound_go (so_far 22) reads_go refl refl,
                 (
-                  not_seven (so_far 21) the_go reads_go refl,
-                  sound_go (so_far 22) reads_go refl refl,
+                  not_seven (so_far 22) the_go reads_go refl,
+                  sound_go (so_far 23) reads_go refl refl,
                   (
                     tt,
-                    sound_go (so_far 24) reads_go refl refl,
+                    sound_go (so_far 25) reads_go refl refl,
                     tt,
                   ),
                 ),
@@ -352,4 +362,4 @@ among_others : IsRun two_files nothing commit_among_others (Ended Done)
 among_others = record { job = two_job; fresh = nothing_fresh; sound = sound_none nothing refl; goes = two_goes; honest = honest_among; lawful = lawful_among }
 
 pub worked_runs : WorkedRuns
-worked_runs = record { one = one; ninth = ninth; two = two; none = none; decided = decided; undecided = undecided; busy = busy; kept_out = kept_out; recovery_kept_out = recovery_kept_out; changed = changed; over_decided = over_decided; not_a_record = not_a_record; among_others = among_others; removal = removal; removed = removed; removal_decided = removal_decided; removal_half_done = removal_half_done; removal_done = removal_done; extension = extension; extended = extended; torn = torn; mended = mended }
+worked_runs = record { one = one; tenth = tenth; two = two; none = none; decided = decided; undecided = undecided; busy = busy; kept_out = kept_out; recovery_kept_out = recovery_kept_out; changed = changed; over_decided = over_decided; not_a_record = not_a_record; among_others = among_others; removal = removal; removed = removed; removal_decided = removal_decided; removal_half_done = removal_half_done; removal_done = removal_done; extension = extension; extended = extended; torn = torn; mended = mended }

@@ -10,7 +10,7 @@ use Rattle.commit_machine.specs.Records.{is_go, names_of, way_at, AreDistinct}
 use Rattle.commit_machine.specs.Settled.{Mem, put_in}
 use Rattle.commit_machine.specs.Items.{Item, item_names}
 use Rattle.commit_machine.specs.Jobs.{Ending, Done, Recovered, Refused, Failed, NoMemory, Puts, Edit, Job, Made, edits_of, all_of, prepare_of, go_of}
-use Rattle.commit_machine.specs.Machine.{Then, GoOn, Answer, State, Seizing, Looking, Undoing, Placing, Testing, Removing, Extending, Discarding, Unlocking, Erasing, Clearing, Preparing, Publishing, Locking, Loading, Staging, Deciding, Committing, Checking, Releasing, Ended}
+use Rattle.commit_machine.specs.Machine.{Then, GoOn, Answer, State, Seizing, Timing, Looking, Undoing, Placing, Testing, Removing, Extending, Discarding, Unlocking, Erasing, Clearing, Preparing, Publishing, Locking, Loading, Staging, Deciding, Committing, Checking, Releasing, Ended}
 use Rattle.commit_machine.specs.Lawful.{standing, HasRight, IsGuarded, IsFresh}
 use Rattle.commit_machine.proofs.standing.Decided.{IsDistinct}
 
@@ -142,6 +142,7 @@ pub record Keeps (actor : List ℕ) (t : ℕ) (d d' : Disk) : Type 0 where
 
 abbrev pub Knows : Job → State → Disk → Type 0
 Knows j Seizing d = IsFresh j.actor j.token d
+Knows j (Timing time) d = Clean j d
 Knows j Looking d = Clean j d
 Knows j (Undoing r n ns ls th) d = Closing j.actor r (n ∷ ns) ls d × (is_go r ≡ false) × Subset (n ∷ ns) (names_of r) × Subset ls (names_of r) × ThenOk j r th d
 Knows j (Placing r x xs ls th) d = PartPlaced j.actor r (x ∷ xs) ls th d × ThenOk j r th d × (x.way ≡ Replace)

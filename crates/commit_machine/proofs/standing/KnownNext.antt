@@ -1,5 +1,5 @@
 -- What is known at the state that a list of names leads to.
-use Rattle.std.proofs.Common.{◌≡◌, ℕ, ◌^◌, lit<, Bool, true, false, List, [], ◌∷◌, Option, Some, None, if◌then◌else◌, refl, ap, sym, subst, inl, inr}
+use Rattle.std.proofs.Common.{◌≡◌, ℕ, ℤ, ◌^◌, lit<, Bool, true, false, List, [], ◌∷◌, Option, Some, None, if◌then◌else◌, refl, ap, sym, subst, inl, inr}
 use Rattle.std.proofs.lemmas.Bool.{lt-ltb}
 use Rattle.std.specs.List.{list_all}
 use Rattle.commit_record.specs.Format.{fits_number}
@@ -12,7 +12,7 @@ use Rattle.commit_machine.specs.Records.{record_in, record_of, is_go, names_of, 
 use Rattle.commit_machine.specs.Settled.{Mem}
 use Rattle.commit_machine.specs.Items.{Item, found_items}
 use Rattle.commit_machine.specs.Jobs.{Ending, Refused, NoMemory, Found, Refusal, seen_files, Edit, Job, Made, edits_of, all_of, entries_for, prepare_of, IsJob}
-use Rattle.commit_machine.specs.Machine.{Then, GoOn, Answer, State, Seizing, Looking, Undoing, Placing, Testing, Removing, Extending, Discarding, Unlocking, Erasing, Clearing, Preparing, Publishing, Locking, Loading, Staging, Deciding, Committing, Checking, Releasing, Ended, unlocking, undoing, removing, extending, place_one, placing, staging, judged, loading, locking, mended, none_stands, mending, record_seen, looked, refusing, refused, wanted}
+use Rattle.commit_machine.specs.Machine.{Then, GoOn, Answer, State, Seizing, Timing, Looking, Undoing, Placing, Testing, Removing, Extending, Discarding, Unlocking, Erasing, Clearing, Preparing, Publishing, Locking, Loading, Staging, Deciding, Committing, Checking, Releasing, Ended, asking, unlocking, undoing, removing, extending, place_one, placing, staging, judged, loading, locking, mended, none_stands, mending, record_seen, looked, refusing, refused, wanted}
 use Rattle.commit_machine.specs.Lawful.{standing}
 use Rattle.commit_machine.proofs.records.InFile.{stands-distinct}
 use Rattle.commit_machine.proofs.records.OfItems.{names-entries_for, names-found, ways-found}
@@ -93,6 +93,11 @@ module _ (j : Job) (d : Disk) where
       knows_loading [] (edits_of j) own (record { each = λ x h. absurd h; all = λ e m. inl m; within = λ e m. m })
   knows_locking ls (e ∷ left) k h = (k, h)
 
+  -- the state once the right is taken
+  pub knows_asking : (o : Option ℤ) → Clean j d → Knows j (asking o) d
+  knows_asking None k = k
+  knows_asking (Some time) k = k
+
   same_set : (r : Record) → Subset (names_of r) (names_of r)
   same_set r = record { each = λ m h. h }
 
@@ -153,6 +158,7 @@ module _ (j : Job) (d : Disk) where
   -- what is known where memory runs out
   pub knows_refused : (s : State) → Knows j s d → Knows j (refused j s) d
   knows_refused Seizing k = k
+  knows_refused (Timing time) k = k.fresh
   knows_refused Looking k = k.fresh
   knows_refused (Undoing r n ns ls GoOn) k = k.4
   knows_refused (Undoing r n ns ls (Answer a)) k = k
@@ -184,6 +190,7 @@ module _ (j : Job) (d : Disk) where
   pub knows_wanted : (s : State) → Knows j s d → Knows j (wanted j s) d
   knows_wanted Checking k = tt
   knows_wanted Seizing k = knows_refused Seizing k
+  knows_wanted (Timing time) k = knows_refused (Timing time) k
   knows_wanted Looking k = knows_refused Looking k
   knows_wanted (Loading made e left) k = knows_refused (Loading made e left) k
   knows_wanted (Undoing r n ns ls th) k = knows_refused (Undoing r n ns ls th) k

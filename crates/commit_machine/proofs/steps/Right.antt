@@ -1,5 +1,5 @@
 -- Each own event keeps what is known: the right that is taken and given up, and the record that is looked at.
-use Rattle.std.proofs.Common.{◌≡◌, ℕ, true, false, List, Some, sym}
+use Rattle.std.proofs.Common.{◌≡◌, ℕ, ℤ, true, false, List, Some, sym}
 use Rattle.host_port.specs.declared.event.Event.{Event}
 use Rattle.host_port.specs.declared.event.Event.TheVariants as event
 use Rattle.host_port.specs.declared.event.Seen.TheVariants as seen
@@ -9,13 +9,13 @@ use Rattle.host_port.specs.Ran.{Agrees}
 use Rattle.commit_machine.specs.Names.{record_name, right_name}
 use Rattle.commit_machine.specs.Settled.{Files, Locks}
 use Rattle.commit_machine.specs.Jobs.{Job, IsJob, Ending, Done, Recovered, Refused, Failed, NoMemory}
-use Rattle.commit_machine.specs.Machine.{Seizing, Looking, ToLoad, ToSeize, Checking, Releasing, ToRelease}
-use Rattle.commit_machine.specs.Goes.{IsOf, loads, seizes, releases}
+use Rattle.commit_machine.specs.Machine.{Seizing, Timing, Looking, ToAsk, ToLoad, ToSeize, Checking, Releasing, ToRelease}
+use Rattle.commit_machine.specs.Goes.{IsOf, asks, loads, seizes, releases}
 use Rattle.commit_machine.specs.Lawful.{IsSound, IsFresh}
 use Rattle.commit_machine.specs.Due.{settled_files, settled_locks}
 use Rattle.commit_machine.proofs.standing.Known.{Knows, Over, Ends}
 use Rattle.commit_machine.proofs.records.Same.{put_here}
-use Rattle.commit_machine.proofs.standing.KnownNext.{knows_looked}
+use Rattle.commit_machine.proofs.standing.KnownNext.{knows_asking, knows_looked}
 use Rattle.commit_machine.proofs.steps.Shown.{Kept}
 
 module _ (j : Job) (job : IsJob j) (d : Disk) (files : Files) (owners : Locks) (settles : (n : List ℕ) → settled_files j.actor d n ≡ files n) (locked : (n : List ℕ) → settled_locks j.actor d n ≡ owners n) (sound : IsSound j.actor d) where
@@ -24,9 +24,12 @@ module _ (j : Job) (job : IsJob j) (d : Disk) (files : Files) (owners : Locks) (
   step_seizing (seizes {got = false} {failed = true}) k = record { shows = record { settles = settles; locked = locked; sound = sound }; knows = tt }
   step_seizing (seizes {got = true} {failed = false}) k = record {
     shows = record { settles = settles; locked = locked; sound = sound };
-    knows = record { right = put_here d.rights (right_name j.actor) (Some OwnRight); fresh = record { staged = k.staged; locks = k.locks; record_other = k.record_other } };
+    knows = knows_asking j (after d (event.Seize (right_name j.actor) true false)) j.time (record { right = put_here d.rights (right_name j.actor) (Some OwnRight); fresh = record { staged = k.staged; locks = k.locks; record_other = k.record_other } });
   }
   step_seizing (seizes {got = false} {failed = false}) k = record { shows = record { settles = settles; locked = locked; sound = sound }; knows = k }
+
+  pub step_timing : (time : ℤ) {e : Event} → IsOf (ToAsk time) e → Knows j (Timing time) d → Kept j (Timing time) e d files owners
+  step_timing time asks k = record { shows = record { settles = settles; locked = locked; sound = sound }; knows = k }
 
   pub step_looking : {e : Event} → IsOf (ToLoad (record_name j.actor)) e → Agrees d e → Knows j Looking d → Kept j Looking e d files owners
   step_looking (loads {s = seen.Bytes c held}) agrees k = record { shows = record { settles = settles; locked = locked; sound = sound }; knows = knows_looked j d job c k (sym agrees.0) }

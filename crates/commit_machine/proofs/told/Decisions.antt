@@ -16,21 +16,21 @@ use Rattle.commit_machine.specs.Names.{record_name, new_name, staged_name}
 use Rattle.commit_machine.specs.Records.{record_in, is_go, names_of}
 use Rattle.commit_machine.specs.Items.{Item, found_items, made_items}
 use Rattle.commit_machine.specs.Jobs.{Ending, Done, Recovered, Refused, Failed, NoMemory, Found, Busy, TooLarge, Outcome, Puts, Edit, Job, Made, IsJob, edits_of, all_of, prepare_of, go_of}
-use Rattle.commit_machine.specs.Machine.{Then, GoOn, Answer, State, Seizing, Looking, Undoing, Placing, Testing, Removing, Extending, Discarding, Unlocking, Erasing, Clearing, Preparing, Publishing, Locking, Loading, Staging, Deciding, Committing, Checking, Releasing, Ended, ToLoad, ToPublish, after_reply, undoing, placing, unlocking, locking, loaded, loading, judged, staging}
-use Rattle.commit_machine.specs.Goes.{IsOf, loads, stages, stage_fails, publishes, extends, extend_fails, erases, locks, unlocks, seizes, releases, reply}
+use Rattle.commit_machine.specs.Machine.{Then, GoOn, Answer, State, Seizing, Timing, Looking, Undoing, Placing, Testing, Removing, Extending, Discarding, Unlocking, Erasing, Clearing, Preparing, Publishing, Locking, Loading, Staging, Deciding, Committing, Checking, Releasing, Ended, ToLoad, ToPublish, after_reply, undoing, placing, unlocking, locking, loaded, loading, judged, staging}
+use Rattle.commit_machine.specs.Goes.{IsOf, asks, loads, stages, stage_fails, publishes, extends, extend_fails, erases, locks, unlocks, seizes, releases, reply}
 use Rattle.commit_machine.specs.Lawful.{HasRight, IsSound}
 use Rattle.commit_machine.specs.Due.{settled_files, settled_locks, is_decision}
 use Rattle.commit_machine.proofs.standing.Known.{Knows}
 use Rattle.commit_machine.proofs.records.Same.{same_refl, same_false}
 use Rattle.commit_machine.proofs.records.Names.{staged-new}
 use Rattle.commit_machine.proofs.records.InFile.{record_of-written}
-use Rattle.std.proofs.Common.{suc}
+use Rattle.std.proofs.Common.{suc, ℤ}
 use Rattle.host_port.specs.declared.event.ForeignStep.{ForeignStep}
 use Rattle.host_port.specs.Disk.{disk, after_step}
 use Rattle.host_port.specs.Own.{own}
 use Rattle.host_port.specs.Ran.{Honest}
 use Rattle.commit_machine.specs.Jobs.{Passed, Before, After, Unknown, Refusal, seen_files}
-use Rattle.commit_machine.specs.Machine.{Reply, Went, Saw, Long, Short, Fault, refused, wanted, next, faulted, saw, too_long, went_on, passed_at, passed_then, passed_ending, removing, extending, tested, place_one, place_known, mended, none_stands, record_seen, looked, is_own_go, passed_by}
+use Rattle.commit_machine.specs.Machine.{Reply, Went, Saw, Long, Short, Fault, refused, wanted, next, faulted, saw, too_long, went_on, passed_at, passed_then, passed_ending, removing, extending, tested, place_one, place_known, mended, none_stands, record_seen, looked, asking, is_own_go, passed_by}
 use Rattle.commit_machine.specs.Records.{record_of}
 use Rattle.commit_machine.specs.Goes.{IsNext, Goes}
 use Rattle.commit_machine.specs.Lawful.{IsLawful, OthersAreLawful}
@@ -214,9 +214,14 @@ module _ (j : Job) (d : Disk) (n : ℕ) where
   told_long (Loading made x left) m plain t = told_undoing (prepare_of j) [] (all_of j) (Answer (Refused (TooLarge x.name m))) t t
   told_long s m plain t = told_fault s plain t
 
+  told_asking : (o : Option ℤ) → n ≡ 0 → Told j (asking o) d n
+  told_asking None t = t
+  told_asking (Some time) t = t
+
   told_went : (s : State) (b : Bool) → IsPlain s → Told j s d n → Told j (went_on j s b) d n
-  told_went Seizing true plain t = t
+  told_went Seizing true plain t = told_asking j.time t
   told_went Seizing false plain t = t
+  told_went (Timing time) b plain t = t
   told_went (Undoing r m ns ls th) b plain t = told_undoing r ns ls th t.0 t.1
   told_went (Placing r x xs ls th) b plain t = told_placing r xs ls th t
   told_went (Removing r x xs ls th) b plain t = t
@@ -280,6 +285,7 @@ module _ (j : Job) (job : IsJob j) (d : Disk) where
   -- no other state makes a decision
   plain_event : (s : State) (e : Event) → IsPlain s → IsNext (next j s) e → Knows j s d → is_decision j e d ≡ false
   plain_event Seizing _ plain seizes k = refl
+  plain_event (Timing time) _ plain asks k = refl
   plain_event Looking _ plain loads k = refl
   plain_event (Undoing r m ns ls th) _ plain erases k = refl
   plain_event (Placing r x xs ls th) _ plain (publishes {done = true} {failed = failed}) k = from_other j d (staged_name r.token x.name) x.name failed (staged-new r.token x.name j.actor)

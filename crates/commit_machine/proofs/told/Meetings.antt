@@ -11,7 +11,7 @@ use Rattle.commit_record.specs.Format.{written}
 use Rattle.commit_machine.specs.Names.{new_name, staged_name}
 use Rattle.commit_machine.specs.Settled.{Mem}
 use Rattle.commit_machine.specs.Jobs.{Job, all_of, edits_of, prepare_of}
-use Rattle.commit_machine.specs.Machine.{State, Placing, Publishing, Locking, Committing, Call, ToLoad, ToStage, ToPublish, ToExtend, ToErase, ToLock, ToUnlock, ToSeize, ToRelease, next}
+use Rattle.commit_machine.specs.Machine.{State, Placing, Publishing, Locking, Committing, Call, ToAsk, ToLoad, ToStage, ToPublish, ToExtend, ToErase, ToLock, ToUnlock, ToSeize, ToRelease, next}
 use Rattle.commit_machine.specs.Goes.{IsOf, IsNext, publishes, locks}
 use Rattle.commit_machine.specs.Laws.{IsRun}
 use Rattle.commit_machine.specs.Runs.{IsOthers}
@@ -33,6 +33,7 @@ is_publication o = false
 
 publish_call : (c : Call) (from to : List ℕ) (done failed : Bool) → IsOf c (event.Publish from to done failed) → c ≡ ToPublish from to
 publish_call (ToPublish from to) _ _ done failed publishes = refl
+publish_call (ToAsk m) from to done failed is = elim is [ ]
 publish_call (ToLoad m) from to done failed is = elim is [ ]
 publish_call (ToStage m c) from to done failed is = elim is [ ]
 publish_call (ToExtend m at c) from to done failed is = elim is [ ]
@@ -52,6 +53,7 @@ is_locking o = false
 
 lock_call : (c : Call) (n : List ℕ) (t : ℕ) (got failed : Bool) → IsOf c (event.Lock n t got failed) → c ≡ ToLock n t
 lock_call (ToLock n t) _ _ got failed locks = refl
+lock_call (ToAsk m) n t got failed is = elim is [ ]
 lock_call (ToLoad m) n t got failed is = elim is [ ]
 lock_call (ToStage m c) n t got failed is = elim is [ ]
 lock_call (ToPublish from to) n t got failed is = elim is [ ]

@@ -10,8 +10,8 @@ use Rattle.commit_machine.specs.Names.{record_name, new_name, staged_name}
 use Rattle.commit_machine.specs.Records.{record_in}
 use Rattle.commit_machine.specs.Settled.{Files, Mem}
 use Rattle.commit_machine.specs.Jobs.{Edit, Job, Made, IsJob, edits_of, all_of, seen_files, seen_of, made_at, prepare_of}
-use Rattle.commit_machine.specs.Machine.{State, Seizing, Looking, Undoing, Placing, Testing, Removing, Extending, Discarding, Unlocking, Erasing, Clearing, Preparing, Publishing, Locking, Loading, Staging, Deciding, Committing, Checking, Releasing, Ended, next, refused}
-use Rattle.commit_machine.specs.Goes.{IsNext, Goes, loads, stages, stage_fails, publishes, extends, extend_fails, erases, locks, unlocks, seizes, releases}
+use Rattle.commit_machine.specs.Machine.{State, Seizing, Timing, Looking, Undoing, Placing, Testing, Removing, Extending, Discarding, Unlocking, Erasing, Clearing, Preparing, Publishing, Locking, Loading, Staging, Deciding, Committing, Checking, Releasing, Ended, next, refused}
+use Rattle.commit_machine.specs.Goes.{IsNext, Goes, asks, loads, stages, stage_fails, publishes, extends, extend_fails, erases, locks, unlocks, seizes, releases}
 use Rattle.commit_machine.specs.Due.{settled_files, is_decision, files_after}
 use Rattle.commit_machine.specs.Laws.{IsRun}
 use Rattle.commit_machine.specs.Restraints.{NoRefusedIsDecided}
@@ -44,6 +44,7 @@ module _ (j : Job) (d : Disk) where
   decides : (s : State) (e : Event) → IsNext (next j s) e → Knows j s d → is_decision j e d ≡ true → Decides s
   decides (Committing made) e is k h = (made, refl)
   decides Seizing _ seizes k h = absurd (cc)
+  decides (Timing time) _ asks k h = absurd (cc)
   decides Looking _ loads k h = absurd (cc)
   decides (Undoing r m ns ls th) _ erases k h = absurd (cc)
   decides (Placing r x xs ls th) _ (publishes {done = true} {failed = failed}) k h = let no = not_from (staged_name r.token x.name) x.name failed (staged-new r.token x.name j.actor) in absurd (cc)

@@ -1,5 +1,5 @@
 -- What a run never does, by its states.
-use Rattle.std.proofs.Common.{◌≡◌, ◌≢◌, ◌⊎◌, ℕ, Bool, true, false, List, [], ◌∷◌, ◌++◌, Option, Some, None, if◌then◌else◌, refl, ap, sym, subst, inl, inr, ◌∙◌}
+use Rattle.std.proofs.Common.{◌≡◌, ◌≢◌, ◌⊎◌, ℕ, ℤ, Bool, true, false, List, [], ◌∷◌, ◌++◌, Option, Some, None, if◌then◌else◌, refl, ap, sym, subst, inl, inr, ◌∙◌}
 use Rattle.commit_record.specs.declared.way.Way.{Way}
 use Rattle.commit_record.specs.declared.way.Way.TheVariants as way
 use Rattle.commit_record.specs.declared.record.Record.{Record}
@@ -15,7 +15,7 @@ use Rattle.commit_machine.specs.Names.{right_name}
 use Rattle.commit_machine.specs.Records.{record_of, is_go, names_of}
 use Rattle.commit_machine.specs.Items.{Item, found_items, made_items}
 use Rattle.commit_machine.specs.Jobs.{Ending, Refused, NoMemory, Found, Busy, TooLarge, Refusal, Outcome, Puts, Edit, Job, Made, edits_of, all_of, seen_files, prepare_of, go_of, Done}
-use Rattle.commit_machine.specs.Machine.{Then, GoOn, Answer, State, Seizing, Looking, Undoing, Placing, Testing, Removing, Extending, Discarding, Unlocking, Erasing, Clearing, Preparing, Publishing, Locking, Loading, Staging, Deciding, Committing, Checking, Releasing, Ended, ToSeize, ToRelease, Reply, Went, Saw, Long, Short, Fault, next, after_reply, unlocking, undoing, removing, extending, tested, place_one, place_known, placing, staging, judged, loading, locking, loaded, mended, none_stands, record_seen, looked, faulted, saw, too_long, went_on, refused, wanted}
+use Rattle.commit_machine.specs.Machine.{Then, GoOn, Answer, State, asking, Seizing, Looking, Undoing, Placing, Testing, Removing, Extending, Discarding, Unlocking, Erasing, Clearing, Preparing, Publishing, Locking, Loading, Staging, Deciding, Committing, Checking, Releasing, Ended, ToSeize, ToRelease, Reply, Went, Saw, Long, Short, Fault, next, after_reply, unlocking, undoing, removing, extending, tested, place_one, place_known, placing, staging, judged, loading, locking, loaded, mended, none_stands, record_seen, looked, faulted, saw, too_long, went_on, refused, wanted}
 use Rattle.commit_machine.specs.Goes.{IsOf, IsNext, Goes, seizes, releases, reply}
 use Rattle.commit_machine.specs.Lawful.{HasRight}
 use Rattle.commit_machine.specs.Restraints.{RightIsGivenUp}
@@ -190,6 +190,10 @@ module _ (Q : Disk → Type 0) (j : Job) (d : Disk) where
   fair_reply s Short between k = fair_wanted s k
   fair_reply s Fault between k = fair_faulted s
 
+  pub fair_asking : (o : Option ℤ) → Fair Q j (asking o) d
+  fair_asking None = tt
+  fair_asking (Some time) = tt
+
   -- between the seizure and the release it doesn't matter what the disk is
   fair_any : (d' : Disk) (s : State) → IsBetween s → Fair Q j s d → Fair Q j s d'
   fair_any d' Seizing between k = absurd between
@@ -200,7 +204,7 @@ module _ (Q : Disk → Type 0) (j : Job) (d : Disk) where
 module _ (Q : Disk → Type 0) (j : Job) (gone : (d : Disk) → Q (after d (event.Release (right_name j.actor)))) (kept : (d : Disk) (f : ForeignStep) → Q d → Q (after_step d f)) where
   fair_seizing : (d : Disk) {e : Event} → IsOf (ToSeize (right_name j.actor)) e → Q d → Fair Q j (after_reply j Seizing (reply e)) (after d e)
   fair_seizing d (seizes {got = true} {failed = true}) k = tt
-  fair_seizing d (seizes {got = true} {failed = false}) k = tt
+  fair_seizing d (seizes {got = true} {failed = false}) k = fair_asking Q j (after d (event.Seize (right_name j.actor) true false)) j.time
   fair_seizing d (seizes {got = false} {failed = true}) k = tt
   fair_seizing d (seizes {got = false} {failed = false}) k = k
 
