@@ -1,5 +1,5 @@
 -- The place after an answer.
-use Rattle.std.proofs.Common.{◌≡◌, ◌⊎◌, ℕ, ◌+◌, ◌-◌, ◌*◌, ◌<◌, ◌≤◌, Bool, true, false, List, [], ◌∷◌, length, map, take, slice_set, is_some, refl, ap, sym, subst, inl, inr, ◌∙◌, arith}
+use Rattle.std.proofs.Common.{◌≡◌, ◌⊎◌, ℕ, ℤ, ◌+◌, ◌-◌, ◌*◌, ◌<◌, ◌≤◌, Bool, true, false, List, [], ◌∷◌, length, map, take, slice_set, is_some, refl, ap, sym, subst, inl, inr, ◌∙◌, arith}
 use Rattle.std.specs.Prelude.{All}
 use Rattle.std.specs.declared.option.Option.{Option}
 use Rattle.std.specs.declared.option.Option.TheVariants.{Some, None}
@@ -9,13 +9,13 @@ use Rattle.std.proofs.lemmas.Bool.{and_parts, leb-true}
 use Rattle.std.proofs.lemmas.List.Elements.{All-nil, All-cons, All-head, All-tail}
 use Rattle.host_port.specs.Names.{IsFileName}
 use Rattle.folder_change.specs.declared.change.Change.{Change}
-use Rattle.commit_record.specs.Format.{is_valid}
+use Rattle.commit_record.specs.Format.{file_limit, is_valid, most_files}
 use Rattle.commit_record.specs.declared.record.Entry.{Entry}
 use Rattle.commit_record.specs.declared.record.Record.{Record}
 use Rattle.commit_record.specs.declared.way.Way.{Way}
 use Rattle.commit_machine.specs.Names.{staged_name}
 use Rattle.commit_machine.specs.Records.{is_go, names_of}
-use Rattle.commit_machine.specs.Jobs.{Ending, NoMemory, Edit, Job, Made, edits_of}
+use Rattle.commit_machine.specs.Jobs.{Ending, NoMemory, Edit, Job, Made, moment_of, edits_of}
 use Rattle.commit_machine.specs.Machine.{State, Looking, loading, after_reply, went_on, faulted, too_long, wanted, saw, go_front}
 use Rattle.commit_machine.proofs.records.InFile.{valid-names}
 use Rattle.commit_driver.specs.declared.step.Passed.{Passed}
@@ -31,7 +31,7 @@ use Rattle.commit_driver.specs.declared.judge.Trouble.{Trouble}
 use Rattle.commit_driver.specs.declared.judge.Trouble.TheVariants as trouble
 use Rattle.commit_driver.specs.declared.place.Plan.{Plan}
 use Rattle.commit_driver.specs.declared.place.Place.{Place}
-use Rattle.commit_driver.specs.Steps.{call_at, Fits, weight, tested_at, went_at, faulted_at, long_at, short_at}
+use Rattle.commit_driver.specs.Steps.{call_at, recovered_at, Fits, round, weight, tested_at, went_at, faulted_at, long_at, short_at}
 use Rattle.commit_driver.specs.Judging.{TroubleFits}
 use Rattle.commit_driver.specs.Places.{files_of, entries_of, ways_in, ways_of, made_from, state_as, Holds, IsPlan, IsPlace, IsSafe, StandsFor}
 use Rattle.commit_driver.specs.Answers.{IsAnswer, reply_as, mending_at, judged_at, Finds, PassedSo, LooksAt, Looks, Takes, SawSo, Answered, at_step, IsCommitOf, Follows, is_long, is_settled, Caused, ReplyCaused, IsAfter}
@@ -75,8 +75,12 @@ pub names-staged : (token : ℕ) (es : List Entry) → map (λ e. staged_name to
 names-staged token [] = refl
 names-staged token (e ∷ es) = ap (λ (ns : List (List ℕ)). staged_name token e.name ∷ ns) (names-staged token es)
 
-valid-few : (r : Record) → is_valid r ≡ true → length r.entries ≤ 16
-valid-few r h = leb-true (length r.entries) 16 (and_parts _ _ (and_parts _ _ h).1).0
+few-at-most : (n : ℕ) (o : Option ℤ) → n ≤ most_files o → n ≤ file_limit
+few-at-most n None few = omega (arith, few)
+few-at-most n (Some moment) few = few
+
+valid-few : (r : Record) → is_valid r ≡ true → length r.entries ≤ file_limit
+valid-few r h = few-at-most (length r.entries) r.moment (leb-true (length r.entries) (most_files r.moment) (and_parts _ _ (and_parts _ _ h).1).0)
 
 pub all-names : (es : List Entry) → All (λ (e : Entry). IsFileName e.name) es → All IsFileName (map (λ e. e.name) es)
 all-names [] h = All-nil IsFileName
@@ -102,10 +106,10 @@ module _ (plan : Plan) (old : Place) (q : IsPlace plan old) (safe : IsSafe plan)
   after-went : (b : Bool) → IsAnswer (call_at old.step) (reply.Went b) → (now : Place) → Answered plan (reply.Went b) changes base old now → After (reply.Went b) now
   after-went b a now is =
       let ws = ways_of old in
-      let s = went_at ws plan.commits n m (is_go old.found) old.step b in
-      by-step (reply.Went b) s (fits-went ws plan.commits n m (is_go old.found) old.step b (λ e. safe.some e) q.fits a) (lighter-went ws plan.commits n m (is_go old.found) old.step b safe.few q.few q.fits a)
-      (λ e. (settled-went ws plan.commits n m (is_go old.found) old.step b a e, refl))
-      (λ before after c x. caused-went before after ws plan.commits n m (is_go old.found) old.step b a c)
+      let s = went_at ws plan.commits n m (recovered_at old.found) old.step b in
+      by-step (reply.Went b) s (fits-went ws plan.commits n m (recovered_at old.found) old.step b (λ e. safe.some e) q.fits a) (lighter-went ws plan.commits n m (recovered_at old.found) old.step b safe.few q.few q.fits a)
+      (λ e. (settled-went ws plan.commits n m (recovered_at old.found) old.step b a e, refl))
+      (λ before after c x. caused-went before after ws plan.commits n m (recovered_at old.found) old.step b a c)
       (λ j t p for st. (
         went_on j t b,
         inl refl,
@@ -113,7 +117,7 @@ module _ (plan : Plan) (old : Place) (q : IsPlace plan old) (safe : IsSafe plan)
           hidden = st.hidden;
           wanted = st.wanted;
           made = st.made;
-          holds = holds-went j plan old st.hidden st.made p q (is_go old.found) old.step b st.holds a;
+          holds = holds-went j plan old st.hidden st.made p q (recovered_at old.found) old.step b st.holds a;
           is = went-same j plan old st.hidden st.made p q old.step b q.fits st.holds a ∙ ap (λ (z : State). went_on j z b) st.is;
         },
       ))
@@ -196,10 +200,10 @@ module _ (plan : Plan) (old : Place) (q : IsPlace plan old) (safe : IsSafe plan)
     was-open : is_settled old.step ≡ false
     was-open = ap is_settled looking
 
-    lighter-than : (s : Step) → weight s < 19 * 51 → weight s < weight old.step
+    lighter-than : (s : Step) → weight s < 19 * round → weight s < weight old.step
     lighter-than s l = subst (λ (z : Step). weight s < weight z) (sym looking) l
 
-    look-step : (file : Option (List ℕ)) (s : Step) (now : Place) → Fits n m s → weight s < 19 * 51 → ((before after : ℕ) → Caused before after s) → now ≡ at_step old s → Looks plan file old now → After (reply.Saw file) now
+    look-step : (file : Option (List ℕ)) (s : Step) (now : Place) → Fits n m s → weight s < 19 * round → ((before after : ℕ) → Caused before after s) → now ≡ at_step old s → Looks plan file old now → After (reply.Saw file) now
     look-step file s now f l c is looks =
         record {
           place = subst (IsPlace plan) (sym is) (place-step plan old s q f);
@@ -224,8 +228,8 @@ module _ (plan : Plan) (old : Place) (q : IsPlace plan old) (safe : IsSafe plan)
           staged = subst (All IsFileName) (sym finds.1) (record-staged r valid);
         }
 
-    mending-light : (r : Record) → length r.entries ≤ 16 → weight (mending_at r) < 19 * 51
-    mending-light r few = of-if (λ (s : Step). weight s < 19 * 51) (is_go r) _ _ (λ e. under-placing (ways_in r.entries []) (19 * 51) 0 (length r.entries) then.GoOn (omega arith)) (λ e. under-undoing (19 * 51) 0 (length r.entries) (length r.entries) then.GoOn few (omega arith))
+    mending-light : (r : Record) → length r.entries ≤ file_limit → weight (mending_at r) < 19 * round
+    mending-light r few = of-if (λ (s : Step). weight s < 19 * round) (is_go r) _ _ (λ e. under-placing (ways_in r.entries []) (19 * round) 0 (length r.entries) then.GoOn (omega arith)) (λ e. under-undoing (19 * round) 0 (length r.entries) (length r.entries) then.GoOn few (omega arith))
 
     after-found : (bytes : List ℕ) (result : Result Found End) (now : Place) → Finds bytes result → LooksAt result old now → Looks plan (Some bytes) old now → After (reply.Saw (Some bytes)) now
     after-found bytes (Ok found) now finds is looks =
@@ -244,7 +248,7 @@ module _ (plan : Plan) (old : Place) (q : IsPlace plan old) (safe : IsSafe plan)
 
     after-looking : (file : Option (List ℕ)) (now : Place) → Looks plan file old now → After (reply.Saw file) now
     after-looking None now is =
-        look-step None _ now (of-if (Fits n m) plan.commits _ _ (λ e. safe.some e) (λ e. tt)) (of-if (λ (s : Step). weight s < 19 * 51) plan.commits _ _ (λ e. omega arith) (λ e. omega arith))
+        look-step None _ now (of-if (Fits n m) plan.commits _ _ (λ e. safe.some e) (λ e. tt)) (of-if (λ (s : Step). weight s < 19 * round) plan.commits _ _ (λ e. omega arith) (λ e. omega arith))
         (λ before after. of-if (Caused before after) plan.commits _ _ (λ e. tt) (λ e. tt)) is is
     after-looking (Some bytes) now looks = after-found bytes looks.0 now looks.1 looks.2 looks
 
@@ -270,11 +274,11 @@ module _ (plan : Plan) (old : Place) (q : IsPlace plan old) (safe : IsSafe plan)
     judged-fits (Err (trouble.TooLarge k x)) t = fits-unlocking n m 0 n (then.Answer (end.TooLarge k x)) (omega arith) t.0
     judged-fits (Err trouble.Memory) t = fits-unlocking n m 0 n (then.Answer end.NoMemory) (omega arith) tt
 
-    judged-light : (result : Result Unit Trouble) → weight (judged_at n result) < 9 * 51 + (16 - at)
-    judged-light (Ok u) = under-staging (9 * 51 + (16 - at)) 0 n (omega (arith, at-some, safe.few))
-    judged-light (Err (trouble.Changed k x)) = under-unlocking (9 * 51 + (16 - at)) 0 n (then.Answer (end.Changed k x)) safe.few (omega arith)
-    judged-light (Err (trouble.TooLarge k x)) = under-unlocking (9 * 51 + (16 - at)) 0 n (then.Answer (end.TooLarge k x)) safe.few (omega arith)
-    judged-light (Err trouble.Memory) = under-unlocking (9 * 51 + (16 - at)) 0 n (then.Answer end.NoMemory) safe.few (omega arith)
+    judged-light : (result : Result Unit Trouble) → weight (judged_at n result) < 9 * round + (file_limit - at)
+    judged-light (Ok u) = under-staging (9 * round + (file_limit - at)) 0 n (omega (arith, at-some, safe.few))
+    judged-light (Err (trouble.Changed k x)) = under-unlocking (9 * round + (file_limit - at)) 0 n (then.Answer (end.Changed k x)) safe.few (omega arith)
+    judged-light (Err (trouble.TooLarge k x)) = under-unlocking (9 * round + (file_limit - at)) 0 n (then.Answer (end.TooLarge k x)) safe.few (omega arith)
+    judged-light (Err trouble.Memory) = under-unlocking (9 * round + (file_limit - at)) 0 n (then.Answer end.NoMemory) safe.few (omega arith)
 
     judged-caused : (before after : ℕ) (result : Result Unit Trouble) → TroubleFits n result → Caused before after (judged_at n result)
     judged-caused before after (Ok u) t = of-staging (Caused before after) 0 n (λ l. tt) tt
@@ -285,7 +289,7 @@ module _ (plan : Plan) (old : Place) (q : IsPlace plan old) (safe : IsSafe plan)
     load-place : (s : Step) (fs : List (Option (List ℕ))) (ws : List Way) (go : List ℕ) → Fits n m s → length fs ≡ n → IsPlace plan (record old { step = s; files = fs; ways = ws; go = go })
     load-place s fs ws go f l = record { fits = f; staged_are = q.staged_are; few = q.few; files_are = l; distinct = q.distinct; names = q.names; staged = q.staged }
 
-    load-step : (file : Option (List ℕ)) (s : Step) (fs : List (Option (List ℕ))) (ws : List Way) (go : List ℕ) (now : Place) → Fits n m s → length fs ≡ n → weight s < 9 * 51 + (16 - at) → ((before after : ℕ) → Caused before after s) → now ≡ record old { step = s; files = fs; ways = ws; go = go } → Takes plan at file changes base old now → After (reply.Saw file) now
+    load-step : (file : Option (List ℕ)) (s : Step) (fs : List (Option (List ℕ))) (ws : List Way) (go : List ℕ) (now : Place) → Fits n m s → length fs ≡ n → weight s < 9 * round + (file_limit - at) → ((before after : ℕ) → Caused before after s) → now ≡ record old { step = s; files = fs; ways = ws; go = go } → Takes plan at file changes base old now → After (reply.Saw file) now
     load-step file s fs ws go now f l w c is takes = record {
       place = subst (IsPlace plan) (sym is) (load-place s fs ws go f l);
       lighter = subst (λ (z : Place). weight z.step < weight old.step) (sym is) (subst (λ (z : Step). weight s < weight z) (sym at-loading) w);
@@ -306,11 +310,11 @@ module _ (plan : Plan) (old : Place) (q : IsPlace plan old) (safe : IsSafe plan)
   -- what a look at the record after a failed decision saw
   after-checking : (file : Option (List ℕ)) (now : Place) → old.step ≡ step.Checking → (x : Passed) → PassedSo old.go file x → now ≡ at_step old (step.Releasing (end.Failed x)) → After (reply.Saw file) now
   after-checking file now at x so is =
-      by-step (reply.Saw file) (step.Releasing (end.Failed x)) tt (subst (λ (z : Step). 51 < weight z) (sym at) (omega arith)) (λ e. absurd (false-true e))
+      by-step (reply.Saw file) (step.Releasing (end.Failed x)) tt (subst (λ (z : Step). round < weight z) (sym at) (omega arith)) (λ e. absurd (false-true e))
       (λ before after c y. subst (Caused before after) at c)
       (λ j t p for st.
       let same = sym (ap (state_as j st.hidden st.made old.found old.seen old.files) at) ∙ st.is in
-      let front : take 47 old.go ≡ go_front j.token = subst (Holds j st.made old.files old.ways old.go) at st.holds in
+      let front : take 47 old.go ≡ go_front (moment_of j) j.token = subst (Holds j st.made old.files old.ways old.go) at st.holds in
       subst (λ (z : State). Follows j (at_step old (step.Releasing (end.Failed x))) (saw j z file)) same (check-follows j plan old p q st.hidden st.wanted st.made file (at_step old (step.Releasing (end.Failed x))) x front so refl))
       now is
 

@@ -1,12 +1,12 @@
 -- The state after an answer is the machine's.
-use Rattle.std.proofs.Common.{◌≡◌, ℕ, ◌+◌, ◌<◌, Bool, true, false, List, [], ◌∷◌, ◌++◌, Option, Some, None, length, map, take, drop, get_or, is_some, refl, ap, sym, subst, inl, inr, ◌∙◌, arith, if◌then◌else◌}
+use Rattle.std.proofs.Common.{◌≡◌, ℕ, ℤ, ◌+◌, ◌<◌, Bool, true, false, List, [], ◌∷◌, ◌++◌, Option, Some, None, length, map, take, drop, get_or, is_some, refl, ap, sym, subst, inl, inr, ◌∙◌, arith, if◌then◌else◌}
 use Rattle.commit_record.specs.declared.record.Record.{Record}
 use Rattle.commit_record.specs.declared.way.Way.{Way}
 use Rattle.commit_record.specs.declared.way.Way.TheVariants.{Replace, Remove, Extend}
 use Rattle.commit_record.specs.Ways.{way_of}
 use Rattle.commit_machine.specs.Names.{staged_name}
 use Rattle.commit_machine.specs.Records.{is_go, names_of, AreDistinct}
-use Rattle.commit_machine.specs.Jobs.{Ending, Edit, Job, Made, edits_of, all_of, prepare_of, go_of, made_at, way_made}
+use Rattle.commit_machine.specs.Jobs.{Ending, Edit, Job, Made, moment_of, edits_of, all_of, prepare_of, go_of, made_at, way_made}
 use Rattle.commit_machine.specs.Jobs as jobs
 use Rattle.commit_machine.specs.Items.{Item, found_items}
 use Rattle.commit_machine.specs.Machine.{State, locking, loading, staging, unlocking, place_known, tested, refusing, went_on, faulted, too_long, mended, none_stands}
@@ -18,11 +18,11 @@ use Rattle.commit_driver.specs.declared.step.End.TheVariants as end
 use Rattle.commit_driver.specs.declared.step.Then.{Then}
 use Rattle.commit_driver.specs.declared.step.Then.TheVariants.{GoOn, Answer}
 use Rattle.commit_driver.specs.declared.step.Step.{Step}
-use Rattle.commit_driver.specs.declared.step.Step.TheVariants.{Seizing, Looking, Undoing, Placing, Testing, Removing, Extending, Discarding, Unlocking, Erasing, Clearing, Preparing, Publishing, Locking, Loading, Staging, Deciding, Committing, Checking, Releasing, Ended}
+use Rattle.commit_driver.specs.declared.step.Step.TheVariants.{Looking, Undoing, Placing, Testing, Removing, Extending, Discarding, Unlocking, Erasing, Clearing, Preparing, Publishing, Locking, Loading, Staging, Deciding, Committing, Checking, Releasing, Ended}
 use Rattle.commit_driver.specs.declared.answers.Reply.TheVariants as reply
 use Rattle.commit_driver.specs.declared.place.Plan.{Plan}
 use Rattle.commit_driver.specs.declared.place.Place.{Place}
-use Rattle.commit_driver.specs.Steps.{Ways, call_at, count_at, passed_end, passed_then, unlocking_at, undoing_at, known_at, placing_at, tested_at, faulted_at, long_at, short_at, closed_at, went_at, Fits}
+use Rattle.commit_driver.specs.Steps.{Ways, call_at, count_at, passed_end, passed_then, unlocking_at, undoing_at, known_at, placing_at, tested_at, faulted_at, long_at, short_at, recovered_at, closed_at, went_at, Fits}
 use Rattle.commit_driver.specs.Places.{nth, files_of, entries_of, ways_of, nth_item, PlacesSo, passed_as, found_as, end_as, then_as, made_from, names_as, state_as, WantedAs, IsMade, Holds, IsPlan, IsPlace}
 use Rattle.commit_driver.specs.Answers.{IsAnswer}
 use Rattle.commit_driver.proofs.StateLemmas.{drop-some, drop-map, nth-map, take-next, unlocking-view, undoing-view, WaysAre, unlocking-is, unlocking-all, undoing-is, placing-is, locking-is, staging-is}
@@ -31,9 +31,9 @@ use Rattle.commit_driver.proofs.WayLemmas.{way-found, way-made, item-made, name-
 use Rattle.commit_driver.proofs.NextLemmas.{files-long, edits-long, made-long, names-count}
 use Rattle.commit_driver.proofs.FitLemmas.{of-if, of-unlocking, of-undoing, of-known, of-placing, of-locking, of-staging, Loads}
 
-found-same : (b : Bool) → found_as (if b then recovered.Finished else recovered.RolledBack) ≡ (if b then jobs.Finished else jobs.RolledBack)
-found-same true = refl
-found-same false = refl
+found-same : (b : Bool) (moment : Option ℤ) → found_as (if b then recovered.Finished moment else recovered.RolledBack moment) ≡ (if b then jobs.Finished moment else jobs.RolledBack moment)
+found-same true moment = refl
+found-same false moment = refl
 
 end-passed : (j : Job) (hidden : Ending) (files : List (List ℕ)) (found : Record) (e : End) → WantedAs files hidden → passed_as (passed_end e) ≡ machine.passed_ending (end_as j hidden found e)
 end-passed j hidden files found end.Done w = refl
@@ -41,7 +41,6 @@ end-passed j hidden files found (end.Failed p) w = refl
 end-passed j hidden files found end.NoMemory (inl is) = sym (ap machine.passed_ending is)
 end-passed j hidden files found end.NoMemory (inr is) = sym (ap machine.passed_ending is.2)
 end-passed j hidden files found (end.Recovered f) w = refl
-end-passed j hidden files found end.RightBusy w = refl
 end-passed j hidden files found (end.Busy k) w = refl
 end-passed j hidden files found end.NotARecord w = refl
 end-passed j hidden files found (end.RecordTooLarge n) w = refl
@@ -105,10 +104,10 @@ module _ (j : Job) (plan : Plan) (place : Place) (hidden : Ending) (made : List 
   tested-same at (Some bytes) l = known-same (get_or (map way_of found.entries) at Replace) at bytes ∙ ap (λ (w : Way). place_known w found (record (nth_item (found_items found) at) { staged = Some bytes }) (drop (at + 1) (found_items found)) (names_of found) machine.GoOn) (way-found found.entries at)
 
   abbrev Went : Step → Bool → Type 0
-  Went s b = at_step (went_at (ways_of place) plan.commits (files_of plan) (entries_of place) (is_go found) s b) ≡ went_on j (at_step s) b
+  Went s b = at_step (went_at (ways_of place) plan.commits (files_of plan) (entries_of place) (recovered_at found) s b) ≡ went_on j (at_step s) b
 
   went-erasing : (th : Then) (b : Bool) → Went (Erasing th) b
-  went-erasing GoOn b = ap machine.Clearing (found-same (is_go found))
+  went-erasing GoOn b = ap machine.Clearing (found-same (is_go found) found.moment)
   went-erasing (Answer e) b = refl
 
   went-locking : (at : ℕ) (b : Bool) → at < files_of plan → Went (Locking at) b
@@ -133,8 +132,6 @@ module _ (j : Job) (plan : Plan) (place : Place) (hidden : Ending) (made : List 
       ∙ sym (ap (λ (ms : List Made). went_on j (staging (take at (all_of j)) made ms) b) w.1)
 
   pub went-same : (s : Step) (b : Bool) → Fits (files_of plan) (entries_of place) s → Holds j made place.files place.ways place.go s → IsAnswer (call_at s) (reply.Went b) → Went s b
-  went-same Seizing true f h a = refl
-  went-same Seizing false f h a = refl
   went-same (Undoing at e locks th) b f h a =
       let c = count th in
       undoing-is j hidden made found place.seen place.files (at + 1) e locks th (omega (arith, f.1, c)) (omega (arith, f.2, c))
@@ -172,7 +169,6 @@ module _ (j : Job) (plan : Plan) (place : Place) (hidden : Ending) (made : List 
     failed-then th = ap (λ (x : jobs.Passed). machine.Releasing (jobs.Failed x)) (then-passed j hidden (all_of j) found th wanted)
 
     pub fault-same : (s : Step) → Fits (files_of plan) (entries_of place) s → Holds j made place.files place.ways place.go s → IsAnswer (call_at s) reply.Fault → Faults s
-    fault-same Seizing f h a = refl
     fault-same Looking f h a = refl
     fault-same (Undoing at e locks th) f h a = let c = count th in sym (ap faulted (undoing-view j hidden made found place.seen place.files at e locks th f.0 (omega (arith, f.1, c))))
     fault-same (Placing at th) f h a = failed-then th
@@ -222,39 +218,37 @@ module _ (j : Job) (plan : Plan) (place : Place) (hidden : Ending) (made : List 
   pub holds-unlocking : (at e : ℕ) (th : Then) → Held (unlocking_at at e th)
   holds-unlocking at e th = of-unlocking (Holds j made place.files place.ways place.go) at e th (λ x. tt) tt
 
-  holds-closed : (decided : Bool) (th : Then) → Held (closed_at decided th)
-  holds-closed decided GoOn = tt
-  holds-closed decided (Answer e) = tt
+  holds-closed : (came : Recovered) (th : Then) → Held (closed_at came th)
+  holds-closed came GoOn = tt
+  holds-closed came (Answer e) = tt
 
-  pub holds-went : (decided : Bool) (s : Step) (b : Bool) → Held s → IsAnswer (call_at s) (reply.Went b) → Held (went_at (ways_of place) plan.commits (files_of plan) (entries_of place) decided s b)
-  holds-went decided Seizing true h a = tt
-  holds-went decided Seizing false h a = tt
-  holds-went decided (Undoing at e locks th) b h a = holds-undoing (at + 1) e locks th
-  holds-went decided (Placing at th) b h a = holds-placing (ways_of place) (at + 1) (count_at (files_of plan) (entries_of place) th) th h
-  holds-went decided (Removing at th) b h a = h
-  holds-went decided (Extending at th) b h a = h
-  holds-went decided (Discarding at th) b h a = holds-placing (ways_of place) (at + 1) (count_at (files_of plan) (entries_of place) th) th h
-  holds-went decided (Unlocking at e th) b h a = holds-unlocking (at + 1) e th
-  holds-went decided (Erasing th) b h a = holds-closed decided th
-  holds-went decided (Clearing c) b h a = of-if (Holds j made place.files place.ways place.go) plan.commits Preparing _ (λ e. sym p.commits_is ∙ e) (λ e. tt)
-  holds-went decided Preparing b h a = h
-  holds-went decided Publishing true h a = of-locking (Holds j made place.files place.ways place.go) 0 (files_of plan) (λ x. h) h
-  holds-went decided Publishing false h a = tt
-  holds-went decided (Locking at) true h a = of-locking (Holds j made place.files place.ways place.go) (at + 1) (files_of plan) (λ x. h) h
-  holds-went decided (Locking at) false h a = holds-unlocking 0 at (Answer (end.Busy at))
-  holds-went decided (Staging at) b h a = of-staging (Holds j made place.files place.ways place.go) (at + 1) (files_of plan) (λ x. h) h
-  holds-went decided Deciding b h a = h
-  holds-went decided Committing true h a = holds-placing (ways_of place) 0 (files_of plan) (Answer end.Done) h
-  holds-went decided Committing false h a = tt
-  holds-went decided (Releasing e) b h a = tt
-  holds-went decided Looking b h a = absurd a
-  holds-went decided (Loading at) b h a = absurd a
-  holds-went decided (Testing at) b h a = absurd a
-  holds-went decided Checking b h a = absurd a
-  holds-went decided (Ended e) b h a = absurd a
+  pub holds-went : (came : Recovered) (s : Step) (b : Bool) → Held s → IsAnswer (call_at s) (reply.Went b) → Held (went_at (ways_of place) plan.commits (files_of plan) (entries_of place) came s b)
+  holds-went came (Undoing at e locks th) b h a = holds-undoing (at + 1) e locks th
+  holds-went came (Placing at th) b h a = holds-placing (ways_of place) (at + 1) (count_at (files_of plan) (entries_of place) th) th h
+  holds-went came (Removing at th) b h a = h
+  holds-went came (Extending at th) b h a = h
+  holds-went came (Discarding at th) b h a = holds-placing (ways_of place) (at + 1) (count_at (files_of plan) (entries_of place) th) th h
+  holds-went came (Unlocking at e th) b h a = holds-unlocking (at + 1) e th
+  holds-went came (Erasing th) b h a = holds-closed came th
+  holds-went came (Clearing c) b h a = of-if (Holds j made place.files place.ways place.go) plan.commits Preparing _ (λ e. sym p.commits_is ∙ e) (λ e. tt)
+  holds-went came Preparing b h a = h
+  holds-went came Publishing true h a = of-locking (Holds j made place.files place.ways place.go) 0 (files_of plan) (λ x. h) h
+  holds-went came Publishing false h a = tt
+  holds-went came (Locking at) true h a = of-locking (Holds j made place.files place.ways place.go) (at + 1) (files_of plan) (λ x. h) h
+  holds-went came (Locking at) false h a = holds-unlocking 0 at (Answer (end.Busy at))
+  holds-went came (Staging at) b h a = of-staging (Holds j made place.files place.ways place.go) (at + 1) (files_of plan) (λ x. h) h
+  holds-went came Deciding b h a = h
+  holds-went came Committing true h a = holds-placing (ways_of place) 0 (files_of plan) (Answer end.Done) h
+  holds-went came Committing false h a = tt
+  holds-went came (Releasing e) b h a = tt
+  holds-went came Looking b h a = absurd a
+  holds-went came (Loading at) b h a = absurd a
+  holds-went came (Testing at) b h a = absurd a
+  holds-went came Checking b h a = absurd a
+  holds-went came (Ended e) b h a = absurd a
 
   pub holds-fault : (s : Step) → Held s → Held (faulted_at s)
-  holds-fault Committing h = ap (take 47) h.go_is ∙ front-taken j.token (go_of j made).entries
+  holds-fault Committing h = ap (take 47) h.go_is ∙ front-taken (moment_of j) j.token (go_of j made).entries
   holds-fault s h = tt
 
   pub holds-long : (s : Step) (k : ℕ) → Held (long_at (files_of plan) s k)

@@ -1,5 +1,5 @@
 -- One call of a host is one call of the machine.
-use Rattle.std.proofs.Common.{◌≡◌, ℕ, Bool, true, false, ◌&&◌, List, [], ◌∷◌, is_some, is_none, refl, sym, subst}
+use Rattle.std.proofs.Common.{◌≡◌, ℕ, ℤ, Bool, true, false, ◌&&◌, List, [], ◌∷◌, is_some, is_none, refl, sym, subst}
 use Rattle.std.specs.declared.option.Option.TheVariants.{Some}
 use Rattle.std.specs.declared.result.Result.{Result}
 use Rattle.std.specs.declared.result.Result.TheVariants.{Ok, Err}
@@ -13,11 +13,11 @@ use Rattle.host_port.specs.declared.host.LoadError.{LoadError}
 use Rattle.host_port.specs.declared.host.LoadError.TheVariants as error
 use Rattle.host_port.specs.Disk.{Disk}
 use Rattle.host_port.specs.Ends.{is_after, is_owner, is_open, cut_short}
-use Rattle.host_port.specs.Calls.{Loaded, Staged, Published, Extended, Erased, Locked, Unlocked, Seized, Released}
+use Rattle.host_port.specs.Calls.{Loaded, Staged, Published, Extended, Erased, Locked, Unlocked, Seized, Released, TimeTold}
 use Rattle.host_port.specs.Ran.{Agrees}
 use Rattle.host_port.specs.Own.{own}
-use Rattle.commit_machine.specs.Machine.{Call, ToLoad, ToStage, ToPublish, ToExtend, ToErase, ToLock, ToUnlock, ToSeize, ToRelease, Reply, Went, Fault}
-use Rattle.commit_machine.specs.Goes.{IsOf, loads, stages, stage_fails, publishes, extends, extend_fails, erases, locks, unlocks, seizes, releases, reply}
+use Rattle.commit_machine.specs.Machine.{Call, ToAsk, ToLoad, ToStage, ToPublish, ToExtend, ToErase, ToLock, ToUnlock, ToSeize, ToRelease, Reply, Went, Fault}
+use Rattle.commit_machine.specs.Goes.{IsOf, asks, loads, stages, stage_fails, publishes, extends, extend_fails, erases, locks, unlocks, seizes, releases, reply}
 use Rattle.commit_driver.specs.Did.{Did, DidUnlock, told_reply, done_reply, load_reply}
 use Rattle.commit_driver.specs.Drives.{AnswersSo, Performed}
 
@@ -29,6 +29,12 @@ one c e of = record { event = e; is = refl; of = of; replies = refl }
 
 allowed : (a b : Bool) → (a && b) ≡ true → b ≡ true
 allowed a b h = (and_parts a b h).1
+
+pub asked : (seconds told : ℤ) → told ≡ seconds → (d : Disk) (e : Event) → TimeTold seconds d e → Both d e (Did (ToAsk told) (Went true))
+asked seconds told same d e is =
+    let P : Event → Type 0 = λ e. Both d e (Did (ToAsk told) (Went true)) in
+    let Q : ℤ → Type 0 = λ s. Both d (event.Now s) (Did (ToAsk told) (Went true)) in
+    subst P (sym is) (subst Q same (tt, one (ToAsk told) (event.Now told) asks))
 
 pub loaded : (name : List ℕ) (r : Result LoadAnswer LoadError) (d : Disk) (e : Event) → Loaded name r d e → Both d e (Did (ToLoad name) (load_reply r))
 loaded name (Ok a) d e is =

@@ -12,7 +12,7 @@ use Rattle.host_port.specs.Ran.{Ran}
 use Rattle.host_port.proofs.RanLemmas.{Ran-none, Ran-then, Ran-map, rose-on, rose-back}
 use Rattle.folder_change.specs.declared.change.Change.{Change}
 use Rattle.commit_machine.specs.Jobs.{NoMemory, Job}
-use Rattle.commit_machine.specs.Machine.{State, Seizing, Looking, Undoing, Placing, Testing, Removing, Extending, Discarding, Unlocking, Erasing, Clearing, Preparing, Publishing, Locking, Loading, Staging, Deciding, Committing, Checking, Releasing, Ended, GoOn, Answer, Reply, Went, Saw, Long, Short, Fault, next, refused, after_reply}
+use Rattle.commit_machine.specs.Machine.{State, Seizing, Timing, Looking, Undoing, Placing, Testing, Removing, Extending, Discarding, Unlocking, Erasing, Clearing, Preparing, Publishing, Locking, Loading, Staging, Deciding, Committing, Checking, Releasing, Ended, GoOn, Answer, Reply, Went, Saw, Long, Short, Fault, next, refused, after_reply}
 use Rattle.commit_machine.specs.Machine as machine
 use Rattle.commit_machine.specs.Goes.{IsNext, Goes, reply}
 use Rattle.commit_machine.proofs.runs.Stretches.{stretches_join, refused_twice}
@@ -39,7 +39,7 @@ goes-refused j s mid last [] p (inl q) = inr (ap (refused j) q ∙ p)
 goes-refused j s mid last [] p (inr q) = inr (sym (refused_twice j s) ∙ ap (refused j) q ∙ p)
 goes-refused j s mid last (e ∷ es) p (now, at, is, more) = (now, at, is, goes-refused j (after_reply j now (reply e)) mid last es p more)
 
-goes-call : (j : Job) (s : State) (c : machine.Call) (r : Reply) (es : List Event) → next j s ≡ Some c → Did c r es → Goes j s es (after_reply j s r)
+pub goes-call : (j : Job) (s : State) (c : machine.Call) (r : Reply) (es : List Event) → next j s ≡ Some c → Did c r es → Goes j s es (after_reply j s r)
 goes-call j s c r es call did =
     subst (λ (z : List Event). Goes j s z (after_reply j s r)) (sym did.is)
     (s, inl refl, subst (λ (o : Option machine.Call). IsNext o did.event) (sym call) did.of, inl (ap (after_reply j s) did.replies))
@@ -53,6 +53,7 @@ same-after : (j : Job) (s : State) (a b : Reply) → SameReply (next j s) a b �
 same-after j (Unlocking r n ns th) (Went a) (Went b) h = refl
 same-after j (Unlocking r n ns th) a b h = ap (after_reply j (Unlocking r n ns th)) h
 same-after j Seizing a b h = ap (after_reply j Seizing) h
+same-after j (Timing time) a b h = ap (after_reply j (Timing time)) h
 same-after j Looking a b h = ap (after_reply j Looking) h
 same-after j (Undoing r n ns ls th) a b h = ap (after_reply j (Undoing r n ns ls th)) h
 same-after j (Placing r x xs ls th) a b h = ap (after_reply j (Placing r x xs ls th)) h
@@ -73,7 +74,7 @@ same-after j Checking a b h = ap (after_reply j Checking) h
 same-after j (Releasing e) a b h = ap (after_reply j (Releasing e)) h
 same-after j (Ended e) a b h = ap (after_reply j (Ended e)) h
 
-abbrev long_reply : Reply → Bool
+abbrev pub long_reply : Reply → Bool
 long_reply (Long n) = true
 long_reply r = false
 
@@ -102,12 +103,13 @@ or-false : (a : Bool) → (a || false) ≡ a
 or-false true = refl
 or-false false = refl
 
-did-within : (c : machine.Call) (r : Reply) (es : List Event) → Did c r es → list_any is_past_limit es ≡ long_reply r
+pub did-within : (c : machine.Call) (r : Reply) (es : List Event) → Did c r es → list_any is_past_limit es ≡ long_reply r
 did-within c r es h = ap (list_any is_past_limit) h.is ∙ or-false (is_past_limit h.event) ∙ long-seen h.event ∙ ap long_reply h.replies
 
 same-long : (c : machine.Call) (a b : Reply) → AnswersSo c a b → long_reply a ≡ long_reply b
 same-long (machine.ToUnlock n t) (Went a) (Went b) h = refl
 same-long (machine.ToUnlock n t) a b h = ap long_reply h
+same-long (machine.ToAsk time) a b h = ap long_reply h
 same-long (machine.ToLoad n) a b h = ap long_reply h
 same-long (machine.ToStage n c) a b h = ap long_reply h
 same-long (machine.ToPublish n m) a b h = ap long_reply h
@@ -128,12 +130,12 @@ long-as answer.Fault = refl
 pub record Reached (j : Job) (place : Place) (es : List Event) : Type 0 where
   pub state : State
   pub stands : StandsFor j place state
-  pub goes : Goes j Seizing es state
+  pub goes : Goes j Looking es state
   pub within : is_settled place.step ≡ false → list_any is_past_limit es ≡ false
 
 pub begin : (j : Job) (files : List (Option (List ℕ))) → Reached j (begun files) []
 begin j files = record {
-  state = Seizing;
+  state = Looking;
   stands = record { hidden = NoMemory; wanted = inl refl; made = []; holds = tt; is = refl };
   goes = inl refl;
   within = λ e. refl;
@@ -146,14 +148,14 @@ module _ (j : Job) (plan : Plan) (old now : Place) (call : Call) (r : Answer_of)
       let s = a.state in
       let is : next j s ≡ Some c = sym (next_is j s p q a.stands) in
       let step = goes-call j s c done.reply more is done.did in
-      let joined = stretches_join j Seizing s (after_reply j s done.reply) front more a.goes step in
+      let joined = stretches_join j Looking s (after_reply j s done.reply) front more a.goes step in
       let same : after_reply j s (reply_as r) ≡ after_reply j s done.reply = same-after j s (reply_as r) done.reply (subst (λ (o : Option machine.Call). SameReply o (reply_as r) done.reply) (sym is) done.same) in
-      let goes = subst (λ (z : State). Goes j Seizing (front ++ more) z) (sym same) joined in
+      let goes = subst (λ (z : State). Goes j Looking (front ++ more) z) (sym same) joined in
       let f = after.follows j s p for_it a.stands in
       record {
         state = f.0;
         stands = f.2;
-        goes = elim f.1 [ inl e ↦ subst (λ (z : State). Goes j Seizing (front ++ more) z) (sym e) goes | inr e ↦ goes-refused j Seizing (after_reply j s (reply_as r)) f.0 (front ++ more) (sym e) goes ];
+        goes = elim f.1 [ inl e ↦ subst (λ (z : State). Goes j Looking (front ++ more) z) (sym e) goes | inr e ↦ goes-refused j Looking (after_reply j s (reply_as r)) f.0 (front ++ more) (sym e) goes ];
         within = λ unsettled.
             let u = after.settled unsettled in
             list_any-append is_past_limit front more
@@ -167,7 +169,6 @@ module _ (j : Job) (plan : Plan) (old now : Place) (call : Call) (r : Answer_of)
 -- a step without a call is the end
 pub no-call : (s : Step) → call_at s ≡ None → (e : End) × (s ≡ step.Ended e)
 no-call (step.Ended e) h = (e, refl)
-no-call step.Seizing h = absurd (cc)
 no-call step.Looking h = absurd (cc)
 no-call (step.Undoing at e locks th) h = absurd (cc)
 no-call (step.Placing at th) h = absurd (cc)
@@ -197,7 +198,7 @@ finished j place e es is r =
       hidden = st.hidden;
       wanted = st.wanted;
       within = λ unsettled. r.within (ap is_settled is ∙ unsettled);
-      goes = subst (λ (z : State). Goes j Seizing es z) (sym to) r.goes;
+      goes = subst (λ (z : State). Goes j Looking es z) (sym to) r.goes;
     }
 
 -- the count of faults never falls

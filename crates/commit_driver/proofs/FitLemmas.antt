@@ -1,15 +1,17 @@
 -- The numbers of steps: they fit, each answer leaves less to do, and an end stays settled and caused.
 use Rattle.std.proofs.Common.{◌≡◌, ℕ, ◌+◌, ◌-◌, ◌*◌, ◌<◌, ◌≤◌, Bool, true, false, refl, sym, subst, inl, inr, ◌∙◌, arith, if◌then◌else◌}
 use Rattle.host_port.specs.Calls.{Rose, load_limit}
+use Rattle.commit_record.specs.Format.{file_limit}
 use Rattle.commit_record.specs.declared.way.Way.{Way}
 use Rattle.commit_record.specs.declared.way.Way.TheVariants.{Replace, Remove, Extend}
+use Rattle.commit_driver.specs.declared.step.Recovered.{Recovered as Found}
 use Rattle.commit_driver.specs.declared.step.End.TheVariants as end
 use Rattle.commit_driver.specs.declared.step.Then.{Then}
 use Rattle.commit_driver.specs.declared.step.Then.TheVariants.{GoOn, Answer}
 use Rattle.commit_driver.specs.declared.step.Step.{Step}
-use Rattle.commit_driver.specs.declared.step.Step.TheVariants.{Seizing, Looking, Undoing, Placing, Testing, Removing, Extending, Discarding, Unlocking, Erasing, Clearing, Preparing, Publishing, Locking, Loading, Staging, Deciding, Committing, Checking, Releasing, Ended}
+use Rattle.commit_driver.specs.declared.step.Step.TheVariants.{Looking, Undoing, Placing, Testing, Removing, Extending, Discarding, Unlocking, Erasing, Clearing, Preparing, Publishing, Locking, Loading, Staging, Deciding, Committing, Checking, Releasing, Ended}
 use Rattle.commit_driver.specs.declared.answers.Reply.TheVariants as reply
-use Rattle.commit_driver.specs.Steps.{Ways, call_at, count_at, ThenFits, Fits, unlocking_at, undoing_at, removing_at, extending_at, place_at, known_at, placing_at, tested_at, locking_at, staging_at, faulted_at, long_at, short_at, closed_at, went_at, then_rank, weight}
+use Rattle.commit_driver.specs.Steps.{Ways, call_at, count_at, ThenFits, Fits, unlocking_at, undoing_at, removing_at, extending_at, place_at, known_at, placing_at, tested_at, locking_at, staging_at, faulted_at, long_at, short_at, closed_at, went_at, then_rank, round, weight}
 use Rattle.commit_driver.specs.Answers.{IsAnswer, settled_then, is_settled, ThenCaused, Caused}
 use Rattle.commit_driver.proofs.StateLemmas.{lt-or}
 
@@ -80,36 +82,34 @@ fits-tested ways n m at false l = fits-placing ways n m (at + 1) GoOn tt
 pub fits-staging : (n m at : ℕ) → Fits n m (staging_at at n)
 fits-staging n m at = of-staging (Fits n m) at n (λ a. a) tt
 
-fits-closed : (n m : ℕ) (decided : Bool) (th : Then) → ThenFits n m th → Fits n m (closed_at decided th)
-fits-closed n m decided GoOn t = tt
-fits-closed n m decided (Answer e) t = t
+fits-closed : (n m : ℕ) (found : Found) (th : Then) → ThenFits n m th → Fits n m (closed_at found th)
+fits-closed n m found GoOn t = tt
+fits-closed n m found (Answer e) t = t
 
-pub fits-went : (ways : Ways) (commits : Bool) (n m : ℕ) (decided : Bool) (s : Step) (did : Bool) → (commits ≡ true → 0 < n) → Fits n m s → IsAnswer (call_at s) (reply.Went did) → Fits n m (went_at ways commits n m decided s did)
-fits-went ways commits n m decided Seizing true some f a = tt
-fits-went ways commits n m decided Seizing false some f a = tt
-fits-went ways commits n m decided (Undoing at end locks th) did some f a = fits-undoing n m (at + 1) end locks th f.1 f.2 f.3
-fits-went ways commits n m decided (Placing at th) did some f a = fits-placing ways n m (at + 1) th f.1
-fits-went ways commits n m decided (Removing at th) did some f a = f
-fits-went ways commits n m decided (Extending at th) did some f a = f
-fits-went ways commits n m decided (Discarding at th) did some f a = fits-placing ways n m (at + 1) th f.1
-fits-went ways commits n m decided (Unlocking at end th) did some f a = fits-unlocking n m (at + 1) end th f.1 f.2
-fits-went ways commits n m decided (Erasing th) did some f a = fits-closed n m decided th f
-fits-went ways commits n m decided (Clearing x) did some f a = of-if (Fits n m) commits Preparing _ some (λ e. tt)
-fits-went ways commits n m decided Preparing did some f a = f
-fits-went ways commits n m decided Publishing true some f a = of-locking (Fits n m) 0 n (λ l. l) f
-fits-went ways commits n m decided Publishing false some f a = tt
-fits-went ways commits n m decided (Locking at) true some f a = of-locking (Fits n m) (at + 1) n (λ l. l) (omega (arith, f))
-fits-went ways commits n m decided (Locking at) false some f a = fits-unlocking n m 0 at (Answer (end.Busy at)) (omega (arith, f)) f
-fits-went ways commits n m decided (Staging at) did some f a = fits-staging n m (at + 1)
-fits-went ways commits n m decided Deciding did some f a = tt
-fits-went ways commits n m decided Committing true some f a = fits-placing ways n m 0 (Answer end.Done) tt
-fits-went ways commits n m decided Committing false some f a = tt
-fits-went ways commits n m decided (Releasing e) did some f a = f
-fits-went ways commits n m decided Looking did some f a = absurd a
-fits-went ways commits n m decided (Loading at) did some f a = absurd a
-fits-went ways commits n m decided (Testing at) did some f a = absurd a
-fits-went ways commits n m decided Checking did some f a = absurd a
-fits-went ways commits n m decided (Ended e) did some f a = absurd a
+pub fits-went : (ways : Ways) (commits : Bool) (n m : ℕ) (found : Found) (s : Step) (did : Bool) → (commits ≡ true → 0 < n) → Fits n m s → IsAnswer (call_at s) (reply.Went did) → Fits n m (went_at ways commits n m found s did)
+fits-went ways commits n m found (Undoing at end locks th) did some f a = fits-undoing n m (at + 1) end locks th f.1 f.2 f.3
+fits-went ways commits n m found (Placing at th) did some f a = fits-placing ways n m (at + 1) th f.1
+fits-went ways commits n m found (Removing at th) did some f a = f
+fits-went ways commits n m found (Extending at th) did some f a = f
+fits-went ways commits n m found (Discarding at th) did some f a = fits-placing ways n m (at + 1) th f.1
+fits-went ways commits n m found (Unlocking at end th) did some f a = fits-unlocking n m (at + 1) end th f.1 f.2
+fits-went ways commits n m found (Erasing th) did some f a = fits-closed n m found th f
+fits-went ways commits n m found (Clearing x) did some f a = of-if (Fits n m) commits Preparing _ some (λ e. tt)
+fits-went ways commits n m found Preparing did some f a = f
+fits-went ways commits n m found Publishing true some f a = of-locking (Fits n m) 0 n (λ l. l) f
+fits-went ways commits n m found Publishing false some f a = tt
+fits-went ways commits n m found (Locking at) true some f a = of-locking (Fits n m) (at + 1) n (λ l. l) (omega (arith, f))
+fits-went ways commits n m found (Locking at) false some f a = fits-unlocking n m 0 at (Answer (end.Busy at)) (omega (arith, f)) f
+fits-went ways commits n m found (Staging at) did some f a = fits-staging n m (at + 1)
+fits-went ways commits n m found Deciding did some f a = tt
+fits-went ways commits n m found Committing true some f a = fits-placing ways n m 0 (Answer end.Done) tt
+fits-went ways commits n m found Committing false some f a = tt
+fits-went ways commits n m found (Releasing e) did some f a = f
+fits-went ways commits n m found Looking did some f a = absurd a
+fits-went ways commits n m found (Loading at) did some f a = absurd a
+fits-went ways commits n m found (Testing at) did some f a = absurd a
+fits-went ways commits n m found Checking did some f a = absurd a
+fits-went ways commits n m found (Ended e) did some f a = absurd a
 
 pub fits-fault : (n m : ℕ) (s : Step) → Fits n m (faulted_at s)
 fits-fault n m Committing = tt
@@ -134,72 +134,69 @@ rank-few : (th : Then) → then_rank th ≤ 10
 rank-few GoOn = omega arith
 rank-few (Answer e) = omega arith
 
-pub under-unlocking : (k at end : ℕ) (th : Then) → end ≤ 16 → (then_rank th + 4) * 51 + (16 - at) < k → Under k (unlocking_at at end th)
+pub under-unlocking : (k at end : ℕ) (th : Then) → end ≤ file_limit → (then_rank th + 4) * round + (file_limit - at) < k → Under k (unlocking_at at end th)
 under-unlocking k at end th l u = of-unlocking (Under k) at end th (λ a. u) (omega (arith, u))
 
-pub under-undoing : (k at end locks : ℕ) (th : Then) → end ≤ 16 → (then_rank th + 5) * 51 + (16 - at) < k → Under k (undoing_at at end locks th)
+pub under-undoing : (k at end locks : ℕ) (th : Then) → end ≤ file_limit → (then_rank th + 5) * round + (file_limit - at) < k → Under k (undoing_at at end locks th)
 under-undoing k at end locks th l u = of-undoing (Under k) at end locks th (λ a. u) (λ a. omega (arith, u)) (omega (arith, u))
 
 -- the look for a staged file weighs as much as the publication of a record that was found
-under-testing : (k at : ℕ) (th : Then) → (then_rank th + 5) * 51 + (3 * (16 - at) + 2) < k → th ≡ GoOn → Under k (Testing at)
+under-testing : (k at : ℕ) (th : Then) → (then_rank th + 5) * round + (3 * (file_limit - at) + 2) < k → th ≡ GoOn → Under k (Testing at)
 under-testing k at GoOn u e = u
 under-testing k at (Answer a) u e = absurd (cc)
 
-pub under-placing : (ways : Ways) (k at end : ℕ) (th : Then) → (then_rank th + 5) * 51 + (3 * (16 - at) + 2) < k → Under k (placing_at ways at end th)
+pub under-placing : (ways : Ways) (k at end : ℕ) (th : Then) → (then_rank th + 5) * round + (3 * (file_limit - at) + 2) < k → Under k (placing_at ways at end th)
 under-placing ways k at end th u = of-placing (Under k) ways at end th (λ a. record { places = u; tests = under-testing k at th u; removes = omega (arith, u); extends = omega (arith, u) }) (λ a. omega (arith, u)) (omega (arith, u))
 
-pub under-tested : (ways : Ways) (m at : ℕ) (stands : Bool) → at < m → m ≤ 16 → Under (weight (Testing at)) (tested_at ways m at stands)
+pub under-tested : (ways : Ways) (m at : ℕ) (stands : Bool) → at < m → m ≤ file_limit → Under (weight (Testing at)) (tested_at ways m at stands)
 under-tested ways m at true l few = of-known (Under (weight (Testing at))) (ways GoOn at) at (omega arith) (omega arith)
 under-tested ways m at false l few = under-placing ways (weight (Testing at)) (at + 1) m GoOn (omega (arith, l, few))
 
-pub under-staging : (k at n : ℕ) → 8 * 51 + (16 - at) < k → Under k (staging_at at n)
+pub under-staging : (k at n : ℕ) → 8 * round + (file_limit - at) < k → Under k (staging_at at n)
 under-staging k at n u = of-staging (Under k) at n (λ a. u) (omega (arith, u))
 
-under-locking : (k at n : ℕ) → 10 * 51 + (16 - at) < k → Under k (locking_at at n)
+under-locking : (k at n : ℕ) → 10 * round + (file_limit - at) < k → Under k (locking_at at n)
 under-locking k at n u = of-locking (Under k) at n (λ a. u) (omega (arith, u))
 
-count-few : (n m : ℕ) (th : Then) → n ≤ 16 → m ≤ 16 → count_at n m th ≤ 16
+count-few : (n m : ℕ) (th : Then) → n ≤ file_limit → m ≤ file_limit → count_at n m th ≤ file_limit
 count-few n m GoOn a b = b
 count-few n m (Answer e) a b = a
 
-lighter-closed : (decided : Bool) (th : Then) → Under (weight (Erasing th)) (closed_at decided th)
-lighter-closed decided GoOn = omega arith
-lighter-closed decided (Answer e) = omega arith
+lighter-closed : (found : Found) (th : Then) → Under (weight (Erasing th)) (closed_at found th)
+lighter-closed found GoOn = omega arith
+lighter-closed found (Answer e) = omega arith
 
-pub lighter-went : (ways : Ways) (commits : Bool) (n m : ℕ) (decided : Bool) (s : Step) (did : Bool) → n ≤ 16 → m ≤ 16 → Fits n m s → IsAnswer (call_at s) (reply.Went did) → weight (went_at ways commits n m decided s did) < weight s
-lighter-went ways commits n m decided Seizing true fn fm f a = omega arith
-lighter-went ways commits n m decided Seizing false fn fm f a = omega arith
-lighter-went ways commits n m decided (Undoing at end locks th) did fn fm f a =
+pub lighter-went : (ways : Ways) (commits : Bool) (n m : ℕ) (found : Found) (s : Step) (did : Bool) → n ≤ file_limit → m ≤ file_limit → Fits n m s → IsAnswer (call_at s) (reply.Went did) → weight (went_at ways commits n m found s did) < weight s
+lighter-went ways commits n m found (Undoing at end locks th) did fn fm f a =
     let few = count-few n m th fn fm in let lt = f.0 in let le = f.1 in under-undoing (weight (Undoing at end locks th)) (at + 1) end locks th (omega (arith, few, le)) (omega (arith, few, le, lt))
-lighter-went ways commits n m decided (Placing at th) did fn fm f a =
+lighter-went ways commits n m found (Placing at th) did fn fm f a =
     let few = count-few n m th fn fm in let lt = f.0 in under-placing ways (weight (Placing at th)) (at + 1) (count_at n m th) th (omega (arith, few, lt))
-lighter-went ways commits n m decided (Removing at th) did fn fm f a = omega arith
-lighter-went ways commits n m decided (Extending at th) did fn fm f a = omega arith
-lighter-went ways commits n m decided (Discarding at th) did fn fm f a =
+lighter-went ways commits n m found (Removing at th) did fn fm f a = omega arith
+lighter-went ways commits n m found (Extending at th) did fn fm f a = omega arith
+lighter-went ways commits n m found (Discarding at th) did fn fm f a =
     let few = count-few n m th fn fm in let lt = f.0 in under-placing ways (weight (Discarding at th)) (at + 1) (count_at n m th) th (omega (arith, few, lt))
-lighter-went ways commits n m decided (Unlocking at end th) did fn fm f a =
+lighter-went ways commits n m found (Unlocking at end th) did fn fm f a =
     let few = count-few n m th fn fm in let lt = f.0 in let le = f.1 in under-unlocking (weight (Unlocking at end th)) (at + 1) end th (omega (arith, few, le)) (omega (arith, few, le, lt))
-lighter-went ways commits n m decided (Erasing th) did fn fm f a = lighter-closed decided th
-lighter-went ways commits n m decided (Clearing x) did fn fm f a = of-if (Under (weight (Clearing x))) commits Preparing _ (λ e. omega arith) (λ e. omega arith)
-lighter-went ways commits n m decided Preparing did fn fm f a = omega arith
-lighter-went ways commits n m decided Publishing true fn fm f a = under-locking (weight Publishing) 0 n (omega arith)
-lighter-went ways commits n m decided Publishing false fn fm f a = omega arith
-lighter-went ways commits n m decided (Locking at) true fn fm f a = under-locking (weight (Locking at)) (at + 1) n (omega (arith, f, fn))
-lighter-went ways commits n m decided (Locking at) false fn fm f a = under-unlocking (weight (Locking at)) 0 at (Answer (end.Busy at)) (omega (arith, f, fn)) (omega (arith, f, fn))
-lighter-went ways commits n m decided (Staging at) did fn fm f a = under-staging (weight (Staging at)) (at + 1) n (omega (arith, f, fn))
-lighter-went ways commits n m decided Deciding did fn fm f a = omega arith
-lighter-went ways commits n m decided Committing true fn fm f a = under-placing ways (weight Committing) 0 n (Answer end.Done) (omega arith)
-lighter-went ways commits n m decided Committing false fn fm f a = omega arith
-lighter-went ways commits n m decided (Releasing e) did fn fm f a = omega arith
-lighter-went ways commits n m decided Looking did fn fm f a = absurd a
-lighter-went ways commits n m decided (Loading at) did fn fm f a = absurd a
-lighter-went ways commits n m decided (Testing at) did fn fm f a = absurd a
-lighter-went ways commits n m decided Checking did fn fm f a = absurd a
-lighter-went ways commits n m decided (Ended e) did fn fm f a = absurd a
+lighter-went ways commits n m found (Erasing th) did fn fm f a = lighter-closed found th
+lighter-went ways commits n m found (Clearing x) did fn fm f a = of-if (Under (weight (Clearing x))) commits Preparing _ (λ e. omega arith) (λ e. omega arith)
+lighter-went ways commits n m found Preparing did fn fm f a = omega arith
+lighter-went ways commits n m found Publishing true fn fm f a = under-locking (weight Publishing) 0 n (omega arith)
+lighter-went ways commits n m found Publishing false fn fm f a = omega arith
+lighter-went ways commits n m found (Locking at) true fn fm f a = under-locking (weight (Locking at)) (at + 1) n (omega (arith, f, fn))
+lighter-went ways commits n m found (Locking at) false fn fm f a = under-unlocking (weight (Locking at)) 0 at (Answer (end.Busy at)) (omega (arith, f, fn)) (omega (arith, f, fn))
+lighter-went ways commits n m found (Staging at) did fn fm f a = under-staging (weight (Staging at)) (at + 1) n (omega (arith, f, fn))
+lighter-went ways commits n m found Deciding did fn fm f a = omega arith
+lighter-went ways commits n m found Committing true fn fm f a = under-placing ways (weight Committing) 0 n (Answer end.Done) (omega arith)
+lighter-went ways commits n m found Committing false fn fm f a = omega arith
+lighter-went ways commits n m found (Releasing e) did fn fm f a = omega arith
+lighter-went ways commits n m found Looking did fn fm f a = absurd a
+lighter-went ways commits n m found (Loading at) did fn fm f a = absurd a
+lighter-went ways commits n m found (Testing at) did fn fm f a = absurd a
+lighter-went ways commits n m found Checking did fn fm f a = absurd a
+lighter-went ways commits n m found (Ended e) did fn fm f a = absurd a
 
 pub lighter-fault : (s : Step) → IsAnswer (call_at s) reply.Fault → weight (faulted_at s) < weight s
 lighter-fault Committing a = omega arith
-lighter-fault Seizing a = omega arith
 lighter-fault Looking a = omega arith
 lighter-fault (Undoing at end locks th) a = omega arith
 lighter-fault (Placing at th) a = omega arith
@@ -228,14 +225,14 @@ Loads (Loading at) = Unit {0}
 Loads Checking = Unit {0}
 Loads s = ⊥
 
-pub lighter-long : (n m : ℕ) (s : Step) (k : ℕ) → n ≤ 16 → Fits n m s → Loads s → weight (long_at n s k) < weight s
+pub lighter-long : (n m : ℕ) (s : Step) (k : ℕ) → n ≤ file_limit → Fits n m s → Loads s → weight (long_at n s k) < weight s
 lighter-long n m Looking k fn f l = omega arith
 lighter-long n m (Testing at) k fn f l = omega arith
 lighter-long n m (Loading at) k fn f l = under-unlocking (weight (Loading at)) 0 n (Answer (end.TooLarge at k)) fn (omega arith)
 lighter-long n m Checking k fn f l = omega arith
 lighter-long n m s k fn f l = absurd l
 
-pub lighter-short : (n m : ℕ) (s : Step) → n ≤ 16 → Fits n m s → Loads s → weight (short_at n s) < weight s
+pub lighter-short : (n m : ℕ) (s : Step) → n ≤ file_limit → Fits n m s → Loads s → weight (short_at n s) < weight s
 lighter-short n m Looking fn f l = omega arith
 lighter-short n m (Testing at) fn f l = omega arith
 lighter-short n m (Loading at) fn f l = under-unlocking (weight (Loading at)) 0 n (Answer end.NoMemory) fn (omega arith)
@@ -253,22 +250,22 @@ kept-testing at (Answer a) e = absurd (cc)
 kept-placing : (ways : Ways) (at end : ℕ) (th : Then) → is_settled (placing_at ways at end th) ≡ false → settled_then th ≡ false
 kept-placing ways at end th e = sym (of-placing (Kept th) ways at end th (λ x. record { places = refl; tests = kept-testing at th; removes = refl; extends = refl }) (λ x. refl) refl) ∙ e
 
-kept-closed : (decided : Bool) (th : Then) → Kept th (closed_at decided th)
-kept-closed decided GoOn = refl
-kept-closed decided (Answer e) = refl
+kept-closed : (found : Found) (th : Then) → Kept th (closed_at found th)
+kept-closed found GoOn = refl
+kept-closed found (Answer e) = refl
 
-pub settled-went : (ways : Ways) (commits : Bool) (n m : ℕ) (decided : Bool) (s : Step) (did : Bool) → IsAnswer (call_at s) (reply.Went did) → is_settled (went_at ways commits n m decided s did) ≡ false → is_settled s ≡ false
-settled-went ways commits n m decided (Undoing at end locks th) did a e = sym (of-undoing (Kept th) (at + 1) end locks th (λ x. refl) (λ x. refl) refl) ∙ e
-settled-went ways commits n m decided (Placing at th) did a e = kept-placing ways (at + 1) (count_at n m th) th e
-settled-went ways commits n m decided (Removing at th) did a e = e
-settled-went ways commits n m decided (Extending at th) did a e = e
-settled-went ways commits n m decided (Discarding at th) did a e = kept-placing ways (at + 1) (count_at n m th) th e
-settled-went ways commits n m decided (Unlocking at end th) did a e = sym (of-unlocking (Kept th) (at + 1) end th (λ x. refl) refl) ∙ e
-settled-went ways commits n m decided (Erasing th) did a e = sym (kept-closed decided th) ∙ e
-settled-went ways commits n m decided (Releasing x) did a e = e
-settled-went ways commits n m decided Checking did a e = absurd a
-settled-went ways commits n m decided (Ended x) did a e = absurd a
-settled-went ways commits n m decided s did a e = refl
+pub settled-went : (ways : Ways) (commits : Bool) (n m : ℕ) (found : Found) (s : Step) (did : Bool) → IsAnswer (call_at s) (reply.Went did) → is_settled (went_at ways commits n m found s did) ≡ false → is_settled s ≡ false
+settled-went ways commits n m found (Undoing at end locks th) did a e = sym (of-undoing (Kept th) (at + 1) end locks th (λ x. refl) (λ x. refl) refl) ∙ e
+settled-went ways commits n m found (Placing at th) did a e = kept-placing ways (at + 1) (count_at n m th) th e
+settled-went ways commits n m found (Removing at th) did a e = e
+settled-went ways commits n m found (Extending at th) did a e = e
+settled-went ways commits n m found (Discarding at th) did a e = kept-placing ways (at + 1) (count_at n m th) th e
+settled-went ways commits n m found (Unlocking at end th) did a e = sym (of-unlocking (Kept th) (at + 1) end th (λ x. refl) refl) ∙ e
+settled-went ways commits n m found (Erasing th) did a e = sym (kept-closed found th) ∙ e
+settled-went ways commits n m found (Releasing x) did a e = e
+settled-went ways commits n m found Checking did a e = absurd a
+settled-went ways commits n m found (Ended x) did a e = absurd a
+settled-went ways commits n m found s did a e = refl
 
 pub settled-fault : (s : Step) → is_settled (faulted_at s) ≡ true
 settled-fault Committing = refl
@@ -302,36 +299,34 @@ module _ (before after : ℕ) where
   caused-tested ways m at true = of-known (Caused before after) (ways GoOn at) at tt tt
   caused-tested ways m at false = caused-placing ways (at + 1) m GoOn tt
 
-  caused-closed : (decided : Bool) (th : Then) → ThenCaused before after th → Caused before after (closed_at decided th)
-  caused-closed decided GoOn c = tt
-  caused-closed decided (Answer e) c = c
+  caused-closed : (found : Found) (th : Then) → ThenCaused before after th → Caused before after (closed_at found th)
+  caused-closed found GoOn c = tt
+  caused-closed found (Answer e) c = c
 
-  pub caused-went : (ways : Ways) (commits : Bool) (n m : ℕ) (decided : Bool) (s : Step) (did : Bool) → IsAnswer (call_at s) (reply.Went did) → Caused before after s → Caused before after (went_at ways commits n m decided s did)
-  caused-went ways commits n m decided Seizing true a c = tt
-  caused-went ways commits n m decided Seizing false a c = tt
-  caused-went ways commits n m decided (Undoing at end locks th) did a c = caused-undoing (at + 1) end locks th c
-  caused-went ways commits n m decided (Placing at th) did a c = caused-placing ways (at + 1) (count_at n m th) th c
-  caused-went ways commits n m decided (Removing at th) did a c = c
-  caused-went ways commits n m decided (Extending at th) did a c = c
-  caused-went ways commits n m decided (Discarding at th) did a c = caused-placing ways (at + 1) (count_at n m th) th c
-  caused-went ways commits n m decided (Unlocking at end th) did a c = caused-unlocking (at + 1) end th c
-  caused-went ways commits n m decided (Erasing th) did a c = caused-closed decided th c
-  caused-went ways commits n m decided (Clearing x) did a c = of-if (Caused before after) commits Preparing _ (λ e. tt) (λ e. tt)
-  caused-went ways commits n m decided Preparing did a c = tt
-  caused-went ways commits n m decided Publishing true a c = of-locking (Caused before after) 0 n (λ l. tt) tt
-  caused-went ways commits n m decided Publishing false a c = tt
-  caused-went ways commits n m decided (Locking at) true a c = of-locking (Caused before after) (at + 1) n (λ l. tt) tt
-  caused-went ways commits n m decided (Locking at) false a c = caused-unlocking 0 at (Answer (end.Busy at)) tt
-  caused-went ways commits n m decided (Staging at) did a c = of-staging (Caused before after) (at + 1) n (λ l. tt) tt
-  caused-went ways commits n m decided Deciding did a c = tt
-  caused-went ways commits n m decided Committing true a c = caused-placing ways 0 n (Answer end.Done) tt
-  caused-went ways commits n m decided Committing false a c = tt
-  caused-went ways commits n m decided (Releasing e) did a c = c
-  caused-went ways commits n m decided Looking did a c = absurd a
-  caused-went ways commits n m decided (Loading at) did a c = absurd a
-  caused-went ways commits n m decided (Testing at) did a c = absurd a
-  caused-went ways commits n m decided Checking did a c = absurd a
-  caused-went ways commits n m decided (Ended e) did a c = absurd a
+  pub caused-went : (ways : Ways) (commits : Bool) (n m : ℕ) (found : Found) (s : Step) (did : Bool) → IsAnswer (call_at s) (reply.Went did) → Caused before after s → Caused before after (went_at ways commits n m found s did)
+  caused-went ways commits n m found (Undoing at end locks th) did a c = caused-undoing (at + 1) end locks th c
+  caused-went ways commits n m found (Placing at th) did a c = caused-placing ways (at + 1) (count_at n m th) th c
+  caused-went ways commits n m found (Removing at th) did a c = c
+  caused-went ways commits n m found (Extending at th) did a c = c
+  caused-went ways commits n m found (Discarding at th) did a c = caused-placing ways (at + 1) (count_at n m th) th c
+  caused-went ways commits n m found (Unlocking at end th) did a c = caused-unlocking (at + 1) end th c
+  caused-went ways commits n m found (Erasing th) did a c = caused-closed found th c
+  caused-went ways commits n m found (Clearing x) did a c = of-if (Caused before after) commits Preparing _ (λ e. tt) (λ e. tt)
+  caused-went ways commits n m found Preparing did a c = tt
+  caused-went ways commits n m found Publishing true a c = of-locking (Caused before after) 0 n (λ l. tt) tt
+  caused-went ways commits n m found Publishing false a c = tt
+  caused-went ways commits n m found (Locking at) true a c = of-locking (Caused before after) (at + 1) n (λ l. tt) tt
+  caused-went ways commits n m found (Locking at) false a c = caused-unlocking 0 at (Answer (end.Busy at)) tt
+  caused-went ways commits n m found (Staging at) did a c = of-staging (Caused before after) (at + 1) n (λ l. tt) tt
+  caused-went ways commits n m found Deciding did a c = tt
+  caused-went ways commits n m found Committing true a c = caused-placing ways 0 n (Answer end.Done) tt
+  caused-went ways commits n m found Committing false a c = tt
+  caused-went ways commits n m found (Releasing e) did a c = c
+  caused-went ways commits n m found Looking did a c = absurd a
+  caused-went ways commits n m found (Loading at) did a c = absurd a
+  caused-went ways commits n m found (Testing at) did a c = absurd a
+  caused-went ways commits n m found Checking did a c = absurd a
+  caused-went ways commits n m found (Ended e) did a c = absurd a
 
   pub caused-fault : (s : Step) → Rose before after → Caused before after (faulted_at s)
   caused-fault Committing r = r

@@ -11,3 +11,4 @@ pub mod AfterLemmas
 pub mod JudgeLemmas
 pub mod FrontLemmas
 pub mod DriveLemmas
+pub mod BeginLemmas

@@ -18,7 +18,7 @@ use Rattle.commit_driver.specs.declared.step.End.TheVariants as end
 use Rattle.commit_driver.specs.declared.step.Then.{Then}
 use Rattle.commit_driver.specs.declared.step.Then.TheVariants.{GoOn, Answer}
 use Rattle.commit_driver.specs.declared.step.Step.{Step}
-use Rattle.commit_driver.specs.declared.step.Step.TheVariants.{Seizing, Looking, Undoing, Placing, Testing, Removing, Extending, Discarding, Unlocking, Erasing, Clearing, Preparing, Publishing, Locking, Loading, Staging, Deciding, Committing, Checking, Releasing, Ended}
+use Rattle.commit_driver.specs.declared.step.Step.TheVariants.{Looking, Undoing, Placing, Testing, Removing, Extending, Discarding, Unlocking, Erasing, Clearing, Preparing, Publishing, Locking, Loading, Staging, Deciding, Committing, Checking, Releasing, Ended}
 use Rattle.commit_driver.specs.declared.place.Plan.{Plan}
 use Rattle.commit_driver.specs.declared.place.Place.{Place}
 use Rattle.commit_driver.specs.Steps.{call_at, count_at, staged_at, file_at, Fits}
@@ -179,7 +179,6 @@ module _ (j : Job) (plan : Plan) (place : Place) (hidden : Ending) (made : List 
   to-stage a b e = ap (λ (n : List ℕ). Some (machine.ToStage n a)) p.new_is ∙ ap (λ (c : List ℕ). Some (machine.ToStage (new_name j.actor) c)) e
 
   next-same : (s : Step) → Fits (files_of plan) (entries_of place) s → Holds j made place.files place.ways place.go s → Same s
-  next-same Seizing f h = ap (λ (n : List ℕ). Some (machine.ToSeize n)) p.right_is
   next-same Looking f h = ap (λ (n : List ℕ). Some (machine.ToLoad n)) p.record_is
   next-same (Undoing at end locks th) f h = next-undoing at end locks th f.0 (omega (arith, f.1, names-count th))
   next-same (Placing at th) f h = next-placing at th (omega (arith, f.0, names-count th))

@@ -1,5 +1,5 @@
 -- The state after a load.
-use Rattle.std.proofs.Common.{◌≡◌, ℕ, zero, suc, ◌+◌, ◌<◌, ◌≤◌, Bool, true, false, ◌||◌, nat_eq, List, [], ◌∷◌, length, map, take, drop, slice_set, is_some, refl, ap, sym, subst, inl, inr, ◌∙◌, arith, if◌then◌else◌}
+use Rattle.std.proofs.Common.{◌≡◌, ℕ, ℤ, zero, suc, ◌+◌, ◌<◌, ◌≤◌, Bool, true, false, ◌||◌, nat_eq, List, [], ◌∷◌, length, map, take, drop, slice_set, is_some, refl, ap, sym, subst, inl, inr, ◌∙◌, arith, if◌then◌else◌}
 use Rattle.std.specs.Prelude.{nat_le}
 use Rattle.std.specs.declared.option.Option.{Option}
 use Rattle.std.specs.declared.option.Option.TheVariants.{Some, None}
@@ -26,7 +26,7 @@ use Rattle.commit_record.specs.declared.way.Way.TheVariants.{Replace, Remove, Ex
 use Rattle.commit_machine.specs.Records.{is_go, names_of, record_of, has, AreDistinct}
 use Rattle.commit_machine.specs.Items.{Item, found_items}
 use Rattle.commit_machine.specs.Settled.{Files, Mem}
-use Rattle.commit_machine.specs.Jobs.{Ending, NoMemory, Refused, Edit, Job, Made, edits_of, all_of, go_of, made_at, way_made, entries_for, seen_files}
+use Rattle.commit_machine.specs.Jobs.{Ending, NoMemory, Refused, Edit, Job, Made, edits_of, all_of, go_of, moment_of, made_at, way_made, entries_for, seen_files}
 use Rattle.commit_machine.specs.Jobs as jobs
 use Rattle.commit_machine.specs.Edits.{only_adds, first_names, edit_for, edits_for, outcome_for, cause_of}
 use Rattle.commit_machine.specs.Machine.{State, GoOn, stay, loading, staging, unlocking, undoing, placing, place_one, tested, refusing, judged, mending, record_seen, looked, saw, refused, none_stands, passed_by, go_front}
@@ -136,9 +136,9 @@ module _ (j : Job) (plan : Plan) (old : Place) (p : IsPlan j plan) (q : IsPlace 
       )
   look-follows (Some bytes) now is = look-found bytes is.0 now is.1 is.2
 
-  passed-same : (go front : List ℕ) (file : Option (List ℕ)) (x : Passed) → front ≡ go_front j.token → take 47 go ≡ front → PassedSo go file x → passed_as x ≡ passed_by j file
+  passed-same : (go front : List ℕ) (file : Option (List ℕ)) (x : Passed) → front ≡ go_front (moment_of j) j.token → take 47 go ≡ front → PassedSo go file x → passed_as x ≡ passed_by j file
   passed-same go front None x f t is = ap passed_as is
-  passed-same go front (Some bytes) x f t is = ap passed_as is ∙ ap (λ (g : List ℕ). passed_as (if starts_with nat_eq bytes g then passed.After else passed.Before)) (t ∙ f) ∙ choose (starts_with nat_eq bytes (go_front j.token))
+  passed-same go front (Some bytes) x f t is = ap passed_as is ∙ ap (λ (g : List ℕ). passed_as (if starts_with nat_eq bytes g then passed.After else passed.Before)) (t ∙ f) ∙ choose (starts_with nat_eq bytes (go_front (moment_of j) j.token))
     where
       choose : (b : Bool) → passed_as (if b then passed.After else passed.Before) ≡ (if b then jobs.After else jobs.Before)
       choose true = refl
@@ -152,9 +152,9 @@ module _ (j : Job) (plan : Plan) (old : Place) (p : IsPlan j plan) (q : IsPlace 
       subst (λ (x : Place). Follows j x w) (sym is)
       (w, inl refl, record { hidden = hidden; wanted = wanted; made = made; holds = holds-tested j plan old hidden made p q (ways_of old) (entries_of old) at (is_some file); is = tested-same j plan old hidden made p q at file l })
 
-  pub check-follows : (file : Option (List ℕ)) (now : Place) (x : Passed) → take 47 old.go ≡ go_front j.token → PassedSo old.go file x → now ≡ at_step old (step.Releasing (end.Failed x)) → Follows j now (machine.Releasing (jobs.Failed (passed_by j file)))
+  pub check-follows : (file : Option (List ℕ)) (now : Place) (x : Passed) → take 47 old.go ≡ go_front (moment_of j) j.token → PassedSo old.go file x → now ≡ at_step old (step.Releasing (end.Failed x)) → Follows j now (machine.Releasing (jobs.Failed (passed_by j file)))
   check-follows file now x front so is =
-      let same = passed-same old.go (go_front j.token) file x refl front so in
+      let same = passed-same old.go (go_front (moment_of j) j.token) file x refl front so in
       subst (λ (y : Place). Follows j y (machine.Releasing (jobs.Failed (passed_by j file)))) (sym is)
       (subst (λ (w : jobs.Passed). Follows j (at_step old (step.Releasing (end.Failed x))) (machine.Releasing (jobs.Failed w))) same (follows _ _ (stands hidden (step.Releasing (end.Failed x)) wanted tt)))
 
@@ -340,8 +340,10 @@ module _ (j : Job) (plan : Plan) (old : Place) (p : IsPlan j plan) (q : IsPlace 
         let named_so : map K (map (λ (x : Made). x.edit.name) all-made) ≡ map K (names_of plan.value) = ap (map K) (names-made ∙ sym p.names_are) in
         let by_name : ways ≡ map K (names_of plan.value) = is ∙ ways-by-name all-made distinct ∙ named_so in
         let entries : decided_entries plan.value.entries ways ≡ entries_for K (all_of j) = decided-are K plan.value.entries ways by_name ∙ ap (entries_for K) p.names_are in
-        ap (λ (t : ℕ). (let r : Record = record { phase = Go; token = t; entries = decided_entries plan.value.entries ways } in r)) (p.token_is some)
-        ∙ ap (λ (es : List Entry). (let r : Record = record { phase = Go; token = j.token; entries = es } in r)) entries
+        let moment = plan.value.moment in
+        ap (λ (t : ℕ). (let r : Record = record { phase = Go; token = t; moment = moment; entries = decided_entries plan.value.entries ways } in r)) (p.token_is some)
+        ∙ ap (λ (es : List Entry). (let r : Record = record { phase = Go; token = j.token; moment = moment; entries = es } in r)) entries
+        ∙ ap (λ (m : Option ℤ). (let r : Record = record { phase = Go; token = j.token; moment = m; entries = entries_for K (all_of j) } in r)) p.moment_is
 
     -- the place once all files are loaded and judged
     abbrev Now : Step → List (Option (List ℕ)) → List Way → List ℕ → Place

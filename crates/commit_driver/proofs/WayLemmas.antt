@@ -3,7 +3,7 @@ use Rattle.std.proofs.Common.{◌≡◌, ℕ, zero, suc, ◌+◌, ◌<◌, Bool,
 use Rattle.std.specs.Str.{bytes_eq}
 use Rattle.std.specs.List.{list_all, list_any}
 use Rattle.commit_record.specs.Names.{is_lawful}
-use Rattle.commit_record.specs.Format.{are_distinct, fits_kind, fit_phase, is_valid}
+use Rattle.commit_record.specs.Format.{are_distinct, fits_kind, fits_moment, most_files, fit_phase, is_valid}
 use Rattle.commit_record.specs.Ways.{way_of, entry_for}
 use Rattle.commit_record.specs.declared.record.Record.{Record}
 use Rattle.commit_record.specs.declared.record.Entry.{Entry}
@@ -149,11 +149,13 @@ pub decided-valid : (value : Record) (ways : List Way) → length ways ≡ lengt
 decided-valid value ways l h =
     let es = value.entries in
     let ds = decided_entries es ways in
-    ap (λ (b : Bool). tests (length ds) (list_all (λ (e : Entry). is_lawful e.name) ds) (are_distinct ds && (b && true))) (decided-kinds es ways)
-    ∙ ap (λ (n : ℕ). tests n (list_all (λ (e : Entry). is_lawful e.name) ds) (are_distinct ds && true)) (decided-long es ways l)
-    ∙ ap (λ (b : Bool). tests (length es) b (are_distinct ds && true)) (decided-lawful es ways l)
-    ∙ ap (λ (b : Bool). tests (length es) (list_all (λ (e : Entry). is_lawful e.name) es) (b && true)) (decided-distinct es ways l)
-    ∙ any-phase (length es) (list_all (λ (e : Entry). is_lawful e.name) es) (are_distinct es) (list_all fits_kind es && fit_phase value.phase es) h
+    let most = most_files value.moment in
+    let fits = fits_moment value.moment in
+    ap (λ (b : Bool). tests most (length ds) (list_all (λ (e : Entry). is_lawful e.name) ds) (are_distinct ds && (b && fits))) (decided-kinds es ways)
+    ∙ ap (λ (n : ℕ). tests most n (list_all (λ (e : Entry). is_lawful e.name) ds) (are_distinct ds && fits)) (decided-long es ways l)
+    ∙ ap (λ (b : Bool). tests most (length es) b (are_distinct ds && fits)) (decided-lawful es ways l)
+    ∙ ap (λ (b : Bool). tests most (length es) (list_all (λ (e : Entry). is_lawful e.name) es) (b && fits)) (decided-distinct es ways l)
+    ∙ any-phase most (length es) (list_all (λ (e : Entry). is_lawful e.name) es) (are_distinct es) (list_all fits_kind es) (fit_phase value.phase es) fits h
 
 -- a value of one of a list
 pub get-map : {A B : Type 0} (f : A → B) (d : B) (xs : List A) (at : ℕ) (x : A) (ys : List A) → drop at xs ≡ x ∷ ys → get_or (map f xs) at d ≡ f x

@@ -37,7 +37,7 @@ use Rattle.commit_driver.specs.declared.answers.Reply.{Reply}
 use Rattle.commit_driver.specs.declared.answers.Reply.TheVariants as reply
 use Rattle.commit_driver.specs.declared.place.Plan.{Plan}
 use Rattle.commit_driver.specs.declared.place.Place.{Place}
-use Rattle.commit_driver.specs.Steps.{passed_at, placing_at, tested_at, undoing_at, unlocking_at, staging_at, faulted_at, long_at, short_at, went_at, weight}
+use Rattle.commit_driver.specs.Steps.{passed_at, placing_at, recovered_at, tested_at, undoing_at, unlocking_at, staging_at, faulted_at, long_at, short_at, went_at, weight}
 use Rattle.commit_driver.specs.Judging.{Judges, TroubleFits}
 use Rattle.commit_driver.specs.Places.{files_of, entries_of, file_ways, tails_for, ways_in, ways_of, decided_record, IsPlan, IsPlace, StandsFor}
 
@@ -137,7 +137,7 @@ SawSo plan file changes base old s now = now ≡ at_step old (step.Releasing (en
 
 -- the place after an answer, by numbers
 abbrev pub Answered : Plan → Reply → List Change → List (List ℕ) → Place → Place → Type 0
-Answered plan (reply.Went did) changes base old now = now ≡ at_step old (went_at (ways_of old) plan.commits (files_of plan) (entries_of old) (is_go old.found) old.step did)
+Answered plan (reply.Went did) changes base old now = now ≡ at_step old (went_at (ways_of old) plan.commits (files_of plan) (entries_of old) (recovered_at old.found) old.step did)
 Answered plan (reply.Saw file) changes base old now = SawSo plan file changes base old old.step now
 Answered plan (reply.Long n) changes base old now = now ≡ at_step old (long_at (files_of plan) old.step n)
 Answered plan reply.Short changes base old now = now ≡ at_step old (short_at (files_of plan) old.step)

@@ -7,7 +7,7 @@ use Rattle.host_port.specs.declared.event.Seen.TheVariants as seen
 use Rattle.folder_change.specs.declared.change.Change.{Change}
 use Rattle.commit_record.specs.declared.record.Record.{Record}
 use Rattle.commit_machine.specs.Jobs.{Ending, Job, all_of}
-use Rattle.commit_machine.specs.Machine.{Seizing, Ended, Call, ToUnlock, Reply, Went}
+use Rattle.commit_machine.specs.Machine.{Looking, Ended, Call, ToUnlock, Reply, Went}
 use Rattle.commit_machine.specs.Goes.{Goes}
 use Rattle.commit_driver.specs.declared.step.End.{End}
 use Rattle.commit_driver.specs.Did.{Did}
@@ -34,10 +34,10 @@ abbrev pub is_past_limit : Event → Bool
 is_past_limit (Load name (seen.TooLarge length)) = true
 is_past_limit e = false
 
--- The events carry the machine of the job from its start to this end, if this record was found. Running out of memory hides no load that
--- met too many bytes.
+-- The events carry the machine of the job from where its right was taken to this end, if this record was found. Running out of memory
+-- hides no load that met too many bytes.
 pub record Drives (j : Job) (found : Record) (es : List Event) (result : End) : Type 0 where
   pub hidden : Ending
   pub wanted : WantedAs (all_of j) hidden
   pub within : settled_end result ≡ false → list_any is_past_limit es ≡ false
-  pub goes : Goes j Seizing es (Ended (end_as j hidden found result))
+  pub goes : Goes j Looking es (Ended (end_as j hidden found result))

@@ -4,3 +4,4 @@ pub mod Places
 pub mod Judging
 pub mod Answers
 pub mod Drives
+pub mod Beginnings

@@ -5,7 +5,7 @@ use Rattle.std.specs.declared.option.Option.TheVariants.{Some, None}
 use Rattle.std.specs.Option.{option_map}
 use Rattle.host_port.specs.Names.{IsFileName}
 use Rattle.folder_change.specs.Outcomes.{bytes_of}
-use Rattle.commit_record.specs.Format.{is_valid, written}
+use Rattle.commit_record.specs.Format.{is_valid, file_limit, written}
 use Rattle.commit_record.specs.declared.record.Phase.TheVariants.{Prepare, Go}
 use Rattle.commit_record.specs.Ways.{way_of, entry_for}
 use Rattle.commit_record.specs.declared.record.Entry.{Entry}
@@ -15,7 +15,7 @@ use Rattle.commit_record.specs.declared.way.Way.TheVariants.{Replace, Remove, Ex
 use Rattle.commit_machine.specs.Names.{record_name, new_name, right_name, staged_name}
 use Rattle.commit_machine.specs.Records.{names_of, AreDistinct}
 use Rattle.commit_machine.specs.Settled.{Mem}
-use Rattle.commit_machine.specs.Jobs.{Ending, Outcome, Puts, Edit, Job, Made, edits_of, all_of, prepare_of, go_of}
+use Rattle.commit_machine.specs.Jobs.{Ending, Outcome, Puts, Edit, Job, Made, moment_of, edits_of, all_of, prepare_of, go_of}
 use Rattle.commit_machine.specs.Jobs as jobs
 use Rattle.commit_machine.specs.Edits.{only_adds}
 use Rattle.folder_change.specs.declared.change.Change.{Change}
@@ -41,9 +41,9 @@ use Rattle.commit_driver.specs.declared.place.Plan.{Plan}
 use Rattle.commit_driver.specs.declared.place.Place.{Place}
 use Rattle.commit_driver.specs.Steps.{Ways, Fits}
 
--- a place before the first call, with room for as many files as these
+-- a place once the right was taken, with room for as many files as these
 abbrev pub begun : List (Option (List ℕ)) → Place
-begun files = record { step = step.Seizing; found = record { phase = Prepare; token = 0; entries = [] }; found_staged = []; seen = None; files = files; ways = []; go = [] }
+begun files = record { step = step.Looking; found = record { phase = Prepare; token = 0; moment = None; entries = [] }; found_staged = []; seen = None; files = files; ways = []; go = [] }
 
 -- how many files a plan has, and how many entries the record that was found
 abbrev pub files_of : Plan → ℕ
@@ -90,7 +90,7 @@ decided_entries (e ∷ es) (way ∷ ways) = entry_for way e.name ∷ decided_ent
 
 -- the record of the decision, of files that come to be so
 abbrev pub decided_record : Record → List Way → Record
-decided_record value ways = record { phase = Go; token = value.token; entries = decided_entries value.entries ways }
+decided_record value ways = record { phase = Go; token = value.token; moment = value.moment; entries = decided_entries value.entries ways }
 
 -- the name with this number
 abbrev pub nth : List (List ℕ) → ℕ → List ℕ
@@ -128,7 +128,6 @@ call_in plan place (call.Erase x) = machine.ToErase (name_in plan place x)
 call_in plan place (call.Lock k) = machine.ToLock (nth (names_of plan.value) k) plan.value.token
 call_in plan place (call.Unlock k) = machine.ToUnlock (nth (names_of plan.value) k) plan.value.token
 call_in plan place (call.UnlockFound k) = machine.ToUnlock (nth (names_of place.found) k) place.found.token
-call_in plan place call.Seize = machine.ToSeize plan.right
 call_in plan place call.Release = machine.ToRelease plan.right
 
 abbrev pub passed_as : Passed → jobs.Passed
@@ -138,14 +137,13 @@ passed_as passed.Unknown = jobs.Unknown
 
 abbrev pub found_as : Recovered → jobs.Found
 found_as recovered.Nothing = jobs.Nothing
-found_as recovered.RolledBack = jobs.RolledBack
-found_as recovered.Finished = jobs.Finished
+found_as (recovered.RolledBack moment) = jobs.RolledBack moment
+found_as (recovered.Finished moment) = jobs.Finished moment
 
 -- The machine's end that an end is, if this record was found. Running out of memory may stand for another end, which it hides.
 abbrev pub end_as : Job → Ending → Record → End → Ending
 end_as j hidden found end.Done = jobs.Done
 end_as j hidden found (end.Recovered f) = jobs.Recovered (found_as f)
-end_as j hidden found end.RightBusy = jobs.Refused (jobs.Busy (right_name j.actor))
 end_as j hidden found (end.Busy k) = jobs.Refused (jobs.Busy (nth (all_of j) k))
 end_as j hidden found end.NotARecord = jobs.Refused jobs.NotARecord
 end_as j hidden found (end.RecordTooLarge n) = jobs.Refused (jobs.TooLarge (record_name j.actor) n)
@@ -204,7 +202,6 @@ made_from (e ∷ es) (file ∷ files) = made_by e file (e.by file) ∷ made_from
 -- The state that a step stands for: in a job, with what running out of memory hides, what was made of the files, the record that was found,
 -- what was seen of a staged file of it, and the files that were loaded.
 abbrev pub state_as : Job → Ending → List Made → Record → Option (List ℕ) → List (Option (List ℕ)) → Step → State
-state_as j hidden made found seen files step.Seizing = machine.Seizing
 state_as j hidden made found seen files step.Looking = machine.Looking
 state_as j hidden made found seen files (step.Undoing at end locks th) =
     undoing (record_as j made found th) (drop at (take end (names_as j found th))) (take locks (names_as j found th)) (then_as j hidden found th)
@@ -256,6 +253,7 @@ pub record IsPlan (j : Job) (plan : Plan) : Type 0 where
   pub right_is : plan.right ≡ right_name j.actor
   pub commits_is : plan.commits ≡ is_some j.edits
   pub token_is : 1 ≤ files_of plan → plan.value.token ≡ j.token
+  pub moment_is : plan.value.moment ≡ moment_of j
   pub names_are : names_of plan.value ≡ all_of j
   pub staged_are : plan.staged ≡ map (staged_name j.token) (all_of j)
   pub texts_are : is_some j.edits ≡ true → AreTexts j plan
@@ -287,7 +285,7 @@ Holds j made files ways go (step.Loading at) = is_some j.edits ≡ true
 Holds j made files ways go (step.Staging at) = IsMade j made files ways go
 Holds j made files ways go step.Deciding = IsMade j made files ways go
 Holds j made files ways go step.Committing = IsMade j made files ways go
-Holds j made files ways go step.Checking = take 47 go ≡ go_front j.token
+Holds j made files ways go step.Checking = take 47 go ≡ go_front (moment_of j) j.token
 Holds j made files ways go s = Unit {0}
 
 -- The place stands for this state of the job.
@@ -302,7 +300,7 @@ pub record StandsFor (j : Job) (place : Place) (s : State) : Type 0 where
 pub record IsPlace (plan : Plan) (place : Place) : Type 0 where
   pub fits : Fits (files_of plan) (entries_of place) place.step
   pub staged_are : place.found_staged ≡ map (staged_name place.found.token) (names_of place.found)
-  pub few : entries_of place ≤ 16
+  pub few : entries_of place ≤ file_limit
   pub files_are : length place.files ≡ files_of plan
   pub distinct : AreDistinct (names_of place.found)
   pub names : All IsFileName (names_of place.found)
@@ -316,7 +314,7 @@ pub record IsSafe (plan : Plan) : Type 0 where
   pub names : All IsFileName (names_of plan.value)
   pub staged : All IsFileName plan.staged
   pub staged_long : length plan.staged ≡ files_of plan
-  pub few : files_of plan ≤ 16
+  pub few : files_of plan ≤ file_limit
   pub some : plan.commits ≡ true → 1 ≤ files_of plan
   pub valid : 1 ≤ files_of plan → is_valid plan.value ≡ true
 

@@ -1,16 +1,20 @@
 -- How far a job has come, by numbers alone.
 use Rattle.std.specs.Prelude.{◌<◌, ◌≤◌, ◌+◌, ◌-◌, ◌*◌, ℕ, Bool, true, false, Option, Some, None, nat_lt, if◌then◌else◌}
+use Rattle.commit_record.specs.Format.{file_limit}
+use Rattle.commit_record.specs.declared.record.Record.{Record}
 use Rattle.commit_record.specs.declared.way.Way.{Way}
 use Rattle.commit_record.specs.declared.way.Way.TheVariants.{Replace, Remove, Extend}
+use Rattle.commit_machine.specs.Records.{is_go}
 use Rattle.commit_driver.specs.declared.step.Passed.{Passed}
 use Rattle.commit_driver.specs.declared.step.Passed.TheVariants.{Before, After, Unknown}
+use Rattle.commit_driver.specs.declared.step.Recovered.{Recovered as Found}
 use Rattle.commit_driver.specs.declared.step.Recovered.TheVariants as recovered
 use Rattle.commit_driver.specs.declared.step.End.{End}
-use Rattle.commit_driver.specs.declared.step.End.TheVariants.{Done, Recovered, RightBusy, Busy, NotARecord, RecordTooLarge, StagedTooLarge, TooLarge, Changed, Failed, NoMemory}
+use Rattle.commit_driver.specs.declared.step.End.TheVariants.{Done, Recovered, Busy, NotARecord, RecordTooLarge, StagedTooLarge, TooLarge, Changed, Failed, NoMemory}
 use Rattle.commit_driver.specs.declared.step.Then.{Then}
 use Rattle.commit_driver.specs.declared.step.Then.TheVariants.{GoOn, Answer}
 use Rattle.commit_driver.specs.declared.step.Step.{Step}
-use Rattle.commit_driver.specs.declared.step.Step.TheVariants.{Seizing, Looking, Undoing, Placing, Testing, Removing, Extending, Discarding, Unlocking, Erasing, Clearing, Preparing, Publishing, Locking, Loading, Staging, Deciding, Committing, Checking, Releasing, Ended}
+use Rattle.commit_driver.specs.declared.step.Step.TheVariants.{Looking, Undoing, Placing, Testing, Removing, Extending, Discarding, Unlocking, Erasing, Clearing, Preparing, Publishing, Locking, Loading, Staging, Deciding, Committing, Checking, Releasing, Ended}
 use Rattle.commit_driver.specs.declared.next.Name.{Name}
 use Rattle.commit_driver.specs.declared.next.Name.TheVariants as name
 use Rattle.commit_driver.specs.declared.next.Call.{Call}
@@ -35,7 +39,6 @@ extend_at (Answer e) at = call.Extend at
 
 -- the call that a step is for
 abbrev pub call_at : Step → Option Call
-call_at Seizing = Some call.Seize
 call_at Looking = Some (call.Load name.Record)
 call_at (Undoing at end locks th) = Some (call.Erase (staged_at th at))
 call_at (Placing at th) = Some (call.Publish (staged_at th at) (file_at th at))
@@ -198,34 +201,40 @@ abbrev pub tested_at : Ways → ℕ → ℕ → Bool → Step
 tested_at ways m at true = known_at (ways GoOn at) at
 tested_at ways m at false = placing_at ways (at + 1) m GoOn
 
--- after a record was closed that was decided or wasn't
-abbrev pub closed_at : Bool → Then → Step
-closed_at decided GoOn = Clearing (if decided then recovered.Finished else recovered.RolledBack)
-closed_at decided (Answer e) = Releasing e
+-- what a record that was found comes to
+abbrev pub recovered_at : Record → Found
+recovered_at r = if is_go r then recovered.Finished r.moment else recovered.RolledBack r.moment
 
--- After a call that went so: in a commit or not, of n files, if a record of m entries was found that was decided or wasn't.
-abbrev pub went_at : Ways → Bool → ℕ → ℕ → Bool → Step → Bool → Step
-went_at ways commits n m decided Seizing true = Looking
-went_at ways commits n m decided Seizing false = Ended RightBusy
-went_at ways commits n m decided (Undoing at end locks th) did = undoing_at (at + 1) end locks th
-went_at ways commits n m decided (Placing at th) did = placing_at ways (at + 1) (count_at n m th) th
-went_at ways commits n m decided (Removing at th) did = Discarding at th
-went_at ways commits n m decided (Extending at th) did = Discarding at th
-went_at ways commits n m decided (Discarding at th) did = placing_at ways (at + 1) (count_at n m th) th
-went_at ways commits n m decided (Unlocking at end th) did = unlocking_at (at + 1) end th
-went_at ways commits n m decided (Erasing th) did = closed_at decided th
-went_at ways commits n m decided (Clearing found) did = if commits then Preparing else Releasing (Recovered found)
-went_at ways commits n m decided Preparing did = Publishing
-went_at ways commits n m decided Publishing true = locking_at 0 n
-went_at ways commits n m decided Publishing false = Releasing NotARecord
-went_at ways commits n m decided (Locking at) true = locking_at (at + 1) n
-went_at ways commits n m decided (Locking at) false = unlocking_at 0 at (Answer (Busy at))
-went_at ways commits n m decided (Staging at) did = staging_at (at + 1) n
-went_at ways commits n m decided Deciding did = Committing
-went_at ways commits n m decided Committing true = placing_at ways 0 n (Answer Done)
-went_at ways commits n m decided Committing false = Releasing NotARecord
-went_at ways commits n m decided (Releasing e) did = Ended e
-went_at ways commits n m decided s did = Releasing (Failed (passed_at s))
+-- after a record was closed: one that was found came to this
+abbrev pub closed_at : Found → Then → Step
+closed_at found GoOn = Clearing found
+closed_at found (Answer e) = Releasing e
+
+-- After a call that went so: in a commit or not, of n files, if a record of m entries was found that came to this.
+abbrev pub went_at : Ways → Bool → ℕ → ℕ → Found → Step → Bool → Step
+went_at ways commits n m found (Undoing at end locks th) did = undoing_at (at + 1) end locks th
+went_at ways commits n m found (Placing at th) did = placing_at ways (at + 1) (count_at n m th) th
+went_at ways commits n m found (Removing at th) did = Discarding at th
+went_at ways commits n m found (Extending at th) did = Discarding at th
+went_at ways commits n m found (Discarding at th) did = placing_at ways (at + 1) (count_at n m th) th
+went_at ways commits n m found (Unlocking at end th) did = unlocking_at (at + 1) end th
+went_at ways commits n m found (Erasing th) did = closed_at found th
+went_at ways commits n m found (Clearing cleared) did = if commits then Preparing else Releasing (Recovered cleared)
+went_at ways commits n m found Preparing did = Publishing
+went_at ways commits n m found Publishing true = locking_at 0 n
+went_at ways commits n m found Publishing false = Releasing NotARecord
+went_at ways commits n m found (Locking at) true = locking_at (at + 1) n
+went_at ways commits n m found (Locking at) false = unlocking_at 0 at (Answer (Busy at))
+went_at ways commits n m found (Staging at) did = staging_at (at + 1) n
+went_at ways commits n m found Deciding did = Committing
+went_at ways commits n m found Committing true = placing_at ways 0 n (Answer Done)
+went_at ways commits n m found Committing false = Releasing NotARecord
+went_at ways commits n m found (Releasing e) did = Ended e
+went_at ways commits n m found s did = Releasing (Failed (passed_at s))
+
+-- more than is left to do within a rank: three calls for each file, and one more
+abbrev pub round : ℕ
+round = 3 * file_limit + 3
 
 -- how much is left to do, at most: each answer makes it less
 abbrev pub then_rank : Then → ℕ
@@ -233,24 +242,23 @@ then_rank GoOn = 10
 then_rank (Answer e) = 0
 
 abbrev pub weight : Step → ℕ
-weight Seizing = 20 * 51
-weight Looking = 19 * 51
-weight (Undoing at end locks th) = (then_rank th + 5) * 51 + (16 - at)
-weight (Placing at th) = (then_rank th + 5) * 51 + (3 * (16 - at) + 2)
-weight (Testing at) = 15 * 51 + (3 * (16 - at) + 2)
-weight (Removing at th) = (then_rank th + 5) * 51 + (3 * (16 - at) + 1)
-weight (Extending at th) = (then_rank th + 5) * 51 + (3 * (16 - at) + 1)
-weight (Discarding at th) = (then_rank th + 5) * 51 + 3 * (16 - at)
-weight (Unlocking at end th) = (then_rank th + 4) * 51 + (16 - at)
-weight (Erasing th) = (then_rank th + 3) * 51
-weight (Clearing found) = 12 * 51 + 8
-weight Preparing = 12 * 51
-weight Publishing = 11 * 51
-weight (Locking at) = 10 * 51 + (16 - at)
-weight (Loading at) = 9 * 51 + (16 - at)
-weight (Staging at) = 8 * 51 + (16 - at)
-weight Deciding = 7 * 51
-weight Committing = 6 * 51 + 16
-weight Checking = 2 * 51
-weight (Releasing e) = 51
+weight Looking = 19 * round
+weight (Undoing at end locks th) = (then_rank th + 5) * round + (file_limit - at)
+weight (Placing at th) = (then_rank th + 5) * round + (3 * (file_limit - at) + 2)
+weight (Testing at) = 15 * round + (3 * (file_limit - at) + 2)
+weight (Removing at th) = (then_rank th + 5) * round + (3 * (file_limit - at) + 1)
+weight (Extending at th) = (then_rank th + 5) * round + (3 * (file_limit - at) + 1)
+weight (Discarding at th) = (then_rank th + 5) * round + 3 * (file_limit - at)
+weight (Unlocking at end th) = (then_rank th + 4) * round + (file_limit - at)
+weight (Erasing th) = (then_rank th + 3) * round
+weight (Clearing found) = 12 * round + 8
+weight Preparing = 12 * round
+weight Publishing = 11 * round
+weight (Locking at) = 10 * round + (file_limit - at)
+weight (Loading at) = 9 * round + (file_limit - at)
+weight (Staging at) = 8 * round + (file_limit - at)
+weight Deciding = 7 * round
+weight Committing = 6 * round + file_limit
+weight Checking = 2 * round
+weight (Releasing e) = round
 weight (Ended e) = 0

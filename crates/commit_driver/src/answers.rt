@@ -8,7 +8,7 @@ ghost use Rattle.commit_machine.specs.Records.{has, names_of};
 ghost use Rattle.folder_change.specs.Changes.{name_of};
 ghost use Rattle.commit_driver.specs.declared.step.Step.TheVariants as Step;
 ghost use Rattle.commit_record.specs.Format.{is_valid};
-ghost use Rattle.commit_driver.specs.Steps.{call_at, unlocking_at, undoing_at, place_at, known_at, placing_at, tested_at, locking_at, staging_at, count_at, closed_at, passed_end, passed_then, passed_at, faulted_at, long_at, short_at, went_at, Fits};
+ghost use Rattle.commit_driver.specs.Steps.{call_at, unlocking_at, undoing_at, place_at, known_at, placing_at, tested_at, locking_at, staging_at, count_at, recovered_at, closed_at, passed_end, passed_then, passed_at, faulted_at, long_at, short_at, went_at, Fits};
 ghost use Rattle.commit_driver.specs.Places.{files_of, entries_of, ways_of, IsPlace, IsSafe};
 ghost use Rattle.commit_driver.specs.Answers.{Finds, PassedSo, Looks, WritesGo, Settles, Takes, SawSo, Answered, IsAnswer, IsAfter, mending_at, judged_at};
 
@@ -182,13 +182,23 @@ fn tested(place: &Place, at: usize, stands: bool) -> Step
     }
 }
 
-// After a record was closed that was decided or wasn't.
-fn closed(decided: bool, then: Then) -> Step
-    ensures { result ≡ closed_at decided then }
+// What a record that was found comes to.
+fn recovered(found: &Record) -> Recovered
+    ensures { result ≡ recovered_at found.now }
+{
+    let moment = found.moment;
+    match found.phase {
+        Phase::Go => Recovered::Finished { moment },
+        Phase::Prepare => Recovered::RolledBack { moment },
+    }
+}
+
+// After a record was closed: one that was found came to this.
+fn closed(found: Recovered, then: Then) -> Step
+    ensures { result ≡ closed_at found then }
 {
     match then {
-        Then::GoOn if decided => Step::Clearing(Recovered::Finished),
-        Then::GoOn => Step::Clearing(Recovered::RolledBack),
+        Then::GoOn => Step::Clearing(found),
         Then::Answer(end) => Step::Releasing(end),
     }
 }
@@ -263,16 +273,14 @@ fn went(commits: bool, files: usize, place: &Place, did: bool) -> Step
     requires fits { Fits files (entries_of place.now) place.now.step }
     requires files { files ≡ length place.now.files }
     ensures { result ≡ went_at (ways_of place.now) commits files (entries_of place.now)
-        (is_go place.now.found) place.now.step did }
+        (recovered_at place.now.found) place.now.step did }
 {
     match place.step {
-        Step::Seizing if did => Step::Looking,
-        Step::Seizing => Step::Ended(End::RightBusy),
         Step::Undoing(at, end, locks, then) => undoing(at + 1, end, locks, then),
         Step::Placing(at, then) | Step::Discarding(at, then) => placing_next(place, at, then),
         Step::Removing(at, then) | Step::Extending(at, then) => Step::Discarding(at, then),
         Step::Unlocking(at, end, then) => unlocking(at + 1, end, then),
-        Step::Erasing(then) => closed(is_decided(&place.found), then),
+        Step::Erasing(then) => closed(recovered(&place.found), then),
         Step::Clearing(_) if commits => Step::Preparing,
         Step::Clearing(found) => Step::Releasing(End::Recovered(found)),
         Step::Preparing => Step::Publishing,

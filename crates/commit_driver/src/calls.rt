@@ -3,11 +3,18 @@ ghost use Rattle.std.specs.Prelude.{true, OnErr};
 ghost use Rattle.host_port.specs.Calls.{Rose, LoadCause};
 ghost use Rattle.host_port.specs.Names.{IsFileName};
 ghost use Rattle.host_port.specs.Ran.{Ran};
-ghost use Rattle.commit_machine.specs.Machine.{ToLoad, ToStage, ToPublish, ToExtend, ToErase, ToLock, ToSeize, ToRelease, Went};
+ghost use Rattle.commit_machine.specs.Machine.{ToAsk, ToLoad, ToStage, ToPublish, ToExtend, ToErase, ToLock, ToSeize, ToRelease, Went};
 ghost use Rattle.commit_driver.specs.Did.{Did, DidUnlock, told_reply, done_reply, load_reply};
 
 use host_port::{DiskFault, Host, LoadAnswer, LoadError};
 use std::alloc::Global;
+
+/// Asks for the time.
+pub fn ask<H: Host>(host: &mut H) -> i64
+    ensures ran { Ran H.world host.old host.new (Did (ToAsk result) (Went true)) }
+{
+    host.now()
+}
 
 /// Loads a file.
 pub fn load<H: Host>(alloc: Global, host: &mut H, name: &[u8]) -> Result<LoadAnswer, LoadError>

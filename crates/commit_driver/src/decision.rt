@@ -130,6 +130,7 @@ fn decided_text(alloc: Global, value: &Record, ways: &[Way]) -> Result<Text, Mem
     let decided = Record {
         phase: Phase::Go,
         token: value.token,
+        moment: value.moment,
         entries: decided_entries(alloc, value.entries.items(), ways)?,
     };
     write(alloc, &decided)

@@ -14,7 +14,7 @@ ghost use Rattle.commit_driver.specs.Places.{files_of, entries_of, content_at, c
 ghost use Rattle.commit_driver.specs.Answers.{IsAnswer, ReplyCaused, EndCaused, reply_as};
 ghost use Rattle.commit_driver.specs.Drives.{Performed, IsFor, Drives};
 
-use crate::calls::{erase, extend, load, lock, publish, release, seize, stage, unlock};
+use crate::calls::{erase, extend, load, lock, publish, release, stage, unlock};
 use crate::decision::own_way;
 use crate::{Call, End, Name, Place, Plan, Reply, Step, after, named, next_call};
 use commit_record::{Way, way_of};
@@ -137,7 +137,6 @@ pub fn perform<H: Host>(
         Call::UnlockFound(at) => {
             done(unlock(host, named(plan, place, Name::Found(at)), place.found.token))
         }
-        Call::Seize => told(seize(host, plan.right.bytes())),
         Call::Release => {
             release(host, plan.right.bytes());
             Reply::Went(true)
@@ -155,8 +154,8 @@ fn end_at(step: Step) -> End
     }
 }
 
-/// Drives a job over the host, from its start to its end, and gives the end with the last place. Its own events are,
-/// one by one, the machine's next calls.
+/// Drives a job over the host, from where its right was taken to its end, and gives the end with the last place. Its own
+/// events are, one by one, the machine's next calls.
 pub fn drive<H: Host>(
     alloc: Global,
     plan: &Plan,

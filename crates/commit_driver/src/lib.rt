@@ -3,6 +3,7 @@
 #![tactic(auto)]
 
 mod answers;
+mod beginning;
 pub mod calls;
 mod decision;
 mod driving;
@@ -12,6 +13,7 @@ mod place;
 mod step;
 
 pub use answers::{Reply, after, staged_names};
+pub use beginning::{Begun, begin};
 pub use driving::{drive, perform};
 pub use next::{Call, Name, named, next_call};
 pub use place::{Place, Plan};

@@ -48,7 +48,6 @@ pub enum Call {
     Unlock(usize),
     /// The lock of an entry's file is taken away.
     UnlockFound(usize),
-    Seize,
     Release,
 }
 
@@ -77,7 +76,6 @@ fn call_at(step: Step) -> Option<Call>
     ensures { result ≡ call_at step }
 {
     match step {
-        Step::Seizing => Some(Call::Seize),
         Step::Looking | Step::Checking => Some(Call::Load(Name::Record)),
         Step::Undoing(at, _, _, then) => Some(Call::Erase(staged_at(then, at))),
         Step::Placing(at, then) => Some(Call::Publish(staged_at(then, at), file_at(then, at))),

@@ -46,15 +46,16 @@ pub struct Place {
 }
 
 impl Place {
-    /// A job that hasn't begun, with room for its files. It takes no memory.
+    /// A job whose right was just taken, with room for its files. It takes no memory.
     pub fn new(alloc: Global, files: Items<Option<Text>>) -> Place
         ensures { result ≡ begun files }
     {
         Place {
-            step: Step::Seizing,
+            step: Step::Looking,
             found: Record {
                 phase: Phase::Prepare,
                 token: 0,
+                moment: None,
                 entries: Items::new(alloc),
             },
             found_staged: Items::new(alloc),

@@ -16,10 +16,10 @@ pub enum Passed {
 pub enum Recovered {
     /// No record stood.
     Nothing,
-    /// A commit that wasn't decided was undone.
-    RolledBack,
+    /// A commit that wasn't decided was undone. Its record had this moment, in seconds since 1970 in UTC.
+    RolledBack { moment: Option<i64> },
     /// A commit that was decided was carried out.
-    Finished,
+    Finished { moment: Option<i64> },
 }
 
 /// How a job ends. A file goes by its number in the plan, and an entry by that in the record that was found, from 0.
@@ -29,8 +29,6 @@ pub enum End {
     Done,
     /// A recovery is done.
     Recovered(Recovered),
-    /// Another has the right.
-    RightBusy,
     /// Another has the lock of this file.
     Busy(usize),
     /// What stands as the record is none.
@@ -62,8 +60,6 @@ pub enum Then {
 /// next, and of how many there are to do.
 #[derive(Clone, Copy)]
 pub enum Step {
-    /// The right is taken.
-    Seizing,
     /// The record that stands is loaded.
     Looking,
     /// A staged file of this entry is taken away, up to the second number; as many locks as the third follow.
