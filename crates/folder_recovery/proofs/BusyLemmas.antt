@@ -1,5 +1,5 @@
 -- Another had the right where a recovery answers so, and a recovery that nothing hinders is done.
-use Rattle.std.proofs.Common.{◌≡◌, ℕ, Bool, true, false, List, [], ◌∷◌, if◌then◌else◌, refl, ap, sym, subst, inl, inr}
+use Rattle.std.proofs.Common.{◌≡◌, ℕ, ℤ, Bool, true, false, List, [], ◌∷◌, if◌then◌else◌, refl, ap, sym, subst, inl, inr}
 use Rattle.std.specs.List.{list_any}
 use Rattle.std.specs.declared.option.Option.{Option}
 use Rattle.std.specs.declared.option.Option.TheVariants.{Some, None}
@@ -21,7 +21,7 @@ use Rattle.commit_machine.specs.Names.{record_name, right_name}
 use Rattle.commit_machine.specs.Records.{record_of}
 use Rattle.commit_machine.specs.Settled.{Mem}
 use Rattle.commit_machine.specs.Jobs.{Before, Busy, Ending, Refused, Failed, Job}
-use Rattle.commit_machine.specs.Machine.{State, Seizing, Looking, Releasing, next, after_reply}
+use Rattle.commit_machine.specs.Machine.{State, Seizing, Looking, Releasing, asking, next, after_reply}
 use Rattle.commit_machine.specs.Goes.{IsNext, Goes, reply}
 use Rattle.commit_machine.specs.Edits.{recovery_for}
 use Rattle.commit_machine.specs.Restraints.{is_failed}
@@ -134,10 +134,10 @@ module _ (j : Job) where
       let w = release-is (right_name j.actor) e (subst (λ (s : State). IsNext (next j s) e) at is) in
       subst (λ (x : Event). IsFine (end_by j.actor (event.Seize n true true ∷ x ∷ es))) (sym w) tt
 
-  by-fine : (es : List Event) (last : State) → Goes j Seizing es last → Free j.actor es → IsFine (end_by j.actor es)
-  by-fine [] last goes h = tt
-  by-fine (e ∷ es) last (now, inr at, is, more) h = absurd (subst (λ (s : State). IsNext (next j s) e) at is)
-  by-fine (e ∷ es) last (now, inl at, is, more) h =
+  by-fine : j.time ≡ None → (es : List Event) (last : State) → Goes j Seizing es last → Free j.actor es → IsFine (end_by j.actor es)
+  by-fine none [] last goes h = tt
+  by-fine none (e ∷ es) last (now, inr at, is, more) h = absurd (subst (λ (s : State). IsNext (next j s) e) at is)
+  by-fine none (e ∷ es) last (now, inl at, is, more) h =
       let w = seize-is (right_name j.actor) e (subst (λ (s : State). IsNext (next j s) e) at is) in
       let there : Goes j (after_reply j Seizing (reply e)) es last = subst (λ (s : State). Goes j (after_reply j s (reply e)) es last) at more in
       let F : Event → Type 0 = λ x. Free j.actor (x ∷ es) → Goes j (after_reply j Seizing (reply x)) es last → IsFine (end_by j.actor (x ∷ es)) in
@@ -146,7 +146,7 @@ module _ (j : Job) where
       go : (got failed : Bool) → Free j.actor (event.Seize (right_name j.actor) got failed ∷ es) → Goes j (after_reply j Seizing (reply (event.Seize (right_name j.actor) got failed))) es last → IsFine (end_by j.actor (event.Seize (right_name j.actor) got failed ∷ es))
       go false failed f goes = absurd (cc)
       go true true f goes = fails-fine (right_name j.actor) es last goes
-      go true false f goes = looks-fine (right_name j.actor) false es last goes (free-more j.actor (event.Seize (right_name j.actor) true false) es f)
+      go true false f goes = looks-fine (right_name j.actor) false es last (subst (λ (o : Option ℤ). Goes j (asking o) es last) none goes) (free-more j.actor (event.Seize (right_name j.actor) true false) es f)
 
 unless-fine : (es : List Event) (end : Ending) → IsFine end → IsFine (unless_failed es end)
 unless-fine es end h = go (list_any is_failed es)
@@ -176,7 +176,7 @@ pub completes : (actor : List ℕ) (token : ℕ) (es : List Event) (before now :
 completes actor token es before now result h cause quiet free =
     let j = recovery_for actor token in
     let w = goes-so j es result h in
-    fine-told actor es before now result (unless-fine es (end_by actor es) (by-fine j es w.0 w.1 free)) (is-told actor token es result h) cause quiet
+    fine-told actor es before now result (unless-fine es (end_by actor es) (by-fine j refl es w.0 w.1 free)) (is-told actor token es result h) cause quiet
 
 -- of a host
 pub ran-completely : {H : Type 0} {w : World H} {old new : H} (actor : List ℕ) (result : Result Answer RecoverError)

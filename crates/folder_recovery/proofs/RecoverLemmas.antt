@@ -2,11 +2,12 @@
 use Rattle.std.proofs.Common.{◌≡◌, ◌≤◌, ℕ, true, List, [], length, map, refl, ap, sym, subst, inl, inr, ◌∙◌, arith}
 use Rattle.std.proofs.lemmas.List.Elements.{All-nil}
 use Rattle.std.specs.declared.result.Result.{Result}
-use Rattle.std.specs.declared.result.Result.TheVariants.{Err}
+use Rattle.std.specs.declared.result.Result.TheVariants.{Ok, Err}
 use Rattle.host_port.specs.declared.event.Event.{Event}
 use Rattle.host_port.specs.Calls.{Counts}
 use Rattle.host_port.specs.Names.{IsFileName, has_no_zero}
-use Rattle.commit_machine.specs.Names.{actor_limit, staged_name}
+use Rattle.host_port.proofs.RanLemmas.{rose-back}
+use Rattle.commit_machine.specs.Names.{actor_limit, right_name, staged_name}
 use Rattle.commit_machine.specs.Records.{names_of}
 use Rattle.commit_machine.specs.Jobs.{Ending, Before, Refused, Failed, NoMemory, Job}
 use Rattle.commit_machine.specs.Jobs as jobs
@@ -19,7 +20,9 @@ use Rattle.commit_driver.specs.declared.place.Place.{Place}
 use Rattle.commit_driver.specs.Steps.{EndFits}
 use Rattle.commit_driver.specs.Places.{nth, WantedAs, IsPlan, IsSafe}
 use Rattle.commit_driver.specs.Answers.{EndCaused}
-use Rattle.commit_driver.specs.Drives.{Drives}
+use Rattle.commit_driver.specs.declared.beginning.Begun.TheVariants as begun
+use Rattle.commit_driver.specs.Beginnings.{Begins}
+use Rattle.commit_driver.proofs.BeginLemmas.{Driven}
 use Rattle.commit_driver.proofs.StateLemmas.{length-map}
 use Rattle.commit_driver.proofs.NextLemmas.{nth-of, names-long}
 use Rattle.commit_driver.proofs.FileLemmas.{record-file, new-file, right-file}
@@ -48,6 +51,7 @@ is-plan actor token = record {
   right_is = refl;
   commits_is = refl;
   token_is = λ l. absurd (omega (arith, l));
+  moment_is = refl;
   names_are = refl;
   staged_are = refl;
   texts_are = λ e. absurd (cc);
@@ -63,10 +67,9 @@ pub staged-long : (place : Place) → place.found_staged ≡ map (staged_name pl
 staged-long place staged = ap length staged ∙ length-map (staged_name place.found.token) (names_of place.found) ∙ names-long place.found
 
 -- the answer is as the machine ended
-pub recovers : (actor : List ℕ) (token : ℕ) (place : Place) (e : End) (es : List Event) → place.found_staged ≡ map (staged_name place.found.token) (names_of place.found) → EndFits 0 (length place.found.entries) e → Drives (recovery_for actor token) place.found es e
+pub recovers : (actor : List ℕ) (token : ℕ) (place : Place) (e : End) (es : List Event) → place.found_staged ≡ map (staged_name place.found.token) (names_of place.found) → EndFits 0 (length place.found.entries) e → Driven (recovery_for actor token) place.found es e
     → Recovers (recovery_for actor token) es (answer_of e (recovery_plan actor) place)
 recovers actor token place (end.Recovered f) es staged fits d = d.goes
-recovers actor token place end.RightBusy es staged fits d = (refl, d.goes)
 recovers actor token place end.NotARecord es staged fits d = d.goes
 recovers actor token place (end.RecordTooLarge n) es staged fits d = (inl refl, d.goes)
 recovers actor token place (end.StagedTooLarge k n) es staged fits d =
@@ -91,7 +94,6 @@ recovers actor token place (end.TooLarge k n) es staged fits d = absurd (omega (
 recovers actor token place (end.Changed k n) es staged fits d = absurd (omega (arith, fits))
 
 pub is-named : (actor : List ℕ) (place : Place) (e : End) → place.found_staged ≡ map (staged_name place.found.token) (names_of place.found) → EndFits 0 (length place.found.entries) e → IsNamed actor (answer_of e (recovery_plan actor) place)
-is-named actor place end.RightBusy staged fits = refl
 is-named actor place (end.RecordTooLarge n) staged fits = inl refl
 is-named actor place (end.StagedTooLarge k n) staged fits =
     let t = place.found.token in
@@ -106,6 +108,18 @@ is-caused actor place (end.Failed p) old now c = c
 is-caused actor place (end.RecordTooLarge n) old now c = c
 is-caused actor place (end.StagedTooLarge k n) old now c = c
 is-caused actor place (end.Recovered f) old now c = tt
-is-caused actor place end.RightBusy old now c = tt
 is-caused actor place end.NoMemory old now c = tt
 is-caused actor place e old now c = tt
+
+-- another had the right
+pub kept-out : (actor : List ℕ) (token : ℕ) (name : List ℕ) (es : List Event) → name ≡ right_name actor → Begins (recovery_for actor token) begun.Busy es → Recovers (recovery_for actor token) es (Err (error.Busy name))
+kept-out actor token name es is b = (is, subst (λ (n : List ℕ). GoesTo (recovery_for actor token) es (Refused (jobs.Busy n))) (sym is) b.goes)
+
+-- what a fault caused while the recovery was driven it caused in the whole of it
+pub caused-back : (old mid now : Counts) (r : Result Recovered RecoverError) → old.disks ≤ mid.disks → RecoverCause mid now r → RecoverCause old now r
+caused-back old mid now (Ok f) l c = tt
+caused-back old mid now (Err error.Disk) l c = rose-back old.disks mid.disks now.disks l c
+caused-back old mid now (Err (error.TooLarge name n)) l c = c
+caused-back old mid now (Err (error.Busy name)) l c = tt
+caused-back old mid now (Err error.NotARecord) l c = tt
+caused-back old mid now (Err error.Memory) l c = tt

@@ -1,5 +1,5 @@
 -- What a recovery answers, and how the machine ends.
-use Rattle.std.specs.Prelude.{◌≡◌, ◌⊎◌, ◌<◌, ℕ, false, List, []}
+use Rattle.std.specs.Prelude.{◌≡◌, ◌⊎◌, ◌<◌, ℕ, false, List, [], None}
 use Rattle.std.specs.declared.result.Result.{Result}
 use Rattle.std.specs.declared.result.Result.TheVariants.{Ok, Err}
 use Rattle.host_port.specs.declared.event.Event.{Event}
@@ -53,15 +53,14 @@ recovery_plan actor = record {
   new = new_name actor;
   right = right_name actor;
   commits = false;
-  value = record { phase = Go; token = 0; entries = [] };
+  value = record { phase = Go; token = 0; moment = None; entries = [] };
   staged = [];
   prepare = [];
 }
 
--- the answer if a recovery ends so; it has no files, and isn't decided
+-- the answer if a recovery whose right was taken ends so; it has no files, and isn't decided
 abbrev pub answer_of : End → Plan → Place → Result Recovered RecoverError
 answer_of (end.Recovered f) plan place = Ok f
-answer_of end.RightBusy plan place = Err (error.Busy plan.right)
 answer_of (end.RecordTooLarge n) plan place = Err (error.TooLarge plan.record n)
 answer_of (end.StagedTooLarge k n) plan place = Err (error.TooLarge (nth place.found_staged k) n)
 answer_of (end.Failed p) plan place = Err error.Disk

@@ -26,7 +26,7 @@ unless_failed es end = if list_any is_failed es then Failed Before else end
 -- the end by the record that was read
 abbrev pub end_read : Option Record → Ending
 end_read None = Refused NotARecord
-end_read (Some r) = Recovered (if is_go r then Finished else RolledBack)
+end_read (Some r) = Recovered (if is_go r then Finished r.moment else RolledBack r.moment)
 
 -- the end by what stood as the record
 abbrev pub end_found : Option (List ℕ) → Ending

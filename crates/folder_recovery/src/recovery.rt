@@ -11,7 +11,7 @@ ghost use Rattle.folder_recovery.specs.Safe.{WhereTold, MayRecover, RecoversSafe
 ghost use Rattle.folder_recovery.specs.Recovering.{Recovers, RecoverCause, IsNamed, recovery_plan, answer_of};
 
 use crate::RecoverError;
-use commit_driver::{End, Place, Plan, Recovered, drive};
+use commit_driver::{Begun, End, Place, Plan, Recovered, begin, drive};
 use commit_machine::{new_name, record_name, right_name};
 use commit_record::{Phase, Record};
 use host_port::Host;
@@ -33,6 +33,7 @@ fn plan_for(alloc: Global, actor: &[u8]) -> Result<Plan, Memory>
         value: Record {
             phase: Phase::Go,
             token: 0,
+            moment: None,
             entries: Items::new(alloc),
         },
         staged: Items::new(alloc),
@@ -49,15 +50,14 @@ fn staged_file(place: Place, at: usize) -> Text
     staged.remove(at)
 }
 
-// The answer of a recovery that ended so. Since it has no files and isn't decided, what is left is that the record is
-// none.
+// The answer of a recovery that took its right and ended so. Since it has no files and isn't decided, what is left
+// is that the record is none.
 fn answer(end: End, plan: Plan, place: Place) -> Result<Recovered, RecoverError>
     requires { EndFits 0 (length place.found_staged) end }
     ensures { result ≡ answer_of end plan place }
 {
     match end {
         End::Recovered(found) => Ok(found),
-        End::RightBusy => Err(RecoverError::Busy { name: plan.right }),
         End::RecordTooLarge(length) => Err(RecoverError::TooLarge {
             name: plan.record,
             length,
@@ -82,6 +82,11 @@ fn run<H: Host>(alloc: Global, actor: &[u8], host: &mut H) -> Result<Recovered, 
     ensures cause { RecoverCause (H.world.counts host.old) (H.world.counts host.new) result }
 {
     let plan = plan_for(alloc, actor)?;
+    match begin(host, plan.right.bytes()) {
+        Begun::Taken => {}
+        Begun::Busy => return Err(RecoverError::Busy { name: plan.right }),
+        Begun::Failed => return Err(RecoverError::Disk),
+    }
     let place = Place::new(alloc, Items::new(alloc));
     let (end, place) = drive(alloc, &plan, place, &[], None, host);
     answer(end, plan, place)
@@ -89,7 +94,8 @@ fn run<H: Host>(alloc: Global, actor: &[u8], host: &mut H) -> Result<Recovered, 
 
 /// Recovers what a stopped commit of the actor has left. A commit that was decided is carried out: its staged files
 /// are put in place, its locks are taken away, and its record is erased. One that wasn't decided is undone. It takes
-/// the actor's right first and gives it up at the end.
+/// the actor's right first and gives it up at the end. The answer says what was found, with the moment that its record
+/// has.
 ///
 /// `Busy` comes if another has the right, `NotARecord` if what stands as the record is none, `TooLarge` if it,
 /// or the staged file of a removal, is too large to load, and `Disk` if a call failed; then nothing more is done but
