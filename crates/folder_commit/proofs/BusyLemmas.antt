@@ -1,5 +1,5 @@
 -- Whose right or lock another had, and that a commit which nothing hinders is done.
-use Rattle.std.proofs.Common.{◌≡◌, ◌⊎◌, ℕ, Bool, true, false, List, [], ◌∷◌, ◌++◌, Option, Some, None, if◌then◌else◌, refl, ap, sym, subst, inl, inr, ◌∙◌}
+use Rattle.std.proofs.Common.{◌≡◌, ◌⊎◌, ℕ, ℤ, Bool, true, false, List, [], ◌∷◌, ◌++◌, Option, Some, None, if◌then◌else◌, refl, ap, sym, subst, inl, inr, ◌∙◌}
 use Rattle.std.specs.List.{list_any}
 use Rattle.std.specs.Option.{option_map}
 use Rattle.std.specs.Str.{bytes_eq}
@@ -21,18 +21,18 @@ use Rattle.commit_machine.specs.Names.{record_name, new_name, right_name}
 use Rattle.commit_machine.specs.Records.{record_of}
 use Rattle.commit_machine.specs.Settled.{Files, Mem}
 use Rattle.commit_machine.specs.Jobs.{Refusal, Busy, NotARecord, Ending, Done, Refused, NoMemory, Job, IsJob}
-use Rattle.commit_machine.specs.Machine.{State, Seizing, Looking, Ended, next, after_reply}
+use Rattle.commit_machine.specs.Machine.{State, Seizing, Timing, Looking, Ended, asking, next, after_reply}
 use Rattle.commit_machine.specs.Goes.{IsNext, Goes, reply}
-use Rattle.commit_machine.specs.Edits.{first_names, cause_of, job_for}
+use Rattle.commit_machine.specs.Edits.{first_names, cause_of, job_for, timed_for}
 use Rattle.commit_machine.specs.Restraints.{is_failed}
 use Rattle.commit_machine.specs.Runs.{MetAnother, is_hindrance, RunsSafely}
 use Rattle.commit_machine.proofs.told.Events.{own-split, or-parts, none-of, some-of}
 use Rattle.folder_commit.specs.declared.error.CommitError.{CommitError}
 use Rattle.folder_commit.specs.declared.error.CommitError.TheVariants as error
 use Rattle.folder_commit.specs.Ends.{Commits, CommitCause}
-use Rattle.folder_commit.specs.Told.{by_decision, by_changes, by_load, by_lock, by_standing, by_record, by_right, seen_in, end_told, is_fault, TellsEnd}
+use Rattle.folder_commit.specs.Told.{by_decision, by_changes, by_load, by_lock, by_standing, by_record, by_time, by_right, seen_in, end_told, is_fault, TellsEnd}
 use Rattle.folder_commit.specs.Safe.{IsOkOrMemory, IsComplete}
-use Rattle.folder_commit.proofs.CleanLemmas.{seize-is, load-is, release-is}
+use Rattle.folder_commit.proofs.CleanLemmas.{ask-is, seize-is, load-is, release-is}
 use Rattle.folder_commit.proofs.ToldLemmas.{tells-faults}
 use Rattle.folder_commit.proofs.TellLemmas.{end-told}
 
@@ -103,22 +103,27 @@ module _ (actor name : List ℕ) where
     record-met names [] h = absurd (cc)
     record-met names (e ∷ es) h = absurd (cc)
 
+    time-met : (names : List (List ℕ)) (es : List Event) → IsBusy (by_time actor why names es) → Met name es
+    time-met names (event.Now t ∷ es) h = met-more name (event.Now t) es (record-met names es h)
+    time-met names [] h = absurd (cc)
+    time-met names (e ∷ es) h = absurd (cc)
+
     right-met : (names : List (List ℕ)) (es : List Event) → IsBusy (by_right actor why names es) → Met name es
-    right-met names (event.Seize m true failed ∷ es) h = met-more name (event.Seize m true failed) es (record-met names es h)
+    right-met names (event.Seize m true failed ∷ es) h = met-more name (event.Seize m true failed) es (time-met names es h)
     right-met names (event.Seize m false failed ∷ es) h = inl (failed, inl (ap (λ (x : List ℕ). event.Seize x false failed) (same-busy m name h)))
     right-met names [] h = absurd (cc)
     right-met names (e ∷ es) h = absurd (cc)
 
-module _ (make : Files → Files) (actor : List ℕ) (token : ℕ) (c : Change) (cs : List Change) (base : List (List ℕ)) (d : Disk) (es : List Event) (job : IsJob (job_for actor token (c ∷ cs) base)) (safe : RunsSafely make (job_for actor token (c ∷ cs) base) d es) where
+module _ (make : Files → Files) (actor : List ℕ) (token : ℕ) (time : ℤ) (c : Change) (cs : List Change) (base : List (List ℕ)) (d : Disk) (es : List Event) (job : IsJob (timed_for actor token time (c ∷ cs) base)) (safe : RunsSafely make (job_for actor token (c ∷ cs) base) d es) where
   abbrev j : Job
-  j = job_for actor token (c ∷ cs) base
+  j = timed_for actor token time (c ∷ cs) base
 
-  module _ (name : List ℕ) (h : Commits (job_for actor token (c ∷ cs) base) (own es) (Err (error.Busy name))) where
+  module _ (name : List ℕ) (h : Commits (timed_for actor token time (c ∷ cs) base) (own es) (Err (error.Busy name))) where
     no-faults : list_any is_failed (own es) ≡ false
     no-faults = tells-faults j (own es) (Err (error.Busy name)) h
 
     busy-told : end_told actor (c ∷ cs) base (own es) ≡ Refused (Busy name)
-    busy-told = end-told actor token c cs base job (own es) (Err (error.Busy name)) h no-faults
+    busy-told = end-told actor token time c cs base job (own es) (Err (error.Busy name)) h no-faults
 
     seized : (failed : Bool) → Mem (event.Seize name false failed) (own es) → MetAnother token d es name
     seized true m = let w : true ≡ false = none-of is_failed (own es) (event.Seize name false true) no-faults m in absurd (cc)
@@ -224,6 +229,24 @@ module _ (j : Job) where
       let w = release-is (right_name j.actor) e (subst (λ (s : State). IsNext (next j s) e) at is) in
       subst (λ (x : Event). IsFine (by_record j.actor None names (x ∷ es))) (sym w) tt
 
+  -- then the time is asked for
+  time-fine : (o : Option ℤ) (names : List (List ℕ)) (es : List Event) (last : State) → Goes j (asking o) es last → Free j.actor es → Made j.actor es → IsFine (by_time j.actor None names es)
+  time-fine o names [] last goes h p = tt
+  time-fine None names (e ∷ es) last (now, inl at, is, more) h p =
+      let w = load-is (record_name j.actor) e (subst (λ (s : State). IsNext (next j s) e) at is) in
+      subst (λ (x : Event). IsFine (by_time j.actor None names (x ∷ es))) (sym w.1) tt
+  time-fine None names (e ∷ es) last (now, inr at, is, more) h p =
+      let w = release-is (right_name j.actor) e (subst (λ (s : State). IsNext (next j s) e) at is) in
+      subst (λ (x : Event). IsFine (by_time j.actor None names (x ∷ es))) (sym w) tt
+  time-fine (Some time) names (e ∷ es) last (now, inl at, is, more) h p =
+      let w = ask-is time e (subst (λ (s : State). IsNext (next j s) e) at is) in
+      let there : Goes j (after_reply j (Timing time) (reply e)) es last = subst (λ (s : State). Goes j (after_reply j s (reply e)) es last) at more in
+      let asked : Goes j Looking es last = subst (λ (x : Event). Goes j (after_reply j (Timing time) (reply x)) es last) w there in
+      subst (λ (x : Event). IsFine (by_time j.actor None names (x ∷ es))) (sym w) (looks-fine names es last asked (free-more j.actor e es h) (made-more j.actor e es p))
+  time-fine (Some time) names (e ∷ es) last (now, inr at, is, more) h p =
+      let w = release-is (right_name j.actor) e (subst (λ (s : State). IsNext (next j s) e) at is) in
+      subst (λ (x : Event). IsFine (by_time j.actor None names (x ∷ es))) (sym w) tt
+
   right-fine : (names : List (List ℕ)) (es : List Event) (last : State) → list_any is_failed es ≡ false → Goes j Seizing es last → Free j.actor es → Made j.actor es → IsFine (by_right j.actor None names es)
   right-fine names [] last f goes h p = tt
   right-fine names (e ∷ es) last f (now, inr at, is, more) h p = absurd (subst (λ (s : State). IsNext (next j s) e) at is)
@@ -237,7 +260,7 @@ module _ (j : Job) where
           → IsFine (by_right j.actor None names (event.Seize (right_name j.actor) got failed ∷ es))
       go got true f h goes = absurd (cc)
       go false false f h goes = absurd (cc)
-      go true false f h goes = looks-fine names es last goes h (made-more j.actor e es p)
+      go true false f h goes = time-fine j.time names es last goes h (made-more j.actor e es p)
 
 -- no refusal is told of an end without one
 fine-told : (files : List (List ℕ)) (end : Ending) (result : Result Unit CommitError) → IsFine end → TellsEnd files end result → is_fault result ≡ false → IsOkOrMemory result
@@ -255,9 +278,9 @@ not-fault : (before now : Counts) (result : Result Unit CommitError) → (Rose b
 not-fault before now (Err (error.Disk passed)) quiet cause = absurd (quiet cause)
 not-fault before now result quiet cause = refl
 
-module _ (make : Files → Files) (actor : List ℕ) (token : ℕ) (c : Change) (cs : List Change) (base : List (List ℕ)) (d : Disk) (es : List Event) (job : IsJob (job_for actor token (c ∷ cs) base)) (safe : RunsSafely make (job_for actor token (c ∷ cs) base) d es) where
+module _ (make : Files → Files) (actor : List ℕ) (token : ℕ) (time : ℤ) (c : Change) (cs : List Change) (base : List (List ℕ)) (d : Disk) (es : List Event) (job : IsJob (timed_for actor token time (c ∷ cs) base)) (safe : RunsSafely make (job_for actor token (c ∷ cs) base) d es) where
   abbrev commit_job : Job
-  commit_job = job_for actor token (c ∷ cs) base
+  commit_job = timed_for actor token time (c ∷ cs) base
 
   -- what is made as the record is published
   all-made : list_any is_failed (own es) ≡ false → Made actor (own es)
@@ -281,7 +304,7 @@ module _ (make : Files → Files) (actor : List ℕ) (token : ℕ) (c : Change) 
       let fault = not-fault before now result quiet cause in
       let faults = tells-faults commit_job (own es) result h in
       let none = faults ∙ fault in
-      let told = end-told actor token c cs base job (own es) result h faults in
+      let told = end-told actor token time c cs base job (own es) result h faults in
       let F : Option Refusal → Type 0 = λ o. IsFine (by_right actor o (first_names (c ∷ cs)) (own es)) in
       let fine = subst F (sym free.can) (right-fine commit_job (first_names (c ∷ cs)) (own es) (Ended h.end) none h.goes free.free (all-made none)) in
       fine-told (first_names (c ∷ cs)) (end_told actor (c ∷ cs) base (own es)) result fine told fault

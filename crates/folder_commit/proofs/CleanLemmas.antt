@@ -1,5 +1,5 @@
 -- What follows a clean-up, and what follows a load that met too many bytes.
-use Rattle.std.proofs.Common.{◌≡◌, ℕ, Bool, true, false, List, [], ◌∷◌, Option, Some, ◌||◌, refl, ap, sym, subst, inl, inr, ◌∙◌}
+use Rattle.std.proofs.Common.{◌≡◌, ℕ, ℤ, Bool, true, false, List, [], ◌∷◌, Option, Some, ◌||◌, refl, ap, sym, subst, inl, inr, ◌∙◌}
 use Rattle.std.specs.List.{list_any}
 use Rattle.std.proofs.lemmas.Bool.{cases_Bool}
 use Rattle.host_port.specs.declared.event.Event.{Event}
@@ -12,13 +12,16 @@ use Rattle.commit_machine.specs.Names.{record_name, new_name, right_name, staged
 use Rattle.commit_machine.specs.Jobs.{TooLarge, Ending, Refused, Failed, Edit, Job, Made, all_of, prepare_of, go_of}
 use Rattle.commit_machine.specs.Items.{Item}
 use Rattle.folder_change.specs.Outcomes.{bytes_of}
-use Rattle.commit_machine.specs.Machine.{stay, State, Seizing, Looking, Undoing, Placing, Testing, Removing, Extending, Discarding, Unlocking, Erasing, Clearing, Preparing, Publishing, Locking, Loading, Staging, Deciding, Committing, Checking, Releasing, Ended, Answer, ToLoad, ToStage, ToExtend, ToErase, ToPublish, ToLock, ToUnlock, ToSeize, ToRelease, unlocking, undoing, refusing, next, refused, after_reply}
-use Rattle.commit_machine.specs.Goes.{IsOf, loads, stages, stage_fails, publishes, extends, extend_fails, erases, locks, unlocks, seizes, releases, IsNext, reply, Goes}
+use Rattle.commit_machine.specs.Machine.{stay, State, Seizing, Timing, Looking, Undoing, Placing, Testing, Removing, Extending, Discarding, Unlocking, Erasing, Clearing, Preparing, Publishing, Locking, Loading, Staging, Deciding, Committing, Checking, Releasing, Ended, Answer, ToAsk, ToLoad, ToStage, ToExtend, ToErase, ToPublish, ToLock, ToUnlock, ToSeize, ToRelease, unlocking, undoing, refusing, next, refused, after_reply}
+use Rattle.commit_machine.specs.Goes.{IsOf, asks, loads, stages, stage_fails, publishes, extends, extend_fails, erases, locks, unlocks, seizes, releases, IsNext, reply, Goes}
 use Rattle.commit_driver.specs.Drives.{is_past_limit}
 
 pub extend-is : (n : List ℕ) (at : ℕ) (c : List ℕ) (e : Event) → IsOf (ToExtend n at c) e → (tail : List ℕ) × (failed : Bool) × (e ≡ event.Extend n at tail failed)
 extend-is n at k e (extends {c = c}) = (c, false, refl)
 extend-is n at c e (extend_fails {left = tail}) = (tail, true, refl)
+
+pub ask-is : (time : ℤ) (e : Event) → IsOf (ToAsk time) e → e ≡ event.Now time
+ask-is time e asks = refl
 
 pub erase-is : (n : List ℕ) (e : Event) → IsOf (ToErase n) e → (done : Bool) × (failed : Bool) × (e ≡ event.Erase n done failed)
 erase-is n e (erases {done = done} {failed = failed}) = (done, failed, refl)
@@ -208,6 +211,7 @@ module _ (j : Job) where
   led (Loading done x left) e is = let w = load-is x.name e is in subst (Led (Loading done x left)) (sym w.1) (l-loading done x left x.name w.0)
   led Checking e is = let w = load-is (record_name j.actor) e is in subst (Led Checking) (sym w.1) (l-checking (record_name j.actor) w.0)
   led Seizing e is = let w = seize-is (right_name j.actor) e is in subst (Led Seizing) (sym w.2) (λ h. absurd (cc))
+  led (Timing time) e is = subst (Led (Timing time)) (sym (ask-is time e is)) (λ h. absurd (cc))
   led (Undoing r n ns ls th) e is = let w = erase-is (staged_name r.token n) e is in subst (Led (Undoing r n ns ls th)) (sym w.2) (λ h. absurd (cc))
   led (Placing r x xs ls th) e is = let w = publish-is (staged_name r.token x.name) x.name e is in subst (Led (Placing r x xs ls th)) (sym w.2) (λ h. absurd (cc))
   led (Testing r x xs ls) e is = let w = load-is (staged_name r.token x.name) e is in subst (Led (Testing r x xs ls)) (sym w.1) (l-testing r x xs ls (staged_name r.token x.name) w.0)

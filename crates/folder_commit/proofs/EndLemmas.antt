@@ -1,5 +1,5 @@
 -- A commit doesn't end as a recovery.
-use Rattle.std.proofs.Common.{ℕ, Bool, true, false, List, [], ◌∷◌, sym, subst, inl, inr}
+use Rattle.std.proofs.Common.{ℕ, ℤ, Bool, true, false, List, [], ◌∷◌, sym, subst, inl, inr}
 use Rattle.std.specs.declared.option.Option.{Option}
 use Rattle.std.specs.declared.option.Option.TheVariants.{Some, None}
 use Rattle.std.proofs.lemmas.Bool.{cases_Bool}
@@ -11,7 +11,7 @@ use Rattle.commit_machine.specs.Records.{record_of, is_go, names_of}
 use Rattle.commit_machine.specs.Items.{Item, found_items, made_items}
 use Rattle.commit_machine.specs.Settled.{Files}
 use Rattle.commit_machine.specs.Jobs.{Ending, Done, Recovered, Refused, NoMemory, Refusal, Outcome, Puts, Edit, Job, Made, all_of, seen_files, prepare_of, go_of}
-use Rattle.commit_machine.specs.Machine.{State, Seizing, Looking, Undoing, Placing, Testing, Removing, Extending, Discarding, Unlocking, Erasing, Clearing, Preparing, Publishing, Locking, Loading, Staging, Deciding, Committing, Checking, Releasing, Ended, Then, GoOn, Answer, Reply, Went, Saw, Long, Short, Fault, unlocking, undoing, removing, extending, tested, place_one, place_known, placing, staging, record_seen, judged, loading, locking, loaded, refused, after_reply}
+use Rattle.commit_machine.specs.Machine.{State, Seizing, Timing, Looking, Undoing, Placing, Testing, Removing, Extending, Discarding, Unlocking, Erasing, Clearing, Preparing, Publishing, Locking, Loading, Staging, Deciding, Committing, Checking, Releasing, Ended, Then, GoOn, Answer, Reply, Went, Saw, Long, Short, Fault, unlocking, undoing, removing, extending, tested, place_one, place_known, placing, staging, record_seen, judged, loading, locking, loaded, refused, after_reply}
 use Rattle.commit_machine.specs.Goes.{reply, Goes}
 
 -- the ends of a commit
@@ -77,9 +77,9 @@ c-staging : (ns : List (List ℕ)) (done left : List Made) → Commits (staging 
 c-staging ns done [] = tt
 c-staging ns done (x ∷ left) = tt
 
-module _ (actor : List ℕ) (token : ℕ) (edits : List Edit) (refusal : Files → Option Refusal) where
+module _ (actor : List ℕ) (token : ℕ) (time : ℤ) (edits : List Edit) (refusal : Files → Option Refusal) where
   abbrev job : Job
-  job = record { actor = actor; token = token; edits = Some edits; refusal = refusal }
+  job = record { actor = actor; token = token; time = Some time; edits = Some edits; refusal = refusal }
 
   c-judged : (done : List Made) (o : Option Refusal) → Commits (judged job done o)
   c-judged done None = c-staging [] done done
@@ -98,6 +98,7 @@ module _ (actor : List ℕ) (token : ℕ) (edits : List Edit) (refusal : Files �
 
   c-refused : (s : State) → Commits s → Commits (refused job s)
   c-refused Seizing h = tt
+  c-refused (Timing at) h = tt
   c-refused Looking h = tt
   c-refused (Undoing r n ns ls GoOn) h = tt
   c-refused (Undoing r n ns ls (Answer e)) h = h
@@ -129,6 +130,7 @@ module _ (actor : List ℕ) (token : ℕ) (edits : List Edit) (refusal : Files �
   c-went : (s : State) (b : Bool) → Commits s → Commits (after_reply job s (Went b))
   c-went Seizing true h = tt
   c-went Seizing false h = tt
+  c-went (Timing at) b h = tt
   c-went (Undoing r n ns ls th) b h = c-undoing r ns ls th h
   c-went (Placing r x xs ls th) b h = c-placing r xs ls th h
   c-went (Testing r x xs ls) b h = tt

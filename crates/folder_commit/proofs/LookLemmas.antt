@@ -9,11 +9,12 @@ use Rattle.host_port.specs.declared.event.Event.TheVariants as event
 use Rattle.host_port.specs.declared.event.Seen.{Seen}
 use Rattle.host_port.specs.declared.event.Seen.TheVariants as seen
 use Rattle.folder_change.specs.declared.change.Change.{Change}
+use Rattle.commit_record.specs.Format.{file_limit}
 use Rattle.commit_machine.specs.Names.{record_name, new_name, right_name}
-use Rattle.commit_machine.specs.Jobs.{Before, After, Unknown, Ending, Done, Failed, Job, Made, all_of}
+use Rattle.commit_machine.specs.Jobs.{Before, After, Unknown, Ending, Done, Failed, Job, Made, moment_of, all_of}
 use Rattle.commit_machine.specs.Machine.{State, Seizing, Placing, Removing, Extending, Discarding, Unlocking, Erasing, Committing, Checking, Releasing, Ended, Then, GoOn, Answer, Fault, next, refused, after_reply, faulted, passed_at, passed_then, passed_ending, passed_by, go_front}
 use Rattle.commit_machine.specs.Goes.{IsNext, Goes, reply}
-use Rattle.commit_machine.specs.Edits.{first_names, job_for}
+use Rattle.commit_machine.specs.Edits.{first_names, timed_for}
 use Rattle.commit_machine.specs.Restraints.{is_failed}
 use Rattle.commit_driver.specs.declared.step.Passed.TheVariants as passed
 use Rattle.folder_commit.specs.declared.error.CommitError.{CommitError}
@@ -127,7 +128,7 @@ module _ (j : Job) where
 
   seen-known : (c : Option (List ℕ)) → is_unknown_end (Failed (passed_by j c)) ≡ false
   seen-known None = refl
-  seen-known (Some bytes) = go (starts_with nat_eq bytes (go_front j.token))
+  seen-known (Some bytes) = go (starts_with nat_eq bytes (go_front (moment_of j) j.token))
     where
       go : (b : Bool) → is_unknown_end (Failed (if b then After else Before)) ≡ false
       go true = refl
@@ -205,7 +206,7 @@ tells-unknown : (j : Job) (es : List Event) (result : Result Unit CommitError) �
 tells-unknown j es result h = sym (look-told j es Seizing h.end tt h.goes) ∙ unknown-so (all_of j) result h.end h.is_as
 
 -- no event, and an answer that tells of no failed call
-quiet-told : (actor : List ℕ) (c : Change) (cs : List Change) (base : List (List ℕ)) (result : Result Unit CommitError) → is_fault result ≡ false → is_unknown result ≡ false → (length (first_names (c ∷ cs)) ≤ 16 → ⊥) → IsTold actor (c ∷ cs) base [] result
+quiet-told : (actor : List ℕ) (c : Change) (cs : List Change) (base : List (List ℕ)) (result : Result Unit CommitError) → is_fault result ≡ false → is_unknown result ≡ false → (length (first_names (c ∷ cs)) ≤ file_limit → ⊥) → IsTold actor (c ∷ cs) base [] result
 quiet-told actor c cs base result f u many = (sym f, sym u, λ few. absurd (many few))
 
 pub is-told : (actor : List ℕ) (token : ℕ) (changes : List Change) (base : List (List ℕ)) (es : List Event) (result : Result Unit CommitError) → token < 2 ^ 64 → AreFiles actor changes → IsCommit actor token changes base es result → IsTold actor changes base es result
@@ -214,13 +215,14 @@ is-told actor token [] base es result fits files h =
     subst (λ (z : List Event). T z result) (sym h.0) (subst (T []) (sym h.1) (refl, refl))
 is-told actor token (c ∷ cs) base es result fits files (inl many) =
     let T : List Event → Result Unit CommitError → Type 0 = λ es r. IsTold actor (c ∷ cs) base es r in
-    let not : length (first_names (c ∷ cs)) ≤ 16 → ⊥ = λ few. absurd (omega (arith, few, many.0)) in
+    let not : length (first_names (c ∷ cs)) ≤ file_limit → ⊥ = λ few. absurd (omega (arith, few, many.0)) in
     subst (λ (z : List Event). T z result) (sym many.1.0) (elim many.1.1 [
       | inl e ↦ subst (T []) (sym e) (quiet-told actor c cs base (Err (error.TooManyNames (length (first_names (c ∷ cs))))) refl refl not)
       | inr e ↦ subst (T []) (sym e) (quiet-told actor c cs base (Err error.Memory) refl refl not)
     ])
 is-told actor token (c ∷ cs) base es result fits files (inr few) =
-    let h = few.1 in
-    let j = job_for actor token (c ∷ cs) base in
+    let time = few.1.0 in
+    let h = few.1.1 in
+    let j = timed_for actor token time (c ∷ cs) base in
     let faults = tells-faults j es result h in
-    (faults, tells-unknown j es result h, λ l. end-told actor token c cs base (is-job actor token (c ∷ cs) base fits files (omega arith) l) es result h faults)
+    (faults, tells-unknown j es result h, λ l. end-told actor token time c cs base (is-job actor token time (c ∷ cs) base fits files (omega arith) l) es result h faults)

@@ -1,5 +1,5 @@
 -- The files that changes name, and the plan of their commit.
-use Rattle.std.proofs.Common.{◌≡◌, ◌≢◌, ◌⊎◌, ℕ, zero, suc, ◌^◌, ◌<◌, ◌≤◌, Bool, true, false, ◌&&◌, ◌||◌, not, List, [], ◌∷◌, ◌++◌, length, map, get_or, refl, ap, sym, subst, inl, inr, ◌∙◌, arith, append-nil, if◌then◌else◌, Option, Some, None, drop, lit<}
+use Rattle.std.proofs.Common.{◌≡◌, ◌≢◌, ◌⊎◌, ℕ, ℤ, zero, suc, ◌^◌, ◌<◌, ◌≤◌, Bool, true, false, ◌&&◌, ◌||◌, not, List, [], ◌∷◌, ◌++◌, length, map, get_or, refl, ap, sym, subst, inl, inr, ◌∙◌, arith, append-nil, if◌then◌else◌, Option, Some, None, drop, lit<}
 use Rattle.std.specs.Prelude.{All, nat_lt, nat_le}
 use Rattle.std.specs.List.{list_any, list_all}
 use Rattle.std.specs.Str.{bytes_eq}
@@ -9,7 +9,7 @@ use Rattle.std.proofs.lemmas.List.Elements.{All-head, All-tail}
 use Rattle.host_port.specs.Names.{has_no_zero}
 use Rattle.folder_change.specs.declared.change.Change.{Change}
 use Rattle.folder_change.specs.Changes.{name_of}
-use Rattle.commit_record.specs.Format.{is_valid, is_replace, fits_kind, fit_phase, are_distinct, written}
+use Rattle.commit_record.specs.Format.{is_valid, is_replace, file_limit, fits_kind, fits_moment, fit_phase, are_distinct, nearest_moment, written}
 use Rattle.commit_record.specs.Names.{is_lawful}
 use Rattle.commit_record.specs.declared.record.Phase.{Phase}
 use Rattle.commit_record.specs.declared.record.Phase.TheVariants.{Prepare, Go}
@@ -23,7 +23,8 @@ use Rattle.commit_machine.specs.Names.{actor_limit, is_record_name, staged_name}
 use Rattle.commit_machine.specs.Records.{names_of, has, AreDistinct}
 use Rattle.commit_machine.specs.Settled.{Mem}
 use Rattle.commit_machine.specs.Jobs.{Puts, Edit, IsJob, all_of}
-use Rattle.commit_machine.specs.Edits.{first_names, without, only_adds, outcome_for, edit_for, job_for}
+use Rattle.commit_machine.specs.Edits.{first_names, without, only_adds, outcome_for, edit_for, job_for, timed_for}
+use Rattle.commit_record.proofs.NumberLemmas.{nearest-fits}
 use Rattle.commit_machine.proofs.records.Same.{same_refl, same_or_not}
 use Rattle.commit_driver.specs.Places.{nth, IsPlan, IsSafe}
 use Rattle.commit_driver.specs.Answers.{IsCommitOf}
@@ -187,20 +188,22 @@ all-kinds : (ns : List (List ℕ)) → list_all fits_kind (replaced ns) ≡ true
 all-kinds [] = refl
 all-kinds (n ∷ ns) = all-kinds ns
 
-fits-both : (phase : Phase) (ns : List (List ℕ)) → (list_all fits_kind (replaced ns) && fit_phase phase (replaced ns)) ≡ true
-fits-both phase ns = rw (all-kinds ns, fits-phase phase ns) refl
+fits-all : (phase : Phase) (o : Option ℤ) (ns : List (List ℕ)) → fits_moment o ≡ true → (list_all fits_kind (replaced ns) && (fit_phase phase (replaced ns) && fits_moment o)) ≡ true
+fits-all phase o ns fits = rw (all-kinds ns, fits-phase phase ns, fits) refl
 
 some-first : (cs : List Change) → 1 ≤ length cs → 1 ≤ length (first_names cs)
 some-first [] h = absurd (omega (arith, h))
 some-first (c ∷ cs) h = omega arith
 
-pub is-valid-plan : (actor : List ℕ) (phase : Phase) (token : ℕ) (cs : List Change) → AreFiles actor cs → 1 ≤ length cs → length (first_names cs) ≤ 16 → is_valid (record_for phase token (first_names cs)) ≡ true
-is-valid-plan actor phase token cs files some few =
+-- a record of such a moment is valid
+pub is-valid-plan : (actor : List ℕ) (phase : Phase) (token : ℕ) (moment : ℤ) (cs : List Change) → fits_moment (Some moment) ≡ true → AreFiles actor cs → 1 ≤ length cs → length (first_names cs) ≤ file_limit → is_valid (record_for phase token (Some moment) (first_names cs)) ≡ true
+is-valid-plan actor phase token moment cs fits files some few =
     let ns = first_names cs in
     let long = length-replaced ns in
     let least = some-first cs some in
-    tests (nat_lt 0 (length (replaced ns))) (nat_le (length (replaced ns)) 16) (list_all (λ (e : Entry). is_lawful e.name) (replaced ns)) (are_distinct (replaced ns)) (list_all fits_kind (replaced ns) && fit_phase phase (replaced ns))
-    (grind (arith, common_steps)) (grind (arith, common_steps)) (all-lawful actor ns (names-first (Filed actor) cs files)) (are-distinct ns (distinct-first cs)) (fits-both phase ns)
+    let short : nat_le (length (replaced ns)) file_limit ≡ true = le-leb (length (replaced ns)) file_limit (omega (arith, long, few)) in
+    tests (nat_lt 0 (length (replaced ns))) (nat_le (length (replaced ns)) file_limit) (list_all (λ (e : Entry). is_lawful e.name) (replaced ns)) (are_distinct (replaced ns)) (list_all fits_kind (replaced ns) && (fit_phase phase (replaced ns) && fits_moment (Some moment)))
+    (grind (arith, common_steps)) short (all-lawful actor ns (names-first (Filed actor) cs files)) (are-distinct ns (distinct-first cs)) (fits-all phase (Some moment) ns fits)
 
 -- the names of the plan
 pub plan-names : (ns : List (List ℕ)) → map (λ (e : Entry). e.name) (replaced ns) ≡ ns
@@ -214,9 +217,9 @@ edit-names cs base (n ∷ ns) = ap (λ (ms : List (List ℕ)). n ∷ ms) (edit-n
 pub all-first : (actor : List ℕ) (token : ℕ) (cs : List Change) (base : List (List ℕ)) → all_of (job_for actor token cs base) ≡ first_names cs
 all-first actor token cs base = edit-names cs base (first_names cs)
 
-pub is-plan : (actor : List ℕ) (token : ℕ) (cs : List Change) (base : List (List ℕ)) → IsPlan (job_for actor token cs base) (commit_plan actor token (first_names cs))
-is-plan actor token cs base =
-    let j = job_for actor token cs base in
+pub is-plan : (actor : List ℕ) (token : ℕ) (time : ℤ) (cs : List Change) (base : List (List ℕ)) → IsPlan (timed_for actor token time cs base) (commit_plan actor token time (first_names cs))
+is-plan actor token time cs base =
+    let j = timed_for actor token time cs base in
     let all = all-first actor token cs base in
     record {
       record_is = refl;
@@ -224,21 +227,22 @@ is-plan actor token cs base =
       right_is = refl;
       commits_is = refl;
       token_is = λ l. refl;
+      moment_is = refl;
       names_are = plan-names (first_names cs) ∙ sym all;
       staged_are = names-staged token (replaced (first_names cs)) ∙ ap (map (staged_name token)) (plan-names (first_names cs) ∙ sym all);
       texts_are = λ e. record {
         distinct = subst AreDistinct (sym all) (distinct-first cs);
-        prepare_is = ap (λ (ns : List (List ℕ)). written (record_for Prepare token ns)) (sym all);
+        prepare_is = ap (λ (ns : List (List ℕ)). written (record_for Prepare token (Some (nearest_moment time)) ns)) (sym all);
       };
     }
 
-pub is-for : (actor : List ℕ) (token : ℕ) (cs : List Change) (base : List (List ℕ)) → IsCommitOf (job_for actor token cs base) cs base
-is-for actor token cs base = record { edits_are = refl; refusal_is = λ files. refl }
+pub is-for : (actor : List ℕ) (token : ℕ) (time : ℤ) (cs : List Change) (base : List (List ℕ)) → IsCommitOf (timed_for actor token time cs base) cs base
+is-for actor token time cs base = record { edits_are = refl; refusal_is = λ files. refl }
 
-pub is-safe : (actor : List ℕ) (token : ℕ) (cs : List Change) → length actor ≤ actor_limit → has_no_zero actor ≡ true → AreFiles actor cs → 1 ≤ length cs → length (first_names cs) ≤ 16 → IsSafe (commit_plan actor token (first_names cs))
-is-safe actor token cs short none files some few =
-    let r = record_for Go token (first_names cs) in
-    let valid = is-valid-plan actor Go token cs files some few in
+pub is-safe : (actor : List ℕ) (token : ℕ) (time : ℤ) (cs : List Change) → length actor ≤ actor_limit → has_no_zero actor ≡ true → AreFiles actor cs → 1 ≤ length cs → length (first_names cs) ≤ file_limit → IsSafe (commit_plan actor token time (first_names cs))
+is-safe actor token time cs short none files some few =
+    let r = record_for Go token (Some (nearest_moment time)) (first_names cs) in
+    let valid = is-valid-plan actor Go token (nearest_moment time) cs (nearest-fits time) files some few in
     let long = length-replaced (first_names cs) in
     let least = some-first cs some in
     record {
@@ -264,8 +268,8 @@ has-first (c ∷ cs) d (suc k) l =
       | inr e ↦ or_right (bytes_eq x (name_of c)) (has (without (name_of c) (first_names cs)) x) (has-without (name_of c) (first_names cs) x e ∙ has-first cs d k (omega (arith, l)))
     ]
 
-pub all-named : (actor : List ℕ) (token : ℕ) (cs : List Change) → All (λ (c : Change). has (names_of (commit_plan actor token (first_names cs)).value) (name_of c) ≡ true) cs
-all-named actor token cs k d l = ap (λ (ns : List (List ℕ)). has ns (name_of (get_or cs k d))) (plan-names (first_names cs)) ∙ has-first cs d k l
+pub all-named : (actor : List ℕ) (token : ℕ) (time : ℤ) (cs : List Change) → All (λ (c : Change). has (names_of (commit_plan actor token time (first_names cs)).value) (name_of c) ≡ true) cs
+all-named actor token time cs k d l = ap (λ (ns : List (List ℕ)). has ns (name_of (get_or cs k d))) (plan-names (first_names cs)) ∙ has-first cs d k l
 
 -- the commit is a job
 edit-file : (actor : List ℕ) (cs : List Change) (base ns : List (List ℕ)) (e : Edit) → AllNames (Filed actor) ns → Mem e (map (edit_for cs base) ns) → is_file_name actor e.name ≡ true
@@ -297,10 +301,10 @@ edit-extends cs base [] e m seen at content h = absurd m
 edit-extends cs base (n ∷ ns) e (inl is) seen at content h = outcome-extends (only_adds cs n) seen (apply cs base (λ m. seen) n) at content (ap (λ (x : Edit). x.by seen) (sym is) ∙ h)
 edit-extends cs base (n ∷ ns) e (inr m) seen at content h = edit-extends cs base ns e m seen at content h
 
-pub is-job : (actor : List ℕ) (token : ℕ) (cs : List Change) (base : List (List ℕ)) → token < 2 ^ 64 → AreFiles actor cs → 1 ≤ length cs → length (first_names cs) ≤ 16 → IsJob (job_for actor token cs base)
-is-job actor token cs base fits files some few = record {
+pub is-job : (actor : List ℕ) (token : ℕ) (time : ℤ) (cs : List Change) (base : List (List ℕ)) → token < 2 ^ 64 → AreFiles actor cs → 1 ≤ length cs → length (first_names cs) ≤ file_limit → IsJob (timed_for actor token time cs base)
+is-job actor token time cs base fits files some few = record {
   token_fits = fits;
-  valid = λ es is. ap (λ (ns : List (List ℕ)). is_valid (record_for Prepare token ns)) (all-first actor token cs base) ∙ is-valid-plan actor Prepare token cs files some few;
+  valid = λ es is. ap (λ (ns : List (List ℕ)). is_valid (record_for Prepare token (Some (nearest_moment time)) ns)) (all-first actor token cs base) ∙ is-valid-plan actor Prepare token (nearest_moment time) cs (nearest-fits time) files some few;
   plain = λ e m. plain-name actor e.name (edit-file actor cs base (first_names cs) e (names-first (Filed actor) cs files) m);
   extends = λ e m. edit-extends cs base (first_names cs) e m;
 }

@@ -1,5 +1,5 @@
 -- A commit of changes answers as its own events give it.
-use Rattle.std.proofs.Common.{◌≡◌, ℕ, true, false, List, [], ◌∷◌, map, Option, refl, ap, subst, ◌∙◌}
+use Rattle.std.proofs.Common.{◌≡◌, ℕ, ℤ, true, false, List, [], ◌∷◌, map, Option, refl, ap, subst, ◌∙◌}
 use Rattle.std.specs.Option.{option_map}
 use Rattle.std.specs.Str.{bytes_eq}
 use Rattle.std.specs.declared.result.Result.{Result}
@@ -16,7 +16,7 @@ use Rattle.commit_record.specs.Names.{is_lawful}
 use Rattle.commit_machine.specs.Names.{record_name, new_name, staged_name}
 use Rattle.commit_machine.specs.Settled.{Files, Mem}
 use Rattle.commit_machine.specs.Jobs.{Job, IsJob, edits_of, all_of}
-use Rattle.commit_machine.specs.Edits.{without, first_names, job_for, edit_for, cause_of}
+use Rattle.commit_machine.specs.Edits.{without, first_names, timed_for, edit_for, cause_of}
 use Rattle.commit_machine.proofs.records.Names.{lawful-staged}
 use Rattle.commit_machine.proofs.standing.Decided.{named}
 use Rattle.commit_machine.proofs.records.OfJob.{valid-plain}
@@ -38,9 +38,9 @@ alike names (c ∷ cs) base files others named same =
     ap (λ (f : Option (List ℕ)). or_else (refusal_of (name_of c) (outcome_of f c base)) (first_refusal cs base (after files c base))) here
     ∙ ap (λ (o : Option ChangeRefusal). or_else (refusal_of (name_of c) (outcome_of (others (name_of c)) c base)) o) later
 
-module _ (actor : List ℕ) (token : ℕ) (c : Change) (cs : List Change) (base : List (List ℕ)) where
+module _ (actor : List ℕ) (token : ℕ) (time : ℤ) (c : Change) (cs : List Change) (base : List (List ℕ)) where
   abbrev job : Job
-  job = job_for actor token (c ∷ cs) base
+  job = timed_for actor token time (c ∷ cs) base
 
   -- the refusal depends on the files of the changes alone
   by-names : (f g : Files) → ((n : List ℕ) → Mem n (all_of job) → f n ≡ g n) → job.refusal f ≡ job.refusal g
@@ -63,4 +63,4 @@ module _ (actor : List ℕ) (token : ℕ) (c : Change) (cs : List Change) (base 
   end-told is es result h faults =
       let T : List (List ℕ) → Type 0 = λ ns. TellsEnd ns (by_right actor (refusal_told (c ∷ cs) base es) ns es) result in
       subst T (all-first actor token (c ∷ cs) base)
-      (ends-told actor token (edit_for (c ∷ cs) base (name_of c)) (map (edit_for (c ∷ cs) base) (without (name_of c) (first_names cs))) job.refusal by-names (plain-names is) (no-staged is) (seen_in es) es result h.end h.is_as h.goes faults (λ n m. refl))
+      (ends-told actor token time (edit_for (c ∷ cs) base (name_of c)) (map (edit_for (c ∷ cs) base) (without (name_of c) (first_names cs))) job.refusal by-names (plain-names is) (no-staged is) (seen_in es) es result h.end h.is_as h.goes faults (λ n m. refl))

@@ -1,5 +1,5 @@
 -- A commit answers a fault exactly where a call failed.
-use Rattle.std.proofs.Common.{◌≡◌, ◌⊎◌, ℕ, Bool, true, false, List, [], ◌∷◌, Option, Some, None, ◌||◌, refl, ap, sym, subst, inl, inr, ◌∙◌}
+use Rattle.std.proofs.Common.{◌≡◌, ◌⊎◌, ℕ, ℤ, Bool, true, false, List, [], ◌∷◌, Option, Some, None, ◌||◌, refl, ap, sym, subst, inl, inr, ◌∙◌}
 use Rattle.std.specs.List.{list_any}
 use Rattle.std.specs.declared.result.Result.{Result}
 use Rattle.std.specs.declared.result.Result.TheVariants.{Ok, Err}
@@ -17,7 +17,7 @@ use Rattle.commit_machine.specs.Names.{record_name, new_name, right_name, staged
 use Rattle.commit_machine.specs.Records.{record_of, is_go, names_of}
 use Rattle.commit_machine.specs.Items.{Item, found_items, made_items}
 use Rattle.commit_machine.specs.Jobs.{Found, Refusal, Busy, TooLarge, Ending, Done, Refused, Failed, NoMemory, Outcome, Puts, Edit, Job, Made, all_of, edits_of, prepare_of, go_of, seen_files}
-use Rattle.commit_machine.specs.Machine.{State, Seizing, Looking, Undoing, Placing, Testing, Removing, Extending, Discarding, Unlocking, Erasing, Clearing, Preparing, Publishing, Locking, Loading, Staging, Deciding, Committing, Checking, Releasing, Ended, Then, GoOn, Answer, unlocking, undoing, removing, extending, stay, place_one, place_known, placing, staging, mended, none_stands, mending, record_seen, refusing, judged, loading, locking, loaded, next, refused, after_reply}
+use Rattle.commit_machine.specs.Machine.{State, Seizing, Timing, Looking, Undoing, Placing, Testing, Removing, Extending, Discarding, Unlocking, Erasing, Clearing, Preparing, Publishing, Locking, Loading, Staging, Deciding, Committing, Checking, Releasing, Ended, Then, GoOn, Answer, asking, unlocking, undoing, removing, extending, stay, place_one, place_known, placing, staging, mended, none_stands, mending, record_seen, refusing, judged, loading, locking, loaded, next, refused, after_reply}
 use Rattle.commit_machine.specs.Goes.{IsNext, reply, Goes}
 use Rattle.commit_machine.specs.Restraints.{is_failed}
 use Rattle.commit_driver.specs.declared.step.Passed.TheVariants as passed
@@ -25,7 +25,7 @@ use Rattle.folder_commit.specs.declared.error.CommitError.{CommitError}
 use Rattle.folder_commit.specs.declared.error.CommitError.TheVariants as error
 use Rattle.folder_commit.specs.Ends.{AnswersAs, Commits}
 use Rattle.folder_commit.specs.Told.{is_fault, TellsFaults}
-use Rattle.folder_commit.proofs.CleanLemmas.{extend-is, erase-is, publish-is, lock-is, unlock-is, seize-is, load-is, release-is, stage-is}
+use Rattle.folder_commit.proofs.CleanLemmas.{ask-is, extend-is, erase-is, publish-is, lock-is, unlock-is, seize-is, load-is, release-is, stage-is}
 
 -- the end of a call that failed
 abbrev pub is_failed_end : Ending → Bool
@@ -99,6 +99,10 @@ good_none : (o : Option (List Edit)) → Good (none_stands o)
 good_none None = (tt, refl)
 good_none (Some es) = (tt, refl)
 
+good_asking : (o : Option ℤ) → Good (asking o)
+good_asking None = (tt, refl)
+good_asking (Some time) = (tt, refl)
+
 good_mended : (o : Option (List Edit)) (f : Found) → Good (mended o f)
 good_mended None f = (tt, refl)
 good_mended (Some es) f = (tt, refl)
@@ -132,6 +136,7 @@ module _ (j : Job) where
 
   pub refused_bad : (s : State) → Clean s → AsBad s (refused j s)
   refused_bad Seizing h = (tt, refl)
+  refused_bad (Timing time) h = (tt, refl)
   refused_bad Looking h = (tt, refl)
   refused_bad (Undoing r n ns ls GoOn) h = (tt, refl)
   refused_bad (Undoing r n ns ls (Answer e)) h = (h, refl)
@@ -221,7 +226,7 @@ module _ (j : Job) where
 
   seizing-bad : (m : List ℕ) (got failed : Bool) → Steps Seizing (event.Seize m got failed)
   seizing-bad m got true = (tt, refl)
-  seizing-bad m true false = (tt, refl)
+  seizing-bad m true false = good_asking j.time
   seizing-bad m false false = (tt, refl)
 
   locking-bad : (ls : List (List ℕ)) (x : Edit) (left : List Edit) (m : List ℕ) (t : ℕ) (got failed : Bool) → Steps (Locking ls x left) (event.Lock m t got failed)
@@ -264,6 +269,7 @@ module _ (j : Job) where
 
   pub step-bad : (s : State) (e : Event) → Clean s → IsNext (next j s) e → Steps s e
   step-bad Seizing e h is = let w = seize-is (right_name j.actor) e is in subst (Steps Seizing) (sym w.2) (seizing-bad (right_name j.actor) w.0 w.1)
+  step-bad (Timing time) e h is = subst (Steps (Timing time)) (sym (ask-is time e is)) (tt, refl)
   step-bad Looking e h is = let w = load-is (record_name j.actor) e is in subst (Steps Looking) (sym w.1) (looking-bad (record_name j.actor) w.0)
   step-bad (Undoing r n ns ls th) e h is = let w = erase-is (staged_name r.token n) e is in subst (Steps (Undoing r n ns ls th)) (sym w.2) (undoing-bad r n ns ls th h (staged_name r.token n) w.0 w.1)
   step-bad (Placing r x xs ls th) e h is = let w = publish-is (staged_name r.token x.name) x.name e is in subst (Steps (Placing r x xs ls th)) (sym w.2) (placing-bad r x xs ls th h (staged_name r.token x.name) x.name w.0 w.1)

@@ -1,5 +1,5 @@
 -- The end of a commit by its own events.
-use Rattle.std.proofs.Common.{◌≡◌, ◌⊎◌, ℕ, Bool, true, false, List, [], ◌∷◌, ◌++◌, map, Option, Some, None, ◌||◌, refl, ap, sym, subst, inl, inr, ◌∙◌, append-nil, if◌then◌else◌}
+use Rattle.std.proofs.Common.{◌≡◌, ◌⊎◌, ℕ, ℤ, Bool, true, false, List, [], ◌∷◌, ◌++◌, map, Option, Some, None, ◌||◌, refl, ap, sym, subst, inl, inr, ◌∙◌, append-nil, if◌then◌else◌}
 use Rattle.std.specs.List.{list_any}
 use Rattle.std.specs.Str.{bytes_eq}
 use Rattle.std.specs.declared.result.Result.{Result}
@@ -20,7 +20,7 @@ use Rattle.commit_machine.specs.Records.{record_of, is_go, names_of}
 use Rattle.commit_machine.specs.Items.{Item, found_items, made_items}
 use Rattle.commit_machine.specs.Settled.{Files, Mem}
 use Rattle.commit_machine.specs.Jobs.{Found, Refusal, Busy, NotARecord, TooLarge, Ending, Done, Refused, NoMemory, Edit, Job, Made, all_names, all_of, prepare_of, go_of, made_at, seen_files}
-use Rattle.commit_machine.specs.Machine.{State, Seizing, Looking, Undoing, Placing, Testing, Removing, Extending, Discarding, Unlocking, Erasing, Clearing, Preparing, Publishing, Locking, Loading, Staging, Deciding, Committing, Checking, Releasing, Ended, Then, GoOn, Answer, unlocking, undoing, removing, extending, stay, place_one, place_known, placing, staging, mending, record_seen, refusing, judged, loading, locking, loaded, next, refused, after_reply}
+use Rattle.commit_machine.specs.Machine.{State, Seizing, Timing, Looking, Undoing, Placing, Testing, Removing, Extending, Discarding, Unlocking, Erasing, Clearing, Preparing, Publishing, Locking, Loading, Staging, Deciding, Committing, Checking, Releasing, Ended, Then, GoOn, Answer, unlocking, undoing, removing, extending, stay, place_one, place_known, placing, staging, mending, record_seen, refusing, judged, loading, locking, loaded, next, refused, after_reply}
 use Rattle.commit_machine.specs.Goes.{IsNext, reply, Goes}
 use Rattle.commit_machine.specs.Restraints.{is_failed}
 use Rattle.commit_machine.proofs.records.Names.{staged-new}
@@ -29,8 +29,8 @@ use Rattle.commit_driver.proofs.StateLemmas.{loaded-by}
 use Rattle.folder_commit.specs.declared.error.CommitError.{CommitError}
 use Rattle.folder_commit.specs.declared.error.CommitError.TheVariants as error
 use Rattle.folder_commit.specs.Ends.{AnswersAs}
-use Rattle.folder_commit.specs.Told.{seen_in, by_decision, by_changes, by_load, by_lock, by_standing, by_record, by_right, TellsFaults, TellsEnd}
-use Rattle.folder_commit.proofs.CleanLemmas.{extend-is, erase-is, publish-is, lock-is, unlock-is, seize-is, load-is, release-is, stage-is, AllQuiet, cleans-refusing, all-quiet}
+use Rattle.folder_commit.specs.Told.{seen_in, by_decision, by_changes, by_load, by_lock, by_standing, by_record, by_time, by_right, TellsFaults, TellsEnd}
+use Rattle.folder_commit.proofs.CleanLemmas.{ask-is, extend-is, erase-is, publish-is, lock-is, unlock-is, seize-is, load-is, release-is, stage-is, AllQuiet, cleans-refusing, all-quiet}
 
 or_parts : (a b : Bool) → (a || b) ≡ false → (a ≡ false) × (b ≡ false)
 or_parts true b h = absurd (cc)
@@ -66,16 +66,16 @@ names-more : (done : List Made) (x : Made) (names : List (List ℕ)) → made_na
 names-more [] x names = refl
 names-more (y ∷ ys) x names = ap (λ (ns : List (List ℕ)). y.edit.name ∷ ns) (names-more ys x names)
 
-abbrev job_with : List ℕ → ℕ → List Edit → (Files → Option Refusal) → Job
-job_with actor token edits refusal = record { actor = actor; token = token; edits = Some edits; refusal = refusal }
+abbrev job_with : List ℕ → ℕ → ℤ → List Edit → (Files → Option Refusal) → Job
+job_with actor token time edits refusal = record { actor = actor; token = token; time = Some time; edits = Some edits; refusal = refusal }
 
 -- a commit of one file at least, whose refusal depends on its files alone, none of which is the record or a staged file
-module _ (actor : List ℕ) (token : ℕ) (first : Edit) (more : List Edit) (refusal : Files → Option Refusal)
+module _ (actor : List ℕ) (token : ℕ) (time : ℤ) (first : Edit) (more : List Edit) (refusal : Files → Option Refusal)
     (by_names : (f g : Files) → ((n : List ℕ) → Mem n (all_names (first ∷ more)) → f n ≡ g n) → refusal f ≡ refusal g)
     (plain : (n : List ℕ) → Mem n (all_names (first ∷ more)) → bytes_eq n (record_name actor) ≡ false)
     (unstaged : (n : List ℕ) → Mem n (all_names (first ∷ more)) → (t : ℕ) (m : List ℕ) → bytes_eq n (staged_name t m) ≡ false) (files : Files) where
   abbrev job : Job
-  job = job_with actor token (first ∷ more) refusal
+  job = job_with actor token time (first ∷ more) refusal
 
   abbrev names : List (List ℕ)
   names = all_names (first ∷ more)
@@ -93,6 +93,7 @@ module _ (actor : List ℕ) (token : ℕ) (first : Edit) (more : List Edit) (ref
 
   abbrev end_from : State → List Event → Ending
   end_from Seizing es = by_right actor why names es
+  end_from (Timing at) es = by_time actor why names es
   end_from Looking es = by_record actor why names es
   end_from (Undoing r n ns ls th) es = end_then th es
   end_from (Placing r x xs ls th) es = end_then th es
@@ -125,6 +126,7 @@ module _ (actor : List ℕ) (token : ℕ) (first : Edit) (more : List Edit) (ref
   -- the states where no call has failed, before these events
   abbrev Shape : State → List Event → Type 0
   Shape Seizing es = Shown [] es
+  Shape (Timing at) es = Shown [] es
   Shape Looking es = Shown [] es
   Shape (Undoing r n ns ls th) es = ShownThen th es
   Shape (Placing r x xs ls th) es = ShownThen th es
@@ -360,6 +362,7 @@ module _ (actor : List ℕ) (token : ℕ) (first : Edit) (more : List Edit) (ref
 
   walks : (s : State) (e : Event) → IsNext (next job s) e → is_failed e ≡ false → Walks s e
   walks Seizing e is h = let w = seize-is (right_name actor) e is in subst (Walks Seizing) (sym w.2) (w-seizing w.0 w.1 (same-failed e _ w.2 h))
+  walks (Timing at) e is h = subst (Walks (Timing at)) (sym (ask-is at e is)) (λ es k. (k, refl))
   walks Looking e is h = let w = load-is (record_name actor) e is in subst (Walks Looking) (sym w.1) (w-looking w.0 (same-failed e _ w.1 h))
   walks (Undoing r n ns ls th) e is h = let w = erase-is (staged_name r.token n) e is in subst (Walks (Undoing r n ns ls th)) (sym w.2) (w-undoing r n ns ls th (staged_name r.token n) w.0 w.1 (same-failed e _ w.2 h))
   walks (Placing r x xs ls th) e is h = let w = publish-is (staged_name r.token x.name) x.name e is in subst (Walks (Placing r x xs ls th)) (sym w.2) (w-placing r x xs ls th x.name w.0 w.1 (same-failed e _ w.2 h))
@@ -407,6 +410,11 @@ module _ (actor : List ℕ) (token : ℕ) (first : Edit) (more : List Edit) (ref
   quiet-record [] q = refl
   quiet-record (e ∷ es) q = refl
 
+  quiet-time : (es : List Event) → AllQuiet es → by_time actor why names es ≡ NoMemory
+  quiet-time (event.Now t ∷ es) q = let h = q.0 in absurd (cc)
+  quiet-time [] q = refl
+  quiet-time (e ∷ es) q = refl
+
   quiet-right : (es : List Event) → AllQuiet es → by_right actor why names es ≡ NoMemory
   quiet-right (event.Seize m d f ∷ es) q = let h = q.0 in absurd (cc)
   quiet-right [] q = refl
@@ -427,6 +435,7 @@ module _ (actor : List ℕ) (token : ℕ) (first : Edit) (more : List Edit) (ref
 
   wants : (s : State) → Wants s
   wants Seizing es end goes k = (tt, sym (quiet-right es (all-quiet job es (Ended NoMemory) (Ended end) tt goes)))
+  wants (Timing at) es end goes k = (tt, sym (quiet-time es (all-quiet job es (Releasing NoMemory) (Ended end) tt goes)))
   wants Looking es end goes k = (tt, sym (quiet-record es (all-quiet job es (Releasing NoMemory) (Ended end) tt goes)))
   wants (Undoing r n ns ls GoOn) es end goes k = wants-end es end goes
   wants (Undoing r n ns ls (Answer a)) es end goes k = (tt, refl)

@@ -1,12 +1,12 @@
--- What is made before a commit begins.
-use Rattle.std.specs.Prelude.{◌≡◌, ◌<◌, ◌≤◌, ℕ, true, List, [], ◌∷◌, ◌++◌, map, length, All, if◌then◌else◌}
+-- What is made before a commit changes anything.
+use Rattle.std.specs.Prelude.{◌≡◌, ◌<◌, ◌≤◌, ℕ, ℤ, true, Option, Some, None, List, [], ◌∷◌, ◌++◌, map, length, All, if◌then◌else◌}
 use Rattle.std.specs.List.{list_any}
 use Rattle.std.specs.Str.{bytes_eq}
 use Rattle.std.specs.declared.result.Result.{Result}
 use Rattle.std.specs.declared.result.Result.TheVariants.{Ok, Err}
 use Rattle.folder_change.specs.declared.change.Change.{Change}
 use Rattle.folder_change.specs.Changes.{name_of}
-use Rattle.commit_record.specs.Format.{written}
+use Rattle.commit_record.specs.Format.{file_limit, nearest_moment, written}
 use Rattle.commit_record.specs.Ways.{entry_for}
 use Rattle.commit_record.specs.declared.record.Phase.{Phase}
 use Rattle.commit_record.specs.declared.record.Phase.TheVariants.{Prepare, Go}
@@ -33,24 +33,35 @@ replaced names = entries_for (λ n. Replace) names
 abbrev pub with_entry : List Entry → List ℕ → List Entry
 with_entry es name = if list_any (λ e. bytes_eq name e.name) es then es else es ++ entry_for Replace name ∷ []
 
-abbrev pub record_for : Phase → ℕ → List (List ℕ) → Record
-record_for phase token names = record { phase = phase; token = token; entries = replaced names }
+abbrev pub record_for : Phase → ℕ → Option ℤ → List (List ℕ) → Record
+record_for phase token moment names = record { phase = phase; token = token; moment = moment; entries = replaced names }
 
--- the plan of a commit of files of these names
-abbrev pub commit_plan : List ℕ → ℕ → List (List ℕ) → Plan
-commit_plan actor token names = record {
+-- the plan of a commit of files of these names, before it has a moment
+abbrev pub named_plan : List ℕ → ℕ → List (List ℕ) → Plan
+named_plan actor token names = record {
   «record» = record_name actor;
   new = new_name actor;
   right = right_name actor;
   commits = true;
-  value = record_for Go token names;
+  value = record_for Go token None names;
   staged = map (λ e. staged_name token e.name) (replaced names);
-  prepare = written (record_for Prepare token names);
+  prepare = [];
 }
 
--- the plan of a commit of changes, of 16 files at most
+-- a plan once it has this moment
+abbrev pub dated_plan : ℤ → Plan → Plan
+dated_plan moment plan = record plan {
+  value = record { phase = Go; token = plan.value.token; moment = Some moment; entries = plan.value.entries };
+  prepare = written (record { phase = Prepare; token = plan.value.token; moment = Some moment; entries = plan.value.entries });
+}
+
+-- the plan of a commit that was told this time
+abbrev pub commit_plan : List ℕ → ℕ → ℤ → List (List ℕ) → Plan
+commit_plan actor token time names = dated_plan (nearest_moment time) (named_plan actor token names)
+
+-- the names of a commit of changes, of as many files at most as a record may have
 abbrev pub Plans : List ℕ → ℕ → List Change → Result Plan CommitError → Type 0
-Plans actor token changes (Ok plan) = (length (first_names changes) ≤ 16) × (plan ≡ commit_plan actor token (first_names changes))
-Plans actor token changes (Err (error.TooManyNames count)) = (16 < length (first_names changes)) × (count ≡ length (first_names changes))
+Plans actor token changes (Ok plan) = (length (first_names changes) ≤ file_limit) × (plan ≡ named_plan actor token (first_names changes))
+Plans actor token changes (Err (error.TooManyNames count)) = (file_limit < length (first_names changes)) × (count ≡ length (first_names changes))
 Plans actor token changes (Err error.Memory) = Unit {0}
 Plans actor token changes (Err why) = ⊥

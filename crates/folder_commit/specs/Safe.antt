@@ -8,6 +8,7 @@ use Rattle.host_port.specs.Disk.{Disk, disk}
 use Rattle.host_port.specs.Calls.{Counts, Rose}
 use Rattle.folder_change.specs.declared.change.Change.{Change}
 use Rattle.folder_change.specs.Apply.{apply}
+use Rattle.commit_record.specs.Format.{file_limit}
 use Rattle.commit_machine.specs.Refusals.{first_refusal}
 use Rattle.commit_machine.specs.Jobs.{Job}
 use Rattle.commit_machine.specs.Edits.{first_names, job_for}
@@ -54,15 +55,15 @@ pub record CommitsSafely (j : Job) (changes : List Change) (base : List (List �
   pub nothing_left : MetNoFault result → IsFresh j.actor j.token (disk d es)
   pub busy : (name : List ℕ) → result ≡ Err (error.Busy name) → MetAnother j.token d es name
 
--- a commit of changes of 16 files at most is safe; without a change there is none
+-- A commit of changes of 256 files at most is safe; without a change there is none. What it makes of the disk doesn't depend on its time.
 abbrev pub IsSafe : List ℕ → ℕ → List Change → List (List ℕ) → Disk → List Event → Result Unit CommitError → Type 0
 IsSafe actor token [] base d es result = Unit {0}
-IsSafe actor token (c ∷ cs) base d es result = length (first_names (c ∷ cs)) ≤ 16 → CommitsSafely (job_for actor token (c ∷ cs) base) (c ∷ cs) base d es result
+IsSafe actor token (c ∷ cs) base d es result = length (first_names (c ∷ cs)) ≤ file_limit → CommitsSafely (job_for actor token (c ∷ cs) base) (c ∷ cs) base d es result
 
--- Nothing hinders a commit of changes, by its own events: it is one of 16 files at most, it meets nobody else's right or lock and no file past the
+-- Nothing hinders a commit of changes, by its own events: it is one of 256 files at most, it meets nobody else's right or lock and no file past the
 -- limit, the record reads, and the changes can be made of what is loaded.
 pub record IsUnhindered (actor : List ℕ) (changes : List Change) (base : List (List ℕ)) (es : List Event) : Type 0 where
-  pub few : length (first_names changes) ≤ 16
+  pub few : length (first_names changes) ≤ file_limit
   pub free : list_any (is_hindrance actor) es ≡ false
   pub can : refusal_told changes base es ≡ None
 

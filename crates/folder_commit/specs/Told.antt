@@ -8,8 +8,9 @@ use Rattle.std.specs.declared.option.Option.TheVariants.{Some, None}
 use Rattle.std.specs.declared.result.Result.{Result}
 use Rattle.std.specs.declared.result.Result.TheVariants.{Ok, Err}
 use Rattle.host_port.specs.declared.event.Event.{Event}
-use Rattle.host_port.specs.declared.event.Event.TheVariants.{Load, Publish, Lock, Seize}
+use Rattle.host_port.specs.declared.event.Event.TheVariants.{Load, Publish, Lock, Seize, Now}
 use Rattle.host_port.specs.declared.event.Seen.TheVariants as seen
+use Rattle.commit_record.specs.Format.{file_limit}
 use Rattle.commit_record.specs.declared.record.Record.{Record}
 use Rattle.folder_change.specs.declared.change.Change.{Change}
 use Rattle.commit_machine.specs.Refusals.{first_refusal}
@@ -72,10 +73,15 @@ by_record actor why names (Load n (seen.Bytes (Some bytes) held) ∷ es) = by_st
 by_record actor why names (Load n (seen.TooLarge length) ∷ es) = Refused (TooLarge n length)
 by_record actor why names es = NoMemory
 
+-- from the question for the time on
+abbrev pub by_time : List ℕ → Option Refusal → List (List ℕ) → List Event → Ending
+by_time actor why names (Now seconds ∷ es) = by_record actor why names es
+by_time actor why names es = NoMemory
+
 -- from the seizure on
 abbrev pub by_right : List ℕ → Option Refusal → List (List ℕ) → List Event → Ending
 by_right actor why names (Seize n false failed ∷ es) = Refused (Busy n)
-by_right actor why names (Seize n true failed ∷ es) = by_record actor why names es
+by_right actor why names (Seize n true failed ∷ es) = by_time actor why names es
 by_right actor why names es = NoMemory
 
 -- why changes can't be made of what was loaded
@@ -128,9 +134,9 @@ TellsEnd files end (Err (error.Disk passed)) = Unit {0}
 TellsEnd files end (Err error.Memory) = WantedAs files end
 TellsEnd files end (Err (error.TooManyNames count)) = ⊥
 
--- The answer of a commit of changes of 16 files at most is as the own events give it, in this order: a call failed, where it says too whether
+-- The answer of a commit of changes of 256 files at most is as the own events give it, in this order: a call failed, where it says too whether
 -- anything is known of the decision; the right or the record that stands refused it; the lock of a file did, in order of first naming; the load of
 -- one did; the changes, in order, can't be made of what was loaded; or it was decided.
 abbrev pub IsTold : List ℕ → List Change → List (List ℕ) → List Event → Result Unit CommitError → Type 0
 IsTold actor [] base es result = TellsFaults es result × TellsUnknown es result
-IsTold actor (c ∷ cs) base es result = TellsFaults es result × TellsUnknown es result × (length (first_names (c ∷ cs)) ≤ 16 → TellsEnd (first_names (c ∷ cs)) (end_told actor (c ∷ cs) base es) result)
+IsTold actor (c ∷ cs) base es result = TellsFaults es result × TellsUnknown es result × (length (first_names (c ∷ cs)) ≤ file_limit → TellsEnd (first_names (c ∷ cs)) (end_told actor (c ∷ cs) base es) result)

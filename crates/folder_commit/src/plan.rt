@@ -1,20 +1,19 @@
-// What is made before a commit begins, so that nothing that follows its decision runs out of memory.
-ghost use Rattle.std.specs.Prelude.{◌≡◌, ◌≤◌, true, length, IfOk, OnOk};
+// What is made before a commit changes anything, so that nothing that follows its decision runs out of memory.
+ghost use Rattle.std.specs.Prelude.{◌≡◌, ◌≤◌, true, Some, length, IfOk, OnOk};
 ghost use Rattle.std.specs.List.{list_any};
 ghost use Rattle.std.specs.Str.{bytes_eq};
 ghost use Rattle.commit_machine.specs.Edits.{first_names};
-ghost use Rattle.folder_commit.specs.Plans.{Plans, AreFiles, replaced, with_entry};
+ghost use Rattle.commit_record.specs.Format.{is_valid};
+ghost use Rattle.commit_record.specs.declared.record.Phase.TheVariants.{Prepare};
+ghost use Rattle.folder_commit.specs.Plans.{Plans, AreFiles, dated_plan, replaced, with_entry};
 
 use crate::CommitError;
 use commit_driver::{Plan, staged_names};
 use commit_machine::{new_name, record_name, right_name};
-use commit_record::{Entry, Phase, Record, Way, entry_for, write};
+use commit_record::{Entry, FILE_LIMIT, Phase, Record, Way, entry_for, write};
 use folder_change::{Change, change_name};
 use mail_text::{Items, Memory, Text};
 use std::alloc::Global;
-
-/// The most files of a commit.
-const MOST_NAMES: usize = 16;
 
 // Whether an entry has this name.
 fn has_name(entries: &[Entry], name: &[u8]) -> bool
@@ -45,7 +44,7 @@ fn entries_for(alloc: Global, changes: &[Change]) -> Result<Items<Entry>, Memory
     Ok(entries)
 }
 
-/// The plan of a commit of these changes: `TooManyNames` if they name more than 16 files.
+/// The names of a commit of these changes: `TooManyNames` if they name more than 256 files. The plan has no moment yet.
 pub fn plan_for(
     alloc: Global,
     actor: &[u8],
@@ -58,7 +57,7 @@ pub fn plan_for(
 {
     let entries = entries_for(alloc, changes)?;
     let count = entries.items().len();
-    if count > MOST_NAMES {
+    if count > FILE_LIMIT {
         return Err(CommitError::TooManyNames {
             count: count as u64,
         });
@@ -67,20 +66,37 @@ pub fn plan_for(
     let new = new_name(alloc, actor)?;
     let right = right_name(alloc, actor)?;
     let staged = staged_names(alloc, token, entries.items())?;
-    let mut value = Record {
-        phase: Phase::Prepare,
-        token,
-        entries,
-    };
-    let prepare = write(alloc, &value)?;
-    value.phase = Phase::Go;
     Ok(Plan {
         record,
         new,
         right,
         commits: true,
-        value,
+        value: Record {
+            phase: Phase::Go,
+            token,
+            moment: None,
+            entries,
+        },
         staged,
-        prepare,
+        prepare: Text::new(alloc),
     })
+}
+
+/// Gives a plan its moment, and the text of the record before the decision.
+pub fn date(alloc: Global, plan: &mut Plan, moment: i64) -> Result<(), Memory>
+    requires { is_valid (record {
+      phase = Prepare;
+      token = plan.old.value.token;
+      moment = Some moment;
+      entries = plan.old.value.entries;
+    }) ≡ true }
+    ensures done { OnOk result (plan.exit.now ≡ dated_plan moment plan.entry.now) }
+    ensures right { plan.exit.now.right ≡ plan.entry.now.right }
+{
+    plan.value.phase = Phase::Prepare;
+    plan.value.moment = Some(moment);
+    let prepare = write(alloc, &plan.value)?;
+    plan.value.phase = Phase::Go;
+    plan.prepare = prepare;
+    Ok(())
 }

@@ -17,8 +17,10 @@ ghost use Rattle.folder_commit.specs.Safe.{MayCommit, IsSafe, IsComplete};
 ghost use Rattle.folder_commit.specs.Commits.{IsCommit, IsNamed, answer_of};
 
 use crate::CommitError;
-use crate::plan::plan_for;
-use commit_driver::{End, Place, Plan, drive};
+use crate::plan::{date, plan_for};
+use commit_driver::calls::{ask, release};
+use commit_driver::{Begun, End, Passed, Place, Plan, begin, drive};
+use commit_record::nearest_moment;
 use folder_change::Change;
 use host_port::Host;
 use mail_text::{Items, Memory, Text};
@@ -55,14 +57,13 @@ fn staged_file(place: Place, at: usize) -> Text
     staged.remove(at)
 }
 
-// The answer of a commit that ended so.
+// The answer of a commit that took its right and ended so.
 fn answer(end: End, plan: Plan, place: Place) -> Result<(), CommitError>
     requires { EndFits (files_of plan) (length place.found_staged) end }
     ensures { result ≡ answer_of end plan place }
 {
     match end {
         End::Done => Ok(()),
-        End::RightBusy => Err(CommitError::Busy { name: plan.right }),
         End::Busy(at) => Err(CommitError::Busy {
             name: file_name(plan, at),
         }),
@@ -107,8 +108,25 @@ fn some_changes<H: Host>(
     ensures cause { CommitCause (H.world.counts host.old) (H.world.counts host.new) result }
     ensures named { IsNamed actor.now changes.now result }
 {
-    let plan = plan_for(alloc, actor, token, changes)?;
+    let mut plan = plan_for(alloc, actor, token, changes)?;
     let files = room(alloc, plan.value.entries.items().len())?;
+    match begin(host, plan.right.bytes()) {
+        Begun::Taken => {}
+        Begun::Busy => return Err(CommitError::Busy { name: plan.right }),
+        Begun::Failed => {
+            return Err(CommitError::Disk {
+                passed: Passed::Before,
+            });
+        }
+    }
+    let moment = nearest_moment(ask(host));
+    match date(alloc, &mut plan, moment) {
+        Ok(()) => {}
+        Err(Memory) => {
+            release(host, plan.right.bytes());
+            return Err(CommitError::Memory);
+        }
+    }
     let place = Place::new(alloc, files);
     let (end, place) = drive(alloc, &plan, place, changes, base, host);
     answer(end, plan, place)
@@ -138,12 +156,13 @@ fn whole<H: Host>(
     }
 }
 
-/// Makes changes of up to 16 files as one commit: stopped at any moment, a recovery leaves all of them or none. The
-/// actor's right is taken first and given up at the end, and a commit that was stopped before is recovered. `token`
-/// is a number that no other run has. `base` is the folder for which a rewrite among the changes was made. Without a
+/// Makes changes of up to 256 files as one commit: stopped at any moment, a recovery leaves all of them or none. The
+/// actor's right is taken first and given up at the end, and a commit that was stopped before is recovered. Once the
+/// right is taken the time is asked for, and the records of the commit have the nearest moment that they may. `token` is
+/// a number that no other run has. `base` is the folder for which a rewrite among the changes was made. Without a
 /// change nothing is done.
 ///
-/// `TooManyNames` comes if the changes name more than 16 files; then nothing is done. `Busy` comes if another has
+/// `TooManyNames` comes if the changes name more than 256 files; then nothing is done. `Busy` comes if another has
 /// the right or a file's lock, `Record` if what stands as the record is none, `Changed` if the file's messages
 /// don't begin with those of `base`, and `TooLarge` if a file that is loaded or would be staged is too large. A file
 /// that the changes leave absent is removed. Then, as when memory runs out, nothing is changed and nothing of this
