@@ -1,72 +1,53 @@
--- Names and their keys, the names in lower case.
-use Rattle.std.proofs.Common.{◌≡◌, ℕ, zero, suc, Bool, true, false, not, ◌||◌, List, [], ◌∷◌, ◌++◌, map, take, Vec, refl, sym, ap, ◌∙◌, true≢false}
-use Rattle.std.specs.List.{list_any}
-use Rattle.std.specs.Str.{bytes_eq, str_to_ascii_lowercase}
-use Rattle.std.specs.declared.alloc.Global.{Global}
-use Rattle.std.proofs.lemmas.Bool.{cond-true, cond-false}
+-- Names and the places of their keys, the names in lower case.
+use Rattle.std.proofs.Common.{◌≡◌, ℕ, ◌+◌, Bool, true, false, nat_lt, List, [], ◌∷◌, ◌++◌, length, take, filter, is_some, Some, BTreeMap, nat_cmp, bytes_eq, sym, ap, ◌∙◌, ⊎_elim, arith}
+use Rattle.std.specs.BTreeMap.{IsOrdered, Updates, get_by}
+use Rattle.std.specs.Cmp.Lexicographic.{nat_list_eq_equiv, slice_cmp}
+use Rattle.std.specs.List.{list_any, position_from}
+use Rattle.std.specs.Map.{lookup}
+use Rattle.std.specs.Str.{str_to_ascii_lowercase}
+use Rattle.std.proofs.lemmas.Bool.{cases_Bool, cond-false, cond-true}
+use Rattle.std.proofs.lemmas.Slice.Eq.{bytes_eq-Decides}
+use Rattle.std.proofs.lemmas.Map.Entries.{option_filter}
 use Rattle.name_lists.specs.Names.{has_name, with_name}
-use Rattle.name_lists.specs.Keys.{AreKeysOf}
+use Rattle.name_lists.specs.Keys.{ArePlacesOf}
+use Rattle.name_lists.proofs.PlaceLemmas.{Key, at, found-after, found-kept, place-any, place-new, place-other, place-take}
 
-abbrev pub Key : Type 0
-Key = Vec ℕ Global
+abbrev is_key : List ℕ → List ℕ → Bool
+is_key key name = bytes_eq key (str_to_ascii_lowercase name)
 
-any-map : {A B : Type 0} (f : B → Bool) (g : A → B) (xs : List A) → list_any (λ x. f (g x)) xs ≡ list_any f (map g xs)
-any-map f g [] = refl
-any-map f g (x ∷ xs) = ap (λ b. f (g x) || b) (any-map f g xs)
+module _ (names : List (List ℕ)) (places : BTreeMap Key ℕ) (all : ArePlacesOf names places) where
+  -- a name is found among the keys exactly where it is among the names
+  pub found-has : (name key : List ℕ) → key ≡ str_to_ascii_lowercase name → is_some (get_by (λ (k : Key). slice_cmp nat_cmp key k.items) places) ≡ has_name names name
+  found-has name key is = ap is_some (all key) ∙ place-any (is_key key) 0 names ∙ ap (λ l. list_any (is_key l) names) is
 
--- a name is found among the keys exactly where it is among the names
-pub found-has : (names : List (List ℕ)) (keys : List Key) (name lower : List ℕ) → AreKeysOf names keys → lower ≡ str_to_ascii_lowercase name → list_any (λ (k : Key). bytes_eq lower k.items) keys ≡ has_name names name
-found-has names keys name lower all is =
-    any-map (bytes_eq lower) (λ (k : Key). k.items) keys
-    ∙ ap (list_any (bytes_eq lower)) all
-    ∙ ap (λ (l : List ℕ). list_any (bytes_eq l) (map str_to_ascii_lowercase names)) is
-    ∙ sym (any-map (bytes_eq (str_to_ascii_lowercase name)) str_to_ascii_lowercase names)
+  -- the places with one more name
+  pub places-push : (name : List ℕ) (key : Key) (new : BTreeMap Key ℕ) → has_name names name ≡ false → key.items ≡ str_to_ascii_lowercase name
+      → Updates (λ (x y : Key). slice_cmp nat_cmp x.items y.items) places new key (Some (length names)) → ArePlacesOf (names ++ name ∷ []) new
+  places-push name key new none is updates text =
+      found-after key.items places new (Some (length names)) updates text
+      ∙ ⊎_elim
+      (λ own.
+      let same : text ≡ str_to_ascii_lowercase name = sym ((bytes_eq-Decides key.items text).0 own) ∙ is in
+      cond-true _ _ _ own
+      ∙ ap Some (let e : length names ≡ 0 + length names = omega arith in e)
+      ∙ sym (place-new (is_key text) 0 names name (ap (λ l. list_any (is_key l) names) same ∙ none) ((bytes_eq-Decides text (str_to_ascii_lowercase name)).1 same)))
+      (λ other.
+      cond-false _ _ _ other
+      ∙ all text
+      ∙ sym (place-other (is_key text) 0 names name (ap (bytes_eq text) (sym is) ∙ nat_list_eq_equiv.symm text key.items ∙ other)))
+      (cases_Bool (bytes_eq key.items text))
+
+  -- the places of the first names
+  pub places-take : (count : ℕ) (new : BTreeMap Key ℕ) → IsOrdered (λ (x y : Key). slice_cmp nat_cmp x.items y.items) places → new.entries ≡ filter (λ e. nat_lt e.1 count) places.entries → ArePlacesOf (take count names) new
+  places-take count new ordered kept text =
+      ap (lookup (at text)) kept
+      ∙ found-kept (λ p. nat_lt p count) places ordered text
+      ∙ ap (option_filter (λ p. nat_lt p count)) (all text)
+      ∙ ap (λ n. option_filter (λ p. nat_lt p n) (position_from (is_key text) 0 names)) (let e : count ≡ 0 + count = omega arith in e)
+      ∙ sym (place-take (is_key text) 0 count names)
 
 pub with_name-new : (names : List (List ℕ)) (name : List ℕ) → has_name names name ≡ false → with_name names name ≡ names ++ name ∷ []
 with_name-new names name none = cond-false _ _ _ none
 
 pub with_name-there : (names : List (List ℕ)) (name : List ℕ) → has_name names name ≡ true → with_name names name ≡ names
 with_name-there names name there = cond-true _ _ _ there
-
-map-append : {A B : Type 0} (g : A → B) (xs ys : List A) → map g (xs ++ ys) ≡ map g xs ++ map g ys
-map-append g [] ys = refl
-map-append g (x ∷ xs) ys = ap (λ l. g x ∷ l) (map-append g xs ys)
-
-pub keys-push : (names : List (List ℕ)) (keys : List Key) (name : List ℕ) (key : Key) → AreKeysOf names keys → key.items ≡ str_to_ascii_lowercase name → AreKeysOf (names ++ name ∷ []) (keys ++ key ∷ [])
-keys-push names keys name key all is =
-    map-append (λ (k : Key). k.items) keys (key ∷ [])
-    ∙ ap (λ l. l ++ key.items ∷ []) all
-    ∙ ap (λ (k : List ℕ). map str_to_ascii_lowercase names ++ k ∷ []) is
-    ∙ sym (map-append str_to_ascii_lowercase names (name ∷ []))
-
-take-map : {A B : Type 0} (g : A → B) (n : ℕ) (xs : List A) → map g (take n xs) ≡ take n (map g xs)
-take-map g zero xs = refl
-take-map g (suc n) [] = refl
-take-map g (suc n) (x ∷ xs) = ap (λ l. g x ∷ l) (take-map g n xs)
-
-pub keys-take : (names : List (List ℕ)) (keys : List Key) (n : ℕ) → AreKeysOf names keys → AreKeysOf (take n names) (take n keys)
-keys-take names keys n all = take-map (λ (k : Key). k.items) n keys ∙ ap (take n) all ∙ sym (take-map str_to_ascii_lowercase n names)
-
-not-true : (b added : Bool) → added ≡ not b → added ≡ true → b ≡ false
-not-true true added is t = absurd (true≢false (sym t ∙ is))
-not-true false added is t = refl
-
-not-false : (b added : Bool) → added ≡ not b → added ≡ false → b ≡ true
-not-false true added is f = refl
-not-false false added is f = absurd (true≢false (sym is ∙ f))
-
--- what a key's insertion says of the name, with the names and keys before it
-module _ (names : List (List ℕ)) (keys : List Key) (name lower : List ℕ) (added : Bool) (all : AreKeysOf names keys) (is : lower ≡ str_to_ascii_lowercase name)
-    (said : added ≡ not (list_any (λ (k : Key). bytes_eq lower k.items) keys)) where
-  pub inserted : added ≡ true → with_name names name ≡ names ++ name ∷ []
-  inserted t = with_name-new names name (sym (found-has names keys name lower all is) ∙ not-true _ _ said t)
-
-  pub present : added ≡ false → with_name names name ≡ names
-  present f = with_name-there names name (sym (found-has names keys name lower all is) ∙ not-false _ _ said f)
-
-  -- the key is then last
-  pub keys-inserted : added ≡ true → (list_any (λ (k : Key). bytes_eq lower k.items) keys) ≡ false
-  keys-inserted t = not-true _ _ said t
-
-  pub keys-present : added ≡ false → (list_any (λ (k : Key). bytes_eq lower k.items) keys) ≡ true
-  keys-present f = not-false _ _ said f

@@ -1,14 +1,14 @@
-// Names in order, each once, with an index by their lower-case forms.
+// Names in order, each once, with their places in a tree by their lower-case forms.
 ghost use Rattle.std.specs.Prelude.{◌≡◌, ◌≤◌, [], length, take, IfOk, OnOk, OnErr};
 ghost use Rattle.name_lists.specs.Names.{has_name, with_name, with_names};
 ghost use Rattle.std.specs.Str.{str_to_ascii_lowercase};
 
-use indexmap::IndexSet;
 use mail_text::{Memory, Text, same_ascii};
 use std::alloc::Global;
+use std::collections::BTreeMap;
 use std::marker::Model;
 
-// A name of up to this many bytes is looked for in the index without memory; a longer one would make a header's line
+// A name of up to this many bytes is looked for in the tree without memory; a longer one would make a header's line
 // longer than RFC 5322, section 2.1.1 allows.
 const LONGEST: usize = 998;
 
@@ -17,18 +17,18 @@ const LONGEST: usize = 998;
 pub struct Names {
     alloc: Global,
     names: Vec<Text>,
-    keys: IndexSet<Vec<u8>>,
+    places: BTreeMap<Vec<u8>, usize>,
 }
 
 impl Model for Names {
     ghost use Rattle.std.specs.Prelude.{List, ℕ};
-    ghost use Rattle.name_lists.specs.Keys.{AreKeysOf};
+    ghost use Rattle.name_lists.specs.Keys.{ArePlacesOf};
 
     ghost Value = { List (List ℕ) };
 
     ghost view = { λ n. n.names.items };
 
-    ghost invariant = { λ n. AreKeysOf n.names.items n.keys.keys };
+    ghost invariant = { λ n. ArePlacesOf n.names.items n.places };
 }
 
 impl Names {
@@ -39,7 +39,7 @@ impl Names {
         Names {
             alloc,
             names: Vec::new(alloc),
-            keys: IndexSet::new(alloc),
+            places: BTreeMap::new(alloc),
         }
     }
 
@@ -64,12 +64,12 @@ impl Names {
         self.names
     }
 
-    /// Whether the name is among them, in time that grows with the name alone.
+    /// Whether the name is among them, in time that grows with the name and the logarithm of their number.
     pub fn look_up(&self, name: &[u8]) -> Result<bool, Memory>
         ensures { IfOk result (λ has. has ≡ has_name self.now name.now) }
     {
         let key = lower_case(self.alloc, name)?;
-        Ok(self.keys.contains(key.as_slice()))
+        Ok(self.places.contains_key(key.as_slice()))
     }
 
     /// Whether the name is among them. It takes no memory, so a name of more than 998 bytes is compared with each.
@@ -84,7 +84,7 @@ impl Names {
             let key = &mut buffer[..name.len()];
             key.copy_from_slice(name);
             key.make_ascii_lowercase();
-            self.keys.contains(&*key)
+            self.places.contains_key(&*key)
         } else {
             self.names
                 .iter()
@@ -125,14 +125,15 @@ impl Names {
     {
         let text = Text::copy(self.alloc, name)?;
         let key = lower_case(self.alloc, name)?;
-        self.names.try_reserve(1)?;
-        if self.keys.insert(key)? {
-            match self.names.push(text) {
-                Ok(()) => {}
-                Err(_) => unreachable!(),
-            }
+        if self.places.contains_key(key.as_slice()) {
+            return Ok(());
         }
-        Ok(())
+        self.names.try_reserve(1)?;
+        self.places.insert(key, self.names.len())?;
+        match self.names.push(text) {
+            Ok(()) => Ok(()),
+            Err(_) => unreachable!(),
+        }
     }
 
     // Keeps the first names alone.
@@ -140,7 +141,7 @@ impl Names {
         ensures { self.new ≡ take count self.old }
     {
         self.names.truncate(count);
-        self.keys.truncate(count);
+        self.places.retain(|_, place| *place < count);
     }
 }
 
