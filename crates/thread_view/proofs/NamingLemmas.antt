@@ -2,23 +2,22 @@
 use Rattle.std.proofs.Common.{◌≡◌, ℕ, zero, suc, ◌+◌, ◌-◌, ◌<◌, ◌≤◌, Bool, true, false, not, nat_lt, List, [], ◌∷◌, length, drop, get_or, slice_get, position, Option, unwrap_or, if◌then◌else◌, refl, sym, ap, ◌∙◌, ⊎_elim, arith, true≢false, lt-ltb, le-ltb, ltb-true, ltb-false, Bor, ne_eqb}
 use Rattle.std.specs.declared.option.Option.TheVariants.{Some, None}
 use Rattle.std.specs.List.{position_or_len}
-use Rattle.std.specs.Map.{lookup}
+use Rattle.std.specs.BTreeMap.{BTreeMap, Updates, get_by}
+use Rattle.std.specs.Cmp.Lexicographic.{slice_cmp}
+use Rattle.std.specs.Ordering.{nat_cmp}
 use Rattle.std.specs.Option.{option_and_then, option_map_or}
 use Rattle.std.specs.Str.{bytes_eq}
 use Rattle.std.proofs.lemmas.Bool.{cases_Bool, cond-false}
 use Rattle.std.proofs.lemmas.List.{drop_all, drop_more}
+use Rattle.std.proofs.lemmas.Map.Text.{btree_map_updates_str}
 use Rattle.std.proofs.lemmas.Slice.Eq.{bytes_eq-Decides}
-use Rattle.indexmap.specs.IndexMap.{insert_entry}
 use Rattle.message_state.specs.declared.row.Row.{Row}
 use Rattle.thread_view.specs.Naming.{id_in}
 use Rattle.thread_view.specs.Parents.{answered, named, parent_of, row_at}
 use Rattle.thread_view.proofs.SortLemmas.{row_at-there}
 
-abbrev pub Named : Type 0
-Named = Bor (List ℕ) × ℕ
-
-abbrev pub same_id : Bor (List ℕ) → Bor (List ℕ) → Bool
-same_id a b = bytes_eq a.now b.now
+abbrev pub Ids : Type 0
+Ids = BTreeMap (Bor (List ℕ)) ℕ
 
 same-refl : (a : List ℕ) → bytes_eq a a ≡ true
 same-refl a = (bytes_eq-Decides a a).1 refl
@@ -33,24 +32,12 @@ same-symm a b =
     (cases_Bool (bytes_eq a b))
 
 -- what is found once an id is put in
-pub id-put : (es : List Named) (k : Bor (List ℕ)) (v : ℕ) (id : List ℕ) → id_in (insert_entry same_id es k v) id ≡ (if bytes_eq id k.now then v else id_in es id)
-id-put [] k v id = go (bytes_eq id k.now)
+pub id-put : (old new : Ids) (key : Bor (List ℕ)) (v : ℕ) (id : List ℕ) → Updates (λ x y. slice_cmp nat_cmp x.now y.now) old new key (Some v) → id_in new id ≡ (if bytes_eq key.now id then v else id_in old id)
+id-put old new key v id updates = ap (λ o. unwrap_or o 0) (btree_map_updates_str key.now old new (Some v) updates id) ∙ go (bytes_eq key.now id)
   where
-    go : (b : Bool) → unwrap_or (if b then Some v else None) 0 ≡ (if b then v else 0)
+    go : (b : Bool) → unwrap_or (if b then Some v else get_by (λ k. slice_cmp nat_cmp id k.now) old) 0 ≡ (if b then v else id_in old id)
     go true = refl
     go false = refl
-id-put (e ∷ es) k v id = go (bytes_eq k.now e.0.now) (bytes_eq id e.0.now) (bytes_eq id k.now) refl refl refl (id-put es k v id)
-  where
-    go : (own here new : Bool) → bytes_eq k.now e.0.now ≡ own → bytes_eq id e.0.now ≡ here → bytes_eq id k.now ≡ new
-        → id_in (insert_entry same_id es k v) id ≡ (if new then v else id_in es id)
-        → unwrap_or (lookup (λ key. bytes_eq id key.now) (if own then (e.0, v) ∷ es else e ∷ insert_entry same_id es k v)) 0 ≡ (if new then v else unwrap_or (if here then Some e.1 else lookup (λ key. bytes_eq id key.now) es) 0)
-    go true true true o h n rest = ap (λ (b : Bool). unwrap_or (if b then Some v else lookup (λ key. bytes_eq id key.now) es) 0) h
-    go true false false o h n rest = ap (λ (b : Bool). unwrap_or (if b then Some v else lookup (λ key. bytes_eq id key.now) es) 0) h
-    go true true false o h n rest = absurd (true≢false (sym h ∙ ap (bytes_eq id) (sym (to-same k.now e.0.now o)) ∙ n))
-    go true false true o h n rest = absurd (true≢false (sym n ∙ ap (bytes_eq id) (to-same k.now e.0.now o) ∙ h))
-    go false true true o h n rest = absurd (true≢false (sym (same-refl id) ∙ ap (λ x. bytes_eq x id) (to-same id k.now n) ∙ ap (bytes_eq k.now) (to-same id e.0.now h) ∙ o))
-    go false true false o h n rest = ap (λ (b : Bool). unwrap_or (if b then Some e.1 else lookup (λ key. bytes_eq id key.now) (insert_entry same_id es k v)) 0) h
-    go false false new o h n rest = ap (λ (b : Bool). unwrap_or (if b then Some e.1 else lookup (λ key. bytes_eq id key.now) (insert_entry same_id es k v)) 0) h ∙ rest
 
 -- ---- the least message after the first k ones with an own id
 abbrev pub named_from : List Row → ℕ → List ℕ → ℕ
@@ -96,12 +83,11 @@ pub named-none : (rows : List Row) (id : List ℕ) → named_from rows (length r
 named-none rows id = ap (λ l. option_map_or (λ p. p + length rows + 1) (position (λ r. bytes_eq r.texts.own_id id) l) 0) (drop_all (length rows) rows (omega arith))
 
 -- the map after message k is put in
-pub names-step : (rows : List Row) (k : ℕ) (row : Row) (key : Bor (List ℕ)) (old new : List Named) (id : List ℕ) → 1 ≤ k → k ≤ length rows → row ≡ get_or rows (k - 1) row → key.now ≡ row.texts.own_id
-    → new ≡ insert_entry same_id old key k → id_in old id ≡ named_from rows k id → id_in new id ≡ named_from rows (k - 1) id
+pub names-step : (rows : List Row) (k : ℕ) (row : Row) (key : Bor (List ℕ)) (old new : Ids) (id : List ℕ) → 1 ≤ k → k ≤ length rows → row ≡ get_or rows (k - 1) row → key.now ≡ row.texts.own_id
+    → Updates (λ x y. slice_cmp nat_cmp x.now y.now) old new key (Some k) → id_in old id ≡ named_from rows k id → id_in new id ≡ named_from rows (k - 1) id
 names-step rows k row key old new id low high read own put before =
-    ap (λ es. id_in es id) put
-    ∙ id-put old key k id
-    ∙ ap (λ (b : Bool). if b then k else id_in old id) (same-symm id key.now ∙ ap (λ t. bytes_eq t id) own)
+    id-put old new key k id put
+    ∙ ap (λ t. if bytes_eq t id then k else id_in old id) own
     ∙ ap (λ (n : ℕ). if bytes_eq row.texts.own_id id then k else n) before
     ∙ ap (λ (n : ℕ). if bytes_eq row.texts.own_id id then n else named_from rows n id) (let e : k ≡ k - 1 + 1 = omega arith in e)
     ∙ sym (named-step rows (k - 1) row id (omega arith) read)

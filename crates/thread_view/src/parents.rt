@@ -5,17 +5,17 @@ ghost use Rattle.mbox_scan.specs.Mailbox.{message_limit};
 ghost use Rattle.thread_view.specs.Naming.{AreNames, AreParents, id_in};
 ghost use Rattle.thread_view.specs.Parents.{named, names_another, answered};
 
-use indexmap::IndexMap;
 use mail_text::{Memory, Text};
 use message_state::Row;
 use std::alloc::Global;
+use std::collections::BTreeMap;
 
 // The least message with each own id.
-fn names_of<'a>(alloc: Global, rows: &'a [Row]) -> Result<IndexMap<&'a [u8], u32>, Memory>
+fn names_of<'a>(alloc: Global, rows: &'a [Row]) -> Result<BTreeMap<&'a [u8], u32>, Memory>
     requires { length rows.now ≤ message_limit }
-    ensures { IfOk result (λ ids. AreNames rows.now ids.entries) }
+    ensures { IfOk result (λ ids. AreNames rows.now ids) }
 {
-    let mut ids = IndexMap::new(alloc);
+    let mut ids = BTreeMap::new(alloc);
     let mut k = rows.len();
     while k > 0 {
         ids.insert(rows[k - 1].texts.own_id(), k as u32)?;
@@ -25,8 +25,8 @@ fn names_of<'a>(alloc: Global, rows: &'a [Row]) -> Result<IndexMap<&'a [u8], u32
 }
 
 // The message that an id names, or 0.
-fn named(ids: &IndexMap<&[u8], u32>, id: &[u8]) -> u32
-    ensures { result ≡ id_in ids.now.entries id.now }
+fn named(ids: &BTreeMap<&[u8], u32>, id: &[u8]) -> u32
+    ensures { result ≡ id_in ids.now id.now }
 {
     match ids.get(id) {
         Some(k) => *k,
@@ -35,8 +35,8 @@ fn named(ids: &IndexMap<&[u8], u32>, id: &[u8]) -> u32
 }
 
 // Whether the id names another message than `k`.
-fn names_another(rows: &[Row], ids: &IndexMap<&[u8], u32>, k: u32, id: &[u8]) -> bool
-    requires { AreNames rows.now ids.now.entries }
+fn names_another(rows: &[Row], ids: &BTreeMap<&[u8], u32>, k: u32, id: &[u8]) -> bool
+    requires { AreNames rows.now ids.now }
     ensures { result ≡ names_another rows.now k id.now }
 {
     let other = named(ids, id);
@@ -46,11 +46,11 @@ fn names_another(rows: &[Row], ids: &IndexMap<&[u8], u32>, k: u32, id: &[u8]) ->
 // The last of these ids that names another message than `k`.
 fn last_naming<'a>(
     rows: &[Row],
-    ids: &IndexMap<&[u8], u32>,
+    ids: &BTreeMap<&[u8], u32>,
     k: u32,
     list: &'a [Text],
 ) -> Option<&'a Text>
-    requires { AreNames rows.now ids.now.entries }
+    requires { AreNames rows.now ids.now }
     ensures { option_copied result ≡ find (names_another rows.now k) (reverse list.now) }
 {
     list.iter()
@@ -61,11 +61,11 @@ fn last_naming<'a>(
 // The first one.
 fn first_naming<'a>(
     rows: &[Row],
-    ids: &IndexMap<&[u8], u32>,
+    ids: &BTreeMap<&[u8], u32>,
     k: u32,
     list: &'a [Text],
 ) -> Option<&'a Text>
-    requires { AreNames rows.now ids.now.entries }
+    requires { AreNames rows.now ids.now }
     ensures { option_copied result ≡ find (names_another rows.now k) list.now }
 {
     list.iter()
@@ -73,8 +73,8 @@ fn first_naming<'a>(
 }
 
 // The id by which message `k` of this row names its parent.
-fn answered<'a>(rows: &[Row], ids: &IndexMap<&[u8], u32>, k: u32, row: &'a Row) -> Option<&'a Text>
-    requires { AreNames rows.now ids.now.entries }
+fn answered<'a>(rows: &[Row], ids: &BTreeMap<&[u8], u32>, k: u32, row: &'a Row) -> Option<&'a Text>
+    requires { AreNames rows.now ids.now }
     ensures { option_copied result ≡ answered rows.now k row.now }
 {
     match last_naming(rows, ids, k, row.references.items()) {
@@ -84,8 +84,8 @@ fn answered<'a>(rows: &[Row], ids: &IndexMap<&[u8], u32>, k: u32, row: &'a Row) 
 }
 
 // The parent of message `k` of this row, or 0.
-fn parent_of(rows: &[Row], ids: &IndexMap<&[u8], u32>, k: u32, row: &Row) -> u32
-    requires { AreNames rows.now ids.now.entries }
+fn parent_of(rows: &[Row], ids: &BTreeMap<&[u8], u32>, k: u32, row: &Row) -> u32
+    requires { AreNames rows.now ids.now }
     ensures { result ≡ option_map_or (named rows.now) (answered rows.now k row.now) 0 }
 {
     match answered(rows, ids, k, row) {

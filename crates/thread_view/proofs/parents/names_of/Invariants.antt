@@ -7,7 +7,7 @@ use Rattle.thread_view.proofs.parents.names_of.Given as goal
 abbrev pub invariant-loop-k : goal.invariant-loop-k
 invariant-loop-k l = record {
   within : l.k ≤ length l.rows;
-  names : (id : List ℕ) → id_in l.ids.entries id ≡ named_from l.rows l.k id;
+  names : (id : List ℕ) → id_in l.ids id ≡ named_from l.rows l.k id;
 }
 
 abbrev pub decreases-loop-k : goal.decreases-loop-k
