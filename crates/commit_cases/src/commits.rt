@@ -12,21 +12,40 @@ use folder_recovery::{RecoverError, Recovered, recover};
 use host_memory::MemHost;
 use mail_text::{Items, Text};
 use mbox_scan::Folder;
-use std::alloc::Global;
+use std::str;
 
 const ACTOR: &[u8] = b"/h/m";
 
-/// Recovers what the actor has left: how it ended.
-pub fn recovered(alloc: Global, host: &mut MemHost) -> &'static [u8] {
-    match recover(alloc, ACTOR, host) {
-        Ok(Recovered::Nothing) => b"nothing",
-        Ok(Recovered::RolledBack) => b"rolled back",
-        Ok(Recovered::Finished) => b"finished",
-        Err(RecoverError::Busy { .. }) => b"busy",
-        Err(RecoverError::NotARecord) => b"not a record",
-        Err(RecoverError::TooLarge { .. }) => b"too large",
-        Err(RecoverError::Disk) => b"fault",
-        Err(RecoverError::Memory) => b"out of memory",
+// Puts what a recovery found, and the moment of its record if it has one.
+fn put_found(found: Recovered, out: &mut Answer) {
+    let (words, moment) = match found {
+        Recovered::Nothing => (b"nothing".as_slice(), None),
+        Recovered::RolledBack { moment } => (b"rolled back".as_slice(), moment),
+        Recovered::Finished { moment } => (b"finished".as_slice(), moment),
+    };
+    out.put_plain(words);
+    if let Some(moment) = moment {
+        out.put_plain(b" of ");
+        out.put_shown(&moment);
+    }
+}
+
+// Why a recovery wasn't done, in short.
+fn refusal(error: &RecoverError) -> &'static [u8] {
+    match error {
+        RecoverError::Busy { .. } => b"busy",
+        RecoverError::NotARecord => b"not a record",
+        RecoverError::TooLarge { .. } => b"too large",
+        RecoverError::Disk => b"fault",
+        RecoverError::Memory => b"out of memory",
+    }
+}
+
+/// Recovers what the actor has left, and puts how it ended.
+pub fn put_recovered(host: &mut MemHost, out: &mut Answer) {
+    match recover(out.alloc(), ACTOR, host) {
+        Ok(found) => put_found(found, out),
+        Err(error) => out.put_plain(refusal(&error)),
     }
 }
 
@@ -122,6 +141,15 @@ pub fn put_commit(host: &mut MemHost, line: &str, out: &mut Answer) {
     let list = changes(line, out);
     let base = out.decoded(base);
     put_committed_over(host, list.items(), base, false, out);
+}
+
+/// Commits the changes of a line that is written with escapes as a whole.
+pub fn put_many(host: &mut MemHost, escaped: &str, out: &mut Answer) {
+    let text = out.decoded(escaped);
+    match str::from_utf8(text.bytes()) {
+        Ok(line) => put_commit(host, line, out),
+        Err(_) => out.put_plain(b"no text"),
+    }
 }
 
 /// The words of an error.

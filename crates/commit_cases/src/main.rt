@@ -19,6 +19,7 @@
 //! | `do recover`, `do add NAME TEXT` | how the recovery, or the commit that adds the text to the file, ended |
 //! | `do empty NAME TEXT` | how the commit ended that leaves a file without a message, read before as the text |
 //! | `do commit CHANGE ; CHANGE.. / BASE` | how the commit of these changes ended, an error in its words |
+//! | `do many LINE` | the same, of a line that is written with escapes as a whole |
 //! | `letters` | a letter for each event so far |
 //! | `children` | of each child so far its program, its arguments and its input, each in `<>` |
 //! | `sendable NAME..` | `yes`, or why mail can't be sent to these names |
@@ -33,7 +34,9 @@
 //! | `taken ACTOR NAME` | whether the name is that of the actor's record |
 //! | `large` | what comes of files past a limit |
 //!
-//! Of `write` a NAME with `!` before it is removed, and one with `+N:` before it extended behind N bytes.
+//! Of `write` a NAME with `!` before it is removed, and one with `+N:` before it extended behind N bytes; a TOKEN with
+//! `@SECONDS` behind it is that of a record with this moment. Of `recover` the moment of the record that was found comes
+//! after ` of `, if it has one.
 //!
 //! A change of `do commit` is `KIND NAME TEXT|TEXT..`, and BASE, which may be left out with its slash, the text
 //! that the rewrites were made for. The kinds are `keep` and `drop`, which are rewrites, `add`, `front` and `raw`.

@@ -44,6 +44,7 @@ fn same(a: &Record, b: &Record) -> bool {
     let (left, right) = (a.entries.items(), b.entries.items());
     a.phase == b.phase
         && a.token == b.token
+        && a.moment == b.moment
         && left.len() == right.len()
         && left.iter().zip(right).all(|(x, y)| are_same(x, y))
 }
@@ -97,17 +98,28 @@ fn put_record(value: &Record, out: &mut Answer) {
     }
 }
 
+// A token in hexadecimal digits, and behind `@` the moment, if there is one.
+fn token_and_moment(stamp: &str) -> (u64, Option<i64>) {
+    let (digits, moment) = match stamp.split_once('@') {
+        Some((digits, seconds)) => (digits, seconds.parse().ok()),
+        None => (stamp, None),
+    };
+    (u64::from_str_radix(digits, 16).unwrap_or(0), moment)
+}
+
 /// A record by a line: whether it is valid, how it is written, and whether it is read back.
 pub fn put_written(line: &str, out: &mut Answer) {
     let (word, rest) = cut(line);
-    let (digits, names) = cut(rest);
+    let (stamp, names) = cut(rest);
+    let (token, moment) = token_and_moment(stamp);
     let value = Record {
         phase: if word == "go" {
             Phase::Go
         } else {
             Phase::Prepare
         },
-        token: u64::from_str_radix(digits, 16).unwrap_or(0),
+        token,
+        moment,
         entries: entries(names, out),
     };
     put_record(&value, out);

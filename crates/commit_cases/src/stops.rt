@@ -1,13 +1,13 @@
 // Stops inside the events of a host, and their recoveries.
 ghost use Rattle.std.specs.Prelude.{◌≤◌};
 
-use crate::commits::recovered;
+use crate::commits::put_recovered;
 use case_blocks::{Answer, cut, number, part, put_changes, put_disk};
 use host_memory::{DiskView, MemHost, Plan};
 use mail_text::{Items, Memory, Text};
 use std::alloc::Global;
 
-const WAYS: [&str; 4] = ["before", "nothing", "bytes mailx-commit 1\\nph", "after"];
+const WAYS: [&str; 4] = ["before", "nothing", "bytes mailx-commit 2\\nph", "after"];
 
 /// The plan of a host that nothing happens to.
 pub fn no_plan(alloc: Global) -> Plan
@@ -32,7 +32,8 @@ fn recovered_host(
     let image = host.stop_at(at, &part(way, out))?;
     let alloc = out.alloc();
     let mut again = MemHost::new(alloc, image, Text::new(alloc), no_plan(alloc))?;
-    let _ = recovered(alloc, &mut again);
+    let mut told = Answer::new(alloc);
+    put_recovered(&mut again, &mut told);
     Ok(again)
 }
 
