@@ -137,7 +137,7 @@ say-part-cut bytes (event.Out front true ∷ es) i le (rest, is, none) =
     subst (λ (es : List Event). IsCutBy stop.Output (event.Out front true ∷ es) i) (sym none) (record { in_is = refl; out_is = refl; amount = omega arith })
 say-part-cut bytes (e ∷ es) i le never = absurd never
 
--- events on the disk alone
+-- events that neither take input nor say anything
 streams-clean : (es : List Event) (i : Input) → i.taken ≤ input_limit → HasNoStreams es → IsClean es i i
 streams-clean es i le h = let b = h.bytes in record { in_ok = h.in_ok; out_ok = h.out_ok; bytes = omega (arith, b); within = le }
 

@@ -12,8 +12,8 @@ use Rattle.host_port.specs.Calls.{Counts}
 use Rattle.folder_change.specs.declared.change.Change.{Change}
 use Rattle.commit_machine.specs.Jobs.{Job}
 use Rattle.commit_machine.specs.Machine.{State, Seizing, Ended, Call, next, after_reply}
-use Rattle.commit_machine.specs.Edits.{job_for}
-use Rattle.commit_machine.specs.Goes.{IsOf, loads, stages, stage_fails, publishes, extends, extend_fails, erases, locks, unlocks, seizes, releases, IsNext, reply}
+use Rattle.commit_machine.specs.Edits.{timed_for}
+use Rattle.commit_machine.specs.Goes.{IsOf, asks, loads, stages, stage_fails, publishes, extends, extend_fails, erases, locks, unlocks, seizes, releases, IsNext, reply}
 use Rattle.commit_machine.specs.Goes as machine
 use Rattle.folder_commit.specs.declared.error.CommitError.{CommitError}
 use Rattle.folder_commit.specs.declared.error.CommitError.TheVariants as error
@@ -83,7 +83,7 @@ changes-failed : (actor : List ℕ) (token : ℕ) (cs : List Change) (base : Lis
 changes-failed actor token [] base es answer (none, is) = ap (list_any is_failed) none ∙ sym (ap is_fault is)
 changes-failed actor token (x ∷ cs) base es answer (inl (many, (none, inl is))) = ap (list_any is_failed) none ∙ sym (ap is_fault is)
 changes-failed actor token (x ∷ cs) base es answer (inl (many, (none, inr is))) = ap (list_any is_failed) none ∙ sym (ap is_fault is)
-changes-failed actor token (x ∷ cs) base es answer (inr (few, h)) = tells-faults (job_for actor token (x ∷ cs) base) es answer h
+changes-failed actor token (x ∷ cs) base es answer (inr (few, (time, h))) = tells-faults (timed_for actor token time (x ∷ cs) base) es answer h
 
 -- a call of a commit failed exactly where its answer says so
 pub commit-failed : (c : Commit) (es : List Event) (answer : Result Unit CommitError) → IsCommitOf c es answer → list_any is_failed es ≡ is_fault answer
@@ -99,6 +99,7 @@ no-streams : HasNoStreams []
 no-streams = record { in_ok = refl; out_ok = refl; bytes = refl }
 
 call-streams : (c : Call) (e : Event) (es : List Event) → IsOf c e → HasNoStreams es → HasNoStreams (e ∷ es)
+call-streams c e es asks h = record { in_ok = h.in_ok; out_ok = h.out_ok; bytes = h.bytes }
 call-streams c e es loads h = record { in_ok = h.in_ok; out_ok = h.out_ok; bytes = h.bytes }
 call-streams c e es stages h = record { in_ok = h.in_ok; out_ok = h.out_ok; bytes = h.bytes }
 call-streams c e es stage_fails h = record { in_ok = h.in_ok; out_ok = h.out_ok; bytes = h.bytes }
@@ -125,7 +126,7 @@ none-streams es is = subst HasNoStreams (sym is) no-streams
 changes-streams : (actor : List ℕ) (token : ℕ) (cs : List Change) (base : List (List ℕ)) (es : List Event) (answer : Result Unit CommitError) → IsCommit actor token cs base es answer → HasNoStreams es
 changes-streams actor token [] base es answer h = none-streams es h.0
 changes-streams actor token (x ∷ cs) base es answer (inl many) = none-streams es many.1.0
-changes-streams actor token (x ∷ cs) base es answer (inr (few, h)) = machine-streams (job_for actor token (x ∷ cs) base) Seizing es (Ended h.end) h.goes
+changes-streams actor token (x ∷ cs) base es answer (inr (few, (time, h))) = machine-streams (timed_for actor token time (x ∷ cs) base) Seizing es (Ended h.end) h.goes
 
 -- the own events of a commit
 pub commit-streams : (c : Commit) (es : List Event) (answer : Result Unit CommitError) → IsCommitOf c es answer → HasNoStreams es

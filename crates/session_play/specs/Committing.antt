@@ -49,8 +49,8 @@ answer_as (committed.Changed name at) = Err (error.Changed name at)
 answer_as (committed.TooLarge name length) = Err (error.TooLarge name length)
 answer_as (committed.TooManyNames count) = Err (error.TooManyNames count)
 
--- Own events of a commit that gives this answer: none without a change or with more than 16 files, else those of one bracket, which carry the
--- machine of its job from its start to its end.
+-- Own events of a commit that gives this answer: none without a change or with more than 256 files, else those of one bracket, which carry the
+-- machine of its job from its start to its end, at the time that it was told.
 abbrev pub IsCommitOf : Commit → List Event → Result Unit CommitError → Type 0
 IsCommitOf c es answer = IsCommit c.actor c.token c.changes c.base es answer
 

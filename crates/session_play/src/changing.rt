@@ -77,7 +77,7 @@ fn first_misnamed(
     Ok(None)
 }
 
-/// Makes changes of up to 16 files as one commit of this actor, under a token that no other run has, unless the name
+/// Makes changes of up to 256 files as one commit of this actor, under a token that no other run has, unless the name
 /// of a file is at fault. `base` is the folder that a rewrite among them was made for. A fault of the disk and running
 /// out of memory cut the run off; all else is an answer.
 pub fn change<H: Host>(
