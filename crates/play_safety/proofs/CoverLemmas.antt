@@ -9,7 +9,7 @@ use Rattle.host_port.specs.Ends.{stopped, ended, is_after}
 use Rattle.host_port.specs.Own.{own, OnlyLooks}
 use Rattle.host_port.proofs.RanLemmas.{disk-append}
 use Rattle.commit_machine.specs.Settled.{Files, Locks}
-use Rattle.commit_machine.specs.Jobs.{Refusal, Edit, Job, edits_of}
+use Rattle.commit_machine.specs.Jobs.{Refusal, Edit, Job, at_time, edits_of}
 use Rattle.commit_machine.specs.Machine.{State}
 use Rattle.commit_machine.specs.Lawful.{OthersAreLawful}
 use Rattle.commit_machine.specs.Due.{settled_files, settled_locks, same_file, same_lock, files_then, locks_then}
@@ -114,7 +114,7 @@ module _ (actor : List ℕ) (token : ℕ) where
   module _ (edits : Option (List Edit)) (refusal : Files → Option Refusal) (d : Disk) (files : Files) (owners : Locks) (s : Stands actor token d files owners)
       (es : List Event) (last : State) (b : IsBracket actor token d edits refusal last es) where
     abbrev job : Job
-    job = job_as actor token edits refusal
+    job = at_time b.time (job_as actor token edits refusal)
 
     run : IsRun job d es last
     run = run-of actor token edits refusal d last es files owners s b
@@ -155,13 +155,13 @@ module _ (actor : List ℕ) (token : ℕ) where
     moment-of : (queue : List (List Edit)) → MayTake queue → (x y : List Event) → es ≡ x ++ y → Due actor token d queue files owners x (disk d x)
     moment-of queue (inl (more, is)) x y at =
         let r = front_is_run job d x y last (subst Runs at run) in
-        let a = one-at-most actor token edits refusal d more files owners x r.0 s r.1 in
+        let a = one-at-most actor token edits refusal b.time d more files owners x r.0 s r.1 in
         subst (λ (q : List (List Edit)). Due actor token d q files owners x (disk d x)) (sym is)
-        (due-as actor token edits refusal d (disk d x) (edits_of job ∷ more) a.0 files owners x s a.1 (crash_safe job d x r.0 r.1))
+        (due-as actor token edits refusal b.time d (disk d x) (edits_of job ∷ more) a.0 files owners x s a.1 (crash_safe job d x r.0 r.1))
     moment-of queue (inr none) x y at =
         let r = front_is_run job d x y last (subst Runs at run) in
         let here = none.fronts_none x y at in
-        due-as actor token edits refusal d (disk d x) queue queue files owners x s (undecided job x d queue files (settled_files actor d) 0 (λ n. sym (s.settles n)) here) (crash_safe job d x r.0 r.1)
+        due-as actor token edits refusal b.time d (disk d x) queue queue files owners x s (undecided job x d queue files (settled_files actor d) 0 (λ n. sym (s.settles n)) here) (crash_safe job d x r.0 r.1)
 
     stop-of : (queue : List (List Edit)) → MayTake queue → (x : List Event) (e : Event) (y : List Event) (part : Part) → es ≡ x ++ e ∷ y → Due actor token d queue files owners (x ++ in_flight (disk d x) e part) (stopped (disk d x) e part)
     stop-of queue (inl (more, is)) x e y part at =
@@ -169,15 +169,15 @@ module _ (actor : List ℕ) (token : ℕ) where
         let l = x ++ in_flight (disk d x) e part in
         let now = stopped (disk d x) e part in
         let f = flight job d x e y last part whole in
-        let a = one-at-most actor token edits refusal d more files owners l f.0 s f.1 in
+        let a = one-at-most actor token edits refusal b.time d more files owners l f.0 s f.1 in
         subst (λ (q : List (List Edit)). Due actor token d q files owners l now) (sym is)
-        (due-as actor token edits refusal d now (edits_of job ∷ more) a.0 files owners l s a.1 (stop_safe job d x e y last part whole))
+        (due-as actor token edits refusal b.time d now (edits_of job ∷ more) a.0 files owners l s a.1 (stop_safe job d x e y last part whole))
     stop-of queue (inr none) x e y part at =
         let whole = subst Runs at run in
         let l = x ++ in_flight (disk d x) e part in
         let now = stopped (disk d x) e part in
         let here = none.stops_none x e y part at in
-        due-as actor token edits refusal d now queue queue files owners l s (undecided job l d queue files (settled_files actor d) 0 (λ n. sym (s.settles n)) here) (stop_safe job d x e y last part whole)
+        due-as actor token edits refusal b.time d now queue queue files owners l s (undecided job l d queue files (settled_files actor d) 0 (λ n. sym (s.settles n)) here) (stop_safe job d x e y last part whole)
 
     pub bracket-covered : (queue : List (List Edit)) → MayTake queue → Covers d queue files owners es
     bracket-covered queue may = record { moments = λ x y is. moment-of queue may x y is; stops = λ x y e part is. stop-of queue may x e y part is }

@@ -1,5 +1,5 @@
 -- A commit is decided only where its changes can be made.
-use Rattle.std.proofs.Common.{◌≡◌, ℕ, ◌<◌, ◌^◌, ◌==◌, Bool, true, false, List, [], ◌∷◌, ◌++◌, Option, Some, None, Result, Ok, Err, MatchResult, length, append-nil, if◌then◌else◌, refl, ap, sym, subst, inl, inr, ◌∙◌, arith, append_assoc, length-append}
+use Rattle.std.proofs.Common.{◌≡◌, ℕ, ℤ, ◌<◌, ◌^◌, ◌==◌, Bool, true, false, List, [], ◌∷◌, ◌++◌, Option, Some, None, Result, Ok, Err, MatchResult, length, append-nil, if◌then◌else◌, refl, ap, sym, subst, inl, inr, ◌∙◌, arith, append_assoc, length-append}
 use Rattle.std.specs.Option.{option_map}
 use Rattle.std.proofs.lemmas.Bool.{false≢true}
 use Rattle.host_port.specs.declared.event.Event.{Event}
@@ -21,7 +21,7 @@ use Rattle.commit_machine.specs.Settled.{Files, Locks}
 use Rattle.commit_machine.specs.Jobs.{Ending, Job, IsJob, all_of}
 use Rattle.commit_machine.specs.Machine.{Seizing, Ended}
 use Rattle.commit_machine.specs.Goes.{Goes}
-use Rattle.commit_machine.specs.Edits.{cause_of, job_for}
+use Rattle.commit_machine.specs.Edits.{cause_of, timed_for}
 use Rattle.commit_machine.specs.Lawful.{OthersAreLawful}
 use Rattle.commit_machine.specs.Due.{settled_files, settled_locks, is_decision}
 use Rattle.commit_machine.specs.Laws.{IsRun, decisions}
@@ -122,11 +122,11 @@ module _ (actor : List ℕ) (token : ℕ) (fits : token < 2 ^ 64) where
   no-own es a b e d none at y = none-here es a b e d (looks-undecided any es d 0 (subst OnlyLooks (sym none) tt)) at y
 
   -- the decision of a job
-  job-fits : (c : Change) (cs : List Change) (base : List (List ℕ)) (d : Disk) (es : List Event) (end : Ending) → IsJob (job_for actor token (c ∷ cs) base) → MayRun actor token d es
-      → Goes (job_for actor token (c ∷ cs) base) Seizing (own es) (Ended end) → (a b : List Event) (e : Event) → es ≡ a ++ e ∷ b → is_decision any e (disk d a) ≡ true
+  job-fits : (time : ℤ) (c : Change) (cs : List Change) (base : List (List ℕ)) (d : Disk) (es : List Event) (end : Ending) → IsJob (timed_for actor token time (c ∷ cs) base) → MayRun actor token d es
+      → Goes (timed_for actor token time (c ∷ cs) base) Seizing (own es) (Ended end) → (a b : List Event) (e : Event) → es ≡ a ++ e ∷ b → is_decision any e (disk d a) ≡ true
       → first_refusal (c ∷ cs) base (settled_files actor (disk d a)) ≡ None
-  job-fits c cs base d es end job may goes a b e at y =
-      let j = job_for actor token (c ∷ cs) base in
+  job-fits time c cs base d es end job may goes a b e at y =
+      let j = timed_for actor token time (c ∷ cs) base in
       let run : IsRun j d es (Ended end) = record { job = job; fresh = may.fresh; sound = may.sound; goes = goes; honest = may.honest; lawful = may.lawful } in
       let whole = subst (λ (l : List Event). IsRun j d l (Ended end)) at run in
       let (files, same, none) = no_refused_is_decided j d a e b (Ended end) whole (sym (decides-same j [] e (disk d a)) ∙ y) in
@@ -140,8 +140,8 @@ module _ (actor : List ℕ) (token : ℕ) (fits : token < 2 ^ 64) where
       → first_refusal cs base (settled_files actor (disk d a)) ≡ None
   commit-fits [] base d es answer are may h a b e at y = absurd (no-own es a b e d h.0 at y)
   commit-fits (c ∷ cs) base d es answer are may (inl many) a b e at y = absurd (no-own es a b e d many.1.0 at y)
-  commit-fits (c ∷ cs) base d es answer are may (inr (few_names, h)) a b e at y =
-      job-fits c cs base d es h.end (is-job actor token (c ∷ cs) base fits are (omega arith) few_names) may h.goes a b e at y
+  commit-fits (c ∷ cs) base d es answer are may (inr (few_names, (time, h))) a b e at y =
+      job-fits time c cs base d es h.end (is-job actor token time (c ∷ cs) base fits are (omega arith) few_names) may h.goes a b e at y
 
   -- where the events of a commit hold a decision, it is accepted, and this is its decision
   once : (c : Commit) (d : Disk) (es : List Event) → decisions any d 0 es ≡ length (accepted_by (Changes c) d es) → (a b : List Event) (e : Event) → es ≡ a ++ e ∷ b → is_decision any e (disk d a) ≡ true

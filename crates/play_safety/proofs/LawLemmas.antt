@@ -15,9 +15,9 @@ use Rattle.commit_machine.specs.Records.{record_in}
 use Rattle.commit_machine.specs.Settled.{Files, hides, placed}
 use Rattle.commit_machine.specs.Jobs.{Job, IsJob, Edit, Ending, all_of}
 use Rattle.commit_machine.specs.Machine.{State, Call, Seizing, Ended, next, after_reply}
-use Rattle.commit_machine.specs.Goes.{IsOf, loads, stages, stage_fails, publishes, extends, extend_fails, erases, locks, unlocks, seizes, releases, IsNext, reply}
+use Rattle.commit_machine.specs.Goes.{IsOf, asks, loads, stages, stage_fails, publishes, extends, extend_fails, erases, locks, unlocks, seizes, releases, IsNext, reply}
 use Rattle.commit_machine.specs.Goes as machine
-use Rattle.commit_machine.specs.Edits.{job_for}
+use Rattle.commit_machine.specs.Edits.{job_for, timed_for}
 use Rattle.commit_machine.specs.Lawful.{IsFresh}
 use Rattle.commit_machine.specs.Due.{settled_files, settled_locks}
 use Rattle.commit_machine.specs.Laws.{IsRun, TellsDecisions, decisions, in_flight}
@@ -42,7 +42,7 @@ use Rattle.session_play.specs.Play as plays
 use Rattle.play_safety.specs.Passes.{decided_in, accepted_by, Commits, no_commits, behind, at_cut, Passes, PassesAll, again, last, cut}
 use Rattle.play_safety.specs.Safe.{IsBy, OfCommit, EachCommit, NextKeeps, MayRun, queue, IsCalm, IsCrashSafe, is_output, PlaysAreSafe, TracesAreRead}
 use Rattle.commit_machine.proofs.runs.OneJob.{Stands, Due, between}
-use Rattle.play_safety.proofs.TraceLemmas.{parted, looks-undecided, decisions-then}
+use Rattle.play_safety.proofs.TraceLemmas.{parted, looks-undecided, decisions-then, decisions-untimed}
 use Rattle.play_safety.proofs.CoverLemmas.{looks-covered, covers-then}
 use Rattle.play_safety.proofs.SafeLemmas.{Passed, play-passed, loop-passed, honest-front, lawful-back}
 
@@ -142,6 +142,7 @@ run-safe round x actor token d front rest commits out Keeps each ends keeps may 
 
 -- the events of a job hold no output
 call-silent : (c : Call) (e : Event) → IsOf c e → is_output e ≡ false
+call-silent c e asks = refl
 call-silent c e loads = refl
 call-silent c e stages = refl
 call-silent c e stage_fails = refl
@@ -181,11 +182,12 @@ done-of : (cs : List Change) (base : List (List ℕ)) (actor : List ℕ) (token 
 done-of [] base actor token d es are may some h = absurd (omega (arith, some))
 done-of (c ∷ cs) base actor token d es are may some (inl (many, (none, inl other))) = absurd (cc other)
 done-of (c ∷ cs) base actor token d es are may some (inl (many, (none, inr other))) = absurd (cc other)
-done-of (c ∷ cs) base actor token d es are may some (inr (few, h)) =
-    let job = job_for actor token (c ∷ cs) base in
-    let j : IsJob job = is-job actor token (c ∷ cs) base may.fits are (omega arith) few in
+done-of (c ∷ cs) base actor token d es are may some (inr (few, (time, h))) =
+    let job = timed_for actor token time (c ∷ cs) base in
+    let j : IsJob job = is-job actor token time (c ∷ cs) base may.fits are (omega arith) few in
     let run : IsRun job d es (Ended h.end) = record { job = j; fresh = may.fresh; sound = may.sound; goes = h.goes; honest = may.honest; lawful = may.lawful } in
-    (subst (λ (end : Ending). TellsDecisions end (decisions job d 0 es)) h.is_as (decisions_are_told job d es h.end run), own-silent es (machine-silent job Seizing (own es) (Ended h.end) h.goes))
+    let one : decisions job d 0 es ≡ 1 = subst (λ (end : Ending). TellsDecisions end (decisions job d 0 es)) h.is_as (decisions_are_told job d es h.end run) in
+    (sym (decisions-untimed (job_for actor token (c ∷ cs) base) (Some time) es d 0) ∙ one, own-silent es (machine-silent job Seizing (own es) (Ended h.end) h.goes))
 
 -- no decision is what an answer says where too many files are named
 none-so : (why : CommitError) (n count : ℕ) → n ≡ 0 → ((failed why ≡ failed (error.TooManyNames count)) ⊎ (failed why ≡ failed error.Memory)) → DecidedSo (failed why) n
@@ -203,11 +205,12 @@ refused-of : (why : CommitError) (cs : List Change) (base : List (List ℕ)) (ac
 refused-of why [] base actor token d es are may (none, is) = absurd (cc is)
 refused-of why (c ∷ cs) base actor token d es are may (inl (many, (none, how))) =
     none-so why _ _ (looks-undecided (job_for actor token (c ∷ cs) base) es d 0 (subst OnlyLooks (sym none) tt)) how
-refused-of why (c ∷ cs) base actor token d es are may (inr (few, h)) =
-    let job = job_for actor token (c ∷ cs) base in
-    let j : IsJob job = is-job actor token (c ∷ cs) base may.fits are (omega arith) few in
+refused-of why (c ∷ cs) base actor token d es are may (inr (few, (time, h))) =
+    let job = timed_for actor token time (c ∷ cs) base in
+    let j : IsJob job = is-job actor token time (c ∷ cs) base may.fits are (omega arith) few in
     let run : IsRun job d es (Ended h.end) = record { job = j; fresh = may.fresh; sound = may.sound; goes = h.goes; honest = may.honest; lawful = may.lawful } in
-    decided-so (all_of job) (failed why) h.end (decisions job d 0 es) h.is_as (decisions_are_told job d es h.end run)
+    subst (DecidedSo (failed why)) (decisions-untimed (job_for actor token (c ∷ cs) base) (Some time) es d 0)
+    (decided-so (all_of job) (failed why) h.end (decisions job d 0 es) h.is_as (decisions_are_told job d es h.end run))
 
 same-commit : (c : Commit) (actor : List ℕ) (token : ℕ) → IsBy actor token c → c ≡ record { actor = actor; token = token; changes = c.changes; base = c.base }
 same-commit c actor token by =

@@ -1,5 +1,5 @@
 -- The traces of plays are safe.
-use Rattle.std.proofs.Common.{◌≡◌, ◌⊎◌, ℕ, ◌<◌, ◌^◌, ◌+◌, ◌==◌, true, false, List, [], ◌∷◌, ◌++◌, Option, Some, None, map, length, if◌then◌else◌, refl, ap, sym, subst, inl, inr, ◌∙◌, arith, append_assoc, append-nil, length-append}
+use Rattle.std.proofs.Common.{◌≡◌, ◌⊎◌, ℕ, ℤ, ◌<◌, ◌^◌, ◌+◌, ◌==◌, true, false, List, [], ◌∷◌, ◌++◌, Option, Some, None, map, length, if◌then◌else◌, refl, ap, sym, subst, inl, inr, ◌∙◌, arith, append_assoc, append-nil, length-append}
 use Rattle.std.proofs.lemmas.List.{map-append}
 use Rattle.std.specs.List.{list_any}
 use Rattle.std.specs.Option.{option_map}
@@ -18,7 +18,7 @@ use Rattle.commit_machine.specs.Jobs.{Before, Refusal, Ending, Refused, Failed, 
 use Rattle.commit_machine.specs.Jobs as jobs
 use Rattle.commit_machine.specs.Machine.{State, Seizing, Ended}
 use Rattle.commit_machine.specs.Goes.{Goes}
-use Rattle.commit_machine.specs.Edits.{edits_for, cause_of, job_for, recovery_for}
+use Rattle.commit_machine.specs.Edits.{edits_for, cause_of, job_for, timed_for, recovery_for}
 use Rattle.commit_machine.specs.Lawful.{IsFresh, OthersAreLawful}
 use Rattle.commit_machine.specs.Laws.{IsRun, IsSettledAs, MetNoFault, decisions}
 use Rattle.commit_machine.specs.Restraints.{is_failed}
@@ -56,7 +56,7 @@ use Rattle.session_play.proofs.LooksLemmas.{neutral-did, neutral-part}
 use Rattle.play_safety.specs.Passes.{decided_in, accepted_by, Commits, behind, at_cut, Passes, PassesAll, again, last, cut}
 use Rattle.play_safety.specs.Safe.{IsBy, OfCommit, EachCommit, queue_of, queue, IsCalm, NextKeeps}
 use Rattle.commit_machine.proofs.runs.OneJob.{Stands, Due, Leaves, between, not-decided, was-decided, after-piece, due-then, queue-split, honest-back, run-of}
-use Rattle.play_safety.proofs.TraceLemmas.{looks-undecided, decisions-then, decisions-same}
+use Rattle.play_safety.proofs.TraceLemmas.{looks-undecided, decisions-then, decisions-same, decisions-untimed}
 use Rattle.play_safety.proofs.CoverLemmas.{Covers, looks-covered, covers-then, bracket-covered, calm-undecided, never-undecided}
 
 end-fine : (a : Committed) (files : List (List ℕ)) (end : Ending) → AnswersAs files (answer_as a) end → MetNoFault end
@@ -134,8 +134,11 @@ module _ (actor : List ℕ) (token : ℕ) where
     abbrev commit : Commit
     commit = record { actor = actor; token = token; changes = cs; base = base }
 
-    abbrev job : Job
-    job = job_for actor token cs base
+    abbrev untimed : Job
+    untimed = job_for actor token cs base
+
+    abbrev job : ℤ → Job
+    job time = timed_for actor token time cs base
 
     abbrev edits : Option (List Edit)
     edits = Some (edits_for cs base)
@@ -143,11 +146,17 @@ module _ (actor : List ℕ) (token : ℕ) where
     abbrev refusal : Files → Option Refusal
     refusal = λ files. option_map cause_of (first_refusal cs base files)
 
-    bracket : (end : Ending) → IsJob job → Goes job Seizing (own es) (Ended end) → IsBracket actor token d edits refusal (Ended end) es
-    bracket end j goes = record { job = j; goes = goes; honest = honest; lawful = lawful }
+    abbrev bracket : (time : ℤ) (end : Ending) → IsJob (job time) → Goes (job time) Seizing (own es) (Ended end) → IsBracket actor token d edits refusal (Ended end) es
+    bracket time end j goes = record { time = Some time; job = j; goes = goes; honest = honest; lawful = lawful }
+
+    runs : (time : ℤ) (end : Ending) → IsJob (job time) → Goes (job time) Seizing (own es) (Ended end) → IsRun (job time) d es (Ended end)
+    runs time end j goes = run-of actor token edits refusal d (Ended end) es files owners s (bracket time end j goes)
 
     same-count : counted d es ≡ decided_in commit d es
-    same-count = decisions-same job [] es d 0
+    same-count = decisions-same untimed [] es d 0
+
+    timed-count : (time : ℤ) → decisions (job time) d 0 es ≡ decided_in commit d es
+    timed-count time = decisions-untimed untimed (Some time) es d 0
 
     undecided-none : decided_in commit d es ≡ 0 → accepted_by (Changes commit) d es ≡ []
     undecided-none none = ap (λ (n : ℕ). if n == 0 then [] else commit ∷ []) none
@@ -164,23 +173,24 @@ module _ (actor : List ℕ) (token : ℕ) where
 
     answered-none : (more : List (List Edit)) → own es ≡ [] → Answers more (accepted_by (Changes commit) d es)
     answered-none more none =
-        answered more [] (undecided-none (looks-undecided job es d 0 (none-looks es none))) (looks-passed d more files owners es s (none-looks es none) lawful)
+        answered more [] (undecided-none (looks-undecided untimed es d 0 (none-looks es none))) (looks-passed d more files owners es s (none-looks es none) lawful)
 
-    answered-so : (more : List (List Edit)) (end : Ending) → IsJob job → Goes job Seizing (own es) (Ended end) → MetNoFault end → list_any is_failed (own es) ≡ false
+    answered-so : (more : List (List Edit)) (time : ℤ) (end : Ending) → IsJob (job time) → Goes (job time) Seizing (own es) (Ended end) → MetNoFault end → list_any is_failed (own es) ≡ false
         → (decided_in commit d es ≡ 0) ⊎ (decided_in commit d es ≡ 1) → Answers more (accepted_by (Changes commit) d es)
-    answered-so more end j goes fine calls (inl none) =
-        let b = bracket end j goes in
-        let l = not-decided actor token edits refusal d more files owners es end s b fine none in
+    answered-so more time end j goes fine calls (inl none) =
+        let b = bracket time end j goes in
+        let none_so = timed-count time ∙ none in
+        let l = not-decided actor token edits refusal (Some time) d more files owners es end s (runs time end j goes) fine none_so in
         answered more [] (undecided-none none) (record {
-          covers = bracket-covered actor token edits refusal d files owners s es (Ended end) b more (inr (calm-undecided actor token edits refusal d files owners s es (Ended end) b none calls));
+          covers = bracket-covered actor token edits refusal d files owners s es (Ended end) b more (inr (calm-undecided actor token edits refusal d files owners s es (Ended end) b none_so calls));
           leaves = λ e. l;
           count = same-count ∙ none;
           fresh = λ c. l.fresh;
         })
-    answered-so more end j goes fine calls (inr one) =
-        let b = bracket end j goes in
+    answered-so more time end j goes fine calls (inr one) =
+        let b = bracket time end j goes in
         let queue = edits_for cs base ∷ more in
-        let l = was-decided actor token edits refusal d more files owners es end s b fine one in
+        let l = was-decided actor token edits refusal (Some time) d more files owners es end s (runs time end j goes) fine (timed-count time ∙ one) in
         answered more (commit ∷ []) (decided-one one) (record {
           covers = bracket-covered actor token edits refusal d files owners s es (Ended end) b queue (inl (more, refl));
           leaves = λ e. l;
@@ -188,8 +198,11 @@ module _ (actor : List ℕ) (token : ℕ) where
           fresh = λ c. l.fresh;
         })
 
-    few : (end : Ending) → IsJob job → Goes job Seizing (own es) (Ended end) → (decided_in commit d es ≡ 0) ⊎ (decided_in commit d es ≡ 1)
-    few end j goes = few_decisions job d es (Ended end) (run-of actor token edits refusal d (Ended end) es files owners s (bracket end j goes))
+    few : (time : ℤ) (end : Ending) → IsJob (job time) → Goes (job time) Seizing (own es) (Ended end) → (decided_in commit d es ≡ 0) ⊎ (decided_in commit d es ≡ 1)
+    few time end j goes = elim (few_decisions (job time) d es (Ended end) (runs time end j goes)) [
+      | inl none ↦ inl (sym (timed-count time) ∙ none)
+      | inr one ↦ inr (sym (timed-count time) ∙ one)
+    ]
 
     -- what a cut leaves
     abbrev Cuts : (Type 0) → List (List Edit) → Commits → Type 0
@@ -206,30 +219,30 @@ module _ (actor : List ℕ) (token : ℕ) where
         let queue = edits_for cs base ∷ more in
         let looks = none-looks es none in
         let l = between actor token es d queue files owners s looks lawful in
-        subst (Cuts calm more) (sym (at-none (looks-undecided job es d 0 looks))) (record {
+        subst (Cuts calm more) (sym (at-none (looks-undecided untimed es d 0 looks))) (record {
           covers = looks-covered actor token d queue files owners (settled-of d files owners s) es looks lawful;
           leaves = λ never. absurd never;
           count = looks-undecided (first_job actor token []) es d 0 looks;
           fresh = λ c. l.fresh;
         })
 
-    cut-so : {calm : Type 0} (more : List (List Edit)) (end : Ending) → IsJob job → Goes job Seizing (own es) (Ended end) → (calm → MetNoFault end)
+    cut-so : {calm : Type 0} (more : List (List Edit)) (time : ℤ) (end : Ending) → IsJob (job time) → Goes (job time) Seizing (own es) (Ended end) → (calm → MetNoFault end)
         → (decided_in commit d es ≡ 0) ⊎ (decided_in commit d es ≡ 1) → Cuts calm more (at_cut (Changes commit) d es)
-    cut-so {calm = calm} more end j goes fine (inl none) =
-        let b = bracket end j goes in
+    cut-so {calm = calm} more time end j goes fine (inl none) =
+        let b = bracket time end j goes in
         subst (Cuts calm more) (sym (at-none none)) (record {
           covers = bracket-covered actor token edits refusal d files owners s es (Ended end) b (edits_for cs base ∷ more) (inl (more, refl));
           leaves = λ never. absurd never;
           count = same-count ∙ none;
-          fresh = λ c. nothing_left job d es end (fine c) (run-of actor token edits refusal d (Ended end) es files owners s b);
+          fresh = λ c. nothing_left (job time) d es end (fine c) (runs time end j goes);
         })
-    cut-so {calm = calm} more end j goes fine (inr one) =
-        let b = bracket end j goes in
+    cut-so {calm = calm} more time end j goes fine (inr one) =
+        let b = bracket time end j goes in
         subst (Cuts calm more) (sym (at-one one)) (record {
           covers = bracket-covered actor token edits refusal d files owners s es (Ended end) b (edits_for cs base ∷ more) (inl (more, refl));
           leaves = λ never. absurd never;
           count = same-count ∙ one;
-          fresh = λ c. nothing_left job d es end (fine c) (run-of actor token edits refusal d (Ended end) es files owners s b);
+          fresh = λ c. nothing_left (job time) d es end (fine c) (runs time end j goes);
         })
 
   -- a recovery decides nothing
@@ -244,14 +257,15 @@ module _ (actor : List ℕ) (token : ℕ) where
     recovery-passed : {ended calm : Type 0} (more : List (List Edit)) (end : Ending) → Goes recovers Seizing (own es) (Ended end) → (ended → MetNoFault end) → (calm → MetNoFault end)
         → Passed ended calm d more more 0 files owners es
     recovery-passed more end goes fine calms =
-        let b : IsBracket actor token d None no_refusal (Ended end) es = record { job = recovery-is-job actor token fits; goes = goes; honest = honest; lawful = lawful } in
+        let b : IsBracket actor token d None no_refusal (Ended end) es = record { time = None; job = recovery-is-job actor token fits; goes = goes; honest = honest; lawful = lawful } in
         let never : (l : List Event) (now : State) → IsRun recovers d l now → decisions recovers d 0 l ≡ 0 = λ l now run. recovery-undecided actor token l now d run.goes in
         let none = recovery-undecided actor token es (Ended end) d goes in
+        let run : IsRun recovers d es (Ended end) = run-of actor token None no_refusal d (Ended end) es files owners s b in
         record {
           covers = bracket-covered actor token None no_refusal d files owners s es (Ended end) b more (inr (never-undecided actor token None no_refusal d files owners s es (Ended end) b never));
-          leaves = λ e. not-decided actor token None no_refusal d more files owners es end s b (fine e) none;
+          leaves = λ e. not-decided actor token None no_refusal None d more files owners es end s run (fine e) none;
           count = decisions-same recovers [] es d 0 ∙ none;
-          fresh = λ c. nothing_left recovers d es end (calms c) (run-of actor token None no_refusal d (Ended end) es files owners s b);
+          fresh = λ c. nothing_left recovers d es end (calms c) run;
         }
 
     recovery-answered : (a : RecoveryAnswer) (more : List (List Edit)) → IsRecoveryOf actor token (own es) (recovery_as a) → Passed (Unit {0}) (Unit {0}) d more more 0 files owners es
@@ -281,20 +295,22 @@ module _ (actor : List ℕ) (token : ℕ) where
         → (a : Committed) (more : List (List Edit)) → IsCommit actor token cs base (own es) (answer_as a) → Answered (Changes (own_commit cs base)) d files owners es more
     commit-answered [] base d files owners es are s honest lawful a more h = answered-none [] base d files owners es fits s honest lawful more h.0
     commit-answered (c ∷ cs) base d files owners es are s honest lawful a more (inl many) = answered-none (c ∷ cs) base d files owners es fits s honest lawful more many.1.0
-    commit-answered (c ∷ cs) base d files owners es are s honest lawful a more (inr (few_names, h)) =
-        let j : IsJob (job_for actor token (c ∷ cs) base) = is-job actor token (c ∷ cs) base fits are (omega arith) few_names in
-        answered-so (c ∷ cs) base d files owners es fits s honest lawful more h.end j h.goes (end-fine a (all_of (job_for actor token (c ∷ cs) base)) h.end h.is_as) (tells-faults (job_for actor token (c ∷ cs) base) (own es) (answer_as a) h ∙ answer-fine a)
-        (few (c ∷ cs) base d files owners es fits s honest lawful h.end j h.goes)
+    commit-answered (c ∷ cs) base d files owners es are s honest lawful a more (inr (few_names, (time, h))) =
+        let job = timed_for actor token time (c ∷ cs) base in
+        let j : IsJob job = is-job actor token time (c ∷ cs) base fits are (omega arith) few_names in
+        answered-so (c ∷ cs) base d files owners es fits s honest lawful more time h.end j h.goes (end-fine a (all_of job) h.end h.is_as) (tells-faults job (own es) (answer_as a) h ∙ answer-fine a)
+        (few (c ∷ cs) base d files owners es fits s honest lawful time h.end j h.goes)
 
     commit-cut : (calm : Type 0) (cs : List Change) (base : List (List ℕ)) (d : Disk) (files : Files) (owners : Locks) (es : List Event) → AreFiles actor cs → Stands actor token d files owners → Honest d es → OthersAreLawful actor token d es
         → (answer : Result Unit CommitError) (more : List (List Edit)) → ((names : List (List ℕ)) (end : Ending) → AnswersAs names answer end → calm → MetNoFault end)
         → IsCommit actor token cs base (own es) answer → CutOff calm (Changes (own_commit cs base)) d files owners es more
     commit-cut calm [] base d files owners es are s honest lawful answer more fine h = cut-none [] base d files owners es fits s honest lawful more h.0
     commit-cut calm (c ∷ cs) base d files owners es are s honest lawful answer more fine (inl many) = cut-none (c ∷ cs) base d files owners es fits s honest lawful more many.1.0
-    commit-cut calm (c ∷ cs) base d files owners es are s honest lawful answer more fine (inr (few_names, h)) =
-        let j : IsJob (job_for actor token (c ∷ cs) base) = is-job actor token (c ∷ cs) base fits are (omega arith) few_names in
-        cut-so (c ∷ cs) base d files owners es fits s honest lawful more h.end j h.goes (fine (all_of (job_for actor token (c ∷ cs) base)) h.end h.is_as)
-        (few (c ∷ cs) base d files owners es fits s honest lawful h.end j h.goes)
+    commit-cut calm (c ∷ cs) base d files owners es are s honest lawful answer more fine (inr (few_names, (time, h))) =
+        let job = timed_for actor token time (c ∷ cs) base in
+        let j : IsJob job = is-job actor token time (c ∷ cs) base fits are (omega arith) few_names in
+        cut-so (c ∷ cs) base d files owners es fits s honest lawful more time h.end j h.goes (fine (all_of job) h.end h.is_as)
+        (few (c ∷ cs) base d files owners es fits s honest lawful time h.end j h.goes)
 
     commit-attempted : (cs : List Change) (base : List (List ℕ)) (d : Disk) (files : Files) (owners : Locks) (es : List Event) → Stands actor token d files owners → Honest d es → OthersAreLawful actor token d es
         → (a : Attempt) (more : List (List Edit)) → Did (Changes (own_commit cs base)) a (own es) → Answered (Changes (own_commit cs base)) d files owners es more

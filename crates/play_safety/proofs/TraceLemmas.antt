@@ -1,5 +1,5 @@
 -- Traces in two parts, and the decisions in them.
-use Rattle.std.proofs.Common.{◌≡◌, ◌⊎◌, ℕ, suc, ◌+◌, Bool, true, false, List, [], ◌∷◌, ◌++◌, if◌then◌else◌, refl, ap, sym, inl, inr, ◌∙◌, arith}
+use Rattle.std.proofs.Common.{◌≡◌, ◌⊎◌, ℕ, ℤ, suc, ◌+◌, Bool, true, false, List, [], ◌∷◌, ◌++◌, Option, if◌then◌else◌, refl, ap, sym, inl, inr, ◌∙◌, arith}
 use Rattle.std.proofs.lemmas.Bool.{cases_Bool}
 use Rattle.std.specs.List.{list_any}
 use Rattle.std.specs.Prelude.{◌||◌, is_some, ◌&&◌}
@@ -10,7 +10,7 @@ use Rattle.host_port.specs.Disk.{Disk, after, disk}
 use Rattle.host_port.specs.Ends.{is_after}
 use Rattle.host_port.specs.Own.{own, OnlyLooks}
 use Rattle.host_port.specs.Ran.{Agrees}
-use Rattle.commit_machine.specs.Jobs.{Job, Edit}
+use Rattle.commit_machine.specs.Jobs.{Job, Edit, at_time}
 use Rattle.commit_machine.specs.Due.{is_decision}
 use Rattle.commit_machine.specs.Laws.{decisions, in_flight}
 use Rattle.commit_machine.specs.Restraints.{is_failed}
@@ -99,6 +99,10 @@ decisions-same j queue [] d n = refl
 decisions-same j queue (e ∷ es) d n =
     ap (λ (b : Bool). decisions (first_job j.actor j.token queue) (after d e) (if b then suc n else n) es) (decides-same j queue e d)
     ∙ decisions-same j queue es (after d e) (if is_decision j e d then suc n else n)
+
+-- the time of a job is nothing to its decisions
+pub decisions-untimed : (j : Job) (time : Option ℤ) (es : List Event) (d : Disk) (n : ℕ) → decisions (at_time time j) d n es ≡ decisions j d n es
+decisions-untimed j time es d n = sym (decisions-same (at_time time j) [] es d n) ∙ decisions-same j [] es d n
 
 -- no event of an undecided stretch is a decision
 pub none-decides : (j : Job) (a : List Event) (e : Event) (b : List Event) (d : Disk) → decisions j d 0 (a ++ e ∷ b) ≡ 0 → (decisions j d 0 a ≡ 0) × (is_decision j e (disk d a) ≡ false)

@@ -13,7 +13,7 @@ use Rattle.session_play.specs.declared.stop.Stop.TheVariants as stop
 use Rattle.session_play.specs.Committing.{Commit}
 use Rattle.session_play.specs.Play.{Act, Answer, Changes, Play, Ret, Ask, Did, Partly, Next, Go, Last}
 
--- the job of a commit
+-- the job of a commit, without a time: its decisions don't depend on that
 abbrev pub job_of : Commit → Job
 job_of c = job_for c.actor c.token c.changes c.base
 
