@@ -13,9 +13,9 @@ use Rattle.host_port.specs.declared.event.ChildAnswer.{ChildAnswer}
 use Rattle.host_port.specs.Disk.{Disk, disk}
 use Rattle.commit_machine.specs.Jobs.{Job}
 use Rattle.commit_machine.specs.Machine.{State, Call, next, after_reply, Seizing, Ended}
-use Rattle.commit_machine.specs.Goes.{IsOf, loads, stages, stage_fails, publishes, extends, extend_fails, erases, locks, unlocks, seizes, releases, IsNext, reply}
+use Rattle.commit_machine.specs.Goes.{IsOf, asks, loads, stages, stage_fails, publishes, extends, extend_fails, erases, locks, unlocks, seizes, releases, IsNext, reply}
 use Rattle.commit_machine.specs.Goes as machine
-use Rattle.commit_machine.specs.Edits.{job_for, recovery_for}
+use Rattle.commit_machine.specs.Edits.{timed_for, recovery_for}
 use Rattle.folder_change.specs.declared.change.Change.{Change}
 use Rattle.folder_commit.specs.declared.error.CommitError.{CommitError}
 use Rattle.folder_commit.specs.Commits.{IsCommit}
@@ -28,13 +28,15 @@ use Rattle.session_play.specs.declared.act.Found.TheVariants as found
 use Rattle.session_play.specs.Committing.{Commit, answer_as, Attempted}
 use Rattle.session_play.specs.declared.changing.Attempt.{Attempt}
 use Rattle.session_play.specs.declared.changing.Attempt.TheVariants.{Made, Misnamed}
+use Rattle.session_play.specs.declared.recovering.RecoveryAnswer.{RecoveryAnswer}
+use Rattle.session_play.specs.Recovering.{recovery_as, IsRecoveryOf}
 use Rattle.session_play.specs.Input.{Input}
 use Rattle.session_play.specs.Moments.{IsMomentAt}
 use Rattle.session_play.specs.Knowing.{Question, Rows, Viewed, Fact, IsFact}
 use Rattle.session_play.specs.Play.{Act, Answer, Line, Say, Read, Try, Changes, Recover, Child, Now, Know, Says, seen_at, Did}
 use Rattle.play_likeness.specs.Outside.{Outside, Gives, said}
 use Rattle.play_likeness.specs.Plays.{IsGiven, takes_no_line}
-use Rattle.play_likeness.proofs.JobLemmas.{load_on, load-seen}
+use Rattle.play_likeness.proofs.JobLemmas.{load_on, load-seen, Asks, ToldOne}
 use Rattle.play_likeness.proofs.AnswerLemmas.{IsFrom, attempt-same, recovery-same, recovery-goes}
 use Rattle.play_likeness.proofs.MomentLemmas.{moment-same}
 use Rattle.thread_view.specs.ViewLaws.{ViewsAreAlike}
@@ -97,44 +99,6 @@ given-one d o p es e is given = subst (IsGiven d o p) is given
 load-told : (d : Disk) (name : List ℕ) (s : Seen) (o p : Outside) (es : List Event) → es ≡ event.Load name s ∷ [] → IsGiven d o p es → (s ≡ load_on d name) × (o ≡ p)
 load-told d name s o p es is given = let g = given-one d o p es (event.Load name s) is given in (load-seen d name s g.honest.0 g.tell.0, g.gives)
 
--- ---- commits
-
-call-gives : (c : Call) (e : Event) (es : List Event) (o p : Outside) → IsOf c e → Gives o (e ∷ es) p → Gives o es p
-call-gives c e es o p loads g = g
-call-gives c e es o p stages g = g
-call-gives c e es o p stage_fails g = g
-call-gives c e es o p publishes g = g
-call-gives c e es o p extends g = g
-call-gives c e es o p extend_fails g = g
-call-gives c e es o p erases g = g
-call-gives c e es o p locks g = g
-call-gives c e es o p unlocks g = g
-call-gives c e es o p seizes g = g
-call-gives c e es o p releases g = g
-
-next-gives : (c : Option Call) (e : Event) (es : List Event) (o p : Outside) → IsNext c e → Gives o (e ∷ es) p → Gives o es p
-next-gives None e es o p never g = absurd never
-next-gives (Some c) e es o p of g = call-gives c e es o p of g
-
-machine-gives : (j : Job) (s : State) (es : List Event) (last : State) (o p : Outside) → machine.Goes j s es last → Gives o es p → o ≡ p
-machine-gives j s [] last o p goes gives = gives
-machine-gives j s (e ∷ es) last o p g gives = machine-gives j (after_reply j g.0 (reply e)) es last o p g.3 (next-gives (next j g.0) e es o p g.2 gives)
-
-none-gives : (es : List Event) (o p : Outside) → es ≡ [] → Gives o es p → o ≡ p
-none-gives es o p is gives = subst (λ (es : List Event). Gives o es p) is gives
-
-changes-gives : (actor : List ℕ) (token : ℕ) (cs : List Change) (base : List (List ℕ)) (es : List Event) (r : Result Unit CommitError) (o p : Outside) → IsCommit actor token cs base es r → Gives o es p → o ≡ p
-changes-gives actor token [] base es r o p h gives = none-gives es o p h.0 gives
-changes-gives actor token (c ∷ cs) base es r o p (inl many) gives = none-gives es o p many.1.0 gives
-changes-gives actor token (c ∷ cs) base es r o p (inr (few, h)) gives = machine-gives (job_for actor token (c ∷ cs) base) Seizing es (Ended h.end) o p h.goes gives
-
-attempt-gives : (c : Commit) (a : Attempt) (es : List Event) (o p : Outside) → Attempted c a es → Gives o es p → o ≡ p
-attempt-gives c (Made a) es o p h gives = changes-gives c.actor c.token c.changes c.base es (answer_as a) o p h.1 gives
-attempt-gives c (Misnamed name fault) es o p h gives = none-gives es o p h.1 gives
-
-from-given : (d : Disk) (o p : Outside) (es : List Event) → IsGiven d o p es → IsFrom d es
-from-given d o p es g = record { honest = g.honest; tell = g.tell }
-
 -- ---- what children and the clock answer
 
 heads-same : {A : Type 0} (a b : A) (xs ys : List A) → a ∷ xs ≡ b ∷ ys → a ≡ b
@@ -148,6 +112,67 @@ with-children i j o p xs ys same l = record { text = l.text; children = same; ti
 
 with-times : (i j : Input) (o p : Outside) (xs ys : List ℤ) → xs ≡ ys → Level i o j p → Level i (record o { times = xs }) j (record p { times = ys })
 with-times i j o p xs ys same l = record { text = l.text; children = l.children; times = same; end = l.end; other_end = l.other_end }
+
+-- ---- commits
+
+-- what is level before events is so after them
+abbrev StaysLevel : List Event → Type 0
+StaysLevel es = (i j : Input) (o m p n : Outside) → Level i o j p → Gives o es m → Gives p es n → Level i m j n
+
+none-level : (es : List Event) → es ≡ [] → StaysLevel es
+none-level es is = subst StaysLevel (sym is) (λ i j o m p n level given also. still-level i j o m p n given also level)
+
+call-level : (c : Call) (e : Event) (es : List Event) → IsOf c e → StaysLevel es → StaysLevel (e ∷ es)
+call-level c e es (asks {time = t}) more = λ i j o m p n level given also.
+    more i j (record o { times = given.0 }) m (record p { times = also.0 }) n
+    (with-times i j o p given.0 also.0 (tails-same t t given.0 also.0 (sym given.1 ∙ level.times ∙ also.1)) level) given.2 also.2
+call-level c e es loads more = more
+call-level c e es stages more = more
+call-level c e es stage_fails more = more
+call-level c e es publishes more = more
+call-level c e es extends more = more
+call-level c e es extend_fails more = more
+call-level c e es erases more = more
+call-level c e es locks more = more
+call-level c e es unlocks more = more
+call-level c e es seizes more = more
+call-level c e es releases more = more
+
+next-level : (c : Option Call) (e : Event) (es : List Event) → IsNext c e → StaysLevel es → StaysLevel (e ∷ es)
+next-level None e es never more = absurd never
+next-level (Some c) e es of more = call-level c e es of more
+
+machine-level : (j : Job) (s : State) (es : List Event) (last : State) → machine.Goes j s es last → StaysLevel es
+machine-level j s [] last goes = none-level [] refl
+machine-level j s (e ∷ es) last g = next-level (next j g.0) e es g.2 (machine-level j (after_reply j g.0 (reply e)) es last g.3)
+
+changes-level : (actor : List ℕ) (token : ℕ) (cs : List Change) (base : List (List ℕ)) (es : List Event) (r : Result Unit CommitError) → IsCommit actor token cs base es r → StaysLevel es
+changes-level actor token [] base es r h = none-level es h.0
+changes-level actor token (c ∷ cs) base es r (inl many) = none-level es many.1.0
+changes-level actor token (c ∷ cs) base es r (inr (few, (time, h))) = machine-level (timed_for actor token time (c ∷ cs) base) Seizing es (Ended h.end) h.goes
+
+attempt-level : (c : Commit) (a : Attempt) (es : List Event) → Attempted c a es → StaysLevel es
+attempt-level c (Made a) es h = changes-level c.actor c.token c.changes c.base es (answer_as a) h.1
+attempt-level c (Misnamed name fault) es h = none-level es h.1
+
+recovery-level : (actor : List ℕ) (token : ℕ) (a : RecoveryAnswer) (es : List Event) → IsRecoveryOf actor token es (recovery_as a) → StaysLevel es
+recovery-level actor token a es h = machine-level (recovery_for actor token) Seizing es _ (recovery-goes actor token es a h)
+
+none-gives : (es : List Event) (o p : Outside) → es ≡ [] → Gives o es p → o ≡ p
+none-gives es o p is gives = subst (λ (es : List Event). Gives o es p) is gives
+
+-- the clock tells a commit that asks it
+asked-time : (t : ℤ) (es : List Event) (o p : Outside) → Asks t es → Gives o es p → (rest : List ℤ) × (o.times ≡ t ∷ rest)
+asked-time t es o p (n, rest, is) gives = let g = subst (λ (es : List Event). Gives o es p) is gives in (g.0, g.1)
+
+told-one : (es fs : List Event) (i j : Input) (o m p n : Outside) → Level i o j p → Gives o es m → Gives p fs n → ToldOne es fs
+told-one es fs i j o m p n level given also t u asked other =
+    let one = asked-time t es o m asked given in
+    let two = asked-time u fs p n other also in
+    heads-same t u one.0 two.0 (sym one.1 ∙ level.times ∙ two.1)
+
+from-given : (d : Disk) (o p : Outside) (es : List Event) → IsGiven d o p es → IsFrom d es
+from-given d o p es g = record { honest = g.honest; tell = g.tell }
 
 module _ (one_row : OneRow) (one_view : ViewsAreAlike) where
   rows-same : (texts : List (List ℕ)) (rows more : List Row) → AllZip IsRow texts rows → AllZip IsRow texts more → rows ≡ more
@@ -166,14 +191,18 @@ module _ (one_row : OneRow) (one_view : ViewsAreAlike) where
   fact-same (Viewed kind rows) f g one two = one_view kind rows f g one two
 
   module _ (d : Disk) (es fs : List Event) (i j : Input) (o m p n : Outside) (given : IsGiven d o m es) (also : IsGiven d p n fs) (level : Level i o j p) where
-    -- the events are the same, and the outside is left as it was
+    -- the events are the same
+    alike-events : (act : Act) (a b : Answer act) → a ≡ b → es ≡ fs → Level i m j n → DidSame act a b d es fs i m j n
+    alike-events act a b answers events after = record { answer = answers; says = ap said events; leaves = ap (disk d) events; level = after }
+
+    -- and the outside is left as it was
     same-events : (act : Act) (a b : Answer act) → a ≡ b → es ≡ fs → o ≡ m → p ≡ n → DidSame act a b d es fs i m j n
-    same-events act a b answers events is was = record {
-      answer = answers;
-      says = ap said events;
-      leaves = ap (disk d) events;
-      level = still-level i j o m p n is was level;
-    }
+    same-events act a b answers events is was = alike-events act a b answers events (still-level i j o m p n is was level)
+
+    -- and they keep level what is level
+    level-events : (act : Act) (a b : Answer act) → a ≡ b → es ≡ fs → StaysLevel es → DidSame act a b d es fs i m j n
+    level-events act a b answers events stays =
+        alike-events act a b answers events (stays i j o m p n level given.gives (subst (λ (l : List Event). Gives p l n) (sym events) also.gives))
 
     load-same : (name : List ℕ) (a b : Option Found) → es ≡ event.Load name (seen_at a) ∷ [] → fs ≡ event.Load name (seen_at b) ∷ [] → (a ≡ b) × (es ≡ fs) × (o ≡ m) × (p ≡ n)
     load-same name a b is was =
@@ -224,14 +253,12 @@ module _ (one_row : OneRow) (one_view : ViewsAreAlike) where
     did-same (Try name) free a b one two =
         let l = load-same name a b one two in same-events (Try name) a b l.0 l.1 l.2 l.3
     did-same (Changes c) free a b one two =
-        let same = attempt-same d es fs (from-given d o m es given) (from-given d p n fs also) c a b one two in
-        same-events (Changes c) a b same.1 same.0
-        (attempt-gives c a es o m one given.gives) (attempt-gives c b fs p n two also.gives)
+        let told = told-one es fs i j o m p n level given.gives also.gives in
+        let same = attempt-same d es fs (from-given d o m es given) (from-given d p n fs also) c a b told one two in
+        level-events (Changes c) a b same.1 same.0 (attempt-level c a es one)
     did-same (Recover actor token) free a b one two =
         let same = recovery-same d es fs (from-given d o m es given) (from-given d p n fs also) actor token a b one two in
-        same-events (Recover actor token) a b same.1 same.0
-        (machine-gives (recovery_for actor token) Seizing es _ o m (recovery-goes actor token es a one) given.gives)
-        (machine-gives (recovery_for actor token) Seizing fs _ p n (recovery-goes actor token fs b two) also.gives)
+        level-events (Recover actor token) a b same.1 same.0 (recovery-level actor token a es one)
     did-same (Child program args input) free a b one two = child-same program args input a b one two
     did-same (Now tz) free a b one two = now-same tz a b one two
     did-same (Know q) free a b one two =

@@ -1,12 +1,12 @@
--- A commit and a recovery are answered the same on one disk, by the same events.
-use Rattle.std.proofs.Common.{◌≡◌, ◌⊎◌, ℕ, false, List, [], ◌∷◌, refl, sym, ◌∙◌, ap, inl, inr, arith}
+-- A commit and a recovery are answered the same on one disk, by the same events. A commit is told one time.
+use Rattle.std.proofs.Common.{◌≡◌, ◌⊎◌, ℕ, ℤ, false, List, [], ◌∷◌, refl, sym, ◌∙◌, ap, inl, inr, arith}
 use Rattle.std.specs.declared.result.Result.{Result}
 use Rattle.std.specs.declared.result.Result.TheVariants.{Ok, Err}
 use Rattle.host_port.specs.declared.event.Event.{Event}
 use Rattle.host_port.specs.Disk.{Disk}
 use Rattle.host_port.specs.Ran.{Honest}
 use Rattle.folder_change.specs.declared.change.Change.{Change}
-use Rattle.commit_machine.specs.Jobs.{Found, Ending, Job, all_of}
+use Rattle.commit_machine.specs.Jobs.{Found, Ending, Job, at_time, all_of}
 use Rattle.commit_machine.specs.Jobs as jobs
 use Rattle.commit_machine.specs.Machine.{Seizing, Ended}
 use Rattle.commit_machine.specs.Edits.{job_for, recovery_for}
@@ -29,7 +29,7 @@ use Rattle.session_play.specs.declared.recovering.RecoveryAnswer.TheVariants as 
 use Rattle.session_play.specs.declared.stop.Stop.{Stop}
 use Rattle.play_likeness.specs.Loads.{LoadsTell}
 use Rattle.play_likeness.specs.Jobs.{is_hindered}
-use Rattle.play_likeness.proofs.JobLemmas.{jobs_are_alike}
+use Rattle.play_likeness.proofs.JobLemmas.{ToldOne, jobs_are_alike, timed-same}
 
 -- ---- a commit
 
@@ -105,69 +105,74 @@ module _ (d : Disk) (es fs : List Event) (from : IsFrom d es) (of : IsFrom d fs)
   too-many count a b (inr short) other = absurd (no-memory a short)
   too-many count a b (inl is) (inr short) = absurd (no-memory b short)
 
-  committed-same : (j : Job) (files : List (List ℕ)) (a b : Committed) (x y : Ending) → AnswersAs files (answer_as a) x → AnswersAs files (answer_as b) y
-      → Goes j Seizing es (Ended x) → Goes j Seizing fs (Ended y) → (es ≡ fs) × (a ≡ b)
-  committed-same j files a b x y is also g h =
-      let same = job-same j x y g h (end-fine files a x is) (end-fine files b y also) in
+  -- a commit, where each that asks for the time is told the same
+  committed-same : (j : Job) (t u : ℤ) (files : List (List ℕ)) (a b : Committed) (x y : Ending) → ToldOne es fs → AnswersAs files (answer_as a) x → AnswersAs files (answer_as b) y
+      → Goes (at_time (Some t) j) Seizing es (Ended x) → Goes (at_time (Some u) j) Seizing fs (Ended y) → (es ≡ fs) × (a ≡ b)
+  committed-same j t u files a b x y told is also g h =
+      let same = timed-same j t u d es fs x y
+      (record { goes = g; honest = from.honest; tell = from.tell; unhindered = end-fine files a x is })
+      (record { goes = h; honest = of.honest; tell = of.tell; unhindered = end-fine files b y also }) told
+      in
       (same.0, sym (end-answer files a x is) ∙ ap answer_of same.1 ∙ end-answer files b y also)
 
-  changes-same : (actor : List ℕ) (token : ℕ) (cs : List Change) (base : List (List ℕ)) (a b : Committed) → IsCommit actor token cs base es (answer_as a) → IsCommit actor token cs base fs (answer_as b)
+  changes-same : (actor : List ℕ) (token : ℕ) (cs : List Change) (base : List (List ℕ)) (a b : Committed) → ToldOne es fs → IsCommit actor token cs base es (answer_as a) → IsCommit actor token cs base fs (answer_as b)
       → (es ≡ fs) × (a ≡ b)
-  changes-same actor token [] base a b one two = (both-none es fs one.0 two.0, answer-same a b _ one.1 two.1)
-  changes-same actor token (c ∷ cs) base a b (inl (many, one)) (inl (more, two)) = (both-none es fs one.0 two.0, too-many _ a b one.1 two.1)
-  changes-same actor token (c ∷ cs) base a b (inl (many, one)) (inr (few, two)) = absurd (omega arith)
-  changes-same actor token (c ∷ cs) base a b (inr (few, one)) (inl (many, two)) = absurd (omega arith)
-  changes-same actor token (c ∷ cs) base a b (inr (few, one)) (inr (also, two)) =
-      committed-same (job_for actor token (c ∷ cs) base) (all_of (job_for actor token (c ∷ cs) base)) a b one.end two.end one.is_as two.is_as one.goes two.goes
+  changes-same actor token [] base a b told one two = (both-none es fs one.0 two.0, answer-same a b _ one.1 two.1)
+  changes-same actor token (c ∷ cs) base a b told (inl (many, one)) (inl (more, two)) = (both-none es fs one.0 two.0, too-many _ a b one.1 two.1)
+  changes-same actor token (c ∷ cs) base a b told (inl (many, one)) (inr (few, two)) = absurd (omega arith)
+  changes-same actor token (c ∷ cs) base a b told (inr (few, one)) (inl (many, two)) = absurd (omega arith)
+  changes-same actor token (c ∷ cs) base a b told (inr (few, (t, one))) (inr (also, (u, two))) =
+      let j = job_for actor token (c ∷ cs) base in
+      committed-same j t u (all_of j) a b one.end two.end told one.is_as two.is_as one.goes two.goes
 
-  pub commit-same : (c : Commit) (a b : Committed) → IsCommitOf c es (answer_as a) → IsCommitOf c fs (answer_as b) → (es ≡ fs) × (a ≡ b)
-  commit-same c a b one two = changes-same c.actor c.token c.changes c.base a b one two
+  pub commit-same : (c : Commit) (a b : Committed) → ToldOne es fs → IsCommitOf c es (answer_as a) → IsCommitOf c fs (answer_as b) → (es ≡ fs) × (a ≡ b)
+  commit-same c a b told one two = changes-same c.actor c.token c.changes c.base a b told one two
 
-  pub attempt-same : (c : Commit) (a b : Attempt) → Attempted c a es → Attempted c b fs → (es ≡ fs) × (a ≡ b)
-  attempt-same c (Made a) (Made b) one two = let same = commit-same c a b one.1 two.1 in (same.0, ap Made same.1)
-  attempt-same c (Made a) (Misnamed name fault) one two = absurd (none-some (sym one.0 ∙ two.0))
-  attempt-same c (Misnamed name fault) (Made b) one two = absurd (none-some (sym two.0 ∙ one.0))
-  attempt-same c (Misnamed name fault) (Misnamed other blame) one two =
+  pub attempt-same : (c : Commit) (a b : Attempt) → ToldOne es fs → Attempted c a es → Attempted c b fs → (es ≡ fs) × (a ≡ b)
+  attempt-same c (Made a) (Made b) told one two = let same = commit-same c a b told one.1 two.1 in (same.0, ap Made same.1)
+  attempt-same c (Made a) (Misnamed name fault) told one two = absurd (none-some (sym one.0 ∙ two.0))
+  attempt-same c (Misnamed name fault) (Made b) told one two = absurd (none-some (sym two.0 ∙ one.0))
+  attempt-same c (Misnamed name fault) (Misnamed other blame) told one two =
       (both-none es fs one.1 two.1, ap (λ (p : List ℕ × NameFault). Misnamed p.0 p.1) (some-same (name, fault) (other, blame) (sym one.0 ∙ two.0)))
 
 -- ---- a recovery
 
 abbrev pub end_of : RecoveryAnswer → Ending
 end_of (recovery.Done recovered.Nothing) = jobs.Recovered jobs.Nothing
-end_of (recovery.Done recovered.RolledBack) = jobs.Recovered jobs.RolledBack
-end_of (recovery.Done recovered.Finished) = jobs.Recovered jobs.Finished
+end_of (recovery.Done (recovered.RolledBack moment)) = jobs.Recovered (jobs.RolledBack moment)
+end_of (recovery.Done (recovered.Finished moment)) = jobs.Recovered (jobs.Finished moment)
 end_of (recovery.Busy name) = jobs.Refused (jobs.Busy name)
 end_of recovery.NotARecord = jobs.Refused jobs.NotARecord
 end_of (recovery.TooLarge name n) = jobs.Refused (jobs.TooLarge name n)
 
 abbrev answer_by : Ending → RecoveryAnswer
 answer_by (jobs.Recovered jobs.Nothing) = recovery.Done recovered.Nothing
-answer_by (jobs.Recovered jobs.RolledBack) = recovery.Done recovered.RolledBack
-answer_by (jobs.Recovered jobs.Finished) = recovery.Done recovered.Finished
+answer_by (jobs.Recovered (jobs.RolledBack moment)) = recovery.Done (recovered.RolledBack moment)
+answer_by (jobs.Recovered (jobs.Finished moment)) = recovery.Done (recovered.Finished moment)
 answer_by (jobs.Refused (jobs.Busy name)) = recovery.Busy name
 answer_by (jobs.Refused (jobs.TooLarge name n)) = recovery.TooLarge name n
 answer_by end = recovery.NotARecord
 
 by-end : (a : RecoveryAnswer) → answer_by (end_of a) ≡ a
 by-end (recovery.Done recovered.Nothing) = refl
-by-end (recovery.Done recovered.RolledBack) = refl
-by-end (recovery.Done recovered.Finished) = refl
+by-end (recovery.Done (recovered.RolledBack moment)) = refl
+by-end (recovery.Done (recovered.Finished moment)) = refl
 by-end (recovery.Busy name) = refl
 by-end recovery.NotARecord = refl
 by-end (recovery.TooLarge name n) = refl
 
 of-fine : (a : RecoveryAnswer) → is_hindered (end_of a) ≡ false
 of-fine (recovery.Done recovered.Nothing) = refl
-of-fine (recovery.Done recovered.RolledBack) = refl
-of-fine (recovery.Done recovered.Finished) = refl
+of-fine (recovery.Done (recovered.RolledBack moment)) = refl
+of-fine (recovery.Done (recovered.Finished moment)) = refl
 of-fine (recovery.Busy name) = refl
 of-fine recovery.NotARecord = refl
 of-fine (recovery.TooLarge name n) = refl
 
 pub recovery-goes : (actor : List ℕ) (token : ℕ) (es : List Event) (a : RecoveryAnswer) → IsRecoveryOf actor token es (recovery_as a) → Goes (recovery_for actor token) Seizing es (Ended (end_of a))
 recovery-goes actor token es (recovery.Done recovered.Nothing) h = h
-recovery-goes actor token es (recovery.Done recovered.RolledBack) h = h
-recovery-goes actor token es (recovery.Done recovered.Finished) h = h
+recovery-goes actor token es (recovery.Done (recovered.RolledBack moment)) h = h
+recovery-goes actor token es (recovery.Done (recovered.Finished moment)) h = h
 recovery-goes actor token es (recovery.Busy name) h = h.1
 recovery-goes actor token es recovery.NotARecord h = h
 recovery-goes actor token es (recovery.TooLarge name n) h = h.1

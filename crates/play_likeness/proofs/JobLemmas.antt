@@ -1,5 +1,5 @@
--- A job does the same on one disk.
-use Rattle.std.proofs.Common.{◌≡◌, ◌⊎◌, ◌<◌, ℕ, Bool, true, false, List, [], ◌∷◌, length, refl, sym, ◌∙◌, ap, subst, inl, inr, true≢false, lt-ltb, le-ltb}
+-- A job does the same on one disk, at one time.
+use Rattle.std.proofs.Common.{◌≡◌, ◌⊎◌, ◌<◌, ℕ, ℤ, Bool, true, false, List, [], ◌∷◌, length, refl, sym, ◌∙◌, ap, subst, inl, inr, true≢false, lt-ltb, le-ltb}
 use Rattle.std.specs.Prelude.{nat_lt, is_some, is_none, if◌then◌else◌}
 use Rattle.std.proofs.lemmas.Bool.{cond-true, cond-false}
 use Rattle.std.specs.declared.option.Option.{Option}
@@ -16,11 +16,12 @@ use Rattle.commit_record.specs.declared.record.Record.{Record}
 use Rattle.commit_record.specs.declared.way.Way.{Way}
 use Rattle.commit_record.specs.declared.way.Way.TheVariants.{Replace, Remove, Extend}
 use Rattle.commit_machine.specs.Items.{Item}
-use Rattle.commit_machine.specs.Jobs.{Ending, Job}
-use Rattle.commit_machine.specs.Machine.{Then, GoOn, Answer, State, Seizing, Looking, Undoing, Placing, Testing, Extending, Removing, Discarding, Unlocking, Erasing, Clearing, Preparing, Publishing, Locking, Loading, Staging, Deciding, Committing, Checking, Releasing, Ended, Call, ToLoad, ToStage, ToPublish, ToExtend, ToErase, ToLock, ToUnlock, ToSeize, ToRelease, Reply, Went, Saw, Long, Short, Fault, unlocking, undoing, removing, extending, place_one, placing, faulted, next, after_reply, refused}
-use Rattle.commit_machine.specs.Goes.{IsOf, loads, stages, stage_fails, publishes, extends, extend_fails, erases, locks, unlocks, seizes, releases, IsNext, reply, Goes}
+use Rattle.commit_machine.specs.Names.{right_name}
+use Rattle.commit_machine.specs.Jobs.{Busy, Refused, Ending, Job, at_time}
+use Rattle.commit_machine.specs.Machine.{Then, GoOn, Answer, State, Seizing, Timing, Looking, Undoing, Placing, Testing, Extending, Removing, Discarding, Unlocking, Erasing, Clearing, Preparing, Publishing, Locking, Loading, Staging, Deciding, Committing, Checking, Releasing, Ended, Call, ToAsk, ToLoad, ToStage, ToPublish, ToExtend, ToErase, ToLock, ToUnlock, ToSeize, ToRelease, Reply, Went, Saw, Long, Short, Fault, unlocking, undoing, removing, extending, place_one, placing, faulted, next, after_reply, went_on, refused}
+use Rattle.commit_machine.specs.Goes.{IsOf, asks, loads, stages, stage_fails, publishes, extends, extend_fails, erases, locks, unlocks, seizes, releases, IsNext, reply, Goes}
 use Rattle.play_likeness.specs.Loads.{Tells, LoadsTell}
-use Rattle.play_likeness.specs.Jobs.{is_hindered, JobsAreAlike}
+use Rattle.play_likeness.specs.Jobs.{is_hindered, GoesFrom, JobsAreAlike}
 
 -- ---- states from which a job ends hindered
 
@@ -74,6 +75,7 @@ module _ (j : Job) where
   -- memory that runs out leads there, or changes nothing
   refused-lost : (s : State) → (refused j s ≡ s) ⊎ (is_lost (refused j s) ≡ true)
   refused-lost Seizing = inr refl
+  refused-lost (Timing time) = inr refl
   refused-lost Looking = inr refl
   refused-lost (Undoing r n ns ls GoOn) = inr refl
   refused-lost (Undoing r n ns ls (Answer e)) = inl refl
@@ -186,6 +188,7 @@ abbrev pub load_on : Disk → List ℕ → Seen
 load_on d name = seen_on (d.files name) (is_some (d.locks name))
 
 abbrev event_on : Disk → Call → Event
+event_on d (ToAsk time) = event.Now time
 event_on d (ToLoad n) = event.Load n (load_on d n)
 event_on d (ToStage n c) = event.Stage n (Some c) false
 event_on d (ToPublish from to) = event.Publish from to (is_some (d.files from)) false
@@ -213,6 +216,7 @@ load-seen d name seen.Failed is tells = absurd tells
 load-seen d name seen.Memory is tells = absurd tells
 
 call-event : (j : Job) (s : State) (d : Disk) (c : Call) (e : Event) (es : List Event) → IsOf c e → Agrees d e → LoadsTell (e ∷ es) → (is_lost (after_reply j s (reply e)) ≡ true → ⊥) → e ≡ event_on d c
+call-event j s d c e es asks is tell found = refl
 call-event j s d c e es (loads {n = n} {s = seen}) is tell found = ap (event.Load n) (load-seen d n seen is tell.0)
 call-event j s d c e es stages is tell found = refl
 call-event j s d c e es stage_fails is tell found = absurd (found (lost-faulted s))
@@ -296,3 +300,68 @@ goes-same j s d (e ∷ es) (f ∷ fs) a b fine good g h honest true_of tell told
 
 pub jobs_are_alike : JobsAreAlike
 jobs_are_alike j d es fs a b one two = goes-same j Seizing d es fs a b one.unhindered two.unhindered one.goes two.goes one.honest two.honest one.tell two.tell
+
+-- ---- the time of a job
+
+-- the events take a right, and then ask for the time, which is this
+abbrev pub Asks : ℤ → List Event → Type 0
+Asks time es = (n : List ℕ) × (rest : List Event) × (es ≡ event.Seize n true false ∷ event.Now time ∷ rest)
+
+-- where both ask for the time they are told the same
+abbrev pub ToldOne : List Event → List Event → Type 0
+ToldOne es fs = (t u : ℤ) → Asks t es → Asks u fs → t ≡ u
+
+-- a job with this time
+abbrev timed : Job → ℤ → Job
+timed j t = at_time (Some t) j
+
+seizing-on : (j : Job) (end : Ending) → Seizing ≡ Ended end → ⊥
+seizing-on j end e = cc
+
+timing-on : (t : ℤ) (end : Ending) → Timing t ≡ Ended end → ⊥
+timing-on t end e = cc
+
+module _ (j : Job) (t u : ℤ) (end : Ending) (unhindered : is_hindered end ≡ false) where
+  -- the same events at another time, or those of a job that asks
+  abbrev Either : List Event → Type 0
+  Either es = Goes (timed j u) Seizing es (Ended end) ⊎ Asks t es
+
+  right-taken : (n : List ℕ) (d : Disk) (es : List Event) → Goes (timed j t) (Timing t) es (Ended end) → Honest d es → LoadsTell es → Asks t (event.Seize n true false ∷ es)
+  right-taken n d [] g honest tell = absurd (timing-on t end (over (timed j t) end unhindered (Timing t) g))
+  right-taken n d (e ∷ es) g honest tell =
+      let st = step (timed j t) end unhindered (Timing t) d e es g honest.0 tell in
+      let is : e ≡ event.Now t = st.is ∙ ap (event_on d) (call-same st.call (ToAsk t) (sym st.calls)) in
+      (n, es, ap (λ (x : Event). event.Seize n true false ∷ x ∷ es) is)
+
+  right-busy : (d : Disk) (es : List Event) → Goes (timed j t) (Ended (Refused (Busy (right_name j.actor)))) es (Ended end) → Honest d es → LoadsTell es
+      → Goes (timed j u) Seizing (event.Seize (right_name j.actor) false false ∷ es) (Ended end)
+  right-busy d [] g honest tell = (Seizing, inl refl, seizes, g)
+  right-busy d (e ∷ es) g honest tell =
+      let busy = Ended (Refused (Busy (right_name j.actor))) in
+      let st = step (timed j t) end unhindered busy d e es g honest.0 tell in
+      absurd (none-some (timed j t) busy (Refused (Busy (right_name j.actor))) st.call refl st.calls)
+
+  seized : (d : Disk) (got : Bool) (es : List Event) → Goes (timed j t) (went_on (timed j t) Seizing got) es (Ended end) → Honest d es → LoadsTell es → Either (event.Seize (right_name j.actor) got false ∷ es)
+  seized d true es g honest tell = inr (right-taken (right_name j.actor) d es g honest tell)
+  seized d false es g honest tell = inl (right-busy d es g honest tell)
+
+  either : (d : Disk) (es : List Event) → Goes (timed j t) Seizing es (Ended end) → Honest d es → LoadsTell es → Either es
+  either d [] g honest tell = absurd (seizing-on j end (over (timed j t) end unhindered Seizing g))
+  either d (e ∷ es) g honest tell =
+      let st = step (timed j t) end unhindered Seizing d e es g honest.0 tell in
+      let got = is_open (d.rights (right_name j.actor)) in
+      let is : e ≡ event.Seize (right_name j.actor) got false = st.is ∙ ap (event_on d) (call-same st.call (ToSeize (right_name j.actor)) (sym st.calls)) in
+      let more = subst (λ (x : Event). Goes (timed j t) (after_reply (timed j t) Seizing (reply x)) es (Ended end)) is st.more in
+      subst (λ (x : Event). Either (x ∷ es)) (sym is) (seized (after d e) got es more honest.1 (tell-tail e es tell))
+
+-- a job that is told the same time where it asks has one list of events, and one end
+pub timed-same : (j : Job) (t u : ℤ) (d : Disk) (es fs : List Event) (a b : Ending) → GoesFrom (at_time (Some t) j) d es a → GoesFrom (at_time (Some u) j) d fs b → ToldOne es fs → (es ≡ fs) × (a ≡ b)
+timed-same j t u d es fs a b one two told = go (either j t u a one.unhindered d es one.goes one.honest one.tell) (either j u t b two.unhindered d fs two.goes two.honest two.tell)
+  where
+    at : (v : ℤ) → Goes (timed j v) Seizing es (Ended a) → Goes (timed j v) Seizing fs (Ended b) → (es ≡ fs) × (a ≡ b)
+    at v g h = goes-same (timed j v) Seizing d es fs a b one.unhindered two.unhindered g h one.honest two.honest one.tell two.tell
+
+    go : Goes (timed j u) Seizing es (Ended a) ⊎ Asks t es → Goes (timed j t) Seizing fs (Ended b) ⊎ Asks u fs → (es ≡ fs) × (a ≡ b)
+    go (inl g) more = at u g two.goes
+    go (inr asked) (inl h) = at t one.goes h
+    go (inr asked) (inr also) = at t one.goes (subst (λ (v : ℤ). Goes (timed j v) Seizing fs (Ended b)) (sym (told t u asked also)) two.goes)

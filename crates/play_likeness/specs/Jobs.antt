@@ -1,4 +1,4 @@
--- The own events of a job are fixed by the disk.
+-- The own events of a job are fixed by the disk, and the time that it is told.
 use Rattle.std.specs.Prelude.{◌≡◌, Bool, true, false, List}
 use Rattle.host_port.specs.declared.event.Event.{Event}
 use Rattle.host_port.specs.Disk.{Disk}
@@ -21,6 +21,6 @@ pub record GoesFrom (j : Job) (d : Disk) (es : List Event) (end : Ending) : Type
   pub tell : LoadsTell es
   pub unhindered : is_hindered end ≡ false
 
--- from one disk a job has one list of events, and one end
+-- from one disk a job, told one time, has one list of events, and one end
 abbrev pub JobsAreAlike : Type 0
 JobsAreAlike = (j : Job) (d : Disk) (es fs : List Event) (a b : Ending) → GoesFrom j d es a → GoesFrom j d fs b → (es ≡ fs) × (a ≡ b)

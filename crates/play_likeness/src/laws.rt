@@ -4,8 +4,8 @@ ghost use Rattle.play_likeness.specs.Plays.{PlaysAreAlike};
 use message_state::a_text_has_one_row;
 use thread_view::views_are_alike;
 
-/// The own events of one job from one disk are the same, with the same end, if each load told what stood, and the job
-/// ended neither by a failed call nor for want of memory.
+/// The own events of one job from one disk, told one time, are the same, with the same end, if each load told what
+/// stood, and the job ended neither by a failed call nor for want of memory.
 pub fn jobs_are_alike()
     ensures { JobsAreAlike }
 {}
