@@ -1,5 +1,5 @@
 -- Changes of files, one after the other.
-use Rattle.std.proofs.Common.{◌≡◌, ◌≢◌, ℕ, suc, ◌-◌, ◌<◌, ◌≤◌, Bool, true, false, ◌||◌, List, [], ◌∷◌, length, map, take, drop, get_or, slice_set, refl, ap, sym, subst, inl, inr, ◌∙◌, add-one, arith}
+use Rattle.std.proofs.Common.{◌≡◌, ◌≢◌, ℕ, suc, ◌+◌, ◌<◌, ◌≤◌, Bool, true, false, ◌||◌, List, [], ◌∷◌, length, map, drop, get_or, slice_set, refl, ap, sym, subst, inl, inr, ◌∙◌, add-one, arith}
 use Rattle.std.specs.Prelude.{All, nat_le, if◌then◌else◌}
 use Rattle.std.specs.declared.option.Option.{Option}
 use Rattle.std.specs.declared.option.Option.TheVariants.{Some, None}
@@ -7,8 +7,9 @@ use Rattle.std.specs.declared.result.Result.{Result}
 use Rattle.std.specs.declared.result.Result.TheVariants.{Ok, Err}
 use Rattle.std.specs.Str.{bytes_eq}
 use Rattle.std.proofs.lemmas.Bool.{cases_Bool, leb-false}
-use Rattle.std.proofs.lemmas.List.{take_all}
-use Rattle.std.proofs.lemmas.List.Elements.{All-head, All-tail}
+use Rattle.std.proofs.Math.ListN.{drop_of_length-le}
+use Rattle.std.proofs.Math.Seq.{drop-cons}
+use Rattle.std.proofs.lemmas.List.Elements.{All-head, All-tail, All-get_or}
 use Rattle.folder_change.specs.declared.change.Change.{Change}
 use Rattle.folder_change.specs.Changes.{name_of}
 use Rattle.folder_change.specs.Outcomes.{outcome_of}
@@ -161,50 +162,51 @@ judged-none : (base : List (List ℕ)) (names : List (List ℕ)) (seen : List (O
 unfolding apply first_refusal
 judged-none base names seen files d is = (refl, is)
 
-pub judged-empty : (xs : List Change) (base : List (List ℕ)) (names : List (List ℕ)) (seen : List (Option (List ℕ))) → length xs < 1 → Judges xs base names seen (Ok tt) seen
-judged-empty [] base names seen short = judged-none base names seen
-judged-empty (x ∷ xs) base names seen short = absurd (omega (arith, short))
+-- so many changes are made: what is judged of those that are left is judged of all
+pub record JudgedUpTo (changes : List Change) (base names : List (List ℕ)) (seen now : List (Option (List ℕ))) (k : ℕ) : Type 0 where
+  pub long : length now ≡ length seen
+  pub all : (result : Result Unit Trouble) (last : List (Option (List ℕ))) → Judges (drop k changes) base names now result last → Judges changes base names seen result last
 
--- what is after the first
-abbrev pub rest_of : {A : Type 0} → List A → List A
-rest_of xs = take (length xs - 1) (drop 1 xs)
+pub judged-start : (changes : List Change) (base names : List (List ℕ)) (seen : List (Option (List ℕ))) → JudgedUpTo changes base names seen seen 0
+judged-start changes base names seen = record { long = refl; all = λ result last h. h }
 
-head-tail : {A : Type 0} (xs : List A) (x : A) → 1 ≤ length xs → x ≡ get_or xs 0 x → xs ≡ x ∷ rest_of xs
-head-tail [] x h is = absurd (omega arith)
-head-tail {A = A} (y ∷ ys) x h is =
-    let all : take (length (y ∷ ys) - 1) ys ≡ ys = take_all (length (y ∷ ys) - 1) ys (omega arith) in
-    let same : y ≡ x = sym is in
-    rw all (ap (λ (z : A). z ∷ ys) same)
+pub judged-end : (changes : List Change) (base names : List (List ℕ)) (seen now : List (Option (List ℕ))) (k : ℕ) → length changes ≤ k
+    → JudgedUpTo changes base names seen now k → Judges changes base names seen (Ok tt) now
+judged-end changes base names seen now k h so =
+    so.all (Ok tt) now (subst (λ (cs : List Change). Judges cs base names now (Ok tt) now) (sym (drop_of_length-le changes h)) (judged-none base names now))
 
-pub rest-shorter : {A : Type 0} (xs : List A) (x : A) → 1 ≤ length xs → x ≡ get_or xs 0 x → length (rest_of xs) < length xs
-rest-shorter xs x h is = let e = ap length (head-tail xs x h is) in omega (arith, e)
+-- the change with this number is made, or it can't be
+module _ (changes : List Change) (base names : List (List ℕ)) (seen now mid : List (Option (List ℕ))) (k at : ℕ) (first : Change) (within : k < length changes) (is : first ≡ get_or changes k first) (named : All (λ c. has names (name_of c) ≡ true) changes) (number : at ≡ number_in names (name_of first)) where
+  among : has names (name_of first) ≡ true
+  among = subst (λ (c : Change). has names (name_of c) ≡ true) (sym is) (All-get_or (λ (c : Change). has names (name_of c) ≡ true) changes k first within named)
 
-pub all-rest : {A : Type 0} (P : A → Type 0) (xs : List A) (x : A) → 1 ≤ length xs → x ≡ get_or xs 0 x → All P xs → All P (rest_of xs)
-all-rest {A = A} P xs x h is all = All-tail P x (rest_of xs) (subst (λ (z : List A). All P z) (head-tail xs x h is) all)
+  split : drop k changes ≡ first ∷ drop (suc k) changes
+  split = drop-cons changes k first within ∙ ap (λ (c : Change). c ∷ drop (suc k) changes) (sym is)
 
-pub all-first : {A : Type 0} (P : A → Type 0) (xs : List A) (x : A) → 1 ≤ length xs → x ≡ get_or xs 0 x → All P xs → P x
-all-first {A = A} P xs x h is all = All-head P x (rest_of xs) (subst (λ (z : List A). All P z) (head-tail xs x h is) all)
+  pub at-below : at < length names
+  at-below = omega (arith, number, number-below names (name_of first) among)
 
--- what is judged of changes, of which there is one at least
-module _ (xs : List Change) (first : Change) (some : 1 ≤ length xs) (is : first ≡ get_or xs 0 first) (base names : List (List ℕ)) (at : ℕ) (among : has names (name_of first) ≡ true) (number : at ≡ number_in names (name_of first)) where
-  split : xs ≡ first ∷ rest_of xs
-  split = head-tail xs first some is
+  pub judged-next : JudgedUpTo changes base names seen now k → (u : Unit) → JudgesOne first base at now (Ok u) mid → JudgedUpTo changes base names seen mid (k + 1)
+  judged-next so u one = record {
+    long = ap length one.3 ∙ length-set now at one.0 ∙ so.long;
+    all = λ result last h.
+        so.all result last
+        (subst (λ (cs : List Change). Judges cs base names now result last) (sym split)
+        (judged-more first (drop (suc k) changes) base names among now mid last u result (subst (λ (i : ℕ). JudgesOne first base i now (Ok u) mid) number one)
+        (subst (λ (i : ℕ). Judges (drop i changes) base names mid result last) (add-one k) h)));
+  }
 
-  pub more : (seen mid now : List (Option (List ℕ))) (u : Unit) (result : Result Unit Trouble) → JudgesOne first base at seen (Ok u) mid → Judges (rest_of xs) base names mid result now → Judges xs base names seen result now
-  more seen mid now u result one rest =
-      subst (λ (z : List Change). Judges z base names seen result now) (sym split)
-      (judged-more first (rest_of xs) base names among seen mid now u result (subst (λ (k : ℕ). JudgesOne first base k seen (Ok u) mid) number one) rest)
+  pub judged-not : JudgedUpTo changes base names seen now k → (t : Trouble) (last : List (Option (List ℕ))) → JudgesOne first base at now (Err t) mid → Judges changes base names seen (Err t) last
+  judged-not so t last one =
+      so.all (Err t) last
+      (subst (λ (cs : List Change). Judges cs base names now (Err t) last) (sym split)
+      (judged-trouble first (drop (suc k) changes) base names among now mid t (subst (λ (i : ℕ). JudgesOne first base i now (Err t) mid) number one) last))
 
-  pub troubled : (seen now : List (Option (List ℕ))) (t : Trouble) → JudgesOne first base at seen (Err t) now → Judges xs base names seen (Err t) now
-  troubled seen now t one =
-      subst (λ (z : List Change). Judges z base names seen (Err t) now) (sym split)
-      (judged-trouble first (rest_of xs) base names among seen now t (subst (λ (k : ℕ). JudgesOne first base k seen (Err t) now) number one) now)
-
-  pub fits-so : (seen now : List (Option (List ℕ))) (t : Trouble) → JudgesOne first base at seen (Err t) now → TroubleFits (length names) (Err t)
-  fits-so seen now t one = trouble-fits first (rest_of xs) base names among seen now t (subst (λ (k : ℕ). JudgesOne first base k seen (Err t) now) number one)
+  pub fits-so : (t : Trouble) → JudgesOne first base at now (Err t) mid → TroubleFits (length names) (Err t)
+  fits-so t one = trouble-fits first (drop (suc k) changes) base names among now mid t (subst (λ (i : ℕ). JudgesOne first base i now (Err t) mid) number one)
 
 pub same-long : (first : Change) (base : List (List ℕ)) (k : ℕ) (seen now : List (Option (List ℕ))) (r : Result Unit Trouble) → JudgesOne first base k seen r now → length now ≡ length seen
 same-long first base k seen now (Ok u) one = ap length one.3 ∙ length-set seen k one.0
-same-long first base k seen now (Err (trouble.Changed i m)) one = ap length one.0
-same-long first base k seen now (Err (trouble.TooLarge i n)) one = ap length one.0
-same-long first base k seen now (Err trouble.Memory) one = ap length one
+same-long first base k seen now (Err (trouble.Changed i m)) one = one.0
+same-long first base k seen now (Err (trouble.TooLarge i n)) one = one.0
+same-long first base k seen now (Err trouble.Memory) one = one

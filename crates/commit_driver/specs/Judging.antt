@@ -28,10 +28,10 @@ number_in (m ∷ ms) n = if bytes_eq n m then 0 else number_in ms n + 1
 abbrev pub JudgesOne : Change → List (List ℕ) → ℕ → List (Option (List ℕ)) → Result Unit Trouble → List (Option (List ℕ)) → Type 0
 JudgesOne change base at files (Ok u) now =
     (file : Option (List ℕ)) × (outcome_of (get_or files at None) change base ≡ Ok file) × (excess_of file ≡ None) × (now ≡ slice_set files at file)
-JudgesOne change base at files (Err (trouble.Changed k message)) now = (now ≡ files) × (k ≡ at) × (outcome_of (get_or files at None) change base ≡ Err message)
+JudgesOne change base at files (Err (trouble.Changed k message)) now = (length now ≡ length files) × (k ≡ at) × (outcome_of (get_or files at None) change base ≡ Err message)
 JudgesOne change base at files (Err (trouble.TooLarge k n)) now =
-    (now ≡ files) × (k ≡ at) × ((file : Option (List ℕ)) × (outcome_of (get_or files at None) change base ≡ Ok file) × (excess_of file ≡ Some n))
-JudgesOne change base at files (Err trouble.Memory) now = now ≡ files
+    (length now ≡ length files) × (k ≡ at) × ((file : Option (List ℕ)) × (outcome_of (get_or files at None) change base ≡ Ok file) × (excess_of file ≡ Some n))
+JudgesOne change base at files (Err trouble.Memory) now = length now ≡ length files
 
 -- the files of these names after all changes, or why they can't be made, which running out of memory may hide
 abbrev pub JudgesSo : List Change → List (List ℕ) → List (List ℕ) → Files → Result Unit Trouble → List (Option (List ℕ)) → Type 0

@@ -15,8 +15,8 @@ use std::alloc::Global;
 /// The most bytes of a file that was loaded.
 const MOST_BYTES: usize = 268_435_456;
 
-// Whether a change puts its bytes behind those of the file.
-fn is_added(change: &Change) -> bool
+/// Whether a change puts its bytes behind those of the file.
+pub fn is_added(change: &Change) -> bool
     ensures { result ≡ is_added change.now }
 {
     match change {

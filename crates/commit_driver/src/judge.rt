@@ -5,8 +5,9 @@ ghost use Rattle.folder_change.specs.Outcomes.{base_list};
 ghost use Rattle.commit_machine.specs.Records.{has};
 ghost use Rattle.commit_driver.specs.Judging.{Judges, JudgesOne, TroubleFits, excess_of, number_in};
 
+use crate::making::change_file;
 use commit_record::Entry;
-use folder_change::{Change, ChangeError, change_name, outcome};
+use folder_change::{Change, ChangeError, change_name};
 use mail_text::{Items, Text};
 use mbox_scan::Folder;
 use std::alloc::Global;
@@ -23,16 +24,6 @@ pub enum Trouble {
     TooLarge { file: usize, length: u64 },
     /// Memory ran out.
     Memory,
-}
-
-// The bytes of a file; an absent one has none.
-fn bytes_of(file: &Option<Text>) -> Option<&[u8]>
-    ensures { option_copied result ≡ file.now }
-{
-    match file {
-        Some(text) => Some(text.bytes()),
-        None => None,
-    }
 }
 
 // How long a file is that is too long.
@@ -80,12 +71,9 @@ fn judge_one(
     requires at { at < length files.old }
     ensures { JudgesOne change.now (base_list (option_copied base.entry)) at files.old result files.new }
 {
-    match outcome(alloc, bytes_of(&files.items()[at]), change, base) {
-        Ok(file) => match excess(&file) {
-            None => {
-                *files.get_mut(at) = file;
-                Ok(())
-            }
+    match change_file(alloc, change, base, files.get_mut(at)) {
+        Ok(()) => match excess(&files.items()[at]) {
+            None => Ok(()),
             Some(length) => Err(Trouble::TooLarge { file: at, length }),
         },
         Err(ChangeError::Changed { at: message }) => Err(Trouble::Changed {
@@ -96,7 +84,8 @@ fn judge_one(
     }
 }
 
-/// What changes, in order, make of the files of these entries.
+/// What changes, in order, make of the files of these entries. A file that is only added to isn't copied, so it takes as
+/// much time as there are bytes in the files and the changes. If it can't be done, the files are no longer of use.
 pub fn judge(
     alloc: Global,
     changes: &[Change],
@@ -112,14 +101,9 @@ pub fn judge(
     ensures long { length files.new ≡ length files.old }
     ensures fits { TroubleFits (length entries.now) result }
 {
-    match changes {
-        [] => Ok(()),
-        [first, rest @ ..] => {
-            let at = number_of(entries, change_name(first));
-            match judge_one(alloc, first, base, at, files) {
-                Ok(()) => judge(alloc, rest, base, entries, files),
-                Err(why) => Err(why),
-            }
-        }
+    for change in changes {
+        let at = number_of(entries, change_name(change));
+        judge_one(alloc, change, base, at, files)?;
     }
+    Ok(())
 }

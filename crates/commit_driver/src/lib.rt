@@ -8,6 +8,7 @@ pub mod calls;
 mod decision;
 mod driving;
 mod judge;
+mod making;
 mod next;
 mod place;
 mod step;
