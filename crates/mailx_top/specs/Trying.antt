@@ -62,6 +62,12 @@ pub record HasTried (n : ℕ) (s : Status) (m : MemHost) : Type 0 where
   pub start : host_start m ≡ trial_start n
   pub told : (es : List Event) → host_told m ≡ Some es → IsTrial n s es
 
+-- so ends a trial that is given with its host: it is done, or memory ran out
+abbrev pub IsTrialEnd : Status → Type 0
+IsTrialEnd status.Done = Unit {0}
+IsTrialEnd status.Memory = Unit {0}
+IsTrialEnd s = ⊥
+
 -- how many messages a file has: none, if it is absent or no mailbox
 abbrev pub messages_in : Option (List ℕ) → ℕ
 messages_in None = 0

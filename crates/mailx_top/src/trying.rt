@@ -7,7 +7,7 @@ ghost use Rattle.mailx_top.specs.Runs.{AsFar, IsRun};
 ghost use Rattle.mailx_top.specs.Words.{asked};
 ghost use Rattle.trial_host.specs.Scripts.{scripted_world};
 ghost use Rattle.mailx_top.specs.Statuses.{line_at_stop};
-ghost use Rattle.mailx_top.specs.Trying.{HasTried, IsSummary, IsTriesEnd, Tries, messages_in, summary_of, trial_env, trial_words, tries_of};
+ghost use Rattle.mailx_top.specs.Trying.{HasTried, IsSummary, IsTrialEnd, IsTriesEnd, Tries, messages_in, summary_of, trial_env, trial_words, tries_of};
 
 use crate::Environment;
 use crate::status::stop_line;
@@ -38,6 +38,17 @@ pub(crate) fn tries_of(wanted: &Option<Wanted>, env: &Environment) -> Option<u64
     }
 }
 
+// The status of a trial that is done, or for which memory ran out. One with another status counts as memory running out.
+fn trial_end(status: Status) -> Result<Status, Memory>
+    ensures same { IfOk result (λ s. s ≡ status) }
+    ensures ends { IfOk result IsTrialEnd }
+{
+    match status {
+        Status::Done | Status::Memory => Ok(status),
+        _ => Err(Memory),
+    }
+}
+
 // A trial with these words in this environment.
 fn try_words(
     alloc: Global,
@@ -45,17 +56,21 @@ fn try_words(
     env: &Environment,
     host: &mut Scripted,
 ) -> Result<Status, Memory>
-    ensures { IfOk result (λ s. Ran scripted_world host.old host.new (IsRun (asked words.now) env.now s)) }
+    ensures ran { IfOk result
+        (λ s. Ran scripted_world host.old host.new (IsRun (asked words.now) env.now s)) }
+    ensures ends { IfOk result IsTrialEnd }
 {
     match wanted(alloc, words) {
-        Ok(wanted) => Ok(carry_out(alloc, &wanted, env, host)),
+        Ok(wanted) => trial_end(carry_out(alloc, &wanted, env, host)),
         Err(memory) => Err(memory),
     }
 }
 
 // A trial.
 fn try_over(alloc: Global, host: &mut Scripted) -> Result<Status, Memory>
-    ensures { IfOk result (λ s. Ran scripted_world host.old host.new (IsRun (asked trial_words) trial_env s)) }
+    ensures ran { IfOk result
+        (λ s. Ran scripted_world host.old host.new (IsRun (asked trial_words) trial_env s)) }
+    ensures ends { IfOk result IsTrialEnd }
 {
     let words = trial_words(alloc)?;
     let env = trial_env(alloc)?;
@@ -64,9 +79,11 @@ fn try_over(alloc: Global, host: &mut Scripted) -> Result<Status, Memory>
 
 /// A run of the words `-N -f box` over a host in memory, on a mailbox of this many messages: it shows threads, deletes
 /// the messages of one subject, saves those of one sender and quits. Gives that host as the run left it, and the run's
-/// status.
+/// status, which is that of a run that is done, or for which memory ran out. A run that ended otherwise counts as memory
+/// running out.
 pub fn try_host(alloc: Global, count: u64) -> Result<(MemHost, Status), Memory>
-    ensures { IfOk result (λ r. HasTried count r.1 r.0) }
+    ensures tried { IfOk result (λ r. HasTried count r.1 r.0) }
+    ensures ends { IfOk result (λ r. IsTrialEnd r.1) }
 {
     match first_host(alloc, count) {
         Ok(mut host) => match try_over(alloc, &mut host) {

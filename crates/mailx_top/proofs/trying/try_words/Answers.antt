@@ -1,13 +1,18 @@
-use Rattle.std.proofs.Common.{subst, Option}
+use Rattle.std.proofs.Common.{sym, subst, Option}
 use Rattle.std.specs.Option.{option_and_then}
 use Rattle.host_port.specs.Ran.{Ran}
 use Rattle.trial_host.specs.Scripts.{scripted_world}
 use Rattle.command_words.specs.declared.reading.Wanted.{Wanted}
+use Rattle.session_state.specs.declared.status.Status.{Status}
 use Rattle.mailx_top.specs.Runs.{IsRun}
-use Rattle.mailx_top.specs.Words.{start_by}
+use Rattle.mailx_top.specs.Words.{asked, start_by}
+use Rattle.mailx_top.proofs.TryingLemmas.{if-ok}
 use Rattle.mailx_top.proofs.trying.try_words.Goals as goal
 
-pub returns-in-Ok : goal.returns-in-Ok
-returns-in-Ok c =
-    subst (λ (w : Option Wanted). Ran scripted_world c.args.host.now c.carry_out.new.host (IsRun (option_and_then start_by w) c.args.env.now c.carry_out.result)) c.in-Ok.ensures
-    c.carry_out.ensures.run
+pub returns-in-Ok-clause-ran : goal.returns-in-Ok-clause-ran
+returns-in-Ok-clause-ran c =
+    let old = c.args.host.now in
+    let new = c.carry_out.new.host in
+    let env = c.args.env.now in
+    let ran = subst (λ (w : Option Wanted). Ran scripted_world old new (IsRun (option_and_then start_by w) env c.carry_out.result)) c.in-Ok.ensures c.carry_out.ensures.run in
+    if-ok c.trial_end.result (λ s is. subst (λ (t : Status). Ran scripted_world old new (IsRun (asked c.args.words.now) env t)) (sym is) ran) c.trial_end.ensures.same
