@@ -49,7 +49,8 @@ use Rattle.mailx_top.specs.declared.environment.Environment.{Environment}
 use Rattle.mailx_top.specs.declared.words.Manner.{Manner}
 use Rattle.mailx_top.specs.declared.words.Manner.TheVariants.{Silent, Rows, Quiet, Greeting}
 use Rattle.mailx_top.specs.Alike.{RunsAreAlike}
-use Rattle.mailx_top.specs.Meaning.{RunState, at_prompt, is_over, next_unless, recovered, recovering, Recovering, Preparing, with_files, next_file, file_round, Opening, opening, folder_name, with_name_or_fault, ends_with, begun, loaded, unheld, is_no_mail, with_list, greeted, Reading, Finishing, Leaving, round, turn, line_round, finishing_round, with_input, with_finishing, prompted, actor_in}
+use Rattle.mailx_top.specs.Meaning.{RunState, at_prompt, is_over, next_unless, recovered, recovering, says_any, Recovering, Preparing, prepared, with_files, next_file, file_round, Opening, opening, folder_name, with_name_or_fault, ends_with, begun, loaded, unheld, is_no_mail, with_list, greeted, Reading, Finishing, Leaving, round, turn, line_round, finishing_round, with_input, with_finishing, prompted, actor_in}
+use Rattle.mailx_top.specs.RecoveryLines.{heard_recovery}
 use Rattle.mailx_top.specs.Runs.{AsFar, SaysLast, SaysAtEnd, Ending}
 use Rattle.mailx_top.specs.Sending.{draft_with}
 use Rattle.mailx_top.specs.Statuses.{line_at_end}
@@ -161,8 +162,12 @@ file-alike start s names (Some p) =
 
 -- ---- the recovery and the opening
 
+said-alike : (env : Environment) (o : Options) (l : Option (List ℕ)) → Early (bind (says_any l) (λ u. Ret (Go (prepared env (words.Opens o)))))
+said-alike env o None = ret prepares
+said-alike env o (Some l) = ask _ refl (λ u. ret prepares)
+
 recovered-alike : (env : Environment) (o : Options) (a : RecoveryAnswer) → Early (recovered env o a)
-recovered-alike env o (recovery.Done f) = ret prepares
+recovered-alike env o (recovery.Done f) = said-alike env o (heard_recovery o.exists f)
 recovered-alike env o (recovery.Busy name) = ask _ refl (λ u. ret refl)
 recovered-alike env o recovery.NotARecord = ret refl
 recovered-alike env o (recovery.TooLarge name n) = ret refl

@@ -13,7 +13,7 @@ use Rattle.host_port.specs.Calls.{Counts, NeverFall}
 use Rattle.host_port.proofs.RanLemmas.{rose-back}
 use Rattle.session_play.specs.declared.stop.Stop.{Stop}
 use Rattle.session_play.specs.declared.stop.Stop.TheVariants as stop
-use Rattle.std.specs.Prelude.{if◌then◌else◌, IfOk, IfSome, IfNone, IsSome}
+use Rattle.std.specs.Prelude.{if◌then◌else◌, IfErr, IfOk, IfSome, IfNone, IsSome}
 use Rattle.session_play.specs.Play.{Caused, Play, Ret, Ask, Goes, Next, Last, Loop, again, last, cut}
 use Rattle.mailx_vars.specs.declared.environment.Places.{Places}
 use Rattle.mailx_vars.specs.Environment.{Pairs, knows_user, places_in, places_of}
@@ -257,12 +257,17 @@ pub bad-cut : (env : Environment) (start : Option Start) (cause : Stop) → Ends
 bad-cut env None cause named never = absurd never
 bad-cut env (Some start) cause named bad = unopened-cut cause (named.1 bad)
 
-say-start : (cause : Stop) → IsSayCut cause → IsStartCut cause
+pub say-start : (cause : Stop) → IsSayCut cause → IsStartCut cause
 say-start stop.Output c = tt
 say-start stop.Memory c = tt
 say-start stop.Input never = absurd never
 say-start stop.Disk never = absurd never
 say-start stop.TooMuch never = absurd never
+
+-- a failed output is such a cut
+pub output-said : {A : Type 0} (r : Result A Stop) → IfErr r (λ cause. cause ≡ stop.Output) → IfErr r IsSayCut
+output-said (Ok a) only = tt
+output-said (Err cause) only = subst IsSayCut (sym only) tt
 
 -- the opening opened none
 pub opens-none : (out : Result Status Stop) → EndsOr status.NoFolder out → EndsUnopened out

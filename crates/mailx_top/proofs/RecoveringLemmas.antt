@@ -10,14 +10,10 @@ use Rattle.std.specs.declared.result.Result.TheVariants.{Ok, Err}
 use Rattle.mail_text.specs.Lines.{with_feed}
 use Rattle.host_port.specs.declared.event.Event.{Event}
 use Rattle.host_port.specs.declared.event.Event.TheVariants as event
-use Rattle.host_port.specs.declared.event.Seen.{Seen}
 use Rattle.host_port.specs.declared.event.Seen.TheVariants as seen
-use Rattle.commit_record.specs.declared.record.Record.{Record}
-use Rattle.commit_machine.specs.Records.{record_of}
-use Rattle.commit_machine.specs.Jobs.{Before, Found, Busy, NotARecord, TooLarge, Ending, Recovered, Refused, Failed, NoMemory}
+use Rattle.commit_machine.specs.Jobs.{Before, Busy, NotARecord, TooLarge, Ending, Recovered, Refused, Failed, NoMemory}
 use Rattle.commit_machine.specs.Restraints.{is_failed}
-use Rattle.folder_recovery.specs.Recovering.{found}
-use Rattle.folder_recovery.specs.Told.{told_end, unless_long, end_by, end_seen, end_read}
+use Rattle.folder_recovery.specs.Told.{told_end, unless_long, end_by, end_seen}
 use Rattle.folder_recovery.proofs.ToldLemmas.{is-told}
 use Rattle.session_play.specs.declared.stop.Stop.{Stop}
 use Rattle.session_play.specs.declared.stop.Stop.TheVariants as stop
@@ -25,7 +21,7 @@ use Rattle.session_play.specs.declared.recovering.RecoveryAnswer.{RecoveryAnswer
 use Rattle.session_play.specs.declared.recovering.RecoveryAnswer.TheVariants as recovery
 use Rattle.session_play.specs.Recovering.{recovery_as, IsRecoveryOf}
 use Rattle.session_play.specs.Causes.{counted, events_at}
-use Rattle.session_play.specs.Play.{Says, Goes, Next, Go, Last, Loop, again, last, cut}
+use Rattle.session_play.specs.Play.{Says, Ret, Goes, Next, Go, Last, Loop, again, last, cut, bind}
 use Rattle.session_play.proofs.ShapeLemmas.{came-same, goes-ends}
 use Rattle.session_state.specs.declared.state.SessionState.{SessionState}
 use Rattle.session_state.specs.declared.status.Status.{Status}
@@ -33,8 +29,9 @@ use Rattle.session_state.specs.declared.status.Status.TheVariants as status
 use Rattle.mailx_top.specs.declared.environment.Environment.{Environment}
 use Rattle.command_words.specs.declared.options.Options.{Options}
 use Rattle.mailx_top.specs.Words.{Start, Opens, Sends}
-use Rattle.mailx_top.specs.Meaning.{RunState, Recovering, Preparing, Opening, Reading, Finishing, Leaving, round, prepared, recovered, recovering, first_of, actor_in, heard, ends_with, says_and_ends, usage, is_recovering, is_opening}
+use Rattle.mailx_top.specs.Meaning.{RunState, Recovering, Preparing, Opening, Reading, Finishing, Leaving, round, prepared, recovered, recovering, first_of, actor_in, heard, ends_with, says_any, says_and_ends, usage, is_recovering, is_opening}
 use Rattle.mailx_top.specs.Openings.{OpenedBadly, IsOpeningExplained}
+use Rattle.mailx_top.specs.RecoveryLines.{heard_recovery}
 use Rattle.mailx_top.specs.Leavings.{refused_at_end}
 use Rattle.mailx_top.specs.Starts.{is_recovered, is_right_busy, is_bad_record, IsStartExplained, IsExplainedFrom}
 use Rattle.mailx_top.proofs.OpeningLemmas.{next-round, explained-by, or-later, files-explained}
@@ -185,64 +182,79 @@ ended-usage recovery es is = record {
   done_only = λ e. absurd (cc e);
 }
 
--- what is printed after a seizure that another's right refused changes nothing of what its events tell
+-- what is printed behind the events of a recovery changes nothing of what they tell
 says-fine : (bytes : List ℕ) (es : List Event) → Says bytes es → list_any is_failed es ≡ false
 says-fine bytes [] s = refl
 says-fine bytes (event.Out front false ∷ es) s = says-fine s.0 es s.2
 says-fine bytes (e ∷ es) never = absurd never
 
-fine-append : (xs ys : List Event) → list_any is_failed xs ≡ false → list_any is_failed ys ≡ false → list_any is_failed (xs ++ ys) ≡ false
-fine-append [] ys x y = y
-fine-append (e ∷ xs) ys x y = go (is_failed e) x (fine-append xs ys)
-  where
-    go : (b : Bool) → (b || list_any is_failed xs) ≡ false → (list_any is_failed xs ≡ false → list_any is_failed ys ≡ false → list_any is_failed (xs ++ ys) ≡ false) → (b || list_any is_failed (xs ++ ys)) ≡ false
-    go true h more = absurd (cc h)
-    go false h more = more h y
+says-short : (bytes : List ℕ) (es : List Event) (end : Ending) → Says bytes es → unless_long es end ≡ end
+says-short bytes [] end s = refl
+says-short bytes (event.Out front false ∷ es) end s = says-short s.0 es end s.2
+says-short bytes (e ∷ es) end never = absurd never
 
-long-free : (es : List Event) (end : Ending) → is_right_busy end ≡ false → is_right_busy (unless_long es end) ≡ false
-long-free [] end h = h
-long-free (event.Load n (seen.TooLarge length) ∷ es) end h = refl
-long-free (e ∷ es) end h = long-free es end h
+says-none : (actor bytes : List ℕ) (es : List Event) → Says bytes es → end_by actor es ≡ NoMemory
+says-none actor bytes [] s = refl
+says-none actor bytes (event.Out front false ∷ es) s = refl
+says-none actor bytes (e ∷ es) never = absurd never
 
-read-free : (o : Option Record) → is_right_busy (end_read o) ≡ false
-read-free None = refl
-read-free (Some r) = refl
+says-unread : (actor n bytes : List ℕ) (failed : Bool) (es : List Event) → Says bytes es → end_by actor (event.Seize n true failed ∷ es) ≡ NoMemory
+says-unread actor n bytes failed [] s = refl
+says-unread actor n bytes failed (event.Out front false ∷ es) s = refl
+says-unread actor n bytes failed (e ∷ es) never = absurd never
 
-seen-free : (actor : List ℕ) (s : Seen) → is_right_busy (end_seen actor s) ≡ false
-seen-free actor (seen.Bytes None held) = refl
-seen-free actor (seen.Bytes (Some bytes) held) = read-free (record_of bytes)
-seen-free actor (seen.TooLarge n) = refl
-seen-free actor seen.Failed = refl
-seen-free actor seen.Memory = refl
+fine-behind : (es outs : List Event) → list_any is_failed outs ≡ false → list_any is_failed (es ++ outs) ≡ list_any is_failed es
+fine-behind [] outs fine = fine
+fine-behind (e ∷ es) outs fine = ap (λ (b : Bool). is_failed e || b) (fine-behind es outs fine)
 
-not-busy : {A : Type 0} (end : Ending) (name : List ℕ) → is_right_busy end ≡ false → end ≡ Refused (Busy name) → A
-not-busy end name free is = absurd (let busy = ap is_right_busy is in cc (free, busy))
+long-behind : (es outs : List Event) (bytes : List ℕ) (end : Ending) → Says bytes outs → unless_long (es ++ outs) end ≡ unless_long es end
+long-behind [] outs bytes end says = says-short bytes outs end says
+long-behind (event.Load n (seen.TooLarge length) ∷ es) outs bytes end says = refl
+long-behind (e ∷ es) outs bytes end says = long-behind es outs bytes end says
 
-end-behind : (actor : List ℕ) (front outs : List Event) (name : List ℕ) → end_by actor front ≡ Refused (Busy name) → end_by actor (front ++ outs) ≡ Refused (Busy name)
-end-behind actor [] outs name is = absurd (cc is)
-end-behind actor (event.Seize n false failed ∷ es) outs name is = is
-end-behind actor (event.Seize n true failed ∷ event.Load m s ∷ es) outs name is = not-busy (unless_long es (end_seen actor s)) name (long-free es (end_seen actor s) (seen-free actor s)) is
-end-behind actor (event.Seize n true failed ∷ es) outs name is = absurd (cc is)
-end-behind actor (e ∷ es) outs name is = absurd (cc is)
+end-behind : (actor : List ℕ) (es outs : List Event) (bytes : List ℕ) → Says bytes outs → end_by actor (es ++ outs) ≡ end_by actor es
+end-behind actor [] outs bytes says = says-none actor bytes outs says
+end-behind actor (event.Seize n false failed ∷ es) outs bytes says = refl
+end-behind actor (event.Seize n true failed ∷ []) outs bytes says = says-unread actor n bytes failed outs says
+end-behind actor (event.Seize n true failed ∷ event.Load m s ∷ es) outs bytes says = long-behind es outs bytes (end_seen actor s) says
+end-behind actor (event.Seize n true failed ∷ e ∷ es) outs bytes says = refl
+end-behind actor (e ∷ es) outs bytes says = refl
 
-told-behind : (actor : List ℕ) (front outs : List Event) (name : List ℕ) → told_end actor front ≡ Refused (Busy name) → list_any is_failed outs ≡ false → told_end actor (front ++ outs) ≡ Refused (Busy name)
-told-behind actor front outs name is fine = go (list_any is_failed front) refl is
-  where
-    go : (b : Bool) → list_any is_failed front ≡ b → (if b then Failed Before else end_by actor front) ≡ Refused (Busy name) → told_end actor (front ++ outs) ≡ Refused (Busy name)
-    go true h is = absurd (cc is)
-    go false h is = ap (λ (b : Bool). if b then Failed Before else end_by actor (front ++ outs)) (fine-append front outs h fine) ∙ end-behind actor front outs name is
+told-behind : (actor : List ℕ) (es outs : List Event) (bytes : List ℕ) → Says bytes outs → told_end actor (es ++ outs) ≡ told_end actor es
+told-behind actor es outs bytes says =
+    ap (λ (b : Bool). if b then Failed Before else end_by actor (es ++ outs)) (fine-behind es outs (says-fine bytes outs says))
+    ∙ ap (λ (end : Ending). if list_any is_failed es then Failed Before else end) (end-behind actor es outs bytes says)
 
--- the end that a line after a busy right leads to, and its events
+-- the events are such
+abbrev TellsNoMore : List Event → Type 0
+TellsNoMore outs = (actor : List ℕ) (es : List Event) → told_end actor (es ++ outs) ≡ told_end actor es
+
+no-more : (outs : List Event) → outs ≡ [] → TellsNoMore outs
+no-more outs none = λ actor es. ap (told_end actor) (ap (λ (l : List Event). es ++ l) none ∙ append-nil es)
+
+said-more : (bytes : List ℕ) (es front rest : List Event) → es ≡ front ++ rest → rest ≡ [] → Says bytes front → TellsNoMore es
+said-more bytes es front rest is none says =
+    subst TellsNoMore (sym (is ∙ ap (λ (l : List Event). front ++ l) none ∙ append-nil front)) (λ actor xs. told-behind actor xs front bytes says)
+
+-- the end that a line leads to after which the run ends
 abbrev EndsSo : Status → Next RunState Status → Type 0
 EndsSo e (Go y) = ⊥
 EndsSo e (Last r) = r ≡ e
 
-said-so : (text : List ℕ) (e r : Status) (es : List Event) → Goes (says_and_ends text e) es (Ok (Last r)) → (r ≡ e) × (list_any is_failed es ≡ false)
-said-so text e r es goes = (goes-ends (EndsSo e) (says_and_ends text e) es (Last r) (λ u. refl) goes, fine goes)
+said-so : (text : List ℕ) (e r : Status) (es : List Event) → Goes (says_and_ends text e) es (Ok (Last r)) → (r ≡ e) × TellsNoMore es
+said-so text e r es goes = (goes-ends (EndsSo e) (says_and_ends text e) es (Last r) (λ u. refl) goes, more goes)
   where
-    fine : Goes (says_and_ends text e) es (Ok (Last r)) → list_any is_failed es ≡ false
-    fine (inl (u, front, rest, is, did, end)) = subst (λ (l : List Event). list_any is_failed l ≡ false) (sym (is ∙ ap (λ (l : List Event). front ++ l) end.0 ∙ append-nil front)) (says-fine text front did)
-    fine (inr (cause, other, part)) = absurd (cc other)
+    more : Goes (says_and_ends text e) es (Ok (Last r)) → TellsNoMore es
+    more (inl (u, front, rest, is, did, end)) = said-more text es front rest is end.0 did
+    more (inr (cause, other, part)) = absurd (cc other)
+
+-- what is said of a recovery leads on
+said-on : (line : Option (List ℕ)) (x : RunState) (es : List Event) (n : Next RunState Status) → Goes (bind (says_any line) (λ u. Ret (ends x))) es (Ok n) → (n ≡ ends x) × TellsNoMore es
+said-on None x es n (none, inl same) = (came-same n (ends x) same, no-more es none)
+said-on None x es n (none, inr other) = absurd (cc other)
+said-on (Some line) x es n (inl (u, front, rest, is, did, (none, inl same))) = (came-same n (ends x) same, said-more line es front rest is none did)
+said-on (Some line) x es n (inl (u, front, rest, is, did, (none, inr other))) = absurd (cc other)
+said-on (Some line) x es n (inr (cause, other, part)) = absurd (cc other)
 
 last-same : (r e : Status) → (ended r ≡ ended e) ⊎ (ended r ≡ Err stop.Memory) → r ≡ e
 last-same r e (inl same) = cc same
@@ -265,11 +277,10 @@ module _ (env : Environment) (actor : List ℕ) (token : ℕ) (o : Options) wher
   -- a recovery whose answer ends the run
   ended-by : (a : RecoveryAnswer) (r : Status) (front rest : List Event) → IsRecoveryOf actor token front (recovery_as a) → Goes (recovered env o a) rest (Ok (Last r))
       → Explained ⊥ (Some (Opens o)) (Ok r) (told_end actor (front ++ rest)) [] false
-  ended-by (recovery.Done f) r front rest did (none, inl other) = absurd (cc other)
-  ended-by (recovery.Done f) r front rest did (none, inr other) = absurd (cc other)
+  ended-by (recovery.Done f) r front rest did goes = absurd (let on = (said-on (heard_recovery o.exists f) (prepared env (Opens o)) rest (Last r) goes).0 in cc on)
   ended-by (recovery.Busy name) r front rest did goes =
       let said = said-so (heard o (with_feed (name ++ codes ": busy"))) status.Refused r rest goes in
-      let told = told-behind actor front rest name (is-told actor token front (recovery_as (recovery.Busy name)) did) said.1 in
+      let told = said.1 actor front ∙ is-told actor token front (recovery_as (recovery.Busy name)) did in
       subst (λ (r : Status). Explained ⊥ (Some (Opens o)) (Ok r) (told_end actor (front ++ rest)) [] false) (sym said.0) (ended-busy (Some (Opens o)) (told_end actor (front ++ rest)) name told)
   ended-by recovery.NotARecord r front rest did (none, end) =
       ended-plainly actor (Some (Opens o)) (Refused NotARecord) r front rest refl refl refl (is-told actor token front (recovery_as recovery.NotARecord) did) none (last-same r status.BadRecord end)
@@ -280,14 +291,10 @@ module _ (env : Environment) (actor : List ℕ) (token : ℕ) (o : Options) wher
   abbrev Reaches : RunState → List Event → List Event → Type 0
   Reaches y front rest = (y ≡ prepared env (Opens o)) × (is_recovered (told_end actor (front ++ rest)) ≡ true)
 
-  reaches-with : (y : RunState) (f : Found) (front rest : List Event) → y ≡ prepared env (Opens o) → told_end actor front ≡ Recovered f → rest ≡ [] → Reaches y front rest
-  reaches-with y f front rest is told none =
-      (is, ap is_recovered (ap (λ (l : List Event). told_end actor (front ++ l)) none ∙ (ap (told_end actor) (append-nil front) ∙ told)))
-
   reaches : (a : RecoveryAnswer) (y : RunState) (front rest : List Event) → IsRecoveryOf actor token front (recovery_as a) → Goes (recovered env o a) rest (Ok (Go y)) → Reaches y front rest
-  reaches (recovery.Done f) y front rest did (none, inl same) =
-      reaches-with y (found f) front rest (go-same y (prepared env (Opens o)) (came-same (Go y) (Go (prepared env (Opens o))) same)) (is-told actor token front (recovery_as (recovery.Done f)) did) none
-  reaches (recovery.Done f) y front rest did (none, inr other) = absurd (cc other)
+  reaches (recovery.Done f) y front rest did goes =
+      let on = said-on (heard_recovery o.exists f) (prepared env (Opens o)) rest (Go y) goes in
+      (go-same y (prepared env (Opens o)) on.0, ap is_recovered (on.1 actor front ∙ is-told actor token front (recovery_as (recovery.Done f)) did))
   reaches (recovery.Busy name) y front rest did goes = absurd (goes-ends Ends (ends_with o (with_feed (name ++ codes ": busy")) status.Refused) rest (Go y) (λ u. tt) goes)
   reaches recovery.NotARecord y front rest did (none, inl other) = absurd (cc other)
   reaches recovery.NotARecord y front rest did (none, inr other) = absurd (cc other)

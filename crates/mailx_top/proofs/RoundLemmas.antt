@@ -44,8 +44,9 @@ use Rattle.mailx_top.specs.declared.environment.Environment.{Environment}
 use Rattle.mailx_top.specs.declared.words.Manner.{Manner}
 use Rattle.mailx_top.specs.declared.words.Manner.TheVariants.{Silent, Rows, Quiet, Greeting}
 use Rattle.mailx_top.specs.Leavings.{is_for_record}
-use Rattle.mailx_top.specs.Meaning.{RunState, at_prompt, is_over, next_unless, first_of, actor_in, Recovering, recovered, recovering, Preparing, with_files, next_file, file_round, Opening, opening, folder_name, with_name_or_fault, ends_with, begun, loaded, unheld, is_no_mail, with_list, greeted, Reading, Finishing, Leaving, round, turn, line_round, finishing_round, with_input, with_finishing, prompted, input_of, is_opening}
+use Rattle.mailx_top.specs.Meaning.{RunState, at_prompt, is_over, next_unless, first_of, actor_in, Recovering, recovered, recovering, says_any, Preparing, prepared, with_files, next_file, file_round, Opening, opening, folder_name, with_name_or_fault, ends_with, begun, loaded, unheld, is_no_mail, with_list, greeted, Reading, Finishing, Leaving, round, turn, line_round, finishing_round, with_input, with_finishing, prompted, input_of, is_opening}
 use Rattle.mailx_top.specs.Openings.{is_no_list, is_no_folder}
+use Rattle.mailx_top.specs.RecoveryLines.{heard_recovery}
 use Rattle.mailx_top.specs.Sending.{draft_with}
 use Rattle.mailx_top.specs.Words as words
 use Rattle.mailx_top.specs.Words.{Start, manner_of}
@@ -254,8 +255,14 @@ module _ (env : Environment) (actor : List ℕ) (token : ℕ) where
 
   -- ---- the recovery
 
+  -- what is said of it, and then the start-up files
+  said-obeys : (o : Options) (line : Option (List ℕ)) → IsOf actor token (first_of env (Some (words.Opens o)))
+      → Rounds false (Leading outcome.Fine (λ y. Unit {0})) IsPlain (nothing_met, no_input) (bind (says_any line) (λ u. Ret (Go (prepared env (words.Opens o)))))
+  said-obeys o None of = (refl, of, (tt, λ is. is))
+  said-obeys o (Some line) of = ((tt, refl, tt), λ u. (refl, of, (tt, λ is. is)))
+
   recovered-obeys : (o : Options) (a : RecoveryAnswer) → IsOf actor token (first_of env (Some (words.Opens o))) → Rounds false (Leading outcome.Fine (λ y. Unit {0})) IsPlain (met_by nothing_met (Recover actor token) a, no_input) (recovered env o a)
-  recovered-obeys o (recovery.Done f) of = (refl, of, (tt, λ is. is))
+  recovered-obeys o (recovery.Done f) of = said-obeys o (heard_recovery o.exists f) of
   recovered-obeys o (recovery.Busy name) of = ((tt, refl, tt), λ u. (refl, refl, tt))
   recovered-obeys o recovery.NotARecord of = refl
   recovered-obeys o (recovery.TooLarge name n) of = refl

@@ -1,6 +1,7 @@
 pub mod Words
 pub mod Wants
 pub mod Sending
+pub mod RecoveryLines
 pub mod Meaning
 pub mod Leavings
 pub mod Statuses

@@ -45,6 +45,7 @@ use Rattle.mailx_top.specs.declared.words.Manner.{Manner}
 use Rattle.mailx_top.specs.declared.words.Manner.TheVariants.{Silent, Rows, Quiet, Greeting}
 use Rattle.mailx_top.specs.Words.{Start, Opens, Sends, options_of, folder_word, manner_of}
 use Rattle.mailx_top.specs.Sending.{mode_with, draft_with}
+use Rattle.mailx_top.specs.RecoveryLines.{heard_recovery}
 
 -- where a run is between two rounds: before what a stopped run has left is recovered, and then a folder opened or a draft
 -- begun, if the words ask for one; before a line of a start-up file, or the next of the files that are left; before the
@@ -259,9 +260,14 @@ prepared env start =
     let s = first_of env (Some start) in
     Preparing start s (startup_files (options_of start) s.desk.places)
 
--- what follows the recovery before a folder is opened: the start-up files, once it is done
+-- a line is printed, if there is one
+abbrev pub says_any : Option (List ℕ) → Play (Unit {0})
+says_any None = Ret tt
+says_any (Some line) = Ask (Say line) Ret
+
+-- what follows the recovery before a folder is opened: once it is done what it did is said, and then come the start-up files
 abbrev pub recovered : Environment → Options → RecoveryAnswer → Play (Next RunState Status)
-recovered env o (recovery.Done found) = Ret (Go (prepared env (Opens o)))
+recovered env o (recovery.Done found) = bind (says_any (heard_recovery o.exists found)) (λ u. Ret (Go (prepared env (Opens o))))
 recovered env o (recovery.Busy name) = ends_with o (with_feed (name ++ codes ": busy")) status.Refused
 recovered env o recovery.NotARecord = Ret (Last status.BadRecord)
 recovered env o (recovery.TooLarge name length) = Ret (Last status.BadRecord)

@@ -5,6 +5,7 @@ mod environment;
 mod laws;
 mod open;
 mod recovering;
+mod recovery_line;
 mod sending;
 mod session;
 mod startup;

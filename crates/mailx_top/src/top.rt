@@ -354,9 +354,9 @@ pub(crate) fn carry_out<H: Host>(
 }
 
 /// All that the program does: it reads the words of the command line without the program's own name, recovers what a
-/// stopped run has left and opens the folder that they ask for, or begins the draft that they ask for, carries out the
-/// lines of its input, and answers how it ended. Or, if they ask for that, it tries itself on a mailbox in memory. The
-/// status' cause is the clause of its name.
+/// stopped run has left, says so and opens the folder that they ask for, or begins the draft that they ask for, carries
+/// out the lines of its input, and answers how it ended. Or, if they ask for that, it tries itself on a mailbox in memory.
+/// The status' cause is the clause of its name.
 pub fn run<H: Host>(alloc: Global, words: &[Text], env: &Environment, host: &mut H) -> Status
     // The own events are those of the command meaning, or the summary of a trial; output and status are its.
     ensures run { Ran H.world host.old host.new

@@ -1,9 +1,9 @@
-use Rattle.std.proofs.Common.{[], false, refl, subst, inl}
+use Rattle.std.proofs.Common.{[], false, subst}
 use Rattle.std.specs.declared.option.Option.TheVariants.{None}
 use Rattle.std.specs.declared.result.Result.{Result}
 use Rattle.std.specs.Prelude.{◌++◌, codes}
 use Rattle.mail_text.specs.Lines.{with_feed}
-use Rattle.host_port.proofs.RanLemmas.{Ran-none, Ran-map}
+use Rattle.host_port.proofs.RanLemmas.{Ran-map}
 use Rattle.session_play.specs.declared.stop.Stop.{Stop}
 use Rattle.session_play.specs.Input.{no_input}
 use Rattle.session_play.specs.Play.{Goes, Next}
@@ -16,7 +16,7 @@ use Rattle.mailx_top.proofs.EndLemmas.{said-next, said-stops}
 use Rattle.mailx_top.proofs.recovering.answered.Goals as goal
 
 pub returns-in-Done-clause-ran : goal.returns-in-Done-clause-ran
-returns-in-Done-clause-ran g c = λ env. rw c.in-Done.is (Ran-none (refl, inl refl))
+returns-in-Done-clause-ran g c = λ env. rw c.in-Done.is (c.go_on.ensures.ran env)
 
 pub returns-in-Busy-clause-ran : goal.returns-in-Busy-clause-ran
 returns-in-Busy-clause-ran g c = λ env.
