@@ -17,8 +17,8 @@ use Rattle.folder_change.specs.Changes.{name_of}
 use Rattle.folder_change.specs.ListLaws.{list_of_file}
 use Rattle.commit_machine.specs.Due.{settled_files}
 use Rattle.session_play.specs.Committing.{Commit}
-use Rattle.play_safety.specs.Appended.{IsOnlyOne, IsRewritten}
-use Rattle.play_safety.proofs.AppendedLemmas.{others-left, rewrites-followed}
+use Rattle.play_safety.specs.Appended.{IsOnlyOne, Adds, nothing, passes, puts, AddsAndRewrites, IsRewritten}
+use Rattle.play_safety.proofs.AppendedLemmas.{others-left, rewrites-followed, adds-follow, adds-followed}
 use Rattle.quit_rules.specs.declared.open.Open.{Open}
 use Rattle.quit_rules.specs.declared.gathered.Gathered.{Gathered}
 use Rattle.quit_rules.specs.declared.gathered.What.{What}
@@ -28,7 +28,7 @@ use Rattle.quit_rules.specs.Fates.{fate_of, is_staying, rules_of}
 use Rattle.quit_rules.specs.Plans.{Message, boxed, folder_changes, mbox_change, mbox_changes, messages_of, quit_changes, same_texts, stamped_text, staying}
 use Rattle.quit_rules.proofs.PlanLemmas.{true-same}
 use Rattle.session_state.specs.Placing.{placed, placed_change, placed_changes}
-use Rattle.mailx_top.specs.Quits.{QuitsKeepAppended}
+use Rattle.mailx_top.specs.Quits.{QuitsKeepAppended, QuitsKeepGathered}
 use Rattle.mailx_top.specs.Meaning.{actor_in}
 
 -- ---- the texts that stay are proper
@@ -165,3 +165,77 @@ quits-keep start env status d es safe front behind e now c s left decides alone 
         let proper = staying-proper folder vars (texts_of-proper folder.folder leaves.read) in
         subst (λ (b : List (List ℕ)). IsRewritten b list (settled_files (actor_in env) (disk d front) file) (settled_files (actor_in env) now file)) for_base
         (rewrites-followed (actor_in env) env.token d es safe.commits safe.out safe.safe front behind e now c file list keep left decides alone one proper)
+
+-- ---- what was gathered for the folder's own file
+adds-apart : (n : List ℕ) (changes : List Change) → All (λ (other : Change). n ≢ name_of other) changes → Adds n changes []
+adds-apart n [] apart = nothing
+adds-apart n (c ∷ cs) apart =
+    passes (All-head (λ (other : Change). n ≢ name_of other) c cs apart) (adds-apart n cs (All-tail (λ (other : Change). n ≢ name_of other) c cs apart))
+
+adds-then : {n : List ℕ} {changes : List Change} {texts : List (List ℕ)} → Adds n changes texts → (others : List Change) → All (λ (other : Change). n ≢ name_of other) others → Adds n (changes ++ others) texts
+adds-then {n = n} nothing others apart = adds-apart n others apart
+adds-then (passes away adds) others apart = passes away (adds-then adds others apart)
+adds-then (puts proper adds) others apart = puts proper (adds-then adds others apart)
+
+-- what stands before the change of the folder adds what was gathered to it
+before-adds : (here n : List ℕ) (folder : Open) (vars : Settings) (mbox : List ℕ) (gathered : List Gathered) (texts : List (List ℕ)) → n ≢ placed here mbox
+    → Adds n (placed_changes here (gathered_changes gathered)) texts → Adds n (placed_changes here (before_folder folder vars mbox gathered)) texts
+before-adds here n folder vars mbox gathered texts apart adds =
+    subst (λ (cs : List Change). Adds n cs texts) (sym (map-append (placed_change here) (gathered_changes gathered) (mbox_changes (boxed folder vars) vars mbox)))
+    (adds-then adds (placed_changes here (mbox_changes (boxed folder vars) vars mbox)) (mbox-apart here n mbox (boxed folder vars) vars apart))
+
+pub quits-keep-gathered : QuitsKeepGathered
+quits-keep-gathered start env status d es safe front behind e now c s gathered appended left decides alone leaves is = go (cases_Bool (same_texts list base))
+  where
+    folder : Open
+    folder = s.desk.folder
+
+    vars : Settings
+    vars = s.desk.vars
+
+    mbox : List ℕ
+    mbox = s.desk.places.mbox
+
+    file : List ℕ
+    file = placed s.here folder.name
+
+    base : List (List ℕ)
+    base = texts_of folder.folder
+
+    list : List (List ℕ)
+    list = staying folder vars
+
+    mine : List Change
+    mine = before_folder folder vars mbox s.desk.gathered
+
+    changes : c.changes ≡ placed_changes s.here (mine ++ folder_changes list folder vars)
+    changes = ap (λ (c : Commit). c.changes) leaves.commit ∙ ap (placed_changes s.here) (quit-parts folder vars mbox s.desk.gathered)
+
+    for_base : c.base ≡ base
+    for_base = ap (λ (c : Commit). c.base) leaves.commit
+
+    adds : Adds file (placed_changes s.here mine) gathered
+    adds = before-adds s.here file folder vars mbox s.desk.gathered gathered leaves.apart leaves.adds
+
+    go : (same_texts list base ≡ true) ⊎ (same_texts list base ≡ false) → list_of_file (settled_files (actor_in env) now file) ≡ Some (list ++ (appended ++ gathered))
+    go (inl same) =
+        let whole : c.changes ≡ placed_changes s.here mine =
+        changes ∙ ap (λ (cs : List Change). placed_changes s.here (mine ++ cs)) (cond-true _ _ _ same) ∙ ap (placed_changes s.here) (append-nil mine) in
+        adds-follow (actor_in env) env.token d es safe.commits safe.out safe.safe front behind e now c file gathered (base ++ appended) left decides alone
+        (subst (λ (cs : List Change). Adds file cs gathered) (sym whole) adds) is
+        ∙ ap (λ (l : List (List ℕ)). Some l) (append_assoc base appended gathered)
+        ∙ ap (λ (l : List (List ℕ)). Some (l ++ (appended ++ gathered))) (sym (true-same list base same))
+    go (inr other) =
+        let keep = is_set vars (codes "keep") in
+        let both : AddsAndRewrites file gathered list keep c.changes = record {
+          front = placed_changes s.here mine;
+          rest = [];
+          is =
+              changes ∙ map-append (placed_change s.here) mine (folder_changes list folder vars)
+              ∙ ap (λ (cs : List Change). placed_changes s.here mine ++ placed_changes s.here cs) (cond-false _ _ _ other);
+          adds = adds;
+          others = All-nil (λ (other : Change). file ≢ name_of other);
+        } in
+        let proper = staying-proper folder vars (texts_of-proper folder.folder leaves.read) in
+        let held : list_of_file (settled_files (actor_in env) (disk d front) file) ≡ Some (c.base ++ appended) = is ∙ ap (λ (b : List (List ℕ)). Some (b ++ appended)) (sym for_base) in
+        adds-followed (actor_in env) env.token d es safe.commits safe.out safe.safe front behind e now c file gathered list appended keep left decides alone both proper held

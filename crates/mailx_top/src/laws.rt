@@ -2,7 +2,7 @@ ghost use Rattle.mailx_top.specs.Alike.{RunsAreAlike};
 ghost use Rattle.mailx_top.specs.AlikeTrials.{TrialsAreAlike, TriesAreAlike};
 ghost use Rattle.mailx_top.specs.Appended.{RunsKeepAppended};
 ghost use Rattle.mailx_top.specs.Fitting.{RunsFit};
-ghost use Rattle.mailx_top.specs.Quits.{QuitsKeepAppended};
+ghost use Rattle.mailx_top.specs.Quits.{QuitsKeepAppended, QuitsKeepGathered};
 ghost use Rattle.mailx_top.specs.Replies.{RunsReplyAfter};
 
 use message_state::a_text_has_one_row;
@@ -10,14 +10,16 @@ use thread_view::views_are_alike;
 
 /// In a run that is safe each accepted commit has its decision. If it rewrites a file of which it has no other
 /// change, what others appended meanwhile follows the rewritten messages, from the decision on, at each moment and at
-/// each disk that a stop leaves, until the file is changed again.
+/// each disk that a stop leaves, until the file is changed again. If it adds texts to a file, they follow what stood
+/// there; and if it rewrites the file after that, what others appended follows the rewritten messages, and the texts
+/// follow that.
 pub fn appended_follows()
     ensures { RunsKeepAppended }
 {}
 
-/// In such a run, from a disk that is sound and carries nothing of its token, with lawful steps of others, a commit
-/// that rewrites a file of which it has no other change is decided only if the file begins with the messages that
-/// the commit was made for.
+/// In such a run, from a disk that is sound and carries nothing of its token, with lawful steps of others, a commit is
+/// decided only if its changes can be made of the files as they are then. So one that rewrites a file of which it has no
+/// other change is decided only if the file begins with the messages that the commit was made for.
 pub fn decided_fit()
     ensures { RunsFit }
 {}
@@ -27,6 +29,11 @@ pub fn decided_fit()
 /// again; mbox is another file, and so is each for which a change was gathered.
 pub fn quits_keep_appended()
     ensures { QuitsKeepAppended }
+{}
+
+/// The same where messages were gathered for the folder's own file: they follow what others appended.
+pub fn quits_keep_gathered()
+    ensures { QuitsKeepGathered }
 {}
 
 /// In a run that is safe, if a commit is answered as done, each output that follows stands after its decision: no

@@ -2,7 +2,7 @@
 use Rattle.std.proofs.Common.{◌≡◌, ◌≢◌, ℕ, zero, suc, ◌<◌, ◌≤◌, ◌+◌, Bool, true, false, List, [], ◌∷◌, ◌++◌, Option, Some, None, Result, Ok, Err, MatchResult, map, length, if◌then◌else◌, refl, ap, sym, subst, inl, inr, ◌∙◌, arith, append_assoc, length-append}
 use Rattle.std.specs.List.{All}
 use Rattle.std.proofs.lemmas.Bool.{cases_Bool}
-use Rattle.std.proofs.lemmas.List.{map-append, length-map}
+use Rattle.std.proofs.lemmas.List.{append-nil, map-append, length-map}
 use Rattle.host_port.specs.declared.event.Event.{Event}
 use Rattle.host_port.specs.declared.event.Event.TheVariants as event
 use Rattle.host_port.specs.declared.event.Part.{Part}
@@ -11,13 +11,13 @@ use Rattle.host_port.specs.Disk as host
 use Rattle.host_port.specs.Ends.{stopped, is_after}
 use Rattle.mbox_scan.specs.Mailbox.{IsProper}
 use Rattle.folder_change.specs.declared.change.Change.{Change}
-use Rattle.folder_change.specs.declared.change.Change.TheVariants.{Rewrite}
+use Rattle.folder_change.specs.declared.change.Change.TheVariants.{Rewrite, Add}
 use Rattle.folder_change.specs.Changes.{name_of}
 use Rattle.folder_change.specs.Outcomes.{outcome_of, rewrite_of}
 use Rattle.folder_change.specs.ListLaws.{list_of_file, list_after}
 use Rattle.folder_change.specs.Apply.{put_outcome, after, apply}
-use Rattle.folder_change.proofs.ApplyLemmas.{put-here, apply-alone, apply-append, apply-other}
-use Rattle.folder_change.proofs.LawLemmas.{rewrite-keeps, rewrite-by_base}
+use Rattle.folder_change.proofs.ApplyLemmas.{put-here, after-other, apply-alone, apply-append, apply-other}
+use Rattle.folder_change.proofs.LawLemmas.{add-appends, rewrite-keeps, rewrite-by_base}
 use Rattle.commit_machine.specs.Settled.{Files}
 use Rattle.commit_machine.specs.Jobs.{Edit, Job, edits_of}
 use Rattle.commit_machine.specs.Edits.{edits_for}
@@ -31,7 +31,7 @@ use Rattle.session_play.specs.Committing.{Commit}
 use Rattle.session_play.specs.declared.stop.Stop.{Stop}
 use Rattle.play_safety.specs.Passes.{Commits}
 use Rattle.play_safety.specs.Safe.{queue, queue_of, IsCrashSafe}
-use Rattle.play_safety.specs.Appended.{IsLeft, at_moment, at_stop, Decides, LeaveAlone, IsOnlyOne, IsRewritten, AcceptedAreDecided, RewritesAreFollowed, AppendedFollows}
+use Rattle.play_safety.specs.Appended.{IsLeft, at_moment, at_stop, Decides, LeaveAlone, IsOnlyOne, Adds, nothing, passes, puts, AddsAndRewrites, IsRewritten, AcceptedAreDecided, RewritesAreFollowed, AddsFollow, AddsAreFollowed, AreFollowed, AppendedFollows}
 use Rattle.play_safety.proofs.TraceLemmas.{decisions-from, decisions-then, Stands-in, stands-in}
 
 -- ---- a file and one change of it
@@ -80,6 +80,32 @@ only-one change changes base files one =
     ∙ ap (λ (f : Files). f n) (apply-append one.front (change ∷ one.rest) base files)
     ∙ apply-other one.rest base (after mid change base) n one.others.1
     ∙ after-alone mid files change base n before
+
+-- what is added follows what was there
+adds-behind : {n : List ℕ} {changes : List Change} {added : List (List ℕ)} → Adds n changes added → (base : List (List ℕ)) (files : Files) (before : List (List ℕ))
+    → list_of_file (files n) ≡ Some before → list_of_file (apply changes base files n) ≡ Some (before ++ added)
+unfolding apply
+adds-behind nothing base files before is = is ∙ ap (λ (l : List (List ℕ)). Some l) (sym (append-nil before))
+adds-behind {n = n} (passes {change = change} apart adds) base files before is =
+    adds-behind adds base (after files change base) before (ap list_of_file (after-other files change base n apart) ∙ is)
+adds-behind {n = n} (puts {more = more} {texts = texts} proper adds) base files before is =
+    adds-behind adds base (after files (Add n more) base) (before ++ more)
+    (listed files n (outcome_of (files n) (Add n more) base) (before ++ more) (add-appends (files n) n before more base is proper))
+    ∙ ap (λ (l : List (List ℕ)). Some l) (append_assoc before more texts)
+
+-- and it stays behind what others appended if the file is rewritten then
+adds-rewritten : (n : List ℕ) (added list appended base : List (List ℕ)) (keep : Bool) (changes : List Change) (files : Files) → AddsAndRewrites n added list keep changes → All IsProper list
+    → list_of_file (files n) ≡ Some (base ++ appended) → list_of_file (apply changes base files n) ≡ Some (list ++ (appended ++ added))
+unfolding apply
+adds-rewritten n added list appended base keep changes files both proper is =
+    let this = Rewrite n list keep in
+    let mid = apply both.front base files in
+    let held : list_of_file (mid n) ≡ Some (base ++ (appended ++ added)) =
+    adds-behind both.adds base files (base ++ appended) is ∙ ap (λ (l : List (List ℕ)). Some l) (append_assoc base appended added) in
+    ap (λ (cs : List Change). list_of_file (apply cs base files n)) both.is
+    ∙ ap (λ (f : Files). list_of_file (f n)) (apply-append both.front (this ∷ both.rest) base files)
+    ∙ ap list_of_file (apply-other both.rest base (after mid this base) n both.others)
+    ∙ (rewritten-so mid n list base keep proper).follows (appended ++ added) held
 
 -- ---- the queue, and what is due after a decision
 module _ (actor : List ℕ) (token : ℕ) where
@@ -196,6 +222,28 @@ module _ (actor : List ℕ) (token : ℕ) where
       ∙ after-alone before settled (Rewrite n list keep) c.base n (sym (ahead.same_files n)) in
       subst (IsRewritten c.base list (settled n)) (sym is) (rewritten-so settled n list c.base keep proper)
 
+  -- what a commit makes of a file from its decision on
+  left-made : {R : Type 0} (d : Disk) (es : List Event) (commits : Commits) (out : Result R Stop) → IsCrashSafe actor token d es commits out
+      → (front behind : List Event) (e : Event) (now : Disk) (c : Commit) (n : List ℕ)
+      → IsLeft d es (front ++ e ∷ behind) now → Decides actor token d commits front e c → LeaveAlone actor token n (host.after (disk d front) e) behind
+      → settled_files actor now n ≡ apply c.changes c.base (settled_files actor (disk d front)) n
+  left-made d es commits out safe front behind e now c n left decides alone =
+      let f = front-of d es front behind e now left in
+      let start = settled_files actor d in
+      let due = left-due d es commits out (front ++ e ∷ behind) now safe left in
+      let ahead = safe.moments front f.0 f.1 in
+      let before = run_files actor token d (queue commits) start front in
+      due.same_files n ∙ made d start commits front behind e c n decides alone ∙ apply-alone c.changes c.base before (settled_files actor (disk d front)) n (sym (ahead.same_files n))
+
+  pub adds-follow : {R : Type 0} (d : Disk) (es : List Event) (commits : Commits) (out : Result R Stop) → IsCrashSafe actor token d es commits out → AddsFollow actor token d es commits
+  adds-follow d es commits out safe front behind e now c n added before left decides alone adds is =
+      ap list_of_file (left-made d es commits out safe front behind e now c n left decides alone) ∙ adds-behind adds c.base (settled_files actor (disk d front)) before is
+
+  pub adds-followed : {R : Type 0} (d : Disk) (es : List Event) (commits : Commits) (out : Result R Stop) → IsCrashSafe actor token d es commits out → AddsAreFollowed actor token d es commits
+  adds-followed d es commits out safe front behind e now c n added list appended keep left decides alone both proper is =
+      ap list_of_file (left-made d es commits out safe front behind e now c n left decides alone)
+      ∙ adds-rewritten n added list appended c.base keep c.changes (settled_files actor (disk d front)) both proper is
+
   -- a file of which the commit has no change is as it was
   pub others-left : {R : Type 0} (d : Disk) (es : List Event) (commits : Commits) (out : Result R Stop) → IsCrashSafe actor token d es commits out
       → (front behind : List Event) (e : Event) (now : Disk) (c : Commit) (n : List ℕ)
@@ -254,5 +302,13 @@ module _ (actor : List ℕ) (token : ℕ) where
         },
       )
 
+pub all-followed : {R : Type 0} (actor : List ℕ) (token : ℕ) (d : Disk) (es : List Event) (commits : Commits) (out : Result R Stop) → IsCrashSafe actor token d es commits out → AreFollowed actor token d es commits
+all-followed actor token d es commits out safe = record {
+  accepted = accepted-decided actor token d es commits out safe;
+  rewrites = rewrites-followed actor token d es commits out safe;
+  adds = adds-follow actor token d es commits out safe;
+  both = adds-followed actor token d es commits out safe;
+}
+
 pub appended_follows : AppendedFollows
-appended_follows actor token d es commits out safe = (accepted-decided actor token d es commits out safe, rewrites-followed actor token d es commits out safe)
+appended_follows actor token d es commits out safe = all-followed actor token d es commits out safe

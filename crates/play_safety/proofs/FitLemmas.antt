@@ -47,7 +47,7 @@ use Rattle.session_play.specs.Play.{Act, Answer, Changes, Play, Ret, Ask, Did, P
 use Rattle.play_safety.specs.Passes.{decided_in, accepted_by, pending_by, Commits, Passes, PassesAll, again, last, cut}
 use Rattle.play_safety.specs.Safe.{IsBy, OfCommit, EachCommit, NextKeeps, MayRun, queue_of, queue}
 use Rattle.play_safety.specs.Appended.{Decides, IsOnlyOne}
-use Rattle.play_safety.specs.Fitting.{RewritesFit, DecidedFit}
+use Rattle.play_safety.specs.Fitting.{CommitsFit, RewritesFit, DecidedFit}
 use Rattle.play_safety.proofs.TraceLemmas.{stands-in, looks-undecided, decisions-then, none-decides}
 use Rattle.play_safety.proofs.SafeLemmas.{IsCutSo, own_commit, act-answered, act-cut, same-commit, play-passed, passes-ends, honest-front, lawful-back}
 
@@ -293,13 +293,17 @@ module _ (actor : List ℕ) (token : ℕ) (fits : token < 2 ^ 64) where
     can,
   )
 
-  -- what a decision that fits says of the file
-  fit-begins : (d : Disk) (commits : Commits) (front : List Event) (e : Event) (c : Commit) (n : List ℕ) (list : List (List ℕ)) (keep : Bool) → Fit d commits front e → Decides actor token d commits front e c
-      → IsOnlyOne (Rewrite n list keep) c.changes → (appended : List (List ℕ)) × (list_of_file (settled_files actor (disk d front) n) ≡ Some (c.base ++ appended))
-  fit-begins d commits front e c n list keep (x, w, can) decides one =
+  -- the changes of the commit that is decided here can be made
+  fit-can : (d : Disk) (commits : Commits) (front : List Event) (e : Event) (c : Commit) → Fit d commits front e → Decides actor token d commits front e c
+      → first_refusal c.changes c.base (settled_files actor (disk d front)) ≡ None
+  fit-can d commits front e c (x, w, can) decides =
       let place : x ≡ c = same-place w.earlier decides.earlier x c w.later decides.later (sym w.order ∙ decides.order) (sym w.passed ∙ decides.passed) in
-      only-begins (settled_files actor (disk d front)) n list c.base keep c.changes one
-      (subst (λ (x : Commit). first_refusal x.changes x.base (settled_files actor (disk d front)) ≡ None) place can)
+      subst (λ (x : Commit). first_refusal x.changes x.base (settled_files actor (disk d front)) ≡ None) place can
+
+  -- so a file that it rewrites alone begins with its base
+  rewrites-fit : (d : Disk) (es : List Event) (commits : Commits) → CommitsFit actor token d es commits → RewritesFit actor token d es commits
+  rewrites-fit d es commits fit front rest e c n list keep at decides one =
+      only-begins (settled_files actor (disk d front)) n list c.base keep c.changes one (fit front rest e c at decides)
 
   begins-so : (d : Disk) (es : List Event) → MayRun actor token d es → Stands actor token d (settled_files actor d) (settled_locks actor d)
   begins-so d es may = record { settles = λ n. refl; locked = λ n. refl; sound = may.sound; fresh = may.fresh }
@@ -334,21 +338,23 @@ module _ (actor : List ℕ) (token : ℕ) (fits : token < 2 ^ 64) where
 
     -- rounds, with events after them that only look
     pub run-fits : (x : X) (d : Disk) (front rest : List Event) (commits : Commits) (out : Result R Stop) → Keeps x → MayRun actor token d (front ++ rest) → PassesAll round x d front commits out → OnlyLooks (own rest)
-        → RewritesFit actor token d (front ++ rest) commits
-    run-fits x d front rest commits out keeps may all looks a b e c n list keep at decides one =
-        let y = decides.decision in
+        → CommitsFit actor token d (front ++ rest) commits × RewritesFit actor token d (front ++ rest) commits
+    run-fits x d front rest commits out keeps may all looks =
         let here = honest-front front rest d may.honest in
         let others = lawful_front any front rest d may.lawful in
-        let fit : Fit d commits a e = elim (stands-in front rest a e b at) [
-          | inl k ↦ loop-fits (settled_files actor d) (settled_locks actor d) keeps (begins-so d (front ++ rest) may) here others all a k.0 e k.1 y
+        let fit : CommitsFit actor token d (front ++ rest) commits =
+        λ a b e c at decides. fit-can d commits a e c (elim (stands-in front rest a e b at) [
+          | inl k ↦ loop-fits (settled_files actor d) (settled_locks actor d) keeps (begins-so d (front ++ rest) may) here others all a k.0 e k.1 decides.decision
           | inr k ↦ absurd (none-here rest k.0 b e (disk d front) (looks-undecided any rest (disk d front) 0 looks) k.2
-              (subst (λ (w : Disk). is_decision any e w ≡ true) (ap (disk d) k.1 ∙ disk-append d front k.0) y))
-        ] in
-        fit-begins d commits a e c n list keep fit decides one
+              (subst (λ (w : Disk). is_decision any e w ≡ true) (ap (disk d) k.1 ∙ disk-append d front k.0) decides.decision))
+        ]) decides in
+        (fit, rewrites-fit d (front ++ rest) commits fit)
 
 pub decided_fit : DecidedFit
-decided_fit p actor token d es commits out each may passes front rest e c n list keep at decides one =
+decided_fit p actor token d es commits out each may passes =
     let fits = may.fits in
     let s = begins-so actor token fits d es may in
-    let fit = play-fits actor token fits p d es commits out (settled_files actor d) (settled_locks actor d) each s may.honest may.lawful passes front rest e at decides.decision in
-    fit-begins actor token fits d commits front e c n list keep fit decides one
+    let fit : CommitsFit actor token d es commits =
+    λ front rest e c at decides. fit-can actor token fits d commits front e c
+        (play-fits actor token fits p d es commits out (settled_files actor d) (settled_locks actor d) each s may.honest may.lawful passes front rest e at decides.decision) decides in
+    (fit, rewrites-fit actor token fits d es commits fit)

@@ -8,7 +8,7 @@ use Rattle.host_port.specs.Disk.{Disk, disk, after, after_step}
 use Rattle.host_port.specs.Ends.{stopped}
 use Rattle.mbox_scan.specs.Mailbox.{IsProper}
 use Rattle.folder_change.specs.declared.change.Change.{Change}
-use Rattle.folder_change.specs.declared.change.Change.TheVariants.{Rewrite}
+use Rattle.folder_change.specs.declared.change.Change.TheVariants.{Rewrite, Add}
 use Rattle.folder_change.specs.Changes.{name_of}
 use Rattle.folder_change.specs.ListLaws.{list_of_file}
 use Rattle.commit_machine.specs.Due.{settled_files, is_decision}
@@ -46,6 +46,20 @@ pub record IsOnlyOne (change : Change) (changes : List Change) : Type 0 where
   pub is : changes ≡ front ++ change ∷ rest
   pub others : All (λ other. name_of change ≢ name_of other) front × All (λ other. name_of change ≢ name_of other) rest
 
+-- Changes put these texts, which can be read back, at the end of the file of this name, and do nothing else to it.
+pub data Adds (n : List ℕ) : List Change → List (List ℕ) → Type 0 where
+  nothing : Adds n [] []
+  passes : {change : Change} {changes : List Change} {texts : List (List ℕ)} → n ≢ name_of change → Adds n changes texts → Adds n (change ∷ changes) texts
+  puts : {more : List (List ℕ)} {changes : List Change} {texts : List (List ℕ)} → All IsProper more → Adds n changes texts → Adds n (Add n more ∷ changes) (more ++ texts)
+
+-- Changes put texts at the end of a file, then rewrite it, and do nothing to it after that.
+pub record AddsAndRewrites (n : List ℕ) (added list : List (List ℕ)) (keep : Bool) (changes : List Change) : Type 0 where
+  pub front : List Change
+  pub rest : List Change
+  pub is : changes ≡ front ++ Rewrite n list keep ∷ rest
+  pub adds : Adds n front added
+  pub others : All (λ other. n ≢ name_of other) rest
+
 -- A file before and after a rewrite of the base to a list: what followed the base follows the list. Where the file
 -- didn't begin with the base it is as it was. An absent file has no messages.
 pub record IsRewritten (base list : List (List ℕ)) (before now : Option (List ℕ)) : Type 0 where
@@ -70,8 +84,39 @@ RewritesAreFollowed actor token d es commits =
     → All IsProper list
     → IsRewritten c.base list (settled_files actor (disk d front) n) (settled_files actor now n)
 
+-- So what a commit adds to a file follows what stood there just before its decision.
+abbrev pub AddsFollow : List ℕ → ℕ → Disk → List Event → Commits → Type 0
+AddsFollow actor token d es commits =
+    (front behind : List Event) (e : Event) (now : Disk) (c : Commit) (n : List ℕ) (added before : List (List ℕ))
+    → IsLeft d es (front ++ e ∷ behind) now
+    → Decides actor token d commits front e c
+    → LeaveAlone actor token n (after (disk d front) e) behind
+    → Adds n c.changes added
+    → list_of_file (settled_files actor (disk d front) n) ≡ Some before
+    → list_of_file (settled_files actor now n) ≡ Some (before ++ added)
+
+-- And if it rewrites the file after that, what others had appended to the base follows the list, and what it adds follows
+-- that.
+abbrev pub AddsAreFollowed : List ℕ → ℕ → Disk → List Event → Commits → Type 0
+AddsAreFollowed actor token d es commits =
+    (front behind : List Event) (e : Event) (now : Disk) (c : Commit) (n : List ℕ) (added list appended : List (List ℕ)) (keep : Bool)
+    → IsLeft d es (front ++ e ∷ behind) now
+    → Decides actor token d commits front e c
+    → LeaveAlone actor token n (after (disk d front) e) behind
+    → AddsAndRewrites n added list keep c.changes
+    → All IsProper list
+    → list_of_file (settled_files actor (disk d front) n) ≡ Some (c.base ++ appended)
+    → list_of_file (settled_files actor now n) ≡ Some (list ++ (appended ++ added))
+
+-- what holds of the files that the commits of a run leave
+pub record AreFollowed (actor : List ℕ) (token : ℕ) (d : Disk) (es : List Event) (commits : Commits) : Type 0 where
+  pub accepted : AcceptedAreDecided actor token d es commits
+  pub rewrites : RewritesAreFollowed actor token d es commits
+  pub adds : AddsFollow actor token d es commits
+  pub both : AddsAreFollowed actor token d es commits
+
 -- so it is in each run that is crash safe
 abbrev pub AppendedFollows : Type 0
 AppendedFollows = (actor : List ℕ) (token : ℕ) (d : Disk) (es : List Event) (commits : Commits) (out : Result Unit Stop)
     → IsCrashSafe actor token d es commits out
-    → AcceptedAreDecided actor token d es commits × RewritesAreFollowed actor token d es commits
+    → AreFollowed actor token d es commits

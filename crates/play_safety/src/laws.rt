@@ -29,13 +29,14 @@ pub fn replies_follow()
 /// In a crash safe run each accepted commit has its decision. If it rewrites a file of which it has no other change,
 /// what others appended meanwhile follows the rewritten messages, from the decision on, at each moment and at each disk
 /// that a stop leaves, until the file is changed again; and a file that doesn't begin with the messages that the commit
-/// was made for stays as it is.
+/// was made for stays as it is. If it adds texts to a file, they follow what stood there; and if it rewrites the file
+/// after that, what others appended follows the rewritten messages, and the texts follow that.
 pub fn appended_follows()
     ensures { AppendedFollows }
 {}
 
-/// A commit of a play that rewrites a file of which it has no other change is decided only if the file begins with
-/// the messages that the commit was made for.
+/// A commit of a play is decided only if its changes can be made of the files as they are then. So one that rewrites a
+/// file of which it has no other change is decided only if the file begins with the messages that it was made for.
 pub fn decided_fit()
     ensures { DecidedFit }
 {}

@@ -1,6 +1,6 @@
 use Rattle.mailx_top.specs.Meaning.{actor_in}
-use Rattle.play_safety.proofs.AppendedLemmas.{accepted-decided, rewrites-followed}
+use Rattle.play_safety.proofs.AppendedLemmas.{all-followed}
 use Rattle.mailx_top.proofs.laws.appended_follows.Goals as goal
 
 pub returns : goal.returns
-returns c = λ start env s d es safe. (accepted-decided (actor_in env) env.token d es safe.commits safe.out safe.safe, rewrites-followed (actor_in env) env.token d es safe.commits safe.out safe.safe)
+returns c = λ start env s d es safe. all-followed (actor_in env) env.token d es safe.commits safe.out safe.safe
