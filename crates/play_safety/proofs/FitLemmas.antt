@@ -356,5 +356,5 @@ decided_fit p actor token d es commits out each may passes =
     let s = begins-so actor token fits d es may in
     let fit : CommitsFit actor token d es commits =
     λ front rest e c at decides. fit-can actor token fits d commits front e c
-        (play-fits actor token fits p d es commits out (settled_files actor d) (settled_locks actor d) each s may.honest may.lawful passes front rest e at decides.decision) decides in
+    (play-fits actor token fits p d es commits out (settled_files actor d) (settled_locks actor d) each s may.honest may.lawful passes front rest e at decides.decision) decides in
     (fit, rewrites-fit actor token fits d es commits fit)
