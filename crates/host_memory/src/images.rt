@@ -17,19 +17,49 @@ use host_port::{Event, Part};
 use mail_text::{Memory, Text};
 use std::alloc::Global;
 
+/// What stands on the disk that a view shows. Nobody has a right there.
+pub fn standing_of(alloc: Global, view: &DiskView) -> Result<Standing, Memory>
+    ensures { IfOk result (λ s. SameDisk (disk_now s) (disk_of view.now.files view.now.locks)) }
+{
+    let files = copy_files(alloc, view.files.items())?;
+    match copy_locks(alloc, view.locks.items()) {
+        Ok(locks) => {
+            let rights = Named::new(alloc);
+            Ok(Standing {
+                files,
+                locks,
+                rights,
+            })
+        }
+        Err(memory) => {
+            drop(files);
+            Err(memory)
+        }
+    }
+}
+
+// Carries out what events say. If memory runs out, some may be carried out.
+fn effects(alloc: Global, standing: &mut Standing, events: &[Event]) -> Result<(), Memory>
+    ensures { OnOk result (SameDisk (disk_now standing.new) (disk (disk_now standing.old) events.now)) }
+{
+    for event in events {
+        effect(alloc, standing, event)?;
+    }
+    Ok(())
+}
+
 // The disk after these events.
 fn replayed(alloc: Global, start: &DiskView, events: &[Event]) -> Result<Standing, Memory>
     ensures { IfOk result (λ s. SameDisk (disk_now s) (disk (disk_of start.now.files start.now.locks) events.now)) }
 {
-    let mut disk = Standing {
-        files: copy_files(alloc, start.files.items())?,
-        locks: copy_locks(alloc, start.locks.items())?,
-        rights: Named::new(alloc),
-    };
-    for event in events {
-        effect(alloc, &mut disk, event)?;
+    let mut disk = standing_of(alloc, start)?;
+    match effects(alloc, &mut disk, events) {
+        Ok(()) => Ok(disk),
+        Err(memory) => {
+            drop(disk);
+            Err(memory)
+        }
     }
-    Ok(disk)
 }
 
 // A stop inside an event, of which this part was done. Rights aren't looked at.
@@ -73,6 +103,16 @@ pub fn show(alloc: Global, disk: &Standing) -> Result<DiskView, Memory>
     Ok(DiskView { files, locks })
 }
 
+// The same of a disk that nobody looks at any more.
+fn show_last(alloc: Global, disk: Standing) -> Result<DiskView, Memory>
+    ensures shows { IfOk result (λ v. ShowsSame (disk_of v.files v.locks) (disk_now disk)) }
+    ensures once { IfOk result (λ v. NamesOnce v.files × NamesOnce v.locks) }
+{
+    let shown = show(alloc, &disk);
+    drop(disk);
+    shown
+}
+
 // What a stop inside an event leaves that comes after these events.
 fn image_inside(
     alloc: Global,
@@ -87,8 +127,13 @@ fn image_inside(
     ensures once { IfOk result (λ v. NamesOnce v.files × NamesOnce v.locks) }
 {
     let mut disk = replayed(alloc, start, before)?;
-    stop(alloc, &mut disk, event, part)?;
-    show(alloc, &disk)
+    match stop(alloc, &mut disk, event, part) {
+        Ok(()) => show_last(alloc, disk),
+        Err(memory) => {
+            drop(disk);
+            Err(memory)
+        }
+    }
 }
 
 /// What a stop inside the event of this number leaves. Past the trace's end what it gives is open.
@@ -110,7 +155,7 @@ pub fn image(
         Some(event) => image_inside(alloc, start, &trace[..at], event, part),
         None => {
             let disk = replayed(alloc, start, trace)?;
-            show(alloc, &disk)
+            show_last(alloc, disk)
         }
     }
 }

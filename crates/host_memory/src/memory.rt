@@ -18,10 +18,8 @@ use crate::children::{Run, tell_child, used_after};
 use crate::disk_calls::{
     tell_erase, tell_extend, tell_lock, tell_publish, tell_seize, tell_stage, tell_unlock,
 };
-use crate::images::{image, show};
-use crate::named::Named;
-use crate::standing::Standing;
-use crate::tape::{Tape, copy_files, copy_locks};
+use crate::images::{image, show, standing_of};
+use crate::tape::Tape;
 use crate::{DiskView, Plan};
 use host_port::{
     ChildAnswer, ChildError, DiskFault, Event, Host, InFault, LoadAnswer, LoadError, OutFault, Part,
@@ -59,32 +57,35 @@ impl MemHost {
         ensures start { IfOk result (λ m. host_start m ≡ disk_of view.files view.locks) }
         ensures uncalled { IfOk result (IsUncalled input plan) }
     {
-        let files = copy_files(alloc, view.files.items())?;
-        let locks = copy_locks(alloc, view.locks.items())?;
-        let standing = Standing {
-            files,
-            locks,
-            rights: Named::new(alloc),
-        };
-        let tape = Tape {
-            start: view,
-            standing,
-            trace: Vec::new(alloc),
-        };
-        Ok(MemHost {
-            alloc,
-            tape,
-            input,
-            at: 0,
-            plan,
-            used: 0,
-            calls: 0,
-            lost: false,
-            ins: 0,
-            outs: 0,
-            disks: 0,
-            children: 0,
-        })
+        match standing_of(alloc, &view) {
+            Ok(standing) => {
+                let tape = Tape {
+                    start: view,
+                    standing,
+                    trace: Vec::new(alloc),
+                };
+                Ok(MemHost {
+                    alloc,
+                    tape,
+                    input,
+                    at: 0,
+                    plan,
+                    used: 0,
+                    calls: 0,
+                    lost: false,
+                    ins: 0,
+                    outs: 0,
+                    disks: 0,
+                    children: 0,
+                })
+            }
+            Err(memory) => {
+                drop(view);
+                drop(input);
+                drop(plan);
+                Err(memory)
+            }
+        }
     }
 
     /// The events so far. What it gives on a lost host is open. It takes no memory.

@@ -12,8 +12,8 @@ returns-in-Some-clause-shows c =
 
 pub returns-in_ok-disk-in-None-clause-shows : goal.returns-in_ok-disk-in-None-clause-shows
 returns-in_ok-disk-in-None-clause-shows c =
-    if-ok c.show.result
+    if-ok c.show_last.result
     (λ v seen before rest e is n_is.
     let at_is : c.saturating_sub-at.result ≡ length before = omega (arith, n_is, c.saturating_sub-at.ensures) in
     absurd (none-there c.args.trace.now before rest e c.saturating_sub-at.result is at_is c.in-None.ensures.lookup.3))
-    c.show.ensures.shows
+    c.show_last.ensures.shows
