@@ -1,0 +1,10 @@
+pub mod WordLemmas
+pub mod RequestLemmas
+pub mod StepLemmas
+pub mod RoundLemmas
+pub mod AnswerLemmas
+pub mod RunLemmas
+pub mod FreeLemmas
+pub mod SafeLemmas
+pub mod AddLemmas
+pub mod ProperLemmas

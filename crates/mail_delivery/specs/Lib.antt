@@ -1,0 +1,9 @@
+pub mod Words
+pub mod Delivered
+pub mod Statuses
+pub mod Meaning
+pub mod Steps
+pub mod Runs
+pub mod Complete
+pub mod Crash
+pub mod Laws

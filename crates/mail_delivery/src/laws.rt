@@ -1,0 +1,17 @@
+ghost use Rattle.mail_delivery.specs.Laws.{DeliveredIsProper, EachGetsOne, UsersAreOnce};
+
+/// A law: the text of a delivery whose sender may be one can be put into a mailbox and read back as one message.
+pub fn a_delivery_is_one_message()
+    ensures { DeliveredIsProper }
+{}
+
+/// A law: a delivery to users each of whom is named once puts its text once behind the messages of each one's mailbox,
+/// and changes no other file.
+pub fn each_gets_one()
+    ensures { EachGetsOne }
+{}
+
+/// A law: the users of what words ask for are recipients, each named once.
+pub fn users_are_once()
+    ensures { UsersAreOnce }
+{}
