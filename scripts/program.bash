@@ -1,9 +1,11 @@
-# What the launcher, the gate and the tests share: where the program stands, and of what it was built. To be sourced.
+# What the launcher, the gate and the tests share: where the program stands, and of what it was built. To be sourced. The program is mailx, unless who
+# sources it has set `built` to another's name.
 # shellcheck shell=bash
 set -o pipefail
 
 top=$(cd "$(dirname "${BASH_SOURCE[0]}")/.." && pwd) || exit 70
-program=$top/crates/mailx/out/mailx
+built=${built:-mailx}
+program=$top/crates/$built/out/$built
 stamp=$program.sources
 
 # fail LINE..: says the lines and ends with the status of a program that can't be had
@@ -38,7 +40,7 @@ crates_below() {
 sum_of_sources() {
   local crate parts=(crates.txt)
   cd "$top" || return
-  for crate in $(crates_below mailx); do
+  for crate in $(crates_below "$built"); do
     parts+=("crates/$crate/src")
     [ ! -d "crates/$crate/specs" ] || parts+=("crates/$crate/specs")
     [ ! -d "crates/$crate/proofs" ] || parts+=("crates/$crate/proofs")
