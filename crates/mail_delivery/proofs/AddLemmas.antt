@@ -14,9 +14,13 @@ use Rattle.folder_change.proofs.ApplyLemmas.{put-here, after-other, apply-other}
 use Rattle.folder_change.proofs.LawLemmas.{add-appends}
 use Rattle.commit_machine.specs.Records.{has, AreDistinct}
 use Rattle.commit_machine.proofs.records.Same.{same_or_not}
-use Rattle.mail_delivery.specs.Words.{mailbox}
+use Rattle.session_play.specs.Committing.{Commit}
+use Rattle.play_safety.specs.Appended.{Adds, nothing, passes, puts}
+use Rattle.play_safety.proofs.AppendedLemmas.{all-followed}
+use Rattle.mail_delivery.specs.Words.{actor, mailbox}
+use Rattle.mail_delivery.specs.Delivered.{delivered}
 use Rattle.mail_delivery.specs.Meaning.{additions}
-use Rattle.mail_delivery.specs.Laws.{EachGetsOne}
+use Rattle.mail_delivery.specs.Laws.{EachGetsOne, DoneStands}
 
 -- users of one mailbox are one
 one-user : (a b : List ℕ) → mailbox a ≡ mailbox b → a ≡ b
@@ -74,3 +78,48 @@ each-gets-one text users files proper once = record {
   mailboxes = λ user old h is. added-once text users files user old proper once h is;
   others = λ name other. apply-other (additions text users) [] files name (all-other text name users other);
 }
+
+-- ---- the text stands from the decision on
+adds-none : (text : List ℕ) (users : List (List ℕ)) (user : List ℕ) → has users user ≡ false → Adds (mailbox user) (additions text users) []
+adds-none text [] user none = nothing
+adds-none text (u ∷ us) user none = elim (same_or_not user u) [
+  | inl p ↦ absurd (let among : has (u ∷ us) user ≡ true = ap (λ (b : Bool). b || has us user) p.1 in cc (none, among))
+  | inr p ↦
+      let later : has us user ≡ false = ap (λ (b : Bool). b || has us user) (sym p.1) ∙ none in
+      passes (λ e. p.0 (one-user user u e)) (adds-none text us user later)
+]
+
+adds-once : (text : List ℕ) (users : List (List ℕ)) (user : List ℕ) → IsProper text → AreDistinct users → has users user ≡ true → Adds (mailbox user) (additions text users) (text ∷ [])
+adds-once text [] user proper once h = absurd (cc h)
+adds-once text (u ∷ us) user proper once h = elim (same_or_not user u) [
+  | inl p ↦
+      let one : All IsProper (text ∷ []) = All-cons IsProper text [] proper (All-nil IsProper) in
+      let here : Adds (mailbox u) (additions text (u ∷ us)) (text ∷ []) = puts one (adds-none text us u once.0) in
+      subst (λ (w : List ℕ). Adds (mailbox w) (additions text (u ∷ us)) (text ∷ [])) (sym p.0) here
+  | inr p ↦
+      let among : has us user ≡ true = ap (λ (b : Bool). b || has us user) (sym p.1) ∙ h in
+      passes (λ e. p.0 (one-user user u e)) (adds-once text us user proper once.1 among)
+]
+
+pub done-stands : DoneStands
+done-stands request env d es once safe =
+    let c = safe.accepted.0 in
+    let is = safe.accepted.1 in
+    let of = safe.accepted.2 in
+    let lines = of.0 in
+    let m = of.1 in
+    let text = delivered request.sender lines m in
+    let followed = all-followed actor env.token d es safe.commits safe.out safe.safe in
+    let at = followed.accepted [] [] c is in (
+      lines,
+      m,
+      λ proper. record {
+        front = at.0;
+        decision = at.1;
+        rest = at.2;
+        is = at.3;
+        behind = λ user before later now h left alone held.
+            let adds = subst (λ (k : Commit). Adds (mailbox user) k.changes (text ∷ [])) (sym of.2) (adds-once text request.users user proper once h) in
+            followed.adds at.0 later at.1 now c (mailbox user) (text ∷ []) before left at.4 alone adds held;
+      },
+    )

@@ -9,8 +9,15 @@ use Rattle.folder_change.specs.ListLaws.{list_of_file}
 use Rattle.commit_machine.specs.Records.{AreDistinct, has}
 use Rattle.mailx_vars.specs.Environment.{Pairs}
 use Rattle.mailx_vars.specs.Names.{is_user_name}
+use Rattle.host_port.specs.declared.event.Event.{Event}
+use Rattle.host_port.specs.Disk.{Disk, disk, after}
+use Rattle.commit_machine.specs.Due.{settled_files}
+use Rattle.play_safety.specs.Appended.{IsLeft, LeaveAlone}
+use Rattle.mail_delivery.specs.declared.environment.Environment.{Environment}
+use Rattle.mail_delivery.specs.declared.status.DeliverStatus.TheVariants as status
 use Rattle.mail_delivery.specs.declared.words.Request.{Request}
-use Rattle.mail_delivery.specs.Words.{mailbox, is_recipient, reading}
+use Rattle.mail_delivery.specs.Crash.{DeliversSafely}
+use Rattle.mail_delivery.specs.Words.{actor, mailbox, is_recipient, reading}
 use Rattle.mail_delivery.specs.Delivered.{delivered}
 use Rattle.mail_delivery.specs.Meaning.{additions}
 
@@ -34,3 +41,22 @@ EachGetsOne = (text : List ℕ) (users : List (List ℕ)) (files : Files)
 abbrev pub UsersAreOnce : Type 0
 UsersAreOnce = (words : List (List ℕ)) (pairs : Pairs) (request : Request) → reading words pairs ≡ Some request
     → AreDistinct request.users × All (λ user. is_recipient user ≡ true) request.users
+
+-- From a decision on, at each moment and at each disk that a stop leaves, until the next decision or the next change of a mailbox by others,
+-- the text stands once behind what the mailbox of a user held just before.
+pub record Stands (text : List ℕ) (users : List (List ℕ)) (token : ℕ) (d : Disk) (es : List Event) : Type 0 where
+  pub front : List Event
+  pub decision : Event
+  pub rest : List Event
+  pub is : es ≡ front ++ decision ∷ rest
+  pub behind : (user : List ℕ) (before : List (List ℕ)) (later : List Event) (now : Disk) → has users user ≡ true
+      → IsLeft d es (front ++ decision ∷ later) now
+      → LeaveAlone actor token (mailbox user) (after (disk d front) decision) later
+      → list_of_file (settled_files actor (disk d front) (mailbox user)) ≡ Some before
+      → list_of_file (settled_files actor now (mailbox user)) ≡ Some (before ++ text ∷ [])
+
+-- so stands what a delivery was answered with 0 for, if it can be put into a mailbox
+abbrev pub DoneStands : Type 0
+DoneStands = (request : Request) (env : Environment) (d : Disk) (es : List Event) → AreDistinct request.users → DeliversSafely request env status.Done d es
+    → (lines : List (List ℕ)) × (m : Moment) × (IsProper (delivered request.sender lines m)
+    → Stands (delivered request.sender lines m) request.users env.token d es)

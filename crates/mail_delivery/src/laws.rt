@@ -1,4 +1,4 @@
-ghost use Rattle.mail_delivery.specs.Laws.{DeliveredIsProper, EachGetsOne, UsersAreOnce};
+ghost use Rattle.mail_delivery.specs.Laws.{DeliveredIsProper, DoneStands, EachGetsOne, UsersAreOnce};
 
 /// A law: the text of a delivery whose sender may be one can be put into a mailbox and read back as one message.
 pub fn a_delivery_is_one_message()
@@ -14,4 +14,10 @@ pub fn each_gets_one()
 /// A law: the users of what words ask for are recipients, each named once.
 pub fn users_are_once()
     ensures { UsersAreOnce }
+{}
+
+/// A law: after a delivery that is answered with 0 its text stands once behind what each user's mailbox held just before
+/// its decision, at each moment and at each disk that a stop leaves, until others change the mailbox.
+pub fn done_stands()
+    ensures { DoneStands }
 {}
