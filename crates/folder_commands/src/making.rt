@@ -1,6 +1,7 @@
 // What changes make of a file that is to be opened.
 ghost use Rattle.std.specs.Prelude.{◌≡◌, ◌++◌, [], Ok, None, codes, option_copied, IfOk};
-ghost use Rattle.mbox_scan.specs.Mailbox.{texts_of, list_of};
+ghost use Rattle.mbox_scan.specs.Mailbox.{join, texts_of, list_of};
+ghost use Rattle.folder_change.specs.Outcomes.{missing_feeds, outcome_of};
 ghost use Rattle.command_desk.specs.Answers.{Means, IsRefusal};
 ghost use Rattle.command_desk.specs.Faults.{changed_at};
 ghost use Rattle.folder_commands.specs.Making.{made, Makes, listed, openable, openable_file, is_other, made_folder};
@@ -25,28 +26,73 @@ fn bytes_of(file: &Option<Text>) -> Option<&[u8]>
     }
 }
 
+// The line feeds that the bytes lack to be empty or end in two.
+#[tactic(auto, unfolding(folder_change::specs::Outcomes::missing_feeds))]
+fn missing_feeds(bytes: &[u8]) -> &'static [u8]
+    ensures { result.now ≡ missing_feeds bytes.now }
+{
+    if bytes.is_empty() || bytes.ends_with(b"\n\n") {
+        b""
+    } else if bytes.ends_with(b"\n") {
+        b"\n"
+    } else {
+        b"\n\n"
+    }
+}
+
+// Puts texts behind a file, each with its two line feeds.
+fn add(mut file: Text, texts: &[Text]) -> Result<Text, Memory>
+    ensures { IfOk result (λ now. now ≡ file ++ missing_feeds file ++ join texts.now) }
+{
+    let feeds = missing_feeds(file.bytes());
+    file.push(feeds)?;
+    for text in texts {
+        file.push(text.bytes())?;
+        file.push(b"\n\n")?;
+    }
+    Ok(file)
+}
+
+// Puts bytes behind a file.
+fn add_raw(mut file: Text, bytes: &[u8]) -> Result<Text, Memory>
+    ensures { IfOk result (λ now. now ≡ file ++ bytes.now) }
+{
+    file.push(bytes)?;
+    Ok(file)
+}
+
+// What a change makes of a file. One that is only added to isn't copied.
+fn changed_file(
+    alloc: Global,
+    change: &Change,
+    base: &Folder,
+    file: Option<Text>,
+) -> Result<Option<Text>, ChangeError>
+    ensures { Makes (outcome_of file change.now (texts_of base.now)) result }
+{
+    match (change, file) {
+        (Change::Add { texts, .. }, Some(text)) => Ok(Some(add(text, texts.items())?)),
+        (Change::AddRaw { bytes, .. }, Some(text)) => Ok(Some(add_raw(text, bytes.bytes())?)),
+        (_, file) => outcome(alloc, bytes_of(&file), change, Some(base)),
+    }
+}
+
 // What those of the changes that are of the file of this name make of it, in order.
 fn made(
     alloc: Global,
     changes: &[Change],
     base: &Folder,
     name: &[u8],
-    file: Option<Text>,
+    mut file: Option<Text>,
 ) -> Result<Option<Text>, ChangeError>
     ensures { Makes (made changes.now (texts_of base.now) name.now file) result }
 {
-    match changes {
-        [] => Ok(file),
-        [first, rest @ ..] => {
-            if change_name(first) != name {
-                return made(alloc, rest, base, name, file);
-            }
-            match outcome(alloc, bytes_of(&file), first, Some(base)) {
-                Ok(now) => made(alloc, rest, base, name, now),
-                Err(error) => Err(error),
-            }
+    for change in changes {
+        if change_name(change) == name {
+            file = changed_file(alloc, change, base, file)?;
         }
     }
+    Ok(file)
 }
 
 // Opens a mailbox, or refuses the file by its messages.
