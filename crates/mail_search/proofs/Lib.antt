@@ -1,4 +1,5 @@
 pub mod CriterionLemmas
+pub mod FoundLemmas
 pub mod MatchingLemmas
 pub mod NameLemmas
 pub mod ReadLemmas

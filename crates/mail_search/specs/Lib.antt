@@ -1,3 +1,4 @@
+pub mod Criteria
 pub mod Days
 pub mod Grammar
 pub mod Keys

@@ -1,6 +1,7 @@
 ghost use Rattle.std.specs.Prelude.{◌≡◌};
 
 use mail_text::{Items, Text};
+use std::marker::Model;
 
 /// What is known of a message beside its text.
 #[derive(Clone, Copy, Debug, PartialEq, Eq)]
@@ -72,26 +73,38 @@ pub(crate) enum Step {
     Both,
 }
 
-/// A search criterion. Contracts see the tree of its keys, by `key_of`.
+/// A search criterion. Contracts see the tree of its keys.
 #[derive(Drop)]
 pub struct Criterion {
     // each key stands after the keys that it is made of
     steps: Items<Step>,
 }
 
+impl Model for Criterion {
+    ghost use Rattle.mail_search.specs.Keys.{Key};
+    ghost use Rattle.mail_search.specs.Steps.{keys_of, last_key, key_code};
+    ghost use Rattle.mail_search.specs.contracts.criterion.Step as step;
+
+    ghost Value = { Key };
+
+    ghost coded = { key_code step.the_row.coded };
+
+    ghost view = { λ c. last_key (keys_of c.steps) };
+}
+
 impl Criterion {
-    ghost use Rattle.mail_search.specs.Steps.{keys_of, last_key, key_of};
+    ghost use Rattle.mail_search.specs.Steps.{keys_of, last_key};
 
     // The criterion whose keys these steps make.
     pub(crate) fn of(steps: Items<Step>) -> Criterion
-        ensures { key_of result ≡ last_key (keys_of steps) }
+        ensures { result ≡ last_key (keys_of steps) }
     {
         Criterion { steps }
     }
 
     // The steps.
     pub(crate) fn steps(&self) -> &[Step]
-        ensures { last_key (keys_of result.now) ≡ key_of self.now }
+        ensures { last_key (keys_of result.now) ≡ self.now }
     {
         self.steps.items()
     }

@@ -16,6 +16,6 @@ mod token;
 
 pub use criterion::{Criterion, Facts};
 pub use error::SearchError;
-pub use laws::one_criterion;
+pub use laws::{criteria_are_found, one_criterion};
 pub use matching::matches;
 pub use read::read_criterion;

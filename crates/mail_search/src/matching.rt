@@ -4,7 +4,7 @@ ghost use Rattle.mail_headers.specs.Field.{unfolded};
 ghost use Rattle.mail_headers.specs.Header.{field_named};
 ghost use Rattle.mail_dates.specs.Clock.{IsInYears};
 ghost use Rattle.mail_search.specs.Keys.{Key};
-ghost use Rattle.mail_search.specs.Steps.{with_step, key_of};
+ghost use Rattle.mail_search.specs.Steps.{with_step};
 ghost use Rattle.mail_search.specs.Known.{known_or, IsKnown};
 ghost use Rattle.mail_search.specs.declared.matching.Held.TheVariants.{Known};
 ghost use Rattle.mail_search.specs.Meaning.{fact_in, field_holds, after_first_line, size_of, moment_by, day_at, is_in_order, day_passes, passes, key_holds};
@@ -32,7 +32,7 @@ pub fn matches(
     text: &[u8],
     facts: &Facts,
 ) -> Result<bool, Memory>
-    ensures { IfOk result (λ held. held ≡ key_holds text.now facts.now (key_of criterion.now)) }
+    ensures { IfOk result (λ held. held ≡ key_holds text.now facts.now criterion.now) }
 {
     let mut held = Stack::new(alloc);
     for step in criterion.steps() {

@@ -1,7 +1,6 @@
 ghost use Rattle.std.specs.Prelude.{◌≡◌, ◌||◌, IfOk, IfErr};
 ghost use Rattle.mail_search.specs.Grammar.{is_enclosed, IsCriterion};
 ghost use Rattle.mail_search.specs.Keys.{Key};
-ghost use Rattle.mail_search.specs.Steps.{key_of};
 ghost use Rattle.mail_search.specs.Tokens.{is_closer, token_of};
 ghost use Rattle.mail_search.specs.declared.error.SearchError.TheVariants.{Syntax};
 
@@ -31,7 +30,7 @@ fn may_stand(free: bool, token: &Token<'_>) -> bool
 /// The criterion that the word is, parentheses and all. `Syntax` comes exactly if it is none, and `Memory` only if memory
 /// runs out. A word has one criterion at most.
 pub fn read_criterion(alloc: Global, word: &[u8]) -> Result<Criterion, SearchError>
-    ensures ok { IfOk result (λ c. IsCriterion word.now (key_of c)) }
+    ensures ok { IfOk result (λ c. IsCriterion word.now c) }
     ensures err { IfErr result (λ e. e ≡ Syntax → (k : Key) → IsCriterion word.now k → ⊥) }
 {
     if !is_enclosed(word) {

@@ -1,7 +1,6 @@
 ghost use Rattle.std.specs.Prelude.{◌≡◌, ◌∷◌, OnOk, IfErr, Some, None};
-ghost use Rattle.std.specs.Option.{option_map};
 ghost use Rattle.mail_search.specs.Keys.{test};
-ghost use Rattle.mail_search.specs.Steps.{with_step, keys_of, key_of};
+ghost use Rattle.mail_search.specs.Steps.{with_step, keys_of};
 ghost use Rattle.mail_search.specs.Reading.{Reading, reading, start, reading_of, settled, opened, closed, begun, argued, keyed, by_want, after_token, whole_key};
 ghost use Rattle.mail_search.specs.Tokens.{token_of};
 ghost use Rattle.mail_search.specs.declared.error.SearchError.TheVariants.{Syntax};
@@ -70,7 +69,7 @@ impl Reader {
 
     /// The criterion that was read, if it is whole.
     pub(crate) fn criterion(self) -> Option<Criterion>
-        ensures { option_map key_of result ≡ whole_key (reading_of self) }
+        ensures { result ≡ whole_key (reading_of self) }
     {
         match self.want {
             Want::Nothing => Some(Criterion::of(self.steps)),

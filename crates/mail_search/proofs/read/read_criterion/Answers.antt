@@ -1,11 +1,9 @@
 use Rattle.std.proofs.Common.{◌≡◌, Bool, Option, sym, ap, ◌∙◌}
-use Rattle.std.specs.Option.{option_map}
 use Rattle.std.proofs.lemmas.Result.{err_from_is_err_and}
 use Rattle.mail_search.specs.declared.error.SearchError.TheVariants.{Syntax}
 use Rattle.mail_search.specs.Grammar.{IsCriterion}
 use Rattle.mail_search.specs.Keys.{Key}
 use Rattle.mail_search.specs.Reading.{Reading, reading_of, after_tokens}
-use Rattle.mail_search.specs.Steps.{key_of}
 use Rattle.mail_search.specs.Tokens.{tokens_of, spaced_from, without_gaps, token_of}
 use Rattle.mail_search.proofs.CriterionLemmas.{is_criterion, not_read, not_spaced, not_whole, spaced_gap, read_gap, spaced_first, spaced_not, read_token, read_none, found_first, found_none, spaced_end, read_end}
 use Rattle.mail_search.proofs.read.read_criterion.Goals as goal
@@ -55,8 +53,8 @@ returns-in-Some-criterion-clause-ok c =
     let word = c.args.word.now in
     let rest = c.loop-reader.rest.now in
     let none = found_none rest c.in_ok-token.field-0 c.in_ok-token.ensures.tokens c.in_default.is in
-    let key = sym c.criterion.ensures ∙ ap (option_map key_of) c.in-Some-criterion.is in
-    is_criterion word (reading_of c.loop-reader.reader) (key_of c.in-Some-criterion.criterion) (sym c.is_enclosed.ensures ∙ c.if-not-is_enclosed.false)
+    let key = sym c.criterion.ensures ∙ c.in-Some-criterion.is in
+    is_criterion word (reading_of c.loop-reader.reader) c.in-Some-criterion.criterion (sym c.is_enclosed.ensures ∙ c.if-not-is_enclosed.false)
     (spaced_end word rest c.loop-reader.free none c.loop-reader.invariant.spaced) (read_end word rest (reading_of c.loop-reader.reader) none c.loop-reader.invariant.read) key
 
 pub returns-in-None-clause-err : goal.returns-in-None-clause-err
@@ -64,4 +62,4 @@ returns-in-None-clause-err c =
     let word = c.args.word.now in
     let rest = c.loop-reader.rest.now in
     let none = found_none rest c.in_ok-token.field-0 c.in_ok-token.ensures.tokens c.in_default.is in
-    λ s. not_whole word (reading_of c.loop-reader.reader) (read_end word rest (reading_of c.loop-reader.reader) none c.loop-reader.invariant.read) (sym c.criterion.ensures ∙ ap (option_map key_of) c.in-None.is)
+    λ s. not_whole word (reading_of c.loop-reader.reader) (read_end word rest (reading_of c.loop-reader.reader) none c.loop-reader.invariant.read) (sym c.criterion.ensures ∙ c.in-None.is)
