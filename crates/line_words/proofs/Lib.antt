@@ -1,6 +1,8 @@
 pub mod TableLemmas
 pub mod WordLemmas
 pub mod PartLemmas
+pub mod EnclosedLemmas
+pub mod EndLemmas
 pub mod CutLaws
 pub mod LineLemmas
 pub mod SpellingLaws

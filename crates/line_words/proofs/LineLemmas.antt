@@ -7,9 +7,9 @@ use Rattle.line_words.specs.declared.line.CommandLine.{CommandLine}
 use Rattle.line_words.specs.declared.line.LineError.{LineError}
 use Rattle.line_words.specs.declared.line.LineError.TheVariants.{TooLong, Unknown, OpenQuote, Memory}
 use Rattle.line_words.specs.Spellings.{command_of}
-use Rattle.line_words.specs.Words.{words_of}
+use Rattle.line_words.specs.Words.{words_by}
 use Rattle.mail_text.specs.Ascii.{is_blank}
-use Rattle.line_words.specs.Line.{text_of, word_length, command_word, after_word, command_named, command_in, takes_rest, with_words, read_named, reading, IsUnknown, IsOpen, OrMemory, ComesWhere}
+use Rattle.line_words.specs.Line.{takes_list, text_of, word_length, command_word, after_word, command_named, command_in, takes_rest, with_words, read_named, reading, IsUnknown, IsOpen, OrMemory, ComesWhere}
 
 pub reading_long : (line : List ℕ) → 65536 < length line → reading line ≡ Err TooLong
 unfolding reading
@@ -54,16 +54,16 @@ record IsOpenBehind (o : Option Command) (after : List ℕ) : Type 0 where
   named : Command
   is_named : o ≡ Some named
   takes_words : takes_rest named ≡ false
-  open_quote : words_of after ≡ None
+  open_quote : words_by (takes_list named) after ≡ None
 
 named_error : (o : Option Command) (word after : List ℕ) (e : LineError) → read_named o word after ≡ Err e → ((o ≡ None) × (e ≡ Unknown word)) ⊎ (IsOpenBehind o after × (e ≡ OpenQuote))
 named_error None word after e h = inl (refl, cc)
 named_error (Some named) word after e h =
-    let parts = words_error (takes_rest named) _ named word (words_of after) e h in
+    let parts = words_error (takes_rest named) _ named word (words_by (takes_list named) after) e h in
     inr (record { named = named; is_named = refl; takes_words = parts.0; open_quote = parts.1 }, parts.2)
 
-named_open : (o : Option Command) (word after : List ℕ) (named : Command) → o ≡ Some named → takes_rest named ≡ false → words_of after ≡ None → read_named o word after ≡ Err OpenQuote
-named_open o word after named is other none = ap (λ (x : Option Command). read_named x word after) is ∙ words_open (takes_rest named) _ named word (words_of after) other none
+named_open : (o : Option Command) (word after : List ℕ) (named : Command) → o ≡ Some named → takes_rest named ≡ false → words_by (takes_list named) after ≡ None → read_named o word after ≡ Err OpenQuote
+named_open o word after named is other none = ap (λ (x : Option Command). read_named x word after) is ∙ words_open (takes_rest named) _ named word (words_by (takes_list named) after) other none
 
 -- ---- the errors of a line
 

@@ -1,5 +1,6 @@
 pub mod Spellings
 pub mod Table
+pub mod Enclosed
 pub mod Words
 pub mod Cutting
 pub mod Line

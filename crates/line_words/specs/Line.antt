@@ -3,12 +3,12 @@ use Rattle.std.specs.Prelude.{◌≡◌, ◌≢◌, ◌⊎◌, ◌≤◌, ℕ, B
 use Rattle.std.specs.List.{prefix_len, starts_with, list_any}
 use Rattle.std.specs.Char.{is_ascii_alphabetic}
 use Rattle.line_words.specs.declared.command.Command.{Command}
-use Rattle.line_words.specs.declared.command.Command.TheVariants.{Next, Print, Shell, Comment}
+use Rattle.line_words.specs.declared.command.Command.TheVariants.{Answered, Copy, CopyByAuthor, Delete, DeleteAndPrint, Draft, Flag, Followup, FollowupAuthors, From, Headers, Hold, Mbox, Next, Pipe, Print, PrintAll, Reply, ReplyAuthors, Save, SaveByAuthor, Size, Top, Touch, Unanswered, Undelete, Undraft, Unflag, Write, Shell, Comment}
 use Rattle.line_words.specs.declared.line.CommandLine.{CommandLine}
 use Rattle.line_words.specs.declared.line.LineError.{LineError}
 use Rattle.line_words.specs.declared.line.LineError.TheVariants.{TooLong, Unknown, OpenQuote, Memory}
 use Rattle.line_words.specs.Spellings.{command_of}
-use Rattle.line_words.specs.Words.{words_of}
+use Rattle.line_words.specs.Words.{words_by}
 use Rattle.mail_text.specs.Ascii.{is_blank}
 
 -- a command line has 65,536 bytes at most
@@ -54,6 +54,39 @@ takes_rest Shell = true
 takes_rest Comment = true
 takes_rest other = false
 
+-- the commands whose words may have a list or a message
+abbrev pub takes_list : Command → Bool
+takes_list Answered = true
+takes_list Copy = true
+takes_list CopyByAuthor = true
+takes_list Delete = true
+takes_list DeleteAndPrint = true
+takes_list Draft = true
+takes_list Flag = true
+takes_list Followup = true
+takes_list FollowupAuthors = true
+takes_list From = true
+takes_list Headers = true
+takes_list Hold = true
+takes_list Mbox = true
+takes_list Next = true
+takes_list Pipe = true
+takes_list Print = true
+takes_list PrintAll = true
+takes_list Reply = true
+takes_list ReplyAuthors = true
+takes_list Save = true
+takes_list SaveByAuthor = true
+takes_list Size = true
+takes_list Top = true
+takes_list Touch = true
+takes_list Unanswered = true
+takes_list Undelete = true
+takes_list Undraft = true
+takes_list Unflag = true
+takes_list Write = true
+takes_list other = false
+
 -- a command with its word and the words of what follows it
 abbrev pub with_words : Command → List ℕ → Option (List (List ℕ)) → Result CommandLine LineError
 with_words named word None = Err OpenQuote
@@ -63,7 +96,7 @@ with_words named word (Some words) = Ok (record { command = named; word = word; 
 abbrev pub read_as : Command → List ℕ → List ℕ → Result CommandLine LineError
 read_as named word after =
     if takes_rest named then Ok (record { command = named; word = word; words = []; rest = after })
-    else with_words named word (words_of after)
+    else with_words named word (words_by (takes_list named) after)
 
 -- the command that the word names, if it names one
 abbrev pub read_named : Option Command → List ℕ → List ℕ → Result CommandLine LineError
@@ -87,7 +120,7 @@ pub record IsOpen (line : List ℕ) : Type 0 where
   pub named : Command
   pub is_named : command_in line ≡ Some named
   pub takes_words : takes_rest named ≡ false
-  pub open_quote : words_of (after_word line) ≡ None
+  pub open_quote : words_by (takes_list named) (after_word line) ≡ None
 
 -- the answer is this one, or that memory ran out
 abbrev pub OrMemory : {T : Type 0} → Result T LineError → Result T LineError → Type 0

@@ -1,8 +1,8 @@
 // A line cut into words.
-ghost use Rattle.std.specs.Prelude.{◌≡◌, [], ◌∷◌, ◌++◌, IfOk};
-ghost use Rattle.line_words.specs.Words.{words_of};
+ghost use Rattle.std.specs.Prelude.{◌≡◌, ◌<◌, [], ◌∷◌, ◌++◌, IfOk};
+ghost use Rattle.line_words.specs.Words.{words_by, words_of, list_words_of};
 ghost use Rattle.mail_text.specs.Ascii.{is_blank};
-ghost use Rattle.line_words.specs.Cutting.{step_of, unquoted_step, gives, IsReady};
+ghost use Rattle.line_words.specs.Cutting.{step_of, first_step, unquoted_step, enclosed_after, string_after, depth_of, gives, IsReady};
 
 use mail_text::{Items, Memory, Text, is_blank};
 use std::alloc::Global;
@@ -19,6 +19,12 @@ pub(crate) enum Place {
     Escaped,
     /// Between two of these quotes.
     Quoted(u8),
+    /// In parentheses, of which so many but one are open.
+    Enclosed(usize),
+    /// In a string there.
+    InString(usize),
+    /// After a backslash in that string.
+    Taken(usize),
 }
 
 /// What becomes of a byte.
@@ -39,7 +45,7 @@ pub(crate) struct Step {
     act: Act,
 }
 
-// The step at a byte outside quotes that is no blank.
+// The step at a byte in a word, outside quotes, that is no blank.
 fn unquoted_step(byte: u8) -> Step
     ensures { result ≡ unquoted_step byte }
 {
@@ -51,17 +57,61 @@ fn unquoted_step(byte: u8) -> Step
     Step { place, act }
 }
 
+// The step at a byte at the front of a word that is no blank.
+fn first_step(lists: bool, byte: u8) -> Step
+    ensures { result ≡ first_step lists byte }
+{
+    if byte == b'(' && lists {
+        Step {
+            place: Place::Enclosed(0),
+            act: Act::Keep,
+        }
+    } else {
+        unquoted_step(byte)
+    }
+}
+
+// Where the byte stands after one in parentheses.
+fn enclosed_after(more: usize, byte: u8) -> Place
+    requires { more < 18_446_744_073_709_551_615 }
+    ensures { result ≡ enclosed_after more byte }
+{
+    match byte {
+        b'"' => Place::InString(more),
+        b'(' => Place::Enclosed(more + 1),
+        b')' if more == 0 => Place::Word,
+        b')' => Place::Enclosed(more - 1),
+        _ => Place::Enclosed(more),
+    }
+}
+
+// Where the byte stands after one in a string there.
+fn string_after(more: usize, byte: u8) -> Place
+    ensures { result ≡ string_after more byte }
+{
+    match byte {
+        b'"' => Place::Enclosed(more),
+        b'\\' => Place::Taken(more),
+        _ => Place::InString(more),
+    }
+}
+
 // The step at a byte that stands there.
-fn step_of(place: Place, byte: u8) -> Step
-    ensures { result ≡ step_of place byte }
+fn step_of(lists: bool, place: Place, byte: u8) -> Step
+    requires { depth_of place < 18_446_744_073_709_551_615 }
+    ensures { result ≡ step_of lists place byte }
 {
     let (place, act) = match place {
         Place::Between if is_blank(byte) => (Place::Between, Act::Pass),
+        Place::Between => return first_step(lists, byte),
         Place::Word if is_blank(byte) => (Place::Between, Act::End),
-        Place::Between | Place::Word => return unquoted_step(byte),
+        Place::Word => return unquoted_step(byte),
         Place::Escaped => (Place::Word, Act::Keep),
         Place::Quoted(quote) if byte == quote => (Place::Word, Act::Pass),
         Place::Quoted(quote) => (Place::Quoted(quote), Act::Keep),
+        Place::Enclosed(more) => (enclosed_after(more, byte), Act::Keep),
+        Place::InString(more) => (string_after(more, byte), Act::Keep),
+        Place::Taken(more) => (Place::InString(more), Act::Keep),
     };
     Step { place, act }
 }
@@ -72,11 +122,31 @@ fn step_of(place: Place, byte: u8) -> Step
 pub fn words_of(alloc: Global, bytes: &[u8]) -> Result<Option<Items<Text>>, Memory>
     ensures { IfOk result (λ words. words ≡ words_of bytes.now) }
 {
+    words_by(alloc, false, bytes)
+}
+
+/// The same for a line that may have a message list. A word that begins with `(` has what follows up to the `)` that closes
+/// it, or up to the end of the line if none does, as it stands: blanks, quotes and backslashes too. Only a string in it,
+/// which has `"` at both ends and in which a backslash takes the next byte, is passed over.
+pub fn list_words_of(alloc: Global, bytes: &[u8]) -> Result<Option<Items<Text>>, Memory>
+    ensures { IfOk result (λ words. words ≡ list_words_of bytes.now) }
+{
+    words_by(alloc, true, bytes)
+}
+
+// The words of a line; `lists` says whether it may have a message list.
+pub(crate) fn words_by(
+    alloc: Global,
+    lists: bool,
+    bytes: &[u8],
+) -> Result<Option<Items<Text>>, Memory>
+    ensures { IfOk result (λ words. words ≡ words_by lists bytes.now) }
+{
     let mut words = Items::new(alloc);
     let mut word = Text::new(alloc);
     let mut place = Place::Between;
     for byte in bytes {
-        let step = step_of(place, *byte);
+        let step = step_of(lists, place, *byte);
         match step.act {
             Act::Pass => {}
             Act::Keep => word.push(&[*byte])?,
@@ -84,23 +154,28 @@ pub fn words_of(alloc: Global, bytes: &[u8]) -> Result<Option<Items<Text>>, Memo
         }
         place = step.place;
     }
-    finish(place, words, word)
+    finish(lists, place, words, word)
 }
 
 // The words at the end of a line, of which these are whole and this is the front of the last one.
 #[tactic(auto, unfolding(crate::specs::Cutting::words_from))]
-fn finish(place: Place, words: Items<Text>, word: Text) -> Result<Option<Items<Text>>, Memory>
-    ensures { IfOk result (λ all. all ≡ gives place words word []) }
+fn finish(
+    lists: bool,
+    place: Place,
+    words: Items<Text>,
+    word: Text,
+) -> Result<Option<Items<Text>>, Memory>
+    ensures { IfOk result (λ all. all ≡ gives lists place words word []) }
 {
     match place {
         Place::Between => Ok(Some(words)),
-        Place::Word => with_last(words, word),
+        Place::Word | Place::Enclosed(_) => with_last(words, word),
         Place::Escaped => {
             let mut word = word;
             word.push(b"\\")?;
             with_last(words, word)
         }
-        Place::Quoted(_) => Ok(None),
+        Place::Quoted(_) | Place::InString(_) | Place::Taken(_) => Ok(None),
     }
 }
 

@@ -2,10 +2,10 @@ ghost use Rattle.std.specs.Prelude.{◌≡◌, ◌⊎◌, ◌<◌, ◌≤◌, �
 ghost use Rattle.std.specs.List.{prefix_len};
 ghost use Rattle.std.specs.Char.{is_ascii_alphabetic};
 ghost use Rattle.mail_text.specs.Ascii.{is_blank};
-ghost use Rattle.line_words.specs.Line.{is_mark, word_length, command_named, takes_rest, read_as, reading, IsUnknown, IsOpen, OrMemory, ComesWhere};
+ghost use Rattle.line_words.specs.Line.{is_mark, word_length, command_named, takes_rest, takes_list, read_as, reading, IsUnknown, IsOpen, OrMemory, ComesWhere};
 
 use crate::Command;
-use crate::cut::words_of;
+use crate::cut::words_by;
 use crate::table::command_of;
 use mail_text::{Items, Memory, Text, is_blank};
 use std::alloc::Global;
@@ -61,7 +61,9 @@ impl From<Memory> for LineError {
 /// empty line is `next`, and one without a command word `print` with the line as words.
 ///
 /// Words are separated by blanks. In a word `"` to `"` and `'` to `'` stand for the bytes inside; outside quotes a
-/// backslash takes the next byte, and at the line's end it stands for itself.
+/// backslash takes the next byte, and at the line's end it stands for itself. In a line whose words may have a list or a
+/// message, a word that begins with `(` has what follows up to the `)` that closes it, or up to the end of the line, as it
+/// stands; strings in it, from `"` to `"`, are passed over.
 ///
 /// `TooLong` comes exactly if the line has more than 65,536 bytes, `Unknown` exactly if its command word
 /// names no command, `OpenQuote` exactly if a quote isn't closed after a command that takes words. They are
@@ -102,7 +104,7 @@ fn read_as(
             rest,
         });
     }
-    let words = words_of(alloc, after)?;
+    let words = words_by(alloc, takes_list(command), after)?;
     match words {
         Some(words) => Ok(CommandLine {
             command,
@@ -179,4 +181,42 @@ fn takes_rest(command: Command) -> bool
     ensures { result ≡ takes_rest command }
 {
     matches!(command, Command::Shell | Command::Comment)
+}
+
+// Whether the words of the command may have a list or a message.
+fn takes_list(command: Command) -> bool
+    ensures { result ≡ takes_list command }
+{
+    matches!(
+        command,
+        Command::Answered
+            | Command::Copy
+            | Command::CopyByAuthor
+            | Command::Delete
+            | Command::DeleteAndPrint
+            | Command::Draft
+            | Command::Flag
+            | Command::Followup
+            | Command::FollowupAuthors
+            | Command::From
+            | Command::Headers
+            | Command::Hold
+            | Command::Mbox
+            | Command::Next
+            | Command::Pipe
+            | Command::Print
+            | Command::PrintAll
+            | Command::Reply
+            | Command::ReplyAuthors
+            | Command::Save
+            | Command::SaveByAuthor
+            | Command::Size
+            | Command::Top
+            | Command::Touch
+            | Command::Unanswered
+            | Command::Undelete
+            | Command::Undraft
+            | Command::Unflag
+            | Command::Write
+    )
 }
