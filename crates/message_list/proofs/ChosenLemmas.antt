@@ -41,42 +41,42 @@ no-bad : (words : List (List ℕ)) (items : List Item) → AreItems words items 
 no-bad words items are = ap first_bad (sym are.in_order) ∙ none-bad items are.kinds
 
 -- words that are no list
-pub chosen-bad : (purpose : Purpose) (shown : Shown) (words : List (List ℕ)) (e : ListError) → IsBadList words e → IsChosen (Err e) (chosen purpose shown words)
+pub chosen-bad : (purpose : Purpose) (shown : Shown) (texts : List (List ℕ)) (words : List (List ℕ)) (e : ListError) → IsBadList words e → IsChosen (Err e) (chosen purpose shown texts words)
 unfolding chosen
-chosen-bad purpose shown words (Syntax word) is =
-    ap (λ o. unless o Syntax (unless (first_missing shown purpose (items_of words)) NoSuch (some_message (selection shown purpose (items_of words))))) is
-chosen-bad purpose shown words (NoSuch word) never = absurd never
-chosen-bad purpose shown words NoneMatch never = absurd never
-chosen-bad purpose shown words Memory is = tt
+chosen-bad purpose shown texts words (Syntax word) is =
+    ap (λ o. unless o Syntax (unless (first_missing shown texts purpose (items_of words)) NoSuch (some_message (selection shown texts purpose (items_of words))))) is
+chosen-bad purpose shown texts words (NoSuch word) never = absurd never
+chosen-bad purpose shown texts words NoneMatch never = absurd never
+chosen-bad purpose shown texts words Memory is = tt
 
 -- what a list that was read comes to
-chosen-read : (purpose : Purpose) (shown : Shown) (words : List (List ℕ)) (items : List Item) → AreItems words items
-    → chosen purpose shown words ≡ unless (first_missing shown purpose items) NoSuch (some_message (selection shown purpose items))
+chosen-read : (purpose : Purpose) (shown : Shown) (texts : List (List ℕ)) (words : List (List ℕ)) (items : List Item) → AreItems words items
+    → chosen purpose shown texts words ≡ unless (first_missing shown texts purpose items) NoSuch (some_message (selection shown texts purpose items))
 unfolding chosen
-chosen-read purpose shown words items are =
-    ap (λ o. unless o Syntax (unless (first_missing shown purpose (items_of words)) NoSuch (some_message (selection shown purpose (items_of words))))) (no-bad words items are)
-    ∙ ap (λ (l : List Item). unless (first_missing shown purpose l) NoSuch (some_message (selection shown purpose l))) (items-of words items are)
+chosen-read purpose shown texts words items are =
+    ap (λ o. unless o Syntax (unless (first_missing shown texts purpose (items_of words)) NoSuch (some_message (selection shown texts purpose (items_of words))))) (no-bad words items are)
+    ∙ ap (λ (l : List Item). unless (first_missing shown texts purpose l) NoSuch (some_message (selection shown texts purpose l))) (items-of words items are)
 
 some-there : (ns : List ℕ) → 0 < length ns → some_message ns ≡ Ok ns
 some-there [] some = absurd (omega arith)
 some-there (n ∷ ns) some = refl
 
 -- a list that selects messages
-pub chosen-met : (purpose : Purpose) (shown : Shown) (words : List (List ℕ)) (items : List Item) (ns : List ℕ) → AreItems words items → ns ≡ selection shown purpose items → first_missing shown purpose items ≡ None → 0 < length ns
-    → chosen purpose shown words ≡ Ok ns
-chosen-met purpose shown words items ns are is met some =
-    chosen-read purpose shown words items are
-    ∙ ap (λ o. unless o NoSuch (some_message (selection shown purpose items))) met
+pub chosen-met : (purpose : Purpose) (shown : Shown) (texts : List (List ℕ)) (words : List (List ℕ)) (items : List Item) (ns : List ℕ) → AreItems words items → ns ≡ selection shown texts purpose items → first_missing shown texts purpose items ≡ None → 0 < length ns
+    → chosen purpose shown texts words ≡ Ok ns
+chosen-met purpose shown texts words items ns are is met some =
+    chosen-read purpose shown texts words items are
+    ∙ ap (λ o. unless o NoSuch (some_message (selection shown texts purpose items))) met
     ∙ ap some_message (sym is)
     ∙ some-there ns some
 
 -- a list that selects none
-pub chosen-unmet : (purpose : Purpose) (shown : Shown) (words : List (List ℕ)) (items : List Item) (e : ListError) → AreItems words items → IsUnmet shown purpose items e → IsChosen (Err e) (chosen purpose shown words)
-chosen-unmet purpose shown words items (Syntax word) are never = absurd never
-chosen-unmet purpose shown words items (NoSuch word) are is =
-    chosen-read purpose shown words items are ∙ ap (λ o. unless o NoSuch (some_message (selection shown purpose items))) is
-chosen-unmet purpose shown words items NoneMatch are (empty, none) =
-    chosen-read purpose shown words items are
-    ∙ ap (λ (l : List Item). unless (first_missing shown purpose l) NoSuch (some_message (selection shown purpose l))) empty
+pub chosen-unmet : (purpose : Purpose) (shown : Shown) (texts : List (List ℕ)) (words : List (List ℕ)) (items : List Item) (e : ListError) → AreItems words items → IsUnmet shown texts purpose items e → IsChosen (Err e) (chosen purpose shown texts words)
+chosen-unmet purpose shown texts words items (Syntax word) are never = absurd never
+chosen-unmet purpose shown texts words items (NoSuch word) are is =
+    chosen-read purpose shown texts words items are ∙ ap (λ o. unless o NoSuch (some_message (selection shown texts purpose items))) is
+chosen-unmet purpose shown texts words items NoneMatch are (empty, none) =
+    chosen-read purpose shown texts words items are
+    ∙ ap (λ (l : List Item). unless (first_missing shown texts purpose l) NoSuch (some_message (selection shown texts purpose l))) empty
     ∙ ap (λ o. some_message (option_to_list o)) none
-chosen-unmet purpose shown words items Memory are is = tt
+chosen-unmet purpose shown texts words items Memory are is = tt

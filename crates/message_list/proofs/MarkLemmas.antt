@@ -62,20 +62,20 @@ none_step hits from place found hit same so_far none p low high =
       | inr ne ↦ so_far parts.0 p low (omega arith)
     ]
 
-module _ (shown : Shown) (purpose : Purpose) (item : Item) (span : Span) (of : IsSpanOf shown (kind_reaches shown purpose item.kind) span) where
+module _ (shown : Shown) (texts : List (List ℕ)) (purpose : Purpose) (item : Item) (span : Span) (of : IsSpanOf shown (kind_reaches shown purpose item.kind) span) where
   -- at a place of the view
-  pub selects_here : (p : ℕ) → p < length shown.order → selects shown purpose item (get_or shown.order p 0) ≡ (is_within span p && is_hit shown purpose item (get_or shown.order p 0))
+  pub selects_here : (p : ℕ) → p < length shown.order → selects shown texts purpose item (get_or shown.order p 0) ≡ (is_within span p && is_hit shown texts purpose item (get_or shown.order p 0))
   selects_here p lt =
-      names_by_parts item.kind item.word shown purpose (get_or shown.order p 0) ∙ ap (λ (t : Bool). t && is_hit shown purpose item (get_or shown.order p 0)) (of.places p lt)
+      names_by_parts item.kind item.word shown texts purpose (get_or shown.order p 0) ∙ ap (λ (t : Bool). t && is_hit shown texts purpose item (get_or shown.order p 0)) (of.places p lt)
 
   -- whether a place of the span is hit
   pub finds_here : (place : ℕ) (found : Bool) → place ≡ span.to
-      → (found ≡ true → (p : ℕ) × (span.from ≤ p) × (p < place) × (is_hit shown purpose item (get_or shown.order p 0) ≡ true))
-      → (found ≡ false → (p : ℕ) → span.from ≤ p → p < place → is_hit shown purpose item (get_or shown.order p 0) ≡ false)
-      → found ≡ finds shown purpose item
+      → (found ≡ true → (p : ℕ) × (span.from ≤ p) × (p < place) × (is_hit shown texts purpose item (get_or shown.order p 0) ≡ true))
+      → (found ≡ false → (p : ℕ) → span.from ≤ p → p < place → is_hit shown texts purpose item (get_or shown.order p 0) ≡ false)
+      → found ≡ finds shown texts purpose item
   finds_here place found e some none =
       let within : span.to ≤ length shown.order = of.within in
-      any_found (selects shown purpose item) shown.order 0 found
+      any_found (selects shown texts purpose item) shown.order 0 found
       (λ any. let h = some any in
       let low : span.from ≤ h.0 = h.1 in
       let high : h.0 < place = h.2 in
@@ -87,7 +87,7 @@ module _ (shown : Shown) (purpose : Purpose) (item : Item) (span : Span) (of : I
             and_right (is_within span p) _ (none nothing p (leb-true span.from p parts.0) (omega arith))
         | inr outside ↦ and_left (is_within span p) _ outside
       ])
-      ∙ list_any-filter (names shown purpose item) (in_base shown purpose) shown.order
+      ∙ list_any-filter (names shown texts purpose item) (in_base shown purpose) shown.order
 
 both_ors : (a b c : Bool) → ((a || (b || false)) && c) ≡ ((a && c) || (b && c))
 both_ors true true true = refl
@@ -100,10 +100,10 @@ both_ors false false true = refl
 both_ors false false false = refl
 
 -- one more word
-pub selected_more : (shown : Shown) (purpose : Purpose) (items : List Item) (i : ℕ) (item : Item) (n : ℕ) → i < length items → item ≡ get_or items i item
-    → is_selected shown purpose (take (i + 1) items) n ≡ (is_selected shown purpose (take i items) n || selects shown purpose item n)
-selected_more shown purpose items i item n lt here =
-    let test = λ (x : Item). names shown purpose x n in
+pub selected_more : (shown : Shown) (texts : List (List ℕ)) (purpose : Purpose) (items : List Item) (i : ℕ) (item : Item) (n : ℕ) → i < length items → item ≡ get_or items i item
+    → is_selected shown texts purpose (take (i + 1) items) n ≡ (is_selected shown texts purpose (take i items) n || selects shown texts purpose item n)
+selected_more shown texts purpose items i item n lt here =
+    let test = λ (x : Item). names shown texts purpose x n in
     ap (λ (xs : List Item). list_any test xs && in_base shown purpose n) (take_more items i item lt ∙ ap (λ (x : Item). take i items ++ x ∷ []) (sym here))
     ∙ ap (λ (t : Bool). t && in_base shown purpose n) (list_any-append test (take i items) (item ∷ []))
     ∙ both_ors (list_any test (take i items)) (test item) (in_base shown purpose n)

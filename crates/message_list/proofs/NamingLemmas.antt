@@ -4,7 +4,7 @@ use Rattle.std.specs.Option.{option_map_or}
 use Rattle.message_state.specs.declared.row.Row.{Row}
 use Rattle.message_state.specs.declared.shown.Shown.{Shown}
 use Rattle.message_list.specs.declared.list.Kind.{Kind}
-use Rattle.message_list.specs.declared.list.Kind.TheVariants.{Number, Range, Next, Previous, Current, First, Last, All, Address, Subject, Letter}
+use Rattle.message_list.specs.declared.list.Kind.TheVariants.{Number, Range, Next, Previous, Current, First, Last, All, Address, Subject, Letter, Search}
 use Rattle.message_list.specs.declared.list.Purpose.{Purpose}
 use Rattle.message_list.specs.Places.{row_at, is_for, in_base}
 use Rattle.message_list.specs.Naming.{kind_names}
@@ -28,16 +28,17 @@ any_row g (Some row) = and_all (g row)
     and_all true = refl
     and_all false = refl
 
-pub names_by_parts : (kind : Kind) (word : List ℕ) (shown : Shown) (purpose : Purpose) (n : ℕ)
-    → (kind_names kind word shown purpose n && in_base shown purpose n) ≡ (kind_reaches shown purpose kind n && kind_hit shown purpose kind word n)
-names_by_parts Address word shown purpose n = both_rows _ (λ row. is_for purpose row.mark) (row_at shown n)
-names_by_parts Subject word shown purpose n = both_rows _ (λ row. is_for purpose row.mark) (row_at shown n)
-names_by_parts (Letter letter) word shown purpose n = both_rows _ (λ row. is_for purpose row.mark) (row_at shown n)
-names_by_parts (Number k) word shown purpose n = ap (λ (t : Bool). kind_names (Number k) word shown purpose n && t) (any_row (λ row. is_for purpose row.mark) (row_at shown n))
-names_by_parts (Range a b) word shown purpose n = ap (λ (t : Bool). kind_names (Range a b) word shown purpose n && t) (any_row (λ row. is_for purpose row.mark) (row_at shown n))
-names_by_parts Next word shown purpose n = ap (λ (t : Bool). kind_names Next word shown purpose n && t) (any_row (λ row. is_for purpose row.mark) (row_at shown n))
-names_by_parts Previous word shown purpose n = ap (λ (t : Bool). kind_names Previous word shown purpose n && t) (any_row (λ row. is_for purpose row.mark) (row_at shown n))
-names_by_parts Current word shown purpose n = ap (λ (t : Bool). kind_names Current word shown purpose n && t) (any_row (λ row. is_for purpose row.mark) (row_at shown n))
-names_by_parts First word shown purpose n = ap (λ (t : Bool). kind_names First word shown purpose n && t) (any_row (λ row. is_for purpose row.mark) (row_at shown n))
-names_by_parts Last word shown purpose n = ap (λ (t : Bool). kind_names Last word shown purpose n && t) (any_row (λ row. is_for purpose row.mark) (row_at shown n))
-names_by_parts All word shown purpose n = any_row (λ row. is_for purpose row.mark) (row_at shown n)
+pub names_by_parts : (kind : Kind) (word : List ℕ) (shown : Shown) (texts : List (List ℕ)) (purpose : Purpose) (n : ℕ)
+    → (kind_names kind word shown texts purpose n && in_base shown purpose n) ≡ (kind_reaches shown purpose kind n && kind_hit shown texts purpose kind word n)
+names_by_parts Address word shown texts purpose n = both_rows _ (λ row. is_for purpose row.mark) (row_at shown n)
+names_by_parts Subject word shown texts purpose n = both_rows _ (λ row. is_for purpose row.mark) (row_at shown n)
+names_by_parts (Letter letter) word shown texts purpose n = both_rows _ (λ row. is_for purpose row.mark) (row_at shown n)
+names_by_parts (Search key) word shown texts purpose n = both_rows _ (λ row. is_for purpose row.mark) (row_at shown n)
+names_by_parts (Number k) word shown texts purpose n = ap (λ (t : Bool). kind_names (Number k) word shown texts purpose n && t) (any_row (λ row. is_for purpose row.mark) (row_at shown n))
+names_by_parts (Range a b) word shown texts purpose n = ap (λ (t : Bool). kind_names (Range a b) word shown texts purpose n && t) (any_row (λ row. is_for purpose row.mark) (row_at shown n))
+names_by_parts Next word shown texts purpose n = ap (λ (t : Bool). kind_names Next word shown texts purpose n && t) (any_row (λ row. is_for purpose row.mark) (row_at shown n))
+names_by_parts Previous word shown texts purpose n = ap (λ (t : Bool). kind_names Previous word shown texts purpose n && t) (any_row (λ row. is_for purpose row.mark) (row_at shown n))
+names_by_parts Current word shown texts purpose n = ap (λ (t : Bool). kind_names Current word shown texts purpose n && t) (any_row (λ row. is_for purpose row.mark) (row_at shown n))
+names_by_parts First word shown texts purpose n = ap (λ (t : Bool). kind_names First word shown texts purpose n && t) (any_row (λ row. is_for purpose row.mark) (row_at shown n))
+names_by_parts Last word shown texts purpose n = ap (λ (t : Bool). kind_names Last word shown texts purpose n && t) (any_row (λ row. is_for purpose row.mark) (row_at shown n))
+names_by_parts All word shown texts purpose n = any_row (λ row. is_for purpose row.mark) (row_at shown n)

@@ -32,11 +32,11 @@ some_message (n ∷ ns) = Ok (n ∷ ns)
 
 -- The messages that the words select, in view order. Refused are, in this order: the first word that is no list word,
 -- the first that names no message, and the lack of words if there is no message to take
-unfoldable pub chosen : Purpose → Shown → List (List ℕ) → Result (List ℕ) ListError
-chosen purpose shown words =
+unfoldable pub chosen : Purpose → Shown → List (List ℕ) → List (List ℕ) → Result (List ℕ) ListError
+chosen purpose shown texts words =
     unless (first_bad words) Syntax
-    (unless (first_missing shown purpose (items_of words)) NoSuch
-    (some_message (selection shown purpose (items_of words))))
+    (unless (first_missing shown texts purpose (items_of words)) NoSuch
+    (some_message (selection shown texts purpose (items_of words))))
 
 -- an answer is the messages that were chosen, or why there are none, or that memory ran out
 abbrev pub IsChosen : Result (List ℕ) ListError → Result (List ℕ) ListError → Type 0

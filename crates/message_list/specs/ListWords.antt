@@ -1,8 +1,9 @@
 -- The words of a message list.
 use Rattle.std.specs.Prelude.{◌≡◌, ℕ, Bool, ◌==◌, List, [], ◌∷◌, length, map, All, codes, Option, Some, None, is_none, unwrap_or, if◌then◌else◌}
-use Rattle.std.specs.Option.{option_or}
+use Rattle.std.specs.Option.{option_or, option_map}
 use Rattle.std.specs.List.{list_any, find, before_first, after_first}
 use Rattle.mail_text.specs.Number.{is_numeral, number_of}
+use Rattle.mail_search.specs.Criteria.{criterion_of}
 use Rattle.message_list.specs.declared.list.End.{End}
 use Rattle.message_list.specs.declared.list.End.TheVariants as at
 use Rattle.message_list.specs.declared.list.Kind.{Kind}
@@ -56,14 +57,22 @@ abbrev pub letter_of : List ℕ → Option Kind
 letter_of (letter ∷ []) = if list_any (λ b. b == letter) (codes "adfnortu") then Some (is.Letter letter) else None
 letter_of text = None
 
--- the kind of a word, and none of a bad one: the empty word, one that begins with `(`, `/` alone, `:` without one of the eight letters
+-- a word that begins with `(` is a search criterion, or bad
+abbrev pub search_kind : List ℕ → Option Kind
+search_kind word = option_map is.Search (criterion_of word)
+
+-- the kind of another word, and none of a bad one: the empty word, `/` alone, `:` without one of the eight letters
+abbrev pub word_kind : List ℕ → Option Kind
+word_kind [] = None
+word_kind (b ∷ rest) =
+    if b == 47 then (if length rest == 0 then None else Some is.Subject)
+    else (if b == 58 then letter_of rest
+    else Some (plain_kind (b ∷ rest)))
+
+-- the kind of a word, if it isn't bad
 abbrev pub kind_of : List ℕ → Option Kind
 kind_of [] = None
-kind_of (b ∷ rest) =
-    if b == 40 then None
-    else (if b == 47 then (if length rest == 0 then None else Some is.Subject)
-    else (if b == 58 then letter_of rest
-    else Some (plain_kind (b ∷ rest))))
+kind_of (b ∷ rest) = if b == 40 then search_kind (b ∷ rest) else word_kind (b ∷ rest)
 
 -- the first bad word
 abbrev pub first_bad : List (List ℕ) → Option (List ℕ)

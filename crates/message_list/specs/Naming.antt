@@ -1,19 +1,22 @@
 -- Which messages a word of a list names.
-use Rattle.std.specs.Prelude.{ℕ, Bool, true, false, not, ◌&&◌, ◌||◌, ◌==◌, nat_le, List, drop, Option, Some, None}
+use Rattle.std.specs.Prelude.{ℕ, ◌-◌, Bool, true, false, not, ◌&&◌, ◌||◌, ◌==◌, nat_le, List, [], drop, slice_get, Option, Some, None, unwrap_or}
 use Rattle.std.specs.Option.{option_and_then}
 use Rattle.std.specs.List.{list_any}
 use Rattle.mail_text.specs.Ascii.{same_ascii}
 use Rattle.mail_text.specs.Holding.{holds_ascii}
+use Rattle.mail_search.specs.declared.criterion.Facts.{Facts}
+use Rattle.mail_search.specs.Meaning.{key_holds}
 use Rattle.message_state.specs.declared.mark.Flags.{Flags}
 use Rattle.message_state.specs.declared.mark.Mark.{Mark}
 use Rattle.message_state.specs.declared.mark.State.{State}
 use Rattle.message_state.specs.declared.mark.State.TheVariants.{New, Unread, Read, Deleted}
 use Rattle.message_state.specs.declared.shown.Shown.{Shown}
+use Rattle.message_state.specs.LiveRows.{is_live}
 use Rattle.message_state.specs.States.{place}
 use Rattle.message_list.specs.declared.list.End.{End}
 use Rattle.message_list.specs.declared.list.End.TheVariants as at
 use Rattle.message_list.specs.declared.list.Kind.{Kind}
-use Rattle.message_list.specs.declared.list.Kind.TheVariants.{Number, Range, Next, Previous, Current, First, Last, All, Address, Subject, Letter}
+use Rattle.message_list.specs.declared.list.Kind.TheVariants.{Number, Range, Next, Previous, Current, First, Last, All, Address, Subject, Letter, Search}
 use Rattle.message_list.specs.declared.list.Item.{Item}
 use Rattle.message_list.specs.declared.list.Purpose.{Purpose}
 use Rattle.message_list.specs.LocalParts.{local_part}
@@ -61,20 +64,35 @@ has_flag_letter letter flags = (letter == 97 && flags.answered) || (letter == 10
 abbrev pub has_letter : ℕ → Mark → Bool
 has_letter letter mark = has_state_letter letter mark.state || has_flag_letter letter mark.flags
 
+-- what a criterion asks of a mark
+abbrev pub facts_of : Mark → Facts
+facts_of mark = record {
+  seen = mark.seen;
+  deleted = not (is_live mark);
+  answered = mark.flags.answered;
+  flagged = mark.flags.flagged;
+  draft = mark.flags.draft;
+}
+
+-- the text of message n of these texts, numbered from 1
+abbrev pub text_at : List (List ℕ) → ℕ → List ℕ
+text_at texts n = unwrap_or (slice_get texts (n - 1)) []
+
 -- a word of this kind names message n
-abbrev pub kind_names : Kind → List ℕ → Shown → Purpose → ℕ → Bool
-kind_names (Number k) word shown purpose n = n == k
-kind_names (Range a b) word shown purpose n = is_between (end_place shown purpose a) (end_place shown purpose b) (place_of shown n)
-kind_names Next word shown purpose n = is_message (next_of shown purpose shown.current) n
-kind_names Previous word shown purpose n = is_message (previous_of shown purpose shown.current) n
-kind_names Current word shown purpose n = n == shown.current
-kind_names First word shown purpose n = is_message (first_of shown purpose) n
-kind_names Last word shown purpose n = is_message (last_of shown purpose) n
-kind_names All word shown purpose n = true
-kind_names Address word shown purpose n = row_passes (λ row. is_author word row.texts.author) shown n
-kind_names Subject word shown purpose n = row_passes (λ row. holds_ascii (drop 1 word) row.texts.subject) shown n
-kind_names (Letter letter) word shown purpose n = row_passes (λ row. has_letter letter row.mark) shown n
+abbrev pub kind_names : Kind → List ℕ → Shown → List (List ℕ) → Purpose → ℕ → Bool
+kind_names (Number k) word shown texts purpose n = n == k
+kind_names (Range a b) word shown texts purpose n = is_between (end_place shown purpose a) (end_place shown purpose b) (place_of shown n)
+kind_names Next word shown texts purpose n = is_message (next_of shown purpose shown.current) n
+kind_names Previous word shown texts purpose n = is_message (previous_of shown purpose shown.current) n
+kind_names Current word shown texts purpose n = n == shown.current
+kind_names First word shown texts purpose n = is_message (first_of shown purpose) n
+kind_names Last word shown texts purpose n = is_message (last_of shown purpose) n
+kind_names All word shown texts purpose n = true
+kind_names Address word shown texts purpose n = row_passes (λ row. is_author word row.texts.author) shown n
+kind_names Subject word shown texts purpose n = row_passes (λ row. holds_ascii (drop 1 word) row.texts.subject) shown n
+kind_names (Letter letter) word shown texts purpose n = row_passes (λ row. has_letter letter row.mark) shown n
+kind_names (Search key) word shown texts purpose n = row_passes (λ row. key_holds (text_at texts n) (facts_of row.mark) key) shown n
 
 -- the item's word names message n
-abbrev pub names : Shown → Purpose → Item → ℕ → Bool
-names shown purpose item n = kind_names item.kind item.word shown purpose n
+abbrev pub names : Shown → List (List ℕ) → Purpose → Item → ℕ → Bool
+names shown texts purpose item n = kind_names item.kind item.word shown texts purpose n

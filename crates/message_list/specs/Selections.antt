@@ -26,35 +26,39 @@ default_message shown Any = current_of shown Any
 default_message shown Dead = option_or (find (in_base shown Dead) (back_from shown shown.current)) (first_of shown Dead)
 
 -- one of the words names the message
-abbrev pub is_named : Shown → Purpose → List Item → ℕ → Bool
-is_named shown purpose items n = list_any (λ item. names shown purpose item n) items
+abbrev pub is_named : Shown → List (List ℕ) → Purpose → List Item → ℕ → Bool
+is_named shown texts purpose items n = list_any (λ item. names shown texts purpose item n) items
 
--- the selection: the default message alone, or, of the base set in view order, what the words name
-abbrev pub selection : Shown → Purpose → List Item → List ℕ
-selection shown purpose [] = option_to_list (default_message shown purpose)
-selection shown purpose (item ∷ items) = filter (is_named shown purpose (item ∷ items)) (base_of shown purpose)
+-- of the base set in view order, what the words name
+abbrev pub named_in : Shown → List (List ℕ) → Purpose → List Item → List ℕ
+named_in shown texts purpose items = filter (is_named shown texts purpose items) (base_of shown purpose)
+
+-- the selection: the default message alone, or what the words name
+abbrev pub selection : Shown → List (List ℕ) → Purpose → List Item → List ℕ
+selection shown texts purpose [] = option_to_list (default_message shown purpose)
+selection shown texts purpose (item ∷ items) = named_in shown texts purpose (item ∷ items)
 
 -- the word names a message of the base set
-abbrev pub finds : Shown → Purpose → Item → Bool
-finds shown purpose item = list_any (names shown purpose item) (base_of shown purpose)
+abbrev pub finds : Shown → List (List ℕ) → Purpose → Item → Bool
+finds shown texts purpose item = list_any (names shown texts purpose item) (base_of shown purpose)
 
 -- the first word that names none
-abbrev pub first_missing : Shown → Purpose → List Item → Option (List ℕ)
-first_missing shown purpose items = option_map (λ item. item.word) (find (λ item. not (finds shown purpose item)) items)
+abbrev pub first_missing : Shown → List (List ℕ) → Purpose → List Item → Option (List ℕ)
+first_missing shown texts purpose items = option_map (λ item. item.word) (find (λ item. not (finds shown texts purpose item)) items)
 
 -- why a list selects nothing: the first word that names none; no words and no default message; memory ran out
-abbrev pub IsUnmet : Shown → Purpose → List Item → ListError → Type 0
-IsUnmet shown purpose items (Syntax word) = ⊥
-IsUnmet shown purpose items (NoSuch word) = first_missing shown purpose items ≡ Some word
-IsUnmet shown purpose items NoneMatch = (items ≡ []) × (default_message shown purpose ≡ None)
-IsUnmet shown purpose items Memory = Unit {0}
+abbrev pub IsUnmet : Shown → List (List ℕ) → Purpose → List Item → ListError → Type 0
+IsUnmet shown texts purpose items (Syntax word) = ⊥
+IsUnmet shown texts purpose items (NoSuch word) = first_missing shown texts purpose items ≡ Some word
+IsUnmet shown texts purpose items NoneMatch = (items ≡ []) × (default_message shown purpose ≡ None)
+IsUnmet shown texts purpose items Memory = Unit {0}
 
 -- why words select nothing: the first word that names none, or that memory ran out
-abbrev pub IsMissing : Shown → Purpose → List Item → ListError → Type 0
-IsMissing shown purpose items (Syntax word) = ⊥
-IsMissing shown purpose items (NoSuch word) = first_missing shown purpose items ≡ Some word
-IsMissing shown purpose items NoneMatch = ⊥
-IsMissing shown purpose items Memory = Unit {0}
+abbrev pub IsMissing : Shown → List (List ℕ) → Purpose → List Item → ListError → Type 0
+IsMissing shown texts purpose items (Syntax word) = ⊥
+IsMissing shown texts purpose items (NoSuch word) = first_missing shown texts purpose items ≡ Some word
+IsMissing shown texts purpose items NoneMatch = ⊥
+IsMissing shown texts purpose items Memory = Unit {0}
 
 -- this word names none, or memory ran out
 abbrev pub IsNoSuch : List ℕ → ListError → Type 0

@@ -1,18 +1,40 @@
-ghost use Rattle.std.specs.Prelude.{◌≡◌};
+ghost use Rattle.std.specs.Prelude.{◌≡◌, IfOk};
 ghost use Rattle.std.specs.List.{before_first, after_first};
 ghost use Rattle.mail_text.specs.Number.{is_numeral};
-ghost use Rattle.message_list.specs.ListWords.{number_in, end_of, range_of, mark_of, plain_kind, letter_of, kind_of, is_dash};
+ghost use Rattle.message_list.specs.ListWords.{number_in, end_of, range_of, mark_of, plain_kind, letter_of, word_kind, search_kind, kind_of, is_dash};
 
 use crate::list::{End, Kind};
-use mail_text::read_number;
+use mail_search::{SearchError, read_criterion};
+use mail_text::{Memory, read_number};
+use std::alloc::Global;
 
 /// The kind of a word, or none of a bad one.
-pub(crate) fn kind_of(word: &[u8]) -> Option<Kind>
-    ensures { result ≡ kind_of word.now }
+pub(crate) fn kind_of(alloc: Global, word: &[u8]) -> Result<Option<Kind>, Memory>
+    ensures { IfOk result (λ kind. kind ≡ kind_of word.now) }
+{
+    match word {
+        [b'(', ..] => search_kind(alloc, word),
+        _ => Ok(word_kind(word)),
+    }
+}
+
+// The kind of a word that is to be a search criterion.
+fn search_kind(alloc: Global, word: &[u8]) -> Result<Option<Kind>, Memory>
+    ensures { IfOk result (λ kind. kind ≡ search_kind word.now) }
+{
+    match read_criterion(alloc, word) {
+        Ok(criterion) => Ok(Some(Kind::Search(criterion))),
+        Err(SearchError::Syntax) => Ok(None),
+        Err(SearchError::Memory) => Err(Memory),
+    }
+}
+
+// The kind of a word that doesn't begin with `(`.
+fn word_kind(word: &[u8]) -> Option<Kind>
+    ensures { result ≡ word_kind word.now }
 {
     match word {
         [] => None,
-        [b'(', ..] => None,
         [b'/', string @ ..] => {
             if string.is_empty() {
                 None

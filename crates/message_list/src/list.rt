@@ -1,3 +1,4 @@
+use mail_search::Criterion;
 use mail_text::{Items, Memory, Text};
 use std::alloc::{AllocError, AllocFailed};
 use thiserror::Error;
@@ -27,7 +28,7 @@ pub enum End {
 }
 
 /// What a word of a list is.
-#[derive(Clone, Copy, Debug, PartialEq, Eq)]
+#[derive(Drop)]
 pub enum Kind {
     /// Digits: the message of that number. `u64::MAX` stands for a number past 64 bits.
     Number(u64),
@@ -51,10 +52,12 @@ pub enum Kind {
     Subject,
     /// `:` and one of the letters `adfnortu`: the messages in a state, or with a flag.
     Letter(u8),
+    /// A search criterion in parentheses: the messages whose text and mark meet it.
+    Search(Criterion),
 }
 
 /// A word of a list and what it is.
-#[derive(Debug, Drop)]
+#[derive(Drop)]
 pub struct Item {
     /// The word as it was given.
     pub word: Text,

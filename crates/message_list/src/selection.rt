@@ -1,16 +1,21 @@
 ghost use Rattle.std.specs.Prelude.{◌≡◌, ◌≤◌, ◌<◌, ◌==◌, ◌∷◌, [], ℕ, Bool, None, true, false, replicate, MatchOption, length, drop, filter, All, option_to_list, IfOk, IfErr};
 ghost use Rattle.std.specs.List.{find};
+ghost use Rattle.mbox_scan.specs.Mailbox.{texts_of};
 ghost use Rattle.message_state.specs.ShownRows.{IsShown};
 ghost use Rattle.message_list.specs.Places.{in_base, is_for};
-ghost use Rattle.message_list.specs.Naming.{names, has_state_letter, has_flag_letter, has_letter, is_message};
-ghost use Rattle.message_list.specs.Selections.{default_message, selection, base_of, is_named, finds, first_missing, IsUnmet, IsMissing, IsNoSuch};
+ghost use Rattle.message_list.specs.Naming.{names, has_state_letter, has_flag_letter, has_letter, is_message, facts_of, text_at};
+ghost use Rattle.message_list.specs.Selections.{default_message, selection, named_in, finds, first_missing, IsUnmet, IsMissing, IsNoSuch};
 ghost use Rattle.message_list.specs.Marking.{kind_fits, is_hit, is_selected, kind_reaches, AreLandmarks, IsSpanOf, AddsMarks, AreMarks};
 
 use crate::author::is_author;
 use crate::list::{Item, Kind, ListError, ListSpec, Purpose};
 use crate::span::{Landmarks, Span, landmarks_of, span_of};
-use crate::view::{at_or_before, first_of, in_base, is_for, last_of, next_of, previous_of, row_at};
+use crate::view::{
+    at_or_before, first_of, in_base, is_for, is_live, last_of, next_of, previous_of, row_at,
+};
+use mail_search::{Facts, matches};
 use mail_text::{Memory, Text, holds_ascii};
+use mbox_scan::Folder;
 use message_state::{Flags, Mark, Row, Shown, State};
 use std::alloc::Global;
 
@@ -19,22 +24,24 @@ use std::alloc::Global;
 /// base set; for `Purpose::Dead` the nearest deleted one at or before it in the view, else the first deleted one.
 /// `NoSuch` comes exactly if a word names no message of the base set, and has the first such word; `NoneMatch`
 /// exactly if there is no word and no default message. In a view by number a list of one number, `.`, `+`, `-`, `^`
-/// or `$`, or of no word, is answered without a walk over the view.
+/// or `$`, or of no word, is answered without a walk over the view. A search criterion is asked of the text of each
+/// message of the base set in `folder`, once; a text that isn't there counts as empty.
 pub fn select(
     alloc: Global,
     list: &ListSpec,
     shown: &Shown,
+    folder: &Folder,
     purpose: Purpose,
 ) -> Result<Vec<u32>, ListError>
     requires { IsShown shown.now }
-    ensures ok { IfOk result (λ found. found.items ≡ selection shown.now purpose list.now.items) }
-    ensures met { IfOk result (λ found. first_missing shown.now purpose list.now.items ≡ None) }
+    ensures ok { IfOk result (λ found. found.items ≡ selection shown.now (texts_of folder.now) purpose list.now.items) }
+    ensures met { IfOk result (λ found. first_missing shown.now (texts_of folder.now) purpose list.now.items ≡ None) }
     ensures some { IfOk result (λ found. 0 < length found.items) }
     ensures base { IfOk result (λ found. All (λ n. in_base shown.now purpose n ≡ true) found.items) }
     ensures messages { IfOk result (λ found. All (λ n. (1 ≤ n) × (n ≤ length shown.now.rows)) found.items) }
-    ensures err { IfErr result (IsUnmet shown.now purpose list.now.items) }
+    ensures err { IfErr result (IsUnmet shown.now (texts_of folder.now) purpose list.now.items) }
 {
-    select_items(alloc, list.items.items(), shown, purpose)
+    select_items(alloc, list.items.items(), shown, folder, purpose)
 }
 
 // What the words of a list select.
@@ -42,27 +49,33 @@ fn select_items(
     alloc: Global,
     items: &[Item],
     shown: &Shown,
+    folder: &Folder,
     purpose: Purpose,
 ) -> Result<Vec<u32>, ListError>
     requires { IsShown shown.now }
-    ensures ok { IfOk result (λ found. found.items ≡ selection shown.now purpose items.now) }
-    ensures met { IfOk result (λ found. first_missing shown.now purpose items.now ≡ None) }
+    ensures ok { IfOk result (λ found. found.items ≡ selection shown.now (texts_of folder.now) purpose items.now) }
+    ensures met { IfOk result (λ found. first_missing shown.now (texts_of folder.now) purpose items.now ≡ None) }
     ensures some { IfOk result (λ found. 0 < length found.items) }
-    ensures err { IfErr result (IsUnmet shown.now purpose items.now) }
+    ensures err { IfErr result (IsUnmet shown.now (texts_of folder.now) purpose items.now) }
 {
     match items {
-        [] => select_default(alloc, shown, purpose),
-        [item] => select_one(alloc, items, item, shown, purpose),
-        _ => select_named(alloc, items, shown, purpose),
+        [] => select_default(alloc, shown, folder, purpose),
+        [item] => select_one(alloc, items, item, shown, folder, purpose),
+        _ => select_named(alloc, items, shown, folder, purpose),
     }
 }
 
 // What a list without words selects.
-fn select_default(alloc: Global, shown: &Shown, purpose: Purpose) -> Result<Vec<u32>, ListError>
+fn select_default(
+    alloc: Global,
+    shown: &Shown,
+    folder: &Folder,
+    purpose: Purpose,
+) -> Result<Vec<u32>, ListError>
     requires { IsShown shown.now }
     ensures ok { IfOk result (λ found. found.items ≡ option_to_list (default_message shown.now purpose)) }
     ensures some { IfOk result (λ found. 0 < length found.items) }
-    ensures err { IfErr result (IsUnmet shown.now purpose []) }
+    ensures err { IfErr result (IsUnmet shown.now (texts_of folder.now) purpose []) }
 {
     match default_message(shown, purpose) {
         Some(n) => Ok(single(alloc, n)?),
@@ -108,36 +121,37 @@ fn select_one(
     items: &[Item],
     item: &Item,
     shown: &Shown,
+    folder: &Folder,
     purpose: Purpose,
 ) -> Result<Vec<u32>, ListError>
     requires valid { IsShown shown.now }
     requires one { items.now ≡ item.now ∷ [] }
     ensures ok { IfOk result
-        (λ found. found.items ≡ filter (is_named shown.now purpose items.now) (base_of shown.now purpose)) }
-    ensures met { IfOk result (λ found. first_missing shown.now purpose items.now ≡ None) }
-    ensures err { IfErr result (IsMissing shown.now purpose items.now) }
+        (λ found. found.items ≡ named_in shown.now (texts_of folder.now) purpose items.now) }
+    ensures met { IfOk result (λ found. first_missing shown.now (texts_of folder.now) purpose items.now ≡ None) }
+    ensures err { IfErr result (IsMissing shown.now (texts_of folder.now) purpose items.now) }
 {
     let current = shown.current;
-    match item.kind {
-        Kind::Number(k) => select_message(alloc, item, k, shown, purpose),
-        Kind::Current => select_message(alloc, item, u64::from(current), shown, purpose),
-        Kind::Next => select_found(
-            alloc,
-            item,
-            next_of(shown, purpose, current),
-            shown,
-            purpose,
-        ),
-        Kind::Previous => select_found(
-            alloc,
-            item,
-            previous_of(shown, purpose, current),
-            shown,
-            purpose,
-        ),
-        Kind::First => select_found(alloc, item, first_of(shown, purpose), shown, purpose),
-        Kind::Last => select_found(alloc, item, last_of(shown, purpose), shown, purpose),
-        _ => select_named(alloc, items, shown, purpose),
+    match &item.kind {
+        Kind::Number(k) => select_message(alloc, item, *k, shown, folder, purpose),
+        Kind::Current => select_message(alloc, item, u64::from(current), shown, folder, purpose),
+        Kind::Next => {
+            let next = next_of(shown, purpose, current);
+            select_found(alloc, item, next, shown, folder, purpose)
+        }
+        Kind::Previous => {
+            let previous = previous_of(shown, purpose, current);
+            select_found(alloc, item, previous, shown, folder, purpose)
+        }
+        Kind::First => {
+            let first = first_of(shown, purpose);
+            select_found(alloc, item, first, shown, folder, purpose)
+        }
+        Kind::Last => {
+            let last = last_of(shown, purpose);
+            select_found(alloc, item, last, shown, folder, purpose)
+        }
+        _ => select_named(alloc, items, shown, folder, purpose),
     }
 }
 
@@ -147,17 +161,18 @@ fn select_found(
     item: &Item,
     message: Option<u32>,
     shown: &Shown,
+    folder: &Folder,
     purpose: Purpose,
 ) -> Result<Vec<u32>, ListError>
     requires valid { IsShown shown.now }
-    requires named { (n : ℕ) → names shown.now purpose item.now n ≡ is_message message n }
+    requires named { (n : ℕ) → names shown.now (texts_of folder.now) purpose item.now n ≡ is_message message n }
     ensures ok { IfOk result
-        (λ found. found.items ≡ filter (is_named shown.now purpose (item.now ∷ [])) (base_of shown.now purpose)) }
-    ensures met { IfOk result (λ found. first_missing shown.now purpose (item.now ∷ []) ≡ None) }
-    ensures err { IfErr result (IsMissing shown.now purpose (item.now ∷ [])) }
+        (λ found. found.items ≡ named_in shown.now (texts_of folder.now) purpose (item.now ∷ [])) }
+    ensures met { IfOk result (λ found. first_missing shown.now (texts_of folder.now) purpose (item.now ∷ []) ≡ None) }
+    ensures err { IfErr result (IsMissing shown.now (texts_of folder.now) purpose (item.now ∷ [])) }
 {
     match message {
-        Some(n) => select_message(alloc, item, u64::from(n), shown, purpose),
+        Some(n) => select_message(alloc, item, u64::from(n), shown, folder, purpose),
         None => Err(no_such(alloc, &item.word)),
     }
 }
@@ -168,14 +183,15 @@ fn select_message(
     item: &Item,
     k: u64,
     shown: &Shown,
+    folder: &Folder,
     purpose: Purpose,
 ) -> Result<Vec<u32>, ListError>
     requires valid { IsShown shown.now }
-    requires alone { (n : ℕ) → names shown.now purpose item.now n ≡ (n == k) }
+    requires alone { (n : ℕ) → names shown.now (texts_of folder.now) purpose item.now n ≡ (n == k) }
     ensures ok { IfOk result
-        (λ found. found.items ≡ filter (is_named shown.now purpose (item.now ∷ [])) (base_of shown.now purpose)) }
-    ensures met { IfOk result (λ found. first_missing shown.now purpose (item.now ∷ []) ≡ None) }
-    ensures err { IfErr result (IsMissing shown.now purpose (item.now ∷ [])) }
+        (λ found. found.items ≡ named_in shown.now (texts_of folder.now) purpose (item.now ∷ [])) }
+    ensures met { IfOk result (λ found. first_missing shown.now (texts_of folder.now) purpose (item.now ∷ []) ≡ None) }
+    ensures err { IfErr result (IsMissing shown.now (texts_of folder.now) purpose (item.now ∷ [])) }
 {
     match message_in_base(shown, purpose, k) {
         Some(n) => Ok(single(alloc, n)?),
@@ -217,19 +233,20 @@ fn select_named(
     alloc: Global,
     items: &[Item],
     shown: &Shown,
+    folder: &Folder,
     purpose: Purpose,
 ) -> Result<Vec<u32>, ListError>
     requires { IsShown shown.now }
     ensures ok { IfOk result
-        (λ found. found.items ≡ filter (is_named shown.now purpose items.now) (base_of shown.now purpose)) }
-    ensures met { IfOk result (λ found. first_missing shown.now purpose items.now ≡ None) }
-    ensures err { IfErr result (IsMissing shown.now purpose items.now) }
+        (λ found. found.items ≡ named_in shown.now (texts_of folder.now) purpose items.now) }
+    ensures met { IfOk result (λ found. first_missing shown.now (texts_of folder.now) purpose items.now ≡ None) }
+    ensures err { IfErr result (IsMissing shown.now (texts_of folder.now) purpose items.now) }
 {
     let order = shown.order.items();
     let landmarks = landmarks_of(alloc, shown, purpose)?;
     let mut marks = unmarked(alloc, order.len())?;
     for item in items {
-        let found = mark(alloc, item, shown, &landmarks, &mut marks)?;
+        let found = mark(alloc, item, shown, folder, &landmarks, &mut marks)?;
         if !found {
             return Err(no_such(alloc, &item.word));
         }
@@ -249,17 +266,19 @@ fn mark(
     alloc: Global,
     item: &Item,
     shown: &Shown,
+    folder: &Folder,
     landmarks: &Landmarks,
     marks: &mut [bool],
 ) -> Result<bool, Memory>
     requires valid { IsShown shown.now }
     requires landmarks { AreLandmarks shown.now landmarks.now }
     requires long { length marks.old ≡ length shown.now.order }
-    ensures marks { IfOk result (λ found. AddsMarks shown.now landmarks.now.purpose item.now marks.old marks.new) }
-    ensures found { IfOk result (λ found. found ≡ finds shown.now landmarks.now.purpose item.now) }
+    ensures marks { let texts = texts_of folder.now in
+        IfOk result (λ found. AddsMarks shown.now texts landmarks.now.purpose item.now marks.old marks.new) }
+    ensures found { IfOk result (λ found. found ≡ finds shown.now (texts_of folder.now) landmarks.now.purpose item.now) }
 {
-    let span = span_of(shown, item.kind, landmarks);
-    mark_span(alloc, item, shown, landmarks.purpose, span, marks)
+    let span = span_of(shown, &item.kind, landmarks);
+    mark_span(alloc, item, shown, folder, landmarks.purpose, span, marks)
 }
 
 // Marks the places of the messages of the base set that an item's word names, and answers whether there is one. The
@@ -268,39 +287,41 @@ fn mark_span(
     alloc: Global,
     item: &Item,
     shown: &Shown,
+    folder: &Folder,
     purpose: Purpose,
     span: Span,
     marks: &mut [bool],
 ) -> Result<bool, Memory>
     requires span { IsSpanOf shown.now (kind_reaches shown.now purpose item.now.kind) span }
     requires long { length marks.old ≡ length shown.now.order }
-    ensures marks { IfOk result (λ found. AddsMarks shown.now purpose item.now marks.old marks.new) }
-    ensures found { IfOk result (λ found. found ≡ finds shown.now purpose item.now) }
+    ensures marks { IfOk result (λ found. AddsMarks shown.now (texts_of folder.now) purpose item.now marks.old marks.new) }
+    ensures found { IfOk result (λ found. found ≡ finds shown.now (texts_of folder.now) purpose item.now) }
 {
     let order = shown.order.items();
     let mut found = false;
     for place in span.from..span.to {
-        let hit = is_hit(alloc, item, shown, purpose, order[place])?;
+        let hit = is_hit(alloc, item, shown, folder, purpose, order[place])?;
         marks[place] |= hit;
         found |= hit;
     }
     Ok(found)
 }
 
-// Whether message `n` is in the base set and its row is what the item's word asks.
+// Whether message `n` is in the base set, and its row and its text are what the item's word asks.
 fn is_hit(
     alloc: Global,
     item: &Item,
     shown: &Shown,
+    folder: &Folder,
     purpose: Purpose,
     n: u32,
 ) -> Result<bool, Memory>
-    ensures { IfOk result (λ hit. hit ≡ is_hit shown.now purpose item.now n) }
+    ensures { IfOk result (λ hit. hit ≡ is_hit shown.now (texts_of folder.now) purpose item.now n) }
 {
     match row_at(shown, n) {
         Some(row) => {
             if is_for(purpose, row.mark) {
-                fits(alloc, item, row)
+                fits(alloc, item, text_at(folder, n), row)
             } else {
                 Ok(false)
             }
@@ -309,15 +330,44 @@ fn is_hit(
     }
 }
 
-// Whether a row is what the item's word asks.
-fn fits(alloc: Global, item: &Item, row: &Row) -> Result<bool, Memory>
-    ensures { IfOk result (λ fit. fit ≡ kind_fits item.now.kind item.now.word row.now) }
+// The text of message `n`; empty if the folder has no such message.
+fn text_at(folder: &Folder, n: u32) -> &[u8]
+    ensures { result.now ≡ text_at (texts_of folder.now) n }
 {
-    match item.kind {
+    let place = (n as usize).saturating_sub(1);
+    if place < folder.count() {
+        folder.message(place).text()
+    } else {
+        &[]
+    }
+}
+
+// Whether a text and its row are what the item's word asks.
+fn fits(alloc: Global, item: &Item, text: &[u8], row: &Row) -> Result<bool, Memory>
+    ensures { IfOk result (λ fit. fit ≡ kind_fits item.now.kind item.now.word text.now row.now) }
+{
+    match &item.kind {
         Kind::Address => Ok(is_author(item.word.bytes(), row.texts.author())),
         Kind::Subject => holds_ascii(alloc, without_slash(&item.word), row.texts.subject()),
-        Kind::Letter(letter) => Ok(has_letter(letter, row.mark)),
+        Kind::Letter(letter) => Ok(has_letter(*letter, row.mark)),
+        Kind::Search(criterion) => {
+            let facts = facts_of(row.mark);
+            matches(alloc, criterion, text, &facts)
+        }
         _ => Ok(true),
+    }
+}
+
+// What a criterion asks of a mark.
+fn facts_of(mark: Mark) -> Facts
+    ensures { result ≡ facts_of mark }
+{
+    Facts {
+        seen: mark.seen,
+        deleted: !is_live(mark),
+        answered: mark.flags.answered,
+        flagged: mark.flags.flagged,
+        draft: mark.flags.draft,
     }
 }
 

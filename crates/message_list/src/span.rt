@@ -76,17 +76,17 @@ fn place_in(shown: &Shown, places: &[usize], k: u64) -> Option<usize>
     Some(places[k as usize - 1])
 }
 
-// The places of the messages that a word of this kind names, as far as no row is asked.
-pub(crate) fn span_of(shown: &Shown, kind: Kind, marks: &Landmarks) -> Span
+// The places of the messages that a word of this kind names, as far as neither row nor text is asked.
+pub(crate) fn span_of(shown: &Shown, kind: &Kind, marks: &Landmarks) -> Span
     requires valid { IsShown shown.now }
     requires marks { AreLandmarks shown.now marks.now }
-    ensures { IsSpanOf shown.now (kind_reaches shown.now marks.now.purpose kind) result }
+    ensures { IsSpanOf shown.now (kind_reaches shown.now marks.now.purpose kind.now) result }
 {
     match kind {
-        Kind::Number(k) => span_of_message(shown, marks, Some(k)),
+        Kind::Number(k) => span_of_message(shown, marks, Some(*k)),
         Kind::Range(a, b) => {
-            let from = end_place(shown, a, marks);
-            let to = end_place(shown, b, marks);
+            let from = end_place(shown, *a, marks);
+            let to = end_place(shown, *b, marks);
             span_between(shown, from, to)
         }
         Kind::Next => span_of_message(shown, marks, marks.next.map(u64::from)),
@@ -94,7 +94,7 @@ pub(crate) fn span_of(shown: &Shown, kind: Kind, marks: &Landmarks) -> Span
         Kind::Current => span_of_message(shown, marks, Some(u64::from(shown.current))),
         Kind::First => span_of_message(shown, marks, marks.first.map(u64::from)),
         Kind::Last => span_of_message(shown, marks, marks.last.map(u64::from)),
-        Kind::All | Kind::Address | Kind::Subject | Kind::Letter(_) => Span {
+        Kind::All | Kind::Address | Kind::Subject | Kind::Letter(_) | Kind::Search(_) => Span {
             from: 0,
             to: shown.order.items().len(),
         },

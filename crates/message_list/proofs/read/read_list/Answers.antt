@@ -11,14 +11,14 @@ pub returns-in-None-clause-err : goal.returns-in-None-clause-err
 returns-in-None-clause-err c =
     let word : List ℕ = c.word-item.result in
     bad_list c.args.words.now c.loop-word.word-index word c.bad_word.result (omega arith) c.word-item.is (λ k lt. c.loop-word.invariant.good k word lt)
-    (ap is_none (ap kind_of (sym c.bytes.ensures) ∙ sym c.kind_of.ensures ∙ c.in-None.is)) c.bad_word.ensures
+    (ap is_none (ap kind_of (sym c.bytes.ensures) ∙ sym c.in_ok-kind.ensures ∙ c.in-None.is)) c.bad_word.ensures
 
 pub loop-word-preserved : goal.loop-word-preserved
 loop-word-preserved c =
     let word : List ℕ = c.word-item.result in
     let i = c.loop-word.word-index in
     let same : c.in_ok-word-in-Some.word ≡ word = c.in_ok-word-in-Some.ensures ∙ c.bytes-in-Some.ensures in
-    let kind = ap kind_of (sym c.bytes.ensures) ∙ sym c.kind_of.ensures ∙ c.in-Some.is in
+    let kind = ap kind_of (sym c.bytes.ensures) ∙ sym c.in_ok-kind.ensures ∙ c.in-Some.is in
     let good : Item → Type 0 = λ (x : Item). kind_of x.word ≡ Some x.kind in
     record {
       in_order = words_more c.args.words.now i word c.loop-word.items c.push.new.self _ (omega arith) c.word-item.is c.loop-word.invariant.in_order c.in_ok-push-in-Some.ensures.ok same;
