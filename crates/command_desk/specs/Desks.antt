@@ -1,5 +1,5 @@
 -- The state of a session between two commands.
-use Rattle.std.specs.Prelude.{◌≡◌, ◌≤◌, ℕ, ◌-◌, List, [], map, length, slice_get, unwrap_or, IfOk, IfSome}
+use Rattle.std.specs.Prelude.{◌≡◌, ◌≤◌, ℕ, List, map, length, IfOk, IfSome}
 use Rattle.std.specs.List.{AllZip}
 use Rattle.std.specs.declared.result.Result.{Result}
 use Rattle.mbox_scan.specs.Mailbox.{texts_of}
@@ -8,6 +8,7 @@ use Rattle.message_state.specs.ShownRows.{IsShown}
 use Rattle.message_state.specs.Rows.{IsRow}
 use Rattle.message_state.specs.Status.{mark_of}
 use Rattle.message_state.specs.declared.shown.Shown.{Shown}
+use Rattle.message_list.specs.Naming.{text_at}
 use Rattle.command_desk.specs.declared.desk.Desk.{Desk}
 use Rattle.command_desk.specs.declared.steps.Steps.{Steps}
 
@@ -25,7 +26,7 @@ pub record IsDesk (desk : Desk) : Type 0 where
 
 -- the text of message n, numbered from 1
 abbrev pub message_text : Desk → ℕ → List ℕ
-message_text desk n = unwrap_or (slice_get (texts_of desk.folder.folder) (n - 1)) []
+message_text desk n = text_at (texts_of desk.folder.folder) n
 
 -- n is the number of a message
 abbrev pub IsMessageOf : Shown → ℕ → Type 0

@@ -3,6 +3,7 @@ use Rattle.std.specs.Prelude.{◌≡◌, ℕ, Bool, false, ◌==◌, List, [], �
 use Rattle.std.specs.List.{list_any}
 use Rattle.std.specs.declared.result.Result.{Result}
 use Rattle.std.specs.declared.result.Result.TheVariants.{Ok, Err}
+use Rattle.mbox_scan.specs.Mailbox.{texts_of}
 use Rattle.message_list.specs.declared.list.ListError.{ListError}
 use Rattle.message_list.specs.declared.list.ListError.TheVariants as error
 use Rattle.message_list.specs.declared.list.Purpose.{Purpose}
@@ -27,7 +28,7 @@ or_list_line (Err e) = Err (list_line e)
 
 -- the selected messages of the folder in view order
 abbrev pub chosen : Purpose → Desk → List (List ℕ) → OrFault (List ℕ)
-chosen purpose desk words = or_list_line (of_list.chosen purpose desk.shown words)
+chosen purpose desk words = or_list_line (of_list.chosen purpose desk.shown (texts_of desk.folder.folder) words)
 
 -- the one message of a selection, for the command of this name
 abbrev pub single : List ℕ → List ℕ → OrFault ℕ

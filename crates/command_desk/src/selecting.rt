@@ -46,7 +46,7 @@ pub fn chosen(
     ensures some { IfOk result (λ ns. 0 < length ns) }
     ensures messages { IfOk result (λ ns. All (IsMessageOf desk.now.shown) ns) }
 {
-    match message_list::chosen(alloc, words, &desk.shown, purpose) {
+    match message_list::chosen(alloc, words, &desk.shown, &desk.folder.folder, purpose) {
         Ok(numbers) => Ok(numbers),
         Err(error) => Err(list_refusal(alloc, &error)),
     }
