@@ -25,7 +25,7 @@ use Rattle.compose_tilde.specs.declared.escape.Escape.{Escape}
 use Rattle.compose_tilde.specs.declared.escape.Escape.TheVariants.{End, Shell, Command, Letters, Sign, LongSign, Value, Add, Subject, Header, Dead, Read, Forward, Quote, Print, Quit, Exit, Write, Pipe}
 use Rattle.compose_tilde.specs.Escapes.{letter_lines}
 use Rattle.compose_tilde.specs.declared.reading.Given.{Given}
-use Rattle.compose_tilde.specs.Views.{View}
+use Rattle.compose_tilde.specs.Views.{View, texts}
 use Rattle.compose_tilde.specs.Values.{with_more, with_subject, appended, field_name, printed}
 use Rattle.compose_tilde.specs.Quoting.{all_forwarded, all_quoted}
 use Rattle.compose_tilde.specs.Steps.{Step, goes_on, says, asks}
@@ -78,8 +78,8 @@ meaning Subject m given view = goes_on m (with_subject m.draft given.whole)
 meaning Header m given view = ask_for m (Some (part.Names To))
 meaning Dead m given view = asks m wait.File need.Dead
 meaning Read m given view = source m given.whole
-meaning (Forward how) m given view = take_messages m (all_forwarded view how) (chosen Live view.shown given.words)
-meaning (Quote how) m given view = take_messages m (all_quoted view how) (chosen Live view.shown given.words)
+meaning (Forward how) m given view = take_messages m (all_forwarded view how) (chosen Live view.shown (texts view.folder) given.words)
+meaning (Quote how) m given view = take_messages m (all_quoted view how) (chosen Live view.shown (texts view.folder) given.words)
 meaning Print m given view = says m (printed m.draft)
 meaning Quit m given view = Ok (m, need.Quit)
 meaning Exit m given view = Ok (m, need.Drop)

@@ -4,7 +4,7 @@ use Rattle.std.specs.Option.{option_map, option_and_then}
 use Rattle.std.specs.Str.{bytes_eq}
 use Rattle.mail_headers.specs.Field.{trim_start, trim_end}
 use Rattle.mailx_vars.specs.Settings.{Settings, value_of, is_set}
-use Rattle.line_words.specs.Words.{words_of}
+use Rattle.line_words.specs.Words.{words_of, list_words_of}
 use Rattle.compose_tilde.specs.declared.reading.Given.{Given}
 use Rattle.compose_tilde.specs.declared.escape.Behind.{Behind}
 use Rattle.compose_tilde.specs.declared.escape.Behind.TheVariants as behind
@@ -48,6 +48,10 @@ as_is bytes = record { whole = bytes; words = [] }
 abbrev pub cut : List ℕ → Option Given
 cut bytes = option_map (λ words. record { whole = bytes; words = words }) (words_of bytes)
 
+-- the same for a list of messages
+abbrev pub list_cut : List ℕ → Option Given
+list_cut bytes = option_map (λ words. record { whole = bytes; words = words }) (list_words_of bytes)
+
 -- what an escape is given that takes this: none if an argument is missing, if one stands that it doesn't take, if `!`
 -- has no command after it, and if a quote isn't closed
 abbrev pub given_for : Behind → List ℕ → Option Given
@@ -56,4 +60,4 @@ given_for behind.Anything bytes = Some (as_is bytes)
 given_for behind.Argument bytes = if is_empty bytes then None else Some (as_is bytes)
 given_for behind.Source bytes = if is_empty bytes || bytes_eq bytes (codes "!") then None else Some (as_is bytes)
 given_for behind.Words bytes = if is_empty bytes then None else cut bytes
-given_for behind.List bytes = cut bytes
+given_for behind.List bytes = list_cut bytes

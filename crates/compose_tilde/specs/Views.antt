@@ -1,10 +1,11 @@
 -- What a line of a draft is read with.
-use Rattle.std.specs.Prelude.{◌≡◌, ℕ, ◌-◌, Bool, List, [], length, slice_get, unwrap_or, Option, Some, None}
+use Rattle.std.specs.Prelude.{◌≡◌, ℕ, Bool, List, [], length, Option, Some, None}
 use Rattle.std.specs.Option.{option_map}
 use Rattle.mbox_scan.specs.Mailbox.{texts_of}
 use Rattle.mailx_vars.specs.Settings.{Settings}
 use Rattle.message_state.specs.declared.shown.Shown.{Shown}
 use Rattle.message_state.specs.ShownRows.{IsShown}
+use Rattle.message_list.specs.Naming.{text_at}
 use Rattle.message_show.specs.FieldSets.{FieldNames}
 use Rattle.rc_conditionals.specs.declared.conditions.Mode.{Mode}
 use Rattle.compose_tilde.specs.declared.view.ComposeView.{ComposeView}
@@ -41,4 +42,4 @@ pub record IsView (view : View) : Type 0 where
 
 -- the text of message n, numbered from 1
 abbrev pub message_text : View → ℕ → List ℕ
-message_text view n = unwrap_or (slice_get (texts view.folder) (n - 1)) []
+message_text view n = text_at (texts view.folder) n

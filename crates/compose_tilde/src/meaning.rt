@@ -3,7 +3,7 @@ ghost use Rattle.std.specs.Prelude.{◌≡◌, ◌++◌, Some, None, Ok, Err, If
 ghost use Rattle.draft_text.specs.Texts.{joined};
 ghost use Rattle.message_list.specs.declared.list.Purpose.TheVariants.{Live};
 ghost use Rattle.message_list.specs.Choosing.{chosen};
-ghost use Rattle.compose_tilde.specs.Views.{view_of, IsView};
+ghost use Rattle.compose_tilde.specs.Views.{view_of, texts, IsView};
 ghost use Rattle.compose_tilde.specs.Values.{with_more, with_subject, appended, printed};
 ghost use Rattle.compose_tilde.specs.Quoting.{all_forwarded, all_quoted};
 ghost use Rattle.compose_tilde.specs.Escapes.{letter_lines};
@@ -12,7 +12,7 @@ ghost use Rattle.compose_tilde.specs.Meanings.{sign, command, ask_for, source, t
 
 use crate::escape::Escape;
 use crate::machine::{Machine, Names, Part, Wait};
-use crate::messages::{all_forwarded, all_quoted};
+use crate::messages::{all_forwarded, all_quoted, chosen};
 use crate::need::{ComposeError, Need};
 use crate::reading::Given;
 use crate::saying::{letter_lines, printed, prompt};
@@ -20,7 +20,7 @@ use crate::values::{add_names, append, append_line, set_subject};
 use crate::view::ComposeView;
 use mail_text::{Memory, Text};
 use mailx_vars::Vars;
-use message_list::{ListError, Purpose, chosen};
+use message_list::ListError;
 use message_show::How;
 use rc_conditionals::Mode;
 use std::alloc::Global;
@@ -189,11 +189,11 @@ fn forward(
     view: &ComposeView<'_>,
 ) -> Result<Need, ComposeError>
     requires { IsView (view_of view.now) }
-    ensures means { Means result machine.new
-        (take_messages machine.old (all_forwarded (view_of view.now) how) (chosen Live view.now.shown.now words.now)) }
+    ensures means { let seen = view_of view.now in Means result machine.new
+        (take_messages machine.old (all_forwarded seen how) (chosen Live seen.shown (texts seen.folder) words.now)) }
     ensures stays { OnErr result (machine.new ≡ machine.old) }
 {
-    match chosen(alloc, words, view.shown, Purpose::Live) {
+    match chosen(alloc, words, view) {
         Ok(numbers) => {
             let text = all_forwarded(alloc, view, how, numbers.items())?;
             take(machine, text.bytes())
@@ -211,11 +211,11 @@ fn quote(
     view: &ComposeView<'_>,
 ) -> Result<Need, ComposeError>
     requires { IsView (view_of view.now) }
-    ensures means { Means result machine.new
-        (take_messages machine.old (all_quoted (view_of view.now) how) (chosen Live view.now.shown.now words.now)) }
+    ensures means { let seen = view_of view.now in Means result machine.new
+        (take_messages machine.old (all_quoted seen how) (chosen Live seen.shown (texts seen.folder) words.now)) }
     ensures stays { OnErr result (machine.new ≡ machine.old) }
 {
-    match chosen(alloc, words, view.shown, Purpose::Live) {
+    match chosen(alloc, words, view) {
         Ok(numbers) => {
             let text = all_quoted(alloc, view, how, numbers.items())?;
             take(machine, text.bytes())

@@ -1,18 +1,51 @@
 // The messages that a draft takes.
-ghost use Rattle.std.specs.Prelude.{◌≡◌, ◌≤◌, ◌<◌, ◌-◌, ◌++◌, All, IfOk, OnOk, IfErr, length, map};
+ghost use Rattle.std.specs.Prelude.{◌≡◌, ◌≤◌, ◌<◌, ◌-◌, ◌++◌, [], All, IfOk, OnOk, IfErr, length, map};
 ghost use Rattle.std.specs.List.{flat_map};
 ghost use Rattle.mail_text.specs.Lines.{with_feed};
 ghost use Rattle.message_show.specs.ShownText.{shown_text};
-ghost use Rattle.message_list.specs.Choosing.{IsMessage};
+ghost use Rattle.message_state.specs.ShownRows.{IsShown};
+ghost use Rattle.message_list.specs.declared.list.Purpose.TheVariants.{Live};
+ghost use Rattle.message_list.specs.Choosing.{chosen, IsChosen, IsMessage};
 ghost use Rattle.compose_tilde.specs.Views.{view_of, IsView, message_text, texts};
 ghost use Rattle.compose_tilde.specs.Quoting.{forwarded, indent, indented, quoted, all_forwarded, all_quoted};
 
 use crate::need::ComposeError;
 use crate::view::ComposeView;
-use mail_text::{Memory, Text, lines};
+use mail_text::{Items, Memory, Text, lines};
 use mailx_vars::Vars;
+use mbox_scan::Folder;
+use message_list::{ListError, Purpose};
 use message_show::{How, shown_text};
+use message_state::Shown;
 use std::alloc::Global;
+
+// The messages that the words of a list select; no folder counts as an empty one.
+pub(crate) fn chosen(
+    alloc: Global,
+    words: &[Text],
+    view: &ComposeView<'_>,
+) -> Result<Items<u32>, ListError>
+    requires { IsView (view_of view.now) }
+    ensures chosen { IsChosen result (chosen Live view.now.shown.now (texts (view_of view.now).folder) words.now) }
+    ensures messages { IfOk result (λ ns. All (IsMessage view.now.shown.now) ns) }
+{
+    match view.folder {
+        Some(folder) => message_list::chosen(alloc, words, view.shown, folder, Purpose::Live),
+        None => chosen_of_none(alloc, words, view.shown),
+    }
+}
+
+// The same without a folder.
+fn chosen_of_none(alloc: Global, words: &[Text], shown: &Shown) -> Result<Items<u32>, ListError>
+    requires { IsShown shown.now }
+    ensures chosen { IsChosen result (chosen Live shown.now [] words.now) }
+    ensures messages { IfOk result (λ ns. All (IsMessage shown.now) ns) }
+{
+    match Folder::open(alloc, Text::new(alloc)) {
+        Ok(none) => message_list::chosen(alloc, words, shown, &none, Purpose::Live),
+        Err(_) => Err(ListError::Memory),
+    }
+}
 
 // Puts a message as it is printed, without the line of its number.
 fn put_forwarded(

@@ -2,11 +2,11 @@
 ghost use Rattle.std.specs.Prelude.{◌≡◌, IfOk};
 ghost use Rattle.std.specs.Option.{option_copied};
 ghost use Rattle.mail_headers.specs.Field.{trim_start, trim_end};
-ghost use Rattle.compose_tilde.specs.Reading.{escape_byte, reading_of, behind_mark, argument, given_for, as_is, cut, is_end};
+ghost use Rattle.compose_tilde.specs.Reading.{escape_byte, reading_of, behind_mark, argument, given_for, as_is, cut, list_cut, is_end};
 ghost use Rattle.compose_tilde.specs.Written.{written_of};
 
 use crate::escape::Behind;
-use line_words::words_of;
+use line_words::{list_words_of, words_of};
 use mail_text::{Items, Memory, Text, is_blank};
 use mailx_vars::Vars;
 use std::alloc::Global;
@@ -137,6 +137,18 @@ fn cut(alloc: Global, bytes: &[u8]) -> Result<Option<Given>, Memory>
     }
 }
 
+// The same for a list of messages.
+fn list_cut(alloc: Global, bytes: &[u8]) -> Result<Option<Given>, Memory>
+    ensures { IfOk result (λ found. found ≡ list_cut bytes.now) }
+{
+    let whole = Text::copy(alloc, bytes)?;
+    let words = list_words_of(alloc, bytes)?;
+    match words {
+        Some(words) => Ok(Some(Given { whole, words })),
+        None => Ok(None),
+    }
+}
+
 // What an escape is given that takes this, if its argument is of use.
 pub(crate) fn given_for(alloc: Global, takes: Behind, bytes: &[u8]) -> Result<Option<Given>, Memory>
     ensures { IfOk result (λ found. found ≡ given_for takes bytes.now) }
@@ -148,6 +160,7 @@ pub(crate) fn given_for(alloc: Global, takes: Behind, bytes: &[u8]) -> Result<Op
         Behind::Argument | Behind::Source | Behind::Words if bytes.is_empty() => Ok(None),
         Behind::Source if bytes == b"!".as_slice() => Ok(None),
         Behind::Argument | Behind::Source => as_is(alloc, bytes),
-        Behind::Words | Behind::List => cut(alloc, bytes),
+        Behind::Words => cut(alloc, bytes),
+        Behind::List => list_cut(alloc, bytes),
     }
 }
