@@ -33,7 +33,7 @@ pub fn put(vars: &Vars, messages: &[Text], case: &[Text], out: &mut Out) {
 }
 
 // The bytes of a folder with the texts of these messages.
-fn folder_bytes(messages: &[Text], out: &mut Out) -> Text {
+pub fn folder_bytes(messages: &[Text], out: &mut Out) -> Text {
     let mut bytes = Text::new(out.alloc());
     for message in messages {
         let text = match memchr(b' ', message.bytes()) {

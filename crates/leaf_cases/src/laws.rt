@@ -62,6 +62,7 @@ fn speak_of_sessions() {
     a_text_has_one_row();
     each_text_has_a_row();
     mail_search::one_criterion();
+    mail_search::criteria_are_found();
     line_words::a_word_names_one_command();
     line_words::lines_are_cut_into_words();
     line_words::words_read_back();

@@ -1,11 +1,15 @@
-// Cases of message lists, each over the messages that are kept and with the pairs of places that turn the view.
+// Cases of message lists, each over the messages that are kept and with the pairs of places that turn the view. In those
+// of criteria the words are cut as those of a line.
 ghost use Rattle.message_state.specs.ShownRows.{IsShown};
 
 use crate::case::{field, number, numbers, parts, words};
+use crate::composing::folder_bytes;
 use crate::states::mark_in;
 use crate::view::shown_of;
 use case_blocks::Answer;
+use line_words::list_words_of;
 use mail_text::{Memory, Text};
+use mbox_scan::Folder;
 use message_list::{
     Purpose, author_local_part, before_at, first_live, in_base, is_live, next_live, place_of,
     previous_live, read_list, select,
@@ -24,13 +28,13 @@ pub fn put(messages: &[Text], case: &[Text], out: &mut Answer) {
 fn put_in_view(messages: &[Text], case: &[Text], out: &mut Answer) {
     let turns = numbers(words(case, 2), out);
     match shown_of(messages, turns.items(), &[], number(case, 3), out) {
-        Ok(Some(shown)) => put_of(&shown, case, out),
+        Ok(Some(shown)) => put_of(&shown, messages, case, out),
         Ok(None) => out.put_bad(),
         Err(Memory) => out.lack(),
     }
 }
 
-fn put_of(shown: &Shown, case: &[Text], out: &mut Answer)
+fn put_of(shown: &Shown, messages: &[Text], case: &[Text], out: &mut Answer)
     requires { IsShown shown.now }
 {
     let purpose = purpose_of(field(case, 4));
@@ -41,8 +45,13 @@ fn put_of(shown: &Shown, case: &[Text], out: &mut Answer)
         "in base" => out.put_flag(in_base(shown, purpose, number(case, 5))),
         "select" => {
             let list = parts(words(case, 5), ' ', out);
-            put_selected(shown, purpose, list.items(), out);
+            put_in_folder(shown, messages, purpose, list.items(), out);
         }
+        "criteria" => match list_words_of(out.alloc(), field(case, 5)) {
+            Ok(Some(list)) => put_in_folder(shown, messages, purpose, list.items(), out),
+            Ok(None) => out.put(b"open quote"),
+            Err(Memory) => out.lack(),
+        },
         _ => out.put_bad(),
     }
 }
@@ -66,15 +75,36 @@ fn put_near(shown: &Shown, k: u32, out: &mut Answer)
     out.put_found(previous_live(shown, k));
 }
 
+// What words select in the folder of these messages; in an empty one, if they make no mailbox.
+fn put_in_folder(
+    shown: &Shown,
+    messages: &[Text],
+    purpose: Purpose,
+    words: &[Text],
+    out: &mut Answer,
+)
+    requires { IsShown shown.now }
+{
+    let bytes = folder_bytes(messages, out);
+    let alloc = out.alloc();
+    match Folder::open(alloc, bytes) {
+        Ok(folder) => put_selected(shown, &folder, purpose, words, out),
+        Err(_) => match Folder::open(alloc, Text::new(alloc)) {
+            Ok(folder) => put_selected(shown, &folder, purpose, words, out),
+            Err(_) => out.put_bad(),
+        },
+    }
+}
+
 // What words select, or why they select nothing.
-fn put_selected(shown: &Shown, purpose: Purpose, words: &[Text], out: &mut Answer)
+fn put_selected(shown: &Shown, folder: &Folder, purpose: Purpose, words: &[Text], out: &mut Answer)
     requires { IsShown shown.now }
 {
     let list = match read_list(out.alloc(), words) {
         Ok(list) => list,
         Err(error) => return out.put_shown(&error),
     };
-    match select(out.alloc(), &list, shown, purpose) {
+    match select(out.alloc(), &list, shown, folder, purpose) {
         Ok(found) => out.put_numbers(found.as_slice()),
         Err(error) => out.put_shown(&error),
     }
