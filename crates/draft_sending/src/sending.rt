@@ -3,13 +3,14 @@ ghost use Rattle.std.specs.Prelude.{◌≡◌, ◌++◌, List, ℕ, Option, Some
 ghost use Rattle.host_port.specs.Ran.{Ran};
 ghost use Rattle.mail_dates.specs.Clock.{IsPrintable};
 ghost use Rattle.folder_change.specs.Changes.{name_of};
-ghost use Rattle.session_play.specs.Play.{Play, Ask, Say, Goes};
+ghost use Rattle.session_play.specs.Play.{Play, Ask, Say, Go, Goes};
 ghost use Rattle.session_play.specs.Steps.{refused};
 ghost use Rattle.command_desk.specs.Answers.{OrFault, Means};
 ghost use Rattle.send_rules.specs.Addressing.{addressees};
 ghost use Rattle.send_rules.specs.Lines.{names_refused, sender_ended};
 ghost use Rattle.send_rules.specs.Recording.{dead, recorded};
 ghost use Rattle.draft_sending.specs.Sending.{addressing, after_record, after_sender, buried, burying, dead_reply, done, ended_draft, ended_with, given_up, letter_of, lost, lost_now, not_run, posting, quit_draft, recording, saved_one, sending, text_of, unsent, unsent_by};
+ghost use Rattle.session_state.specs.declared.status.Status.{Status};
 ghost use Rattle.session_state.specs.States.{IsState, KeepsButDraft, KeepsButOutcome, with_outcome, without_draft};
 ghost use Rattle.session_state.specs.Answers.{after_asks, in_play, next_of, LineCaused, EndsByAsk, EndsByLine};
 
@@ -26,7 +27,9 @@ use send_rules::{
 };
 use sender_port::{SendError, send};
 use session_play::now;
-use session_state::{Asked, Flow, Outcome, RunError, SessionState, commit, not_sent, refuse, say};
+use session_state::{
+    Asked, Flow, Outcome, RunError, SessionState, commit, go_on, not_sent, say, say_text,
+};
 use std::alloc::Global;
 
 /// A draft, and the moment at which it was done.
@@ -51,14 +54,14 @@ fn say_dead<H: Host>(
     state: &SessionState,
     host: &mut H,
     name: &[u8],
-) -> Result<Flow, RunError>
+) -> Result<(), RunError>
     ensures ran { Ran H.world host.old host.new
-        (λ es. Goes (refused state.now (dead_reply name.now)) es (in_play (next_of state.now) result)) }
-    ensures go { IfOk result (λ flow. flow ≡ Flow.Go) }
+        (λ es. Goes (refused {R = Status} state.now (dead_reply name.now)) es
+        (in_play (λ u. Go state.now) result)) }
     ensures cause { LineCaused (H.world.counts host.old) (H.world.counts host.new) result }
 {
     let line = reply(alloc, name, b"Dead", 1)?;
-    refuse(state, host, &line)
+    say_text(state, host, &line)
 }
 
 // What follows the commit of a dead letter to this file.
@@ -78,10 +81,10 @@ fn buried<H: Host>(
     ensures cause { LineCaused (H.world.counts host.old) (H.world.counts host.new) result }
 {
     match asked {
-        Asked::On | Asked::Over => say_dead(alloc, state, host, name),
+        Asked::On | Asked::Over => go_on(say_dead(alloc, state, host, name)),
         Asked::Refused { line } => {
             state.outcome = Outcome::Refused;
-            refuse(state, host, &line)
+            go_on(say_text(state, host, &line))
         }
         Asked::Ended(status) => Ok(Flow::End(status)),
     }
@@ -291,7 +294,7 @@ fn deliver<H: Host>(
 {
     let message = message_text(alloc, &letter.draft, letter.moment)?;
     match send(alloc, &state.desk.vars, names, message.bytes(), host) {
-        Ok(output) => refuse(state, host, &output),
+        Ok(output) => go_on(say_text(state, host, &output)),
         Err(SendError::Refused { status, output }) => {
             keep_refused(alloc, state, host, letter, status, output)
         }

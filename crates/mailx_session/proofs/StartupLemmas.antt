@@ -15,7 +15,6 @@ use Rattle.read_commands.proofs.StartupLemmas.{startup_asks_little}
 use Rattle.session_state.specs.declared.error.RunError.{RunError}
 use Rattle.session_state.specs.declared.error.RunError.TheVariants as error
 use Rattle.session_state.specs.declared.flow.Flow.{Flow}
-use Rattle.session_state.specs.declared.flow.Flow.TheVariants as flow
 use Rattle.session_state.specs.declared.frames.WaitingLine.{WaitingLine}
 use Rattle.session_state.specs.declared.kinds.FrameKind.TheVariants as kind
 use Rattle.session_state.specs.declared.state.SessionState.{SessionState}
@@ -27,10 +26,6 @@ use Rattle.session_state.specs.Answers.{EndsByLine, EndsFrom, GoesOn, IsNoDiskFa
 use Rattle.session_state.proofs.OriginLemmas.{TookFrom, taken-from, all-capped}
 use Rattle.mailx_session.specs.Startup.{with_startup, WaitsInStartup}
 use Rattle.mailx_session.proofs.RoundLemmas.{next-taken, next-undrafting}
-
-pub goes-on-so : (r : Result Flow RunError) → IfOk r (λ went. went ≡ flow.Go) → IfErr r IsNoDiskFault → GoesOn r
-goes-on-so (Ok went) go no_disk = go
-goes-on-so (Err e) go no_disk = no_disk
 
 -- where the session goes on, the line ends as one from anywhere may
 pub goes-ends : (from : Origin) (r : Result Flow RunError) → GoesOn r → EndsFrom from r

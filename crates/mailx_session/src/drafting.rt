@@ -2,7 +2,7 @@
 ghost use Rattle.std.specs.Prelude.{◌≡◌, ◌++◌, List, ℕ, true, Ok, IfOk};
 ghost use Rattle.mail_text.specs.Lines.{with_feed};
 ghost use Rattle.host_port.specs.Ran.{Ran};
-ghost use Rattle.session_play.specs.Play.{Play, Ask, Try, Next, Goes};
+ghost use Rattle.session_play.specs.Play.{Play, Ask, Try, Go, Next, Goes};
 ghost use Rattle.mailx_vars.specs.Names.{is_short_name};
 ghost use Rattle.command_desk.specs.Desks.{IsDesk};
 ghost use Rattle.command_desk.specs.FileNames.{expanded};
@@ -29,7 +29,7 @@ use mailx_vars::is_short_name;
 use read_commands::{Ask as Wanted, Desk, Origin, Refusal, Steps};
 use session_asks::{by_shell, view_as};
 use session_play::{Found, try_load};
-use session_state::{Flow, RunError, SessionState, placed, refuse, say};
+use session_state::{Flow, RunError, SessionState, go_on, placed, say, say_text};
 use std::alloc::Global;
 
 // An escape as its faults name it, and what is wrong with it, as a line.
@@ -64,27 +64,23 @@ fn refuse_escape<H: Host>(
     state: &SessionState,
     host: &mut H,
     error: &ComposeError,
-) -> Result<Flow, RunError>
+) -> Result<(), RunError>
     ensures ran { (p : Play (Next SessionState Status)) → SaysFault error.now state.now p
-        → Ran H.world host.old host.new (λ es. Goes p es (in_play (next_of state.now) result)) }
-    ensures go { IfOk result (λ flow. flow ≡ Flow.Go) }
+        → Ran H.world host.old host.new (λ es. Goes p es (in_play (λ u. Go state.now) result)) }
     ensures cause { LineCaused (H.world.counts host.old) (H.world.counts host.new) result }
 {
-    match escape_line(alloc, error) {
-        Ok(line) => refuse(state, host, &line),
-        Err(Memory) => Err(RunError::Memory),
-    }
+    let line = escape_line(alloc, error)?;
+    say_text(state, host, &line)
 }
 
 // Prints what the draft asks to print once it took an answer.
-fn tell<H: Host>(state: &SessionState, host: &mut H, need: &Need) -> Result<Flow, RunError>
+fn tell<H: Host>(state: &SessionState, host: &mut H, need: &Need) -> Result<(), RunError>
     ensures ran { Ran H.world host.old host.new
-        (λ es. Goes (told state.now need.now) es (in_play (next_of state.now) result)) }
-    ensures go { IfOk result (λ flow. flow ≡ Flow.Go) }
+        (λ es. Goes (told state.now need.now) es (in_play (λ u. Go state.now) result)) }
     ensures cause { LineCaused (H.world.counts host.old) (H.world.counts host.new) result }
 {
     match need {
-        Need::Say(bytes) => refuse(state, host, bytes),
+        Need::Say(bytes) => say_text(state, host, bytes),
         Need::More
         | Need::Load(_)
         | Need::Dead
@@ -93,7 +89,7 @@ fn tell<H: Host>(state: &SessionState, host: &mut H, need: &Need) -> Result<Flow
         | Need::Put { .. }
         | Need::Done
         | Need::Quit
-        | Need::Drop => Ok(Flow::Go),
+        | Need::Drop => Ok(()),
     }
 }
 
@@ -120,12 +116,11 @@ fn give<H: Host>(
     state: &mut SessionState,
     host: &mut H,
     answer: Answer,
-) -> Result<Flow, RunError>
+) -> Result<(), RunError>
     requires state { IsState state.old }
     requires awaited { IsAwaited state.old.draft answer }
     ensures ran { Ran H.world host.old host.new
-        (λ es. Goes (answered state.old answer) es (in_play (next_of state.new) result)) }
-    ensures go { IfOk result (λ flow. flow ≡ Flow.Go) }
+        (λ es. Goes (answered state.old answer) es (in_play (λ u. Go state.new) result)) }
     ensures state { IsState state.new }
     ensures cause { LineCaused (H.world.counts host.old) (H.world.counts host.new) result }
 {
@@ -142,12 +137,11 @@ fn after_fetch<H: Host>(
     host: &mut H,
     name: &[u8],
     found: Option<Found>,
-) -> Result<Flow, RunError>
+) -> Result<(), RunError>
     requires state { IsState state.old }
     requires awaited { (bytes : List ℕ) → IsAwaited state.old.draft (Answer.Loaded bytes) }
     ensures ran { Ran H.world host.old host.new
-        (λ es. Goes (after_fetch state.old name.now found) es (in_play (next_of state.new) result)) }
-    ensures go { IfOk result (λ flow. flow ≡ Flow.Go) }
+        (λ es. Goes (after_fetch state.old name.now found) es (in_play (λ u. Go state.new) result)) }
     ensures state { IsState state.new }
     ensures cause { LineCaused (H.world.counts host.old) (H.world.counts host.new) result }
 {
@@ -173,14 +167,13 @@ fn fetch_named<H: Host>(
     host: &mut H,
     name: &[u8],
     file: &[u8],
-) -> Result<Flow, RunError>
+) -> Result<(), RunError>
     requires state { IsState state.old }
     requires file { is_short_name file.now ≡ true }
     requires awaited { (bytes : List ℕ) → IsAwaited state.old.draft (Answer.Loaded bytes) }
     ensures ran { Ran H.world host.old host.new
         (λ es. Goes (Ask (Try file.now) (after_fetch state.old name.now)) es
-        (in_play (next_of state.new) result)) }
-    ensures go { IfOk result (λ flow. flow ≡ Flow.Go) }
+        (in_play (λ u. Go state.new) result)) }
     ensures state { IsState state.new }
     ensures cause { LineCaused (H.world.counts host.old) (H.world.counts host.new) result }
 {
@@ -197,13 +190,12 @@ fn fetch_placed<H: Host>(
     host: &mut H,
     name: &[u8],
     file: &[u8],
-) -> Result<Flow, RunError>
+) -> Result<(), RunError>
     requires state { IsState state.old }
     requires file { file.now ≡ placed state.old.here name.now }
     requires awaited { (bytes : List ℕ) → IsAwaited state.old.draft (Answer.Loaded bytes) }
     ensures ran { Ran H.world host.old host.new
-        (λ es. Goes (fetched_named state.old name.now) es (in_play (next_of state.new) result)) }
-    ensures go { IfOk result (λ flow. flow ≡ Flow.Go) }
+        (λ es. Goes (fetched_named state.old name.now) es (in_play (λ u. Go state.new) result)) }
     ensures state { IsState state.new }
     ensures cause { LineCaused (H.world.counts host.old) (H.world.counts host.new) result }
 {
@@ -220,19 +212,16 @@ fn fetch<H: Host>(
     state: &mut SessionState,
     host: &mut H,
     name: &[u8],
-) -> Result<Flow, RunError>
+) -> Result<(), RunError>
     requires state { IsState state.old }
     requires awaited { (bytes : List ℕ) → IsAwaited state.old.draft (Answer.Loaded bytes) }
     ensures ran { Ran H.world host.old host.new
-        (λ es. Goes (fetched_named state.old name.now) es (in_play (next_of state.new) result)) }
-    ensures go { IfOk result (λ flow. flow ≡ Flow.Go) }
+        (λ es. Goes (fetched_named state.old name.now) es (in_play (λ u. Go state.new) result)) }
     ensures state { IsState state.new }
     ensures cause { LineCaused (H.world.counts host.old) (H.world.counts host.new) result }
 {
-    match placed(alloc, state.here.bytes(), name) {
-        Ok(file) => fetch_placed(alloc, state, host, name, file.bytes()),
-        Err(Memory) => Err(RunError::Memory),
-    }
+    let file = placed(alloc, state.here.bytes(), name)?;
+    fetch_placed(alloc, state, host, name, file.bytes())
 }
 
 // Loads the file that a word stands for, for the draft.
@@ -241,19 +230,18 @@ fn fetch_word<H: Host>(
     state: &mut SessionState,
     host: &mut H,
     word: &[u8],
-) -> Result<Flow, RunError>
+) -> Result<(), RunError>
     requires state { IsState state.old }
     requires awaited { (bytes : List ℕ) → IsAwaited state.old.draft (Answer.Loaded bytes) }
     ensures ran { Ran H.world host.old host.new
         (λ es. Goes (fetched state.old (expanded state.old.desk word.now)) es
-        (in_play (next_of state.new) result)) }
-    ensures go { IfOk result (λ flow. flow ≡ Flow.Go) }
+        (in_play (λ u. Go state.new) result)) }
     ensures state { IsState state.new }
     ensures cause { LineCaused (H.world.counts host.old) (H.world.counts host.new) result }
 {
     match expanded(alloc, &state.desk, word) {
         Ok(name) => fetch(alloc, state, host, name.bytes()),
-        Err(Refusal::Fault { line }) => refuse(state, host, &line),
+        Err(Refusal::Fault { line }) => say_text(state, host, &line),
         Err(Refusal::Memory) => Err(RunError::Memory),
     }
 }
@@ -263,20 +251,17 @@ fn fetch_dead<H: Host>(
     alloc: Global,
     state: &mut SessionState,
     host: &mut H,
-) -> Result<Flow, RunError>
+) -> Result<(), RunError>
     requires state { IsState state.old }
     requires awaited { (bytes : List ℕ) → IsAwaited state.old.draft (Answer.Loaded bytes) }
     ensures ran { Ran H.world host.old host.new
         (λ es. Goes (fetched_named state.old state.old.desk.places.dead) es
-        (in_play (next_of state.new) result)) }
-    ensures go { IfOk result (λ flow. flow ≡ Flow.Go) }
+        (in_play (λ u. Go state.new) result)) }
     ensures state { IsState state.new }
     ensures cause { LineCaused (H.world.counts host.old) (H.world.counts host.new) result }
 {
-    match Text::copy(alloc, state.desk.places.dead.bytes()) {
-        Ok(name) => fetch(alloc, state, host, name.bytes()),
-        Err(Memory) => Err(RunError::Memory),
-    }
+    let name = Text::copy(alloc, state.desk.places.dead.bytes())?;
+    fetch(alloc, state, host, name.bytes())
 }
 
 // What follows a command that was run for the draft.
@@ -285,12 +270,11 @@ fn after_child<H: Host>(
     state: &mut SessionState,
     host: &mut H,
     answer: Option<ChildAnswer>,
-) -> Result<Flow, RunError>
+) -> Result<(), RunError>
     requires state { IsState state.old }
     requires awaited { (a : ChildAnswer) → IsAwaited state.old.draft (Answer.Ran a) }
     ensures ran { Ran H.world host.old host.new
-        (λ es. Goes (after_child state.old answer) es (in_play (next_of state.new) result)) }
-    ensures go { IfOk result (λ flow. flow ≡ Flow.Go) }
+        (λ es. Goes (after_child state.old answer) es (in_play (λ u. Go state.new) result)) }
     ensures state { IsState state.new }
     ensures cause { LineCaused (H.world.counts host.old) (H.world.counts host.new) result }
 {
@@ -307,12 +291,11 @@ fn run_for<H: Host>(
     host: &mut H,
     command: Text,
     input: &[u8],
-) -> Result<Flow, RunError>
+) -> Result<(), RunError>
     requires state { IsState state.old }
     requires awaited { (a : ChildAnswer) → IsAwaited state.old.draft (Answer.Ran a) }
     ensures ran { Ran H.world host.old host.new
-        (λ es. Goes (run_for state.old command input.now) es (in_play (next_of state.new) result)) }
-    ensures go { IfOk result (λ flow. flow ≡ Flow.Go) }
+        (λ es. Goes (run_for state.old command input.now) es (in_play (λ u. Go state.new) result)) }
     ensures state { IsState state.new }
     ensures cause { LineCaused (H.world.counts host.old) (H.world.counts host.new) result }
 {
@@ -353,10 +336,8 @@ fn put_named<H: Host>(
     ensures done { IfOk result EndsByLine }
     ensures cause { LineCaused (H.world.counts host.old) (H.world.counts host.new) result }
 {
-    match written(alloc, name, bytes) {
-        Ok(steps) => carry_out(alloc, state, host, steps),
-        Err(Memory) => Err(RunError::Memory),
-    }
+    let steps = written(alloc, name, bytes)?;
+    carry_out(alloc, state, host, steps)
 }
 
 // Puts bytes at the end of the file that a word stands for.
@@ -377,7 +358,7 @@ fn put<H: Host>(
 {
     match expanded(alloc, &state.desk, word) {
         Ok(name) => put_named(alloc, state, host, name, bytes),
-        Err(Refusal::Fault { line }) => refuse(state, host, &line),
+        Err(Refusal::Fault { line }) => go_on(say_text(state, host, &line)),
         Err(Refusal::Memory) => Err(RunError::Memory),
     }
 }
@@ -416,10 +397,12 @@ fn meet<H: Host>(
 {
     match need {
         Need::More => Ok(Flow::Go),
-        Need::Say(bytes) => refuse(state, host, &bytes),
-        Need::Load(word) => fetch_word(alloc, state, host, word.bytes()),
-        Need::Dead => fetch_dead(alloc, state, host),
-        Need::Child { command, input } => run_for(alloc, state, host, command, input.bytes()),
+        Need::Say(bytes) => go_on(say_text(state, host, &bytes)),
+        Need::Load(word) => go_on(fetch_word(alloc, state, host, word.bytes())),
+        Need::Dead => go_on(fetch_dead(alloc, state, host)),
+        Need::Child { command, input } => {
+            go_on(run_for(alloc, state, host, command, input.bytes()))
+        }
         Need::Command(line) => command_within(alloc, state, host, line.bytes()),
         Need::Put { name, bytes } => put(alloc, state, host, name.bytes(), bytes),
         Need::Done => end_draft(alloc, state, host),
@@ -470,6 +453,6 @@ pub(crate) fn draft_line<H: Host>(
 {
     match take_line(&state.desk, state.terminal, &mut state.draft, line) {
         Ok(need) => meet(alloc, state, host, need),
-        Err(error) => refuse_escape(alloc, state, host, &error),
+        Err(error) => go_on(refuse_escape(alloc, state, host, &error)),
     }
 }

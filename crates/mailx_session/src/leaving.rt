@@ -15,7 +15,7 @@ ghost use Rattle.mailx_session.specs.Leaving.{left_by, leaving, InputEnds};
 
 use crate::finishing::finish;
 use host_port::Host;
-use mail_text::{Items, Memory, Text};
+use mail_text::{Items, Text};
 use read_commands::{Ask as Wanted, quit};
 use session_asks::do_asks;
 use session_state::{Asked, Flow, RunError, SessionState, Status, say, status_of};
@@ -77,10 +77,8 @@ fn leave<H: Host>(alloc: Global, state: &mut SessionState, host: &mut H) -> Resu
     ensures end { IfOk result IsLineEnd }
     ensures cause { LineCaused (H.world.counts host.old) (H.world.counts host.new) result }
 {
-    match quit(alloc, &state.desk) {
-        Ok(steps) => leave_by(alloc, state, host, steps.asks),
-        Err(Memory) => Err(RunError::Memory),
-    }
+    let steps = quit(alloc, &state.desk)?;
+    leave_by(alloc, state, host, steps.asks)
 }
 
 /// The end of the input: while a draft is open it ends, and the lines that wait are carried out; then the folder is

@@ -26,7 +26,8 @@ use mail_text::{Memory, Text, is_blank};
 use read_commands::{Desk, Effects, Origin, Refusal, Steps, is_defining, perform_line};
 use session_asks::do_asks;
 use session_state::{
-    Asked, Flow, RunError, SessionState, Taken, WaitingLine, cut_to, drop_lines, refuse, say,
+    Asked, Flow, RunError, SessionState, Taken, WaitingLine, cut_to, drop_lines, go_on, say,
+    say_text,
 };
 use std::alloc::Global;
 
@@ -79,7 +80,7 @@ pub(crate) fn carry_out<H: Host>(
             Err(error) => Err(error),
         },
         Ok(Asked::Over) => Ok(Flow::Go),
-        Ok(Asked::Refused { line }) => refuse(state, host, &line),
+        Ok(Asked::Refused { line }) => go_on(say_text(state, host, &line)),
         Ok(Asked::Ended(status)) => Ok(Flow::End(status)),
         Err(error) => Err(error),
     }
@@ -112,7 +113,7 @@ pub(crate) fn carry_line<H: Host>(
 {
     match perform_line(alloc, origin, line, &state.desk) {
         Ok(steps) => carry_out(alloc, state, host, steps),
-        Err(Refusal::Fault { line: fault }) => refuse(state, host, &fault),
+        Err(Refusal::Fault { line: fault }) => go_on(say_text(state, host, &fault)),
         Err(Refusal::Memory) => Err(RunError::Memory),
     }
 }

@@ -1,14 +1,15 @@
 // The start-up files.
-ghost use Rattle.std.specs.Prelude.{◌≡◌, ◌++◌, true, IfErr, IfOk, OnOk, OnErr};
+ghost use Rattle.std.specs.Prelude.{◌≡◌, ◌++◌, true, IfErr, OnOk, OnErr};
 ghost use Rattle.mail_text.specs.Lines.{with_feed};
 ghost use Rattle.host_port.specs.Ran.{Ran};
 ghost use Rattle.session_play.specs.Play.{Play, Ask, Try, Go, Goes};
 ghost use Rattle.session_play.specs.Steps.{refused};
 ghost use Rattle.mailx_vars.specs.Names.{is_short_name};
+ghost use Rattle.session_state.specs.declared.status.Status.{Status};
 ghost use Rattle.session_state.specs.Placing.{placed};
 ghost use Rattle.session_state.specs.States.{IsState, IsSession, rested};
 ghost use Rattle.mailx_session.specs.Startup.{with_startup, after_startup, startup_play, StartupGoes, WaitsInStartup};
-ghost use Rattle.session_state.specs.Answers.{in_play, next_of, LineCaused, IsNoDiskFault};
+ghost use Rattle.session_state.specs.Answers.{in_play, LineCaused, IsNoDiskFault};
 
 use crate::lines::waiting_lines;
 use command_desk::line_of;
@@ -17,7 +18,7 @@ use mail_text::{Memory, Text};
 use mailx_vars::is_short_name;
 use read_commands::Origin;
 use session_play::{Found, try_load};
-use session_state::{Flow, Frame, FrameKind, RunError, SessionState, placed, refuse};
+use session_state::{Frame, FrameKind, RunError, SessionState, placed, say_text};
 use std::alloc::Global;
 
 /// Prints a word and what is wrong with it.
@@ -27,18 +28,15 @@ pub(crate) fn say_fault<H: Host>(
     host: &mut H,
     name: &[u8],
     fault: &[u8],
-) -> Result<Flow, RunError>
+) -> Result<(), RunError>
     ensures ran { Ran H.world host.old host.new
-        (λ es. Goes (refused state.now (with_feed (name.now ++ fault.now))) es
-        (in_play (next_of state.now) result)) }
-    ensures go { IfOk result (λ flow. flow ≡ Flow.Go) }
+        (λ es. Goes (refused {R = Status} state.now (with_feed (name.now ++ fault.now))) es
+        (in_play (λ u. Go state.now) result)) }
     ensures no_disk { IfErr result IsNoDiskFault }
     ensures cause { LineCaused (H.world.counts host.old) (H.world.counts host.new) result }
 {
-    match line_of(alloc, name, fault) {
-        Ok(line) => refuse(state, host, &line),
-        Err(Memory) => Err(RunError::Memory),
-    }
+    let line = line_of(alloc, name, fault)?;
+    say_text(state, host, &line)
 }
 
 // Lets the lines of a start-up file wait.
@@ -61,11 +59,10 @@ fn after_load<H: Host>(
     host: &mut H,
     name: &[u8],
     found: Option<Found>,
-) -> Result<Flow, RunError>
+) -> Result<(), RunError>
     requires { IsSession state.old }
     ensures ran { Ran H.world host.old host.new
-        (λ es. Goes (after_startup state.old name.now found) es (in_play (next_of state.new) result)) }
-    ensures go { IfOk result (λ flow. flow ≡ Flow.Go) }
+        (λ es. Goes (after_startup state.old name.now found) es (in_play (λ u. Go state.new) result)) }
     ensures no_disk { IfErr result IsNoDiskFault }
     ensures waits { WaitsInStartup state.new }
     ensures state { IsState state.new }
@@ -77,11 +74,8 @@ fn after_load<H: Host>(
                 bytes: Some(text),
                 ..
             },
-        ) => match bring(state, text) {
-            Ok(()) => Ok(Flow::Go),
-            Err(Memory) => Err(RunError::Memory),
-        },
-        Some(Found::Bytes { bytes: None, .. }) => Ok(Flow::Go),
+        ) => Ok(bring(state, text)?),
+        Some(Found::Bytes { bytes: None, .. }) => Ok(()),
         Some(Found::TooLarge { .. }) => say_fault(alloc, state, host, name, b": too large"),
         None => say_fault(alloc, state, host, name, b": cannot be read"),
     }
@@ -95,13 +89,12 @@ fn load_named<H: Host>(
     host: &mut H,
     name: &[u8],
     file: &[u8],
-) -> Result<Flow, RunError>
+) -> Result<(), RunError>
     requires session { IsSession state.old }
     requires file { is_short_name file.now ≡ true }
     ensures ran { Ran H.world host.old host.new
         (λ es. Goes (Ask (Try file.now) (after_startup state.old name.now)) es
-        (in_play (next_of state.new) result)) }
-    ensures go { IfOk result (λ flow. flow ≡ Flow.Go) }
+        (in_play (λ u. Go state.new) result)) }
     ensures no_disk { IfErr result IsNoDiskFault }
     ensures waits { WaitsInStartup state.new }
     ensures state { IsState state.new }
@@ -121,12 +114,11 @@ fn load_placed<H: Host>(
     host: &mut H,
     name: &[u8],
     file: &[u8],
-) -> Result<Flow, RunError>
+) -> Result<(), RunError>
     requires session { IsSession state.old }
     requires file { file.now ≡ placed state.old.here name.now }
     ensures ran { Ran H.world host.old host.new
-        (λ es. Goes (startup_play state.old name.now) es (in_play (next_of state.new) result)) }
-    ensures go { IfOk result (λ flow. flow ≡ Flow.Go) }
+        (λ es. Goes (startup_play state.old name.now) es (in_play (λ u. Go state.new) result)) }
     ensures no_disk { IfErr result IsNoDiskFault }
     ensures waits { WaitsInStartup state.new }
     ensures state { IsState state.new }
@@ -146,20 +138,17 @@ fn load_file<H: Host>(
     state: &mut SessionState,
     host: &mut H,
     name: &[u8],
-) -> Result<Flow, RunError>
+) -> Result<(), RunError>
     requires { IsSession state.old }
     ensures ran { Ran H.world host.old host.new
-        (λ es. Goes (startup_play state.old name.now) es (in_play (next_of state.new) result)) }
-    ensures go { IfOk result (λ flow. flow ≡ Flow.Go) }
+        (λ es. Goes (startup_play state.old name.now) es (in_play (λ u. Go state.new) result)) }
     ensures no_disk { IfErr result IsNoDiskFault }
     ensures waits { WaitsInStartup state.new }
     ensures state { IsState state.new }
     ensures cause { LineCaused (H.world.counts host.old) (H.world.counts host.new) result }
 {
-    match placed(alloc, state.here.bytes(), name) {
-        Ok(file) => load_placed(alloc, state, host, name, file.bytes()),
-        Err(Memory) => Err(RunError::Memory),
-    }
+    let file = placed(alloc, state.here.bytes(), name)?;
+    load_placed(alloc, state, host, name, file.bytes())
 }
 
 /// Loads a start-up file and carries out its lines, none of which ends the run.
@@ -177,7 +166,7 @@ pub(crate) fn startup_file<H: Host>(
     ensures cause { LineCaused (H.world.counts host.old) (H.world.counts host.new) result }
 {
     match load_file(alloc, state, host, name) {
-        Ok(_) => match waiting_lines(alloc, state, host) {
+        Ok(()) => match waiting_lines(alloc, state, host) {
             Ok(_) => Ok(()),
             Err(error) => Err(error),
         },

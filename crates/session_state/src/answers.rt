@@ -1,10 +1,12 @@
 // What the answers to a command's asks leave, and what is printed.
 ghost use Rattle.std.specs.Prelude.{◌≡◌, IfErr, IfOk};
+ghost use Rattle.host_port.specs.Calls.{Counts};
 ghost use Rattle.host_port.specs.Ran.{Ran};
-ghost use Rattle.session_play.specs.Play.{Ask, Ret, Say, Goes};
+ghost use Rattle.session_play.specs.Play.{Ask, Ret, Say, Go, Goes};
 ghost use Rattle.session_play.specs.Steps.{refused};
 ghost use Rattle.session_state.specs.declared.state.SessionState.{SessionState};
-ghost use Rattle.session_state.specs.Answers.{after_asks, next_of, in_play, LineCaused, EndsByAsk, IsNoDiskFault, AsksGoOn};
+ghost use Rattle.session_state.specs.declared.status.Status.{Status};
+ghost use Rattle.session_state.specs.Answers.{after_asks, in_play, next_of, LineCaused, EndsByAsk, EndsByLine, GoesOn, IsNoDiskFault, AsksGoOn};
 
 use crate::{Flow, RunError, SessionState, Status};
 use host_port::Host;
@@ -50,15 +52,25 @@ pub fn say_line<H: Host>(host: &mut H, bytes: &Text) -> Result<Asked, RunError>
     }
 }
 
-/// Prints the line that refuses a command, or tells what is wrong with a start-up file.
-pub fn refuse<H: Host>(state: &SessionState, host: &mut H, line: &Text) -> Result<Flow, RunError>
+/// Prints a text with which the session goes on.
+pub fn say_text<H: Host>(state: &SessionState, host: &mut H, text: &Text) -> Result<(), RunError>
     ensures ran { Ran H.world host.old host.new
-        (λ es. Goes (refused state.now line.now) es (in_play (next_of state.now) result)) }
-    ensures go { IfOk result (λ flow. flow ≡ Flow.Go) }
+        (λ es. Goes (refused {R = Status} state.now text.now) es (in_play (λ u. Go state.now) result)) }
     ensures no_disk { IfErr result IsNoDiskFault }
     ensures cause { LineCaused (H.world.counts host.old) (H.world.counts host.new) result }
 {
-    match say(host, line.bytes()) {
+    say(host, text.bytes())
+}
+
+/// After what was done the session goes on, unless that cut the run off.
+pub fn go_on(did: Result<(), RunError>) -> Result<Flow, RunError>
+    ensures means { (s : SessionState) → in_play (next_of s) result ≡ in_play (λ u. Go s) did }
+    ensures go { IfOk result (λ flow. flow ≡ Flow.Go) }
+    ensures goes_on { IfErr did IsNoDiskFault → GoesOn result }
+    ensures done { IfOk result EndsByLine }
+    ensures cause { (old : Counts) → (new : Counts) → LineCaused old new did → LineCaused old new result }
+{
+    match did {
         Ok(()) => Ok(Flow::Go),
         Err(error) => Err(error),
     }

@@ -12,7 +12,7 @@ mod saving;
 mod state;
 mod status;
 
-pub use answers::{Asked, refuse, say, say_line};
+pub use answers::{Asked, go_on, say, say_line, say_text};
 pub use error::RunError;
 pub use flow::Flow;
 pub use frames::{Frame, Frames, Taken, WaitingLine};

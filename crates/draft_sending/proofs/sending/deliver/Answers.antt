@@ -20,7 +20,7 @@ returns-in-Ok-clause-ran g c =
     let letter = c.args.letter.now in
     let names = c.args.names.now in
     Ran-then (goes-then (Ask (Child (program_of s.desk.vars) (sender_args names) (message_text letter.draft letter.moment)) (λ a. Ret (sent a))) (after_sender s letter) _ _)
-    (rw (c.bytes.ensures, c.in_ok-message.ensures) at (c.in-Ok.ensures.ran (unrefused names c.requires.names))) c.refuse.ensures.ran
+    (rw (c.bytes.ensures, c.in_ok-message.ensures) at (c.in-Ok.ensures.ran (unrefused names c.requires.names))) (rw (c.go_on.ensures.means s) c.say_text.ensures.ran)
 
 pub returns-in-Err-Refused-clause-ran : goal.returns-in-Err-Refused-clause-ran
 returns-in-Err-Refused-clause-ran g c =

@@ -1,4 +1,5 @@
 use Rattle.std.proofs.Common.{refl}
+use Rattle.session_state.specs.States.{with_draft}
 use Rattle.mailx_session.specs.Drafting.{draft_play}
 use Rattle.mailx_session.proofs.DraftLemmas.{drafted-needed, drafted-refused, took-not-refused, refused-released}
 use Rattle.mailx_session.proofs.drafting.draft_line.Goals as goal
@@ -11,7 +12,7 @@ returns-in-Ok-clause-ran g c =
 pub returns-in-Err-clause-ran : goal.returns-in-Err-clause-ran
 returns-in-Err-clause-ran g c =
     let s = c.args.state.now in
-    c.refuse_escape.ensures.ran (draft_play s c.args.line.now) (drafted-refused s s.draft c.args.line.now c.in-Err.error _ refl c.in-Err.ensures.line)
+    rw (c.go_on.ensures.means (with_draft s c.take_line.new.draft)) (c.refuse_escape.ensures.ran (draft_play s c.args.line.now) (drafted-refused s s.draft c.args.line.now c.in-Err.error _ refl c.in-Err.ensures.line))
 
 pub returns-in-Ok-clause-refused : goal.returns-in-Ok-clause-refused
 returns-in-Ok-clause-refused g c = λ r. absurd (took-not-refused c.args.state.now c.args.state.now.draft c.args.line.now c.in-Ok.need _ refl c.in-Ok.ensures.line r)

@@ -1,10 +1,10 @@
 use Rattle.host_port.proofs.RanLemmas.{Ran-none}
-use Rattle.session_play.proofs.PlayLemmas.{at-memory}
+use Rattle.session_state.proofs.MemoryLemmas.{out-of-memory}
 use Rattle.mailx_session.specs.Drafting.{fetched_named}
 use Rattle.mailx_session.proofs.drafting.fetch_dead.Goals as goal
 
-pub returns-in-Ok-clause-ran : goal.returns-in-Ok-clause-ran
-returns-in-Ok-clause-ran g c = rw (c.bytes-in-Ok.ensures, c.in-Ok.ensures, c.bytes.ensures) at c.fetch.ensures.ran
+pub returns-clause-ran : goal.returns-clause-ran
+returns-clause-ran g c = rw (c.bytes-2.ensures, c.in_ok-name.ensures, c.bytes.ensures) at c.fetch.ensures.ran
 
-pub returns-in-Err-clause-ran : goal.returns-in-Err-clause-ran
-returns-in-Err-clause-ran g c = Ran-none (at-memory (fetched_named c.args.state.now c.args.state.now.desk.places.dead))
+pub returns-in_err-name-clause-ran : goal.returns-in_err-name-clause-ran
+returns-in_err-name-clause-ran g c = Ran-none (out-of-memory (fetched_named c.args.state.now c.args.state.now.desk.places.dead) _ c.from_residual.result c.from_residual.ensures.1)

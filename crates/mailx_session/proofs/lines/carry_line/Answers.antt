@@ -3,7 +3,7 @@ use Rattle.session_play.proofs.PlayLemmas.{at-memory}
 use Rattle.mailx_session.specs.Rounds.{line_play}
 use Rattle.std.specs.declared.result.Result.TheVariants.{Err}
 use Rattle.session_state.specs.declared.error.RunError.TheVariants as error
-use Rattle.mailx_session.proofs.StartupLemmas.{carried-ends, goes-ends, goes-on-so}
+use Rattle.mailx_session.proofs.StartupLemmas.{carried-ends, goes-ends}
 use Rattle.mailx_session.proofs.lines.carry_line.Goals as goal
 
 pub returns-in-Ok-clause-ran : goal.returns-in-Ok-clause-ran
@@ -16,7 +16,7 @@ pub returns-in-Ok-clause-done : goal.returns-in-Ok-clause-done
 returns-in-Ok-clause-done g c = carried-ends c.args.origin c.args.state.now.desk c.args.line.now c.in-Ok.steps c.carry_out.result c.in-Ok.ensures.means c.carry_out.ensures.goes_on c.carry_out.ensures.done
 
 pub returns-in-Err-Fault-clause-done : goal.returns-in-Err-Fault-clause-done
-returns-in-Err-Fault-clause-done g c = goes-ends c.args.origin c.refuse.result (goes-on-so c.refuse.result c.refuse.ensures.go c.refuse.ensures.no_disk)
+returns-in-Err-Fault-clause-done g c = goes-ends c.args.origin c.go_on.result (c.go_on.ensures.goes_on c.say_text.ensures.no_disk)
 
 pub returns-in-Err-Memory-clause-done : goal.returns-in-Err-Memory-clause-done
 returns-in-Err-Memory-clause-done g c = goes-ends c.args.origin (Err error.Memory) tt

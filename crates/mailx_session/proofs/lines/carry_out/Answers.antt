@@ -15,7 +15,7 @@ use Rattle.session_state.specs.States.{settled, OnlyFrames}
 use Rattle.session_asks.specs.Asks.{asked}
 use Rattle.session_state.specs.Answers.{in_play, next_of}
 use Rattle.session_asks.proofs.SourcingLemmas.{only-desk, brings_none, brings-then, brings-desk, cut-back}
-use Rattle.mailx_session.proofs.StartupLemmas.{goes-on-so, memory-only}
+use Rattle.mailx_session.proofs.StartupLemmas.{memory-only}
 use Rattle.mailx_session.proofs.lines.carry_out.Goals as goal
 
 -- memory may be wanted after a play
@@ -58,13 +58,13 @@ returns-in-Ok-Refused-clause-ran g c =
     let s = c.args.state.now in
     let t = c.do_asks.new.state in
     let line = c.in-Ok-Refused.line in
-    let out = in_play (next_of t) c.refuse.result in
+    let out = in_play (next_of t) c.go_on.result in
     let same : t ≡ s = rw c.in-Ok-Refused.field-0-is at c.in-Ok-Refused.ensures.stays in
     Ran-then
     (λ es fs went says.
     goes-then (in_order asked s c.args.steps.asks) (concluded s (λ (t : SessionState). settled t c.args.steps.effects)) (Refused line) out es fs went
     (subst (λ (u : SessionState). Goes (refused u line) fs out) same says))
-    (rw c.in-Ok-Refused.field-0-is at c.in-Ok-Refused.ensures.ran) c.refuse.ensures.ran
+    (rw c.in-Ok-Refused.field-0-is at c.in-Ok-Refused.ensures.ran) (rw (c.go_on.ensures.means t) c.say_text.ensures.ran)
 
 pub returns-in-Ok-Ended-clause-ran : goal.returns-in-Ok-Ended-clause-ran
 returns-in-Ok-Ended-clause-ran g c =
@@ -97,7 +97,7 @@ pub returns-in-Err-settle-clause-goes_on : goal.returns-in-Err-settle-clause-goe
 returns-in-Err-settle-clause-goes_on g c = λ little. memory-only c.in-Err-settle.error c.in-Err-settle.ensures.err
 
 pub returns-in-Ok-Refused-clause-goes_on : goal.returns-in-Ok-Refused-clause-goes_on
-returns-in-Ok-Refused-clause-goes_on g c = λ little. goes-on-so c.refuse.result c.refuse.ensures.go c.refuse.ensures.no_disk
+returns-in-Ok-Refused-clause-goes_on g c = λ little. c.go_on.ensures.goes_on c.say_text.ensures.no_disk
 
 pub returns-in-Ok-Ended-clause-goes_on : goal.returns-in-Ok-Ended-clause-goes_on
 returns-in-Ok-Ended-clause-goes_on g c = λ little. absurd (rw c.in-Ok-Ended.field-0-is at (c.in-Ok-Ended.ensures.goes_on little))
