@@ -96,7 +96,6 @@ fn tell<H: Host>(state: &SessionState, host: &mut H, need: &Need) -> Result<(), 
 // The draft, if one is open, takes an answer that it waits for.
 fn take_answer(
     desk: &Desk,
-    terminal: bool,
     draft: &mut Option<Compose>,
     answer: Answer,
 ) -> Result<Need, ComposeError>
@@ -105,7 +104,7 @@ fn take_answer(
     ensures { TookAnswer result draft.old answer draft.new }
 {
     match draft {
-        Some(compose) => compose.answer(answer, &view_as(desk, terminal)),
+        Some(compose) => compose.answer(answer, &view_as(desk)),
         None => Ok(Need::More),
     }
 }
@@ -124,7 +123,7 @@ fn give<H: Host>(
     ensures state { IsState state.new }
     ensures cause { LineCaused (H.world.counts host.old) (H.world.counts host.new) result }
 {
-    match take_answer(&state.desk, state.terminal, &mut state.draft, answer) {
+    match take_answer(&state.desk, &mut state.draft, answer) {
         Ok(need) => tell(state, host, &need),
         Err(error) => refuse_escape(alloc, state, host, &error),
     }
@@ -416,20 +415,15 @@ fn meet<H: Host>(
 }
 
 // The draft, if one is open, takes a line, and waits for no answer any more.
-fn take_line(
-    desk: &Desk,
-    terminal: bool,
-    draft: &mut Option<Compose>,
-    line: &[u8],
-) -> Result<Need, ComposeError>
+fn take_line(desk: &Desk, draft: &mut Option<Compose>, line: &[u8]) -> Result<Need, ComposeError>
     requires { IsDesk desk.now }
-    ensures line { TookLine result draft.old line.now (view_as desk.now terminal) draft.new }
+    ensures line { TookLine result draft.old line.now (view_as desk.now) draft.new }
     ensures awaited { IfOk result (AwaitsAll draft.new) }
 {
     match draft {
         Some(compose) => {
             compose.refuse();
-            compose.line(line, &view_as(desk, terminal))
+            compose.line(line, &view_as(desk))
         }
         None => Ok(Need::More),
     }
@@ -451,7 +445,7 @@ pub(crate) fn draft_line<H: Host>(
     ensures done { IfOk result EndsByLine }
     ensures cause { LineCaused (H.world.counts host.old) (H.world.counts host.new) result }
 {
-    match take_line(&state.desk, state.terminal, &mut state.draft, line) {
+    match take_line(&state.desk, &mut state.draft, line) {
         Ok(need) => meet(alloc, state, host, need),
         Err(error) => go_on(refuse_escape(alloc, state, host, &error)),
     }

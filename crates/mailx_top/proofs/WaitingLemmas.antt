@@ -56,8 +56,8 @@ leads-more env x y front rest es (Ok (Last e)) is goes loop = again front rest i
 leads-more env x y front rest es (Err cause) is goes loop = again front rest is goes loop
 
 -- between two lines of the input the prompt is said on a terminal, unless a draft is open or a definition is under way
-pub prompt_at_rest : (s : SessionState) → IsSession s → ((s.terminal && not (is_drafting s)) && not (is_defining s.desk)) ≡ at_prompt s
-prompt_at_rest s is = ap (λ (t : SessionState). (s.terminal && not (is_drafting s)) && not (is_defining t.desk)) (sym (rested-same s is))
+pub prompt_at_rest : (s : SessionState) → IsSession s → ((s.desk.terminal && not (is_drafting s)) && not (is_defining s.desk)) ≡ at_prompt s
+prompt_at_rest s is = ap (λ (t : SessionState). (s.desk.terminal && not (is_drafting s)) && not (is_defining t.desk)) (sym (rested-same s is))
 
 -- there no line waits that is carried out before the next of the input
 pub none_waits : (s : SessionState) → IsSession s → next_waiting s ≡ None

@@ -76,7 +76,7 @@ turn s j (Some line) = bind (typed_play s line) (with_input j)
 -- the prompt is printed before a line is asked for: on a terminal, unless the line is one of a draft that is open, or of a
 -- definition that is under way
 abbrev pub at_prompt : SessionState → Bool
-at_prompt s = (s.terminal && not (is_drafting s)) && not (is_defining (rested s).desk)
+at_prompt s = (s.desk.terminal && not (is_drafting s)) && not (is_defining (rested s).desk)
 
 -- what is printed before a line is asked for: the value of `prompt`, if the prompt is printed
 abbrev pub prompted : Bool → Desk → Play (Unit {0})

@@ -18,18 +18,18 @@ use Rattle.session_state.specs.States.{with_draft, with_file, settled}
 use Rattle.session_state.specs.Saving.{name_fault}
 
 -- what a line of a draft is read with
-abbrev pub view_as : Desk → Bool → View
-view_as desk terminal = record {
+abbrev pub view_as : Desk → View
+view_as desk = record {
   vars = desk.vars;
   shown = desk.shown;
   folder = Some desk.folder.folder;
   sets = desk.sets;
   mode = desk.mode;
-  terminal = terminal;
+  terminal = desk.terminal;
 }
 
 abbrev pub view_in : SessionState → View
-view_in s = view_as s.desk s.terminal
+view_in s = view_as s.desk
 
 -- the state with a draft that begins
 abbrev pub with_new_draft : SessionState → Draft → SessionState

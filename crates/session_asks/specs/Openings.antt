@@ -54,7 +54,6 @@ state_with folder places mode terminal by_recipient token = record {
   here = front_of folder;
   actor = actor_for (front_of folder) places.home;
   token = token;
-  terminal = terminal;
   by_recipient = by_recipient;
   frames = [];
   count = 0;

@@ -20,9 +20,9 @@ use session_state::{Asked, RunError, SessionState, name_fault, say};
 use std::alloc::Global;
 
 /// What a line of a draft is read with.
-pub fn view_as(desk: &Desk, terminal: bool) -> ComposeView<'_>
+pub fn view_as(desk: &Desk) -> ComposeView<'_>
     requires { IsDesk desk.now }
-    ensures view { view_of result ≡ view_as desk.now terminal }
+    ensures view { view_of result ≡ view_as desk.now }
     ensures valid { IsView (view_of result) }
 {
     ComposeView {
@@ -31,7 +31,7 @@ pub fn view_as(desk: &Desk, terminal: bool) -> ComposeView<'_>
         folder: Some(&desk.folder.folder),
         sets: &desk.sets,
         mode: desk.mode,
-        terminal,
+        terminal: desk.terminal,
     }
 }
 
@@ -71,7 +71,7 @@ fn begin_with<H: Host>(
     ensures begun { OnOk result (state.new ≡ with_draft state.old (Some compose)) }
     ensures cause { LineCaused (H.world.counts host.old) (H.world.counts host.new) result }
 {
-    let asks = compose.asks_subject(&view_as(&state.desk, state.terminal));
+    let asks = compose.asks_subject(&view_as(&state.desk));
     match ask_subject(host, asks) {
         Ok(()) => {
             open_draft(&mut state.draft, compose);

@@ -135,7 +135,6 @@ pub fn first_state(
         here,
         actor,
         token,
-        terminal,
         by_recipient,
         frames: Frames::new(alloc),
         count: 0,

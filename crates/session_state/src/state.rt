@@ -23,8 +23,6 @@ pub struct SessionState {
     pub actor: Text,
     /// A word that no other run has.
     pub token: u64,
-    /// Whether the input is a terminal.
-    pub terminal: bool,
     /// The flag `-F`: a draft is recorded in the file named after its first recipient.
     pub by_recipient: bool,
     /// The lines from elsewhere that wait to be carried out.
