@@ -13,7 +13,7 @@ use Rattle.compose_tilde.specs.declared.machine.Machine.{Machine}
 use Rattle.session_play.specs.Play.{Play, Ret, Ask, Say, Child, Now, Next, Go, Last, bind}
 use Rattle.session_play.specs.Steps.{After, On, Over, Refused, Ended, refused}
 use Rattle.command_desk.specs.Answers.{OrFault}
-use Rattle.folder_commands.specs.Saving.{reply}
+use Rattle.folder_commands.specs.Saving.{receipt}
 use Rattle.sender_port.specs.declared.error.SendError.{SendError}
 use Rattle.sender_port.specs.declared.error.SendError.TheVariants as send
 use Rattle.sender_port.specs.Sending.{program_of, sender_args, sent}
@@ -50,7 +50,7 @@ unrecorded s = with_outcome s outcome.Unrecorded
 
 -- what is printed once a dead letter was put into the file of this name
 abbrev pub dead_reply : List ℕ → List ℕ
-dead_reply name = reply name (codes "Dead") 1
+dead_reply name = receipt name (codes "Dead") 1
 
 -- one change is committed
 abbrev pub saved_one : SessionState → Change → Play (After SessionState Status)

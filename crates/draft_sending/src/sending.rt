@@ -16,7 +16,7 @@ ghost use Rattle.session_state.specs.Answers.{after_asks, in_play, next_of, Line
 
 use draft_text::{Draft, mbox_text, message_text};
 use folder_change::{Change, change_name};
-use folder_commands::reply;
+use folder_commands::receipt;
 use host_port::Host;
 use mail_dates::Moment;
 use mail_text::{Items, Memory, Text};
@@ -60,7 +60,7 @@ fn say_dead<H: Host>(
         (in_play (λ u. Go state.now) result)) }
     ensures cause { LineCaused (H.world.counts host.old) (H.world.counts host.new) result }
 {
-    let line = reply(alloc, name, b"Dead", 1)?;
+    let line = receipt(alloc, name, b"Dead", 1)?;
     say_text(state, host, &line)
 }
 

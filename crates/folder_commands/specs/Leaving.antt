@@ -9,7 +9,7 @@ use Rattle.command_desk.specs.declared.steps.Ask.{Ask}
 use Rattle.command_desk.specs.declared.steps.Ask.TheVariants as asks
 use Rattle.command_desk.specs.declared.steps.Steps.{Steps}
 use Rattle.command_desk.specs.Effects.{unchanged}
-use Rattle.folder_commands.specs.Saving.{reply}
+use Rattle.folder_commands.specs.Saving.{receipt}
 
 -- the changes by which the folder of a desk is left, after those that were gathered
 abbrev pub changes_of : Desk → List Change
@@ -21,7 +21,7 @@ replies gathered = flat_map (λ g. g.reply) gathered
 
 -- the line of what became of `count` messages, if there are any
 abbrev pub counted : List ℕ → List ℕ → ℕ → List ℕ
-counted name done count = if count == 0 then [] else reply name done count
+counted name done count = if count == 0 then [] else receipt name done count
 
 -- what is printed once the folder was left: the replies of what was gathered, how many messages went to mbox, and how many stay
 abbrev pub left_reply : Desk → List ℕ

@@ -20,8 +20,8 @@ use Rattle.folder_commands.specs.declared.wanted.Filing.{Filing}
 use Rattle.command_desk.specs.FileNames.{expanded, author_of, named_after}
 
 -- what is printed once `count` messages were put into the file of this name
-abbrev pub reply : List ℕ → List ℕ → ℕ → List ℕ
-reply name done count = with_feed (codes "\"" ++ name ++ codes "\" [" ++ done ++ codes "] " ++ decimal count)
+abbrev pub receipt : List ℕ → List ℕ → ℕ → List ℕ
+receipt name done count = with_feed (codes "\"" ++ name ++ codes "\" [" ++ done ++ codes "] " ++ decimal count)
 
 -- the body of a message and a line feed
 abbrev pub body_line : Desk → ℕ → List ℕ
@@ -30,14 +30,14 @@ body_line desk n = with_feed (unwrap_or (body_of (message_text desk n)) [])
 -- the texts of these are added to a file as they stand in the folder, and then an act is done on each
 abbrev pub adding : Act → Desk → List ℕ → List ℕ → Filing
 adding act desk ns name = record {
-  put = record { name = name; what = Texts (map (message_text desk) ns); reply = reply name (codes "Appended") (length ns) };
+  put = record { name = name; what = Texts (map (message_text desk) ns); reply = receipt name (codes "Appended") (length ns) };
   effects = marked desk act ns;
 }
 
 -- the bodies of these are put at the end of a file, and then they are saved
 abbrev pub writing : Desk → List ℕ → List ℕ → Filing
 writing desk ns name = record {
-  put = record { name = name; what = Bytes (flat_map (body_line desk) ns); reply = reply name (codes "Written") (length ns) };
+  put = record { name = name; what = Bytes (flat_map (body_line desk) ns); reply = receipt name (codes "Written") (length ns) };
   effects = marked desk Save ns;
 }
 

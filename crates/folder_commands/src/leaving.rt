@@ -3,7 +3,7 @@ ghost use Rattle.std.specs.Prelude.{◌≡◌, ◌++◌, IfOk, OnOk};
 ghost use Rattle.command_desk.specs.Desks.{IsDesk, IsWithin};
 ghost use Rattle.folder_commands.specs.Leaving.{changes_of, counted, left_reply, replies, said, quit};
 
-use crate::saving::reply;
+use crate::saving::receipt;
 use command_desk::{Ask, Desk, Steps, unchanged};
 use folder_change::Change;
 use mail_text::{Items, Memory, Text};
@@ -33,7 +33,7 @@ fn put_count(
     if count == 0 {
         return Ok(());
     }
-    let line = reply(alloc, name, done, count as usize)?;
+    let line = receipt(alloc, name, done, count as usize)?;
     out.push(line.bytes())
 }
 

@@ -18,5 +18,5 @@ pub use laws::made_is_applied;
 pub use leaving::quit;
 pub use making::made_folder;
 pub use opening::{file, opening_line};
-pub use saving::{copy, copy_by_author, reply, save, save_by_author, write};
+pub use saving::{copy, copy_by_author, receipt, save, save_by_author, write};
 pub use wanted::Filing;

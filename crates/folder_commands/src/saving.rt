@@ -4,7 +4,7 @@ ghost use Rattle.std.specs.List.{flat_map};
 ghost use Rattle.message_state.specs.declared.mark.Act.TheVariants as act;
 ghost use Rattle.command_desk.specs.Answers.{Means};
 ghost use Rattle.command_desk.specs.Desks.{IsDesk, IsMessageOf, message_text};
-ghost use Rattle.folder_commands.specs.Saving.{reply, body_line, adding, writing, into_named, into_mbox, into_file, by_author, copy, copy_by_author, save, save_by_author, write_to, write, IsFilingWithin};
+ghost use Rattle.folder_commands.specs.Saving.{receipt, body_line, adding, writing, into_named, into_mbox, into_file, by_author, copy, copy_by_author, save, save_by_author, write_to, write, IsFilingWithin};
 
 use crate::Filing;
 use command_desk::{
@@ -19,8 +19,8 @@ use quit_rules::{Gathered, What};
 use std::alloc::Global;
 
 /// What is printed once `count` messages were put into the file of this name.
-pub fn reply(alloc: Global, name: &[u8], done: &[u8], count: usize) -> Result<Text, Memory>
-    ensures { IfOk result (λ line. line ≡ reply name.now done.now count) }
+pub fn receipt(alloc: Global, name: &[u8], done: &[u8], count: usize) -> Result<Text, Memory>
+    ensures { IfOk result (λ line. line ≡ receipt name.now done.now count) }
 {
     let mut buffer = Buffer::new();
     let mut line = Text::copy(alloc, b"\"")?;
@@ -85,7 +85,7 @@ fn adding(
     ensures filing { IfOk result (λ filing. filing ≡ adding act desk.now numbers.now name) }
     ensures within { IsFilingWithin desk.now result }
 {
-    let reply = reply(alloc, name.bytes(), b"Appended", numbers.len())?;
+    let reply = receipt(alloc, name.bytes(), b"Appended", numbers.len())?;
     let texts = texts_of(alloc, desk, numbers)?;
     let effects = marked(alloc, desk, act, numbers)?;
     Ok(Filing {
@@ -106,7 +106,7 @@ fn writing(alloc: Global, desk: &Desk, numbers: &[u32], name: Text) -> Result<Fi
     ensures filing { IfOk result (λ filing. filing ≡ writing desk.now numbers.now name) }
     ensures within { IsFilingWithin desk.now result }
 {
-    let reply = reply(alloc, name.bytes(), b"Written", numbers.len())?;
+    let reply = receipt(alloc, name.bytes(), b"Written", numbers.len())?;
     let bytes = bodies_of(alloc, desk, numbers)?;
     let effects = marked(alloc, desk, Act::Save, numbers)?;
     Ok(Filing {

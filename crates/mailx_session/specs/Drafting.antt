@@ -29,7 +29,7 @@ use Rattle.command_desk.specs.Effects.{unchanged}
 use Rattle.command_desk.specs.FileNames.{expanded}
 use Rattle.command_desk.specs.Faults.{bad_name, no_such_file, too_large, cannot_be_read}
 use Rattle.command_desk.specs.Selecting.{list_line}
-use Rattle.folder_commands.specs.Saving.{reply}
+use Rattle.folder_commands.specs.Saving.{receipt}
 use Rattle.read_commands.specs.declared.origin.Origin.TheVariants as origin
 use Rattle.read_commands.specs.Origins.{commanded}
 use Rattle.session_state.specs.declared.state.SessionState.{SessionState}
@@ -106,7 +106,7 @@ run_for s command input = Ask (by_shell s.desk command input) (after_child s)
 -- bytes are put at the end of a file by a commit, and then the reply is printed
 abbrev pub written : List ℕ → List ℕ → Steps
 written name bytes = record {
-  asks = asks.Commit (AddRaw name bytes ∷ []) ∷ asks.Say (reply name (codes "Written") 1) ∷ [];
+  asks = asks.Commit (AddRaw name bytes ∷ []) ∷ asks.Say (receipt name (codes "Written") 1) ∷ [];
   effects = unchanged;
 }
 

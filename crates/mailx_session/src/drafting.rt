@@ -22,7 +22,7 @@ use command_desk::{expanded, line_of, list_line, unchanged};
 use compose_tilde::{Answer, Compose, ComposeError, Need};
 use draft_sending::{end_draft, quit_draft};
 use folder_change::Change;
-use folder_commands::reply;
+use folder_commands::receipt;
 use host_port::{ChildAnswer, Host};
 use mail_text::{Items, Memory, Text};
 use mailx_vars::is_short_name;
@@ -308,7 +308,7 @@ fn run_for<H: Host>(
 fn written(alloc: Global, name: Text, bytes: Text) -> Result<Steps, Memory>
     ensures { IfOk result (λ steps. steps ≡ written name bytes) }
 {
-    let reply = reply(alloc, name.bytes(), b"Written", 1)?;
+    let reply = receipt(alloc, name.bytes(), b"Written", 1)?;
     let mut changes = Items::new(alloc);
     changes.push(Change::AddRaw { name, bytes })?;
     let mut asks = Items::new(alloc);
