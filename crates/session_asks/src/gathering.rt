@@ -29,9 +29,8 @@ pub(crate) fn gather(alloc: Global, state: &SessionState, name: &[u8]) -> Result
     ensures memory { IfErr result (λ e. e ≡ RunError.Memory) }
     ensures goes_on { IfOk result EndsNoRun }
 {
-    match gather_fault(alloc, state, name) {
-        Ok(Some(line)) => Ok(Asked::Refused { line }),
-        Ok(None) => Ok(Asked::On),
-        Err(Memory) => Err(RunError::Memory),
+    match gather_fault(alloc, state, name)? {
+        Some(line) => Ok(Asked::Refused { line }),
+        None => Ok(Asked::On),
     }
 }
