@@ -35,7 +35,7 @@ folder_word o = if o.folder then first_or (codes "&") o.operands else codes "%"
 abbrev pub manner_of : Options → Manner
 manner_of o = if o.exists then Silent else if o.headers then Rows else if o.quiet then Quiet else Greeting
 
--- how to start in a mode; what tries isn't built
+-- how to start in a mode; a run that tries itself starts none here
 abbrev pub start_in : Mode → Options → Option Start
 start_in mode.Exists o = Some (Opens o)
 start_in mode.Receive o = Some (Opens o)

@@ -31,15 +31,6 @@ fn read_file<H: Host>(host: &mut H, session: &mut Session, name: &[u8]) -> Resul
     }
 }
 
-// Reads the last start-up file.
-fn read_last<H: Host>(host: &mut H, session: &mut Session, name: &[u8]) -> Result<(), Stop>
-    ensures ran { (env : Environment) → (start : Start) → Ran H.world host.old host.new
-        (λ es. LeadsTo env (Preparing start session.old (name.now ∷ [])) es (after_files start session.new result)) }
-    ensures cause { Caused (H.world.counts host.old) (H.world.counts host.new) result }
-{
-    read_file(host, session, name)
-}
-
 // Reads the start-up file of the system, and then the user's.
 fn read_both<H: Host>(host: &mut H, session: &mut Session, own: &[u8]) -> Result<(), Stop>
     ensures ran { (env : Environment) → (start : Start) → Ran H.world host.old host.new
@@ -48,7 +39,7 @@ fn read_both<H: Host>(host: &mut H, session: &mut Session, own: &[u8]) -> Result
     ensures cause { Caused (H.world.counts host.old) (H.world.counts host.new) result }
 {
     match read_file(host, session, SYSTEM_FILE) {
-        Ok(()) => read_last(host, session, own),
+        Ok(()) => read_file(host, session, own),
         Err(cause) => Err(cause),
     }
 }
@@ -66,7 +57,7 @@ fn read_named<H: Host>(
     ensures cause { Caused (H.world.counts host.old) (H.world.counts host.new) result }
 {
     if no_system_file {
-        read_last(host, session, own)
+        read_file(host, session, own)
     } else {
         read_both(host, session, own)
     }

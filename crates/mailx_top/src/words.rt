@@ -81,7 +81,7 @@ pub(crate) fn manner_of(options: &Options) -> Manner
     }
 }
 
-// How to start in a mode. What tries isn't built.
+// How to start in a mode. A run that tries itself starts none here.
 fn start_by(wanted: &Wanted) -> Option<Start<'_>>
     ensures { may_start result ≡ start_by wanted.now }
 {
