@@ -42,7 +42,7 @@ fn tilde_line(alloc: Global, letters: &[u8], fault: &[u8]) -> Result<Text, Memor
 }
 
 // The line that refuses an escape.
-fn escape_line(alloc: Global, error: &ComposeError) -> Result<Text, Memory>
+fn escape_fault(alloc: Global, error: &ComposeError) -> Result<Text, Memory>
     ensures { IfOk result (IsEscapeFault error.now) }
 {
     match error {
@@ -69,7 +69,7 @@ fn refuse_escape<H: Host>(
         → Ran H.world host.old host.new (λ es. Goes p es (in_play (λ u. Go state.now) result)) }
     ensures cause { LineCaused (H.world.counts host.old) (H.world.counts host.new) result }
 {
-    let line = escape_line(alloc, error)?;
+    let line = escape_fault(alloc, error)?;
     say_text(state, host, &line)
 }
 
