@@ -1,6 +1,5 @@
-use Rattle.std.proofs.Common.{Option, sym, ap}
+use Rattle.std.proofs.Common.{sym, ap}
 use Rattle.std.specs.Option.{option_map}
-use Rattle.mail_search.specs.Keys.{Key}
 use Rattle.mail_search.proofs.FoundLemmas.{found, none_found}
 use Rattle.message_list.specs.declared.list.Kind.TheVariants.{Search}
 use Rattle.message_list.proofs.kind.search_kind.Goals as goal
