@@ -1,6 +1,6 @@
 -- What parentheses enclose is read as it stands.
-use Rattle.std.proofs.Common.{◌≡◌, ℕ, suc, ◌==◌, ◌&&◌, Bool, true, false, not, ◌||◌, List, [], ◌∷◌, ◌++◌, Option, Some, None, refl, sym, ap, ◌∙◌, inl, inr, append_assoc, append-nil}
-use Rattle.std.proofs.lemmas.Bool.{cond-true, cond-false, false≢true}
+use Rattle.std.proofs.Common.{◌≡◌, ℕ, suc, ◌-◌, ◌==◌, ◌&&◌, Bool, true, false, not, ◌||◌, List, [], ◌∷◌, ◌++◌, Option, Some, None, refl, sym, ap, ◌∙◌, inl, inr, append_assoc, append-nil, arith}
+use Rattle.std.proofs.lemmas.Bool.{cond-false, ne_eqb, false≢true}
 use Rattle.std.specs.Option.{option_map}
 use Rattle.line_words.specs.Enclosed.{InString, no_byte, one_byte, taken_byte, IsOpenString, IsClosed, nothing, inner, string, group, IsEnclosed, IsUnclosed, one, more}
 use Rattle.line_words.specs.Words.{Part, enclosed, parts_of, enclosed_parts, string_parts, taken_parts}
@@ -24,6 +24,14 @@ string_read (taken_byte s b str) lists n text rest =
     ap (string_parts lists n text) (append_assoc s (92 ∷ b ∷ []) rest)
     ∙ string_read str lists n text (92 ∷ b ∷ rest)
     ∙ ap (λ (t : List ℕ). string_parts lists n t rest) (append_assoc (text ++ s) (92 ∷ []) (b ∷ []) ∙ append_assoc text s (92 ∷ b ∷ []))
+
+-- `)` closes a parenthesis that isn't the first
+closer_read : (lists : Bool) (n : ℕ) (text rest : List ℕ) → enclosed_parts lists (suc n) text (41 ∷ rest) ≡ enclosed_parts lists n (text ++ 41 ∷ []) rest
+unfolding enclosed_parts
+closer_read lists n text rest =
+    let deeper : (suc n == 0) ≡ false = ne_eqb (suc n) 0 (omega arith) in
+    let left : suc n - 1 ≡ n = omega arith in
+    cond-false _ _ _ deeper ∙ ap (λ (m : ℕ). enclosed_parts lists m (text ++ 41 ∷ []) rest) left
 
 pub closed_read : {cs : List ℕ} → IsClosed cs → (lists : Bool) (n : ℕ) (text rest : List ℕ) → enclosed_parts lists n text (cs ++ rest) ≡ enclosed_parts lists n (text ++ cs) rest
 unfolding enclosed_parts string_parts
@@ -49,6 +57,7 @@ closed_read (group bs cs c d) lists n text rest =
     ∙ closed_read c lists n text (40 ∷ ((cs ++ 41 ∷ []) ++ rest))
     ∙ ap (enclosed_parts lists (suc n) front) (append_assoc cs (41 ∷ []) rest)
     ∙ closed_read d lists (suc n) front (41 ∷ rest)
+    ∙ closer_read lists n (front ++ cs) rest
     ∙ ap (λ (t : List ℕ). enclosed_parts lists n t rest)
     (append_assoc front cs (41 ∷ []) ∙ append_assoc (text ++ bs) (40 ∷ []) (cs ++ 41 ∷ []) ∙ append_assoc text bs (40 ∷ (cs ++ 41 ∷ [])))
 
