@@ -29,7 +29,7 @@ use mailx_vars::is_short_name;
 use read_commands::{Ask as Wanted, Desk, Origin, Refusal, Steps};
 use session_asks::{by_shell, view_as};
 use session_play::{Found, try_load};
-use session_state::{Flow, RunError, SessionState, go_on, placed, say, say_text};
+use session_state::{Flow, RunError, SessionState, go_on, placed, say_text};
 use std::alloc::Global;
 
 // An escape as its faults name it, and what is wrong with it, as a line.

@@ -17,56 +17,17 @@ use Rattle.session_play.proofs.PlayLemmas.{goes-then, goes-cut, goes-as}
 use Rattle.session_state.specs.declared.state.SessionState.{SessionState}
 use Rattle.session_state.specs.declared.status.Status.{Status}
 use Rattle.command_desk.specs.declared.steps.Ask as asked_of
-use Rattle.command_desk.specs.declared.steps.Ask.TheVariants as asks
-use Rattle.folder_change.specs.declared.change.Change.{Change}
-use Rattle.session_state.specs.Outcomes.{status_of}
-use Rattle.session_state.specs.Saving.{saved}
-use Rattle.session_asks.specs.Sourcing.{source_fault, sourced}
-use Rattle.draft_text.specs.declared.draft.Draft.{Draft}
-use Rattle.session_asks.specs.Beginning.{beginning, file_fault}
 use Rattle.session_asks.specs.Running.{after_run, run_asked}
 use Rattle.std.specs.declared.option.Option.TheVariants.{Some}
 use Rattle.host_port.specs.declared.event.ChildAnswer.{ChildAnswer}
 use Rattle.host_port.proofs.RanLemmas.{rose-back}
 use Rattle.compose_tilde.specs.Answering.{said_of}
-use Rattle.session_asks.specs.Calling.{called}
-use Rattle.session_asks.specs.Gathering.{gather_fault, gathers}
-use Rattle.session_asks.specs.Switching.{open_fault, switches}
-use Rattle.session_asks.specs.Renewing.{folder_fault, renews}
-use Rattle.session_asks.specs.Viewing.{views}
-use Rattle.thread_view.specs.declared.view.ViewKind.{ViewKind}
 use Rattle.session_asks.specs.Asks.{asked, all_done}
 use Rattle.session_state.specs.Answers.{after_asks, in_play, stop_of, LineCaused}
 
-pub asked-say : (s : SessionState) (ask : asked_of.Ask) (bytes : List ℕ) → ask ≡ asks.Say bytes → asked s ask ≡ Ask (Say bytes) (λ _. Ret (On s))
-asked-say s ask bytes is = ap (asked s) is
-
-pub asked-commit : (s : SessionState) (ask : asked_of.Ask) (changes : List Change) → ask ≡ asks.Commit changes → asked s ask ≡ saved s changes
-asked-commit s ask changes is = ap (asked s) is
-
-pub asked-gather : (s : SessionState) (ask : asked_of.Ask) (name : List ℕ) → ask ≡ asks.Gather name → asked s ask ≡ Ret (gathers s (gather_fault s name))
-asked-gather s ask name is = ap (asked s) is
-
-pub asked-source : (s : SessionState) (ask : asked_of.Ask) (name : List ℕ) → ask ≡ asks.Source name → asked s ask ≡ sourced s name (source_fault s name)
-asked-source s ask name is = ap (asked s) is
-
-pub asked-lines : (s : SessionState) (ask : asked_of.Ask) (text : List ℕ) → ask ≡ asks.Lines text → asked s ask ≡ Ret (called s text)
-asked-lines s ask text is = ap (asked s) is
-
-pub asked-open : (s : SessionState) (ask : asked_of.Ask) (name : List ℕ) (changes : List Change) (reply : List ℕ) → ask ≡ asks.Open name changes reply → asked s ask ≡ switches s name changes reply (open_fault s name changes)
-asked-open s ask name changes reply is = ap (asked s) is
-
-pub asked-newmail : (s : SessionState) (ask : asked_of.Ask) → ask ≡ asks.Newmail → asked s ask ≡ renews s (folder_fault s)
-asked-newmail s ask is = ap (asked s) is
-
-pub asked-view : (s : SessionState) (ask : asked_of.Ask) (kind : ViewKind) → ask ≡ asks.View kind → asked s ask ≡ views s kind
-asked-view s ask kind is = ap (asked s) is
-
-pub asked-draft : (s : SessionState) (ask : asked_of.Ask) (draft : Draft) (file : Option (List ℕ)) (current : Option ℕ) → ask ≡ asks.Draft draft file current → asked s ask ≡ beginning s draft file current (file_fault s file)
-asked-draft s ask draft file current is = ap (asked s) is
-
-pub asked-child : (s : SessionState) (ask : asked_of.Ask) (command input : List ℕ) → ask ≡ asks.Child command input → asked s ask ≡ run_asked s command input
-asked-child s ask command input is = ap (asked s) is
+-- an ask, by its kind
+pub asked-as : (s : SessionState) (a b : asked_of.Ask) → a ≡ b → asked s a ≡ asked s b
+asked-as s a b is = ap (asked s) is
 
 -- a command that is run, where it and its input are others' bytes
 pub run-asked-as : (s : SessionState) (w v input bytes : List ℕ) (out : Result (After SessionState Status) Stop) → w ≡ v → input ≡ bytes
@@ -78,9 +39,6 @@ run-asked-as s w v input bytes out command same =
 -- what follows a command that was run
 pub after-run : (s : SessionState) (answer : Option ChildAnswer) (child : ChildAnswer) → answer ≡ Some child → after_run s answer ≡ Ask (Say (said_of child)) (λ _. Ret (On s))
 after-run s answer child is = ap (after_run s) is
-
-pub asked-exit : (s : SessionState) (ask : asked_of.Ask) → ask ≡ asks.Exit → asked s ask ≡ Ret (Ended (status_of s.outcome))
-asked-exit s ask is = ap (asked s) is
 
 -- a cause in a later call is one in the whole stretch
 pub caused-later : (a b c : Counts) (r : Result Asked RunError) → NeverFall a b → LineCaused b c r → LineCaused a c r

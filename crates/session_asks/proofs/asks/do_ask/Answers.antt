@@ -1,19 +1,19 @@
 use Rattle.std.proofs.Common.{refl, ap, inl}
 use Rattle.host_port.proofs.RanLemmas.{Ran-none, Ran-map}
 use Rattle.read_commands.specs.Origins.{is_startup_ask}
-use Rattle.session_asks.proofs.AskLemmas.{asked-say, asked-commit, asked-gather, asked-source, asked-lines, asked-open, asked-newmail, asked-view, asked-draft, asked-child, asked-exit, run-asked-as}
+use Rattle.session_asks.proofs.AskLemmas.{asked-as, run-asked-as}
 use Rattle.session_asks.proofs.SourcingLemmas.{kept-valid, keeps-desk, left-goes, called-caused, ends-by-ask, asks-go-on}
 use Rattle.session_asks.proofs.asks.do_ask.Goals as goal
 
 pub returns-in-Say-clause-ran : goal.returns-in-Say-clause-ran
-returns-in-Say-clause-ran g c = rw (asked-say c.args.state.now c.args.ask _ c.in-Say.is) (c.say_line.ensures.ran c.args.state.now)
+returns-in-Say-clause-ran g c = rw (asked-as c.args.state.now c.args.ask _ c.in-Say.is) (c.say_line.ensures.ran c.args.state.now)
 
 pub returns-in-Commit-clause-ran : goal.returns-in-Commit-clause-ran
-returns-in-Commit-clause-ran g c = rw (asked-commit c.args.state.now c.args.ask _ c.in-Commit.is) c.commit.ensures.ran
+returns-in-Commit-clause-ran g c = rw (asked-as c.args.state.now c.args.ask _ c.in-Commit.is) c.commit.ensures.ran
 
 pub returns-in-Gather-clause-ran : goal.returns-in-Gather-clause-ran
 returns-in-Gather-clause-ran g c =
-    rw (asked-gather c.args.state.now c.args.ask _ c.in-Gather.is)
+    rw (asked-as c.args.state.now c.args.ask _ c.in-Gather.is)
     (Ran-none (left-goes c.args.state.now _ c.gather.result (rw c.bytes-in-Gather.ensures at c.gather.ensures.means) c.gather.ensures.memory))
 
 pub returns-in-Gather-clause-desk : goal.returns-in-Gather-clause-desk
@@ -29,7 +29,7 @@ pub returns-in-Gather-clause-cause : goal.returns-in-Gather-clause-cause
 returns-in-Gather-clause-cause g c = called-caused (g.H.Host.world.counts c.args.host.now) (g.H.Host.world.counts c.args.host.now) c.gather.result c.gather.ensures.memory
 
 pub returns-in-Source-clause-ran : goal.returns-in-Source-clause-ran
-returns-in-Source-clause-ran g c = rw (asked-source c.args.state.now c.args.ask _ c.in-Source.is) (rw c.bytes-in-Source.ensures at c.source.ensures.ran)
+returns-in-Source-clause-ran g c = rw (asked-as c.args.state.now c.args.ask _ c.in-Source.is) (rw c.bytes-in-Source.ensures at c.source.ensures.ran)
 
 pub returns-in-Source-clause-valid : goal.returns-in-Source-clause-valid
 returns-in-Source-clause-valid g c = kept-valid c.args.state.now c.source.new.state c.requires c.source.ensures.brings c.source.ensures.desk
@@ -48,7 +48,7 @@ returns-in-Source-clause-cause g c = called-caused (g.H.Host.world.counts c.args
 
 pub returns-in-Lines-clause-ran : goal.returns-in-Lines-clause-ran
 returns-in-Lines-clause-ran g c =
-    rw (asked-lines c.args.state.now c.args.ask _ c.in-Lines.is)
+    rw (asked-as c.args.state.now c.args.ask _ c.in-Lines.is)
     (Ran-none (left-goes c.call.new.state _ c.call.result c.call.ensures.means c.call.ensures.memory))
 
 pub returns-in-Lines-clause-valid : goal.returns-in-Lines-clause-valid
@@ -67,25 +67,25 @@ pub returns-in-Lines-clause-done : goal.returns-in-Lines-clause-done
 returns-in-Lines-clause-done g c = ends-by-ask c.call.result c.call.ensures.goes_on
 
 pub returns-in-Open-clause-ran : goal.returns-in-Open-clause-ran
-returns-in-Open-clause-ran g c = rw (asked-open c.args.state.now c.args.ask _ _ _ c.in-Open.is) (rw c.bytes-in-Open.ensures at c.switch.ensures.ran)
+returns-in-Open-clause-ran g c = rw (asked-as c.args.state.now c.args.ask _ c.in-Open.is) (rw c.bytes-in-Open.ensures at c.switch.ensures.ran)
 
 pub returns-in-Newmail-clause-ran : goal.returns-in-Newmail-clause-ran
-returns-in-Newmail-clause-ran g c = rw (asked-newmail c.args.state.now c.args.ask c.in-Newmail.is) c.renew.ensures.ran
+returns-in-Newmail-clause-ran g c = rw (asked-as c.args.state.now c.args.ask _ c.in-Newmail.is) c.renew.ensures.ran
 
 pub returns-in-View-clause-ran : goal.returns-in-View-clause-ran
-returns-in-View-clause-ran g c = rw (asked-view c.args.state.now c.args.ask _ c.in-View.is) (Ran-none c.view.ensures.goes)
+returns-in-View-clause-ran g c = rw (asked-as c.args.state.now c.args.ask _ c.in-View.is) (Ran-none c.view.ensures.goes)
 
 pub returns-in-View-clause-cause : goal.returns-in-View-clause-cause
 returns-in-View-clause-cause g c = called-caused (g.H.Host.world.counts c.args.host.now) (g.H.Host.world.counts c.args.host.now) c.view.result c.view.ensures.memory
 
 pub returns-in-Draft-clause-ran : goal.returns-in-Draft-clause-ran
-returns-in-Draft-clause-ran g c = rw (asked-draft c.args.state.now c.args.ask _ _ _ c.in-Draft.is) c.begin_recorded.ensures.ran
+returns-in-Draft-clause-ran g c = rw (asked-as c.args.state.now c.args.ask _ c.in-Draft.is) c.begin_recorded.ensures.ran
 
 pub returns-in-Child-clause-ran : goal.returns-in-Child-clause-ran
-returns-in-Child-clause-ran g c = rw (asked-child c.args.state.now c.args.ask c.in-Child.command c.in-Child.input c.in-Child.is) (Ran-map (run-asked-as c.args.state.now _ _ _ _ _ c.bytes-in-Child.ensures c.bytes-in-Child-2.ensures) c.run_asked.ensures.ran)
+returns-in-Child-clause-ran g c = rw (asked-as c.args.state.now c.args.ask _ c.in-Child.is) (Ran-map (run-asked-as c.args.state.now _ _ _ _ _ c.bytes-in-Child.ensures c.bytes-in-Child-2.ensures) c.run_asked.ensures.ran)
 
 pub returns-in-Exit-clause-ran : goal.returns-in-Exit-clause-ran
-returns-in-Exit-clause-ran g c = rw (asked-exit c.args.state.now c.args.ask c.in-Exit.is) (rw c.status_of.ensures.status (Ran-none (refl, inl refl)))
+returns-in-Exit-clause-ran g c = rw (asked-as c.args.state.now c.args.ask _ c.in-Exit.is) (rw c.status_of.ensures.status (Ran-none (refl, inl refl)))
 
 pub returns-in-Commit-clause-goes_on : goal.returns-in-Commit-clause-goes_on
 returns-in-Commit-clause-goes_on g c = λ little. absurd (cc (ap is_startup_ask c.in-Commit.is, little))
