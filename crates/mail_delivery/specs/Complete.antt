@@ -1,17 +1,13 @@
 -- Deliveries that nothing stands in the way of.
 use Rattle.std.proofs.Common.{inl, inr}
-use Rattle.std.specs.Prelude.{◌≡◌, ◌<◌, Bool, true, false, List, [], ◌∷◌, Some, None, is_some}
+use Rattle.std.specs.Prelude.{◌≡◌, ◌<◌, false, List, Some, None}
 use Rattle.std.specs.List.{list_any}
-use Rattle.std.specs.Str.{bytes_eq}
 use Rattle.std.specs.declared.option.Option.{Option}
 use Rattle.std.specs.declared.result.Result.{Result}
 use Rattle.std.specs.declared.result.Result.TheVariants.{Ok, Err}
 use Rattle.host_port.specs.Calls.{Counts, Rose}
 use Rattle.host_port.specs.declared.event.Event.{Event}
-use Rattle.host_port.specs.declared.event.Event.TheVariants as event
-use Rattle.host_port.specs.declared.event.Seen.TheVariants as seen
-use Rattle.commit_machine.specs.Names.{new_name}
-use Rattle.commit_machine.specs.Records.{record_of}
+use Rattle.commit_machine.specs.Runs.{is_hindrance}
 use Rattle.folder_commit.specs.Told.{refusal_told}
 use Rattle.session_play.specs.declared.stop.Stop.{Stop}
 use Rattle.session_play.specs.Causes.{bytes_in}
@@ -22,7 +18,6 @@ use Rattle.mail_delivery.specs.declared.environment.Environment.{Environment}
 use Rattle.mail_delivery.specs.declared.words.Request.{Request}
 use Rattle.mail_delivery.specs.declared.status.DeliverStatus.{DeliverStatus}
 use Rattle.mail_delivery.specs.declared.status.DeliverStatus.TheVariants as status
-use Rattle.mail_delivery.specs.Words.{actor}
 use Rattle.mail_delivery.specs.Runs.{Delivers}
 
 -- no count of faults of the input or the disk rose
@@ -30,25 +25,10 @@ pub record IsStill (old new : Counts) : Type 0 where
   pub ins : Rose old.ins new.ins → ⊥
   pub disks : Rose old.disks new.disks → ⊥
 
--- another has the right or a lock, a file is past the limit, or what was made for the record isn't there any more
-abbrev pub is_in_way : Event → Bool
-is_in_way (event.Seize n false failed) = true
-is_in_way (event.Lock n token false failed) = true
-is_in_way (event.Load n (seen.TooLarge length)) = true
-is_in_way (event.Publish from to false failed) = bytes_eq from (new_name actor)
-is_in_way e = false
-
--- the file that is loaded first, which is the record, reads or is absent
-abbrev pub record_reads : List Event → Bool
-record_reads [] = true
-record_reads (event.Load n (seen.Bytes (Some bytes) held) ∷ es) = is_some (record_of bytes)
-record_reads (event.Load n s ∷ es) = true
-record_reads (e ∷ es) = record_reads es
-
--- nothing stood in the way of a commit, by its own events: no such thing was met, the record reads, and the mailboxes have room
+-- nothing stood in the way of a commit, by its own events: no other's right or lock was met, no file past the limit and no bytes as the record that
+-- are none, and the mailboxes have room
 pub record IsFree (c : Commit) (es : List Event) : Type 0 where
-  pub clear : list_any is_in_way es ≡ false
-  pub reads : record_reads es ≡ true
+  pub clear : list_any (is_hindrance c.actor) es ≡ false
   pub room : refusal_told c.changes c.base es ≡ None
 
 abbrev pub OfFree : Act → List Event → Type 0

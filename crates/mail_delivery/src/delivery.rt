@@ -10,6 +10,7 @@ ghost use Rattle.mail_delivery.specs.Complete.{IsStill, IsComplete};
 ghost use Rattle.mail_delivery.specs.Crash.{IsSafe};
 ghost use Rattle.host_port.specs.declared.event.Event.{Event};
 ghost use Rattle.host_port.specs.Disk.{disk};
+ghost use Rattle.host_port.specs.Own.{own};
 ghost use Rattle.host_port.specs.Calls.{Rose};
 ghost use Rattle.host_port.specs.Ran.{Ran};
 ghost use Rattle.mail_dates.specs.Clock.{IsPrintable};
@@ -253,13 +254,15 @@ pub fn deliver<H: Host>(
     // The usage is answered exactly when the words are refused, unless memory ran out.
     ensures usage_only { result ≡ DeliverStatus.Usage → reading words.now env.now.pairs ≡ None }
     ensures usage_always { reading words.now env.now.pairs ≡ None → IsUsageOrMemory result }
-    // If no fault of input or disk is counted and nothing stands in the way of the delivery it is done, or memory ran
-    // out.
-    ensures complete { IsStill (H.world.counts host.old) (H.world.counts host.new)
-        → (es : List Event) → IsComplete (reading words.now env.now.pairs) env.now result es }
-    // From a disk that is sound and carries nothing of the token, with lawful steps of others: at every moment, and
-    // wherever the run stops, what recovery would make of the files has all of the delivery or none of it; after 0 it
-    // has all, and after 2, 3, 7, 9 and 11 none.
+    // From a disk that is sound and carries nothing of the token, with lawful steps of others: if no fault of input or
+    // disk is counted and nothing stands in the way of the delivery it is done, or memory ran out.
+    ensures complete { (before es : List Event) → H.world.told host.old ≡ Some before
+        → H.world.told host.new ≡ Some (before ++ es)
+        → MayCommit actor env.now.token (disk (H.world.start host.old) before) es
+        → IsStill (H.world.counts host.old) (H.world.counts host.new)
+        → IsComplete (reading words.now env.now.pairs) env.now result (own es) }
+    // Under the same premises: at every moment, and wherever the run stops, what recovery would make of the files has
+    // all of the delivery or none of it; after 0 it has all, and after 2, 3, 7, 9 and 11 none.
     ensures safe { (before es : List Event) → H.world.told host.old ≡ Some before
         → H.world.told host.new ≡ Some (before ++ es)
         → MayCommit actor env.now.token (disk (H.world.start host.old) before) es

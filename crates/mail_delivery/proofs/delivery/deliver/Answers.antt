@@ -43,10 +43,11 @@ returns-in-Ok-Some-clause-safe g c = λ before es at to may.
     run-safely c.args.words.now env c.status_at.result _ es fits r.0 may r.1
 
 pub returns-in-Ok-Some-clause-complete : goal.returns-in-Ok-Some-clause-complete
-returns-in-Ok-Some-clause-complete g c = λ still es.
+returns-in-Ok-Some-clause-complete g c = λ before es at to may still.
     let env = c.args.env.now in
     let fits : env.token < 2 ^ 64 = omega arith in
-    run-completes c.args.words.now env c.status_at.result _ _ es fits (returns-in-Ok-Some-clause-input_fault g c) (returns-in-Ok-Some-clause-disk_fault g c) still
+    let r = Ran-since before es (returns-in-Ok-Some-clause-run g c) at to in
+    run-completes c.args.words.now env c.status_at.result _ _ _ es fits r.0 may (returns-in-Ok-Some-clause-input_fault g c) (returns-in-Ok-Some-clause-disk_fault g c) still
 
 pub returns-in-Ok-None-clause-safe : goal.returns-in-Ok-None-clause-safe
 returns-in-Ok-None-clause-safe g c = λ before es at to may.
