@@ -1,8 +1,10 @@
 -- A delivery adds its text to each mailbox once.
-use Rattle.std.proofs.Common.{◌≡◌, ◌≢◌, ◌||◌, ℕ, Bool, true, false, List, [], ◌∷◌, ◌++◌, drop, Option, Some, Result, Ok, Err, refl, ap, sym, ◌∙◌, subst, inl, inr}
+use Rattle.std.proofs.Common.{◌≡◌, ◌≢◌, ◌||◌, ℕ, Bool, true, false, List, [], ◌∷◌, ◌++◌, drop, codes, Option, Some, Result, Ok, Err, refl, ap, sym, ◌∙◌, subst, inl, inr}
 use Rattle.std.specs.List.{All}
 use Rattle.std.specs.Str.{bytes_eq}
 use Rattle.std.proofs.lemmas.List.Elements.{All-nil, All-cons}
+use Rattle.host_port.specs.Own.{own}
+use Rattle.mail_text.specs.Lines.{lines_of}
 use Rattle.mbox_scan.specs.Mailbox.{IsProper}
 use Rattle.folder_change.specs.declared.change.Change.{Change}
 use Rattle.folder_change.specs.declared.change.Change.TheVariants.{Add}
@@ -14,13 +16,17 @@ use Rattle.folder_change.proofs.ApplyLemmas.{put-here, after-other, apply-other}
 use Rattle.folder_change.proofs.LawLemmas.{add-appends}
 use Rattle.commit_machine.specs.Records.{has, AreDistinct}
 use Rattle.commit_machine.proofs.records.Same.{same_or_not}
+use Rattle.mailx_vars.specs.Environment.{variable}
 use Rattle.session_play.specs.Committing.{Commit}
 use Rattle.play_safety.specs.Appended.{Adds, nothing, passes, puts}
 use Rattle.play_safety.proofs.AppendedLemmas.{all-followed}
 use Rattle.mail_delivery.specs.Words.{actor, mailbox}
 use Rattle.mail_delivery.specs.Delivered.{delivered}
 use Rattle.mail_delivery.specs.Meaning.{additions}
+use Rattle.mail_delivery.specs.Source.{input_in}
 use Rattle.mail_delivery.specs.Laws.{EachGetsOne, DoneStands}
+use Rattle.mail_delivery.proofs.ProperLemmas.{input-proper}
+use Rattle.mail_delivery.proofs.RequestLemmas.{reading-good}
 
 -- users of one mailbox are one
 one-user : (a b : List ℕ) → mailbox a ≡ mailbox b → a ≡ b
@@ -102,24 +108,26 @@ adds-once text (u ∷ us) user proper once h = elim (same_or_not user u) [
 ]
 
 pub done-stands : DoneStands
-done-stands request env d es once safe =
+done-stands words request env d es asked safe =
+    let good = reading-good words env.pairs request asked in
     let c = safe.accepted.0 in
     let is = safe.accepted.1 in
     let of = safe.accepted.2 in
-    let lines = of.0 in
-    let m = of.1 in
-    let text = delivered request.sender lines m in
+    let input = input_in (own es) in
+    let text = delivered request.sender (lines_of input) of.moment in
+    let proper = input-proper request.sender input (variable env.pairs (codes "TZ")) of.told.seconds of.moment good.sender of.told.moment in
     let followed = all-followed actor env.token d es safe.commits safe.out safe.safe in
     let at = followed.accepted [] [] c is in (
-      lines,
-      m,
-      λ proper. record {
+      of.moment,
+      of.told,
+      of.ended,
+      record {
         front = at.0;
         decision = at.1;
         rest = at.2;
         is = at.3;
         behind = λ user before later now h left alone held.
-            let adds = subst (λ (k : Commit). Adds (mailbox user) k.changes (text ∷ [])) (sym of.2) (adds-once text request.users user proper once h) in
+            let adds = subst (λ (k : Commit). Adds (mailbox user) k.changes (text ∷ [])) (sym of.is) (adds-once text request.users user proper good.once h) in
             followed.adds at.0 later at.1 now c (mailbox user) (text ∷ []) before left at.4 alone adds held;
       },
     )

@@ -5,6 +5,7 @@ pub mod RoundLemmas
 pub mod AnswerLemmas
 pub mod RunLemmas
 pub mod FreeLemmas
+pub mod SourceLemmas
 pub mod SafeLemmas
 pub mod AddLemmas
 pub mod ProperLemmas

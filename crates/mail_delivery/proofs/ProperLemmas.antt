@@ -1,21 +1,28 @@
 -- The text of a delivery is proper.
-use Rattle.std.proofs.Common.{◌≡◌, ◌≢◌, ◌≤◌, ℕ, true, false, List, [], ◌∷◌, ◌++◌, take, drop, map, length, codes, refl, sym, ap, subst, arith, ⊎_elim, take-append-drop}
-use Rattle.std.specs.Prelude.{nat_eq}
+use Rattle.std.proofs.Common.{◌≡◌, ◌≢◌, ◌≤◌, ℕ, ℤ, pos, if◌then◌else◌, true, false, List, [], ◌∷◌, ◌++◌, take, drop, map, length, codes, refl, sym, ap, subst, arith, ⊎_elim, take-append-drop}
+use Rattle.std.specs.Prelude.{nat_eq, ◌≤ℤ◌, int_lt}
+use Rattle.std.proofs.lemmas.Int.{ints}
 use Rattle.std.specs.List.{starts_with, list_all, AllByRecursion, All}
 use Rattle.std.proofs.lemmas.Bool.{cond-true, cond-false, cases_Bool, cases_lt, eqb-false, and_parts}
 use Rattle.std.proofs.lemmas.List.{length-take-le}
 use Rattle.std.proofs.lemmas.List.Elements.{All-append, All-cons, All-nil, recursion_from_All}
 use Rattle.std.proofs.lemmas.List.Folds.{flat_map-map}
 use Rattle.memchr.specs.Find.{OccursAt}
-use Rattle.mail_text.specs.Lines.{with_feed, HasNoFeed}
+use Rattle.mail_text.specs.Lines.{with_feed, HasNoFeed, lines_of}
+use Rattle.mail_text.proofs.LineLemmas.{lines_of-apart}
+use Rattle.jiff_core.specs.Calendar.{IsBetween, IsWithin}
+use Rattle.jiff_core.specs.Timestamp.{nanos_of_seconds}
+use Rattle.jiff_tz.specs.PosixRule.{offset_at}
 use Rattle.mail_dates.specs.declared.moment.Moment.{Moment}
 use Rattle.mail_dates.specs.Clock.{IsPrintable}
 use Rattle.mail_dates.specs.Printed.{from_date_text}
+use Rattle.mail_dates.specs.Zones.{within_years}
 use Rattle.mail_dates.proofs.PlainText.{from_date_is_plain}
 use Rattle.mbox_scan.specs.Mailbox.{from_mark, break_mark, trimmed, IsProper}
 use Rattle.mbox_scan.proofs.StartLemmas.{starts_with-OccursAt, OccursAt-starts_with, OccursAt-left, OccursAt-left_back, starts-single}
 use Rattle.mbox_scan.proofs.TextLemmas.{trimmed_len, trimmed_at, trimmed-take, trimmed-trimmed}
 use Rattle.mailx_vars.specs.Names.{is_graphic, is_user_name}
+use Rattle.session_play.specs.Moments.{IsMomentAt}
 use Rattle.draft_text.specs.Texts.{quoted_line}
 use Rattle.draft_text.proofs.BreakLemmas.{IsQuiet, no-break}
 use Rattle.draft_text.proofs.FieldLemmas.{plain-apart}
@@ -108,8 +115,26 @@ line-apart sender date first second =
         (All-cons (λ (b : ℕ). b ≢ 10) 111 (109 ∷ 32 ∷ []) (one 111 refl)
         (All-cons (λ (b : ℕ). b ≢ 10) 109 (32 ∷ []) (one 109 refl) graphic-space)))
 
-pub delivered-proper : (sender : List ℕ) (lines : List (List ℕ)) (m : Moment) → IsPrintable m → is_user_name sender ≡ true → All HasNoFeed lines → IsProper (delivered sender lines m)
+-- whose lines hold no line feed, one by one
+lines-proper : (sender : List ℕ) (lines : List (List ℕ)) (m : Moment) → IsPrintable m → is_user_name sender ≡ true → AllByRecursion HasNoFeed lines → IsProper (delivered sender lines m)
 unfolding delivered
-delivered-proper sender lines m range named flat =
+lines-proper sender lines m range named flat =
     let apart = line-apart sender (from_date_text m) (graphic-apart sender (and_parts _ _ named).1) (plain-apart (from_date_text m) (from_date_is_plain m range).0) in
-    whole-proper (sender ++ codes " " ++ from_date_text m) lines apart (recursion_from_All HasNoFeed lines flat)
+    whole-proper (sender ++ codes " " ++ from_date_text m) lines apart flat
+
+pub delivered-proper : (sender : List ℕ) (lines : List (List ℕ)) (m : Moment) → IsPrintable m → is_user_name sender ≡ true → All HasNoFeed lines → IsProper (delivered sender lines m)
+delivered-proper sender lines m range named flat = lines-proper sender lines m range named (recursion_from_All HasNoFeed lines flat)
+
+-- ---- a moment that the clock told can be printed
+between-so : (low high n : ℤ) → low ≤ℤ high → (low ≤ℤ (if int_lt n low then low else (if int_lt high n then high else n))) × ((if int_lt n low then low else (if int_lt high n then high else n)) ≤ℤ high)
+between-so low high n h = grind (arith, ints)
+
+pub told-printable : (tz : List ℕ) (seconds : ℤ) (m : Moment) → IsMomentAt tz seconds m → IsPrintable m
+told-printable tz seconds m at =
+    let clock = between-so (pos 86_400) (pos 253_402_128_000) seconds (omega (arith, ints)) in
+    let zone = (offset_at at.zone.rule (nanos_of_seconds (within_years seconds))).in_range in
+    (subst (λ (n : ℤ). IsBetween (pos 86_400) (pos 253_402_128_000) n) (sym at.seconds_are) clock, subst (λ (n : ℤ). IsWithin 93_599 n) (sym at.offset_is) zone)
+
+-- so the text of the lines of an input and of such a moment is proper
+pub input-proper : (sender input : List ℕ) (tz : List ℕ) (seconds : ℤ) (m : Moment) → is_user_name sender ≡ true → IsMomentAt tz seconds m → IsProper (delivered sender (lines_of input) m)
+input-proper sender input tz seconds m named at = lines-proper sender (lines_of input) m (told-printable tz seconds m at) named (lines_of-apart input)

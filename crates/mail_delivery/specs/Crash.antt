@@ -1,8 +1,9 @@
 -- What a delivery leaves on the disk, whatever others lawfully do meanwhile and wherever it stops.
-use Rattle.std.specs.Prelude.{◌≡◌, ◌⊎◌, ℕ, List, [], ◌∷◌}
+use Rattle.std.specs.Prelude.{◌≡◌, ◌⊎◌, true, List, [], ◌∷◌}
 use Rattle.std.specs.declared.option.Option.{Option}
 use Rattle.std.specs.declared.option.Option.TheVariants.{Some, None}
 use Rattle.std.specs.declared.result.Result.{Result}
+use Rattle.mail_text.specs.Lines.{lines_of}
 use Rattle.mail_dates.specs.declared.moment.Moment.{Moment}
 use Rattle.host_port.specs.declared.event.Event.{Event}
 use Rattle.host_port.specs.Disk.{Disk}
@@ -16,19 +17,27 @@ use Rattle.mail_delivery.specs.declared.words.Request.{Request}
 use Rattle.mail_delivery.specs.declared.status.DeliverStatus.{DeliverStatus}
 use Rattle.mail_delivery.specs.declared.status.DeliverStatus.TheVariants as status
 use Rattle.mail_delivery.specs.Words.{actor}
+use Rattle.mail_delivery.specs.Source.{IsToldIn, input_in, saw_end}
 use Rattle.mail_delivery.specs.Statuses.{status_at}
 use Rattle.mail_delivery.specs.Meaning.{nothing_taken, wanted, round}
 
--- the commit puts a message into the mailbox of each user at once
-abbrev pub IsDelivery : Request → Environment → Commit → Type 0
-IsDelivery request env c = (lines : List (List ℕ)) × (m : Moment) × (c ≡ wanted request env lines m)
+-- The commit puts one message into the mailbox of each user at once: that of the lines of all of the input, which these own events took to its end,
+-- and of a moment that the clock told.
+pub record IsDelivery (request : Request) (env : Environment) (es : List Event) (c : Commit) : Type 0 where
+  pub moment : Moment
+  pub told : IsToldIn env es moment
+  pub ended : saw_end es ≡ true
+  pub is : c ≡ wanted request env (lines_of (input_in es)) moment
+
+abbrev pub IsOneDelivery : Request → Environment → List Event → List Commit → Type 0
+IsOneDelivery request env es cs = (c : Commit) × (cs ≡ c ∷ []) × IsDelivery request env es c
 
 -- What was accepted of a run that ends so: with 0 its one delivery; with a fault of the disk, or for want of memory, that or none; else none.
-abbrev pub AcceptedAs : Request → Environment → DeliverStatus → List Commit → Type 0
-AcceptedAs request env status.Done cs = (c : Commit) × (cs ≡ c ∷ []) × IsDelivery request env c
-AcceptedAs request env status.DiskFault cs = (cs ≡ []) ⊎ ((c : Commit) × (cs ≡ c ∷ []) × IsDelivery request env c)
-AcceptedAs request env status.Memory cs = (cs ≡ []) ⊎ ((c : Commit) × (cs ≡ c ∷ []) × IsDelivery request env c)
-AcceptedAs request env s cs = cs ≡ []
+abbrev pub AcceptedAs : Request → Environment → List Event → DeliverStatus → List Commit → Type 0
+AcceptedAs request env es status.Done cs = IsOneDelivery request env es cs
+AcceptedAs request env es status.DiskFault cs = (cs ≡ []) ⊎ IsOneDelivery request env es cs
+AcceptedAs request env es status.Memory cs = (cs ≡ []) ⊎ IsOneDelivery request env es cs
+AcceptedAs request env es s cs = cs ≡ []
 
 -- The events of a delivery, steps of others among them, carry out its acts. The commits that are accepted are read off the same stretches,
 -- and with them the run is crash safe: at each moment and each stop the settled files are those with all of the delivery, or with none of it.
@@ -40,7 +49,7 @@ pub record DeliversSafely (request : Request) (env : Environment) (s : DeliverSt
   pub status : s ≡ status_at out
   pub safe : IsCrashSafe actor env.token d es commits out
   pub answered : AllAnswersAreDecided plays
-  pub accepted : AcceptedAs request env s commits.accepted
+  pub accepted : AcceptedAs request env (own es) s commits.accepted
 
 -- a run whose words are refused does nothing
 abbrev pub IsSafe : Option Request → Environment → DeliverStatus → Disk → List Event → Type 0

@@ -1,6 +1,6 @@
 -- What holds of deliveries.
 use Rattle.std.specs.Prelude.{◌≡◌, ◌≢◌, ℕ, true, List, [], ◌∷◌, ◌++◌, Some, All}
-use Rattle.mail_text.specs.Lines.{HasNoFeed}
+use Rattle.mail_text.specs.Lines.{HasNoFeed, lines_of}
 use Rattle.mail_dates.specs.declared.moment.Moment.{Moment}
 use Rattle.mail_dates.specs.Clock.{IsPrintable}
 use Rattle.mbox_scan.specs.Mailbox.{IsProper}
@@ -11,6 +11,7 @@ use Rattle.mailx_vars.specs.Environment.{Pairs}
 use Rattle.mailx_vars.specs.Names.{is_user_name}
 use Rattle.host_port.specs.declared.event.Event.{Event}
 use Rattle.host_port.specs.Disk.{Disk, disk, after}
+use Rattle.host_port.specs.Own.{own}
 use Rattle.commit_machine.specs.Due.{settled_files}
 use Rattle.play_safety.specs.Appended.{IsLeft, LeaveAlone}
 use Rattle.mail_delivery.specs.declared.environment.Environment.{Environment}
@@ -20,6 +21,7 @@ use Rattle.mail_delivery.specs.Crash.{DeliversSafely}
 use Rattle.mail_delivery.specs.Words.{actor, mailbox, is_recipient, reading}
 use Rattle.mail_delivery.specs.Delivered.{delivered}
 use Rattle.mail_delivery.specs.Meaning.{additions}
+use Rattle.mail_delivery.specs.Source.{IsToldIn, input_in, saw_end}
 
 -- the text of a delivery can be put into a mailbox and read back as one message
 abbrev pub DeliveredIsProper : Type 0
@@ -55,8 +57,9 @@ pub record Stands (text : List ℕ) (users : List (List ℕ)) (token : ℕ) (d :
       → list_of_file (settled_files actor (disk d front) (mailbox user)) ≡ Some before
       → list_of_file (settled_files actor now (mailbox user)) ≡ Some (before ++ text ∷ [])
 
--- so stands what a delivery was answered with 0 for, if it can be put into a mailbox
+-- So stands what a delivery was answered with 0 for, whatever its input was: the text of its lines and of a moment that the clock told.
 abbrev pub DoneStands : Type 0
-DoneStands = (request : Request) (env : Environment) (d : Disk) (es : List Event) → AreDistinct request.users → DeliversSafely request env status.Done d es
-    → (lines : List (List ℕ)) × (m : Moment) × (IsProper (delivered request.sender lines m)
-    → Stands (delivered request.sender lines m) request.users env.token d es)
+DoneStands = (words : List (List ℕ)) (request : Request) (env : Environment) (d : Disk) (es : List Event)
+    → reading words env.pairs ≡ Some request → DeliversSafely request env status.Done d es
+    → (m : Moment) × IsToldIn env (own es) m × (saw_end (own es) ≡ true)
+    × Stands (delivered request.sender (lines_of (input_in (own es))) m) request.users env.token d es

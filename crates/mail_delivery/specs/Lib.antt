@@ -2,6 +2,7 @@ pub mod Words
 pub mod Delivered
 pub mod Statuses
 pub mod Meaning
+pub mod Source
 pub mod Steps
 pub mod Runs
 pub mod Complete
