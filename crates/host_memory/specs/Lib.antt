@@ -3,5 +3,7 @@ pub mod Plans
 pub mod Pairs
 pub mod Tapes
 pub mod Standings
+pub mod Steps
 pub mod Children
+pub mod Fills
 pub mod MemHosts

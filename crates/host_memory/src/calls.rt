@@ -1,8 +1,8 @@
 // What the calls of a host in memory add to its tape.
-ghost use Rattle.std.specs.Prelude.{◌≡◌, false, Option, Some, None, OnOk, IfOk};
+ghost use Rattle.std.specs.Prelude.{◌≡◌, ◌++◌, ◌∷◌, [], false, Option, Some, None, OnOk, IfOk, IfSome};
 ghost use Rattle.std.specs.Option.{option_copied};
 ghost use Rattle.host_port.specs.Disk.{disk};
-ghost use Rattle.host_port.specs.Calls.{Loaded, LoadCause};
+ghost use Rattle.host_port.specs.Calls.{Loaded, LoadCause, FitsLoad, IsTooLarge};
 ghost use Rattle.host_memory.specs.MemHosts.{wants_memory};
 ghost use Rattle.host_memory.specs.Plans.{TapeAdds, TapeAddsCall};
 ghost use Rattle.host_memory.specs.Views.{disk_of, steps_before, part_at};
@@ -81,37 +81,62 @@ pub fn tell_out(
     tell(alloc, plan, call, tape, Event::Out { bytes, failed })
 }
 
+// The length of what was found, if it is more than a load takes.
+fn past_limit(found: Option<&Text>) -> Option<u64>
+    ensures over { IfSome result (λ n. IsTooLarge (option_copied found.entry) n) }
+    ensures within { result ≡ None → FitsLoad (option_copied found.entry) }
+{
+    let length = found?.bytes().len();
+    if length > LOAD_LIMIT {
+        Some(length as u64)
+    } else {
+        None
+    }
+}
+
 // The answer of a load and what it sees, by the disk that the tape shows.
 fn look(
     alloc: Global,
     tape: &Tape,
     name: &[u8],
-) -> Result<(Result<LoadAnswer, LoadError>, Event), Memory>
+) -> Result<(Result<LoadAnswer, LoadError>, Seen), Memory>
     ensures loaded { IfOk result
         (λ r. Loaded name.now r.0
-        (disk (disk_of tape.now.start.files tape.now.start.locks) tape.now.trace.items) r.1) }
+        (disk (disk_of tape.now.start.files tape.now.start.locks) tape.now.trace.items)
+        (event.Load name.now r.1)) }
     ensures cause { IfOk result (λ r. LoadCause 0 0 r.0) }
     ensures known { IfOk result (λ r. wants_memory r.0 ≡ false) }
 {
     let held = tape.standing.locks.has(name);
     let found = tape.standing.files.get(name);
-    let name = Text::copy(alloc, name)?;
-    if let Some(text) = found
-        && text.bytes().len() > LOAD_LIMIT
-    {
-        let length = text.bytes().len() as u64;
-        let seen = Seen::TooLarge { length };
-        return Ok((
+    match past_limit(found) {
+        Some(length) => Ok((
             Err(LoadError::TooLarge { length }),
-            Event::Load { name, seen },
-        ));
+            Seen::TooLarge { length },
+        )),
+        None => {
+            let bytes = copy_found(alloc, found)?;
+            let shown = copy_found(alloc, found)?;
+            Ok((
+                Ok(LoadAnswer { bytes, held }),
+                Seen::Bytes { bytes: shown, held },
+            ))
+        }
     }
-    let bytes = copy_found(alloc, found)?;
-    let seen = Seen::Bytes {
-        bytes: copy_found(alloc, found)?,
-        held,
-    };
-    Ok((Ok(LoadAnswer { bytes, held }), Event::Load { name, seen }))
+}
+
+// Adds a load that saw this.
+fn add_load(alloc: Global, tape: &mut Tape, name: &[u8], seen: Seen) -> Result<(), Memory>
+    ensures ok { OnOk result (tape.new.trace.items ≡ tape.old.trace.items ++ event.Load name.now seen ∷ []) }
+    ensures start { tape.new.start ≡ tape.old.start }
+{
+    match Text::copy(alloc, name) {
+        Ok(name) => tape.add(alloc, Event::Load { name, seen }),
+        Err(memory) => {
+            drop(seen);
+            Err(memory)
+        }
+    }
 }
 
 /// Tells a load, and gives its answer.
@@ -128,8 +153,8 @@ pub fn tell_load(
     ensures start { tape.new.start ≡ tape.old.start }
 {
     add_others(alloc, plan, call, tape)?;
-    let (answer, event) = look(alloc, tape, name)?;
-    tape.add(alloc, event)?;
+    let (answer, seen) = look(alloc, tape, name)?;
+    add_load(alloc, tape, name, seen)?;
     Ok(answer)
 }
 

@@ -82,22 +82,45 @@ pub fn used_after(planned: &[ChildAnswer], used: usize) -> usize
     if used < planned.len() { used + 1 } else { used }
 }
 
-// The event of a child.
-fn child_event(
+// The event of a child that answers what is next.
+fn answered_child(
     alloc: Global,
     run: Run<'_>,
-    answer: Option<ChildAnswer>,
-    failed: bool,
+    planned: &[ChildAnswer],
+    used: usize,
 ) -> Result<Event, Memory>
     ensures { IfOk result
-        (λ e. e ≡ event.Child run.entry.program.now run.entry.args.now run.entry.input.now answer failed) }
+        (λ e. e
+        ≡ event.Child run.entry.program.now run.entry.args.now run.entry.input.now
+        (Some (next_given (drop used planned.now))) false) }
 {
+    let program = Text::copy(alloc, run.program)?;
+    let args = copy_texts(alloc, run.args)?;
+    let input = Text::copy(alloc, run.input)?;
+    let told = next_given(alloc, planned, used)?;
     Ok(Event::Child {
-        program: Text::copy(alloc, run.program)?,
-        args: copy_texts(alloc, run.args)?,
-        input: Text::copy(alloc, run.input)?,
-        answer,
-        failed,
+        program,
+        args,
+        input,
+        answer: Some(told),
+        failed: false,
+    })
+}
+
+// The event of a child that could not be run.
+fn failed_child(alloc: Global, run: Run<'_>) -> Result<Event, Memory>
+    ensures { IfOk result
+        (λ e. e ≡ event.Child run.entry.program.now run.entry.args.now run.entry.input.now None true) }
+{
+    let program = Text::copy(alloc, run.program)?;
+    let args = copy_texts(alloc, run.args)?;
+    let input = Text::copy(alloc, run.input)?;
+    Ok(Event::Child {
+        program,
+        args,
+        input,
+        answer: None,
+        failed: true,
     })
 }
 
@@ -117,11 +140,9 @@ fn tell_answer(
     ensures start { tape.new.start ≡ tape.old.start }
 {
     let planned = plan.children.items();
-    let answer = next_given(alloc, planned, used)?;
-    let told = next_given(alloc, planned, used)?;
-    let event = child_event(alloc, run, Some(told), false)?;
+    let event = answered_child(alloc, run, planned, used)?;
     tell(alloc, plan.foreign.items(), call, tape, event)?;
-    Ok(answer)
+    next_given(alloc, planned, used)
 }
 
 // Tells that a child could not be run.
@@ -137,7 +158,7 @@ fn tell_failure(
         (event.Child run.entry.program.now run.entry.args.now run.entry.input.now None true)) }
     ensures start { tape.new.start ≡ tape.old.start }
 {
-    let event = child_event(alloc, run, None, true)?;
+    let event = failed_child(alloc, run)?;
     tell(alloc, plan, call, tape, event)
 }
 

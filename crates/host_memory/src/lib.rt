@@ -6,6 +6,7 @@ mod calls;
 mod children;
 mod disk_calls;
 mod ending;
+mod filling;
 mod images;
 mod memory;
 mod named;

@@ -11,13 +11,12 @@ ghost use Rattle.host_memory.specs.Views.{disk_of, NamesOnce};
 ghost use Rattle.host_port.specs.declared.event.Event.{Event};
 ghost use Rattle.host_port.specs.declared.event.Event.TheVariants as event;
 
-use crate::calls::{
-    failing, tell_failed_load, tell_in, tell_load, tell_now, tell_out, tell_release,
-};
+use crate::calls::{failing, tell_failed_load, tell_load, tell_now, tell_out, tell_release};
 use crate::children::{Run, tell_child, used_after};
 use crate::disk_calls::{
     tell_erase, tell_extend, tell_lock, tell_publish, tell_seize, tell_stage, tell_unlock,
 };
+use crate::filling::tell_fill;
 use crate::images::{image, show, standing_of};
 use crate::tape::Tape;
 use crate::{DiskView, Plan};
@@ -155,27 +154,21 @@ impl Host for MemHost {
         ensures lost { is_lost self.new ≡ true → is_err result ≡ true }
     {
         self.calls = self.calls.saturating_add(1);
-        let fails = failing(self.plan.fails.items(), self.calls).is_some();
-        let whole = self.input.bytes();
-        let from = self.at.min(whole.len());
-        let n = (whole.len() - from).min(buf.len()).min(self.plan.chunk);
-        let n = if fails { 0 } else { n };
-        buf[..n].copy_from_slice(&whole[from..from + n]);
         if !self.lost {
-            match tell_in(
+            match tell_fill(
                 self.alloc,
-                self.plan.foreign.items(),
+                &self.plan,
                 self.calls,
                 &mut self.tape,
-                &buf[..n],
-                fails,
+                self.input.bytes(),
+                self.at,
+                buf,
             ) {
-                Ok(()) => {
-                    if !fails {
-                        self.at = from + n;
-                        return Ok(n);
-                    }
+                Ok(Some((count, next))) => {
+                    self.at = next;
+                    return Ok(count);
                 }
+                Ok(None) => {}
                 Err(_) => self.lost = true,
             }
         }

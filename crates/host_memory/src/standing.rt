@@ -1,7 +1,7 @@
 // What stands on the disk of a host in memory, and what events make of it.
 ghost use Rattle.std.specs.Prelude.{◌≡◌, List, ℕ, OnOk, OnErr, IfOk};
 ghost use Rattle.std.specs.Option.{option_copied};
-ghost use Rattle.host_port.specs.Disk.{with_at, extended, after, after_step};
+ghost use Rattle.host_port.specs.Disk.{with_at, extended, locked, unlocked, taken, without_other, without_own, after, after_step};
 ghost use Rattle.host_memory.specs.Standings.{disk_now};
 ghost use Rattle.host_port.specs.Disk.{SameDisk};
 ghost use Rattle.host_memory.specs.Views.{named};
@@ -111,6 +111,73 @@ pub fn extend(
     files.put(alloc, name, made)
 }
 
+// Puts a lock if none stands.
+fn lock(alloc: Global, locks: &mut Named<u64>, name: &[u8], token: u64) -> Result<(), Memory>
+    ensures ok { OnOk result
+        ((q : List ℕ)
+        → named locks.new q ≡ with_at (named locks.old) name.now (locked (named locks.old name.now) token) q) }
+    ensures err { OnErr result (locks.new ≡ locks.old) }
+{
+    if locks.has(name) {
+        return Ok(());
+    }
+    locks.put(alloc, name, Some(token))
+}
+
+// Takes a lock away if it is this owner's.
+fn unlock(alloc: Global, locks: &mut Named<u64>, name: &[u8], token: u64) -> Result<(), Memory>
+    ensures ok { OnOk result
+        ((q : List ℕ)
+        → named locks.new q ≡ with_at (named locks.old) name.now (unlocked (named locks.old name.now) token) q) }
+    ensures err { OnErr result (locks.new ≡ locks.old) }
+{
+    match locks.get(name) {
+        Some(owner) if *owner == token => locks.put(alloc, name, None),
+        _ => Ok(()),
+    }
+}
+
+// Gives another a right that nobody has.
+fn take(alloc: Global, rights: &mut Named<Holder>, name: &[u8]) -> Result<(), Memory>
+    ensures ok { OnOk result
+        ((q : List ℕ)
+        → named rights.new q ≡ with_at (named rights.old) name.now (taken (named rights.old name.now)) q) }
+    ensures err { OnErr result (rights.new ≡ rights.old) }
+{
+    if rights.has(name) {
+        return Ok(());
+    }
+    rights.put(alloc, name, Some(Holder::Other))
+}
+
+// Takes another's right away.
+fn take_from_other(alloc: Global, rights: &mut Named<Holder>, name: &[u8]) -> Result<(), Memory>
+    ensures ok { OnOk result
+        ((q : List ℕ)
+        → named rights.new q
+        ≡ with_at (named rights.old) name.now (without_other (named rights.old name.now)) q) }
+    ensures err { OnErr result (rights.new ≡ rights.old) }
+{
+    match rights.get(name) {
+        Some(Holder::Other) => rights.put(alloc, name, None),
+        _ => Ok(()),
+    }
+}
+
+// Takes this run's right away.
+fn take_from_own(alloc: Global, rights: &mut Named<Holder>, name: &[u8]) -> Result<(), Memory>
+    ensures ok { OnOk result
+        ((q : List ℕ)
+        → named rights.new q
+        ≡ with_at (named rights.old) name.now (without_own (named rights.old name.now)) q) }
+    ensures err { OnErr result (rights.new ≡ rights.old) }
+{
+    match rights.get(name) {
+        Some(Holder::Own) => rights.put(alloc, name, None),
+        _ => Ok(()),
+    }
+}
+
 /// Carries out a step of another. If memory runs out, all is as before.
 pub fn effect_of_step(alloc: Global, disk: &mut Standing, step: &ForeignStep) -> Result<(), Memory>
     ensures ok { OnOk result (SameDisk (disk_now disk.new) (after_step (disk_now disk.old) step.now)) }
@@ -121,30 +188,12 @@ pub fn effect_of_step(alloc: Global, disk: &mut Standing, step: &ForeignStep) ->
             write(alloc, &mut disk.files, name.bytes(), Some(bytes))
         }
         ForeignStep::Remove { name } => disk.files.put(alloc, name.bytes(), None),
-        ForeignStep::Lock { name, token } => {
-            if disk.locks.has(name.bytes()) {
-                return Ok(());
-            }
-            disk.locks.put(alloc, name.bytes(), Some(*token))
-        }
+        ForeignStep::Lock { name, token } => { lock(alloc, &mut disk.locks, name.bytes(), *token) }
         ForeignStep::Unlock { name, token } => {
-            if disk.locks.get(name.bytes()) != Some(token) {
-                return Ok(());
-            }
-            disk.locks.put(alloc, name.bytes(), None)
+            unlock(alloc, &mut disk.locks, name.bytes(), *token)
         }
-        ForeignStep::Seize { name } => {
-            if disk.rights.has(name.bytes()) {
-                return Ok(());
-            }
-            disk.rights.put(alloc, name.bytes(), Some(Holder::Other))
-        }
-        ForeignStep::Release { name } => {
-            if disk.rights.get(name.bytes()) != Some(&Holder::Other) {
-                return Ok(());
-            }
-            disk.rights.put(alloc, name.bytes(), None)
-        }
+        ForeignStep::Seize { name } => take(alloc, &mut disk.rights, name.bytes()),
+        ForeignStep::Release { name } => take_from_other(alloc, &mut disk.rights, name.bytes()),
     }
 }
 
@@ -191,9 +240,7 @@ pub fn effect(alloc: Global, disk: &mut Standing, event: &Event) -> Result<(), M
             got: true,
             ..
         } => disk.rights.put(alloc, name.bytes(), Some(Holder::Own)),
-        Event::Release { name } if disk.rights.get(name.bytes()) == Some(&Holder::Own) => {
-            disk.rights.put(alloc, name.bytes(), None)
-        }
+        Event::Release { name } => take_from_own(alloc, &mut disk.rights, name.bytes()),
         Event::Foreign { step } => effect_of_step(alloc, disk, step),
         _ => Ok(()),
     }

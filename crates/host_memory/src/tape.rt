@@ -2,6 +2,7 @@
 ghost use Rattle.std.specs.Prelude.{◌≡◌, ◌++◌, [], ◌∷◌, List, ℕ, OnOk, OnErr, IfOk, map, Some, slice_get};
 ghost use Rattle.host_port.specs.Disk.{disk};
 ghost use Rattle.host_memory.specs.Standings.{disk_now};
+ghost use Rattle.host_memory.specs.Steps.{name_in};
 ghost use Rattle.host_port.specs.Disk.{SameDisk};
 ghost use Rattle.host_memory.specs.Views.{disk_of, lookup, named, names_of, or_else, at_name, with_value, steps_before, NamesOnce};
 ghost use Rattle.host_port.specs.declared.event.Event.TheVariants as event;
@@ -48,31 +49,43 @@ impl Tape {
     }
 }
 
+// The name that a step is about.
+fn name_in(step: &ForeignStep) -> &[u8]
+    ensures { result.now ≡ name_in step.now }
+{
+    match step {
+        ForeignStep::Write { name, .. } => name.bytes(),
+        ForeignStep::Remove { name } => name.bytes(),
+        ForeignStep::Lock { name, .. } => name.bytes(),
+        ForeignStep::Unlock { name, .. } => name.bytes(),
+        ForeignStep::Seize { name } => name.bytes(),
+        ForeignStep::Release { name } => name.bytes(),
+    }
+}
+
 fn copy_step(alloc: Global, step: &ForeignStep) -> Result<ForeignStep, Memory>
     ensures { IfOk result (λ s. s ≡ step.now) }
 {
+    let name = Text::copy(alloc, name_in(step))?;
     match step {
-        ForeignStep::Write { name, bytes } => Ok(ForeignStep::Write {
-            name: Text::copy(alloc, name.bytes())?,
-            bytes: Text::copy(alloc, bytes.bytes())?,
-        }),
-        ForeignStep::Remove { name } => Ok(ForeignStep::Remove {
-            name: Text::copy(alloc, name.bytes())?,
-        }),
-        ForeignStep::Lock { name, token } => Ok(ForeignStep::Lock {
-            name: Text::copy(alloc, name.bytes())?,
-            token: *token,
-        }),
-        ForeignStep::Unlock { name, token } => Ok(ForeignStep::Unlock {
-            name: Text::copy(alloc, name.bytes())?,
-            token: *token,
-        }),
-        ForeignStep::Seize { name } => Ok(ForeignStep::Seize {
-            name: Text::copy(alloc, name.bytes())?,
-        }),
-        ForeignStep::Release { name } => Ok(ForeignStep::Release {
-            name: Text::copy(alloc, name.bytes())?,
-        }),
+        ForeignStep::Write { bytes, .. } => match Text::copy(alloc, bytes.bytes()) {
+            Ok(bytes) => Ok(ForeignStep::Write { name, bytes }),
+            Err(memory) => {
+                drop(name);
+                Err(memory)
+            }
+        },
+        ForeignStep::Remove { .. } => Ok(ForeignStep::Remove { name }),
+        ForeignStep::Lock { token, .. } => {
+            let token = *token;
+            Ok(ForeignStep::Lock { name, token })
+        }
+        ForeignStep::Unlock { token, .. } => {
+            let token = *token;
+            Ok(ForeignStep::Unlock { name, token })
+        }
+        ForeignStep::Seize { .. } => Ok(ForeignStep::Seize { name }),
+        ForeignStep::Release { .. } => Ok(ForeignStep::Release { name }),
     }
 }
 
