@@ -22,6 +22,10 @@ returns-in-Ok-clause-ran g c =
     Ran-then (goes-then (Ask (Child (program_of s.desk.vars) (sender_args names) (message_text letter.draft letter.moment)) (λ a. Ret (sent a))) (after_sender s letter) _ _)
     (rw (c.bytes.ensures, c.in_ok-message.ensures) at (c.in-Ok.ensures.ran (unrefused names c.requires.names))) (rw (c.go_on.ensures.means s) c.say_text.ensures.ran)
 
+pub returns-in-Ok-clause-cause : goal.returns-in-Ok-clause-cause
+returns-in-Ok-clause-cause g c =
+    c.go_on.ensures.cause (g.H.Host.world.counts c.args.host.now) (g.H.Host.world.counts c.say_text.new.host) (search rules)
+
 pub returns-in-Err-Refused-clause-ran : goal.returns-in-Err-Refused-clause-ran
 returns-in-Err-Refused-clause-ran g c =
     let s = c.args.state.now in
