@@ -1,4 +1,4 @@
-use Rattle.std.proofs.Common.{ℕ, List, FitsSigned, arith, of_z, to_z, to_z-of_z, w32}
+use Rattle.std.proofs.Common.{ℕ, List, FitsSigned, arith, rules, of_z, to_z, to_z-of_z, w32}
 use Rattle.std.proofs.lemmas.Int.{ints}
 use Rattle.std.specs.declared.result.Result.{Result}
 use Rattle.std.specs.declared.result.Result.TheVariants.{Err}
