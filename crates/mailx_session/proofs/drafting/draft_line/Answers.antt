@@ -22,3 +22,6 @@ returns-in-Ok-clause-goes_on g c = λ r. absurd (took-not-refused c.args.state.n
 
 pub returns-in-Err-clause-refused : goal.returns-in-Err-clause-refused
 returns-in-Err-clause-refused g c = λ r. refused-released c.args.state.now c.args.state.now.draft c.args.line.now c.in-Err.error _ refl c.in-Err.ensures.line
+
+pub returns-in-Err-clause-cause : goal.returns-in-Err-clause-cause
+returns-in-Err-clause-cause g c = c.go_on.ensures.cause (g.H.Host.world.counts c.args.host.now) (g.H.Host.world.counts c.refuse_escape.new.host) c.refuse_escape.ensures.cause

@@ -4,5 +4,13 @@ use Rattle.command_desk.specs.FileNames.{expanded}
 use Rattle.mailx_session.specs.Drafting.{put}
 use Rattle.mailx_session.proofs.drafting.put.Goals as goal
 
+pub returns-in-Err-Fault-clause-ran : goal.returns-in-Err-Fault-clause-ran
+returns-in-Err-Fault-clause-ran g c =
+    let fault = rw c.in-Err-Fault.field-0-is at c.in-Err-Fault.ensures in
+    rw (fault, c.go_on.ensures.means c.args.state.now) c.say_text.ensures.ran
+
+pub returns-in-Err-Fault-clause-cause : goal.returns-in-Err-Fault-clause-cause
+returns-in-Err-Fault-clause-cause g c = c.go_on.ensures.cause (g.H.Host.world.counts c.args.host.now) (g.H.Host.world.counts c.say_text.new.host) c.say_text.ensures.cause
+
 pub returns-clause-ran : goal.returns-clause-ran
 returns-clause-ran g c = Ran-none (at-memory (put c.args.state.now (expanded c.args.state.now.desk c.args.word.now) c.args.bytes))
