@@ -1,3 +1,4 @@
+use Rattle.std.proofs.Common.{rules}
 use Rattle.mailx_session.proofs.drafting.meet.Goals as goal
 
 pub returns-in-Say-clause-ran : goal.returns-in-Say-clause-ran
@@ -10,7 +11,7 @@ pub returns-in-Dead-clause-ran : goal.returns-in-Dead-clause-ran
 returns-in-Dead-clause-ran g c = rw (c.in-Dead.is, c.go_on-in-Dead.ensures.means c.fetch_dead.new.state) c.fetch_dead.ensures.ran
 
 pub returns-in-Child-clause-ran : goal.returns-in-Child-clause-ran
-returns-in-Child-clause-ran g c = rw (c.in-Child.is, c.go_on-in-Child.ensures.means c.run_for.new.state) (rw c.bytes-in-Child.ensures at c.run_for.ensures.ran)
+returns-in-Child-clause-ran g c = rw (c.go_on-in-Child.ensures.means c.run_for.new.state) (search rules)
 
 pub returns-in-Put-clause-ran : goal.returns-in-Put-clause-ran
 returns-in-Put-clause-ran g c = rw c.in-Put.is (rw c.bytes-in-Put.ensures at c.put.ensures.ran)

@@ -1,3 +1,4 @@
+use Rattle.std.proofs.Common.{rules}
 use Rattle.host_port.proofs.RanLemmas.{Ran-none}
 use Rattle.session_play.proofs.PlayLemmas.{at-memory}
 use Rattle.mailx_session.specs.Rounds.{line_play}
@@ -10,9 +11,7 @@ pub returns-in-Ok-clause-ran : goal.returns-in-Ok-clause-ran
 returns-in-Ok-clause-ran g c = rw c.in-Ok.ensures.means c.carry_out.ensures.ran
 
 pub returns-in-Err-Fault-clause-ran : goal.returns-in-Err-Fault-clause-ran
-returns-in-Err-Fault-clause-ran g c =
-    let fault = rw c.in-Err-Fault.field-0-is at c.in-Err-Fault.ensures.means in
-    rw (fault, c.go_on.ensures.means c.args.state.now) c.say_text.ensures.ran
+returns-in-Err-Fault-clause-ran g c = rw (c.go_on.ensures.means c.args.state.now) (search rules)
 
 pub returns-in-Err-Fault-clause-cause : goal.returns-in-Err-Fault-clause-cause
 returns-in-Err-Fault-clause-cause g c = c.go_on.ensures.cause (g.H.Host.world.counts c.args.host.now) (g.H.Host.world.counts c.say_text.new.host) c.say_text.ensures.cause
