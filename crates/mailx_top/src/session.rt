@@ -34,7 +34,7 @@ fn prompt(session: &Session) -> &[u8]
 fn is_prompted(session: &Session) -> bool
     ensures { result ≡ at_prompt session.now }
 {
-    session.desk().terminal && !session.drafting() && !is_defining(session.desk())
+    session.state().desk.terminal && !session.drafting() && !is_defining(session.desk())
 }
 
 // Prints the prompt, if it is to be printed.
