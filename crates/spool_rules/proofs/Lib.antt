@@ -1,0 +1,5 @@
+pub mod CallLemmas
+pub mod OperationLemmas
+pub mod CauseLemmas
+pub mod LawLemmas
+pub mod WordLemmas

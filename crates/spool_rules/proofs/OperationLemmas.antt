@@ -1,0 +1,107 @@
+-- What the operations are told, from call to call.
+use Rattle.std.proofs.Common.{◌≡◌, ◌⊎◌, ℕ, List, [], ◌∷◌, ◌++◌, sym, subst, refl, inl, inr}
+use Rattle.std.specs.Prelude.{Option, Some, None, IfSome, OnOk, true, false}
+use Rattle.std.specs.declared.result.Result.{Result}
+use Rattle.std.specs.declared.result.Result.TheVariants.{Ok, Err}
+use Rattle.spool_rules.specs.declared.port.Seen.{Seen}
+use Rattle.spool_rules.specs.declared.port.Seen.TheVariants.{Nothing}
+use Rattle.spool_rules.specs.declared.port.Stop.{Stop}
+use Rattle.spool_rules.specs.declared.port.Step.{Step}
+use Rattle.spool_rules.specs.declared.port.Step.TheVariants.{Users, Look, Take, Remove, Sync}
+use Rattle.spool_rules.specs.declared.words.Operation.TheVariants as op
+use Rattle.spool_rules.specs.declared.words.Request.{Request}
+use Rattle.spool_rules.specs.Told.{added, EndsWith, IsFresh, Once, Onward}
+use Rattle.spool_rules.specs.Users.{is_callers}
+use Rattle.spool_rules.specs.Lawful.{holds, NotLocked, is_own, is_free, mode_after, LockedThen, MayRemove, MayReplace, MayTake, IsLawful, Sound}
+use Rattle.spool_rules.specs.Deeds.{GoneThen, Unlocks}
+use Rattle.spool_rules.specs.Causes.{StandsAt, Ended}
+use Rattle.spool_rules.proofs.CallLemmas.{weaken, if_added, ends_one, ends_two, ends_step, locked_more, on_one, on_then, once_on}
+
+-- both looks, and what they say of the lock
+pub seen_locked : (n : ℕ) (r : Request) (old mid new : Option (List Step)) (lock beside : Seen) → mid ≡ added old (Look r.lock (Ok lock)) → new ≡ added mid (Look r.beside (Ok beside)) → holds n lock beside ≡ true → IfSome new (λ steps. LockedThen n r steps [])
+seen_locked n r old mid new lock beside e f h = weaken (λ steps. EndsWith steps (Look r.lock (Ok lock) ∷ Look r.beside (Ok beside) ∷ [])) (λ steps. LockedThen n r steps []) new (λ steps p. (lock, beside, h, p)) (ends_two old mid new (Look r.lock (Ok lock)) (Look r.beside (Ok beside)) e f)
+
+pub seen_free : (n : ℕ) (r : Request) (old mid new : Option (List Step)) (lock beside : Seen) → mid ≡ added old (Look r.lock (Ok lock)) → new ≡ added mid (Look r.beside (Ok beside)) → holds n lock beside ≡ false → IfSome new (λ steps. NotLocked n r steps)
+seen_free n r old mid new lock beside e f h = weaken (λ steps. EndsWith steps (Look r.lock (Ok lock) ∷ Look r.beside (Ok beside) ∷ [])) (λ steps. NotLocked n r steps) new (λ steps p. (lock, beside, h, p)) (ends_two old mid new (Look r.lock (Ok lock)) (Look r.beside (Ok beside)) e f)
+
+-- what is taken away
+pub own_may_go : (n : ℕ) (r : Request) (name : List ℕ) (old new : Option (List Step)) (seen : Seen) → (name ≡ r.beside) ⊎ (name ≡ r.staged) → new ≡ added old (Look name (Ok seen)) → is_own n seen ≡ true → IfSome new (λ steps. MayRemove n r steps name)
+own_may_go n r name old new seen aside e own = weaken (λ steps. EndsWith steps (Look name (Ok seen) ∷ [])) (λ steps. MayRemove n r steps name) new (λ steps p. inl (aside, (seen, own, p))) (ends_one old new (Look name (Ok seen)) e)
+
+pub lock_may_go : (n : ℕ) (r : Request) (told : Option (List Step)) → IfSome told (λ steps. LockedThen n r steps []) → IfSome told (λ steps. MayRemove n r steps r.lock)
+lock_may_go n r told h = weaken (λ steps. LockedThen n r steps []) (λ steps. MayRemove n r steps r.lock) told (λ steps p. inr (inl (refl, p))) h
+
+pub mailbox_may_go : (n : ℕ) (r : Request) (old new : Option (List Step)) (seen : Seen) → IfSome old (λ steps. LockedThen n r steps []) → new ≡ added old (Look r.mailbox (Ok seen)) → is_own n seen ≡ true → IfSome new (λ steps. MayRemove n r steps r.mailbox)
+mailbox_may_go n r old new seen h e own = weaken (λ steps. LockedThen n r steps (Look r.mailbox (Ok seen) ∷ [])) (λ steps. MayRemove n r steps r.mailbox) new (λ steps p. inr (inr (refl, seen, own, p))) (locked_more n r [] old new (Look r.mailbox (Ok seen)) e h)
+
+-- what is replaced
+staged_seen : (n : ℕ) (r : Request) (old mid new : Option (List Step)) (mailbox staged : Seen) → IfSome old (λ steps. LockedThen n r steps []) → mid ≡ added old (Look r.mailbox (Ok mailbox)) → new ≡ added mid (Look r.staged (Ok staged)) → IfSome new (λ steps. LockedThen n r steps (Look r.mailbox (Ok mailbox) ∷ Look r.staged (Ok staged) ∷ []))
+staged_seen n r old mid new mailbox staged h e f =
+    let one = locked_more n r [] old mid (Look r.mailbox (Ok mailbox)) e h in
+    locked_more n r (Look r.mailbox (Ok mailbox) ∷ []) mid new (Look r.staged (Ok staged)) f one
+
+pub may_replace_now : (n : ℕ) (r : Request) (old mid new : Option (List Step)) (mailbox staged : Seen) → IfSome old (λ steps. LockedThen n r steps []) → mid ≡ added old (Look r.mailbox (Ok mailbox)) → new ≡ added mid (Look r.staged (Ok staged)) → is_free n mailbox ≡ true → is_own n staged ≡ true → IfSome new (λ steps. MayReplace n r steps)
+may_replace_now n r old mid new mailbox staged h e f free own =
+    weaken (λ steps. LockedThen n r steps (Look r.mailbox (Ok mailbox) ∷ Look r.staged (Ok staged) ∷ [])) (λ steps. MayReplace n r steps) new (λ steps p. (mailbox, staged, free, own, p)) (staged_seen n r old mid new mailbox staged h e f)
+
+pub nothing_staged : (n : ℕ) (r : Request) (old mid new : Option (List Step)) (mailbox : Seen) → IfSome old (λ steps. LockedThen n r steps []) → mid ≡ added old (Look r.mailbox (Ok mailbox)) → new ≡ added mid (Look r.staged (Ok Nothing)) → IfSome new (λ steps. StandsAt op.Publish n r steps)
+nothing_staged n r old mid new mailbox h e f =
+    weaken (λ steps. LockedThen n r steps (Look r.mailbox (Ok mailbox) ∷ Look r.staged (Ok Nothing) ∷ [])) (λ steps. StandsAt op.Publish n r steps) new (λ steps p. (mailbox, p)) (staged_seen n r old mid new mailbox Nothing h e f)
+
+pub may_take_now : (n : ℕ) (r : Request) (old new : Option (List Step)) (seen : Seen) (mode : ℕ) → new ≡ added old (Look r.mailbox (Ok seen)) → is_free n seen ≡ true → mode ≡ mode_after seen → IfSome new (λ steps. MayTake n r steps mode)
+may_take_now n r old new seen mode e free is = weaken (λ steps. EndsWith steps (Look r.mailbox (Ok seen) ∷ [])) (λ steps. MayTake n r steps mode) new (λ steps p. (seen, free, is, p)) (ends_one old new (Look r.mailbox (Ok seen)) e)
+
+-- what is gone
+pub nothing_gone : (name : List ℕ) (old new : Option (List Step)) → new ≡ added old (Look name (Ok Nothing)) → IfSome new (λ steps. GoneThen name [] steps)
+nothing_gone name old new e = weaken (λ steps. EndsWith steps (Look name (Ok Nothing) ∷ [])) (λ steps. GoneThen name [] steps) new (λ steps p. inr p) (ends_one old new (Look name (Ok Nothing)) e)
+
+pub removed_gone : (name : List ℕ) (old new : Option (List Step)) (result : Result Unit Stop) → new ≡ added old (Remove name result) → OnOk result (IfSome new (λ steps. GoneThen name [] steps))
+removed_gone name old new (Ok u) e = weaken (λ steps. EndsWith steps (Remove name (Ok tt) ∷ [])) (λ steps. GoneThen name [] steps) new (λ steps p. inl p) (ends_one old new (Remove name (Ok tt)) e)
+removed_gone name old new (Err s) e = tt
+
+pub removed_unlocks : (n : ℕ) (r : Request) (old new : Option (List Step)) (result : Result Unit Stop) → new ≡ added old (Remove r.lock result) → OnOk result (IfSome new (λ steps. Unlocks n r steps))
+removed_unlocks n r old new (Ok u) e = weaken (λ steps. EndsWith steps (Remove r.lock (Ok tt) ∷ [])) (λ steps. Unlocks n r steps) new (λ steps p. inl p) (ends_one old new (Remove r.lock (Ok tt)) e)
+removed_unlocks n r old new (Err s) e = tt
+
+pub not_locked_unlocks : (n : ℕ) (r : Request) (told : Option (List Step)) → IfSome told (λ steps. NotLocked n r steps) → IfSome told (λ steps. Unlocks n r steps)
+not_locked_unlocks n r told h = weaken (λ steps. NotLocked n r steps) (λ steps. Unlocks n r steps) told (λ steps p. inr p) h
+
+gone_step : (name : List ℕ) (steps : List Step) → GoneThen name [] steps → GoneThen name (Sync (Ok tt) ∷ []) (steps ++ Sync (Ok tt) ∷ [])
+gone_step name steps (inl p) = inl (ends_step (Remove name (Ok tt) ∷ []) steps (Sync (Ok tt)) p)
+gone_step name steps (inr p) = inr (ends_step (Look name (Ok Nothing) ∷ []) steps (Sync (Ok tt)) p)
+
+pub gone_sync : (name : List ℕ) (old new : Option (List Step)) → new ≡ added old (Sync (Ok tt)) → IfSome old (λ steps. GoneThen name [] steps) → IfSome new (λ steps. GoneThen name (Sync (Ok tt) ∷ []) steps)
+gone_sync name old new e h = if_added (λ steps. GoneThen name [] steps) (λ steps. GoneThen name (Sync (Ok tt) ∷ []) steps) old new (Sync (Ok tt)) (λ steps p. gone_step name steps p) e h
+
+pub both : (P Q : List Step → Type 0) (told : Option (List Step)) → IfSome told P → IfSome told Q → IfSome told (λ steps. P steps × Q steps)
+both P Q None p q = tt
+both P Q (Some steps) p q = (p, q)
+
+-- what a release that began, what it then took away, and the last call come to
+pub unlock_done : (n : ℕ) (r : Request) (old mid new : Option (List Step)) → IfSome old (λ steps. Unlocks n r steps) → Onward old mid → IfSome mid (λ steps. GoneThen r.beside [] steps) → new ≡ added mid (Sync (Ok tt)) → Ended op.Unlock n r (Ok true) new
+unlock_done n r old mid new u o g e = both (λ steps. Once (λ front. Unlocks n r front) steps) (λ steps. GoneThen r.beside (Sync (Ok tt) ∷ []) steps) new (once_on (λ steps. Unlocks n r steps) old new u (on_then old mid new o (on_one mid new (Sync (Ok tt)) e))) (gone_sync r.beside mid new e g)
+
+pub stage_done : (r : Request) (mode : ℕ) (old mid new : Option (List Step)) → mid ≡ added old (Take r.staged mode (Ok tt)) → new ≡ added mid (Sync (Ok tt)) → IfSome new (λ steps. (m : ℕ) × EndsWith steps (Take r.staged m (Ok tt) ∷ Sync (Ok tt) ∷ []))
+stage_done r mode old mid new e f = weaken (λ steps. EndsWith steps (Take r.staged mode (Ok tt) ∷ Sync (Ok tt) ∷ [])) (λ steps. (m : ℕ) × EndsWith steps (Take r.staged m (Ok tt) ∷ Sync (Ok tt) ∷ [])) new (λ steps p. (mode, p)) (ends_two old mid new (Take r.staged mode (Ok tt)) (Sync (Ok tt)) e f)
+
+-- the list of users is the first call
+first_lawful : (n : ℕ) (r : Request) (steps : List Step) (list : Result (List ℕ) Stop) → steps ≡ [] → IsLawful n r (steps ++ Users list ∷ [])
+first_lawful n r steps list e = subst (λ (s : List Step). IsLawful n r (s ++ Users list ∷ [])) (sym e) (refl, tt)
+
+pub users_lawful : (n : ℕ) (r : Request) (old new : Option (List Step)) (list : Result (List ℕ) Stop) → IsFresh old → new ≡ added old (Users list) → IfSome new (λ steps. IsLawful n r steps)
+users_lawful n r old new list fresh e = if_added (λ steps. steps ≡ []) (λ steps. IsLawful n r steps) old new (Users list) (λ steps p. first_lawful n r steps list p) e fresh
+
+first_sound : (n : ℕ) (r : Request) (list : List ℕ) (told : Option (List Step)) → is_callers list n r ≡ true → IsFresh told → Sound n r (added told (Users (Ok list)))
+first_sound n r list None is fresh = tt
+first_sound n r list (Some steps) is fresh = subst (λ (s : List Step). Sound n r (Some (s ++ Users (Ok list) ∷ []))) (sym fresh) ((refl, tt), is)
+
+pub users_sound : (n : ℕ) (r : Request) (old new : Option (List Step)) (list : List ℕ) → IsFresh old → new ≡ added old (Users (Ok list)) → is_callers list n r ≡ true → Sound n r new
+users_sound n r old new list fresh e is = subst (λ (t : Option (List Step)). Sound n r t) (sym e) (first_sound n r list old is fresh)
+
+pub sound_lawful : (n : ℕ) (r : Request) (told : Option (List Step)) → Sound n r told → IfSome told (λ steps. IsLawful n r steps)
+sound_lawful n r None s = tt
+sound_lawful n r (Some steps) s = s.0
+
+-- no call is lawful
+pub fresh_lawful : (n : ℕ) (r : Request) (told : Option (List Step)) → IsFresh told → IfSome told (λ steps. IsLawful n r steps)
+fresh_lawful n r told fresh = weaken (λ steps. steps ≡ []) (λ steps. IsLawful n r steps) told (λ steps p. subst (λ (s : List Step). IsLawful n r s) (sym p) tt) fresh

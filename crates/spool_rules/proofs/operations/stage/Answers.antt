@@ -1,0 +1,42 @@
+use Rattle.std.proofs.Common.{refl, inr}
+use Rattle.std.proofs.lemmas.Result.{err_from_is_err_and}
+use Rattle.spool_rules.specs.declared.words.Operation.TheVariants as op
+use Rattle.spool_rules.proofs.OperationLemmas.{stage_done}
+use Rattle.spool_rules.proofs.CauseLemmas.{stopped_at, call_ends}
+use Rattle.spool_rules.proofs.operations.stage.Goals as goal
+
+pub clear-requires : goal.clear-requires
+clear-requires g c = inr c.bytes.ensures
+
+pub returns-in_err-clear-clause-keeps : goal.returns-in_err-clear-clause-keeps
+returns-in_err-clear-clause-keeps g c = c.clear.ensures.keeps
+
+pub returns-in_err-clear-clause-ended : goal.returns-in_err-clear-clause-ended
+returns-in_err-clear-clause-ended g c = let p = err_from_is_err_and c.from_residual.result c.from_residual.ensures.1 in rw (p.1, p.2) (stopped_at op.Stage c.args.number c.args.request.now _ (g.S.Spool.told c.clear.new.out) c.in_err-clear.ensures.stopped)
+
+pub returns-in_err-mode-clause-keeps : goal.returns-in_err-mode-clause-keeps
+returns-in_err-mode-clause-keeps g c = λ s. c.mode_to_take.ensures.keeps (c.clear.ensures.keeps s)
+
+pub returns-in_err-mode-clause-ended : goal.returns-in_err-mode-clause-ended
+returns-in_err-mode-clause-ended g c = let p = err_from_is_err_and c.from_residual-in_err-mode.result c.from_residual-in_err-mode.ensures.1 in rw (p.1, p.2) (stopped_at op.Stage c.args.number c.args.request.now _ (g.S.Spool.told c.mode_to_take.new.out) c.in_err-mode.ensures.stopped)
+
+pub take-requires : goal.take-requires
+take-requires g c = c.in_ok-mode.ensures.mode
+
+pub returns-in_err-take-clause-keeps : goal.returns-in_err-take-clause-keeps
+returns-in_err-take-clause-keeps g c = λ s. c.take.ensures.keeps (c.mode_to_take.ensures.keeps (c.clear.ensures.keeps s))
+
+pub returns-in_err-take-clause-ended : goal.returns-in_err-take-clause-ended
+returns-in_err-take-clause-ended g c = let p = err_from_is_err_and c.from_residual-in_err-take.result c.from_residual-in_err-take.ensures.1 in rw (p.1, p.2) (call_ends op.Stage c.args.number c.args.request.now (g.S.Spool.told c.mode_to_take.new.out) (g.S.Spool.told c.take.new.out) _ _ c.in_err-take.ensures.told refl)
+
+pub returns-in_err-sync-clause-keeps : goal.returns-in_err-sync-clause-keeps
+returns-in_err-sync-clause-keeps g c = λ s. c.sync.ensures.keeps (c.take.ensures.keeps (c.mode_to_take.ensures.keeps (c.clear.ensures.keeps s)))
+
+pub returns-in_err-sync-clause-ended : goal.returns-in_err-sync-clause-ended
+returns-in_err-sync-clause-ended g c = let p = err_from_is_err_and c.from_residual-in_err-sync.result c.from_residual-in_err-sync.ensures.1 in rw (p.1, p.2) (call_ends op.Stage c.args.number c.args.request.now (g.S.Spool.told c.take.new.out) (g.S.Spool.told c.sync.new.out) _ _ c.in_err-sync.ensures.told refl)
+
+pub returns-clause-keeps : goal.returns-clause-keeps
+returns-clause-keeps g c = λ s. c.sync.ensures.keeps (c.take.ensures.keeps (c.mode_to_take.ensures.keeps (c.clear.ensures.keeps s)))
+
+pub returns-clause-ended : goal.returns-clause-ended
+returns-clause-ended g c = stage_done c.args.request.now _ (g.S.Spool.told c.mode_to_take.new.out) (g.S.Spool.told c.take.new.out) (g.S.Spool.told c.sync.new.out) c.in_ok-take.ensures.told c.in_ok-sync.ensures.told
