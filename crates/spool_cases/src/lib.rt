@@ -1,0 +1,7 @@
+//! The helper's call `run` over a folder in memory, which tells its calls.
+#![tactic(auto)]
+
+#[cfg(test)]
+mod folder;
+#[cfg(test)]
+mod tests;
