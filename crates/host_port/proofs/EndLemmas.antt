@@ -4,7 +4,7 @@ use Rattle.std.specs.declared.result.Result.{Result}
 use Rattle.std.specs.declared.result.Result.TheVariants.{Ok, Err}
 use Rattle.std.specs.Prelude.{is_some, is_none}
 use Rattle.host_port.specs.declared.event.Event.{Event}
-use Rattle.host_port.specs.declared.event.Event.TheVariants.{In, Out, Child, Now, Load, Stage, Publish, Extend, Erase, Lock, Unlock, Seize, Release, Foreign}
+use Rattle.host_port.specs.declared.event.Event.TheVariants.{In, Out, Child, Edit, Now, Load, Stage, Publish, Extend, Erase, Lock, Unlock, Seize, Release, Foreign}
 use Rattle.host_port.specs.declared.event.Part.{Part}
 use Rattle.host_port.specs.declared.host.DiskFault.{DiskFault}
 use Rattle.host_port.specs.Calls.{Staged, Published, Extended, Erased, Locked, Unlocked, Seized, Released}
@@ -59,6 +59,7 @@ pub carried-agrees : (d : Disk) (e : Event) → may_change e ≡ true → Agrees
 carried-agrees d (In bytes failed) may = absurd (cc)
 carried-agrees d (Out bytes failed) may = absurd (cc)
 carried-agrees d (Child program args input answer failed) may = absurd (cc)
+carried-agrees d (Edit name shell command text answer failed) may = absurd (cc)
 carried-agrees d (Now seconds) may = absurd (cc)
 carried-agrees d (Load name seen) may = absurd (cc)
 carried-agrees d (Stage name bytes failed) may = tt
@@ -75,6 +76,7 @@ pub cut-agrees : (d : Disk) (e : Event) (part : Part) → may_change e ≡ true 
 cut-agrees d (In bytes failed) part may = absurd (cc)
 cut-agrees d (Out bytes failed) part may = absurd (cc)
 cut-agrees d (Child program args input answer failed) part may = absurd (cc)
+cut-agrees d (Edit name shell command text answer failed) part may = absurd (cc)
 cut-agrees d (Now seconds) part may = absurd (cc)
 cut-agrees d (Load name seen) part may = absurd (cc)
 cut-agrees d (Stage name bytes failed) part may = tt

@@ -1,6 +1,6 @@
 use Rattle.std.proofs.Common.{◌≡◌, List, [], ◌∷◌, refl}
 use Rattle.host_port.specs.declared.event.Event.{Event}
-use Rattle.host_port.specs.declared.event.Event.TheVariants.{In, Out, Child, Now, Load, Stage, Publish, Extend, Erase, Lock, Unlock, Seize, Release, Foreign}
+use Rattle.host_port.specs.declared.event.Event.TheVariants.{In, Out, Child, Edit, Now, Load, Stage, Publish, Extend, Erase, Lock, Unlock, Seize, Release, Foreign}
 use Rattle.host_port.specs.Disk.{Disk, disk, after}
 use Rattle.host_port.specs.Own.{own, of_others, OnlyLooks}
 
@@ -11,6 +11,7 @@ disk-of_others d (Foreign step ∷ es) looks = disk-of_others (after d (Foreign 
 disk-of_others d (In bytes failed ∷ es) looks = disk-of_others d es looks.1
 disk-of_others d (Out bytes failed ∷ es) looks = disk-of_others d es looks.1
 disk-of_others d (Child program args input answer failed ∷ es) looks = disk-of_others d es looks.1
+disk-of_others d (Edit name shell command text answer failed ∷ es) looks = disk-of_others d es looks.1
 disk-of_others d (Now seconds ∷ es) looks = disk-of_others d es looks.1
 disk-of_others d (Load name seen ∷ es) looks = disk-of_others d es looks.1
 disk-of_others d (Stage name bytes failed ∷ es) looks = absurd (let no = looks.0 in cc)

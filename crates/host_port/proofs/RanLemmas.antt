@@ -6,10 +6,11 @@ use Rattle.std.specs.declared.option.Option.TheVariants.{Some}
 use Rattle.std.specs.declared.result.Result.{Result}
 use Rattle.std.specs.declared.result.Result.TheVariants.{Ok, Err}
 use Rattle.host_port.specs.declared.event.Event.{Event}
-use Rattle.host_port.specs.declared.event.Event.TheVariants.{In, Out, Load, Stage, Publish, Extend, Erase, Lock, Unlock, Seize, Release, Child, Now, Foreign}
+use Rattle.host_port.specs.declared.event.Event.TheVariants.{In, Out, Load, Stage, Publish, Extend, Erase, Lock, Unlock, Seize, Release, Child, Edit, Now, Foreign}
 use Rattle.host_port.specs.declared.event.Seen.TheVariants as seen
 use Rattle.host_port.specs.declared.event.LoadAnswer.{LoadAnswer}
 use Rattle.host_port.specs.declared.event.ChildAnswer.{ChildAnswer}
+use Rattle.host_port.specs.declared.event.EditAnswer.{EditAnswer}
 use Rattle.host_port.specs.declared.host.InFault.{InFault}
 use Rattle.host_port.specs.declared.host.OutFault.{OutFault}
 use Rattle.host_port.specs.declared.host.DiskFault.{DiskFault}
@@ -19,7 +20,7 @@ use Rattle.host_port.specs.declared.host.ChildError.{ChildError}
 use Rattle.host_port.specs.declared.host.ChildError.TheVariants as child_error
 use Rattle.host_port.specs.declared.event.ForeignStep.{ForeignStep}
 use Rattle.host_port.specs.Disk.{Disk, disk, after}
-use Rattle.host_port.specs.Calls.{Counts, World, NeverFall, Rose, Calls, Filled, Said, Loaded, LoadCause, Staged, Published, Extended, Erased, Locked, Unlocked, Seized, Released, ChildRan, ChildCause, TimeTold}
+use Rattle.host_port.specs.Calls.{Counts, World, NeverFall, Rose, Calls, Filled, Said, Loaded, LoadCause, Staged, Published, Extended, Erased, Locked, Unlocked, Seized, Released, ChildRan, ChildCause, Edited, EditCause, TimeTold}
 use Rattle.host_port.specs.Own.{own}
 use Rattle.host_port.specs.Ran.{Agrees, IsCounted, AreCounted, Honest, Stretch, Ran}
 
@@ -70,6 +71,7 @@ counted-within a b c d x y (Lock name token got failed) h = λ f. rose-within a.
 counted-within a b c d x y (Unlock name token done failed) h = λ f. rose-within a.disks b.disks c.disks d.disks x.disks y.disks (h f)
 counted-within a b c d x y (Seize name got failed) h = λ f. rose-within a.disks b.disks c.disks d.disks x.disks y.disks (h f)
 counted-within a b c d x y (Child program args input answer failed) h = λ f. rose-within a.children b.children c.children d.children x.children y.children (h f)
+counted-within a b c d x y (Edit name shell command text answer failed) h = λ f. rose-within a.children b.children c.children d.children x.children y.children (h f)
 counted-within a b c d x y (Release name) h = tt
 counted-within a b c d x y (Now seconds) h = tt
 counted-within a b c d x y (Foreign step) h = tt
@@ -220,6 +222,12 @@ pub child-counted : (program : List ℕ) (args : List (List ℕ)) (input : List 
 child-counted program args input (Ok answer) a b cause d e is = let P : Event → Type 0 = λ e. IsCounted a b e in subst P (sym is) (λ f. absurd (cc f))
 child-counted program args input (Err child_error.Failed) a b cause d e is = let P : Event → Type 0 = λ e. IsCounted a b e in subst P (sym is) (λ f. cause)
 child-counted program args input (Err child_error.Memory) a b cause d e is = let P : Event → Type 0 = λ e. IsCounted a b e in subst P (sym is) (λ f. absurd (cc f))
+
+pub edited-counted : (name shell command text : List ℕ) (r : Result EditAnswer ChildError) (a b : Counts) → EditCause a.children b.children r
+    → (d : Disk) (e : Event) → Edited name shell command text r d e → IsCounted a b e
+edited-counted name shell command text (Ok answer) a b cause d e is = let P : Event → Type 0 = λ e. IsCounted a b e in subst P (sym is) (λ f. absurd (cc f))
+edited-counted name shell command text (Err child_error.Failed) a b cause d e is = let P : Event → Type 0 = λ e. IsCounted a b e in subst P (sym is) (λ f. cause)
+edited-counted name shell command text (Err child_error.Memory) a b cause d e is = let P : Event → Type 0 = λ e. IsCounted a b e in subst P (sym is) (λ f. absurd (cc f))
 
 pub time-counted : (seconds : ℤ) (a b : Counts) (d : Disk) (e : Event) → TimeTold seconds d e → IsCounted a b e
 time-counted seconds a b d e is = let P : Event → Type 0 = λ e. IsCounted a b e in subst P (sym is) tt

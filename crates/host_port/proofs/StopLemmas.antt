@@ -51,6 +51,7 @@ pub stop-before : (d : Disk) (e : Event) → SameDisk (stopped d e Before) (ende
 stop-before d (event.In bytes failed) = same (ended d)
 stop-before d (event.Out bytes failed) = same (ended d)
 stop-before d (event.Child program args input answer failed) = same (ended d)
+stop-before d (event.Edit name shell command text answer failed) = same (ended d)
 stop-before d (event.Now seconds) = same (ended d)
 stop-before d (event.Load name seen) = same (ended d)
 stop-before d (event.Stage name bytes failed) = record { files = put-again d.files name; locks = λ q. refl; rights = λ q. refl }
@@ -68,6 +69,7 @@ pub stop-after : (d : Disk) (e : Event) → SameDisk (stopped d e After) (ended 
 stop-after d (event.In bytes failed) = same (ended d)
 stop-after d (event.Out bytes failed) = same (ended d)
 stop-after d (event.Child program args input answer failed) = same (ended d)
+stop-after d (event.Edit name shell command text answer failed) = same (ended d)
 stop-after d (event.Now seconds) = same (ended d)
 stop-after d (event.Load name seen) = same (ended d)
 stop-after d (event.Stage name bytes failed) = same _

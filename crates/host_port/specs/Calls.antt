@@ -5,7 +5,7 @@ use Rattle.std.specs.declared.option.Option.TheVariants.{Some, None}
 use Rattle.std.specs.declared.result.Result.{Result}
 use Rattle.std.specs.declared.result.Result.TheVariants.{Ok, Err}
 use Rattle.host_port.specs.declared.event.Event.{Event}
-use Rattle.host_port.specs.declared.event.Event.TheVariants.{In, Out, Load, Stage, Publish, Extend, Erase, Lock, Unlock, Seize, Release, Child, Now, Foreign}
+use Rattle.host_port.specs.declared.event.Event.TheVariants.{In, Out, Load, Stage, Publish, Extend, Erase, Lock, Unlock, Seize, Release, Child, Edit, Now, Foreign}
 use Rattle.host_port.specs.declared.event.Seen.TheVariants as seen
 use Rattle.host_port.specs.declared.event.ForeignStep.{ForeignStep}
 use Rattle.host_port.specs.declared.event.LoadAnswer.{LoadAnswer}
@@ -15,6 +15,7 @@ use Rattle.host_port.specs.declared.host.DiskFault.{DiskFault}
 use Rattle.host_port.specs.declared.host.LoadError.{LoadError}
 use Rattle.host_port.specs.declared.host.LoadError.TheVariants as error
 use Rattle.host_port.specs.declared.event.ChildAnswer.{ChildAnswer}
+use Rattle.host_port.specs.declared.event.EditAnswer.{EditAnswer}
 use Rattle.host_port.specs.declared.host.ChildError.{ChildError}
 use Rattle.host_port.specs.declared.host.ChildError.TheVariants as child_error
 use Rattle.host_port.specs.Disk.{Disk, reaches, disk}
@@ -132,7 +133,7 @@ Seized name (Err fault) d e = IsCutShort d (Seize name true false) e
 abbrev pub Released : List ℕ → Disk → Event → Type 0
 Released name d e = e ≡ Release name
 
--- the most bytes of a child's output that are kept
+-- the most bytes of a child's output, and of an editor's text, that are kept
 abbrev pub output_limit : ℕ
 output_limit = 16777216
 
@@ -147,6 +148,18 @@ abbrev pub ChildCause : ℕ → ℕ → Result ChildAnswer ChildError → Type 0
 ChildCause before now (Ok a) = length a.output ≤ output_limit
 ChildCause before now (Err child_error.Failed) = Rose before now
 ChildCause before now (Err child_error.Memory) = Unit {0}
+
+-- the event of an editor that ran, that could not be run, or for which memory ran out
+abbrev pub Edited : List ℕ → List ℕ → List ℕ → List ℕ → Result EditAnswer ChildError → Disk → Event → Type 0
+Edited name shell command text (Ok a) d e = e ≡ Edit name shell command text (Some a) false
+Edited name shell command text (Err child_error.Failed) d e = e ≡ Edit name shell command text None true
+Edited name shell command text (Err child_error.Memory) d e = e ≡ Edit name shell command text None false
+
+-- an editor answers Failed only if the count of children rose, and a text within the limit
+abbrev pub EditCause : ℕ → ℕ → Result EditAnswer ChildError → Type 0
+EditCause before now (Ok a) = length a.text ≤ output_limit
+EditCause before now (Err child_error.Failed) = Rose before now
+EditCause before now (Err child_error.Memory) = Unit {0}
 
 -- the event of a look at the time
 abbrev pub TimeTold : ℤ → Disk → Event → Type 0

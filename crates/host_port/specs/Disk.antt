@@ -95,6 +95,7 @@ after d (event.Seize name true failed) = record d { rights = with_at d.rights na
 after d (event.Seize name false failed) = d
 after d (event.Release name) = record d { rights = with_at d.rights name (without_own (d.rights name)) }
 after d (event.Child program args input answer failed) = d
+after d (event.Edit name shell command text answer failed) = d
 after d (event.Now seconds) = d
 after d (event.Foreign step) = after_step d step
 

@@ -3,7 +3,7 @@ use Rattle.std.specs.Prelude.{◌≡◌, ◌==◌, ◌&&◌, ℕ, Bool, true, fa
 use Rattle.std.specs.declared.option.Option.{Option}
 use Rattle.std.specs.declared.option.Option.TheVariants.{Some, None}
 use Rattle.host_port.specs.declared.event.Event.{Event}
-use Rattle.host_port.specs.declared.event.Event.TheVariants.{In, Out, Load, Stage, Publish, Extend, Erase, Lock, Unlock, Seize, Release, Child, Now, Foreign}
+use Rattle.host_port.specs.declared.event.Event.TheVariants.{In, Out, Load, Stage, Publish, Extend, Erase, Lock, Unlock, Seize, Release, Child, Edit, Now, Foreign}
 use Rattle.host_port.specs.declared.event.Part.{Part}
 use Rattle.host_port.specs.declared.event.Part.TheVariants.{Before, After, Bytes, Nothing}
 use Rattle.host_port.specs.declared.event.Holder.{Holder}
@@ -37,6 +37,7 @@ carried_out d (Unlock name token done failed) = Unlock name token (is_owner toke
 carried_out d (Seize name got failed) = Seize name (is_open (d.rights name)) false
 carried_out d (Release name) = Release name
 carried_out d (Child program args input answer failed) = Child program args input answer failed
+carried_out d (Edit name shell command text answer failed) = Edit name shell command text answer failed
 carried_out d (Now seconds) = Now seconds
 carried_out d (Foreign step) = Foreign step
 
@@ -79,6 +80,7 @@ cut_short d (Unlock name token done failed) part = Unlock name token (is_after p
 cut_short d (Seize name got failed) part = Seize name (is_after part && is_open (d.rights name)) true
 cut_short d (Release name) part = Release name
 cut_short d (Child program args input answer failed) part = Child program args input answer failed
+cut_short d (Edit name shell command text answer failed) part = Edit name shell command text answer failed
 cut_short d (Now seconds) part = Now seconds
 cut_short d (Foreign step) part = Foreign step
 

@@ -1,7 +1,7 @@
 -- The events of this run, and those of others.
 use Rattle.std.specs.Prelude.{◌≡◌, Bool, true, false, List, [], ◌∷◌}
 use Rattle.host_port.specs.declared.event.Event.{Event}
-use Rattle.host_port.specs.declared.event.Event.TheVariants.{In, Out, Load, Stage, Publish, Extend, Erase, Lock, Unlock, Seize, Release, Child, Now, Foreign}
+use Rattle.host_port.specs.declared.event.Event.TheVariants.{In, Out, Load, Stage, Publish, Extend, Erase, Lock, Unlock, Seize, Release, Child, Edit, Now, Foreign}
 
 -- the events that are this run's own
 abbrev pub own : List Event → List Event
@@ -29,6 +29,7 @@ may_change (Unlock name token done failed) = true
 may_change (Seize name got failed) = true
 may_change (Release name) = true
 may_change (Child program args input answer failed) = false
+may_change (Edit name shell command text answer failed) = false
 may_change (Now seconds) = false
 may_change (Foreign step) = false
 

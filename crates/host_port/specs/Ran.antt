@@ -2,7 +2,7 @@
 use Rattle.std.specs.Prelude.{◌≡◌, Bool, true, false, List, [], ◌∷◌, ◌++◌, is_some, is_none}
 use Rattle.std.specs.declared.option.Option.TheVariants.{Some}
 use Rattle.host_port.specs.declared.event.Event.{Event}
-use Rattle.host_port.specs.declared.event.Event.TheVariants.{In, Out, Load, Stage, Publish, Extend, Erase, Lock, Unlock, Seize, Release, Child, Now, Foreign}
+use Rattle.host_port.specs.declared.event.Event.TheVariants.{In, Out, Load, Stage, Publish, Extend, Erase, Lock, Unlock, Seize, Release, Child, Edit, Now, Foreign}
 use Rattle.host_port.specs.declared.event.Seen.TheVariants as seen
 use Rattle.host_port.specs.Disk.{Disk, reaches, disk, after}
 use Rattle.host_port.specs.Calls.{Counts, World, NeverFall, Rose, IsTooLarge}
@@ -31,6 +31,7 @@ Agrees d (Unlock name token done failed) = AllowedBy (is_owner token (d.locks na
 Agrees d (Seize name got failed) = AllowedBy (is_open (d.rights name)) got failed
 Agrees d (Release name) = Unit {0}
 Agrees d (Child program args input answer failed) = Unit {0}
+Agrees d (Edit name shell command text answer failed) = Unit {0}
 Agrees d (Now seconds) = Unit {0}
 Agrees d (Foreign step) = Unit {0}
 
@@ -50,6 +51,7 @@ IsCounted old new (Lock name token got failed) = failed ≡ true → Rose old.di
 IsCounted old new (Unlock name token done failed) = failed ≡ true → Rose old.disks new.disks
 IsCounted old new (Seize name got failed) = failed ≡ true → Rose old.disks new.disks
 IsCounted old new (Child program args input answer failed) = failed ≡ true → Rose old.children new.children
+IsCounted old new (Edit name shell command text answer failed) = failed ≡ true → Rose old.children new.children
 IsCounted old new (Release name) = Unit {0}
 IsCounted old new (Now seconds) = Unit {0}
 IsCounted old new (Foreign step) = Unit {0}

@@ -77,6 +77,15 @@ pub enum Event {
         answer: Option<ChildAnswer>,
         failed: bool,
     },
+    /// An editor was run on a text, as a file of this name; without an answer and a fault, memory ran out.
+    Edit {
+        name: Text,
+        shell: Text,
+        command: Text,
+        text: Text,
+        answer: Option<EditAnswer>,
+        failed: bool,
+    },
     /// The time was looked at: seconds since 1970-01-01 00:00:00 UTC.
     Now {
         seconds: i64,
@@ -143,6 +152,17 @@ pub struct ChildAnswer {
     /// What it wrote to its standard output, its first 16,777,216 bytes at most.
     pub output: Text,
     /// Whether it wrote more.
+    pub cut: bool,
+}
+
+/// What an editor answers.
+#[derive(Drop, Debug)]
+pub struct EditAnswer {
+    /// The number with which it ended, or -1 if it gave none.
+    pub status: i32,
+    /// The text that it left, its first 16,777,216 bytes at most.
+    pub text: Text,
+    /// Whether it left more.
     pub cut: bool,
 }
 

@@ -1,8 +1,8 @@
 ghost use Rattle.std.specs.Prelude.{◌≡◌, ◌≤◌, ◌<◌, length, IfOk, OnErr};
 ghost use Rattle.host_port.specs.Names.{IsFileName};
-ghost use Rattle.host_port.specs.Calls.{Calls, World, NeverFall, Rose, Filled, Said, Loaded, LoadCause, Staged, Published, Extended, Erased, Locked, Unlocked, Seized, Released, ChildRan, ChildCause, TimeTold};
+ghost use Rattle.host_port.specs.Calls.{Calls, World, NeverFall, Rose, Filled, Said, Loaded, LoadCause, Staged, Published, Extended, Erased, Locked, Unlocked, Seized, Released, ChildRan, ChildCause, Edited, EditCause, TimeTold};
 
-use crate::{ChildAnswer, LoadAnswer};
+use crate::{ChildAnswer, EditAnswer, LoadAnswer};
 use mail_text::Text;
 use std::alloc::Global;
 use thiserror::Error;
@@ -33,7 +33,7 @@ pub enum LoadError {
     Memory,
 }
 
-/// Why a child gave no answer.
+/// Why a child or an editor gave no answer.
 #[derive(Clone, Copy, Debug, PartialEq, Eq, Error)]
 pub enum ChildError {
     #[error("could not be run")]
@@ -154,6 +154,22 @@ pub trait Host {
         ensures call { Calls world self.old self.new (ChildRan program.now args.now input.now result) }
         ensures counts { NeverFall (world.counts self.old) (world.counts self.new) }
         ensures cause { ChildCause (world.counts self.old).children (world.counts self.new).children result };
+
+    /// Runs an editor on a text: puts the text into a file of this name, which is made anew, runs the shell with the
+    /// command and that name, waits for its end, and takes the file back. Answers its status and the text that it left.
+    /// The file is none of the disk's.
+    fn edit(
+        &mut self,
+        alloc: Global,
+        name: &[u8],
+        shell: &[u8],
+        command: &[u8],
+        text: &[u8],
+    ) -> Result<EditAnswer, ChildError>
+        ensures start { world.start self.new ≡ world.start self.old }
+        ensures call { Calls world self.old self.new (Edited name.now shell.now command.now text.now result) }
+        ensures counts { NeverFall (world.counts self.old) (world.counts self.new) }
+        ensures cause { EditCause (world.counts self.old).children (world.counts self.new).children result };
 
     /// The time: seconds since 1970-01-01 00:00:00 UTC. It never fails.
     fn now(&mut self) -> i64

@@ -13,7 +13,7 @@ ghost use Rattle.host_port.specs.Ran.{Agrees};
 ghost use Rattle.host_port.specs.declared.event.Part.{Part};
 ghost use Rattle.host_port.specs.declared.event.Event.{Event};
 
-pub use event::{ChildAnswer, Event, ForeignStep, Holder, LoadAnswer, Part, Seen};
+pub use event::{ChildAnswer, EditAnswer, Event, ForeignStep, Holder, LoadAnswer, Part, Seen};
 pub use host::{ChildError, DiskFault, Host, InFault, LoadError, OutFault};
 
 /// A law: own events that may change no disk leave the disk that the steps of others make of the start.
