@@ -2,3 +2,4 @@ pub mod NamedLemmas
 pub mod TapeLemmas
 pub mod PlanLemmas
 mod ChildLemmas
+pub mod EditLemmas

@@ -6,7 +6,7 @@ use Rattle.std.specs.declared.option.Option.TheVariants.{Some, None}
 use Rattle.std.specs.declared.result.Result.{Result}
 use Rattle.std.specs.declared.result.Result.TheVariants.{Ok, Err}
 use Rattle.host_port.specs.declared.event.Event.{Event}
-use Rattle.host_port.specs.declared.event.Event.TheVariants.{In, Out, Child, Now, Load, Stage, Publish, Extend, Erase, Lock, Unlock, Seize, Release, Foreign}
+use Rattle.host_port.specs.declared.event.Event.TheVariants.{In, Out, Child, Edit, Now, Load, Stage, Publish, Extend, Erase, Lock, Unlock, Seize, Release, Foreign}
 use Rattle.host_port.specs.declared.event.ForeignStep.{ForeignStep}
 use Rattle.host_port.specs.declared.event.Part.{Part}
 use Rattle.host_port.specs.declared.event.Part.TheVariants.{After}
@@ -38,6 +38,7 @@ pub refused-is : (d : Disk) (whole : Event) → is_err (answer_of (carried_out d
 refused-is d (In bytes failed) = refl
 refused-is d (Out bytes failed) = refl
 refused-is d (Child program args input answer failed) = refl
+refused-is d (Edit name shell command text answer failed) = refl
 refused-is d (Now seconds) = refl
 refused-is d (Load name seen) = refl
 refused-is d (Stage name bytes failed) = refl
@@ -59,6 +60,7 @@ refused-cut : (d : Disk) (whole : Event) (fault : DiskFault) → answer_of (carr
 refused-cut d (In bytes failed) fault is = absurd (cc is)
 refused-cut d (Out bytes failed) fault is = absurd (cc is)
 refused-cut d (Child program args input answer failed) fault is = absurd (cc is)
+refused-cut d (Edit name shell command text answer failed) fault is = absurd (cc is)
 refused-cut d (Now seconds) fault is = absurd (cc is)
 refused-cut d (Load name seen) fault is = absurd (cc is)
 refused-cut d (Stage name bytes failed) fault is = absurd (cc is)

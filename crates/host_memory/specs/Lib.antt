@@ -6,4 +6,5 @@ pub mod Standings
 pub mod Steps
 pub mod Children
 pub mod Fills
+pub mod Edits
 pub mod MemHosts

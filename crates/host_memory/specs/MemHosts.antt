@@ -18,6 +18,7 @@ use Rattle.host_port.specs.declared.event.LoadAnswer.{LoadAnswer}
 use Rattle.host_port.specs.declared.host.LoadError.{LoadError}
 use Rattle.host_port.specs.declared.host.LoadError.TheVariants as error
 use Rattle.host_port.specs.declared.event.ChildAnswer.{ChildAnswer}
+use Rattle.host_port.specs.declared.event.EditAnswer.{EditAnswer}
 use Rattle.host_port.specs.declared.host.ChildError.{ChildError}
 use Rattle.host_port.specs.declared.host.ChildError.TheVariants as child_error
 
@@ -63,6 +64,16 @@ abbrev pub child_wants_memory : Result ChildAnswer ChildError → Bool
 child_wants_memory (Err child_error.Memory) = true
 child_wants_memory r = false
 
+-- whether an editor answered that it could not be run
+abbrev pub is_failed_edit : Result EditAnswer ChildError → Bool
+is_failed_edit (Err child_error.Failed) = true
+is_failed_edit r = false
+
+-- whether an editor answered that memory ran out
+abbrev pub edit_wants_memory : Result EditAnswer ChildError → Bool
+edit_wants_memory (Err child_error.Memory) = true
+edit_wants_memory r = false
+
 -- whether the host tells its trace no more
 abbrev pub is_lost : MemHost → Bool
 is_lost m = is_none (host_told m)
@@ -94,10 +105,15 @@ input_left m = drop m.at m.input
 abbrev pub answers_left : MemHost → List ChildAnswer
 answers_left m = drop m.used m.plan.children
 
--- a call that takes nothing: what is left of the input and of the answers of children stays
+-- the planned answers of editors that are left
+abbrev pub edits_left : MemHost → List EditAnswer
+edits_left m = drop m.edited m.plan.edits
+
+-- a call that takes nothing: what is left of the input and of the answers of children and editors stays
 pub record TakesNothing (old new : MemHost) : Type 0 where
   pub input : input_left new ≡ input_left old
   pub answers : answers_left new ≡ answers_left old
+  pub edits : edits_left new ≡ edits_left old
 
 -- the next bytes of the input, for which a buffer of `room` bytes and one chunk have room
 abbrev pub next_input : MemHost → ℕ → List ℕ
@@ -109,6 +125,7 @@ pub record IsUncalled (input : List ℕ) (plan : Plan) (m : MemHost) : Type 0 wh
   pub calls : m.calls ≡ 0
   pub input_is : input_left m ≡ input
   pub answers_are : answers_left m ≡ plan.children
+  pub edits_are : edits_left m ≡ plan.edits
   pub counts : host_counts m ≡ record { ins = 0; outs = 0; disks = 0; children = 0 }
 
 -- what goes out of an output: all of it, or if it fails what the plan says, all or nothing

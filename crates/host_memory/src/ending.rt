@@ -256,6 +256,7 @@ pub fn answer(event: &Event) -> Result<bool, DiskFault>
         Event::Unlock { .. } => Ok(true),
         Event::Release { .. } => Ok(true),
         Event::Child { .. } => Ok(true),
+        Event::Edit { .. } => Ok(true),
         Event::Now { .. } => Ok(true),
         Event::Foreign { .. } => Ok(true),
     }

@@ -5,6 +5,7 @@
 mod calls;
 mod children;
 mod disk_calls;
+mod editors;
 mod ending;
 mod filling;
 mod images;

@@ -4,8 +4,9 @@ ghost use Rattle.std.specs.Option.{option_copied};
 ghost use Rattle.host_port.specs.Disk.{disk};
 ghost use Rattle.host_port.specs.Ends.{stopped};
 ghost use Rattle.host_port.specs.Names.{IsFileName};
-ghost use Rattle.host_port.specs.Calls.{Calls, NeverFall, Rose, Filled, Said, Loaded, LoadCause, Staged, Published, Extended, Erased, Locked, Unlocked, Seized, Released, ChildRan, ChildCause, TimeTold};
+ghost use Rattle.host_port.specs.Calls.{Calls, NeverFall, Rose, Filled, Said, Loaded, LoadCause, Staged, Published, Extended, Erased, Locked, Unlocked, Seized, Released, ChildRan, ChildCause, Edited, EditCause, TimeTold};
 ghost use Rattle.host_memory.specs.Children.{next_given};
+ghost use Rattle.host_memory.specs.Edits.{next_edit};
 ghost use Rattle.host_memory.specs.Tapes.{ShowsSame};
 ghost use Rattle.host_memory.specs.Views.{disk_of, NamesOnce};
 ghost use Rattle.host_port.specs.declared.event.Event.{Event};
@@ -16,12 +17,14 @@ use crate::children::{Run, tell_child, used_after};
 use crate::disk_calls::{
     tell_erase, tell_extend, tell_lock, tell_publish, tell_seize, tell_stage, tell_unlock,
 };
+use crate::editors::{Editing, edited_after, tell_edit};
 use crate::filling::tell_fill;
 use crate::images::{image, show, standing_of};
 use crate::tape::Tape;
 use crate::{DiskView, Plan};
 use host_port::{
-    ChildAnswer, ChildError, DiskFault, Event, Host, InFault, LoadAnswer, LoadError, OutFault, Part,
+    ChildAnswer, ChildError, DiskFault, EditAnswer, Event, Host, InFault, LoadAnswer, LoadError,
+    OutFault, Part,
 };
 use mail_text::{Memory, Text};
 use std::alloc::Global;
@@ -38,6 +41,7 @@ pub struct MemHost {
     at: usize,
     plan: Plan,
     used: usize,
+    edited: usize,
     calls: u64,
     lost: bool,
     ins: u64,
@@ -70,6 +74,7 @@ impl MemHost {
                     at: 0,
                     plan,
                     used: 0,
+                    edited: 0,
                     calls: 0,
                     lost: false,
                     ins: 0,
@@ -134,7 +139,7 @@ impl MemHost {
 }
 
 impl Host for MemHost {
-    ghost use Rattle.host_memory.specs.MemHosts.{host_world, host_told, host_start, host_counts, is_failed_load, wants_memory, is_lost, next_part, input_left, next_input, after_input, after_output, after_disk, after_child, is_failed_child, child_wants_memory, answers_left, TakesNothing, IsAsPlanned, IsDoneAsPlanned, SaysAsPlanned};
+    ghost use Rattle.host_memory.specs.MemHosts.{host_world, host_told, host_start, host_counts, is_failed_load, wants_memory, is_lost, next_part, input_left, next_input, after_input, after_output, after_disk, after_child, is_failed_child, child_wants_memory, answers_left, is_failed_edit, edit_wants_memory, edits_left, TakesNothing, IsAsPlanned, IsDoneAsPlanned, SaysAsPlanned};
 
     ghost world = { host_world };
 
@@ -150,6 +155,7 @@ impl Host for MemHost {
         ensures left { IfOk result (λ n. input_left self.new ≡ drop n (input_left self.old)) }
         ensures kept { OnErr result (input_left self.new ≡ input_left self.old) }
         ensures answers { answers_left self.new ≡ answers_left self.old }
+        ensures edits { edits_left self.new ≡ edits_left self.old }
         ensures counted { host_counts self.new ≡ after_input (is_err result) (host_counts self.old) }
         ensures lost { is_lost self.new ≡ true → is_err result ≡ true }
     {
@@ -501,6 +507,7 @@ impl Host for MemHost {
         ensures given { IfOk result (λ a. a ≡ next_given (answers_left self.old)) }
         ensures left { IfOk result (λ a. answers_left self.new ≡ drop 1 (answers_left self.old)) }
         ensures kept { OnErr result (answers_left self.new ≡ answers_left self.old) }
+        ensures edits { edits_left self.new ≡ edits_left self.old }
         ensures input { input_left self.new ≡ input_left self.old }
         ensures counted { host_counts self.new ≡ after_child (is_failed_child result) (host_counts self.old) }
         ensures lost { child_wants_memory result ≡ is_lost self.new }
@@ -524,6 +531,60 @@ impl Host for MemHost {
         ) {
             Ok(Some(answer)) => {
                 self.used = used_after(self.plan.children.items(), self.used);
+                Ok(answer)
+            }
+            Ok(None) => {
+                self.children = self.children.saturating_add(1);
+                Err(ChildError::Failed)
+            }
+            Err(_) => {
+                self.lost = true;
+                Err(ChildError::Memory)
+            }
+        }
+    }
+
+    fn edit(
+        &mut self,
+        alloc: Global,
+        name: &[u8],
+        shell: &[u8],
+        command: &[u8],
+        text: &[u8],
+    ) -> Result<EditAnswer, ChildError>
+        ensures start { host_start self.new ≡ host_start self.old }
+        ensures call { Calls host_world self.old self.new (Edited name.now shell.now command.now text.now result) }
+        ensures counts { NeverFall (host_counts self.old) (host_counts self.new) }
+        ensures cause { EditCause (host_counts self.old).children (host_counts self.new).children result }
+        ensures planned { IsAsPlanned self.old self.new (is_failed_edit result) }
+        ensures given { IfOk result (λ a. a ≡ next_edit text.now (edits_left self.old)) }
+        ensures left { IfOk result (λ a. edits_left self.new ≡ drop 1 (edits_left self.old)) }
+        ensures kept { OnErr result (edits_left self.new ≡ edits_left self.old) }
+        ensures answers { answers_left self.new ≡ answers_left self.old }
+        ensures input { input_left self.new ≡ input_left self.old }
+        ensures counted { host_counts self.new ≡ after_child (is_failed_edit result) (host_counts self.old) }
+        ensures lost { edit_wants_memory result ≡ is_lost self.new }
+    {
+        self.calls = self.calls.saturating_add(1);
+        if self.lost {
+            return Err(ChildError::Memory);
+        }
+        let editing = Editing {
+            name,
+            shell,
+            command,
+            text,
+        };
+        match tell_edit(
+            alloc,
+            &self.plan,
+            self.edited,
+            self.calls,
+            &mut self.tape,
+            editing,
+        ) {
+            Ok(Some(answer)) => {
+                self.edited = edited_after(self.plan.edits.items(), self.edited);
                 Ok(answer)
             }
             Ok(None) => {

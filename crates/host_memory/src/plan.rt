@@ -1,4 +1,4 @@
-use host_port::{ChildAnswer, ForeignStep, Part};
+use host_port::{ChildAnswer, EditAnswer, ForeignStep, Part};
 use mail_text::{Items, Text};
 
 /// A disk as a list of files and a list of the owners of locks. Of several pairs of one name the first counts.
@@ -22,4 +22,7 @@ pub struct Plan {
     /// What children answer, in order: each child that runs takes the next. Once all are used up a child answers
     /// status 0 and no output.
     pub children: Items<ChildAnswer>,
+    /// What editors answer, in order: each editor that runs takes the next. Once all are used up an editor answers
+    /// status 0 and the text as it was given.
+    pub edits: Items<EditAnswer>,
 }
