@@ -14,8 +14,8 @@ use std::io;
 use std::io::{Error, Read, Seek, SeekFrom, Write};
 use std::process::{Command, Processes, Stdio};
 
-/// The most bytes of a child's output that are kept.
-const OUTPUT_LIMIT: usize = 16_777_216;
+/// The most bytes of a child's output, and of an editor's text, that are kept.
+pub const OUTPUT_LIMIT: usize = 16_777_216;
 
 /// What the shell carries out. It has the program and the arguments as its words, and reads none of them: the program
 /// takes its place. A shell whose `exec` has options is told that a name which begins with `-` is none.
@@ -86,8 +86,8 @@ fn open_input<R: Files<File = File>>(
     }
 }
 
-// The front of what is read, to one byte past the limit.
-fn read_front<F: Read>(alloc: Global, from: &mut F) -> Result<Vec<u8>, FileError> {
+/// The front of what is read, to one byte past the limit.
+pub fn read_front<F: Read>(alloc: Global, from: &mut F) -> Result<Vec<u8>, FileError> {
     let mut bytes = Vec::new(alloc);
     from.take(OUTPUT_LIMIT as u64 + 1).read_to_end(&mut bytes)?;
     Ok(bytes)

@@ -6,6 +6,9 @@
 mod child_tests;
 mod children;
 mod disk;
+#[cfg(test)]
+mod edit_tests;
+mod editors;
 mod files;
 mod kinds;
 mod locks;

@@ -5,11 +5,12 @@ ghost use Rattle.host_port.specs.Disk.{empty_disk};
 
 use crate::children::run;
 use crate::disk::Disk;
+use crate::editors::edit;
 use crate::reading::LOAD_LIMIT;
 use crate::reasons::{FileError, tell};
 use crate::streams::{put, take};
 use host_port::{
-    ChildAnswer, ChildError, DiskFault, Host, InFault, LoadAnswer, LoadError, OutFault,
+    ChildAnswer, ChildError, DiskFault, EditAnswer, Host, InFault, LoadAnswer, LoadError, OutFault,
 };
 use mail_text::{Memory, Text};
 use std::alloc::Global;
@@ -185,6 +186,25 @@ impl<R: Files<File = File> + Input + Print + Eprint + Processes + Clock + Drop> 
             Err(error) => {
                 self.children = self.children.saturating_add(1);
                 tell(&self.rt, self.alloc, program, &error);
+                Err(ChildError::Failed)
+            }
+        }
+    }
+
+    fn edit(
+        &mut self,
+        alloc: Global,
+        name: &[u8],
+        shell: &[u8],
+        command: &[u8],
+        text: &[u8],
+    ) -> Result<EditAnswer, ChildError> {
+        match edit(&self.rt, alloc, name, shell, command, text) {
+            Ok(answer) => Ok(answer),
+            Err(FileError::Memory) => Err(ChildError::Memory),
+            Err(error) => {
+                self.children = self.children.saturating_add(1);
+                tell(&self.rt, self.alloc, command, &error);
                 Err(ChildError::Failed)
             }
         }
