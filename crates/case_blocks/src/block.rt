@@ -12,9 +12,9 @@ pub struct Case<'a> {
 }
 
 /// The heads of lines of a title, of the disk and of the plan.
-const HEADS: [&str; 15] = [
+const HEADS: [&str; 16] = [
     "always", "case ", "bare", "holds ", "file ", "lock ", "input", "pieces ", "fails ", "other ",
-    "child ", "now ", "|", ":", "#",
+    "child ", "edit ", "now ", "|", ":", "#",
 ];
 
 /// Whether a line tells a title, something of the disk or of the plan, or nothing.

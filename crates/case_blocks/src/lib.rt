@@ -20,6 +20,7 @@
 //! | `pieces N` | the most bytes that the host gives of the input at once; without it 3 |
 //! | `now SECONDS` | the time, in seconds since 1970; without it 0 |
 //! | `child STATUS TEXT` | the status and the output of a child; the first line is the first child's that runs |
+//! | `edit STATUS TEXT` | the status of an editor and the text that it leaves, in the same way |
 //! | `fails N PART` | the call of this number fails, and leaves `before`, `after`, `nothing` or `bytes TEXT` |
 //! | `other N write NAME TEXT` | what another does before the call of this number |
 //! | `other N remove NAME`, `seize NAME`, `release NAME` | the same |

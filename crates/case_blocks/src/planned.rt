@@ -4,7 +4,7 @@ ghost use Rattle.std.specs.Prelude.{◌≤◌};
 use crate::Answer;
 use crate::block::{Case, cut, number, value};
 use host_memory::Plan;
-use host_port::{ChildAnswer, ForeignStep, Part};
+use host_port::{ChildAnswer, EditAnswer, ForeignStep, Part};
 use mail_text::Items;
 
 fn step(text: &str, out: &mut Answer) -> ForeignStep {
@@ -72,6 +72,32 @@ fn put_children(block: &str, children: &mut Items<ChildAnswer>, out: &mut Answer
     }
 }
 
+// Puts what the lines of a block plan of editors at the end.
+fn put_edits(block: &str, edits: &mut Items<EditAnswer>, out: &mut Answer) {
+    for line in block.lines() {
+        if let Some(rest) = line.strip_prefix("edit ") {
+            let (status, text) = cut(rest);
+            let answer = EditAnswer {
+                status: status.parse().unwrap_or(0),
+                text: out.decoded(text),
+                cut: false,
+            };
+            out.note(edits.push(answer));
+        }
+    }
+}
+
+// What children and editors answer.
+fn answers(case: Case<'_>, out: &mut Answer) -> (Items<ChildAnswer>, Items<EditAnswer>) {
+    let mut children = Items::new(out.alloc());
+    let mut edits = Items::new(out.alloc());
+    put_children(case.own, &mut children, out);
+    put_children(case.always, &mut children, out);
+    put_edits(case.own, &mut edits, out);
+    put_edits(case.always, &mut edits, out);
+    (children, edits)
+}
+
 fn seconds(case: Case<'_>) -> i64 {
     value(case, "now ").unwrap_or("0").parse().unwrap_or(0)
 }
@@ -86,22 +112,21 @@ fn pieces(case: Case<'_>) -> usize
 }
 
 /// What happens in a case: the time, in what pieces the input comes, the steps of others, the calls that fail, and the
-/// answers of children.
+/// answers of children and editors.
 pub fn plan(case: Case<'_>, out: &mut Answer) -> Plan
     ensures { 1 ≤ result.chunk }
 {
     let mut foreign = Items::new(out.alloc());
     let mut fails = Items::new(out.alloc());
-    let mut children = Items::new(out.alloc());
     put_block(case.own, &mut foreign, &mut fails, out);
     put_block(case.always, &mut foreign, &mut fails, out);
-    put_children(case.own, &mut children, out);
-    put_children(case.always, &mut children, out);
+    let (children, edits) = answers(case, out);
     Plan {
         now: seconds(case),
         chunk: pieces(case),
         foreign,
         fails,
         children,
+        edits,
     }
 }
