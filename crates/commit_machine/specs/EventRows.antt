@@ -36,6 +36,7 @@ abbrev pub event_row : Event → EventRow
 event_row (event.In bytes failed) = row (Went true) false false false
 event_row (event.Out bytes failed) = row (Went true) false false false
 event_row (event.Child program args input answer failed) = row (Went true) false false false
+event_row (event.Edit name shell command text answer failed) = row (Went true) false false false
 event_row (event.Now seconds) = row (Went true) false false false
 event_row (event.Load name seen) = load_row seen
 event_row (event.Stage name bytes failed) = call_row true failed
@@ -53,6 +54,7 @@ abbrev pub is_disk : Event → Bool
 is_disk (event.In bytes failed) = false
 is_disk (event.Out bytes failed) = false
 is_disk (event.Child program args input answer failed) = false
+is_disk (event.Edit name shell command text answer failed) = false
 is_disk (event.Now seconds) = false
 is_disk (event.Load name seen) = true
 is_disk (event.Stage name bytes failed) = true

@@ -165,6 +165,7 @@ module _ (actor : List ℕ) (token : ℕ) where
   between (event.In bytes failed ∷ es) d queue files owners s looks lawful = let more = between es d queue files owners s looks.1 lawful in record { due = more.due; fresh = more.fresh; rest = more.rest }
   between (event.Out bytes failed ∷ es) d queue files owners s looks lawful = let more = between es d queue files owners s looks.1 lawful in record { due = more.due; fresh = more.fresh; rest = more.rest }
   between (event.Child program args input answer failed ∷ es) d queue files owners s looks lawful = let more = between es d queue files owners s looks.1 lawful in record { due = more.due; fresh = more.fresh; rest = more.rest }
+  between (event.Edit name shell command text answer failed ∷ es) d queue files owners s looks lawful = let more = between es d queue files owners s looks.1 lawful in record { due = more.due; fresh = more.fresh; rest = more.rest }
   between (event.Now seconds ∷ es) d queue files owners s looks lawful = let more = between es d queue files owners s looks.1 lawful in record { due = more.due; fresh = more.fresh; rest = more.rest }
   between (event.Load name seen ∷ es) d queue files owners s looks lawful = let more = between es d queue files owners s looks.1 lawful in record { due = more.due; fresh = more.fresh; rest = more.rest }
   between (e ∷ es) d queue files owners s looks lawful = absurd (let h = looks.0 in (cc h))

@@ -75,6 +75,7 @@ pub events_have_rows : EventsHaveRows
 events_have_rows (event.In b f) = record { answer = refl; failed = refl; acts = refl; changes = refl; keeps = λ d o h. refl }
 events_have_rows (event.Out b f) = record { answer = refl; failed = refl; acts = refl; changes = refl; keeps = λ d o h. refl }
 events_have_rows (event.Child program args input answer failed) = record { answer = refl; failed = refl; acts = refl; changes = refl; keeps = λ d o h. refl }
+events_have_rows (event.Edit name shell command text answer failed) = record { answer = refl; failed = refl; acts = refl; changes = refl; keeps = λ d o h. refl }
 events_have_rows (event.Now seconds) = record { answer = refl; failed = refl; acts = refl; changes = refl; keeps = λ d o h. refl }
 events_have_rows (event.Load n (seen.Bytes c held)) = record { answer = refl; failed = refl; acts = refl; changes = refl; keeps = λ d o h. refl }
 events_have_rows (event.Load n (seen.TooLarge k)) = record { answer = refl; failed = refl; acts = refl; changes = refl; keeps = λ d o h. refl }
