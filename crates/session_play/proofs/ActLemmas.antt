@@ -6,6 +6,7 @@ use Rattle.host_port.specs.declared.event.Event.TheVariants as event
 use Rattle.host_port.specs.declared.event.Seen.TheVariants as seen
 use Rattle.host_port.specs.declared.event.LoadAnswer.{LoadAnswer}
 use Rattle.host_port.specs.declared.event.ChildAnswer.{ChildAnswer}
+use Rattle.host_port.specs.declared.event.EditAnswer.{EditAnswer}
 use Rattle.host_port.specs.declared.host.LoadError.TheVariants as error
 use Rattle.host_port.specs.Disk.{Disk}
 use Rattle.host_port.specs.Calls.{Loaded}
@@ -21,7 +22,7 @@ use Rattle.mail_dates.specs.declared.moment.Moment.{Moment}
 use Rattle.mail_dates.specs.declared.zone.Zone.{Zone}
 use Rattle.mail_dates.specs.Zones.{zone_offset, within_years}
 use Rattle.session_play.specs.Moments.{IsZoneOf, IsMomentAt}
-use Rattle.session_play.specs.Play.{Ask, Ret, Say, Read, Try, Child, Now, Goes}
+use Rattle.session_play.specs.Play.{Ask, Ret, Say, Read, Try, Child, Editor, Now, Goes}
 
 append_nil : (xs : List ℕ) → xs ≡ xs ++ []
 append_nil [] = refl
@@ -97,6 +98,24 @@ pub child-memory : (program : List ℕ) (args : List (List ℕ)) (input : List �
     → Agrees d e × Goes {R = Option ChildAnswer} (Ask (Child program args input) Ret) (own (e ∷ [])) (Err stop.Memory)
 child-memory program args input d e is =
     let P : Event → Type 0 = λ e. Agrees d e × Goes {R = Option ChildAnswer} (Ask (Child program args input) Ret) (own (e ∷ [])) (Err stop.Memory) in
+    subst P (sym is) (tt, inr (stop.Memory, refl, inr refl))
+
+pub editor-ran : (name shell command text : List ℕ) (a : EditAnswer) (d : Disk) (e : Event) → e ≡ event.Edit name shell command text (Some a) false
+    → Agrees d e × Goes {R = Option EditAnswer} (Ask (Editor name shell command text) Ret) (own (e ∷ [])) (Ok (Some a))
+editor-ran name shell command text a d e is =
+    let P : Event → Type 0 = λ e. Agrees d e × Goes {R = Option EditAnswer} (Ask (Editor name shell command text) Ret) (own (e ∷ [])) (Ok (Some a)) in
+    subst P (sym is) (tt, inl (Some a, event.Edit name shell command text (Some a) false ∷ [], [], refl, refl, (refl, inl refl)))
+
+pub editor-failed : (name shell command text : List ℕ) (d : Disk) (e : Event) → e ≡ event.Edit name shell command text None true
+    → Agrees d e × Goes {R = Option EditAnswer} (Ask (Editor name shell command text) Ret) (own (e ∷ [])) (Ok None)
+editor-failed name shell command text d e is =
+    let P : Event → Type 0 = λ e. Agrees d e × Goes {R = Option EditAnswer} (Ask (Editor name shell command text) Ret) (own (e ∷ [])) (Ok None) in
+    subst P (sym is) (tt, inl (None, event.Edit name shell command text None true ∷ [], [], refl, refl, (refl, inl refl)))
+
+pub editor-memory : (name shell command text : List ℕ) (d : Disk) (e : Event) → e ≡ event.Edit name shell command text None false
+    → Agrees d e × Goes {R = Option EditAnswer} (Ask (Editor name shell command text) Ret) (own (e ∷ [])) (Err stop.Memory)
+editor-memory name shell command text d e is =
+    let P : Event → Type 0 = λ e. Agrees d e × Goes {R = Option EditAnswer} (Ask (Editor name shell command text) Ret) (own (e ∷ [])) (Err stop.Memory) in
     subst P (sym is) (tt, inr (stop.Memory, refl, inr refl))
 
 pub time-told : (tz : List ℕ) (seconds : ℤ) (m : Moment) → IsMomentAt tz seconds m → (d : Disk) (e : Event) → e ≡ event.Now seconds

@@ -11,7 +11,7 @@ use Rattle.session_play.specs.declared.act.Found.TheVariants as found
 use Rattle.session_play.specs.declared.stop.Stop.{Stop}
 use Rattle.session_play.specs.declared.stop.Stop.TheVariants as stop
 use Rattle.session_play.specs.Input.{Input, input_limit, first_line, last_line, next_of, next_line, took, Reads}
-use Rattle.session_play.specs.Play.{Act, Answer, Line, Say, Read, Try, Changes, Recover, Child, Now, Know, Play, Ret, Ask, Says, SaysInPart, seen_of, seen_at, Did, Partly, Goes, Next, Go, Last, Loop, again, last, cut}
+use Rattle.session_play.specs.Play.{Act, Answer, Line, Say, Read, Try, Changes, Recover, Child, Editor, Now, Know, Play, Ret, Ask, Says, SaysInPart, seen_of, seen_at, Did, Partly, Goes, Next, Go, Last, Loop, again, last, cut}
 use Rattle.session_play.specs.Acts.{AllActs, TakesFrom, input_after, Threads, may_load}
 use Rattle.session_play.specs.Causes.{some_in_failed, some_out_failed, some_load_saw, is_failed, bytes_in, counted, events_at, of_commit, commits_of, commits_in, IsExplained, NextFrom}
 use Rattle.std.specs.List.{list_any}
@@ -180,6 +180,11 @@ cut-by (Child program args input) stop.Disk es i le same never = absurd never
 cut-by (Child program args input) stop.Input es i le same never = absurd never
 cut-by (Child program args input) stop.Output es i le same never = absurd never
 cut-by (Child program args input) stop.TooMuch es i le same never = absurd never
+cut-by (Editor name shell command text) stop.Memory es i le same is = load-cut-by stop.Memory es i _ le is (record { in_is = refl; out_is = refl; amount = omega arith })
+cut-by (Editor name shell command text) stop.Disk es i le same never = absurd never
+cut-by (Editor name shell command text) stop.Input es i le same never = absurd never
+cut-by (Editor name shell command text) stop.Output es i le same never = absurd never
+cut-by (Editor name shell command text) stop.TooMuch es i le same never = absurd never
 cut-by (Now tz) cause es i le same never = absurd never
 cut-by (Know texts) cause es i le same never = absurd never
 
@@ -227,6 +232,7 @@ did-clean (Changes c) (Made a) es i le same (well, did) = streams-clean es i le 
 did-clean (Changes c) (Misnamed name fault) es i le same (is, none) = streams-clean es i le (none-streams es none)
 did-clean (Recover actor token) a es i le same did = streams-clean es i le (recovery-streams actor token es (recovery_as a) did)
 did-clean (Child program args input) a es i le same did = event-clean _ es i le did (record { in_ok = refl; out_ok = refl; bytes = omega arith; within = le })
+did-clean (Editor name shell command text) a es i le same did = event-clean _ es i le did (record { in_ok = refl; out_ok = refl; bytes = omega arith; within = le })
 did-clean (Now tz) m es i le same did = event-clean _ es i le did.1 (record { in_ok = refl; out_ok = refl; bytes = omega arith; within = le })
 did-clean (Know texts) rows es i le same did = none-clean es i le did.0
 
@@ -287,6 +293,7 @@ did-quiet false (Say bytes) u es may did = refl
 did-quiet false (Read name) f es may did = refl
 did-quiet false (Try name) f es may did = refl
 did-quiet false (Child program args input) rows es may did = refl
+did-quiet false (Editor name shell command text) rows es may did = refl
 did-quiet false (Now tz) rows es may did = refl
 did-quiet false (Know texts) rows es may did = refl
 did-quiet true (Line i) a es may did = (unseen-did is_failed (Line i) a es refl did, refl)
@@ -296,6 +303,7 @@ did-quiet true (Try name) f es may did = absurd (cc may)
 did-quiet true (Changes c) a es may did = absurd (cc may)
 did-quiet true (Recover actor token) a es may did = absurd (cc may)
 did-quiet true (Child program args input) rows es may did = (unseen-did is_failed (Child program args input) rows es refl did, refl)
+did-quiet true (Editor name shell command text) rows es may did = (unseen-did is_failed (Editor name shell command text) rows es refl did, refl)
 did-quiet true (Now tz) rows es may did = (unseen-did is_failed (Now tz) rows es refl did, refl)
 did-quiet true (Know texts) rows es may did = (unseen-did is_failed (Know texts) rows es refl did, refl)
 
@@ -346,6 +354,12 @@ cut-loads b (Child program args input) stop.Disk es may never = absurd never
 cut-loads b (Child program args input) stop.Input es may never = absurd never
 cut-loads b (Child program args input) stop.Output es may never = absurd never
 cut-loads b (Child program args input) stop.TooMuch es may never = absurd never
+cut-loads true (Editor name shell command text) stop.Memory es may part = (unseen-cut is_failed (Editor name shell command text) stop.Memory es refl part, refl)
+cut-loads false (Editor name shell command text) stop.Memory es may part = refl
+cut-loads b (Editor name shell command text) stop.Disk es may never = absurd never
+cut-loads b (Editor name shell command text) stop.Input es may never = absurd never
+cut-loads b (Editor name shell command text) stop.Output es may never = absurd never
+cut-loads b (Editor name shell command text) stop.TooMuch es may never = absurd never
 cut-loads b (Now tz) cause es may never = absurd never
 cut-loads b (Know texts) cause es may never = absurd never
 
@@ -373,6 +387,7 @@ of-none (Say bytes) es is = refl
 of-none (Read name) es is = refl
 of-none (Try name) es is = refl
 of-none (Child program args input) es is = refl
+of-none (Editor name shell command text) es is = refl
 of-none (Now tz) es is = refl
 of-none (Know texts) es is = refl
 

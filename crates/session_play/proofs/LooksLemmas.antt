@@ -14,7 +14,7 @@ use Rattle.session_play.specs.declared.stop.Stop.{Stop}
 use Rattle.session_play.specs.declared.stop.Stop.TheVariants as stop
 use Rattle.session_play.specs.Input.{Input, took, Reads}
 use Rattle.session_play.specs.Acts.{is_neutral, AllActs}
-use Rattle.session_play.specs.Play.{Act, Answer, Line, Say, Read, Try, Changes, Recover, Child, Now, Know, Play, Ret, Ask, Says, SaysInPart, Did, Partly, Goes, Next, Loop, again, last, cut}
+use Rattle.session_play.specs.Play.{Act, Answer, Line, Say, Read, Try, Changes, Recover, Child, Editor, Now, Know, Play, Ret, Ask, Says, SaysInPart, Did, Partly, Goes, Next, Loop, again, last, cut}
 
 looks-then : (es fs : List Event) → OnlyLooks es → OnlyLooks fs → OnlyLooks (es ++ fs)
 looks-then [] fs x y = y
@@ -60,6 +60,7 @@ neutral-did (Try name) f es neutral did = subst OnlyLooks (sym did) (refl, tt)
 neutral-did (Changes c) a es neutral did = absurd (cc neutral)
 neutral-did (Recover actor token) a es neutral did = absurd (cc neutral)
 neutral-did (Child program args input) a es neutral did = subst OnlyLooks (sym did) (refl, tt)
+neutral-did (Editor name shell command text) a es neutral did = subst OnlyLooks (sym did) (refl, tt)
 neutral-did (Now tz) m es neutral did = subst OnlyLooks (sym did.1) (refl, tt)
 neutral-did (Know texts) rows es neutral did = looks-none es did.0
 
@@ -88,6 +89,11 @@ neutral-part (Child program args input) stop.Disk es neutral never = absurd neve
 neutral-part (Child program args input) stop.Input es neutral never = absurd never
 neutral-part (Child program args input) stop.Output es neutral never = absurd never
 neutral-part (Child program args input) stop.TooMuch es neutral never = absurd never
+neutral-part (Editor name shell command text) stop.Memory es neutral is = subst OnlyLooks (sym is) (refl, tt)
+neutral-part (Editor name shell command text) stop.Disk es neutral never = absurd never
+neutral-part (Editor name shell command text) stop.Input es neutral never = absurd never
+neutral-part (Editor name shell command text) stop.Output es neutral never = absurd never
+neutral-part (Editor name shell command text) stop.TooMuch es neutral never = absurd never
 neutral-part (Now tz) cause es neutral never = absurd never
 neutral-part (Know texts) cause es neutral never = absurd never
 

@@ -7,7 +7,7 @@ use Rattle.host_port.specs.declared.event.Seen.{Seen}
 use Rattle.session_play.specs.declared.stop.Stop.{Stop}
 use Rattle.session_play.specs.declared.stop.Stop.TheVariants as stop
 use Rattle.session_play.specs.Input.{Input, took, Reads}
-use Rattle.session_play.specs.Play.{Act, Answer, Line, Say, Read, Try, Changes, Recover, Child, Now, Know, Play, Ret, Ask, Says, SaysInPart, Did, Partly, Goes}
+use Rattle.session_play.specs.Play.{Act, Answer, Line, Say, Read, Try, Changes, Recover, Child, Editor, Now, Know, Play, Ret, Ask, Says, SaysInPart, Did, Partly, Goes}
 use Rattle.session_play.specs.Acts.{AllActs, loads_nothing}
 use Rattle.session_play.specs.Causes.{some_load_saw}
 
@@ -55,6 +55,7 @@ unseen-did test (Try name) f es l did = absurd (cc l)
 unseen-did test (Changes c) a es l did = absurd (cc l)
 unseen-did test (Recover actor token) a es l did = absurd (cc l)
 unseen-did test (Child program args input) a es l did = subst (Unseen test) (sym did) refl
+unseen-did test (Editor name shell command text) a es l did = subst (Unseen test) (sym did) refl
 unseen-did test (Now tz) m es l did = subst (Unseen test) (sym did.1) refl
 unseen-did test (Know texts) rows es l did = unseen-none test es did.0
 
@@ -83,6 +84,11 @@ unseen-cut test (Child program args input) stop.Disk es l never = absurd never
 unseen-cut test (Child program args input) stop.Input es l never = absurd never
 unseen-cut test (Child program args input) stop.Output es l never = absurd never
 unseen-cut test (Child program args input) stop.TooMuch es l never = absurd never
+unseen-cut test (Editor name shell command text) stop.Memory es l is = subst (Unseen test) (sym is) refl
+unseen-cut test (Editor name shell command text) stop.Disk es l never = absurd never
+unseen-cut test (Editor name shell command text) stop.Input es l never = absurd never
+unseen-cut test (Editor name shell command text) stop.Output es l never = absurd never
+unseen-cut test (Editor name shell command text) stop.TooMuch es l never = absurd never
 unseen-cut test (Now tz) cause es l never = absurd never
 unseen-cut test (Know texts) cause es l never = absurd never
 

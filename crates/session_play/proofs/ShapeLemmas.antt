@@ -6,7 +6,7 @@ use Rattle.host_port.specs.declared.event.Event.{Event}
 use Rattle.session_play.specs.declared.stop.Stop.{Stop}
 use Rattle.session_play.specs.Input.{Input}
 use Rattle.session_play.specs.Acts.{AllActs, AllEnds, Threads, is_neutral, loads_nothing, may_load, input_after}
-use Rattle.session_play.specs.Play.{Act, Line, Say, Read, Try, Changes, Recover, Child, Now, Know, Play, Ret, Ask, Goes, bind}
+use Rattle.session_play.specs.Play.{Act, Line, Say, Read, Try, Changes, Recover, Child, Editor, Now, Know, Play, Ret, Ask, Goes, bind}
 
 abbrev pub came : {R : Type 0} → R → Result R Stop
 came r = Ok r
@@ -47,9 +47,11 @@ may-all false (Line i) l = refl
 may-all true (Say bytes) l = refl
 may-all false (Say bytes) l = refl
 may-all true (Child program args input) l = refl
+may-all true (Editor name shell command text) l = refl
 may-all true (Now tz) l = refl
 may-all true (Know texts) l = refl
 may-all false (Child program args input) l = refl
+may-all false (Editor name shell command text) l = refl
 may-all false (Now tz) l = refl
 may-all false (Know texts) l = refl
 may-all b (Read name) l = absurd (cc l)
@@ -66,6 +68,7 @@ may-neutral (Try name) l = refl
 may-neutral (Changes c) l = absurd (cc l)
 may-neutral (Recover actor token) l = absurd (cc l)
 may-neutral (Child program args input) l = refl
+may-neutral (Editor name shell command text) l = refl
 may-neutral (Now tz) l = refl
 may-neutral (Know texts) l = refl
 
@@ -78,5 +81,6 @@ silent-neutral (Try name) l = refl
 silent-neutral (Changes c) l = absurd (cc l)
 silent-neutral (Recover actor token) l = absurd (cc l)
 silent-neutral (Child program args input) l = refl
+silent-neutral (Editor name shell command text) l = refl
 silent-neutral (Now tz) l = refl
 silent-neutral (Know texts) l = refl

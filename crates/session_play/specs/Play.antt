@@ -9,6 +9,7 @@ use Rattle.host_port.specs.declared.event.Event.TheVariants as event
 use Rattle.host_port.specs.declared.event.Seen.{Seen}
 use Rattle.host_port.specs.declared.event.Seen.TheVariants as seen
 use Rattle.host_port.specs.declared.event.ChildAnswer.{ChildAnswer}
+use Rattle.host_port.specs.declared.event.EditAnswer.{EditAnswer}
 use Rattle.host_port.specs.Calls.{Counts, Rose}
 use Rattle.mail_dates.specs.declared.moment.Moment.{Moment}
 use Rattle.session_play.specs.Knowing.{Question, Fact, IsFact}
@@ -26,8 +27,9 @@ use Rattle.session_play.specs.Moments.{IsMomentAt}
 
 -- What a run asks: the next line of its input; to print bytes; to load a file (a failure cuts the run off); to try to load one (a failure is
 -- an answer); to commit changes of files (a fault of the disk cuts the run off); to recover what a stopped commit of an actor has left (such a
--- fault does so too); to run a program with arguments and an input (a failure is an answer); the moment that it is, in the zone of a TZ text;
--- and what it finds out without the outside.
+-- fault does so too); to run a program with arguments and an input (a failure is an answer); to run an editor, by the name of its file, the
+-- shell, the command and the text (a failure is an answer); the moment that it is, in the zone of a TZ text; and what it finds out without the
+-- outside.
 pub data Act : Type 0 where
   Line : Input → Act
   Say : List ℕ → Act
@@ -36,12 +38,13 @@ pub data Act : Type 0 where
   Changes : Commit → Act
   Recover : List ℕ → ℕ → Act
   Child : List ℕ → List (List ℕ) → List ℕ → Act
+  Editor : List ℕ → List ℕ → List ℕ → List ℕ → Act
   Now : List ℕ → Act
   Know : Question → Act
 
 -- what it is answered: the line, or none at the end, with the input that is left; nothing; what the load found; the same, or none if the
--- load failed; what came of the changes; what the recovery answers; what the program answers, or none if it could not be run; the moment;
--- what is so
+-- load failed; what came of the changes; what the recovery answers; what the program answers, or none if it could not be run; the same of
+-- the editor; the moment; what is so
 abbrev pub Answer : Act → Type 0
 Answer (Line i) = Option (List ℕ) × Input
 Answer (Say bytes) = Unit {0}
@@ -50,6 +53,7 @@ Answer (Try name) = Option Found
 Answer (Changes c) = Attempt
 Answer (Recover actor token) = RecoveryAnswer
 Answer (Child program args input) = Option ChildAnswer
+Answer (Editor name shell command text) = Option EditAnswer
 Answer (Now tz) = Moment
 Answer (Know q) = Fact q
 
@@ -95,6 +99,7 @@ Did (Try name) f es = es ≡ event.Load name (seen_at f) ∷ []
 Did (Changes c) a es = Attempted c a es
 Did (Recover actor token) a es = IsRecoveryOf actor token es (recovery_as a)
 Did (Child program args input) a es = es ≡ event.Child program args input a (is_none a) ∷ []
+Did (Editor name shell command text) a es = es ≡ event.Edit name shell command text a (is_none a) ∷ []
 Did (Now tz) m es = (seconds : ℤ) × (es ≡ event.Now seconds ∷ []) × IsMomentAt tz seconds m
 Did (Know q) fact es = (es ≡ []) × IsFact q fact
 
@@ -122,6 +127,7 @@ Partly (Changes c) stop.Memory es = RunsOutIn c es
 Partly (Recover actor token) stop.Disk es = IsRecoveryOf actor token es (Err recover.Disk)
 Partly (Recover actor token) stop.Memory es = IsRecoveryOf actor token es (Err recover.Memory)
 Partly (Child program args input) stop.Memory es = es ≡ event.Child program args input None false ∷ []
+Partly (Editor name shell command text) stop.Memory es = es ≡ event.Edit name shell command text None false ∷ []
 Partly act cause es = ⊥
 
 -- The events are those of the play, to its end or to where it was cut off. Memory may run out at any place.

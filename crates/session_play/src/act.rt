@@ -6,10 +6,10 @@ ghost use Rattle.host_port.specs.Ran.{Ran};
 ghost use Rattle.session_play.specs.Cuts.{IsLoadCut};
 ghost use Rattle.mail_dates.specs.Clock.{IsPrintable};
 ghost use Rattle.session_play.specs.Moments.{IsZoneOf};
-ghost use Rattle.session_play.specs.Play.{Play, Ask, Ret, Say, Read, Try, Child, Now, Goes, Caused};
+ghost use Rattle.session_play.specs.Play.{Play, Ask, Ret, Say, Read, Try, Child, Editor, Now, Goes, Caused};
 
 use crate::Stop;
-use host_port::{ChildAnswer, ChildError, Host, LoadAnswer, LoadError};
+use host_port::{ChildAnswer, ChildError, EditAnswer, Host, LoadAnswer, LoadError};
 use mail_dates::{Moment, Zone, ZoneError, moment_at, utc, zone_of};
 use mail_text::{Memory, Text};
 use std::alloc::Global;
@@ -92,6 +92,28 @@ pub fn run_child<H: Host>(
     ensures bound { IfOk result (λ answer. IfSome answer (λ a. length a.output ≤ output_limit)) }
 {
     match host.child(alloc, program, args, input) {
+        Ok(answer) => Ok(Some(answer)),
+        Err(ChildError::Failed) => Ok(None),
+        Err(ChildError::Memory) => Err(Stop::Memory),
+    }
+}
+
+/// Runs an editor on a text, in a file of this name, and waits for its end; None if it could not be run.
+pub fn run_editor<H: Host>(
+    alloc: Global,
+    host: &mut H,
+    name: &[u8],
+    shell: &[u8],
+    command: &[u8],
+    text: &[u8],
+) -> Result<Option<EditAnswer>, Stop>
+    ensures ran { Ran H.world host.old host.new
+        (λ es. Goes (Ask (Editor name.now shell.now command.now text.now) Ret) es result) }
+    ensures cause { Caused (H.world.counts host.old) (H.world.counts host.new) result }
+    ensures only_memory { IfErr result (λ cause. cause ≡ Stop.Memory) }
+    ensures bound { IfOk result (λ answer. IfSome answer (λ a. length a.text ≤ output_limit)) }
+{
+    match host.edit(alloc, name, shell, command, text) {
         Ok(answer) => Ok(Some(answer)),
         Err(ChildError::Failed) => Ok(None),
         Err(ChildError::Memory) => Err(Stop::Memory),

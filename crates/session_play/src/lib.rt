@@ -8,7 +8,7 @@ mod reader;
 mod recovering;
 mod stop;
 
-pub use act::{Found, load, now, run_child, say, try_load};
+pub use act::{Found, load, now, run_child, run_editor, say, try_load};
 pub use changing::{Attempt, Committed, change};
 pub use naming::{NameFault, misnamed};
 pub use reader::Reader;
