@@ -42,6 +42,7 @@ module _ (actor : List ℕ) (token : ℕ) where
   looking (event.In bytes failed ∷ es) d queue files owners s looks lawful = looking es d queue files owners s looks.1 lawful
   looking (event.Out bytes failed ∷ es) d queue files owners s looks lawful = looking es d queue files owners s looks.1 lawful
   looking (event.Child program args input answer failed ∷ es) d queue files owners s looks lawful = looking es d queue files owners s looks.1 lawful
+  looking (event.Edit name shell command text answer failed ∷ es) d queue files owners s looks lawful = looking es d queue files owners s looks.1 lawful
   looking (event.Now seconds ∷ es) d queue files owners s looks lawful = looking es d queue files owners s looks.1 lawful
   looking (event.Load name seen ∷ es) d queue files owners s looks lawful = looking es d queue files owners s looks.1 lawful
   looking (e ∷ es) d queue files owners s looks lawful = absurd (let h = looks.0 in (cc h))
@@ -69,6 +70,7 @@ module _ (actor : List ℕ) (token : ℕ) where
     stops-looking a (event.In bytes failed) b part looks lawful = stopped-looking a (event.In bytes failed ∷ []) b (disk d a) refl looks lawful
     stops-looking a (event.Out bytes failed) b part looks lawful = stopped-looking a (event.Out bytes failed ∷ []) b (disk d a) refl looks lawful
     stops-looking a (event.Child program args input answer failed) b part looks lawful = stopped-looking a (event.Child program args input answer failed ∷ []) b (disk d a) refl looks lawful
+    stops-looking a (event.Edit name shell command text answer failed) b part looks lawful = stopped-looking a (event.Edit name shell command text answer failed ∷ []) b (disk d a) refl looks lawful
     stops-looking a (event.Now seconds) b part looks lawful = stopped-looking a (event.Now seconds ∷ []) b (disk d a) refl looks lawful
     stops-looking a (event.Load name seen) b part looks lawful = stopped-looking a (event.Load name seen ∷ []) b (disk d a) refl looks lawful
     stops-looking a e b part looks lawful = absurd (let h = looks-back a (e ∷ b) looks in let k = h.0 in (cc k))

@@ -19,7 +19,7 @@ use Rattle.session_play.specs.declared.changing.Committed.TheVariants as committ
 use Rattle.session_play.specs.declared.stop.Stop.{Stop}
 use Rattle.session_play.specs.Acts.{AllEnds}
 use Rattle.session_play.specs.Committing.{Commit}
-use Rattle.session_play.specs.Play.{Act, Answer, Changes, Play, Ret, Ask, Did, Next, Go, Last, Line, Say, Read, Try, Recover, Child, Now, Know}
+use Rattle.session_play.specs.Play.{Act, Answer, Changes, Play, Ret, Ask, Did, Next, Go, Last, Line, Say, Read, Try, Recover, Child, Editor, Now, Know}
 use Rattle.play_safety.specs.Passes.{job_of, accepted_by, Commits, Passes, PassesAll, again, last, cut}
 use Rattle.play_safety.specs.Safe.{IsBy, OfCommit, EachCommit, NextKeeps, MayRun, queue_of, queue, IsDecidedAs, OfAnswer, AnswersAreDecided, AllAnswersAreDecided, DoneIsDecided}
 use Rattle.commit_machine.proofs.runs.OneJob.{Stands, after-piece, honest-back}
@@ -48,6 +48,7 @@ module _ (actor : List ℕ) (token : ℕ) (fits : token < 2 ^ 64) where
   act-decided (Try name) a d es by may did = tt
   act-decided (Recover b t) a d es by may did = tt
   act-decided (Child program args input) a d es by may did = tt
+  act-decided (Editor name shell command text) a d es by may did = tt
   act-decided (Now tz) a d es by may did = tt
   act-decided (Know texts) a d es by may did = tt
 

@@ -43,7 +43,7 @@ use Rattle.session_play.specs.Acts.{AllEnds}
 use Rattle.session_play.specs.declared.changing.Attempt.TheVariants.{Made, Misnamed}
 use Rattle.session_play.specs.Committing.{Commit, answer_as, first_misnamed}
 use Rattle.session_play.proofs.NamingLemmas.{named-files}
-use Rattle.session_play.specs.Play.{Act, Answer, Changes, Play, Ret, Ask, Did, Partly, Next, Go, Last, Line, Say, Read, Try, Recover, Child, Now, Know}
+use Rattle.session_play.specs.Play.{Act, Answer, Changes, Play, Ret, Ask, Did, Partly, Next, Go, Last, Line, Say, Read, Try, Recover, Child, Editor, Now, Know}
 use Rattle.play_safety.specs.Passes.{decided_in, accepted_by, pending_by, Commits, Passes, PassesAll, again, last, cut}
 use Rattle.play_safety.specs.Safe.{IsBy, OfCommit, EachCommit, NextKeeps, MayRun, queue_of, queue}
 use Rattle.play_safety.specs.Appended.{Decides, IsOnlyOne}
@@ -192,6 +192,7 @@ module _ (actor : List ℕ) (token : ℕ) (fits : token < 2 ^ 64) where
   act-fits (Read name) answer d files owners es by s honest lawful did = undecided-fit (Read name) d es ((act-answered actor token fits (Read name) answer d files owners es [] by s honest lawful did).count)
   act-fits (Try name) answer d files owners es by s honest lawful did = undecided-fit (Try name) d es ((act-answered actor token fits (Try name) answer d files owners es [] by s honest lawful did).count)
   act-fits (Child program args input) answer d files owners es by s honest lawful did = undecided-fit (Child program args input) d es ((act-answered actor token fits (Child program args input) answer d files owners es [] by s honest lawful did).count)
+  act-fits (Editor name shell command text) answer d files owners es by s honest lawful did = undecided-fit (Editor name shell command text) d es ((act-answered actor token fits (Editor name shell command text) answer d files owners es [] by s honest lawful did).count)
   act-fits (Now tz) answer d files owners es by s honest lawful did = undecided-fit (Now tz) d es ((act-answered actor token fits (Now tz) answer d files owners es [] by s honest lawful did).count)
   act-fits (Know texts) answer d files owners es by s honest lawful did = undecided-fit (Know texts) d es ((act-answered actor token fits (Know texts) answer d files owners es [] by s honest lawful did).count)
   act-fits (Recover o t) answer d files owners es by s honest lawful did = undecided-fit (Recover o t) d es ((act-answered actor token fits (Recover o t) answer d files owners es [] by s honest lawful did).count)
@@ -220,6 +221,7 @@ module _ (actor : List ℕ) (token : ℕ) (fits : token < 2 ^ 64) where
   cut-fits (Read name) cause d files owners es by s honest lawful how = undecided-fit (Read name) d es ((act-cut actor token fits (Read name) cause d files owners es [] by s honest lawful how).count)
   cut-fits (Try name) cause d files owners es by s honest lawful how = undecided-fit (Try name) d es ((act-cut actor token fits (Try name) cause d files owners es [] by s honest lawful how).count)
   cut-fits (Child program args input) cause d files owners es by s honest lawful how = undecided-fit (Child program args input) d es ((act-cut actor token fits (Child program args input) cause d files owners es [] by s honest lawful how).count)
+  cut-fits (Editor name shell command text) cause d files owners es by s honest lawful how = undecided-fit (Editor name shell command text) d es ((act-cut actor token fits (Editor name shell command text) cause d files owners es [] by s honest lawful how).count)
   cut-fits (Now tz) cause d files owners es by s honest lawful how = undecided-fit (Now tz) d es ((act-cut actor token fits (Now tz) cause d files owners es [] by s honest lawful how).count)
   cut-fits (Know texts) cause d files owners es by s honest lawful how = undecided-fit (Know texts) d es ((act-cut actor token fits (Know texts) cause d files owners es [] by s honest lawful how).count)
   cut-fits (Recover o t) cause d files owners es by s honest lawful how = undecided-fit (Recover o t) d es ((act-cut actor token fits (Recover o t) cause d files owners es [] by s honest lawful how).count)

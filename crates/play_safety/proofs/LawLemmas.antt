@@ -37,7 +37,7 @@ use Rattle.session_play.proofs.NamingLemmas.{named-files}
 use Rattle.session_play.specs.declared.stop.Stop.{Stop}
 use Rattle.session_play.specs.Acts.{AllActs, AllEnds, is_neutral}
 use Rattle.session_play.specs.Committing.{Commit, IsCommitOf, IsWellNamed}
-use Rattle.session_play.specs.Play.{Act, Changes, Play, Ret, Ask, Did, Partly, Goes, Next, Go, Last, Loop, Line, Say, Read, Try, Recover, Child, Now, Know}
+use Rattle.session_play.specs.Play.{Act, Changes, Play, Ret, Ask, Did, Partly, Goes, Next, Go, Last, Loop, Line, Say, Read, Try, Recover, Child, Editor, Now, Know}
 use Rattle.session_play.specs.Play as plays
 use Rattle.play_safety.specs.Passes.{decided_in, accepted_by, Commits, no_commits, behind, at_cut, Passes, PassesAll, again, last, cut}
 use Rattle.play_safety.specs.Safe.{IsBy, OfCommit, EachCommit, NextKeeps, MayRun, queue, IsCalm, IsCrashSafe, is_output, PlaysAreSafe, TracesAreRead}
@@ -238,6 +238,7 @@ neutral-commit P (Say bytes) h = tt
 neutral-commit P (Read name) h = tt
 neutral-commit P (Try name) h = tt
 neutral-commit P (Child program args input) h = tt
+neutral-commit P (Editor name shell command text) h = tt
 neutral-commit P (Now tz) h = tt
 neutral-commit P (Know texts) h = tt
 neutral-commit P (Changes c) h = absurd (cc h)

@@ -16,7 +16,7 @@ use Rattle.session_play.specs.Committing.{Commit}
 use Rattle.session_play.specs.declared.changing.Attempt.{Attempt}
 use Rattle.session_play.specs.declared.changing.Attempt.TheVariants.{Made, Misnamed}
 use Rattle.session_play.specs.declared.changing.Committed.TheVariants as committed
-use Rattle.session_play.specs.Play.{Act, Answer, Changes, Play, Ret, Ask, Next, Go, Last, Line, Say, Read, Try, Recover, Child, Now, Know}
+use Rattle.session_play.specs.Play.{Act, Answer, Changes, Play, Ret, Ask, Next, Go, Last, Line, Say, Read, Try, Recover, Child, Editor, Now, Know}
 use Rattle.play_safety.specs.Passes.{job_of, Commits, Passes, PassesAll, again, last, cut}
 use Rattle.play_safety.specs.Safe.{is_output, IsDecidedAs, OfAnswer, AnswersAreDecided, AllAnswersAreDecided}
 use Rattle.play_safety.specs.Replies.{IsDecidedIn, IsSaidAfter, OfReply, RepliesFollow, AllRepliesFollow, PlaysReplyAfter}
@@ -75,6 +75,7 @@ reply-of (Read name) a d own later decided = tt
 reply-of (Try name) a d own later decided = tt
 reply-of (Recover actor token) a d own later decided = tt
 reply-of (Child program args input) a d own later decided = tt
+reply-of (Editor name shell command text) a d own later decided = tt
 reply-of (Now tz) a d own later decided = tt
 reply-of (Know texts) a d own later decided = tt
 

@@ -49,7 +49,7 @@ use Rattle.session_play.specs.declared.recovering.RecoveryAnswer.TheVariants as 
 use Rattle.session_play.specs.Recovering.{recovery_as, IsRecoveryOf}
 use Rattle.session_play.specs.Acts.{is_neutral, AllEnds}
 use Rattle.session_play.proofs.ShapeLemmas.{came-same}
-use Rattle.session_play.specs.Play.{Act, Answer, Line, Say, Read, Try, Changes, Recover, Child, Now, Know, Play, Ret, Ask, Did, Partly, Next, Go, Last}
+use Rattle.session_play.specs.Play.{Act, Answer, Line, Say, Read, Try, Changes, Recover, Child, Editor, Now, Know, Play, Ret, Ask, Did, Partly, Next, Go, Last}
 use Rattle.session_play.proofs.CommitLemmas.{answer-fine}
 use Rattle.session_play.proofs.NamingLemmas.{named-files}
 use Rattle.session_play.proofs.LooksLemmas.{neutral-did, neutral-part}
@@ -329,6 +329,7 @@ module _ (actor : List ℕ) (token : ℕ) where
     act-answered (Read name) a d files owners es more by s honest lawful did = looks-passed d more files owners es s (neutral-did (Read name) a (own es) refl did) lawful
     act-answered (Try name) a d files owners es more by s honest lawful did = looks-passed d more files owners es s (neutral-did (Try name) a (own es) refl did) lawful
     act-answered (Child program args input) a d files owners es more by s honest lawful did = looks-passed d more files owners es s (neutral-did (Child program args input) a (own es) refl did) lawful
+    act-answered (Editor name shell command text) a d files owners es more by s honest lawful did = looks-passed d more files owners es s (neutral-did (Editor name shell command text) a (own es) refl did) lawful
     act-answered (Now tz) a d files owners es more by s honest lawful did = looks-passed d more files owners es s (neutral-did (Now tz) a (own es) refl did) lawful
     act-answered (Know texts) a d files owners es more by s honest lawful did = looks-passed d more files owners es s (neutral-did (Know texts) a (own es) refl did) lawful
     act-answered (Changes c) a d files owners es more by s honest lawful did =
@@ -389,6 +390,7 @@ module _ (actor : List ℕ) (token : ℕ) where
     act-cut (Read name) cause d files owners es more by s honest lawful how = looks-cut (calm_at cause) d files owners es more s lawful (cut-looks (Read name) cause (own es) refl how)
     act-cut (Try name) cause d files owners es more by s honest lawful how = looks-cut (calm_at cause) d files owners es more s lawful (cut-looks (Try name) cause (own es) refl how)
     act-cut (Child program args input) cause d files owners es more by s honest lawful how = looks-cut (calm_at cause) d files owners es more s lawful (cut-looks (Child program args input) cause (own es) refl how)
+    act-cut (Editor name shell command text) cause d files owners es more by s honest lawful how = looks-cut (calm_at cause) d files owners es more s lawful (cut-looks (Editor name shell command text) cause (own es) refl how)
     act-cut (Now tz) cause d files owners es more by s honest lawful how = looks-cut (calm_at cause) d files owners es more s lawful (cut-looks (Now tz) cause (own es) refl how)
     act-cut (Know texts) cause d files owners es more by s honest lawful how = looks-cut (calm_at cause) d files owners es more s lawful (cut-looks (Know texts) cause (own es) refl how)
     act-cut (Changes c) cause d files owners es more by s honest lawful how =

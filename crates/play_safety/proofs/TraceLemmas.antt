@@ -75,6 +75,7 @@ looks-undecided j (event.Foreign step ∷ es) d n looks = looks-undecided j es (
 looks-undecided j (event.In bytes failed ∷ es) d n looks = looks-undecided j es d n looks.1
 looks-undecided j (event.Out bytes failed ∷ es) d n looks = looks-undecided j es d n looks.1
 looks-undecided j (event.Child program args input answer failed ∷ es) d n looks = looks-undecided j es d n looks.1
+looks-undecided j (event.Edit name shell command text answer failed ∷ es) d n looks = looks-undecided j es d n looks.1
 looks-undecided j (event.Now seconds ∷ es) d n looks = looks-undecided j es d n looks.1
 looks-undecided j (event.Load name seen ∷ es) d n looks = looks-undecided j es d n looks.1
 looks-undecided j (e ∷ es) d n looks = absurd (let h = looks.0 in (cc h))
