@@ -10,6 +10,7 @@ use Rattle.host_port.specs.declared.event.Event.TheVariants as event
 use Rattle.host_port.specs.declared.event.Seen.{Seen}
 use Rattle.host_port.specs.declared.event.Seen.TheVariants as seen
 use Rattle.host_port.specs.declared.event.ChildAnswer.{ChildAnswer}
+use Rattle.host_port.specs.declared.event.EditAnswer.{EditAnswer}
 use Rattle.host_port.specs.Disk.{Disk, disk}
 use Rattle.commit_machine.specs.Jobs.{Job}
 use Rattle.commit_machine.specs.Machine.{State, Call, next, after_reply, Seizing, Ended}
@@ -33,7 +34,7 @@ use Rattle.session_play.specs.Recovering.{recovery_as, IsRecoveryOf}
 use Rattle.session_play.specs.Input.{Input}
 use Rattle.session_play.specs.Moments.{IsMomentAt}
 use Rattle.session_play.specs.Knowing.{Question, Rows, Viewed, Fact, IsFact}
-use Rattle.session_play.specs.Play.{Act, Answer, Line, Say, Read, Try, Changes, Recover, Child, Now, Know, Says, seen_at, Did}
+use Rattle.session_play.specs.Play.{Act, Answer, Line, Say, Read, Try, Changes, Recover, Child, Editor, Now, Know, Says, seen_at, Did}
 use Rattle.play_likeness.specs.Outside.{Outside, Gives, said}
 use Rattle.play_likeness.specs.Plays.{IsGiven, takes_no_line}
 use Rattle.play_likeness.proofs.JobLemmas.{load_on, load-seen, Asks, ToldOne}
@@ -45,6 +46,7 @@ use Rattle.thread_view.specs.ViewLaws.{ViewsAreAlike}
 pub record Level (i : Input) (o : Outside) (j : Input) (p : Outside) : Type 0 where
   pub text : i.rest ++ o.text ≡ j.rest ++ p.text
   pub children : o.children ≡ p.children
+  pub edits : o.edits ≡ p.edits
   pub times : o.times ≡ p.times
   pub end : i.ended ≡ true → o.text ≡ []
   pub other_end : j.ended ≡ true → p.text ≡ []
@@ -99,7 +101,7 @@ given-one d o p es e is given = subst (IsGiven d o p) is given
 load-told : (d : Disk) (name : List ℕ) (s : Seen) (o p : Outside) (es : List Event) → es ≡ event.Load name s ∷ [] → IsGiven d o p es → (s ≡ load_on d name) × (o ≡ p)
 load-told d name s o p es is given = let g = given-one d o p es (event.Load name s) is given in (load-seen d name s g.honest.0 g.tell.0, g.gives)
 
--- ---- what children and the clock answer
+-- ---- what children, editors and the clock answer
 
 heads-same : {A : Type 0} (a b : A) (xs ys : List A) → a ∷ xs ≡ b ∷ ys → a ≡ b
 heads-same a b xs ys e = cc
@@ -108,10 +110,13 @@ tails-same : {A : Type 0} (a b : A) (xs ys : List A) → a ∷ xs ≡ b ∷ ys �
 tails-same a b xs ys e = cc
 
 with-children : (i j : Input) (o p : Outside) (xs ys : List (Option ChildAnswer)) → xs ≡ ys → Level i o j p → Level i (record o { children = xs }) j (record p { children = ys })
-with-children i j o p xs ys same l = record { text = l.text; children = same; times = l.times; end = l.end; other_end = l.other_end }
+with-children i j o p xs ys same l = record { text = l.text; children = same; edits = l.edits; times = l.times; end = l.end; other_end = l.other_end }
+
+with-edits : (i j : Input) (o p : Outside) (xs ys : List (List ℕ → Option EditAnswer)) → xs ≡ ys → Level i o j p → Level i (record o { edits = xs }) j (record p { edits = ys })
+with-edits i j o p xs ys same l = record { text = l.text; children = l.children; edits = same; times = l.times; end = l.end; other_end = l.other_end }
 
 with-times : (i j : Input) (o p : Outside) (xs ys : List ℤ) → xs ≡ ys → Level i o j p → Level i (record o { times = xs }) j (record p { times = ys })
-with-times i j o p xs ys same l = record { text = l.text; children = l.children; times = same; end = l.end; other_end = l.other_end }
+with-times i j o p xs ys same l = record { text = l.text; children = l.children; edits = l.edits; times = same; end = l.end; other_end = l.other_end }
 
 -- ---- commits
 
@@ -226,6 +231,22 @@ module _ (one_row : OneRow) (one_view : ViewsAreAlike) where
           level = still-level i j _ m _ n one.2 two.2 (with-children i j o p one.0 two.0 (tails-same a b one.0 two.0 lists) level);
         }
 
+    editor-same : (name shell command text : List ℕ) (a b : Option EditAnswer) → es ≡ event.Edit name shell command text a (is_none a) ∷ [] → fs ≡ event.Edit name shell command text b (is_none b) ∷ []
+        → DidSame (Editor name shell command text) a b d es fs i m j n
+    editor-same name shell command text a b is was =
+        let one = (given-one d o m es _ is given).gives in
+        let two = (given-one d p n fs _ was also).gives in
+        let lists : one.0 ∷ one.1 ≡ two.0 ∷ two.1 = sym one.2 ∙ level.edits ∙ two.2 in
+        let heads : one.0 ≡ two.0 = heads-same one.0 two.0 one.1 two.1 lists in
+        let same : a ≡ b = one.3 ∙ ap (λ (f : List ℕ → Option EditAnswer). f text) heads ∙ sym two.3 in
+        let events : es ≡ fs = is ∙ ap (λ (c : Option EditAnswer). event.Edit name shell command text c (is_none c) ∷ []) same ∙ sym was in
+        record {
+          answer = same;
+          says = ap said events;
+          leaves = ap (disk d) events;
+          level = still-level i j _ m _ n one.4 two.4 (with-edits i j o p one.1 two.1 (tails-same one.0 two.0 one.1 two.1 lists) level);
+        }
+
     now-same : (tz : List ℕ) (a b : Moment) → Did (Now tz) a es → Did (Now tz) b fs → DidSame (Now tz) a b d es fs i m j n
     now-same tz a b (s, is, at) (t, was, by) =
         let one = (given-one d o m es _ is given).gives in
@@ -260,6 +281,7 @@ module _ (one_row : OneRow) (one_view : ViewsAreAlike) where
         let same = recovery-same d es fs (from-given d o m es given) (from-given d p n fs also) actor token a b one two in
         level-events (Recover actor token) a b same.1 same.0 (recovery-level actor token a es one)
     did-same (Child program args input) free a b one two = child-same program args input a b one two
+    did-same (Editor name shell command text) free a b one two = editor-same name shell command text a b one two
     did-same (Now tz) free a b one two = now-same tz a b one two
     did-same (Know q) free a b one two =
         same-events (Know q) a b (fact-same q a b one.1 two.1) (one.0 ∙ sym two.0) (none-gives es o m one.0 given.gives) (none-gives fs p n two.0 also.gives)

@@ -52,6 +52,8 @@ gives-apart : (o p : Outside) (es fs : List Event) → Gives o (es ++ fs) p → 
 gives-apart o p [] fs g = (o, refl, g)
 gives-apart o p (event.In bytes failed ∷ es) fs g = let r = gives-apart (record o { text = g.0 }) p es fs g.3 in (r.0, (g.0, g.1, g.2, r.1), r.2)
 gives-apart o p (event.Child program args input answer failed ∷ es) fs g = let r = gives-apart (record o { children = g.0 }) p es fs g.2 in (r.0, (g.0, g.1, r.1), r.2)
+gives-apart o p (event.Edit name shell command text answer failed ∷ es) fs g =
+    let r = gives-apart (record o { edits = g.1 }) p es fs g.4 in (r.0, (g.0, g.1, g.2, g.3, r.1), r.2)
 gives-apart o p (event.Now seconds ∷ es) fs g = let r = gives-apart (record o { times = g.0 }) p es fs g.2 in (r.0, (g.0, g.1, r.1), r.2)
 gives-apart o p (e ∷ es) fs g = gives-apart o p es fs g
 
@@ -127,6 +129,7 @@ line-same d es fs i j o m p n a b given also level (k, reads, next) (l, takes, h
       level = record {
         text = ap (λ (x : Option (List ℕ) × List ℕ). x.1) same;
         children = sym one.children ∙ level.children ∙ two.children;
+        edits = sym one.edits ∙ level.edits ∙ two.edits;
         times = sym one.times ∙ level.times ∙ two.times;
         end = one.end;
         other_end = two.end;
@@ -215,7 +218,7 @@ module _ (one_row : OneRow) (one_view : ViewsAreAlike) where
 
 -- the same is to come at the start
 pub level-first : (o : Outside) → Level no_input o no_input o
-level-first o = record { text = refl; children = refl; times = refl; end = λ e. absurd (cc e); other_end = λ e. absurd (cc e) }
+level-first o = record { text = refl; children = refl; edits = refl; times = refl; end = λ e. absurd (cc e); other_end = λ e. absurd (cc e) }
 
 pub plays_are_alike : OneRow → ViewsAreAlike → PlaysAreAlike
 plays_are_alike one_row one_view p d o a b es fs all given also goes went =

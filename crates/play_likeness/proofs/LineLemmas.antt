@@ -45,12 +45,13 @@ first-more (x ∷ xs) ys p is = at (x == 10) (λ q was. first-more xs ys q was) 
 pub record Takes (i : Input) (o : Outside) (k : Input) (p : Outside) : Type 0 where
   pub text : i.rest ++ o.text ≡ k.rest ++ p.text
   pub children : o.children ≡ p.children
+  pub edits : o.edits ≡ p.edits
   pub times : o.times ≡ p.times
   pub end : k.ended ≡ true → p.text ≡ []
 
 takes-none : (i k : Input) (o p : Outside) → i ≡ k → o ≡ p → (i.ended ≡ true → o.text ≡ []) → Takes i o k p
 takes-none i k o p same is end =
-    subst (λ (k : Input). Takes i o k p) same (subst (Takes i o i) is (record { text = refl; children = refl; times = refl; end = end }))
+    subst (λ (k : Input). Takes i o k p) same (subst (Takes i o i) is (record { text = refl; children = refl; edits = refl; times = refl; end = end }))
 
 pub reads-take : (es : List Event) (i k : Input) (o p : Outside) → Reads i es k → Gives o es p → (i.ended ≡ true → o.text ≡ []) → Takes i o k p
 reads-take [] i k o p same is end = takes-none i k o p same is end
@@ -59,6 +60,7 @@ reads-take (event.In bytes false ∷ es) i k o p (none, may, more) (rest, is, la
     record {
       text = ap (λ (r : List ℕ). i.rest ++ r) is ∙ sym (append_assoc i.rest bytes rest) ∙ t.text;
       children = t.children;
+      edits = t.edits;
       times = t.times;
       end = t.end;
     }
@@ -98,6 +100,7 @@ hands k p a next end = go (first_line k.rest) k.ended refl refl next
 pub record TakesLine (i : Input) (o : Outside) (a : Option (List ℕ) × Input) (p : Outside) : Type 0 where
   pub line : line_of (i.rest ++ o.text) ≡ (a.0, a.1.rest ++ p.text)
   pub children : o.children ≡ p.children
+  pub edits : o.edits ≡ p.edits
   pub times : o.times ≡ p.times
   pub end : a.1.ended ≡ true → p.text ≡ []
 
@@ -105,7 +108,7 @@ pub line-taken : (es : List Event) (i k : Input) (o p : Outside) (a : Option (Li
 line-taken es i k o p a reads next gives end =
     let t = reads-take es i k o p reads gives end in
     let h = hands k p a next t.end in
-    record { line = ap line_of t.text ∙ h.line; children = t.children; times = t.times; end = h.end }
+    record { line = ap line_of t.text ∙ h.line; children = t.children; edits = t.edits; times = t.times; end = h.end }
 
 -- nothing is said, and the disk stays
 pub reads-said : (es : List Event) (i k : Input) → Reads i es k → said es ≡ []

@@ -11,7 +11,7 @@ pub fn jobs_are_alike()
 {}
 
 /// A play that takes no line of the input, and comes to its end, prints the same and leaves the same disk whenever it is
-/// carried out on one disk, with the same answers of children and of the clock.
+/// carried out on one disk, with the same answers of children, of editors and of the clock.
 pub fn plays_are_alike()
     ensures { PlaysAreAlike }
 {

@@ -1,4 +1,4 @@
-//! What a run does is fixed by the disk, the bytes of its input, and what children and the clock answer.
+//! What a run does is fixed by the disk, the bytes of its input, and what children, editors and the clock answer.
 #![tactic(auto)]
 
 mod laws;
