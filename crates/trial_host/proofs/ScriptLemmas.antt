@@ -8,12 +8,13 @@ use Rattle.std.specs.declared.option.Option.TheVariants.{Some, None}
 use Rattle.std.specs.declared.result.Result.{Result}
 use Rattle.std.specs.declared.result.Result.TheVariants.{Ok, Err}
 use Rattle.host_port.specs.declared.event.Event.{Event}
-use Rattle.host_port.specs.declared.event.Event.TheVariants.{In, Load, Child, Now, Foreign}
+use Rattle.host_port.specs.declared.event.Event.TheVariants.{In, Load, Child, Edit, Now, Foreign}
 use Rattle.host_port.specs.declared.event.Seen.{Seen}
 use Rattle.host_port.specs.declared.event.Seen.TheVariants as seen
 use Rattle.host_port.specs.declared.event.ForeignStep.{ForeignStep}
 use Rattle.host_port.specs.declared.event.LoadAnswer.{LoadAnswer}
 use Rattle.host_port.specs.declared.event.ChildAnswer.{ChildAnswer}
+use Rattle.host_port.specs.declared.event.EditAnswer.{EditAnswer}
 use Rattle.host_port.specs.declared.host.InFault.{InFault}
 use Rattle.host_port.specs.declared.host.OutFault.{OutFault}
 use Rattle.host_port.specs.declared.host.DiskFault.{DiskFault}
@@ -22,13 +23,14 @@ use Rattle.host_port.specs.declared.host.LoadError.TheVariants as error
 use Rattle.host_port.specs.declared.host.ChildError.{ChildError}
 use Rattle.host_port.specs.declared.host.ChildError.TheVariants as child_error
 use Rattle.host_port.specs.Disk.{Disk, disk}
-use Rattle.host_port.specs.Calls.{Calls, FitsLoad, load_limit, Filled, Said, Loaded, LoadCause, Staged, Published, Extended, Erased, Locked, Unlocked, Seized, Released, ChildRan, TimeTold}
+use Rattle.host_port.specs.Calls.{Calls, FitsLoad, load_limit, Filled, Said, Loaded, LoadCause, Staged, Published, Extended, Erased, Locked, Unlocked, Seized, Released, ChildRan, Edited, TimeTold}
 use Rattle.host_port.specs.Own.{own}
 use Rattle.host_port.proofs.RanLemmas.{own-append}
 use Rattle.host_memory.specs.Children.{silence, next_given}
+use Rattle.host_memory.specs.Edits.{edit_given, next_edit}
 use Rattle.host_memory.specs.declared.memory.MemHost.{MemHost}
 use Rattle.host_memory.specs.declared.plan.Plan.{Plan}
-use Rattle.host_memory.specs.MemHosts.{host_world, host_start, host_told, told_of, input_left, answers_left, is_lost, is_failed_load, wants_memory, is_failed_child, child_wants_memory, next_part, IsAsPlanned, IsDoneAsPlanned}
+use Rattle.host_memory.specs.MemHosts.{host_world, host_start, host_told, told_of, input_left, answers_left, is_lost, is_failed_load, wants_memory, is_failed_child, child_wants_memory, edits_left, is_failed_edit, edit_wants_memory, next_part, IsAsPlanned, IsDoneAsPlanned}
 use Rattle.host_memory.specs.Plans.{is_refused}
 use Rattle.host_memory.specs.Views.{next_call, part_at, steps_before, AddsOne}
 use Rattle.trial_host.specs.Trials.{IsScripted, GoesPlainly, plainly, seen_plainly, taken, taken_by, is_nothing, ends_once}
@@ -234,6 +236,18 @@ child-quiet program args input (Ok answer) answers d e none given ok room is =
     nothing e _ is (λ text. record { alone = refl; plain = ap (λ (a : ChildAnswer). Child program args input (Some a) false) (sym silent); input = refl; ends = refl })
 child-quiet program args input (Err child_error.Failed) answers d e none given ok room is = absurd (cc ok)
 child-quiet program args input (Err child_error.Memory) answers d e none given ok room is = absurd (cc room)
+
+-- no answer of an editor is planned
+pub unedited : (m : MemHost) → IsScripted m → edits_left m ≡ []
+unedited m was = drop-nothing m.edited m.plan.edits (ap (λ (p : Plan). p.edits) was.plan)
+
+pub edit-quiet : (name shell command text : List ℕ) (r : Result EditAnswer ChildError) (answers : List EditAnswer) (d : Disk) (e : Event) → answers ≡ [] → IfOk r (λ a. a ≡ next_edit text answers)
+    → is_failed_edit r ≡ false → edit_wants_memory r ≡ false → Edited name shell command text r d e → Quiet e
+edit-quiet name shell command text (Ok answer) answers d e none given ok room is =
+    let same : answer ≡ edit_given (pos 0) text false = given ∙ ap (next_edit text) none in
+    nothing e _ is (λ rest. record { alone = refl; plain = ap (λ (a : EditAnswer). Edit name shell command text (Some a) false) (sym same); input = refl; ends = refl })
+edit-quiet name shell command text (Err child_error.Failed) answers d e none given ok room is = absurd (cc ok)
+edit-quiet name shell command text (Err child_error.Memory) answers d e none given ok room is = absurd (cc room)
 
 pub time-quiet : (seconds : ℤ) (d : Disk) (e : Event) → seconds ≡ pos 0 → TimeTold seconds d e → Quiet e
 time-quiet seconds d e zero_then is = nothing e _ is (λ text. record { alone = refl; plain = ap Now (sym zero_then); input = refl; ends = refl })

@@ -2,13 +2,14 @@
 use Rattle.std.specs.Prelude.{◌≡◌, ◌&&◌, nat_le, ℕ, Bool, true, false, List, [], ◌∷◌, ◌++◌, if◌then◌else◌, map, length, codes, pos}
 use Rattle.std.specs.declared.option.Option.TheVariants.{Some, None}
 use Rattle.host_port.specs.declared.event.Event.{Event}
-use Rattle.host_port.specs.declared.event.Event.TheVariants.{In, Out, Load, Stage, Publish, Erase, Lock, Unlock, Seize, Child, Now}
+use Rattle.host_port.specs.declared.event.Event.TheVariants.{In, Out, Load, Stage, Publish, Erase, Lock, Unlock, Seize, Child, Edit, Now}
 use Rattle.host_port.specs.declared.event.Seen.{Seen}
 use Rattle.host_port.specs.declared.event.Seen.TheVariants as seen
 use Rattle.host_port.specs.Calls.{load_limit}
 use Rattle.host_port.specs.Disk.{Disk}
 use Rattle.host_port.specs.Own.{own}
 use Rattle.host_memory.specs.Children.{silence}
+use Rattle.host_memory.specs.Edits.{edit_given}
 use Rattle.host_memory.specs.declared.plan.Plan.{Plan}
 use Rattle.host_memory.specs.declared.memory.MemHost.{MemHost}
 use Rattle.host_memory.specs.MemHosts.{host_told, input_left}
@@ -21,7 +22,7 @@ trial_start n = disk_of ((codes "box", mailbox_of n) ∷ []) []
 
 -- nothing fails, nobody else does anything, and the time stands still
 abbrev pub trial_plan : Plan
-trial_plan = record { now = pos 0; chunk = 65536; foreign = []; fails = []; children = [] }
+trial_plan = record { now = pos 0; chunk = 65536; foreign = []; fails = []; children = []; edits = [] }
 
 -- what a load sees if it doesn't fail: a file past the limit is too large
 abbrev pub seen_plainly : Seen → Seen
@@ -30,7 +31,7 @@ seen_plainly (seen.Bytes (Some bytes) held) = if nat_le (length bytes) load_limi
 seen_plainly (seen.TooLarge n) = seen.TooLarge n
 seen_plainly s = seen.Bytes None false
 
--- An event as it is if no call fails and memory suffices, children say nothing, and the clock shows zero. Only whether a file can be extended is left
+-- An event as it is if no call fails and memory suffices, children say nothing, editors leave texts as they are, and the clock shows zero. Only whether a file can be extended is left
 -- to the disk.
 abbrev pub plainly : Event → Event
 plainly (In bytes failed) = In bytes false
@@ -43,6 +44,7 @@ plainly (Lock name token got failed) = Lock name token got false
 plainly (Unlock name token done failed) = Unlock name token done false
 plainly (Seize name got failed) = Seize name got false
 plainly (Child program args input answer failed) = Child program args input (Some silence) false
+plainly (Edit name shell command text answer failed) = Edit name shell command text (Some (edit_given (pos 0) text false)) false
 plainly (Now seconds) = Now (pos 0)
 plainly e = e
 

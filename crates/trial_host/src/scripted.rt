@@ -3,7 +3,7 @@ ghost use Rattle.trial_host.specs.Trials.{IsScripted};
 
 use host_memory::MemHost;
 use host_port::{
-    ChildAnswer, ChildError, DiskFault, Host, InFault, LoadAnswer, LoadError, OutFault,
+    ChildAnswer, ChildError, DiskFault, EditAnswer, Host, InFault, LoadAnswer, LoadError, OutFault,
 };
 use mail_text::Text;
 use std::alloc::Global;
@@ -92,6 +92,17 @@ impl Host for Scripted {
         input: &[u8],
     ) -> Result<ChildAnswer, ChildError> {
         self.memory.child(alloc, program, args, input)
+    }
+
+    fn edit(
+        &mut self,
+        alloc: Global,
+        name: &[u8],
+        shell: &[u8],
+        command: &[u8],
+        text: &[u8],
+    ) -> Result<EditAnswer, ChildError> {
+        self.memory.edit(alloc, name, shell, command, text)
     }
 
     fn now(&mut self) -> i64 {

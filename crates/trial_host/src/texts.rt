@@ -85,5 +85,6 @@ pub(crate) fn trial_plan(alloc: Global) -> Plan
         foreign: Items::new(alloc),
         fails: Items::new(alloc),
         children: Items::new(alloc),
+        edits: Items::new(alloc),
     }
 }
