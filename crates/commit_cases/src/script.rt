@@ -26,6 +26,7 @@ fn letter(event: &Event) -> u8 {
         Event::Seize { .. } => b'z',
         Event::Release { .. } => b'r',
         Event::Child { failed, .. } => if *failed { b'C' } else { b'c' },
+        Event::Edit { failed, .. } => if *failed { b'D' } else { b'd' },
         Event::Now { .. } => b'n',
         Event::Foreign { .. } => b'f',
     }

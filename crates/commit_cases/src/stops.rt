@@ -19,6 +19,7 @@ pub fn no_plan(alloc: Global) -> Plan
         foreign: Items::new(alloc),
         fails: Items::new(alloc),
         children: Items::new(alloc),
+        edits: Items::new(alloc),
     }
 }
 
