@@ -151,6 +151,19 @@ fn is_not_sent(clean: &Run, run: &Run, at: usize, out: &Answer) -> bool {
         && said(behind(run.host.trace(), at), out).bytes() == wanted.bytes()
 }
 
+// Whether a run says that the editor could not be run, and else what another says behind its line on the edited message.
+fn is_not_edited(clean: &Run, run: &Run, at: usize, out: &Answer) -> bool {
+    let mut wanted = Answer::new(out.alloc());
+    wanted.put_plain(b"editor could not be run\n");
+    let clean_said = said(behind(clean.host.trace(), at), out);
+    for line in lines(clean_said.bytes()).skip(1) {
+        wanted.put_plain(line);
+        wanted.put_plain(b"\n");
+    }
+    run.ending.status == clean.ending.status
+        && said(behind(run.host.trace(), at), out).bytes() == wanted.bytes()
+}
+
 fn is_startup(name: &[u8]) -> bool {
     name == SHARED_START || name == OWN_START
 }
@@ -172,6 +185,7 @@ pub fn is_met(clean: &Run, run: &Run, count: usize, out: &Answer) -> bool {
         Some(Event::Out { .. }) => ends_so(run, at, 4, b"mailx: output fault\n", out),
         Some(Event::Load { name, .. }) => is_load_met(clean, run, at, name.bytes(), out),
         Some(Event::Child { .. }) => is_not_sent(clean, run, at, out),
+        Some(Event::Edit { .. }) => is_not_edited(clean, run, at, out),
         Some(Event::Release { .. } | Event::Now { .. }) => is_like(clean, run, out),
         Some(_) => ends_so(run, at, 5, b"mailx: disk fault\n", out),
     }

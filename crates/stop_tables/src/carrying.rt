@@ -118,6 +118,7 @@ fn failing(alloc: Global, fails: Items<(u64, Part)>) -> Plan
         foreign: Items::new(alloc),
         fails,
         children: Items::new(alloc),
+        edits: Items::new(alloc),
     }
 }
 
