@@ -23,6 +23,7 @@ fn quiet(alloc: Global) -> Plan
         foreign: Items::new(alloc),
         fails: Items::new(alloc),
         children: Items::new(alloc),
+        edits: Items::new(alloc),
     }
 }
 
