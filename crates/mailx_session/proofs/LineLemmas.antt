@@ -17,7 +17,7 @@ use Rattle.session_play.specs.declared.changing.Attempt.{Attempt}
 use Rattle.session_play.specs.declared.changing.Attempt.TheVariants.{Made, Misnamed}
 use Rattle.session_play.specs.declared.changing.Committed.TheVariants as committed
 use Rattle.session_play.specs.Acts.{AllEnds}
-use Rattle.session_play.specs.Play.{Act, Line, Say, Read, Try, Changes, Recover, Child, Now, Know, Play, Ret, Ask, Next, Go, Last, bind}
+use Rattle.session_play.specs.Play.{Act, Line, Say, Read, Try, Changes, Recover, Child, Editor, Now, Know, Play, Ret, Ask, Next, Go, Last, bind}
 use Rattle.session_play.specs.Steps.{After, On, Over, Refused, Ended, onward, in_order, refused, concluded}
 use Rattle.play_safety.specs.Safe.{IsBy, OfCommit}
 use Rattle.draft_text.specs.declared.draft.Draft.{Draft}
@@ -531,5 +531,6 @@ commits-so actor token (Try name) u = tt
 commits-so actor token (Changes c) by = by
 commits-so actor token (Recover a t) never = absurd never
 commits-so actor token (Child program args input) u = tt
+commits-so actor token (Editor name shell command text) u = tt
 commits-so actor token (Now tz) u = tt
 commits-so actor token (Know texts) u = tt

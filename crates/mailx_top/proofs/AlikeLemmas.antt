@@ -19,7 +19,7 @@ use Rattle.session_play.specs.declared.stop.Stop.{Stop}
 use Rattle.session_play.specs.Acts.{AllActs}
 use Rattle.session_play.specs.Causes.{some_out_failed}
 use Rattle.session_play.specs.Input.{Input, no_input}
-use Rattle.session_play.specs.Play.{Act, Line, Say, Read, Try, Changes, Recover, Child, Now, Know, Play, Ret, Ask, Next, Go, Last, bind}
+use Rattle.session_play.specs.Play.{Act, Line, Say, Read, Try, Changes, Recover, Child, Editor, Now, Know, Play, Ret, Ask, Next, Go, Last, bind}
 use Rattle.play_likeness.specs.Outside.{said}
 use Rattle.play_likeness.specs.Plays.{takes_no_line}
 use Rattle.play_likeness.proofs.AlikeLemmas.{Alike, ret, ask, line, then-alike, NextAlike, loop-alike, level-first, given-apart, alike-then}
@@ -76,6 +76,7 @@ asks-no-line actor token (Try name) u = refl
 asks-no-line actor token (Changes c) by = refl
 asks-no-line actor token (Recover a t) u = refl
 asks-no-line actor token (Child program args input) u = refl
+asks-no-line actor token (Editor name shell command text) u = refl
 asks-no-line actor token (Now tz) u = refl
 asks-no-line actor token (Know q) u = refl
 

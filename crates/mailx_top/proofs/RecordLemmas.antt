@@ -25,7 +25,7 @@ use Rattle.session_play.specs.Input.{Input}
 use Rattle.session_play.specs.Acts.{input_after}
 use Rattle.session_play.specs.Committing.{answer_as}
 use Rattle.session_play.proofs.NamingLemmas.{named-files}
-use Rattle.session_play.specs.Play.{Act, Answer, Line, Say, Read, Try, Changes, Recover, Child, Now, Know, Play, Ret, Ask, Did, Goes, Next, Go, Last, Loop, again, last, cut}
+use Rattle.session_play.specs.Play.{Act, Answer, Line, Say, Read, Try, Changes, Recover, Child, Editor, Now, Know, Play, Ret, Ask, Did, Goes, Next, Go, Last, Loop, again, last, cut}
 use Rattle.session_play.proofs.ShapeLemmas.{came-same, goes-ends}
 use Rattle.play_safety.specs.Safe.{IsBy, OfCommit, NextKeeps}
 use Rattle.session_state.specs.declared.status.Status.{Status}
@@ -120,6 +120,7 @@ module _ (actor : List ℕ) (token : ℕ) (fits : token < 2 ^ 64) where
   act-told (Try name) a es by did = refl
   act-told (Recover b t) a es by did = recovery-told b t es a did
   act-told (Child program args input) a es by did = refl
+  act-told (Editor name shell command text) a es by did = refl
   act-told (Now tz) a es by did = refl
   act-told (Know texts) a es by did = refl
 

@@ -14,7 +14,7 @@ use Rattle.session_play.specs.declared.recovering.RecoveryAnswer.TheVariants as 
 use Rattle.session_play.specs.Acts.{AllActs, AllEnds, Threads, TakesFrom, input_after, may_load, loads_nothing}
 use Rattle.session_play.specs.Causes.{NextFrom}
 use Rattle.session_play.specs.Input.{Input, no_input}
-use Rattle.session_play.specs.Play.{Act, Answer, Line, Say, Read, Try, Changes, Recover, Child, Now, Know, Play, Ret, Ask, Goes, Next, Go, Last, bind}
+use Rattle.session_play.specs.Play.{Act, Answer, Line, Say, Read, Try, Changes, Recover, Child, Editor, Now, Know, Play, Ret, Ask, Goes, Next, Go, Last, bind}
 use Rattle.session_play.proofs.ShapeLemmas.{may-all, goes-ends}
 use Rattle.play_safety.specs.Safe.{IsBy, OfCommit, EachCommit, NextKeeps}
 use Rattle.mailx_vars.specs.Names.{is_short_name}
@@ -174,6 +174,7 @@ module _ (env : Environment) (actor : List ℕ) (token : ℕ) where
   lifted E Leads Exits met i (Ask (Changes c) go) k obeys more = ((tt, refl, obeys.0), λ a. lifted E Leads Exits (met_by met (Changes c) a) i (go a) k (obeys.1 a) more)
   lifted E Leads Exits met i (Ask (Recover b t) go) k obeys more = absurd obeys.0
   lifted E Leads Exits met i (Ask (Child program args input) go) k obeys more = ((tt, refl, tt), λ a. lifted E Leads Exits met i (go a) k (obeys.1 a) more)
+  lifted E Leads Exits met i (Ask (Editor name shell command text) go) k obeys more = ((tt, refl, tt), λ a. lifted E Leads Exits met i (go a) k (obeys.1 a) more)
   lifted E Leads Exits met i (Ask (Now tz) go) k obeys more = ((tt, refl, tt), λ a. lifted E Leads Exits met i (go a) k (obeys.1 a) more)
   lifted E Leads Exits met i (Ask (Know texts) go) k obeys more = ((tt, refl, tt), λ a. lifted E Leads Exits met i (go a) k (obeys.1 a) more)
 

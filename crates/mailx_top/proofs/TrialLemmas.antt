@@ -6,14 +6,16 @@ use Rattle.std.specs.declared.option.Option.{Option}
 use Rattle.std.specs.declared.option.Option.TheVariants.{Some, None}
 use Rattle.std.specs.declared.result.Result.TheVariants.{Ok, Err}
 use Rattle.host_port.specs.declared.event.Event.{Event}
-use Rattle.host_port.specs.declared.event.Event.TheVariants.{In, Out, Load, Child, Now}
+use Rattle.host_port.specs.declared.event.Event.TheVariants.{In, Out, Load, Child, Edit, Now}
 use Rattle.host_port.specs.declared.event.ChildAnswer.{ChildAnswer}
+use Rattle.host_port.specs.declared.event.EditAnswer.{EditAnswer}
 use Rattle.host_port.specs.declared.event.Seen.{Seen}
 use Rattle.host_port.specs.declared.event.Seen.TheVariants as seen
 use Rattle.host_port.specs.Calls.{load_limit}
 use Rattle.host_port.specs.Disk.{Disk}
 use Rattle.host_port.specs.Ran.{Honest}
 use Rattle.host_memory.specs.Children.{silence}
+use Rattle.host_memory.specs.Edits.{edit_given}
 use Rattle.trial_host.specs.Texts.{trial_lines}
 use Rattle.trial_host.specs.Trials.{GoesPlainly, plainly, seen_plainly, taken, is_nothing, ends_once, trial_start}
 use Rattle.session_play.specs.declared.stop.Stop.{Stop}
@@ -104,9 +106,13 @@ taken-within (e ∷ es) fs = taken-within es fs
 
 -- ---- what a trial is given
 
--- a text, so many answers of silent children, and so many looks at a clock that stands still
-abbrev outside : ℕ → ℕ → List ℕ → Outside
-outside k m text = record { text = text; children = replicate k (Some silence); times = replicate m (pos 0) }
+-- an editor that leaves each text as it is
+abbrev idle_editor : List ℕ → Option EditAnswer
+idle_editor text = Some (edit_given (pos 0) text false)
+
+-- a text, so many answers of silent children, so many idle editors, and so many looks at a clock that stands still
+abbrev outside : ℕ → ℕ → ℕ → List ℕ → Outside
+outside k n m text = record { text = text; children = replicate k (Some silence); edits = replicate n idle_editor; times = replicate m (pos 0) }
 
 -- of many answers the first is like all others
 record First {A : Type 0} (a : A) (k n : ℕ) : Type 0 where
@@ -138,25 +144,33 @@ ends-later (b ∷ bytes) failed es left ends = ends
 silent : (program : List ℕ) (args : List (List ℕ)) (input : List ℕ) (answer : Option ChildAnswer) (failed : Bool) → Child program args input (Some silence) false ≡ Child program args input answer failed → Some silence ≡ answer
 silent program args input answer failed is = cc is
 
+left-alone : (name shell command text : List ℕ) (answer : Option EditAnswer) (failed : Bool) → Edit name shell command text (idle_editor text) false ≡ Edit name shell command text answer failed → answer ≡ idle_editor text
+left-alone name shell command text answer failed is = cc is
+
 stands : (seconds : ℤ) → Now (pos 0) ≡ Now seconds → pos 0 ≡ seconds
 stands seconds is = cc is
 
 -- more than enough gives what plain events take
-gives : (k m : ℕ) (text left : List ℕ) (es : List Event) → length es ≤ k → length es ≤ m → map plainly es ≡ es → text ≡ taken es ++ left → ends_once es left ≡ true → (p : Outside) × Gives (outside k m text) es p
-gives k m text left [] many times plain takes ends = (outside k m text, refl)
-gives k m text left (In bytes failed ∷ es) many times plain takes ends =
-    let r = gives k m (taken es ++ left) left es (omega arith) (omega arith) (rest-plain (In bytes failed) es plain) refl (ends-later bytes failed es left ends) in
+gives : (k n m : ℕ) (text left : List ℕ) (es : List Event) → length es ≤ k → length es ≤ n → length es ≤ m → map plainly es ≡ es → text ≡ taken es ++ left → ends_once es left ≡ true → (p : Outside) × Gives (outside k n m text) es p
+gives k n m text left [] many edits times plain takes ends = (outside k n m text, refl)
+gives k n m text left (In bytes failed ∷ es) many edits times plain takes ends =
+    let r = gives k n m (taken es ++ left) left es (omega arith) (omega arith) (omega arith) (rest-plain (In bytes failed) es plain) refl (ends-later bytes failed es left ends) in
     (r.0, (taken es ++ left, takes ∙ append_assoc bytes (taken es) left, ends-here bytes failed es left ends, r.1))
-gives k m text left (Child program args input answer failed ∷ es) many times plain takes ends =
+gives k n m text left (Child program args input answer failed ∷ es) many edits times plain takes ends =
     let f = first (Some silence) k (length es) many in
-    let r = gives f.rest m text left es f.enough (omega arith) (rest-plain (Child program args input answer failed) es plain) takes ends in
+    let r = gives f.rest n m text left es f.enough (omega arith) (omega arith) (rest-plain (Child program args input answer failed) es plain) takes ends in
     let is = silent program args input answer failed (first-plain (Child program args input answer failed) es plain) in
     (r.0, (replicate f.rest (Some silence), f.is ∙ ap (λ (a : Option ChildAnswer). a ∷ replicate f.rest (Some silence)) is, r.1))
-gives k m text left (Now seconds ∷ es) many times plain takes ends =
+gives k n m text left (Edit name shell command given answer failed ∷ es) many edits times plain takes ends =
+    let f = first idle_editor n (length es) edits in
+    let r = gives k f.rest m text left es (omega arith) f.enough (omega arith) (rest-plain (Edit name shell command given answer failed) es plain) takes ends in
+    let is = left-alone name shell command given answer failed (first-plain (Edit name shell command given answer failed) es plain) in
+    (r.0, (idle_editor, replicate f.rest idle_editor, f.is, is, r.1))
+gives k n m text left (Now seconds ∷ es) many edits times plain takes ends =
     let f = first (pos 0) m (length es) times in
-    let r = gives k f.rest text left es (omega arith) f.enough (rest-plain (Now seconds) es plain) takes ends in
+    let r = gives k n f.rest text left es (omega arith) (omega arith) f.enough (rest-plain (Now seconds) es plain) takes ends in
     (r.0, (replicate f.rest (pos 0), f.is ∙ ap (λ (a : ℤ). a ∷ replicate f.rest (pos 0)) (stands seconds (first-plain (Now seconds) es plain)), r.1))
-gives k m text left (e ∷ es) many times plain takes ends = gives k m text left es (omega arith) (omega arith) (rest-plain e es plain) takes ends
+gives k n m text left (e ∷ es) many edits times plain takes ends = gives k n m text left es (omega arith) (omega arith) (omega arith) (rest-plain e es plain) takes ends
 
 -- ---- how a run of plain events ends
 
@@ -192,9 +206,9 @@ module _ (start : Option Start) (env : Environment) (d : Disk) (left : List ℕ)
       go (inr (cause, is, at)) = absurd (not-cut cause is at)
 
   -- so it is a run from its disk, given the lines and answers enough
-  run-from : (k : ℕ) → length es ≤ k → IsRunFrom start env d (outside k k trial_lines) s es
+  run-from : (k : ℕ) → length es ≤ k → IsRunFrom start env d (outside k k k trial_lines) s es
   run-from k many =
-      let g = gives k k trial_lines left es many many goes.plain goes.input goes.ends in
+      let g = gives k k k trial_lines left es many many many goes.plain goes.input goes.ends in
       record {
         run = run;
         ended = ended;
@@ -205,13 +219,13 @@ module _ (start : Option Start) (env : Environment) (d : Disk) (left : List ℕ)
 
 -- ---- trials
 
-trial-from : (n : ℕ) (s : Status) (es : List Event) (k : ℕ) → IsTrial n s es → IsUncut s → length es ≤ k → IsRunFrom (asked trial_words) trial_env (trial_start n) (outside k k trial_lines) s es
+trial-from : (n : ℕ) (s : Status) (es : List Event) (k : ℕ) → IsTrial n s es → IsUncut s → length es ≤ k → IsRunFrom (asked trial_words) trial_env (trial_start n) (outside k k k trial_lines) s es
 trial-from n s es k trial uncut many = run-from (asked trial_words) trial_env (trial_start n) trial.left s es trial.run trial.honest trial.goes uncut k many
 
 pub trials-alike : RunsAreAlike → TrialsAreAlike
 trials-alike alike n s t es fs one two whole entire =
     let k = length es + length fs in
-    alike (asked trial_words) trial_env (trial_start n) (outside k k trial_lines) s t es fs (trial-from n s es k one whole (omega arith)) (trial-from n t fs k two entire (omega arith))
+    alike (asked trial_words) trial_env (trial_start n) (outside k k k trial_lines) s t es fs (trial-from n s es k one whole (omega arith)) (trial-from n t fs k two entire (omega arith))
 
 uncut-done : IsUncut status.Done
 uncut-done = (λ is. cc is, λ is. cc is)

@@ -1,4 +1,4 @@
--- A run is a function of its disk, its input, and what children and the clock answer.
+-- A run is a function of its disk, its input, and what children, editors and the clock answer.
 use Rattle.std.specs.Prelude.{◌≡◌, false, List}
 use Rattle.std.specs.declared.option.Option.{Option}
 use Rattle.std.specs.declared.result.Result.TheVariants.{Ok}
