@@ -13,10 +13,12 @@
 //! | `token N` | the word that no other run has; without it 1 |
 //! | `trial N` | the run is a trial on N messages; the disk counts as changed from that of the case |
 //! | `children` | what each child that ran was given is told |
+//! | `edits` | what each editor that ran was given is told |
 //!
 //! A run is its output in lines `|TEXT` (the last `:TEXT` if it has no line feed), with `children` a line `ran <PROGRAM>
-//! <ARGUMENT>..` for each child and below it the input in such lines, `status N`, what became of the disk (`file NAME`
-//! with its bytes, `gone NAME`, `lock NAME TOKEN`), and `lost` if memory was refused.
+//! <ARGUMENT>..` for each child and below it the input in such lines, with `edits` a line `edited <NAME> <SHELL> <COMMAND>`
+//! for each editor and below it the text, `status N`, what became of the disk (`file NAME` with its bytes, `gone NAME`,
+//! `lock NAME TOKEN`), and `lost` if memory was refused.
 #![tactic(auto)]
 
 mod run;

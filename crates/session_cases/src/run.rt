@@ -6,8 +6,8 @@ use mail_text::{Items, Memory, Text};
 use mailx_top::{Environment, run, try_host};
 
 /// The heads of lines that say something of a run.
-const HEADS: [&str; 7] = [
-    "words ", "env ", "folder ", "terminal", "token ", "children", "trial ",
+const HEADS: [&str; 8] = [
+    "words ", "env ", "folder ", "terminal", "token ", "children", "edits", "trial ",
 ];
 
 fn words(case: Case<'_>, out: &mut Answer) -> Items<Text> {
@@ -89,11 +89,37 @@ fn put_children(host: &MemHost, out: &mut Answer) {
     }
 }
 
+// What each editor that ran was given: the name of its file, the shell and the command, and the text.
+fn put_edits(host: &MemHost, out: &mut Answer) {
+    for event in host.trace() {
+        if let Event::Edit {
+            name,
+            shell,
+            command,
+            text,
+            ..
+        } = event
+        {
+            out.put_plain(b"edited ");
+            out.put_in_angles(name.bytes());
+            out.put_plain(b" ");
+            out.put_in_angles(shell.bytes());
+            out.put_plain(b" ");
+            out.put_in_angles(command.bytes());
+            out.put_plain(b"\n");
+            out.put_lines(text.bytes());
+        }
+    }
+}
+
 // What a run left that answered the status of this number.
 fn put_left(case: Case<'_>, host: &MemHost, status: u8, out: &mut Answer) {
     put_said(host, out);
     if value(case, "children").is_some() {
         put_children(host, out);
+    }
+    if value(case, "edits").is_some() {
+        put_edits(host, out);
     }
     out.put_plain(b"status ");
     out.put_shown(&status);
