@@ -4,3 +4,4 @@ pub mod MailboxLemmas
 pub mod SpanLemmas
 pub mod JoinLemmas
 pub mod GrowthLemmas
+pub mod MessageLemmas

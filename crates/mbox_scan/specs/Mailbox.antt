@@ -1,6 +1,7 @@
 -- The texts of a mailbox: a message starts at `From ` at the first byte or after two line feeds.
-use Rattle.std.specs.Prelude.{◌≡◌, ℕ, ◌-◌, Bool, true, ◌||◌, ◌&&◌, ◌==◌, nat_eq, List, [], ◌∷◌, ◌++◌, Option, Some, None, length, take, drop, slice_range, filter, if◌then◌else◌}
+use Rattle.std.specs.Prelude.{◌≡◌, ℕ, ◌-◌, Bool, true, ◌||◌, ◌&&◌, ◌==◌, nat_eq, false, List, [], ◌∷◌, ◌++◌, Option, Some, None, length, take, drop, slice_range, filter, if◌then◌else◌}
 use Rattle.std.specs.List.{starts_with, ends_with, range_with_len, suffix_len, flat_map}
+use Rattle.std.specs.Str.{bytes_eq}
 
 -- the most messages of a folder
 abbrev pub message_limit : ℕ
@@ -51,6 +52,15 @@ is_mailbox b = length b == 0 || is_start b 0
 -- the texts of a mailbox, in order; other bytes have no list
 unfoldable pub list_of : List ℕ → Option (List (List ℕ))
 list_of b = if is_mailbox b then Some (texts_of b) else None
+
+-- a list of one text, which is this one
+abbrev pub is_alone : List ℕ → Option (List (List ℕ)) → Bool
+is_alone t (Some (x ∷ [])) = bytes_eq x t
+is_alone t texts = false
+
+-- the bytes are one message, and nothing else
+abbrev pub is_message : List ℕ → Bool
+is_message t = is_alone t (list_of t)
 
 -- bytes that come after those of a mailbox only add messages: the joined bytes have a list, which begins with the mailbox's
 abbrev pub Adds : List ℕ → List ℕ → Type 0

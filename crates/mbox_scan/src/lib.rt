@@ -12,6 +12,6 @@ mod texts;
 
 pub use error::{GrowError, ScanError};
 pub use folder::{Folder, MOST_MESSAGES, MessageRef};
-pub use laws::{list_of_join, texts_are_proper};
+pub use laws::{list_of_join, messages_are_proper, texts_are_proper};
 pub use scan::{is_mailbox, trimmed_len};
-pub use texts::Texts;
+pub use texts::{Texts, is_message};

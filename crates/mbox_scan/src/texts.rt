@@ -1,7 +1,7 @@
-ghost use Rattle.std.specs.Prelude.{◌≡◌, ◌∷◌, [], IsTrue, MatchOption};
-ghost use Rattle.mbox_scan.specs.Mailbox.{is_mailbox, texts_of};
+ghost use Rattle.std.specs.Prelude.{◌≡◌, ◌∷◌, [], Some, IsTrue, MatchOption};
+ghost use Rattle.mbox_scan.specs.Mailbox.{is_mailbox, is_alone, is_message, texts_of};
 
-use crate::scan::{BREAK, first_message};
+use crate::scan::{BREAK, first_message, is_mailbox};
 use memchr::memmem::Finder;
 use std::marker::Model;
 
@@ -49,5 +49,30 @@ impl<'a> Texts<'a> {
         let (_, rest) = self.rest.split_at(first.next);
         self.rest = rest;
         Some(text)
+    }
+}
+
+// Whether one text is left alone, and is this one.
+fn is_alone(mut texts: Texts<'_>, bytes: &[u8]) -> bool
+    ensures { result ≡ is_alone bytes.now (Some texts) }
+{
+    match texts.next_text() {
+        Some(text) => match texts.next_text() {
+            Some(_) => false,
+            None => text == bytes,
+        },
+        None => false,
+    }
+}
+
+/// Whether the bytes are one message, and nothing else. It takes no memory.
+#[tactic(auto, unfolding(crate::specs::Mailbox::list_of))]
+pub fn is_message(bytes: &[u8]) -> bool
+    ensures { result ≡ is_message bytes.now }
+{
+    if is_mailbox(bytes) {
+        is_alone(Texts::of(bytes), bytes)
+    } else {
+        false
     }
 }
