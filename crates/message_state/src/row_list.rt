@@ -1,4 +1,4 @@
-ghost use Rattle.std.specs.Prelude.{◌≡◌, ◌≤◌, ◌<◌, ◌*◌, ◌/◌, ℕ, List, [], ◌∷◌, ◌++◌, false, true, length, IfOk, OnOk};
+ghost use Rattle.std.specs.Prelude.{◌≡◌, ◌≤◌, ◌<◌, ◌*◌, ◌/◌, ℕ, List, [], ◌∷◌, ◌++◌, false, true, length, slice_get, slice_set, Some, IfOk, OnOk};
 ghost use Rattle.message_state.specs.declared.row.Row.{Row};
 ghost use Rattle.message_state.specs.declared.mark.Standing.TheVariants as standing;
 ghost use Rattle.message_state.specs.LiveRows.{stands, stands_at, marked, flag_at, AreWithout, block_size, IsLookedAt, IsNext, IsPrevious};
@@ -7,6 +7,7 @@ use crate::{Mark, Row, Standing, State};
 use mail_text::{Items, Memory};
 use std::alloc::Global;
 use std::marker::Model;
+use std::mem;
 
 // How many rows a block has.
 const BLOCK: usize = 1_024;
@@ -116,6 +117,28 @@ fn set_mark_at(
     }
 }
 
+// Puts another row in place `k`, looks at its block again, and answers the row that was there.
+fn put_at(
+    rows: &mut Items<Row>,
+    dead: &mut Vec<bool>,
+    live: &mut Vec<bool>,
+    k: usize,
+    row: Row,
+) -> Row
+    requires within { k < length rows.old }
+    requires dead { AreWithout standing.Live dead.old.items rows.old }
+    requires live { AreWithout standing.Dead live.old.items rows.old }
+    ensures was { slice_get rows.old k ≡ Some result }
+    ensures rows { rows.new ≡ slice_set rows.old k row }
+    ensures dead { AreWithout standing.Live dead.new.items rows.new }
+    ensures live { AreWithout standing.Dead live.new.items rows.new }
+{
+    let was = mem::replace(rows.get_mut(k), row);
+    look_again(Standing::Live, rows.items(), dead, k);
+    look_again(Standing::Dead, rows.items(), live, k);
+    was
+}
+
 // Sets the flag of a block back, or makes room for it if it is the one behind those that there are.
 fn unflag(flags: &mut Vec<bool>, block: usize) -> Result<(), Memory>
     ensures flags { (b : ℕ) → flag_at flags.new.items b ≡ true → flag_at flags.old.items b ≡ true }
@@ -182,6 +205,15 @@ impl RowList {
         ensures { self.new ≡ marked self.old k mark }
     {
         set_mark_at(&mut self.rows, &mut self.dead, &mut self.live, k, mark);
+    }
+
+    /// Puts another row in place `k`, from 0, and answers the row that was there. It takes no memory.
+    pub fn put(&mut self, k: usize, row: Row) -> Row
+        requires { k < length self.old }
+        ensures was { slice_get self.old k ≡ Some result }
+        ensures rows { self.new ≡ slice_set self.old k row }
+    {
+        put_at(&mut self.rows, &mut self.dead, &mut self.live, k, row)
     }
 
     /// Puts rows behind these.
