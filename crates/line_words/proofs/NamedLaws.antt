@@ -1,7 +1,7 @@
 -- Each command has a name.
 use Rattle.std.proofs.Common.{◌≡◌, ℕ, List, Some, codes, refl}
 use Rattle.line_words.specs.declared.command.Command.{Command}
-use Rattle.line_words.specs.declared.command.Command.TheVariants.{Alias, Alternates, Answered, Call, Copy, CopyByAuthor, Delete, DeleteAndPrint, Define, Defines, Ignore, Draft, Echo, Condition, Exit, File, Flag, Folders, Followup, FollowupAuthors, From, Headers, Help, Hold, Mail, Mbox, Newmail, Next, Pipe, Print, PrintAll, Quit, Reply, ReplyAuthors, Retain, Save, SaveByAuthor, Set, Size, Sort, Thread, Source, Top, Touch, Unalias, Unanswered, Undef, Undelete, Undraft, Unflag, Unset, Write, Scroll, Shell, Number, Comment}
+use Rattle.line_words.specs.declared.command.Command.TheVariants.{Alias, Alternates, Answered, Call, Copy, CopyByAuthor, Delete, DeleteAndPrint, Define, Defines, Ignore, Draft, Echo, Edit, Condition, Exit, File, Flag, Folders, Followup, FollowupAuthors, From, Headers, Help, Hold, Mail, Mbox, Newmail, Next, Pipe, Print, PrintAll, Quit, Reply, ReplyAuthors, Retain, Save, SaveByAuthor, Set, Size, Sort, Thread, Source, Top, Touch, Unalias, Unanswered, Undef, Undelete, Undraft, Unflag, Unset, Visual, Write, Scroll, Shell, Number, Comment}
 use Rattle.line_words.specs.Spellings.{spellings, command_of}
 
 pub each_named : (named : Command) → (word : List ℕ) × (command_of word ≡ Some named)
@@ -27,6 +27,7 @@ each_named Ignore = (codes "discard", refl)
 each_named DeleteAndPrint = (codes "dp", refl)
 each_named Draft = (codes "draft", refl)
 each_named Echo = (codes "echo", refl)
+each_named Edit = (codes "edit", refl)
 each_named Condition = (codes "else", refl)
 each_named Exit = (codes "exit", refl)
 each_named File = (codes "file", refl)
@@ -60,5 +61,6 @@ each_named Undelete = (codes "undelete", refl)
 each_named Undraft = (codes "undraft", refl)
 each_named Unflag = (codes "unflag", refl)
 each_named Unset = (codes "unset", refl)
+each_named Visual = (codes "visual", refl)
 each_named Write = (codes "write", refl)
 each_named Scroll = (codes "z", refl)

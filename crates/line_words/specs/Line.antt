@@ -3,7 +3,7 @@ use Rattle.std.specs.Prelude.{◌≡◌, ◌≢◌, ◌⊎◌, ◌≤◌, ℕ, B
 use Rattle.std.specs.List.{prefix_len, starts_with, list_any}
 use Rattle.std.specs.Char.{is_ascii_alphabetic}
 use Rattle.line_words.specs.declared.command.Command.{Command}
-use Rattle.line_words.specs.declared.command.Command.TheVariants.{Answered, Copy, CopyByAuthor, Delete, DeleteAndPrint, Draft, Flag, Followup, FollowupAuthors, From, Headers, Hold, Mbox, Next, Pipe, Print, PrintAll, Reply, ReplyAuthors, Save, SaveByAuthor, Size, Top, Touch, Unanswered, Undelete, Undraft, Unflag, Write, Shell, Comment}
+use Rattle.line_words.specs.declared.command.Command.TheVariants.{Answered, Copy, CopyByAuthor, Delete, DeleteAndPrint, Draft, Edit, Flag, Followup, FollowupAuthors, From, Headers, Hold, Mbox, Next, Pipe, Print, PrintAll, Reply, ReplyAuthors, Save, SaveByAuthor, Size, Top, Touch, Unanswered, Undelete, Undraft, Unflag, Visual, Write, Shell, Comment}
 use Rattle.line_words.specs.declared.line.CommandLine.{CommandLine}
 use Rattle.line_words.specs.declared.line.LineError.{LineError}
 use Rattle.line_words.specs.declared.line.LineError.TheVariants.{TooLong, Unknown, OpenQuote, Memory}
@@ -62,6 +62,7 @@ takes_list CopyByAuthor = true
 takes_list Delete = true
 takes_list DeleteAndPrint = true
 takes_list Draft = true
+takes_list Edit = true
 takes_list Flag = true
 takes_list Followup = true
 takes_list FollowupAuthors = true
@@ -84,6 +85,7 @@ takes_list Unanswered = true
 takes_list Undelete = true
 takes_list Undraft = true
 takes_list Unflag = true
+takes_list Visual = true
 takes_list Write = true
 takes_list other = false
 

@@ -3,7 +3,7 @@ use Rattle.std.specs.Prelude.{ℕ, Bool, not, ◌==◌, ◌&&◌, ◌||◌, List
 use Rattle.std.specs.Option.{option_map}
 use Rattle.std.specs.List.{find, before_first, starts_with}
 use Rattle.line_words.specs.declared.command.Command.{Command}
-use Rattle.line_words.specs.declared.command.Command.TheVariants.{Alias, Alternates, Answered, Call, Copy, CopyByAuthor, Delete, DeleteAndPrint, Define, Defines, Ignore, Draft, Echo, Condition, Exit, File, Flag, Folders, Followup, FollowupAuthors, From, Headers, Help, Hold, Mail, Mbox, Newmail, Next, Pipe, Print, PrintAll, Quit, Reply, ReplyAuthors, Retain, Save, SaveByAuthor, Set, Size, Sort, Thread, Source, Top, Touch, Unalias, Unanswered, Undef, Undelete, Undraft, Unflag, Unset, Write, Scroll, Shell, Number, Comment}
+use Rattle.line_words.specs.declared.command.Command.TheVariants.{Alias, Alternates, Answered, Call, Copy, CopyByAuthor, Delete, DeleteAndPrint, Define, Defines, Ignore, Draft, Echo, Edit, Condition, Exit, File, Flag, Folders, Followup, FollowupAuthors, From, Headers, Help, Hold, Mail, Mbox, Newmail, Next, Pipe, Print, PrintAll, Quit, Reply, ReplyAuthors, Retain, Save, SaveByAuthor, Set, Size, Sort, Thread, Source, Top, Touch, Unalias, Unanswered, Undef, Undelete, Undraft, Unflag, Unset, Visual, Write, Scroll, Shell, Number, Comment}
 
 -- a spelling of a command: what a word must begin with at least, and the whole name
 pub record Spelling : Type 0 where
@@ -46,6 +46,7 @@ spellings =
     ∷ spelled Draft (codes "draft")
     ∷ spelled DeleteAndPrint (codes "dt")
     ∷ spelled Echo (codes "ec[ho]")
+    ∷ spelled Edit (codes "e[dit]")
     ∷ spelled Condition (codes "el[se]")
     ∷ spelled Condition (codes "en[dif]")
     ∷ spelled Exit (codes "ex[it]")
@@ -91,6 +92,7 @@ spellings =
     ∷ spelled Unset (codes "uns[et]")
     ∷ spelled Thread (codes "unsort")
     ∷ spelled Thread (codes "unthread")
+    ∷ spelled Visual (codes "v[isual]")
     ∷ spelled Write (codes "w[rite]")
     ∷ spelled Exit (codes "x[it]")
     ∷ spelled Scroll (codes "z")

@@ -27,6 +27,8 @@ pub enum Command {
     Draft,
     /// `ec[ho]`
     Echo,
+    /// `e[dit]`
+    Edit,
     /// `if`, `el[se]`, `en[dif]`
     Condition,
     /// `ex[it]`, `x[it]`
@@ -103,6 +105,8 @@ pub enum Command {
     Unflag,
     /// `uns[et]`
     Unset,
+    /// `v[isual]`
+    Visual,
     /// `w[rite]`
     Write,
     /// `z`, `z+`, `z-`

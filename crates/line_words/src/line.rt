@@ -195,6 +195,7 @@ fn takes_list(command: Command) -> bool
             | Command::Delete
             | Command::DeleteAndPrint
             | Command::Draft
+            | Command::Edit
             | Command::Flag
             | Command::Followup
             | Command::FollowupAuthors
@@ -217,6 +218,7 @@ fn takes_list(command: Command) -> bool
             | Command::Undelete
             | Command::Undraft
             | Command::Unflag
+            | Command::Visual
             | Command::Write
     )
 }

@@ -15,7 +15,7 @@ pub(crate) struct Spelling {
 
 // The spellings of all commands, in the order of the bytes of their whole names.
 #[rattlefmt::skip]
-static SPELLINGS: [Spelling; 75] = [
+static SPELLINGS: [Spelling; 77] = [
     Spelling { command: Command::Shell, least: 1, whole: b"!" },
     Spelling { command: Command::Comment, least: 1, whole: b"#" },
     Spelling { command: Command::Number, least: 1, whole: b"=" },
@@ -40,6 +40,7 @@ static SPELLINGS: [Spelling; 75] = [
     Spelling { command: Command::Draft, least: 5, whole: b"draft" },
     Spelling { command: Command::DeleteAndPrint, least: 2, whole: b"dt" },
     Spelling { command: Command::Echo, least: 2, whole: b"echo" },
+    Spelling { command: Command::Edit, least: 1, whole: b"edit" },
     Spelling { command: Command::Condition, least: 2, whole: b"else" },
     Spelling { command: Command::Condition, least: 2, whole: b"endif" },
     Spelling { command: Command::Exit, least: 2, whole: b"exit" },
@@ -85,6 +86,7 @@ static SPELLINGS: [Spelling; 75] = [
     Spelling { command: Command::Unset, least: 3, whole: b"unset" },
     Spelling { command: Command::Thread, least: 6, whole: b"unsort" },
     Spelling { command: Command::Thread, least: 8, whole: b"unthread" },
+    Spelling { command: Command::Visual, least: 1, whole: b"visual" },
     Spelling { command: Command::Write, least: 1, whole: b"write" },
     Spelling { command: Command::Exit, least: 1, whole: b"xit" },
     Spelling { command: Command::Scroll, least: 1, whole: b"z" },
