@@ -47,6 +47,13 @@ lister_in pairs = or_default (variable pairs (codes "LISTER")) (codes "ls")
 abbrev pub shell_in : Pairs → List ℕ
 shell_in pairs = or_default (variable pairs (codes "SHELL")) (codes "/bin/sh")
 
+-- the editors: of `edit` and `~e`, and of `visual` and `~v`
+abbrev pub editor_in : Pairs → List ℕ
+editor_in pairs = or_default (variable pairs (codes "EDITOR")) (codes "ed")
+
+abbrev pub visual_in : Pairs → List ℕ
+visual_in pairs = or_default (variable pairs (codes "VISUAL")) (codes "vi")
+
 -- the places that the environment names, with what stands in place of those that are unset or empty
 abbrev pub places_in : Pairs → Places
 places_in pairs =
@@ -61,6 +68,8 @@ places_in pairs =
       dead = dead_in pairs home;
       lister = lister_in pairs;
       shell = shell_in pairs;
+      editor = editor_in pairs;
+      visual = visual_in pairs;
       tz = variable pairs (codes "TZ");
       width = width_of (number_of (variable pairs (codes "COLUMNS")));
     }

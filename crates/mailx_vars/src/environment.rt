@@ -3,7 +3,7 @@ ghost use Rattle.std.specs.List.{find};
 ghost use Rattle.std.specs.Option.{option_copied};
 ghost use Rattle.std.specs.Str.{bytes_eq};
 ghost use Rattle.mail_text.specs.Number.{number_of};
-ghost use Rattle.mailx_vars.specs.Environment.{dead_in, knows_user, lister_in, mail_in, mbox_in, or_default, places_of, rc_in, shell_in, variable, width_of};
+ghost use Rattle.mailx_vars.specs.Environment.{dead_in, editor_in, knows_user, lister_in, mail_in, mbox_in, or_default, places_of, rc_in, shell_in, variable, visual_in, width_of};
 
 use crate::names::{is_short_name, is_user_name};
 use mail_text::{Memory, Text, read_number};
@@ -36,6 +36,10 @@ pub struct Places {
     pub lister: Text,
     /// The command interpreter: SHELL, else `/bin/sh`.
     pub shell: Text,
+    /// The editor of `edit` and `~e`: EDITOR, else `ed`.
+    pub editor: Text,
+    /// The editor of `visual` and `~v`: VISUAL, else `vi`.
+    pub visual: Text,
     /// The time zone, TZ, or nothing.
     pub tz: Text,
     /// The columns of the terminal: COLUMNS if it is a number from 40 to 1,000, else 80.
@@ -119,6 +123,15 @@ fn programs(alloc: Global, pairs: &[(Text, Text)]) -> Result<(Text, Text), Memor
     Ok((lister, shell))
 }
 
+// The two editors.
+fn editors(alloc: Global, pairs: &[(Text, Text)]) -> Result<(Text, Text), Memory>
+    ensures { IfOk result (λ both. both ≡ (editor_in pairs.now, visual_in pairs.now)) }
+{
+    let editor = or_default(alloc, variable(pairs, b"EDITOR"), b"ed")?;
+    let visual = or_default(alloc, variable(pairs, b"VISUAL"), b"vi")?;
+    Ok((editor, visual))
+}
+
 fn width_of(columns: &[u8]) -> usize
     ensures width { result ≡ width_of (number_of columns.now) }
     ensures within { (40 ≤ result) × (result ≤ 1000) }
@@ -153,6 +166,7 @@ impl Places {
         let inboxes = inboxes(alloc, pairs, home, user)?;
         let outboxes = outboxes(alloc, pairs, home)?;
         let programs = programs(alloc, pairs)?;
+        let editors = editors(alloc, pairs)?;
         let tz = Text::copy(alloc, variable(pairs, b"TZ"))?;
         Ok(Some(Places {
             home: own.0,
@@ -163,6 +177,8 @@ impl Places {
             dead: outboxes.1,
             lister: programs.0,
             shell: programs.1,
+            editor: editors.0,
+            visual: editors.1,
             tz,
             width: width_of(variable(pairs, b"COLUMNS")),
         }))

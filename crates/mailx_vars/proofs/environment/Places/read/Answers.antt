@@ -25,6 +25,8 @@ returns-clause-places c =
     (ap (λ (b : Both). b.1) c.in_ok-outboxes.ensures ∙ ap (dead_in pairs) home)
     (ap (λ (b : Both). b.0) c.in_ok-programs.ensures)
     (ap (λ (b : Both). b.1) c.in_ok-programs.ensures)
+    (ap (λ (b : Both). b.0) c.in_ok-editors.ensures)
+    (ap (λ (b : Both). b.1) c.in_ok-editors.ensures)
     (c.in_ok-tz.ensures ∙ c.variable.ensures)
     (c.width_of.ensures.width ∙ ap (λ (v : List ℕ). width_of (number_of v)) c.variable-2.ensures))
     ∙ sym (cond-true _ _ _ (sym c.knows_user.ensures ∙ c.if-not-knows_user.false))
