@@ -58,6 +58,12 @@ pub enum Ask {
         command: Text,
         input: Text,
     },
+    /// The message of this number is edited by this command, which the shell of the places runs. What it makes of the
+    /// message takes its place in the folder and in the folder's file.
+    Edit {
+        number: u32,
+        command: Text,
+    },
     /// The run ends without changes.
     Exit,
 }
