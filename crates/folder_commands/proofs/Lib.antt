@@ -1,3 +1,4 @@
 pub mod NextLemmas
 pub mod MakingLemmas
 pub mod GrowingLemmas
+pub mod EditingLemmas

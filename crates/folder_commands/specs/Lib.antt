@@ -3,3 +3,4 @@ pub mod Leaving
 pub mod Making
 pub mod Opening
 pub mod Growing
+pub mod Editing

@@ -1,10 +1,11 @@
 //! Commands that put messages into files: copy, Copy, save, Save and write, each of which comes to one change of one
 //! file, or to the line that refuses it; and quit and file, which come to the changes that were gathered, and then those
 //! of mbox and of the folder.
-//! Nothing is changed yet. What these make of the file that is opened is said here too, and what was added to the
-//! open one.
+//! Nothing is changed yet. What these make of the file that is opened is said here too, what was added to the open one,
+//! and what an edited message makes of it.
 #![tactic(auto)]
 
+mod editing;
 mod growing;
 mod laws;
 mod leaving;
@@ -13,6 +14,7 @@ mod opening;
 mod saving;
 mod wanted;
 
+pub use editing::{Edition, edition};
 pub use growing::{grow_folder, newmail, news_line};
 pub use laws::made_is_applied;
 pub use leaving::quit;

@@ -53,6 +53,14 @@ fn add(mut file: Text, texts: &[Text]) -> Result<Text, Memory>
     Ok(file)
 }
 
+/// The bytes of a mailbox with these texts.
+#[tactic(auto, unfolding(folder_change::specs::Outcomes::missing_feeds))]
+pub(crate) fn mailbox_of(alloc: Global, texts: &[Text]) -> Result<Text, Memory>
+    ensures { IfOk result (λ bytes. bytes ≡ join texts.now) }
+{
+    add(Text::new(alloc), texts)
+}
+
 // Puts bytes behind a file.
 fn add_raw(mut file: Text, bytes: &[u8]) -> Result<Text, Memory>
     ensures { IfOk result (λ now. now ≡ file ++ bytes.now) }
