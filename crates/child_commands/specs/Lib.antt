@@ -1,3 +1,4 @@
 pub mod Running
+pub mod Editing
 pub mod Piping
 pub mod Listing
