@@ -39,6 +39,7 @@ use Rattle.draft_commands.specs.Mailing.{mail}
 use Rattle.child_commands.specs.Running.{shell}
 use Rattle.child_commands.specs.Piping.{pipe}
 use Rattle.child_commands.specs.Listing.{folders}
+use Rattle.child_commands.specs.Editing.{edit, visual}
 use Rattle.draft_commands.specs.Replying.{followup, followup_authors, reply, reply_authors}
 use Rattle.show_commands.specs.Telling.{from, size, number, echo, help}
 use Rattle.view_commands.specs.Viewing.{sort, thread}
@@ -116,6 +117,8 @@ meaning_of command.Mail line desk = mail desk line.words
 meaning_of command.Shell line desk = shell line.rest
 meaning_of command.Pipe line desk = pipe (name_of line.word) desk line.words
 meaning_of command.Folders line desk = folders desk
+meaning_of command.Edit line desk = edit desk line.words
+meaning_of command.Visual line desk = visual desk line.words
 meaning_of command.Reply line desk = reply (name_of line.word) desk line.words
 meaning_of command.ReplyAuthors line desk = reply_authors (name_of line.word) desk line.words
 meaning_of command.Followup line desk = followup desk line.words

@@ -48,7 +48,7 @@ is_startup_ask (asks.Source name) = true
 is_startup_ask (asks.Lines text) = true
 is_startup_ask ask = false
 
--- the command begins a draft, leaves the folder, or brings lines of its own, so a draft can't give it
+-- the command begins a draft, leaves the folder or changes it, or brings lines of its own, so a draft can't give it
 abbrev pub leaves_draft : Command → Bool
 leaves_draft command.Mail = true
 leaves_draft command.Reply = true
@@ -62,6 +62,8 @@ leaves_draft command.Exit = true
 leaves_draft command.Define = true
 leaves_draft command.Call = true
 leaves_draft command.Source = true
+leaves_draft command.Edit = true
+leaves_draft command.Visual = true
 leaves_draft other = false
 
 -- the line that refuses a command where it comes from

@@ -8,7 +8,7 @@ ghost use Rattle.folder_commands.specs.Saving.{IsFilingWithin};
 ghost use Rattle.folder_commands.specs.declared.wanted.Filing.{Filing};
 ghost use Rattle.read_commands.specs.Commands.{name_of, exit, filed, gathering, steps_by, steps_of, has_words_too_many, meaning, meaning_of, read_or_fault};
 
-use child_commands::{folders, pipe, shell};
+use child_commands::{edit, folders, pipe, shell, visual};
 use command_desk::{Ask, Desk, Refusal, Steps, fault, gathers, quietly, unchanged};
 use draft_commands::{followup, followup_authors, mail, reply, reply_authors};
 use folder_commands::{
@@ -187,6 +187,8 @@ fn carry_out(alloc: Global, line: &CommandLine, desk: &Desk) -> Result<Steps, Re
         Command::Shell => shell(alloc, desk, line.rest.bytes()),
         Command::Pipe => pipe(alloc, name_of(line.word.bytes()), desk, words),
         Command::Folders => folders(alloc, desk),
+        Command::Edit => edit(alloc, desk, words),
+        Command::Visual => visual(alloc, desk, words),
         Command::Reply => reply(alloc, name_of(line.word.bytes()), desk, words),
         Command::ReplyAuthors => reply_authors(alloc, name_of(line.word.bytes()), desk, words),
         Command::Followup => followup(alloc, desk, words),

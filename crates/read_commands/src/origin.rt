@@ -68,7 +68,9 @@ fn leaves_draft(command: Command) -> bool
         | Command::Exit
         | Command::Define
         | Command::Call
-        | Command::Source => true,
+        | Command::Source
+        | Command::Edit
+        | Command::Visual => true,
         _ => false,
     }
 }
