@@ -70,7 +70,7 @@ StaysAlike old new = AllFrom (origin_at old) old → AllFrom (origin_at old) new
 abbrev pub with_lines : FrameKind → SessionState → List ℕ → SessionState
 with_lines kind s text = with_frames s (s.frames ++ frame_of (origin_at s.frames) kind (length s.desk.conditions) text ∷ [])
 
--- the ask brings something into the session: lines from elsewhere, another folder or view, or a draft
+-- the ask brings something into the session: lines from elsewhere, another folder or view, an edited message, or a draft
 abbrev pub brings : asked_of.Ask → Bool
 brings (asks.Source name) = true
 brings (asks.Lines text) = true
@@ -78,6 +78,7 @@ brings (asks.Open name changes reply) = true
 brings asks.Newmail = true
 brings (asks.View kind) = true
 brings (asks.Draft draft file current) = true
+brings (asks.Edit number command) = true
 brings ask = false
 
 -- a command's steps bring lines, a folder or a draft

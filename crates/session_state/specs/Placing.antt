@@ -2,6 +2,7 @@
 use Rattle.std.specs.Prelude.{◌==◌, ◌&&◌, ◌++◌, nat_le, ℕ, Bool, false, List, [], ◌∷◌, length, map, codes, if◌then◌else◌}
 use Rattle.std.specs.Str.{bytes_eq}
 use Rattle.commit_machine.specs.Names.{actor_limit}
+use Rattle.commit_record.specs.Format.{token_digits}
 use Rattle.folder_change.specs.declared.change.Change.{Change}
 use Rattle.folder_change.specs.declared.change.Change.TheVariants.{Rewrite, Add, Front, AddRaw}
 use Rattle.mailx_vars.specs.Names.{is_short_name}
@@ -25,6 +26,10 @@ front_of folder =
 abbrev pub actor_for : List ℕ → List ℕ → List ℕ
 actor_for here home =
     let own = home ++ codes "/.mailx" in if nat_le (length (placed here own)) actor_limit then placed here own else own
+
+-- the file that an actor edits a text in: its name, `.edit.` and the token in 16 lower case hexadecimal digits
+abbrev pub edit_file : List ℕ → ℕ → List ℕ
+edit_file actor token = actor ++ (codes ".edit." ++ token_digits token)
 
 -- a change of the file that its name stands for
 abbrev pub placed_change : List ℕ → Change → Change

@@ -18,7 +18,7 @@ pub use flow::Flow;
 pub use frames::{Frame, Frames, Taken, WaitingLine};
 pub use kinds::FrameKind;
 pub use outcome::{Outcome, not_sent, status_of};
-pub use placing::{front_of, placed};
+pub use placing::{edit_file, front_of, placed};
 pub use saving::{commit, name_fault, names_fault, refused};
 pub use state::{SessionState, cut_to, drop_lines, rest};
 pub use status::Status;

@@ -1,7 +1,7 @@
 // What a name stands for: a name as it is said has another face, the file that the host is told.
 ghost use Rattle.std.specs.Prelude.{◌≡◌, IfOk, map};
 ghost use Rattle.folder_change.specs.Changes.{name_of};
-ghost use Rattle.session_state.specs.Placing.{front_of, is_rooted, placed, placed_change, placed_changes, said_as};
+ghost use Rattle.session_state.specs.Placing.{edit_file, front_of, is_rooted, placed, placed_change, placed_changes, said_as};
 
 use folder_change::{Change, change_name};
 use mail_text::{Items, Memory, Text};
@@ -43,6 +43,17 @@ pub fn front_of(alloc: Global, folder: &[u8]) -> Result<Text, Memory>
         front.push(b"/")?;
     }
     Ok(front)
+}
+
+/// The file that an actor edits a text in: its name, `.edit.` and the token in 16 lower case hexadecimal digits.
+pub fn edit_file(alloc: Global, actor: &[u8], token: u64) -> Result<Text, Memory>
+    ensures { IfOk result (λ name. name ≡ edit_file actor.now token) }
+{
+    let digits = hex::encode(alloc, token.to_be_bytes())?;
+    let mut name = Text::copy(alloc, actor)?;
+    name.push(b".edit.")?;
+    name.push(digits.as_bytes())?;
+    Ok(name)
 }
 
 // A change of the file that its name stands for.
