@@ -1,5 +1,6 @@
 pub mod AskLemmas
 pub mod BeginningLemmas
+pub mod EditingLemmas
 pub mod OpeningLemmas
 pub mod RenewingLemmas
 pub mod SourcingLemmas

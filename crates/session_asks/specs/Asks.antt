@@ -25,6 +25,7 @@ use Rattle.session_asks.specs.Gathering.{gather_fault, gathers}
 use Rattle.session_asks.specs.Switching.{open_fault, switches}
 use Rattle.session_asks.specs.Renewing.{folder_fault, renews}
 use Rattle.session_asks.specs.Viewing.{views}
+use Rattle.session_asks.specs.Editing.{edits}
 
 -- what is asked for, and what its answer leaves
 abbrev pub asked : SessionState → asked_of.Ask → Play (After SessionState Status)
@@ -38,6 +39,7 @@ asked s asks.Newmail = renews s (folder_fault s)
 asked s (asks.View kind) = views s kind
 asked s (asks.Draft draft file current) = beginning s draft file current (file_fault s file)
 asked s (asks.Child command input) = run_asked s command input
+asked s (asks.Edit number command) = edits s number command
 asked s asks.Exit = Ret (Ended (status_of s.outcome))
 
 -- all was done, and the command isn't over

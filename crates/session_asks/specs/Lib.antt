@@ -4,6 +4,8 @@ pub mod Gathering
 pub mod Switching
 pub mod Viewing
 pub mod Renewing
+pub mod Editing
+pub mod Edited
 pub mod Beginning
 pub mod Running
 pub mod Openings

@@ -13,6 +13,7 @@ ghost use Rattle.session_state.specs.Answers.{after_asks, in_play, LineCaused, E
 
 use crate::beginning::begin_recorded;
 use crate::calling::call;
+use crate::editing::edit;
 use crate::gathering::gather;
 use crate::renewing::renew;
 use crate::running::run_asked;
@@ -65,6 +66,7 @@ fn do_ask<H: Host>(
         Wanted::Child { command, input } => {
             run_asked(alloc, state, host, command.bytes(), input.bytes())
         }
+        Wanted::Edit { number, command } => edit(alloc, state, host, number, command.bytes()),
         Wanted::Exit => Ok(Asked::Ended(status_of(state.outcome))),
     }
 }

@@ -5,6 +5,7 @@ mod asks;
 mod beginning;
 mod bringing;
 mod calling;
+mod editing;
 mod gathering;
 mod greetings;
 mod opening;

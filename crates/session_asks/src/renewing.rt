@@ -143,8 +143,8 @@ fn take_in(alloc: Global, desk: &mut Desk, found: Option<Found>) -> Result<(), R
     }
 }
 
-// Prints bytes, with which the command is over.
-fn say_last<H: Host>(host: &mut H, bytes: &Text) -> Result<Asked, RunError>
+/// Prints bytes, with which the command is over.
+pub(crate) fn say_last<H: Host>(host: &mut H, bytes: &Text) -> Result<Asked, RunError>
     ensures ran { (s : SessionState) → Ran H.world host.old host.new
         (λ es. Goes (Ask (Say bytes.now) (λ _. Ret (Over s))) es (in_play (after_asks s) result)) }
     ensures desk { (s : SessionState) → (t : SessionState) → KeepsDesk s t result }

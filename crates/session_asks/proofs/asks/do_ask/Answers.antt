@@ -81,6 +81,9 @@ returns-in-View-clause-cause g c = called-caused (g.H.Host.world.counts c.args.h
 pub returns-in-Draft-clause-ran : goal.returns-in-Draft-clause-ran
 returns-in-Draft-clause-ran g c = rw (asked-as c.args.state.now c.args.ask _ c.in-Draft.is) c.begin_recorded.ensures.ran
 
+pub returns-in-Edit-clause-ran : goal.returns-in-Edit-clause-ran
+returns-in-Edit-clause-ran g c = rw (asked-as c.args.state.now c.args.ask _ c.in-Edit.is) (rw c.bytes-in-Edit.ensures at c.edit.ensures.ran)
+
 pub returns-in-Child-clause-ran : goal.returns-in-Child-clause-ran
 returns-in-Child-clause-ran g c = rw (asked-as c.args.state.now c.args.ask _ c.in-Child.is) (Ran-map (run-asked-as c.args.state.now _ _ _ _ _ c.bytes-in-Child.ensures c.bytes-in-Child-2.ensures) c.run_asked.ensures.ran)
 
@@ -95,6 +98,9 @@ returns-in-Open-clause-goes_on g c = λ little. absurd (cc (ap is_startup_ask c.
 
 pub returns-in-Draft-clause-goes_on : goal.returns-in-Draft-clause-goes_on
 returns-in-Draft-clause-goes_on g c = λ little. absurd (cc (ap is_startup_ask c.in-Draft.is, little))
+
+pub returns-in-Edit-clause-goes_on : goal.returns-in-Edit-clause-goes_on
+returns-in-Edit-clause-goes_on g c = λ little. absurd (cc (ap is_startup_ask c.in-Edit.is, little))
 
 pub returns-in-Child-clause-goes_on : goal.returns-in-Child-clause-goes_on
 returns-in-Child-clause-goes_on g c = λ little. absurd (cc (ap is_startup_ask c.in-Child.is, little))
