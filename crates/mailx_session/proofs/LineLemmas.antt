@@ -2,7 +2,8 @@
 -- It tells what each may ask and how each may end, that a run ends for its record exactly if a commit met one that can't be read, and that a draft
 -- counts as refused only if changes were.
 use Rattle.std.proofs.Common.{◌≡◌, ◌+◌, ◌||◌, ◌⊎◌, ℕ, Bool, true, false, List, [], ◌∷◌, length, refl, ap, inl, inr, sym, ◌∙◌, nat_le}
-use Rattle.std.specs.Prelude.{◌==◌, ◌++◌, ℤ, nat_lt, not, if◌then◌else◌}
+use Rattle.std.specs.Prelude.{◌==◌, ◌++◌, ℤ, codes, nat_lt, not, if◌then◌else◌}
+use Rattle.std.specs.Str.{bytes_eq}
 use Rattle.std.specs.declared.option.Option.{Option}
 use Rattle.std.specs.declared.option.Option.TheVariants.{Some, None}
 use Rattle.std.specs.declared.result.Result.{Result}
@@ -43,16 +44,20 @@ use Rattle.command_desk.specs.declared.steps.Ask.TheVariants as asks
 use Rattle.command_desk.specs.declared.steps.Steps.{Steps}
 use Rattle.command_desk.specs.Answers.{OrFault}
 use Rattle.command_desk.specs.Effects.{moved}
-use Rattle.command_desk.specs.Faults.{too_large, calls_too_deep, bad_name}
+use Rattle.command_desk.specs.Desks.{message_text}
+use Rattle.command_desk.specs.Faults.{too_large, calls_too_deep, bad_name, none_applicable}
 use Rattle.command_desk.specs.FileNames.{expanded}
 use Rattle.folder_commands.specs.Leaving.{quit}
+use Rattle.folder_commands.specs.Editing.{edited_change, edited_texts}
+use Rattle.folder_commands.specs.Saving.{receipt}
+use Rattle.mbox_scan.specs.Mailbox.{join}
 use Rattle.read_commands.specs.declared.origin.Origin.TheVariants as origin
 use Rattle.read_commands.specs.Origins.{commanded}
 use Rattle.session_state.specs.Bringing.{call_limit, calls, with_lines}
 use Rattle.session_state.specs.Outcomes.{not_sent, status_of}
 use Rattle.session_state.specs.Placing.{placed as file_of, placed_changes}
 use Rattle.session_state.specs.Saving.{is_changed, commit_of, after_commit, saved}
-use Rattle.session_state.specs.States.{is_drafting, settled, with_draft, with_count, without_draft, at_rest, rested, command_limit}
+use Rattle.session_state.specs.States.{is_drafting, settled, with_desk, with_draft, with_count, without_draft, at_rest, rested, command_limit}
 use Rattle.session_state.specs.declared.frames.WaitingLine.{WaitingLine}
 use Rattle.session_state.specs.declared.kinds.FrameKind.TheVariants as kinds
 use Rattle.session_state.specs.declared.outcome.Outcome.{Outcome}
@@ -64,6 +69,7 @@ use Rattle.session_asks.specs.Asks.{asked}
 use Rattle.session_asks.specs.Beginning.{with_new_draft, subject_asked, view_in, begun, at_message, placed, file_fault, beginning}
 use Rattle.session_asks.specs.Gathering.{gather_fault, gathers}
 use Rattle.session_asks.specs.Running.{after_run}
+use Rattle.session_asks.specs.Editing.{changing, edited, editing, is_number, judged, looked, told as told_edit, with_row, with_texts}
 use Rattle.session_asks.specs.Sourcing.{source_fault, after_load, sourced}
 use Rattle.session_asks.specs.Renewing.{folder_fault, loaded_again, taking, renews}
 use Rattle.session_asks.specs.Switching.{open_fault, loaded_folder, switched, announced, switched_to, switches}
@@ -273,6 +279,28 @@ module _ (actor : List ℕ) (token : ℕ) (o : Outcome) where
   run-obeys s None like = tt
   run-obeys s (Some child) like = (tt, λ u. like)
 
+  -- a message that is edited, or refused
+  edited-as : (b : Bool) (s : SessionState) (n : ℕ) (text : List ℕ) → Like s → Asks (if b then Ret (Over (with_desk s (looked s.desk n))) else changing s n text)
+  edited-as true s n text like = like
+  edited-as false s n text like =
+      let change = edited_change s.desk.folder.name (edited_texts s.desk.folder.folder n text) in (
+        tt,
+        λ made. (
+          tt,
+          λ view.
+              after-obeys Like (AskEnds Like (EndsAs o)) (saved s (change ∷ [])) (told_edit (receipt s.desk.folder.name (codes "Edited") 1) (looked (with_texts s.desk (join (edited_texts s.desk.folder.folder n text)) (with_row s.desk.shown.rows n made) view) n))
+              (saved-obeys s (change ∷ []) like) (λ t l. (tt, λ u. l)) (λ t l. l) (λ refused line. tt) (λ met e is. is),
+        ),
+      )
+
+  edited-obeys : (s : SessionState) (n : ℕ) (f : OrFault (List ℕ)) → Like s → Asks (edited s n f)
+  edited-obeys s n (Err line) like = tt
+  edited-obeys s n (Ok text) like = edited-as (bytes_eq text (message_text s.desk n)) s n text like
+
+  edits-as : (b : Bool) (s : SessionState) (n : ℕ) (command : List ℕ) → Like s → Asks (if b then editing s n command else Ret (Refused none_applicable))
+  edits-as true s n command like = (tt, λ a. edited-obeys s n (judged a) like)
+  edits-as false s n command like = tt
+
   -- a change that is gathered, or refused
   gathers-ends : (fault : Option (List ℕ)) (s : SessionState) → Like s → AskEnds Like (EndsAs o) nothing_met (gathers s fault)
   gathers-ends (Some line) s like = tt
@@ -290,6 +318,7 @@ module _ (actor : List ℕ) (token : ℕ) (o : Outcome) where
   ask-obeys s (asks.View kind) like = (tt, λ view. like)
   ask-obeys s (asks.Draft draft file current) like = beginning-obeys s draft file current (file_fault s file) like
   ask-obeys s (asks.Child command input) like = (tt, λ a. run-obeys s a like)
+  ask-obeys s (asks.Edit number command) like = edits-as (is_number s.desk number) s number command like
   ask-obeys s asks.Exit like = ap status_of like.1
 
   -- asks in order
