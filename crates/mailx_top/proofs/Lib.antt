@@ -5,6 +5,7 @@ pub mod FolderLemmas
 pub mod LeavingLemmas
 pub mod OpeningLemmas
 pub mod QuitLemmas
+pub mod EditionLemmas
 pub mod CompleteLemmas
 pub mod RunLemmas
 pub mod RoundLemmas

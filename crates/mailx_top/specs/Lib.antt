@@ -11,6 +11,7 @@ pub mod Ends
 pub mod Usage
 pub mod Openings
 pub mod Quits
+pub mod Editions
 pub mod Starts
 pub mod Met
 pub mod Unreadable

@@ -1,6 +1,7 @@
 ghost use Rattle.mailx_top.specs.Alike.{RunsAreAlike};
 ghost use Rattle.mailx_top.specs.AlikeTrials.{TrialsAreAlike, TriesAreAlike};
 ghost use Rattle.mailx_top.specs.Appended.{RunsKeepAppended};
+ghost use Rattle.mailx_top.specs.Editions.{EditsKeepAppended};
 ghost use Rattle.mailx_top.specs.Fitting.{RunsFit};
 ghost use Rattle.mailx_top.specs.Quits.{QuitsKeepAppended, QuitsKeepGathered};
 ghost use Rattle.mailx_top.specs.Replies.{RunsReplyAfter};
@@ -36,13 +37,20 @@ pub fn quits_keep_gathered()
     ensures { QuitsKeepGathered }
 {}
 
+/// If a commit of a run that is safe gives one message of the folder another text, what others appended to the messages
+/// that were read follows these with the edited one, from the decision on, at each moment and at each disk that a stop
+/// leaves, until the file is changed again.
+pub fn edits_keep_appended()
+    ensures { EditsKeepAppended }
+{}
+
 /// In a run that is safe, if a commit is answered as done, each output that follows stands after its decision: no
 /// byte of a reply is printed before the commit that it tells of is decided.
 pub fn replies_follow()
     ensures { RunsReplyAfter }
 {}
 
-/// A run is a function of its disk, its input, and what children and the clock answer: two that come to their ends from
+/// A run is a function of its disk, its input, and what children, editors and the clock answer: two that come to their ends from
 /// one start, without steps of others, end with the same status, print the same bytes and leave the same disk, however
 /// their input was cut into pieces.
 pub fn runs_are_alike()

@@ -17,8 +17,8 @@ mod words;
 
 pub use environment::Environment;
 pub use laws::{
-    appended_follows, decided_fit, quits_keep_appended, quits_keep_gathered, replies_follow,
-    runs_are_alike, trials_are_alike,
+    appended_follows, decided_fit, edits_keep_appended, quits_keep_appended, quits_keep_gathered,
+    replies_follow, runs_are_alike, trials_are_alike,
 };
 pub use mailx_session::Status;
 pub use top::run;
