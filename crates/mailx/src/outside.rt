@@ -10,8 +10,9 @@ use std::rt::Env;
 use std::time::Duration;
 
 /// The variables that a run looks at.
-const NAMES: [&str; 10] = [
-    "HOME", "LOGNAME", "MAIL", "MAILRC", "MBOX", "DEAD", "LISTER", "SHELL", "TZ", "COLUMNS",
+const NAMES: [&str; 12] = [
+    "HOME", "LOGNAME", "MAIL", "MAILRC", "MBOX", "DEAD", "LISTER", "SHELL", "EDITOR", "VISUAL",
+    "TZ", "COLUMNS",
 ];
 
 /// The variable that says for how many seconds others are waited for, the most that it may say, and what counts where
