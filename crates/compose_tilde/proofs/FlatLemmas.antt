@@ -21,7 +21,7 @@ use Rattle.compose_tilde.specs.declared.machine.Names.TheVariants.{To, Cc, Bcc}
 use Rattle.compose_tilde.specs.declared.machine.Part.{Part}
 use Rattle.compose_tilde.specs.declared.machine.Part.TheVariants as part
 use Rattle.compose_tilde.specs.declared.machine.Wait.{Wait}
-use Rattle.compose_tilde.specs.declared.machine.Wait.TheVariants.{File, Said, Taken, Filtered, Carried}
+use Rattle.compose_tilde.specs.declared.machine.Wait.TheVariants.{File, Said, Taken, Filtered, Edited, Carried}
 use Rattle.compose_tilde.specs.declared.need.Need.{Need}
 use Rattle.compose_tilde.specs.declared.need.Need.TheVariants as need
 use Rattle.compose_tilde.specs.declared.need.ComposeError.{ComposeError}
@@ -101,6 +101,8 @@ flat-meaning (escape.Add names) m given view h = flat-more m.draft names given.w
 flat-meaning escape.Subject m given view h = flat-subject m.draft given.whole h
 flat-meaning escape.Header m given view h = h
 flat-meaning escape.Dead m given view h = h
+flat-meaning escape.Edit m given view h = h
+flat-meaning escape.Visual m given view h = h
 flat-meaning escape.Read m given view h = flat-source m given.whole h
 flat-meaning (escape.Forward how) m given view h = flat-take m _ _ h
 flat-meaning (escape.Quote how) m given view h = flat-take m _ _ h
@@ -163,18 +165,27 @@ lines-flat m line view h = flat-asked m.header m line view h
 flat-answered : (w : Wait) (a : Answer) (m : Machine) → HasFlatParts m.draft → IsFlatStep (answered w a m)
 flat-answered File (answer.Loaded bytes) m h = flat-body m.draft _ h
 flat-answered File (answer.Ran child) m h = h
+flat-answered File (answer.Edited edit) m h = h
 flat-answered File answer.Carried m h = h
 flat-answered Said (answer.Loaded bytes) m h = h
 flat-answered Said (answer.Ran child) m h = h
+flat-answered Said (answer.Edited edit) m h = h
 flat-answered Said answer.Carried m h = h
 flat-answered Taken (answer.Loaded bytes) m h = h
 flat-answered Taken (answer.Ran child) m h = flat-if child.cut (Err error.TooMuch) (Ok (record m { draft = appended m.draft child.output }, told child.status)) tt (flat-body m.draft (m.draft.body ++ child.output) h)
+flat-answered Taken (answer.Edited edit) m h = h
 flat-answered Taken answer.Carried m h = h
 flat-answered Filtered (answer.Loaded bytes) m h = h
 flat-answered Filtered (answer.Ran child) m h = flat-if (is_zero child.status) (if child.cut then Err error.TooMuch else goes_on m (with_body m.draft child.output)) (says m (status_line child.status)) (flat-if child.cut (Err error.TooMuch) (goes_on m (with_body m.draft child.output)) tt (flat-body m.draft child.output h)) h
+flat-answered Filtered (answer.Edited edit) m h = h
 flat-answered Filtered answer.Carried m h = h
+flat-answered Edited (answer.Loaded bytes) m h = h
+flat-answered Edited (answer.Ran child) m h = h
+flat-answered Edited (answer.Edited edit) m h = flat-if (is_zero edit.status) (if edit.cut then Err error.TooMuch else goes_on m (with_body m.draft edit.text)) (says m (status_line edit.status)) (flat-if edit.cut (Err error.TooMuch) (goes_on m (with_body m.draft edit.text)) tt (flat-body m.draft edit.text h)) h
+flat-answered Edited answer.Carried m h = h
 flat-answered Carried (answer.Loaded bytes) m h = h
 flat-answered Carried (answer.Ran child) m h = h
+flat-answered Carried (answer.Edited edit) m h = h
 flat-answered Carried answer.Carried m h = h
 
 flat-awaited : (w : Option Wait) (a : Answer) (m : Machine) → HasFlatParts m.draft → IsFlatStep (awaited_step w a m)

@@ -12,7 +12,7 @@ use Rattle.draft_text.specs.declared.draft.Draft.{Draft}
 use Rattle.compose_tilde.specs.declared.machine.Machine.{Machine}
 use Rattle.compose_tilde.specs.declared.machine.Part.{Part}
 use Rattle.compose_tilde.specs.declared.machine.Wait.{Wait}
-use Rattle.compose_tilde.specs.declared.machine.Wait.TheVariants.{File, Said, Taken, Filtered, Carried}
+use Rattle.compose_tilde.specs.declared.machine.Wait.TheVariants.{File, Said, Taken, Filtered, Edited, Carried}
 use Rattle.compose_tilde.specs.declared.need.Need.{Need}
 use Rattle.compose_tilde.specs.declared.need.Need.TheVariants as need
 use Rattle.compose_tilde.specs.declared.need.ComposeError.{ComposeError}
@@ -64,6 +64,8 @@ waits-meaning (escape.Add names) m given view h = h
 waits-meaning escape.Subject m given view h = h
 waits-meaning escape.Header m given view h = h
 waits-meaning escape.Dead m given view h = λ bytes. refl
+waits-meaning escape.Edit m given view h = λ edit. refl
+waits-meaning escape.Visual m given view h = λ edit. refl
 waits-meaning escape.Read m given view h = waits-source m given.whole
 waits-meaning (escape.Forward how) m given view h = waits-take m _ _ h
 waits-meaning (escape.Quote how) m given view h = waits-take m _ _ h
@@ -127,20 +129,31 @@ idle-if false x y hx hy = hy
 idle-answered : (w : Wait) (a : Answer) (m : Machine) → m.waits ≡ None → IsIdleStep (answered w a m)
 idle-answered File (answer.Loaded bytes) m h = h
 idle-answered File (answer.Ran child) m h = h
+idle-answered File (answer.Edited edit) m h = h
 idle-answered File answer.Carried m h = h
 idle-answered Said (answer.Loaded bytes) m h = h
 idle-answered Said (answer.Ran child) m h = h
+idle-answered Said (answer.Edited edit) m h = h
 idle-answered Said answer.Carried m h = h
 idle-answered Taken (answer.Loaded bytes) m h = h
 idle-answered Taken (answer.Ran child) m h = idle-if child.cut (Err error.TooMuch) (Ok (record m { draft = appended m.draft child.output }, told child.status)) tt h
+idle-answered Taken (answer.Edited edit) m h = h
 idle-answered Taken answer.Carried m h = h
 idle-answered Filtered (answer.Loaded bytes) m h = h
 idle-answered Filtered (answer.Ran child) m h =
     idle-if (is_zero child.status) (if child.cut then Err error.TooMuch else goes_on m (with_body m.draft child.output)) (says m (status_line child.status))
     (idle-if child.cut (Err error.TooMuch) (goes_on m (with_body m.draft child.output)) tt h) h
+idle-answered Filtered (answer.Edited edit) m h = h
 idle-answered Filtered answer.Carried m h = h
+idle-answered Edited (answer.Loaded bytes) m h = h
+idle-answered Edited (answer.Ran child) m h = h
+idle-answered Edited (answer.Edited edit) m h =
+    idle-if (is_zero edit.status) (if edit.cut then Err error.TooMuch else goes_on m (with_body m.draft edit.text)) (says m (status_line edit.status))
+    (idle-if edit.cut (Err error.TooMuch) (goes_on m (with_body m.draft edit.text)) tt h) h
+idle-answered Edited answer.Carried m h = h
 idle-answered Carried (answer.Loaded bytes) m h = h
 idle-answered Carried (answer.Ran child) m h = h
+idle-answered Carried (answer.Edited edit) m h = h
 idle-answered Carried answer.Carried m h = h
 
 idle-awaited : (w : Option Wait) (a : Answer) (m : Machine) → m.waits ≡ None → IsIdleStep (awaited_step w a m)
@@ -163,20 +176,31 @@ keeps-if d false x y hx hy = hy
 keeps-answered : (w : Wait) (a : Answer) (m : Machine) → KeepsParts m.draft (answered w a m)
 keeps-answered File (answer.Loaded bytes) m = refl
 keeps-answered File (answer.Ran child) m = refl
+keeps-answered File (answer.Edited edit) m = refl
 keeps-answered File answer.Carried m = refl
 keeps-answered Said (answer.Loaded bytes) m = refl
 keeps-answered Said (answer.Ran child) m = refl
+keeps-answered Said (answer.Edited edit) m = refl
 keeps-answered Said answer.Carried m = refl
 keeps-answered Taken (answer.Loaded bytes) m = refl
 keeps-answered Taken (answer.Ran child) m = keeps-if m.draft child.cut (Err error.TooMuch) (Ok (record m { draft = appended m.draft child.output }, told child.status)) tt refl
+keeps-answered Taken (answer.Edited edit) m = refl
 keeps-answered Taken answer.Carried m = refl
 keeps-answered Filtered (answer.Loaded bytes) m = refl
 keeps-answered Filtered (answer.Ran child) m =
     keeps-if m.draft (is_zero child.status) (if child.cut then Err error.TooMuch else goes_on m (with_body m.draft child.output)) (says m (status_line child.status))
     (keeps-if m.draft child.cut (Err error.TooMuch) (goes_on m (with_body m.draft child.output)) tt refl) refl
+keeps-answered Filtered (answer.Edited edit) m = refl
 keeps-answered Filtered answer.Carried m = refl
+keeps-answered Edited (answer.Loaded bytes) m = refl
+keeps-answered Edited (answer.Ran child) m = refl
+keeps-answered Edited (answer.Edited edit) m =
+    keeps-if m.draft (is_zero edit.status) (if edit.cut then Err error.TooMuch else goes_on m (with_body m.draft edit.text)) (says m (status_line edit.status))
+    (keeps-if m.draft edit.cut (Err error.TooMuch) (goes_on m (with_body m.draft edit.text)) tt refl) refl
+keeps-answered Edited answer.Carried m = refl
 keeps-answered Carried (answer.Loaded bytes) m = refl
 keeps-answered Carried (answer.Ran child) m = refl
+keeps-answered Carried (answer.Edited edit) m = refl
 keeps-answered Carried answer.Carried m = refl
 
 keeps-awaited : (w : Option Wait) (a : Answer) (m : Machine) → KeepsParts m.draft (awaited_step w a m)

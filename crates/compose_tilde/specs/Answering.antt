@@ -5,10 +5,11 @@ use Rattle.std.specs.Ordering.{int_eq}
 use Rattle.std.specs.declared.result.Result.TheVariants.{Ok, Err}
 use Rattle.mail_text.specs.Lines.{with_feed}
 use Rattle.host_port.specs.declared.event.ChildAnswer.{ChildAnswer}
+use Rattle.host_port.specs.declared.event.EditAnswer.{EditAnswer}
 use Rattle.draft_text.specs.declared.draft.Draft.{Draft}
 use Rattle.compose_tilde.specs.declared.machine.Machine.{Machine}
 use Rattle.compose_tilde.specs.declared.machine.Wait.{Wait}
-use Rattle.compose_tilde.specs.declared.machine.Wait.TheVariants.{File, Said, Taken, Filtered, Carried}
+use Rattle.compose_tilde.specs.declared.machine.Wait.TheVariants.{File, Said, Taken, Filtered, Edited, Carried}
 use Rattle.compose_tilde.specs.declared.need.Answer.{Answer}
 use Rattle.compose_tilde.specs.declared.need.Answer.TheVariants as answer
 use Rattle.compose_tilde.specs.declared.need.Need.{Need}
@@ -23,6 +24,7 @@ is_awaited File (answer.Loaded bytes) = true
 is_awaited Said (answer.Ran child) = true
 is_awaited Taken (answer.Ran child) = true
 is_awaited Filtered (answer.Ran child) = true
+is_awaited Edited (answer.Edited edit) = true
 is_awaited Carried answer.Carried = true
 is_awaited wait other = false
 
@@ -62,12 +64,19 @@ filter m child =
     if is_zero child.status then (if child.cut then Err error.TooMuch else goes_on m (with_body m.draft child.output))
     else says m (status_line child.status)
 
+-- what an editor left replaces the body if the status is 0 and it wasn't cut
+abbrev pub take_edited : Machine → EditAnswer → Step
+take_edited m edit =
+    if is_zero edit.status then (if edit.cut then Err error.TooMuch else goes_on m (with_body m.draft edit.text))
+    else says m (status_line edit.status)
+
 -- what an answer comes to, by what was waited for
 abbrev pub answered : Wait → Answer → Machine → Step
 answered File (answer.Loaded bytes) m = goes_on m (appended m.draft bytes)
 answered Said (answer.Ran child) m = says m (said_of child)
 answered Taken (answer.Ran child) m = take_output m child
 answered Filtered (answer.Ran child) m = filter m child
+answered Edited (answer.Edited edit) m = take_edited m edit
 answered wait other m = Ok (m, need.More)
 
 -- the machine that doesn't wait any more

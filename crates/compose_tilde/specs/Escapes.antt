@@ -5,7 +5,7 @@ use Rattle.std.specs.Option.{option_map}
 use Rattle.message_show.specs.declared.text.How.TheVariants.{Kept, All}
 use Rattle.compose_tilde.specs.declared.machine.Names.TheVariants.{To, Cc, Bcc}
 use Rattle.compose_tilde.specs.declared.escape.Escape.{Escape}
-use Rattle.compose_tilde.specs.declared.escape.Escape.TheVariants.{End, Shell, Command, Letters, Sign, LongSign, Value, Add, Subject, Header, Dead, Read, Forward, Quote, Print, Quit, Exit, Write, Pipe}
+use Rattle.compose_tilde.specs.declared.escape.Escape.TheVariants.{End, Shell, Command, Letters, Sign, LongSign, Value, Add, Subject, Header, Dead, Edit, Visual, Read, Forward, Quote, Print, Quit, Exit, Write, Pipe}
 use Rattle.compose_tilde.specs.declared.escape.Row.{Row}
 use Rattle.compose_tilde.specs.declared.escape.Behind.{Behind}
 use Rattle.compose_tilde.specs.declared.escape.Behind.TheVariants as behind
@@ -29,6 +29,7 @@ escapes =
     ∷ row 98 (Add Bcc)  -- b
     ∷ row 99 (Add Cc)  -- c
     ∷ row 100 Dead  -- d
+    ∷ row 101 Edit  -- e
     ∷ row 102 (Forward Kept)  -- f
     ∷ row 104 Header  -- h
     ∷ row 105 Value  -- i
@@ -38,6 +39,7 @@ escapes =
     ∷ row 114 Read  -- r
     ∷ row 115 Subject  -- s
     ∷ row 116 (Add To)  -- t
+    ∷ row 118 Visual  -- v
     ∷ row 119 Write  -- w
     ∷ row 120 Exit  -- x
     ∷ row 124 Pipe  -- |

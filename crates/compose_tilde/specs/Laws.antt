@@ -6,14 +6,15 @@ use Rattle.std.specs.declared.result.Result.TheVariants.{Ok, Err}
 use Rattle.mail_text.specs.Lines.{with_feed}
 use Rattle.mailx_vars.specs.Settings.{Settings}
 use Rattle.host_port.specs.declared.event.ChildAnswer.{ChildAnswer}
+use Rattle.host_port.specs.declared.event.EditAnswer.{EditAnswer}
 use Rattle.draft_text.specs.declared.draft.Draft.{Draft}
 use Rattle.draft_text.specs.DraftLaws.{HasFlatParts}
 use Rattle.compose_tilde.specs.declared.machine.Machine.{Machine}
 use Rattle.compose_tilde.specs.declared.machine.Wait.{Wait}
 use Rattle.compose_tilde.specs.declared.need.Need.{Need}
-use Rattle.compose_tilde.specs.declared.need.Need.TheVariants.{More, Load, Dead, Child, Command, Put}
+use Rattle.compose_tilde.specs.declared.need.Need.TheVariants.{More, Load, Dead, Child, Edit, Command, Put}
 use Rattle.compose_tilde.specs.declared.need.Answer.{Answer}
-use Rattle.compose_tilde.specs.declared.need.Answer.TheVariants.{Loaded, Ran, Carried}
+use Rattle.compose_tilde.specs.declared.need.Answer.TheVariants.{Loaded, Ran, Edited, Carried}
 use Rattle.compose_tilde.specs.Escapes.{escapes}
 use Rattle.compose_tilde.specs.Reading.{escape_byte, is_end}
 use Rattle.compose_tilde.specs.Views.{View}
@@ -94,6 +95,7 @@ abbrev pub IsWaiting : Option Wait → Need → Type 0
 IsWaiting waits (Load name) = (bytes : List ℕ) → is_waited_for waits (Loaded bytes) ≡ true
 IsWaiting waits Dead = (bytes : List ℕ) → is_waited_for waits (Loaded bytes) ≡ true
 IsWaiting waits (Child command input) = (child : ChildAnswer) → is_waited_for waits (Ran child) ≡ true
+IsWaiting waits (Edit command text) = (edit : EditAnswer) → is_waited_for waits (Edited edit) ≡ true
 IsWaiting waits (Command line) = is_waited_for waits Carried ≡ true
 IsWaiting waits (Put name bytes) = is_waited_for waits Carried ≡ true
 IsWaiting waits need = waits ≡ None

@@ -22,7 +22,7 @@ use Rattle.compose_tilde.specs.declared.need.Need.TheVariants as need
 use Rattle.compose_tilde.specs.declared.need.ComposeError.{ComposeError}
 use Rattle.compose_tilde.specs.declared.need.ComposeError.TheVariants as error
 use Rattle.compose_tilde.specs.declared.escape.Escape.{Escape}
-use Rattle.compose_tilde.specs.declared.escape.Escape.TheVariants.{End, Shell, Command, Letters, Sign, LongSign, Value, Add, Subject, Header, Dead, Read, Forward, Quote, Print, Quit, Exit, Write, Pipe}
+use Rattle.compose_tilde.specs.declared.escape.Escape.TheVariants.{End, Shell, Command, Letters, Sign, LongSign, Value, Add, Subject, Header, Dead, Edit, Visual, Read, Forward, Quote, Print, Quit, Exit, Write, Pipe}
 use Rattle.compose_tilde.specs.Escapes.{letter_lines}
 use Rattle.compose_tilde.specs.declared.reading.Given.{Given}
 use Rattle.compose_tilde.specs.Views.{View, texts}
@@ -77,6 +77,8 @@ meaning (Add names) m given view = goes_on m (with_more m.draft names given.word
 meaning Subject m given view = goes_on m (with_subject m.draft given.whole)
 meaning Header m given view = ask_for m (Some (part.Names To))
 meaning Dead m given view = asks m wait.File need.Dead
+meaning Edit m given view = asks m wait.Edited (need.Edit view.places.editor m.draft.body)
+meaning Visual m given view = asks m wait.Edited (need.Edit view.places.visual m.draft.body)
 meaning Read m given view = source m given.whole
 meaning (Forward how) m given view = take_messages m (all_forwarded view how) (chosen Live view.shown (texts view.folder) given.words)
 meaning (Quote how) m given view = take_messages m (all_quoted view how) (chosen Live view.shown (texts view.folder) given.words)

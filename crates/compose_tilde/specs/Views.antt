@@ -2,6 +2,7 @@
 use Rattle.std.specs.Prelude.{◌≡◌, ℕ, Bool, List, [], length, Option, Some, None}
 use Rattle.std.specs.Option.{option_map}
 use Rattle.mbox_scan.specs.Mailbox.{texts_of}
+use Rattle.mailx_vars.specs.declared.environment.Places.{Places}
 use Rattle.mailx_vars.specs.Settings.{Settings}
 use Rattle.message_state.specs.declared.shown.Shown.{Shown}
 use Rattle.message_state.specs.ShownRows.{IsShown}
@@ -13,6 +14,7 @@ use Rattle.compose_tilde.specs.declared.view.ComposeView.{ComposeView}
 -- what a line of a draft is read with; the folder is the bytes of a mailbox
 pub record View : Type 0 where
   pub vars : Settings
+  pub places : Places
   pub shown : Shown
   pub folder : Option (List ℕ)
   pub sets : FieldNames
@@ -23,6 +25,7 @@ pub record View : Type 0 where
 abbrev pub view_of : ComposeView → View
 view_of v = record {
   vars = v.vars.now;
+  places = v.places.now;
   shown = v.shown.now;
   folder = option_map (λ folder. folder.now) v.folder;
   sets = v.sets.now;

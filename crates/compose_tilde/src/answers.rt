@@ -2,13 +2,13 @@
 ghost use Rattle.std.specs.Prelude.{◌≡◌, ◌++◌, true, Some, IfOk, OnOk, OnErr};
 ghost use Rattle.compose_tilde.specs.Values.{with_body, appended};
 ghost use Rattle.compose_tilde.specs.Steps.{Means, goes_on, says};
-ghost use Rattle.compose_tilde.specs.Answering.{is_awaited, is_zero, status_line, said_of, told, take_output, filter, answered, idle, answer_step};
+ghost use Rattle.compose_tilde.specs.Answering.{is_awaited, is_zero, status_line, said_of, told, take_output, filter, take_edited, answered, idle, answer_step};
 
 use crate::machine::{Machine, Wait};
 use crate::meaning::take;
 use crate::need::{Answer, ComposeError, Need};
 use crate::values::append;
-use host_port::ChildAnswer;
+use host_port::{ChildAnswer, EditAnswer};
 use itoa::Buffer;
 use mail_text::{Memory, Text};
 use std::alloc::Global;
@@ -20,6 +20,7 @@ pub(crate) fn is_awaited(wait: Wait, answer: &Answer) -> bool
     match answer {
         Answer::Loaded(_) => matches!(wait, Wait::File),
         Answer::Ran(_) => matches!(wait, Wait::Said | Wait::Taken | Wait::Filtered),
+        Answer::Edited(_) => matches!(wait, Wait::Edited),
         Answer::Carried => matches!(wait, Wait::Carried),
     }
 }
@@ -133,6 +134,23 @@ fn filter(alloc: Global, machine: &mut Machine, child: ChildAnswer) -> Result<Ne
     }
 }
 
+// What an editor left replaces the body if the status is 0 and it wasn't cut.
+fn take_edited(alloc: Global, machine: &mut Machine, edit: EditAnswer) -> Result<Need, ComposeError>
+    ensures means { Means result machine.new (take_edited machine.old edit) }
+    ensures stays { OnErr result (machine.new ≡ machine.old) }
+{
+    let EditAnswer { status, text, cut } = edit;
+    if !is_zero(status) {
+        let out = status_line(alloc, status)?;
+        return Ok(Need::Say(out));
+    }
+    if cut {
+        Err(ComposeError::TooMuch)
+    } else {
+        put_body(machine, text)
+    }
+}
+
 // What an answer comes to, by what was waited for.
 fn answered(
     alloc: Global,
@@ -148,6 +166,7 @@ fn answered(
         (Wait::Said, Answer::Ran(child)) => Ok(say_output(child)?),
         (Wait::Taken, Answer::Ran(child)) => take_output(alloc, machine, child),
         (Wait::Filtered, Answer::Ran(child)) => filter(alloc, machine, child),
+        (Wait::Edited, Answer::Edited(edit)) => take_edited(alloc, machine, edit),
         _ => Ok(Need::More),
     }
 }

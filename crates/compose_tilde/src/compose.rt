@@ -76,7 +76,7 @@ impl Compose {
         draft
     }
 
-    /// Whether it waits for an answer: after `Load`, `Dead`, `Child`, `Command` or `Put`.
+    /// Whether it waits for an answer: after `Load`, `Dead`, `Child`, `Edit`, `Command` or `Put`.
     pub fn waiting(&self) -> bool
         ensures waiting { result ≡ is_some self.now.waits }
         ensures idle { result ≡ false → self.now.waits ≡ None }
@@ -120,8 +120,8 @@ impl Compose {
 
     /// Takes the answer to what was needed, which ends the waiting, and answers what is needed next. `TooMuch` comes
     /// exactly when the body was to take the output of a command, and the output was cut; of a command that filters
-    /// the body that is so if its status is 0. After an error, which may be that memory ran out, the draft is as
-    /// before.
+    /// the body, and of an editor's text, that is so if its status is 0. After an error, which may be that memory ran
+    /// out, the draft is as before.
     pub fn answer(&mut self, answer: Answer, _view: &ComposeView<'_>) -> Result<Need, ComposeError>
         requires { is_waited_for self.old.waits answer ≡ true }
         ensures means { Means result self.new (answer_step self.old answer) }

@@ -33,6 +33,10 @@ pub enum Escape {
     Dead,
     /// `r` and `<`: the body takes a file, or a command's output.
     Read,
+    /// `e`: the body is edited.
+    Edit,
+    /// `v`: the body is edited by the visual editor.
+    Visual,
     /// `f` and `F`: the body takes messages as they are printed.
     Forward(How),
     /// `m` and `M`: the body takes messages as they are printed, each line after the value of `indentprefix`.
@@ -77,7 +81,7 @@ pub struct Row {
 
 // The escapes, in the order of their letters.
 #[rattlefmt::skip]
-static ESCAPES: [Row; 25] = [
+static ESCAPES: [Row; 27] = [
     Row { letter: b'!', escape: Escape::Shell },
     Row { letter: b'.', escape: Escape::End },
     Row { letter: b':', escape: Escape::Command },
@@ -91,6 +95,7 @@ static ESCAPES: [Row; 25] = [
     Row { letter: b'b', escape: Escape::Add(Names::Bcc) },
     Row { letter: b'c', escape: Escape::Add(Names::Cc) },
     Row { letter: b'd', escape: Escape::Dead },
+    Row { letter: b'e', escape: Escape::Edit },
     Row { letter: b'f', escape: Escape::Forward(How::Kept) },
     Row { letter: b'h', escape: Escape::Header },
     Row { letter: b'i', escape: Escape::Value },
@@ -100,6 +105,7 @@ static ESCAPES: [Row; 25] = [
     Row { letter: b'r', escape: Escape::Read },
     Row { letter: b's', escape: Escape::Subject },
     Row { letter: b't', escape: Escape::Add(Names::To) },
+    Row { letter: b'v', escape: Escape::Visual },
     Row { letter: b'w', escape: Escape::Write },
     Row { letter: b'x', escape: Escape::Exit },
     Row { letter: b'|', escape: Escape::Pipe },

@@ -31,6 +31,8 @@ pub enum Wait {
     Taken,
     /// A command's output, which replaces the body.
     Filtered,
+    /// A text that an editor left, which replaces the body.
+    Edited,
     /// That something is carried out.
     Carried,
 }

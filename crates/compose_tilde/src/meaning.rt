@@ -52,6 +52,17 @@ fn pipe(alloc: Global, machine: &mut Machine, command: Text) -> Result<Need, Com
     run(machine, Wait::Filtered, command, input)
 }
 
+// The body is edited by a command.
+fn edit(alloc: Global, machine: &mut Machine, command: &[u8]) -> Result<Need, ComposeError>
+    ensures means { Means result machine.new
+        (asks machine.old Wait.Edited (Need.Edit command.now machine.old.draft.body)) }
+    ensures stays { OnErr result (machine.new ≡ machine.old) }
+{
+    let command = Text::copy(alloc, command)?;
+    let text = Text::copy(alloc, machine.draft.body.bytes())?;
+    asks(machine, Wait::Edited, Need::Edit { command, text })
+}
+
 // The body is put at the end of a file.
 fn write(alloc: Global, machine: &mut Machine, name: Text) -> Result<Need, ComposeError>
     ensures means { Means result machine.new
@@ -249,6 +260,8 @@ pub(crate) fn meaning(
         Escape::Subject => subject(alloc, machine, whole.bytes()),
         Escape::Header => header(alloc, machine),
         Escape::Dead => asks(machine, Wait::File, Need::Dead),
+        Escape::Edit => edit(alloc, machine, view.places.editor.bytes()),
+        Escape::Visual => edit(alloc, machine, view.places.visual.bytes()),
         Escape::Read => source(alloc, machine, whole),
         Escape::Forward(how) => forward(alloc, machine, words.items(), how, view),
         Escape::Quote(how) => quote(alloc, machine, words.items(), how, view),

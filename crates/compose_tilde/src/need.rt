@@ -1,4 +1,4 @@
-use host_port::ChildAnswer;
+use host_port::{ChildAnswer, EditAnswer};
 use mail_text::{Memory, Text};
 use message_list::ListError;
 use thiserror::Error;
@@ -16,6 +16,8 @@ pub enum Need {
     Dead,
     /// The command is run with this input. `Answer::Ran` answers it.
     Child { command: Text, input: Text },
+    /// The text is edited by this command. `Answer::Edited` answers it.
+    Edit { command: Text, text: Text },
     /// The command of a session is carried out. `Answer::Carried` answers it.
     Command(Text),
     /// The bytes are put at the end of the file of this name, as it is written. `Answer::Carried` answers it.
@@ -35,6 +37,8 @@ pub enum Answer {
     Loaded(Text),
     /// What a command answered that was run.
     Ran(ChildAnswer),
+    /// What an editor answered.
+    Edited(EditAnswer),
     /// It was carried out.
     Carried,
 }
@@ -51,7 +55,7 @@ pub enum ComposeError {
     /// A command of a session, in send mode.
     #[error("not while sending")]
     NotSending,
-    /// The output that the draft was to take was cut.
+    /// What the draft was to take of a command or of an editor was cut.
     #[error("too much output")]
     TooMuch,
     /// The words select no messages.

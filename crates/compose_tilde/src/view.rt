@@ -1,4 +1,4 @@
-use mailx_vars::Vars;
+use mailx_vars::{Places, Vars};
 use mbox_scan::Folder;
 use message_show::FieldSets;
 use message_state::Shown;
@@ -10,6 +10,8 @@ use rc_conditionals::Mode;
 pub struct ComposeView<'a> {
     /// The variables.
     pub vars: &'a Vars,
+    /// The files and programs that the environment names, its editors among them.
+    pub places: &'a Places,
     /// The messages as they are shown.
     pub shown: &'a Shown,
     /// The open folder, if one is open.
