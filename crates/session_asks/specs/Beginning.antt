@@ -21,6 +21,7 @@ use Rattle.session_state.specs.Saving.{name_fault}
 abbrev pub view_as : Desk → View
 view_as desk = record {
   vars = desk.vars;
+  places = desk.places;
   shown = desk.shown;
   folder = Some desk.folder.folder;
   sets = desk.sets;

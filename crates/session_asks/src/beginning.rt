@@ -27,6 +27,7 @@ pub fn view_as(desk: &Desk) -> ComposeView<'_>
 {
     ComposeView {
         vars: &desk.vars,
+        places: &desk.places,
         shown: &desk.shown,
         folder: Some(&desk.folder.folder),
         sets: &desk.sets,
