@@ -9,6 +9,7 @@ use Rattle.std.specs.declared.option.Option.TheVariants.{Some, None}
 use Rattle.std.specs.declared.result.Result.{Result}
 use Rattle.std.specs.declared.result.Result.TheVariants.{Ok, Err}
 use Rattle.host_port.specs.declared.event.ChildAnswer.{ChildAnswer}
+use Rattle.host_port.specs.declared.event.EditAnswer.{EditAnswer}
 use Rattle.mail_dates.specs.declared.moment.Moment.{Moment}
 use Rattle.folder_change.specs.declared.change.Change.{Change}
 use Rattle.folder_change.specs.Changes.{name_of}
@@ -74,7 +75,7 @@ use Rattle.session_asks.specs.Sourcing.{source_fault, after_load, sourced}
 use Rattle.session_asks.specs.Renewing.{folder_fault, loaded_again, taking, renews}
 use Rattle.session_asks.specs.Switching.{open_fault, loaded_folder, switched, announced, switched_to, switches}
 use Rattle.draft_sending.specs.Sending.{letter_of, text_of, unsent_by, refused_by, unrecorded, saved_one, buried, burying, lost, unsent, after_sender, sending, after_record, recording, posting, addressing, ended, ended_draft, quitted}
-use Rattle.mailx_session.specs.Drafting.{released, told, took_answer, given, after_fetch, fetched, after_child, written, put, needed, took_line, drafted, draft_play}
+use Rattle.mailx_session.specs.Drafting.{released, told, took_answer, given, after_fetch, fetched, after_child, after_edit, written, put, needed, took_line, drafted, draft_play}
 use Rattle.mailx_session.specs.Leaving.{left_by, leaving}
 use Rattle.mailx_session.specs.Rounds.{line_play, command_play, typed_play, dropped_play, counted_play, is_empty, outside_play, is_uncounted, waiting_play}
 use Rattle.mailx_session.specs.Sessions.{carried_out}
@@ -360,6 +361,7 @@ module _ (actor : List ℕ) (token : ℕ) (o : Outcome) where
   told-obeys s (need.Load word) of = of
   told-obeys s need.Dead of = of
   told-obeys s (need.Child command input) of = of
+  told-obeys s (need.Edit command text) of = of
   told-obeys s (need.Command line) of = of
   told-obeys s (need.Put word bytes) of = of
   told-obeys s need.Done of = of
@@ -391,6 +393,10 @@ module _ (actor : List ℕ) (token : ℕ) (o : Outcome) where
   child-obeys : (s : SessionState) (a : Option ChildAnswer) → Is s → Lines (after_child s a)
   child-obeys s None of = (tt, λ u. of)
   child-obeys s (Some a) of = given-obeys s s.draft (answer.Ran a) of
+
+  edit-obeys : (s : SessionState) (a : Option EditAnswer) → Is s → Lines (after_edit s a)
+  edit-obeys s None of = (tt, λ u. of)
+  edit-obeys s (Some a) of = given-obeys s s.draft (answer.Edited a) of
 
   put-obeys : (s : SessionState) (name : OrFault (List ℕ)) (bytes : List ℕ) → Like s → Lines (put s name bytes)
   put-obeys s (Ok name) bytes like = carried-obeys s (Ok (written name bytes)) like
@@ -484,6 +490,7 @@ module _ (actor : List ℕ) (token : ℕ) (o : Outcome) where
   needed-obeys s (need.Load word) like = fetched-obeys s (expanded s.desk word) (same-came false s like)
   needed-obeys s need.Dead like = fetched-obeys s (Ok s.desk.places.dead) (same-came false s like)
   needed-obeys s (need.Child command input) like = (tt, λ a. child-obeys s a (same-came false s like))
+  needed-obeys s (need.Edit command text) like = (tt, λ a. edit-obeys s a (same-came false s like))
   needed-obeys s (need.Command line) like = carried-obeys s (commanded origin.Draft s.desk line) like
   needed-obeys s (need.Put word bytes) like = put-obeys s (expanded s.desk word) bytes like
   needed-obeys s need.Done like = ended-obeys s (same-came false s like)

@@ -6,6 +6,7 @@ use Rattle.std.specs.declared.option.Option.TheVariants.{Some, None}
 use Rattle.std.specs.declared.result.Result.TheVariants.{Ok, Err}
 use Rattle.mail_text.specs.Lines.{with_feed}
 use Rattle.host_port.specs.declared.event.ChildAnswer.{ChildAnswer}
+use Rattle.host_port.specs.declared.event.EditAnswer.{EditAnswer}
 use Rattle.folder_change.specs.declared.change.Change.TheVariants.{AddRaw}
 use Rattle.mailx_vars.specs.Names.{is_short_name}
 use Rattle.compose_tilde.specs.declared.machine.Machine.{Machine}
@@ -20,7 +21,7 @@ use Rattle.compose_tilde.specs.Lines.{line_step}
 use Rattle.compose_tilde.specs.Answering.{idle, answer_step}
 use Rattle.session_play.specs.declared.act.Found.{Found}
 use Rattle.session_play.specs.declared.act.Found.TheVariants as found
-use Rattle.session_play.specs.Play.{Play, Ret, Ask, Say, Try, Next, Go}
+use Rattle.session_play.specs.Play.{Play, Ret, Ask, Say, Try, Editor, Next, Go}
 use Rattle.session_play.specs.Steps.{refused}
 use Rattle.command_desk.specs.declared.steps.Ask.TheVariants as asks
 use Rattle.command_desk.specs.declared.steps.Steps.{Steps}
@@ -34,10 +35,11 @@ use Rattle.read_commands.specs.declared.origin.Origin.TheVariants as origin
 use Rattle.read_commands.specs.Origins.{commanded}
 use Rattle.session_state.specs.declared.state.SessionState.{SessionState}
 use Rattle.session_state.specs.declared.status.Status.{Status}
-use Rattle.session_state.specs.Placing.{placed}
+use Rattle.session_state.specs.Placing.{edit_file, placed}
 use Rattle.session_state.specs.States.{with_draft, without_draft}
 use Rattle.mailx_session.specs.Sessions.{carried_out}
 use Rattle.session_asks.specs.Running.{by_shell, not_run}
+use Rattle.session_asks.specs.Editing.{not_edited}
 use Rattle.session_asks.specs.Beginning.{view_in}
 use Rattle.draft_sending.specs.Sending.{ended_draft, quit_draft}
 
@@ -103,6 +105,15 @@ after_child s (Some a) = answered s (answer.Ran a)
 abbrev pub run_for : SessionState → List ℕ → List ℕ → Play (Next SessionState Status)
 run_for s command input = Ask (by_shell s.desk command input) (after_child s)
 
+-- what follows an editor that was run for the draft
+abbrev pub after_edit : SessionState → Option EditAnswer → Play (Next SessionState Status)
+after_edit s None = refused s not_edited
+after_edit s (Some a) = answered s (answer.Edited a)
+
+-- a text is edited for the draft by this command, which the shell of the places runs
+abbrev pub edit_for : SessionState → List ℕ → List ℕ → Play (Next SessionState Status)
+edit_for s command text = Ask (Editor (edit_file s.actor s.token) s.desk.places.shell command text) (after_edit s)
+
 -- bytes are put at the end of a file by a commit, and then the reply is printed
 abbrev pub written : List ℕ → List ℕ → Steps
 written name bytes = record {
@@ -126,6 +137,7 @@ needed s (need.Say bytes) = Ask (Say bytes) (λ _. Ret (Go s))
 needed s (need.Load word) = fetched s (expanded s.desk word)
 needed s need.Dead = fetched s (Ok s.desk.places.dead)
 needed s (need.Child command input) = run_for s command input
+needed s (need.Edit command text) = edit_for s command text
 needed s (need.Command line) = commanded_within s line
 needed s (need.Put word bytes) = put s (expanded s.desk word) bytes
 needed s need.Done = ended_draft s

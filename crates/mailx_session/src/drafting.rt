@@ -2,14 +2,14 @@
 ghost use Rattle.std.specs.Prelude.{◌≡◌, ◌++◌, List, ℕ, true, Ok, IfOk};
 ghost use Rattle.mail_text.specs.Lines.{with_feed};
 ghost use Rattle.host_port.specs.Ran.{Ran};
-ghost use Rattle.session_play.specs.Play.{Play, Ask, Try, Go, Next, Goes};
+ghost use Rattle.session_play.specs.Play.{Play, Ask, Editor, Try, Go, Next, Goes};
 ghost use Rattle.mailx_vars.specs.Names.{is_short_name};
 ghost use Rattle.command_desk.specs.Desks.{IsDesk};
 ghost use Rattle.command_desk.specs.FileNames.{expanded};
 ghost use Rattle.session_state.specs.declared.state.SessionState.{SessionState};
 ghost use Rattle.session_state.specs.declared.status.Status.{Status};
 ghost use Rattle.session_asks.specs.Beginning.{view_as};
-ghost use Rattle.mailx_session.specs.Drafting.{answered, after_child, after_fetch, commanded_within, draft_play, fetched, fetched_named, needed, put, released, run_for, tilde, told, written};
+ghost use Rattle.mailx_session.specs.Drafting.{answered, after_child, after_edit, after_fetch, edit_for, commanded_within, draft_play, fetched, fetched_named, needed, put, released, run_for, tilde, told, written};
 ghost use Rattle.mailx_session.specs.Taking.{AwaitsAll, IsAwaited, IsEscapeFault, RefusesLine, SaysFault, TookAnswer, TookLine};
 ghost use Rattle.session_state.specs.Placing.{placed};
 ghost use Rattle.session_state.specs.States.{IsState};
@@ -23,13 +23,13 @@ use compose_tilde::{Answer, Compose, ComposeError, Need};
 use draft_sending::{end_draft, quit_draft};
 use folder_change::Change;
 use folder_commands::receipt;
-use host_port::{ChildAnswer, Host};
+use host_port::{ChildAnswer, EditAnswer, Host};
 use mail_text::{Items, Memory, Text};
 use mailx_vars::is_short_name;
 use read_commands::{Ask as Wanted, Desk, Origin, Refusal, Steps};
 use session_asks::{by_shell, view_as};
-use session_play::{Found, try_load};
-use session_state::{Flow, RunError, SessionState, go_on, placed, say_text};
+use session_play::{Found, run_editor, try_load};
+use session_state::{Flow, RunError, SessionState, edit_file, go_on, placed, say_text};
 use std::alloc::Global;
 
 // An escape as its faults name it, and what is wrong with it, as a line.
@@ -85,6 +85,7 @@ fn tell<H: Host>(state: &SessionState, host: &mut H, need: &Need) -> Result<(), 
         | Need::Load(_)
         | Need::Dead
         | Need::Child { .. }
+        | Need::Edit { .. }
         | Need::Command(_)
         | Need::Put { .. }
         | Need::Done
@@ -304,6 +305,69 @@ fn run_for<H: Host>(
     }
 }
 
+// What follows an editor that was run for the draft.
+fn after_edit<H: Host>(
+    alloc: Global,
+    state: &mut SessionState,
+    host: &mut H,
+    answer: Option<EditAnswer>,
+) -> Result<(), RunError>
+    requires state { IsState state.old }
+    requires awaited { (a : EditAnswer) → IsAwaited state.old.draft (Answer.Edited a) }
+    ensures ran { Ran H.world host.old host.new
+        (λ es. Goes (after_edit state.old answer) es (in_play (λ u. Go state.new) result)) }
+    ensures state { IsState state.new }
+    ensures cause { LineCaused (H.world.counts host.old) (H.world.counts host.new) result }
+{
+    match answer {
+        Some(answer) => give(alloc, state, host, Answer::Edited(answer)),
+        None => say_fault(alloc, state, host, b"", b"editor could not be run"),
+    }
+}
+
+// Runs an editor on a text for the draft, in a file of this name.
+fn edit_in<H: Host>(
+    alloc: Global,
+    state: &mut SessionState,
+    host: &mut H,
+    name: &[u8],
+    command: &[u8],
+    text: &[u8],
+) -> Result<(), RunError>
+    requires state { IsState state.old }
+    requires awaited { (a : EditAnswer) → IsAwaited state.old.draft (Answer.Edited a) }
+    ensures ran { let s = state.old in Ran H.world host.old host.new
+        (λ es. Goes (Ask (Editor name.now s.desk.places.shell command.now text.now) (after_edit s)) es
+        (in_play (λ u. Go state.new) result)) }
+    ensures state { IsState state.new }
+    ensures cause { LineCaused (H.world.counts host.old) (H.world.counts host.new) result }
+{
+    let shell = state.desk.places.shell.bytes();
+    match run_editor(alloc, host, name, shell, command, text) {
+        Ok(answer) => after_edit(alloc, state, host, answer),
+        Err(_) => Err(RunError::Memory),
+    }
+}
+
+// Runs an editor on a text for the draft.
+fn edit_for<H: Host>(
+    alloc: Global,
+    state: &mut SessionState,
+    host: &mut H,
+    command: &[u8],
+    text: &[u8],
+) -> Result<(), RunError>
+    requires state { IsState state.old }
+    requires awaited { (a : EditAnswer) → IsAwaited state.old.draft (Answer.Edited a) }
+    ensures ran { Ran H.world host.old host.new
+        (λ es. Goes (edit_for state.old command.now text.now) es (in_play (λ u. Go state.new) result)) }
+    ensures state { IsState state.new }
+    ensures cause { LineCaused (H.world.counts host.old) (H.world.counts host.new) result }
+{
+    let name = edit_file(alloc, state.actor.bytes(), state.token)?;
+    edit_in(alloc, state, host, name.bytes(), command, text)
+}
+
 // Bytes are put at the end of a file by a commit, and then the reply is printed.
 fn written(alloc: Global, name: Text, bytes: Text) -> Result<Steps, Memory>
     ensures { IfOk result (λ steps. steps ≡ written name bytes) }
@@ -401,6 +465,9 @@ fn meet<H: Host>(
         Need::Dead => go_on(fetch_dead(alloc, state, host)),
         Need::Child { command, input } => {
             go_on(run_for(alloc, state, host, command, input.bytes()))
+        }
+        Need::Edit { command, text } => {
+            go_on(edit_for(alloc, state, host, command.bytes(), text.bytes()))
         }
         Need::Command(line) => command_within(alloc, state, host, line.bytes()),
         Need::Put { name, bytes } => put(alloc, state, host, name.bytes(), bytes),

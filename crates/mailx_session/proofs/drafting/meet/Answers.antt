@@ -13,6 +13,9 @@ returns-in-Dead-clause-ran g c = rw (c.in-Dead.is, c.go_on-in-Dead.ensures.means
 pub returns-in-Child-clause-ran : goal.returns-in-Child-clause-ran
 returns-in-Child-clause-ran g c = rw (c.go_on-in-Child.ensures.means c.run_for.new.state) (search rules)
 
+pub returns-in-Edit-clause-ran : goal.returns-in-Edit-clause-ran
+returns-in-Edit-clause-ran g c = rw (c.in-Edit.is, c.go_on-in-Edit.ensures.means c.edit_for.new.state) (rw (c.bytes-in-Edit.ensures, c.bytes-in-Edit-2.ensures) at c.edit_for.ensures.ran)
+
 pub returns-in-Put-clause-ran : goal.returns-in-Put-clause-ran
 returns-in-Put-clause-ran g c = rw c.in-Put.is (rw c.bytes-in-Put.ensures at c.put.ensures.ran)
 
@@ -27,3 +30,6 @@ returns-in-Dead-clause-cause g c = c.go_on-in-Dead.ensures.cause (g.H.Host.world
 
 pub returns-in-Child-clause-cause : goal.returns-in-Child-clause-cause
 returns-in-Child-clause-cause g c = c.go_on-in-Child.ensures.cause (g.H.Host.world.counts c.args.host.now) (g.H.Host.world.counts c.run_for.new.host) c.run_for.ensures.cause
+
+pub returns-in-Edit-clause-cause : goal.returns-in-Edit-clause-cause
+returns-in-Edit-clause-cause g c = c.go_on-in-Edit.ensures.cause (g.H.Host.world.counts c.args.host.now) (g.H.Host.world.counts c.edit_for.new.host) c.edit_for.ensures.cause
