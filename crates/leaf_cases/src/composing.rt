@@ -1,8 +1,9 @@
 // Cases of drafts that are written line by line, each from an empty draft, with the variables and the messages that are
 // kept, of which the field `subject` is left out. The kind is `receive`, `send` or `terminal`. Then come the current
 // message and the steps, by their first byte: `=` and a line, `<` and the bytes of a file, `!` and what a command
-// answered, its status, a space and its output, `?` and the same of an output that was cut, `,` for what was carried
-// out, `-` for a refusal, `*` for whether the next line is the subject, and `@` for the draft.
+// answered, its status, a space and its output, `?` and the same of an output that was cut, `%` and `~` the same of an
+// editor and its text, `,` for what was carried out, `-` for a refusal, `*` for whether the next line is the subject,
+// and `@` for the draft.
 ghost use Rattle.std.specs.Prelude.{◌≡◌, true};
 ghost use Rattle.message_state.specs.ShownRows.{IsShown};
 ghost use Rattle.draft_text.specs.DraftLaws.{HasFlatParts};
@@ -13,9 +14,9 @@ use crate::view::shown_of;
 use case_blocks::Answer as Out;
 use compose_tilde::{Answer, Compose, ComposeError, ComposeView, Need};
 use draft_text::Draft;
-use host_port::ChildAnswer;
+use host_port::{ChildAnswer, EditAnswer};
 use mail_text::{Items, Memory, Text};
-use mailx_vars::Vars;
+use mailx_vars::{Places, Vars};
 use mbox_scan::Folder;
 use memchr::memchr;
 use message_show::FieldSets;
@@ -56,7 +57,39 @@ fn put_of(vars: &Vars, shown: &Shown, messages: &[Text], case: &[Text], out: &mu
     }
 }
 
+// The places of an environment without editors.
+fn places(out: &mut Out) -> Option<Places> {
+    let mut pairs = Items::new(out.alloc());
+    let home = (out.copied(b"HOME"), out.copied(b"/h"));
+    out.note(pairs.push(home));
+    let user = (out.copied(b"LOGNAME"), out.copied(b"u"));
+    out.note(pairs.push(user));
+    match Places::read(out.alloc(), pairs.items()) {
+        Ok(places) => places,
+        Err(Memory) => {
+            out.lack();
+            None
+        }
+    }
+}
+
 fn put_with(vars: &Vars, shown: &Shown, folder: &Folder, case: &[Text], out: &mut Out)
+    requires { IsShown shown.now }
+{
+    match places(out) {
+        Some(places) => put_in(vars, &places, shown, folder, case, out),
+        None => out.put_bad(),
+    }
+}
+
+fn put_in(
+    vars: &Vars,
+    places: &Places,
+    shown: &Shown,
+    folder: &Folder,
+    case: &[Text],
+    out: &mut Out,
+)
     requires { IsShown shown.now }
 {
     let mut sets = FieldSets::new(out.alloc());
@@ -65,6 +98,7 @@ fn put_with(vars: &Vars, shown: &Shown, folder: &Folder, case: &[Text], out: &mu
     let count = folder.count();
     let view = ComposeView {
         vars,
+        places,
         shown,
         folder: if count == 0 { None } else { Some(folder) },
         sets: &sets,
@@ -130,6 +164,8 @@ fn put_step(compose: &mut Compose, view: &ComposeView<'_>, step: &[u8], out: &mu
         }
         [b'!', answer @ ..] => put_child(compose, view, answer, false, out),
         [b'?', answer @ ..] => put_child(compose, view, answer, true, out),
+        [b'%', answer @ ..] => put_edit(compose, view, answer, false, out),
+        [b'~', answer @ ..] => put_edit(compose, view, answer, true, out),
         [b',', ..] => put_answer(compose, view, Answer::Carried, out),
         [b'-', ..] => compose.refuse(),
         [b'*', ..] => out.put_flag(compose.asks_subject(view)),
@@ -156,6 +192,33 @@ fn put_answer(compose: &mut Compose, view: &ComposeView<'_>, answer: Answer, out
     put_need(need, out);
 }
 
+// The number in front of a blank, and what follows it.
+fn status_and_rest(answer: &[u8]) -> (i32, &[u8]) {
+    let (status, rest) = match memchr(b' ', answer) {
+        Some(at) => (&answer[..at], &answer[at + 1..]),
+        None => (answer, b"".as_slice()),
+    };
+    let status = str::from_utf8(status).unwrap_or("").parse().unwrap_or(0);
+    (status, rest)
+}
+
+// The status and the text that an editor answers.
+fn put_edit(
+    compose: &mut Compose,
+    view: &ComposeView<'_>,
+    answer: &[u8],
+    cut: bool,
+    out: &mut Out,
+) {
+    let (status, left) = status_and_rest(answer);
+    let edit = EditAnswer {
+        status,
+        text: out.copied(left),
+        cut,
+    };
+    put_answer(compose, view, Answer::Edited(edit), out);
+}
+
 // The status and the output that a command answers.
 fn put_child(
     compose: &mut Compose,
@@ -164,12 +227,9 @@ fn put_child(
     cut: bool,
     out: &mut Out,
 ) {
-    let (status, output) = match memchr(b' ', answer) {
-        Some(at) => (&answer[..at], &answer[at + 1..]),
-        None => (answer, b"".as_slice()),
-    };
+    let (status, output) = status_and_rest(answer);
     let child = ChildAnswer {
-        status: str::from_utf8(status).unwrap_or("").parse().unwrap_or(0),
+        status,
         output: out.copied(output),
         cut,
     };
@@ -185,6 +245,10 @@ fn put_need(need: Result<Need, ComposeError>, out: &mut Out) {
         Ok(Need::Child { command, input }) => {
             put_named(b"Child", &command, out);
             out.put_in_angles(input.bytes());
+        }
+        Ok(Need::Edit { command, text }) => {
+            put_named(b"Edit", &command, out);
+            out.put_in_angles(text.bytes());
         }
         Ok(Need::Command(line)) => put_named(b"Command", &line, out),
         Ok(Need::Put { name, bytes }) => {

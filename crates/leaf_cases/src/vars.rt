@@ -149,6 +149,8 @@ fn put_each_place(places: &Places, out: &mut Answer) {
         &places.dead,
         &places.lister,
         &places.shell,
+        &places.editor,
+        &places.visual,
         &places.tz,
     ] {
         out.put(place.bytes());
