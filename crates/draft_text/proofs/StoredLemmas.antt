@@ -51,7 +51,7 @@ space-apart : HasNoFeed (codes " ")
 unfolding lines_of
 space-apart = apart-one (codes " ") refl
 
-opening-apart : (user : List ℕ) (m : Moment) → IsPrintable m → HasNoFeed user → HasNoFeed (opening_line user m)
+pub opening-apart : (user : List ℕ) (m : Moment) → IsPrintable m → HasNoFeed user → HasNoFeed (opening_line user m)
 opening-apart user m range flat =
     All-append (λ b. b ≢ 10) from_mark ((user ++ codes " ") ++ from_date_text m) mark-apart
     (All-append (λ b. b ≢ 10) (user ++ codes " ") (from_date_text m)
@@ -96,7 +96,7 @@ line-quiet l flat =
     subst IsQuiet (sym is) (record { apart = flat; other = other }))
     (cases_Bool (starts_with nat_eq l from_mark))
 
-quoted-quiet : (ls : List (List ℕ)) → AllByRecursion HasNoFeed ls → AllByRecursion IsQuiet (map quoted_line ls)
+pub quoted-quiet : (ls : List (List ℕ)) → AllByRecursion HasNoFeed ls → AllByRecursion IsQuiet (map quoted_line ls)
 quoted-quiet [] all = tt
 quoted-quiet (l ∷ ls) all = (line-quiet l all.0, quoted-quiet ls all.1)
 
@@ -120,7 +120,7 @@ whole-quiet draft user m range flat apart k there =
     (quiet-both header ([] ∷ body) (fields-quiet fs (draft-alone draft m range flat)) (empty, quoted-quiet (lines_of draft.body) (lines_of-apart draft.body)))
     k (subst (λ (x : List ℕ). OccursAt x break_mark k) (sym lines) there)
 
-trimmed-quiet : (b : List ℕ) → ((k : ℕ) → OccursAt b break_mark k → ⊥) → (k : ℕ) → OccursAt (trimmed b) break_mark k → ⊥
+pub trimmed-quiet : (b : List ℕ) → ((k : ℕ) → OccursAt b break_mark k → ⊥) → (k : ℕ) → OccursAt (trimmed b) break_mark k → ⊥
 trimmed-quiet b none k there =
     let n = trimmed_len b in
     none k

@@ -1,11 +1,11 @@
 -- The text of a delivery is proper.
 use Rattle.std.proofs.Common.{◌≡◌, ◌≢◌, ◌≤◌, ℕ, ℤ, pos, if◌then◌else◌, true, false, List, [], ◌∷◌, ◌++◌, take, drop, map, length, codes, refl, sym, ap, subst, arith, ⊎_elim, take-append-drop}
-use Rattle.std.specs.Prelude.{nat_eq, ◌≤ℤ◌, int_lt}
+use Rattle.std.specs.Prelude.{◌≤ℤ◌, int_lt}
 use Rattle.std.proofs.lemmas.Int.{ints}
-use Rattle.std.specs.List.{starts_with, list_all, AllByRecursion, All}
-use Rattle.std.proofs.lemmas.Bool.{cond-true, cond-false, cases_Bool, cases_lt, eqb-false, and_parts}
+use Rattle.std.specs.List.{list_all, AllByRecursion, All}
+use Rattle.std.proofs.lemmas.Bool.{cases_lt, and_parts}
 use Rattle.std.proofs.lemmas.List.{length-take-le}
-use Rattle.std.proofs.lemmas.List.Elements.{All-append, All-cons, All-nil, recursion_from_All}
+use Rattle.std.proofs.lemmas.List.Elements.{All-cons, All-nil, recursion_from_All}
 use Rattle.std.proofs.lemmas.List.Folds.{flat_map-map}
 use Rattle.memchr.specs.Find.{OccursAt}
 use Rattle.mail_text.specs.Lines.{with_feed, HasNoFeed, lines_of}
@@ -17,33 +17,15 @@ use Rattle.mail_dates.specs.declared.moment.Moment.{Moment}
 use Rattle.mail_dates.specs.Clock.{IsPrintable}
 use Rattle.mail_dates.specs.Printed.{from_date_text}
 use Rattle.mail_dates.specs.Zones.{within_years}
-use Rattle.mail_dates.proofs.PlainText.{from_date_is_plain}
 use Rattle.mbox_scan.specs.Mailbox.{from_mark, break_mark, trimmed, IsProper}
 use Rattle.mbox_scan.proofs.StartLemmas.{starts_with-OccursAt, OccursAt-starts_with, OccursAt-left, OccursAt-left_back, starts-single}
 use Rattle.mbox_scan.proofs.TextLemmas.{trimmed_len, trimmed_at, trimmed-take, trimmed-trimmed}
 use Rattle.mailx_vars.specs.Names.{is_graphic, is_user_name}
 use Rattle.session_play.specs.Moments.{IsMomentAt}
 use Rattle.draft_text.specs.Texts.{quoted_line}
-use Rattle.draft_text.proofs.BreakLemmas.{IsQuiet, no-break}
-use Rattle.draft_text.proofs.FieldLemmas.{plain-apart}
+use Rattle.draft_text.proofs.BreakLemmas.{no-break}
+use Rattle.draft_text.proofs.StoredLemmas.{opening-apart, quoted-quiet, trimmed-quiet}
 use Rattle.mail_delivery.specs.Delivered.{quoted_lines, delivered}
-
--- ---- a body of quoted lines begins no message
-line-quiet : (l : List ℕ) → HasNoFeed l → IsQuiet (quoted_line l)
-line-quiet l flat =
-    let mark : 62 ≢ 10 = eqb-false 62 10 refl in
-    ⊎_elim
-    (λ from.
-    let is : quoted_line l ≡ 62 ∷ l = ap (λ (q : List ℕ). q ++ l) (cond-true _ _ _ from) in
-    subst IsQuiet (sym is) (record { apart = All-cons (λ b. b ≢ 10) 62 l mark flat; other = refl }))
-    (λ other.
-    let is : quoted_line l ≡ l = ap (λ (q : List ℕ). q ++ l) (cond-false _ _ _ other) in
-    subst IsQuiet (sym is) (record { apart = flat; other = other }))
-    (cases_Bool (starts_with nat_eq l from_mark))
-
-quoted-quiet : (ls : List (List ℕ)) → AllByRecursion HasNoFeed ls → AllByRecursion IsQuiet (map quoted_line ls)
-quoted-quiet [] all = tt
-quoted-quiet (l ∷ ls) all = (line-quiet l all.0, quoted-quiet ls all.1)
 
 -- ---- a text that begins with `From ` does so without the line feeds at its end
 begins-trimmed : (t : List ℕ) → OccursAt t from_mark 0 → OccursAt (trimmed t) from_mark 0
@@ -58,13 +40,6 @@ begins-trimmed t there =
     subst (λ (x : List ℕ). OccursAt x from_mark 0) (sym (trimmed-take t))
     (OccursAt-left_back (take (trimmed_len t) t) (drop (trimmed_len t) t) from_mark 0 (omega arith)
     (subst (λ (x : List ℕ). OccursAt x from_mark 0) (sym (take-append-drop (trimmed_len t) t)) there))
-
-trimmed-quiet : (b : List ℕ) → ((k : ℕ) → OccursAt b break_mark k → ⊥) → (k : ℕ) → OccursAt (trimmed b) break_mark k → ⊥
-trimmed-quiet b none k there =
-    let n = trimmed_len b in
-    none k
-    (subst (λ (x : List ℕ). OccursAt x break_mark k) (take-append-drop n b)
-    (OccursAt-left (take n b) (drop n b) break_mark k (subst (λ (x : List ℕ). OccursAt x break_mark k) (trimmed-take b) there)))
 
 -- ---- a line that begins with `From `, and quoted ones after it
 module _ (o : List ℕ) (ls : List (List ℕ)) (apart : HasNoFeed (from_mark ++ o)) (flat : AllByRecursion HasNoFeed ls) where
@@ -96,30 +71,11 @@ graphic-apart : (s : List ℕ) → list_all is_graphic s ≡ true → HasNoFeed 
 graphic-apart [] h = All-nil (λ (b : ℕ). b ≢ 10)
 graphic-apart (b ∷ s) h = let p = and_parts _ _ h in All-cons (λ (b : ℕ). b ≢ 10) b s (graphic-other b p.0) (graphic-apart s p.1)
 
-line-apart : (sender date : List ℕ) → HasNoFeed sender → HasNoFeed date → HasNoFeed (from_mark ++ (sender ++ codes " " ++ date))
-line-apart sender date first second =
-    let space : HasNoFeed (codes " ") = graphic-space in
-    All-append (λ b. b ≢ 10) from_mark ((sender ++ codes " ") ++ date) mark
-    (All-append (λ b. b ≢ 10) (sender ++ codes " ") date (All-append (λ b. b ≢ 10) sender (codes " ") first space) second)
-  where
-    one : (b : ℕ) → nat_eq b 10 ≡ false → b ≢ 10
-    one b h = eqb-false b 10 h
-
-    graphic-space : HasNoFeed (codes " ")
-    graphic-space = All-cons (λ (b : ℕ). b ≢ 10) 32 [] (one 32 refl) (All-nil (λ (b : ℕ). b ≢ 10))
-
-    mark : HasNoFeed from_mark
-    mark =
-        All-cons (λ (b : ℕ). b ≢ 10) 70 (114 ∷ 111 ∷ 109 ∷ 32 ∷ []) (one 70 refl)
-        (All-cons (λ (b : ℕ). b ≢ 10) 114 (111 ∷ 109 ∷ 32 ∷ []) (one 114 refl)
-        (All-cons (λ (b : ℕ). b ≢ 10) 111 (109 ∷ 32 ∷ []) (one 111 refl)
-        (All-cons (λ (b : ℕ). b ≢ 10) 109 (32 ∷ []) (one 109 refl) graphic-space)))
-
 -- whose lines hold no line feed, one by one
 lines-proper : (sender : List ℕ) (lines : List (List ℕ)) (m : Moment) → IsPrintable m → is_user_name sender ≡ true → AllByRecursion HasNoFeed lines → IsProper (delivered sender lines m)
 unfolding delivered
 lines-proper sender lines m range named flat =
-    let apart = line-apart sender (from_date_text m) (graphic-apart sender (and_parts _ _ named).1) (plain-apart (from_date_text m) (from_date_is_plain m range).0) in
+    let apart = opening-apart sender m range (graphic-apart sender (and_parts _ _ named).1) in
     whole-proper (sender ++ codes " " ++ from_date_text m) lines apart flat
 
 pub delivered-proper : (sender : List ℕ) (lines : List (List ℕ)) (m : Moment) → IsPrintable m → is_user_name sender ≡ true → All HasNoFeed lines → IsProper (delivered sender lines m)
