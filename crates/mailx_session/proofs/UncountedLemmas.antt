@@ -23,7 +23,7 @@ use Rattle.setting_commands.specs.Conditions.{turns_or_fault, opening, turning_a
 use Rattle.read_commands.specs.declared.origin.Origin.{Origin}
 use Rattle.read_commands.specs.Commands.{name_of, takes_no_words, meaning, meaning_of, read_or_fault}
 use Rattle.read_commands.specs.Origins.{line_of_origin, allowed, read_from, is_condition, turns_lines, is_defining, commanded, commanded_outside}
-use Rattle.session_state.specs.Bringing.{brings_lines}
+use Rattle.session_asks.specs.Asks.{brings_lines}
 use Rattle.session_asks.proofs.SourcingLemmas.{defining_brings_none}
 use Rattle.mailx_session.specs.Rounds.{is_uncounted}
 

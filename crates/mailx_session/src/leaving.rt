@@ -10,7 +10,7 @@ ghost use Rattle.session_state.specs.States.{IsState, IsSession, is_drafting};
 ghost use Rattle.session_state.specs.Statuses.{IsLineEnd};
 ghost use Rattle.session_asks.specs.Asks.{asked};
 ghost use Rattle.session_state.specs.Answers.{after_asks, in_play, LineCaused, EndsByAsk};
-ghost use Rattle.session_state.specs.Bringing.{brings};
+ghost use Rattle.session_asks.specs.Asks.{brings};
 ghost use Rattle.mailx_session.specs.Leaving.{left_by, leaving, InputEnds};
 
 use crate::finishing::finish;

@@ -16,7 +16,7 @@ ghost use Rattle.mailx_session.specs.Startup.{StartupGoes};
 ghost use Rattle.mailx_session.specs.Taking.{RefusesLine};
 ghost use Rattle.session_state.specs.Statuses.{IsLineEnd};
 ghost use Rattle.session_play.specs.Play.{Play, Go, Goes, Last};
-ghost use Rattle.session_state.specs.Bringing.{brings_lines};
+ghost use Rattle.session_asks.specs.Asks.{brings_lines};
 ghost use Rattle.session_state.specs.Answers.{next_of, in_play, LineCaused, EndsByLine};
 ghost use Rattle.mailx_session.specs.Sessions.{StaysAtEnd};
 ghost use Rattle.session_asks.specs.Openings.{first_state, greeting, Opens};

@@ -40,11 +40,11 @@ use Rattle.session_state.specs.Waits.{Pending}
 use Rattle.session_state.specs.Pending.{frame_of, lines_left}
 use Rattle.session_state.specs.Placing.{placed}
 use Rattle.session_state.specs.States.{IsState, with_desk, with_draft, with_file, with_frames, resumed, OnlyFrames, KeepsOthers}
-use Rattle.session_state.specs.Bringing.{is_source, is_call, sources, calls, source_limit, origin_at, with_lines, brings, brings_lines, room, weight, AllFrom, HasPlace, OnlyBrings}
+use Rattle.session_state.specs.Bringing.{is_source, is_call, sources, calls, source_limit, origin_at, with_lines, room, weight, AllFrom, HasPlace, OnlyBrings}
 use Rattle.session_state.proofs.OriginLemmas.{origin-added, all-added}
 use Rattle.session_asks.specs.Sourcing.{source_fault}
 use Rattle.session_state.specs.Answers.{after_asks, in_play, stop_of, LineCaused, EndsByAsk, EndsNoRun, IsNoDiskFault, AsksGoOn}
-use Rattle.session_asks.specs.Asks.{is_on, StaysUnlessOn, KeepsDesk}
+use Rattle.session_asks.specs.Asks.{brings, brings_lines, is_on, StaysUnlessOn, KeepsDesk}
 use Rattle.command_desk.specs.declared.desk.Desk.{Desk}
 
 pub le-refl : (n : ℕ) → n ≤ n

@@ -1,11 +1,14 @@
 -- What a command asks for, and what its answer leaves.
 use Rattle.std.specs.Prelude.{◌≡◌, Bool, true, false}
+use Rattle.std.specs.List.{list_any}
 use Rattle.std.specs.declared.result.Result.{Result}
 use Rattle.std.specs.declared.result.Result.TheVariants.{Ok, Err}
 use Rattle.session_play.specs.Play.{Play, Ret, Ask, Say}
 use Rattle.session_play.specs.Steps.{After, On, Ended}
 use Rattle.command_desk.specs.declared.steps.Ask as asked_of
 use Rattle.command_desk.specs.declared.steps.Ask.TheVariants as asks
+use Rattle.command_desk.specs.declared.steps.Steps.{Steps}
+use Rattle.command_desk.specs.Answers.{OrFault}
 use Rattle.command_desk.specs.declared.steps.Refusal.{Refusal}
 use Rattle.command_desk.specs.declared.steps.Refusal.TheVariants as refusal
 use Rattle.session_state.specs.declared.answers.Asked.{Asked}
@@ -41,6 +44,22 @@ asked s (asks.Draft draft file current) = beginning s draft file current (file_f
 asked s (asks.Child command input) = run_asked s command input
 asked s (asks.Edit number command) = edits s number command
 asked s asks.Exit = Ret (Ended (status_of s.outcome))
+
+-- the ask brings something into the session: lines from elsewhere, another folder or view, an edited message, or a draft
+abbrev pub brings : asked_of.Ask → Bool
+brings (asks.Source name) = true
+brings (asks.Lines text) = true
+brings (asks.Open name changes reply) = true
+brings asks.Newmail = true
+brings (asks.View kind) = true
+brings (asks.Draft draft file current) = true
+brings (asks.Edit number command) = true
+brings ask = false
+
+-- a command's steps bring lines, a folder or a draft
+abbrev pub brings_lines : OrFault Steps → Bool
+brings_lines (Ok steps) = list_any brings steps.asks
+brings_lines (Err line) = false
 
 -- all was done, and the command isn't over
 abbrev pub all_done : Result Asked RunError → Bool

@@ -7,8 +7,8 @@ ghost use Rattle.session_play.specs.Steps.{in_order};
 ghost use Rattle.read_commands.specs.Origins.{is_startup_ask};
 ghost use Rattle.session_state.specs.declared.state.SessionState.{SessionState};
 ghost use Rattle.session_state.specs.States.{IsState};
-ghost use Rattle.session_state.specs.Bringing.{brings, OnlyBrings};
-ghost use Rattle.session_asks.specs.Asks.{asked, all_done, is_on, StaysUnlessOn, KeepsDesk};
+ghost use Rattle.session_state.specs.Bringing.{OnlyBrings};
+ghost use Rattle.session_asks.specs.Asks.{asked, all_done, brings, is_on, StaysUnlessOn, KeepsDesk};
 ghost use Rattle.session_state.specs.Answers.{after_asks, in_play, LineCaused, EndsByAsk, AsksGoOn};
 
 use crate::beginning::begin_recorded;

@@ -1,13 +1,8 @@
 -- Lines that a command brings, out of a file or of a macro.
 use Rattle.std.specs.Prelude.{◌≡◌, ◌≤◌, ◌<◌, ◌+◌, ◌-◌, ◌*◌, ◌^◌, ℕ, Bool, true, false, List, [], ◌∷◌, ◌++◌, length, slice_get}
-use Rattle.std.specs.List.{count_by, list_any}
+use Rattle.std.specs.List.{count_by}
 use Rattle.std.specs.declared.option.Option.{Option}
 use Rattle.std.specs.declared.option.Option.TheVariants.{Some, None}
-use Rattle.std.specs.declared.result.Result.TheVariants.{Ok, Err}
-use Rattle.command_desk.specs.declared.steps.Ask as asked_of
-use Rattle.command_desk.specs.declared.steps.Ask.TheVariants as asks
-use Rattle.command_desk.specs.declared.steps.Steps.{Steps}
-use Rattle.command_desk.specs.Answers.{OrFault}
 use Rattle.read_commands.specs.declared.origin.Origin.{Origin}
 use Rattle.read_commands.specs.declared.origin.Origin.TheVariants.{Input}
 use Rattle.session_state.specs.declared.kinds.FrameKind.{FrameKind}
@@ -69,22 +64,6 @@ StaysAlike old new = AllFrom (origin_at old) old → AllFrom (origin_at old) new
 -- lines that were brought so are put in front of those that wait; they come from where the command does
 abbrev pub with_lines : FrameKind → SessionState → List ℕ → SessionState
 with_lines kind s text = with_frames s (s.frames ++ frame_of (origin_at s.frames) kind (length s.desk.conditions) text ∷ [])
-
--- the ask brings something into the session: lines from elsewhere, another folder or view, an edited message, or a draft
-abbrev pub brings : asked_of.Ask → Bool
-brings (asks.Source name) = true
-brings (asks.Lines text) = true
-brings (asks.Open name changes reply) = true
-brings asks.Newmail = true
-brings (asks.View kind) = true
-brings (asks.Draft draft file current) = true
-brings (asks.Edit number command) = true
-brings ask = false
-
--- a command's steps bring lines, a folder or a draft
-abbrev pub brings_lines : OrFault Steps → Bool
-brings_lines (Ok steps) = list_any brings steps.asks
-brings_lines (Err line) = false
 
 -- how many lines wait, and how many the files and macros may bring that can still be opened inside of the open ones:
 -- each less than 2 ^ 64

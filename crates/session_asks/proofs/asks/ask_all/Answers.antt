@@ -4,8 +4,7 @@ use Rattle.host_port.proofs.RanLemmas.{Ran-then, Ran-map, Ran-none}
 use Rattle.session_play.specs.Steps.{in_order}
 use Rattle.session_play.proofs.LeadLemmas.{leads-none}
 use Rattle.read_commands.specs.Origins.{is_startup_ask}
-use Rattle.session_state.specs.Bringing.{brings}
-use Rattle.session_asks.specs.Asks.{asked, all_done}
+use Rattle.session_asks.specs.Asks.{asked, all_done, brings}
 use Rattle.session_asks.proofs.SourcingLemmas.{brings_none, brings-then, keeps-then, only-then, quiet-parts, startup-parts}
 use Rattle.session_asks.proofs.AskLemmas.{caused-later, done-on, left-on, left-all, left-off, nothing-left}
 use Rattle.session_asks.proofs.asks.ask_all.Goals as goal

@@ -2,8 +2,9 @@ use Rattle.std.specs.Prelude.{◌≡◌, true, false}
 use Rattle.std.specs.List.{list_all, list_any}
 use Rattle.host_port.specs.Ran.{Ran}
 use Rattle.read_commands.specs.Origins.{is_startup_ask}
-use Rattle.session_state.specs.Bringing.{brings, OnlyBrings}
+use Rattle.session_state.specs.Bringing.{OnlyBrings}
 use Rattle.session_state.specs.States.{IsState, OnlyFrames}
+use Rattle.session_asks.specs.Asks.{brings}
 use Rattle.session_asks.proofs.AskLemmas.{LeftOf}
 use Rattle.session_asks.proofs.asks.ask_all.Given as goal
 
