@@ -10,7 +10,7 @@ use std::alloc::Global;
 
 /// The line feeds that the bytes lack to be empty or end in two.
 #[tactic(auto, unfolding(crate::specs::Outcomes::missing_feeds))]
-fn missing_feeds(bytes: &[u8]) -> &'static [u8]
+pub fn missing_feeds(bytes: &[u8]) -> &'static [u8]
     ensures { result.now ≡ missing_feeds bytes.now }
 {
     if bytes.is_empty() || bytes.ends_with(b"\n\n") {

@@ -7,7 +7,7 @@ ghost use Rattle.command_desk.specs.Faults.{changed_at};
 ghost use Rattle.folder_commands.specs.Making.{made, Makes, listed, openable, openable_file, is_other, made_folder};
 
 use command_desk::{Refusal, fault};
-use folder_change::{Change, ChangeError, change_name, outcome};
+use folder_change::{Change, ChangeError, change_name, missing_feeds, outcome};
 use itoa::Buffer;
 use mail_text::{Memory, Text};
 use mbox_scan::{Folder, ScanError, is_mailbox};
@@ -23,20 +23,6 @@ fn bytes_of(file: &Option<Text>) -> Option<&[u8]>
     match file {
         Some(text) => Some(text.bytes()),
         None => None,
-    }
-}
-
-// The line feeds that the bytes lack to be empty or end in two.
-#[tactic(auto, unfolding(folder_change::specs::Outcomes::missing_feeds))]
-fn missing_feeds(bytes: &[u8]) -> &'static [u8]
-    ensures { result.now ≡ missing_feeds bytes.now }
-{
-    if bytes.is_empty() || bytes.ends_with(b"\n\n") {
-        b""
-    } else if bytes.ends_with(b"\n") {
-        b"\n"
-    } else {
-        b"\n\n"
     }
 }
 
