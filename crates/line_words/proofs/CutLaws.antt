@@ -1,12 +1,11 @@
 -- A line is cut into its parts alone, and a line that has none has an open quote.
-use Rattle.std.proofs.Common.{◌≡◌, ◌⊎◌, ℕ, suc, ◌==◌, ◌&&◌, Bool, true, false, not, ◌||◌, List, [], ◌∷◌, ◌++◌, Option, Some, None, refl, sym, ap, subst, ◌∙◌, inl, inr, append_assoc, append-nil}
-use Rattle.std.proofs.lemmas.Bool.{cond-true, cond-false, cases_Bool, eq-eqb, eqb-true, and_parts, and_from, not-true, not_from_false}
+use Rattle.std.proofs.Common.{◌≡◌, ℕ, ◌==◌, ◌&&◌, Bool, true, false, List, [], ◌∷◌, ◌++◌, Option, Some, None, refl, sym, ap, subst, ◌∙◌, inl, inr, append_assoc, append-nil}
+use Rattle.std.proofs.lemmas.Bool.{cond-true, cond-false, eq-eqb, and_parts, not-true}
 use Rattle.std.specs.Option.{option_map}
-use Rattle.line_words.specs.Enclosed.{InString, IsOpenString, IsClosed, IsEnclosed, IsUnclosed}
-use Rattle.line_words.specs.Words.{is_quote, lacks, Part, blank, plain, escaped, backslash, quoted, enclosed, text_of, is_gap, IsPart, StandBefore, AreParts, words_in, IsCut, takes_after, OpensQuote, HasOpenFrom, HasOpenQuote, parts_of, escaped_parts, quoted_parts, enclosed_parts, words_by}
+use Rattle.line_words.specs.Words.{is_quote, lacks, Part, blank, plain, escaped, backslash, quoted, enclosed, text_of, is_gap, IsPart, StandBefore, AreParts, words_in, IsCut, takes_after, OpensQuote, HasOpenQuote, parts_of, escaped_parts, quoted_parts, enclosed_parts, words_by}
 use Rattle.line_words.specs.Laws.{WordsAreCut, UncutHasNone, OpenHasNone, CutsAreOne}
-use Rattle.line_words.proofs.EnclosedLemmas.{closed_read, begun_read, enclosed_read, open_string_read}
-use Rattle.line_words.proofs.EndLemmas.{Ends, AllEnd, all_end}
+use Rattle.line_words.proofs.EnclosedLemmas.{begun_read, enclosed_read, open_string_read}
+use Rattle.line_words.proofs.EndLemmas.{Ends, all_end}
 use Rattle.line_words.proofs.WordLemmas.{Words, map-map, map-id}
 use Rattle.line_words.proofs.PartLemmas.{none_of, quote_is_no_blank, quote_is_no_paren}
 use Rattle.mail_text.specs.Ascii.{is_blank}

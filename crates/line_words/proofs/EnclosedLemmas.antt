@@ -1,5 +1,5 @@
 -- What parentheses enclose is read as it stands.
-use Rattle.std.proofs.Common.{◌≡◌, ℕ, suc, ◌-◌, ◌==◌, ◌&&◌, Bool, true, false, not, ◌||◌, List, [], ◌∷◌, ◌++◌, Option, Some, None, refl, sym, ap, ◌∙◌, inl, inr, append_assoc, append-nil, arith}
+use Rattle.std.proofs.Common.{◌≡◌, ℕ, suc, ◌-◌, ◌==◌, ◌&&◌, Bool, true, false, not, ◌||◌, List, [], ◌∷◌, ◌++◌, None, refl, sym, ap, ◌∙◌, inl, inr, append_assoc, append-nil, arith}
 use Rattle.std.proofs.lemmas.Bool.{cond-false, ne_eqb, false≢true}
 use Rattle.std.specs.Option.{option_map}
 use Rattle.line_words.specs.Enclosed.{InString, no_byte, one_byte, taken_byte, IsOpenString, IsClosed, nothing, inner, string, group, IsEnclosed, IsUnclosed, one, more}

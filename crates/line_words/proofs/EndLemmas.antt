@@ -1,7 +1,7 @@
 -- Each line has parts or an open quote.
 use Rattle.std.proofs.Common.{◌≡◌, ◌⊎◌, ℕ, ◌==◌, ◌&&◌, Bool, true, false, not, ◌||◌, List, [], ◌∷◌, ◌++◌, refl, sym, ap, subst, ◌∙◌, inl, inr, append_assoc, append-nil}
 use Rattle.std.proofs.lemmas.Bool.{cases_Bool, eqb-true, and_parts, and_from, not_from_false}
-use Rattle.line_words.specs.Enclosed.{is_inner_byte, is_string_byte, InString, no_byte, one_byte, taken_byte, IsClosed, nothing, inner, string, group, IsEnclosed, IsUnclosed, one, more}
+use Rattle.line_words.specs.Enclosed.{is_inner_byte, InString, no_byte, one_byte, taken_byte, IsClosed, nothing, inner, string, group, IsEnclosed, IsUnclosed, one, more}
 use Rattle.line_words.specs.Words.{is_quote, lacks, Part, blank, plain, escaped, backslash, quoted, enclosed, text_of, is_gap, IsPart, StandBefore, HasOpenFrom}
 use Rattle.mail_text.specs.Ascii.{is_blank}
 

@@ -18,7 +18,7 @@ use Rattle.mail_dates.specs.Clock.{IsPrintable}
 use Rattle.mail_dates.specs.Printed.{from_date_text}
 use Rattle.mail_dates.specs.Zones.{within_years}
 use Rattle.mbox_scan.specs.Mailbox.{from_mark, break_mark, trimmed, IsProper}
-use Rattle.mbox_scan.proofs.StartLemmas.{starts_with-OccursAt, OccursAt-starts_with, OccursAt-left, OccursAt-left_back, starts-single}
+use Rattle.mbox_scan.proofs.StartLemmas.{starts_with-OccursAt, OccursAt-starts_with, OccursAt-left_back, starts-single}
 use Rattle.mbox_scan.proofs.TextLemmas.{trimmed_len, trimmed_at, trimmed-take, trimmed-trimmed}
 use Rattle.mailx_vars.specs.Names.{is_graphic, is_user_name}
 use Rattle.session_play.specs.Moments.{IsMomentAt}

@@ -1,10 +1,9 @@
 -- Variables at their places.
 use Rattle.std.proofs.Common.{◌≡◌, ◌≤◌, ◌<◌, ◌+◌, ℕ, zero, suc, List, [], ◌∷◌, ◌++◌, refl, sym, ap, ◌∙◌, true, false, ⊎_elim, Bool, arith, subst, length, length-append, option_map, slice_get, true≢false}
 use Rattle.std.specs.Prelude.{if◌then◌else◌, is_some, unwrap_or, slice_set, nat_lt, nat_le, not, ◌&&◌}
-use Rattle.std.specs.declared.option.Option.{Option}
 use Rattle.std.specs.declared.option.Option.TheVariants.{Some, None}
 use Rattle.std.specs.List.{IsDistinct, AllByRecursion, list_all, position, position_or_len, remove}
-use Rattle.std.specs.Map.{lookup, remove_entry, set_value, keys_of, values_of}
+use Rattle.std.specs.Map.{set_value, keys_of}
 use Rattle.std.specs.Str.{bytes_eq}
 use Rattle.std.proofs.lemmas.Bool.{cases_Bool, cond-true, cond-false, and_parts, and_from, ltb-true, ltb-false, leb-false}
 use Rattle.std.proofs.lemmas.List.Folds.{list_all-append}

@@ -7,7 +7,6 @@ use Rattle.std.specs.Map.{keys_of}
 use Rattle.std.specs.Str.{bytes_eq}
 use Rattle.std.proofs.lemmas.Bool.{cases_Bool, cond-true, cond-false}
 use Rattle.std.proofs.lemmas.Map.{lookup-set_value, lookup-remove_entry}
-use Rattle.std.proofs.lemmas.Slice.Eq.{bytes_eq-Decides}
 use Rattle.mailx_vars.specs.SettingLaws.{SetAgainIsLast, SetGives, SetKeepsOrder, UnsetTakes}
 use Rattle.mailx_vars.specs.Settings.{Settings, is_set, value_of, without}
 use Rattle.mailx_vars.proofs.NameLemmas.{same-refl, same-symm, to-same}

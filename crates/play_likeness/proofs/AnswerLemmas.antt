@@ -6,7 +6,7 @@ use Rattle.host_port.specs.declared.event.Event.{Event}
 use Rattle.host_port.specs.Disk.{Disk}
 use Rattle.host_port.specs.Ran.{Honest}
 use Rattle.folder_change.specs.declared.change.Change.{Change}
-use Rattle.commit_machine.specs.Jobs.{Found, Ending, Job, at_time, all_of}
+use Rattle.commit_machine.specs.Jobs.{Ending, Job, at_time, all_of}
 use Rattle.commit_machine.specs.Jobs as jobs
 use Rattle.commit_machine.specs.Machine.{Seizing, Ended}
 use Rattle.commit_machine.specs.Edits.{job_for, recovery_for}

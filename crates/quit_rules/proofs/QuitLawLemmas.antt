@@ -1,9 +1,7 @@
 -- What holds of every quit.
-use Rattle.std.proofs.Common.{◌≡◌, ◌⊎◌, inl, inr, ℕ, zero, suc, ◌+◌, ◌≤◌, ◌<◌, Bool, true, false, ◌&&◌, ◌||◌, ◌==◌, List, [], ◌∷◌, ◌++◌, length, map, get_or, refl, sym, ap, ◌∙◌, arith, ⊎_elim, append-nil}
+use Rattle.std.proofs.Common.{◌≡◌, ◌⊎◌, inl, inr, ℕ, zero, suc, ◌+◌, ◌<◌, Bool, true, false, ◌&&◌, ◌||◌, ◌==◌, List, [], ◌∷◌, ◌++◌, length, map, get_or, refl, sym, ap, ◌∙◌, arith, ⊎_elim, append-nil}
 use Rattle.std.specs.Prelude.{if◌then◌else◌, filter, not, codes, Contains, All}
-use Rattle.std.specs.List.{zip, prefix_len}
 use Rattle.std.proofs.lemmas.Bool.{cases_Bool, cond-true, cond-false, false≢true}
-use Rattle.std.proofs.lemmas.List.Sums.{prefix_len_is}
 use Rattle.std.proofs.lemmas.Slice.Zip.{firsts-zip}
 use Rattle.mbox_scan.specs.Mailbox.{texts_of}
 use Rattle.message_state.specs.declared.mark.State.{State}
@@ -21,7 +19,7 @@ use Rattle.quit_rules.specs.declared.open.Open.{Open}
 use Rattle.quit_rules.specs.Fates.{rules_of, fate_of, is_staying, is_boxed}
 use Rattle.quit_rules.specs.Plans.{IsOpen, Message, messages_of, stamped_text, texts_where, staying, boxed, same_texts, mbox_changes, folder_changes, leaving_changes, is_unchanged, unchanged_len}
 use Rattle.quit_rules.specs.Gathering.{gathered_changes}
-use Rattle.quit_rules.specs.QuitLaws.{is_given_up, EachTextStands, IsOfFolder, NothingElseStands, EachStandsOnce, StaysAsItIs, UnchangedIsLeft}
+use Rattle.quit_rules.specs.QuitLaws.{EachTextStands, NothingElseStands, EachStandsOnce, StaysAsItIs, UnchangedIsLeft}
 use Rattle.quit_rules.proofs.PlanLemmas.{count-messages, same-unchanged, all-staying, all-boxed, same-true, true-same}
 
 -- ---- each message has one of three fates

@@ -1,8 +1,6 @@
 -- Steps of the loops over a folder's messages, and the changes that are made of them.
-use Rattle.std.proofs.Common.{◌≡◌, ℕ, zero, suc, ◌+◌, ◌≤◌, ◌<◌, Bool, true, false, ◌&&◌, ◌==◌, List, [], ◌∷◌, ◌++◌, length, take, drop, get_or, slice_get, refl, sym, ap, ◌∙◌, arith, append-nil}
-use Rattle.std.specs.Prelude.{if◌then◌else◌, codes}
+use Rattle.std.proofs.Common.{◌≡◌, ℕ, zero, suc, ◌+◌, ◌≤◌, ◌<◌, Bool, true, false, ◌&&◌, List, [], ◌∷◌, ◌++◌, length, take, drop, get_or, slice_get, refl, sym, ap, ◌∙◌, arith, append-nil}
 use Rattle.std.specs.declared.option.Option.TheVariants.{Some}
-use Rattle.std.specs.List.{zip}
 use Rattle.std.proofs.lemmas.Bool.{cond-true, cond-false, and_from}
 use Rattle.std.proofs.lemmas.List.{take_all}
 use Rattle.std.proofs.lemmas.List.Sums.{prefix_len-le-length}
@@ -10,13 +8,12 @@ use Rattle.std.proofs.lemmas.Option.{slice_get_within}
 use Rattle.mbox_scan.specs.Mailbox.{texts_of}
 use Rattle.message_state.specs.declared.mark.Mark.{Mark}
 use Rattle.message_state.specs.Stamp.{stamped, is_stamped}
-use Rattle.mailx_vars.specs.Settings.{Settings, is_set}
-use Rattle.folder_change.specs.declared.change.Change.{Change}
+use Rattle.mailx_vars.specs.Settings.{Settings}
 use Rattle.quit_rules.specs.declared.fate.Fate.{Fate}
 use Rattle.quit_rules.specs.declared.fate.Rules.{Rules}
 use Rattle.quit_rules.specs.declared.open.Open.{Open}
 use Rattle.quit_rules.specs.Fates.{rules_of, fate_of, is_staying}
-use Rattle.quit_rules.specs.Plans.{IsOpen, Message, messages_of, stamped_text, texts_where, mbox_change, mbox_changes, is_unchanged, unchanged_len}
+use Rattle.quit_rules.specs.Plans.{IsOpen, messages_of, texts_where, is_unchanged, unchanged_len}
 use Rattle.quit_rules.proofs.PlanLemmas.{text_where, texts-more, count-messages, count_where, count-texts, unchanged-go, unchanged-stop, unchanged-end, texts-whole}
 
 same-element : {X : Type 0} (xs : List X) (k : ℕ) (d : X) → get_or xs k (get_or xs k d) ≡ get_or xs k d

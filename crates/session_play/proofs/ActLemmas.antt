@@ -19,9 +19,7 @@ use Rattle.std.specs.declared.option.Option.{Option}
 use Rattle.std.specs.declared.option.Option.TheVariants.{Some, None}
 use Rattle.std.specs.Prelude.{ℤ}
 use Rattle.mail_dates.specs.declared.moment.Moment.{Moment}
-use Rattle.mail_dates.specs.declared.zone.Zone.{Zone}
-use Rattle.mail_dates.specs.Zones.{zone_offset, within_years}
-use Rattle.session_play.specs.Moments.{IsZoneOf, IsMomentAt}
+use Rattle.session_play.specs.Moments.{IsMomentAt}
 use Rattle.session_play.specs.Play.{Ask, Ret, Say, Read, Try, Child, Editor, Now, Goes}
 
 append_nil : (xs : List ℕ) → xs ≡ xs ++ []

@@ -7,7 +7,7 @@ use Rattle.std.specs.declared.result.Result.{Result}
 use Rattle.std.specs.declared.result.Result.TheVariants.{Ok, Err}
 use Rattle.host_port.specs.declared.event.Event.{Event}
 use Rattle.host_port.specs.Calls.{Counts}
-use Rattle.commit_machine.specs.Jobs.{Before, Ending, Refused, Failed, NoMemory}
+use Rattle.commit_machine.specs.Jobs.{Before, Refused, Failed, NoMemory}
 use Rattle.commit_machine.specs.Jobs as jobs
 use Rattle.commit_machine.specs.Machine.{Seizing, Ended}
 use Rattle.commit_machine.specs.Edits.{recovery_for}

@@ -1,4 +1,4 @@
-use Rattle.std.proofs.Common.{◌≡◌, ℕ, List, ◌∙◌, subst}
+use Rattle.std.proofs.Common.{ℕ, List, ◌∙◌, subst}
 use Rattle.mbox_scan.proofs.TextLemmas.{texts-empty}
 use Rattle.message_list.specs.declared.list.Purpose.TheVariants.{Live}
 use Rattle.message_list.specs.Choosing.{chosen, IsChosen}

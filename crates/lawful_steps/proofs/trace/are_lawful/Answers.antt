@@ -1,4 +1,4 @@
-use Rattle.std.proofs.Common.{◌≡◌, ◌<◌, ◌+◌, ℕ, List, Some, true, false, refl, sym, ap, subst, ◌∙◌, arith, length}
+use Rattle.std.proofs.Common.{◌≡◌, List, Some, true, false, refl, sym, ap, subst, ◌∙◌, arith, length}
 use Rattle.host_port.specs.declared.event.Event.{Event}
 use Rattle.host_memory.specs.MemHosts.{host_start}
 use Rattle.lawful_steps.specs.Steps.{IsLawfulAt}

@@ -1,4 +1,4 @@
-use Rattle.std.proofs.Common.{◌≡◌, ◌∙◌, sym, ap, arith, length, ℕ}
+use Rattle.std.proofs.Common.{◌≡◌, ◌∙◌, sym, ap, length}
 use Rattle.mbox_scan.specs.Mailbox.{texts_of}
 use Rattle.quit_rules.specs.declared.fate.Rules.{Rules}
 use Rattle.quit_rules.specs.Fates.{rules_of}

@@ -1,4 +1,4 @@
-use Rattle.std.proofs.Common.{sym, ◌∙◌, ap, w64, ℤ, pos}
+use Rattle.std.proofs.Common.{◌∙◌, ap, w64, ℤ}
 use Rattle.std.proofs.lemmas.Int.{to_z-of_z}
 use Rattle.host_port.proofs.RanLemmas.{called, time-counted}
 use Rattle.mail_dates.specs.Zones.{zone_offset, within_years}
