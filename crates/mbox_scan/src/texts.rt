@@ -54,7 +54,7 @@ impl<'a> Texts<'a> {
 
 // Whether one text is left alone, and is this one.
 fn is_alone(mut texts: Texts<'_>, bytes: &[u8]) -> bool
-    ensures { result ≡ is_alone bytes.now (Some texts) }
+    ensures { result ≡ is_alone bytes.now (Some texts.entry) }
 {
     match texts.next_text() {
         Some(text) => match texts.next_text() {
