@@ -53,7 +53,7 @@ fn folder_of(alloc: Global, bytes: Text) -> Result<Folder, Memory>
 }
 
 /// What this text, which is a message, makes of the folder of this name as that of message n.
-pub fn edition(
+pub fn edition_of(
     alloc: Global,
     folder: &Folder,
     name: &[u8],

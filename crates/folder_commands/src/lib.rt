@@ -14,7 +14,7 @@ mod opening;
 mod saving;
 mod wanted;
 
-pub use editing::{Edition, edition};
+pub use editing::{Edition, edition_of};
 pub use growing::{grow_folder, newmail, news_line};
 pub use laws::made_is_applied;
 pub use leaving::quit;

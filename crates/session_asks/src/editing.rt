@@ -30,7 +30,7 @@ use crate::renewing::say_last;
 use crate::switching::refused_by;
 use command_desk::{Effects, Refusal, fault, marked, message};
 use folder_change::Change;
-use folder_commands::{Edition, edition, receipt};
+use folder_commands::{Edition, edition_of, receipt};
 use host_port::{EditAnswer, Host};
 use itoa::Buffer;
 use mail_text::{Items, Memory, Text};
@@ -217,7 +217,7 @@ fn make(
     let row = row_with(alloc, desk, n, text)?;
     let effects = look_at(alloc, desk, n)?;
     let name = desk.folder.name.bytes();
-    let Edition { change, folder } = edition(alloc, &desk.folder.folder, name, n, text)?;
+    let Edition { change, folder } = edition_of(alloc, &desk.folder.folder, name, n, text)?;
     let changes = one_change(alloc, change)?;
     let (view, row) = view_with(alloc, &mut desk.shown.rows, k, row, desk.view)?;
     let View { order, depth, .. } = view;

@@ -1,7 +1,7 @@
 use Rattle.std.proofs.Common.{◌∙◌, ap}
 use Rattle.mbox_scan.specs.Mailbox.{join}
 use Rattle.folder_commands.proofs.EditingLemmas.{edited-listed}
-use Rattle.folder_commands.proofs.editing.edition.Goals as goal
+use Rattle.folder_commands.proofs.editing.edition_of.Goals as goal
 
 pub returns-clause-listed : goal.returns-clause-listed
 returns-clause-listed c =
