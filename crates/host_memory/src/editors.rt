@@ -37,6 +37,13 @@ fn edit_given(alloc: Global, status: i32, text: &[u8], cut: bool) -> Result<Edit
     })
 }
 
+// The status of a planned answer.
+fn status_of(planned: &EditAnswer) -> i32
+    ensures { result ≡ planned.now.status }
+{
+    planned.status
+}
+
 // What the next editor answers for a text if `edited` of the planned answers are used up.
 fn next_edit(
     alloc: Global,
@@ -47,7 +54,7 @@ fn next_edit(
     ensures { IfOk result (λ a. a ≡ next_edit text.now (drop edited planned.now)) }
 {
     match planned.get(edited) {
-        Some(next) => edit_given(alloc, next.status, next.text.bytes(), next.cut),
+        Some(next) => edit_given(alloc, status_of(next), next.text.bytes(), next.cut),
         None => edit_given(alloc, 0, text, false),
     }
 }
