@@ -7,7 +7,7 @@ use Rattle.line_words.specs.Spellings.{spellings, names}
 use Rattle.show_commands.proofs.ListLemmas.{pieces-more, none-past}
 use Rattle.show_commands.proofs.telling.names.Goals as goal
 
-few : length names ≡ 75
+few : length names ≡ 77
 unfolding spellings
 few = refl
 
