@@ -1,14 +1,13 @@
 // A message that is edited.
-ghost use Rattle.std.specs.Prelude.{◌≡◌, ◌<◌, ◌≤◌, ◌-◌, ◌∷◌, [], true, length, codes, slice_get, slice_set, Ok, Some, IfErr, IfOk, IfSome, OnErr, OnOk};
+ghost use Rattle.std.specs.Prelude.{◌≡◌, ◌<◌, ◌≤◌, ◌-◌, ◌∷◌, [], true, length, slice_get, slice_set, Ok, Some, IfErr, IfOk, IfSome, OnOk};
 ghost use Rattle.host_port.specs.Ran.{Ran};
 ghost use Rattle.mail_text.specs.Lines.{with_feed};
 ghost use Rattle.mbox_scan.specs.Mailbox.{is_message, message_limit, trimmed};
 ghost use Rattle.mail_dates.specs.Clock.{IsInYears};
 ghost use Rattle.message_state.specs.declared.row.Row.{Row};
-ghost use Rattle.message_state.specs.Rows.{IsRow};
 ghost use Rattle.message_state.specs.declared.mark.Act.TheVariants.{Look};
 ghost use Rattle.thread_view.specs.Views.{IsViewOf};
-ghost use Rattle.session_play.specs.Play.{Ask, Ret, Editor, Say, Goes, bind};
+ghost use Rattle.session_play.specs.Play.{Ask, Ret, Editor, Goes, bind};
 ghost use Rattle.session_play.specs.Steps.{On, Over};
 ghost use Rattle.command_desk.specs.Answers.{Means};
 ghost use Rattle.compose_tilde.specs.Answering.{is_zero};
@@ -22,7 +21,7 @@ ghost use Rattle.session_state.specs.Placing.{edit_file};
 ghost use Rattle.session_state.specs.Saving.{saved};
 ghost use Rattle.session_state.specs.States.{IsState, with_desk};
 ghost use Rattle.session_asks.specs.Asks.{KeepsDesk};
-ghost use Rattle.session_asks.specs.Editing.{changing, committing, edited, editing, edits, ended_with, is_number, judged, left_by, looked, message_or_fault, told, with_row, with_texts};
+ghost use Rattle.session_asks.specs.Editing.{changing, edited, editing, edits, ended_with, is_number, judged, left_by, looked, message_or_fault, told};
 ghost use Rattle.session_asks.specs.Edited.{laid_as, IsEdited, IsMade};
 
 use crate::asks::all_done;

@@ -10,4 +10,4 @@ pub returns-in_err-name-clause-ran : goal.returns-in_err-name-clause-ran
 returns-in_err-name-clause-ran g c = Ran-none (out-of-memory (editing c.args.state.now c.args.n c.args.command.now) _ c.from_residual.result c.from_residual.ensures.1)
 
 pub returns-in_err-text-clause-ran : goal.returns-in_err-text-clause-ran
-returns-in_err-text-clause-ran g c = Ran-none (out-of-memory (editing c.args.state.now c.args.n c.args.command.now) _ c.from_residual-2.result c.from_residual-2.ensures.1)
+returns-in_err-text-clause-ran g c = Ran-none (out-of-memory (editing c.args.state.now c.args.n c.args.command.now) _ c.from_residual-in_err-text.result c.from_residual-in_err-text.ensures.1)

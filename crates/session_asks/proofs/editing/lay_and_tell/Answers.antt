@@ -9,7 +9,10 @@ use Rattle.session_asks.proofs.SourcingLemmas.{brings-desk}
 use Rattle.session_asks.proofs.editing.lay_and_tell.Goals as goal
 
 pub returns-clause-ran : goal.returns-clause-ran
-returns-clause-ran g c = rw c.in_ok-lay.ensures.ok at (c.say_last.ensures.ran (with_desk c.args.state.now c.lay.new.desk))
+returns-clause-ran g c =
+    let s = c.args.state.now in
+    let desk = effect (laid_as s.desk c.args.n c.args.edited) c.args.edited.effects in
+    rw c.in_ok-lay.ensures.ok (c.say_last.ensures.ran (with_desk s desk))
 
 pub returns-clause-brings : goal.returns-clause-brings
 returns-clause-brings g c = brings-desk c.args.state.now c.lay.new.desk

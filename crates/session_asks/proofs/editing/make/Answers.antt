@@ -1,11 +1,15 @@
-use Rattle.std.proofs.Common.{◌≡◌, ◌∷◌, ◌-◌, ◌∙◌, [], List, slice_set, refl, sym, ap, subst}
+use Rattle.std.proofs.Common.{◌≡◌, ◌≤◌, ◌∷◌, ◌-◌, ℕ, ◌∙◌, [], List, slice_set, refl, sym, ap, subst}
 use Rattle.std.specs.Prelude.{IfSome}
 use Rattle.mail_dates.specs.Clock.{IsInYears}
 use Rattle.folder_change.specs.declared.change.Change.{Change}
 use Rattle.message_state.specs.declared.row.Row.{Row}
 use Rattle.thread_view.specs.Views.{IsViewOf}
+use Rattle.command_desk.proofs.DeskLemmas.{as-many}
 use Rattle.session_asks.specs.Edited.{IsMade}
 use Rattle.session_asks.proofs.editing.make.Goals as goal
+
+pub edition_of-requires-clause-within : goal.edition_of-requires-clause-within
+edition_of-requires-clause-within c = subst (λ (m : ℕ). c.args.n ≤ m) (as-many c.args.desk.now c.requires.desk) c.requires.message.1
 
 -- the desk whose rows were put back
 pub returns-clause-desk : goal.returns-clause-desk

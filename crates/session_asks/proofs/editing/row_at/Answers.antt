@@ -2,8 +2,8 @@ use Rattle.std.proofs.Common.{◌-◌, arith, length, refl}
 use Rattle.std.proofs.lemmas.Option.{slice_get_read}
 use Rattle.session_asks.proofs.editing.row_at.Goals as goal
 
-pub overflow_sub : goal.overflow_sub
-overflow_sub c = c.requires.0
+pub overflow_sub-result : goal.overflow_sub-result
+overflow_sub-result c = c.requires.0
 
 pub bounds-items-n : goal.bounds-items-n
 bounds-items-n c = rw c.items.ensures (let message = c.requires in omega (arith, message.0, message.1))
