@@ -15,11 +15,19 @@ use std::io::{Error, Write};
 use std::os::unix::fs::OpenOptionsExt;
 use std::process::{Command, Processes};
 
-/// What runs the shell of an editor. On a terminal the editor has a group of processes of its own, so that an interrupt
-/// ends neither this program nor what runs the editor. If it is stopped there, so is all of the program, until that goes
-/// on: statuses from 147 to 150 are those of a job that was stopped.
-const SCRIPT: &str = "[ -t 0 ] || exec \"$@\"
+/// What runs the shell of an editor, which it tells the name of the file by a variable, since not every shell has `$0`.
+/// On a terminal the editor has a group of processes of its own, so that an interrupt ends neither this program nor what
+/// runs the editor. If it is stopped there, so is all of the program, until that goes on: statuses from 147 to 150 are
+/// those of a job that was stopped. An editor that failed may have left the terminal as it needs it.
+const SCRIPT: &str = "MAILX_TEXT=$1
+export MAILX_TEXT
+shift
+[ -t 0 ] || exec \"$@\"
 trap : INT QUIT
+case $1 in
+*/sh | */dash) set -- \"$1\" -c \"trap : INT QUIT; $3\" ;;
+esac
+modes=$(stty -g 2>/dev/null)
 set -m
 \"$@\"
 status=$?
@@ -31,6 +39,7 @@ while [ $status -ge 147 ] && [ $status -le 150 ] && jobs %% >/dev/null 2>&1; do
     status=$?
 done
 set +m
+[ $status -eq 0 ] || stty \"$modes\" 2>/dev/null
 exit $status";
 
 // The command by which a shell runs an editor: the name of the file is a word of its own, which the shell doesn't read.
@@ -43,15 +52,15 @@ fn command_of(
 ) -> Result<Command, FileError> {
     let mut run = Command::new(alloc, "/bin/sh")?;
     let command = path_of(command)?;
-    let edit = format!(in alloc; "{command} \"$0\"")?;
+    let edit = format!(in alloc; "{command} \"$MAILX_TEXT\"")?;
     for word in [
         "-c",
         SCRIPT,
         "sh",
+        path,
         path_of(shell)?,
         "-c",
         edit.as_str(),
-        path,
     ] {
         run.arg(word)?;
     }

@@ -204,7 +204,7 @@ impl<R: Files<File = File> + Input + Print + Eprint + Processes + Clock + Drop> 
             Err(FileError::Memory) => Err(ChildError::Memory),
             Err(error) => {
                 self.children = self.children.saturating_add(1);
-                tell(&self.rt, self.alloc, command, &error);
+                tell(&self.rt, self.alloc, name, &error);
                 Err(ChildError::Failed)
             }
         }
