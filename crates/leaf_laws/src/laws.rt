@@ -1,3 +1,4 @@
+ghost use Rattle.leaf_laws.specs.Answering.{NobodyElse, OthersStay};
 ghost use Rattle.leaf_laws.specs.Reaching.{AddedAreReached, GivenAreAdded, ReachedAreAdded};
 
 /// Laws of expansion. Nobody else is added: what is added was given, or aliases lead to it from there. Nobody is lost: a
@@ -7,4 +8,12 @@ pub fn names_stand_for_whom_they_reach()
     ensures only { AddedAreReached }
     ensures given { GivenAreAdded }
     ensures all { ReachedAreAdded }
+{}
+
+/// Laws of answers. Nobody is lost: one to all goes to each address of `To`, and to each of `Cc` at least in copy, the own
+/// names that are to be dropped apart, ASCII case aside. Nobody else is in it: it goes to who is answered and to addresses
+/// of `To`, and in copy to addresses of `Cc`.
+pub fn answers_go_to_whom_they_are_meant_for()
+    ensures stay { OthersStay }
+    ensures only { NobodyElse }
 {}

@@ -3,4 +3,6 @@
 
 mod laws;
 
-pub use laws::names_stand_for_whom_they_reach;
+pub use laws::{
+    answers_go_to_whom_they_are_meant_for, names_stand_for_whom_they_reach,
+};
