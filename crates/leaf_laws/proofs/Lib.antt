@@ -1,3 +1,4 @@
 pub mod NameLemmas
 pub mod ReachLemmas
 pub mod AnswerLemmas
+pub mod CutLemmas

@@ -1,4 +1,5 @@
 ghost use Rattle.leaf_laws.specs.Answering.{NobodyElse, OthersStay};
+ghost use Rattle.leaf_laws.specs.Cutting.{GoodPiecesAreCut};
 ghost use Rattle.leaf_laws.specs.Reaching.{AddedAreReached, GivenAreAdded, ReachedAreAdded};
 
 /// Laws of expansion. Nobody else is added: what is added was given, or aliases lead to it from there. Nobody is lost: a
@@ -16,4 +17,9 @@ pub fn names_stand_for_whom_they_reach()
 pub fn answers_go_to_whom_they_are_meant_for()
     ensures stay { OthersStay }
     ensures only { NobodyElse }
+{}
+
+/// A law of address lists: good pieces before a comma are cut as they are, whatever follows the comma.
+pub fn good_pieces_are_cut_before_bad_ones()
+    ensures { GoodPiecesAreCut }
 {}
