@@ -2,3 +2,4 @@ pub mod NameLemmas
 pub mod ReachLemmas
 pub mod AnswerLemmas
 pub mod CutLemmas
+pub mod ShowLemmas

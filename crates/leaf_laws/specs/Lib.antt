@@ -1,3 +1,4 @@
 pub mod Reaching
 pub mod Answering
 pub mod Cutting
+pub mod Showing

@@ -1,6 +1,7 @@
 ghost use Rattle.leaf_laws.specs.Answering.{NobodyElse, OthersStay};
 ghost use Rattle.leaf_laws.specs.Cutting.{GoodPiecesAreCut};
 ghost use Rattle.leaf_laws.specs.Reaching.{AddedAreReached, GivenAreAdded, ReachedAreAdded};
+ghost use Rattle.leaf_laws.specs.Showing.{KeptAreShown};
 
 /// Laws of expansion. Nobody else is added: what is added was given, or aliases lead to it from there. Nobody is lost: a
 /// given name that is no alias is added; so is one to which aliases lead, the own names that are to be dropped apart,
@@ -22,4 +23,10 @@ pub fn answers_go_to_whom_they_are_meant_for()
 /// A law of address lists: good pieces before a comma are cut as they are, whatever follows the comma.
 pub fn good_pieces_are_cut_before_bad_ones()
     ensures { GoodPiecesAreCut }
+{}
+
+/// A law of `ignore` and `retain`: what is shown of a message, read as a message, has its From line, its body, and of its
+/// entries exactly those that are kept.
+pub fn kept_fields_are_shown()
+    ensures { KeptAreShown }
 {}

@@ -5,5 +5,5 @@ mod laws;
 
 pub use laws::{
     answers_go_to_whom_they_are_meant_for, good_pieces_are_cut_before_bad_ones,
-    names_stand_for_whom_they_reach,
+    kept_fields_are_shown, names_stand_for_whom_they_reach,
 };
