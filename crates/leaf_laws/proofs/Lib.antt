@@ -3,3 +3,4 @@ pub mod ReachLemmas
 pub mod AnswerLemmas
 pub mod CutLemmas
 pub mod ShowLemmas
+pub mod ArgumentLemmas

@@ -2,3 +2,4 @@ pub mod Reaching
 pub mod Answering
 pub mod Cutting
 pub mod Showing
+pub mod Arguments

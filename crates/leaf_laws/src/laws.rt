@@ -1,4 +1,5 @@
 ghost use Rattle.leaf_laws.specs.Answering.{NobodyElse, OthersStay};
+ghost use Rattle.leaf_laws.specs.Arguments.{BadAreRefused};
 ghost use Rattle.leaf_laws.specs.Cutting.{GoodPiecesAreCut};
 ghost use Rattle.leaf_laws.specs.Reaching.{AddedAreReached, GivenAreAdded, ReachedAreAdded};
 ghost use Rattle.leaf_laws.specs.Showing.{KeptAreShown};
@@ -29,4 +30,11 @@ pub fn good_pieces_are_cut_before_bad_ones()
 /// entries exactly those that are kept.
 pub fn kept_fields_are_shown()
     ensures { KeptAreShown }
+{}
+
+/// A law of escapes: one is refused for its argument exactly if that is missing, though it is named outside of brackets and
+/// isn't `text`; or if one stands where none is named; or if `!` stands alone where a file or a command is read; or if a
+/// quote in its words isn't closed.
+pub fn bad_arguments_are_refused()
+    ensures { BadAreRefused }
 {}
