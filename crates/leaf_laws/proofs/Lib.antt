@@ -4,3 +4,4 @@ pub mod AnswerLemmas
 pub mod CutLemmas
 pub mod ShowLemmas
 pub mod ArgumentLemmas
+pub mod FlatLemmas

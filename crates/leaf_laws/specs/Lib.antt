@@ -3,3 +3,4 @@ pub mod Answering
 pub mod Cutting
 pub mod Showing
 pub mod Arguments
+pub mod Lines

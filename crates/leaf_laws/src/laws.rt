@@ -1,6 +1,7 @@
 ghost use Rattle.leaf_laws.specs.Answering.{NobodyElse, OthersStay};
 ghost use Rattle.leaf_laws.specs.Arguments.{BadAreRefused};
 ghost use Rattle.leaf_laws.specs.Cutting.{GoodPiecesAreCut};
+ghost use Rattle.leaf_laws.specs.Lines.{PageIsLines, SummaryIsALine};
 ghost use Rattle.leaf_laws.specs.Reaching.{AddedAreReached, GivenAreAdded, ReachedAreAdded};
 ghost use Rattle.leaf_laws.specs.Showing.{KeptAreShown};
 
@@ -37,4 +38,11 @@ pub fn kept_fields_are_shown()
 /// quote in its words isn't closed.
 pub fn bad_arguments_are_refused()
     ensures { BadAreRefused }
+{}
+
+/// Laws of summaries: a summary line has no line feed, whatever stands in its message; so the lines of a page are the summary
+/// lines of its messages, one each.
+pub fn summaries_are_lines()
+    ensures line { SummaryIsALine }
+    ensures page { PageIsLines }
 {}
