@@ -5,3 +5,4 @@ pub mod CutLemmas
 pub mod ShowLemmas
 pub mod ArgumentLemmas
 pub mod FlatLemmas
+pub mod AskLemmas

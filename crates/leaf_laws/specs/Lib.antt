@@ -4,3 +4,4 @@ pub mod Cutting
 pub mod Showing
 pub mod Arguments
 pub mod Lines
+pub mod Asking

@@ -1,5 +1,6 @@
 ghost use Rattle.leaf_laws.specs.Answering.{NobodyElse, OthersStay};
 ghost use Rattle.leaf_laws.specs.Arguments.{BadAreRefused};
+ghost use Rattle.leaf_laws.specs.Asking.{ModesAreAsked, WantedIsAsked};
 ghost use Rattle.leaf_laws.specs.Cutting.{GoodPiecesAreCut};
 ghost use Rattle.leaf_laws.specs.Lines.{PageIsLines, SummaryIsALine};
 ghost use Rattle.leaf_laws.specs.Reaching.{AddedAreReached, GivenAreAdded, ReachedAreAdded};
@@ -45,4 +46,12 @@ pub fn bad_arguments_are_refused()
 pub fn summaries_are_lines()
     ensures line { SummaryIsALine }
     ensures page { PageIsLines }
+{}
+
+/// Laws of options. They have a mode exactly if they ask for it: for a trial, by `--try N` alone; whether there is mail, by
+/// `-e` with `-i` and `-n` alone; to read, without operands or by `-f` with one at most; to send, by operands without
+/// `-f`; each with those options that go with it. So it is with what the words of the command line ask for.
+pub fn options_ask_for_one_mode()
+    ensures modes { ModesAreAsked }
+    ensures words { WantedIsAsked }
 {}
