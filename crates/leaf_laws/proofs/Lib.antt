@@ -6,3 +6,6 @@ pub mod ShowLemmas
 pub mod ArgumentLemmas
 pub mod FlatLemmas
 pub mod AskLemmas
+pub mod RefuseLemmas
+pub mod HyphenLemmas
+pub mod TwiceLemmas

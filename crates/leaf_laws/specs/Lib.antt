@@ -5,3 +5,4 @@ pub mod Showing
 pub mod Arguments
 pub mod Lines
 pub mod Asking
+pub mod Refusing

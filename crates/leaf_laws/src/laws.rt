@@ -4,6 +4,7 @@ ghost use Rattle.leaf_laws.specs.Asking.{ModesAreAsked, WantedIsAsked};
 ghost use Rattle.leaf_laws.specs.Cutting.{GoodPiecesAreCut};
 ghost use Rattle.leaf_laws.specs.Lines.{PageIsLines, SummaryIsALine};
 ghost use Rattle.leaf_laws.specs.Reaching.{AddedAreReached, GivenAreAdded, ReachedAreAdded};
+ghost use Rattle.leaf_laws.specs.Refusing.{AgainIsRefused, HyphenIsRefused, MissingIsRefused, TwiceIsRefused};
 ghost use Rattle.leaf_laws.specs.Showing.{KeptAreShown};
 
 /// Laws of expansion. Nobody else is added: what is added was given, or aliases lead to it from there. Nobody is lost: a
@@ -54,4 +55,13 @@ pub fn summaries_are_lines()
 pub fn options_ask_for_one_mode()
     ensures modes { ModesAreAsked }
     ensures words { WantedIsAsked }
+{}
+
+/// Laws of words of the command line, before `--` and whatever stands beside them. An option whose value would be the next
+/// word is refused if there is none, and if that begins with `-`. A flag is refused that two words give, or one word twice.
+pub fn some_words_are_refused()
+    ensures missing { MissingIsRefused }
+    ensures hyphen { HyphenIsRefused }
+    ensures twice { TwiceIsRefused }
+    ensures again { AgainIsRefused }
 {}

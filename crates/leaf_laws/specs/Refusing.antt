@@ -1,0 +1,62 @@
+-- Words of the command line that are refused, whatever stands beside them.
+use Rattle.std.specs.Prelude.{◌≡◌, ℕ, not, true, List, [], ◌∷◌, ◌++◌, None, codes}
+use Rattle.std.specs.List.{list_all}
+use Rattle.std.specs.Str.{bytes_eq}
+use Rattle.command_words.specs.Readings.{reading}
+
+-- the letter of a flag: `-e`, `-H`, `-i`, `-N`, `-n`, `-F`, `-f`
+pub data IsFlag : ℕ → Type 0 where
+  exists : IsFlag 101
+  headers : IsFlag 72
+  ignores : IsFlag 105
+  quiet : IsFlag 78
+  no_system_file : IsFlag 110
+  named : IsFlag 70
+  folder : IsFlag 102
+
+-- the letter of an option with a value: `-u`, `-s`, `-b`, `-c`
+pub data IsValued : ℕ → Type 0 where
+  user : IsValued 117
+  subject : IsValued 115
+  blind : IsValued 98
+  copies : IsValued 99
+
+-- letters of flags
+pub data AreFlags : List ℕ → Type 0 where
+  none : AreFlags []
+  more : {letter : ℕ} {letters : List ℕ} → IsFlag letter → AreFlags letters → AreFlags (letter ∷ letters)
+
+-- the value of this word's option is the next word: it is `-` (45), letters of flags and then the option's letter, or `--try`
+pub data WantsNext : List ℕ → Type 0 where
+  short : {flags : List ℕ} {letter : ℕ} → AreFlags flags → IsValued letter → WantsNext (45 ∷ (flags ++ letter ∷ []))
+  long : WantsNext (codes "--try")
+
+-- none of the words is `--`, which ends the options
+abbrev pub AreBefore : List (List ℕ) → Type 0
+AreBefore words = list_all (λ w. not (bytes_eq w (45 ∷ 45 ∷ []))) words ≡ true
+
+-- an option whose value is the next word is refused if there is none
+abbrev pub MissingIsRefused : Type 0
+MissingIsRefused = (front : List (List ℕ)) (word : List ℕ) → AreBefore front → WantsNext word
+    → reading (front ++ word ∷ []) ≡ None
+
+-- and if that begins with `-`
+abbrev pub HyphenIsRefused : Type 0
+HyphenIsRefused = (front back : List (List ℕ)) (word rest : List ℕ) → AreBefore front → WantsNext word
+    → reading (front ++ word ∷ (45 ∷ rest) ∷ back) ≡ None
+
+-- the word gives a flag: it is `-`, letters of flags, that of the flag, and what may follow
+pub data Gives (letter : ℕ) : List ℕ → Type 0 where
+  gives : {flags : List ℕ} (rest : List ℕ) → AreFlags flags → Gives letter (45 ∷ (flags ++ letter ∷ rest))
+
+-- a flag that two words give is refused
+abbrev pub TwiceIsRefused : Type 0
+TwiceIsRefused = (front middle back : List (List ℕ)) (letter : ℕ) (word other : List ℕ)
+    → IsFlag letter → AreBefore front → AreBefore middle → Gives letter word → Gives letter other
+    → reading (front ++ word ∷ (middle ++ other ∷ back)) ≡ None
+
+-- and so is one that a word gives twice
+abbrev pub AgainIsRefused : Type 0
+AgainIsRefused = (front back : List (List ℕ)) (letter : ℕ) (flags between rest : List ℕ)
+    → IsFlag letter → AreBefore front → AreFlags flags → AreFlags between
+    → reading (front ++ (45 ∷ (flags ++ letter ∷ (between ++ letter ∷ rest))) ∷ back) ≡ None
