@@ -10,7 +10,8 @@ use Rattle.name_lists.specs.Names.{has_name}
 pub data Reached (groups : List Group) (names : List (List ℕ)) : List ℕ → Type 0 where
   given : {name : List ℕ} → Contains names name → Reached groups names name
   member : {alias name : List ℕ} {members : List (List ℕ)}
-      → Reached groups names alias → members_of groups alias ≡ Some members → Contains members name → Reached groups names name
+      → Reached groups names alias → members_of groups alias ≡ Some members → Contains members name
+      → Reached groups names name
 
 -- each name that is added is reached
 abbrev pub AddedAreReached : Type 0
