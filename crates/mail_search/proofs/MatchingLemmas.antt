@@ -13,6 +13,7 @@ use Rattle.mail_search.specs.declared.criterion.Step.TheVariants as step
 use Rattle.mail_search.specs.declared.criterion.Test.{Test}
 use Rattle.mail_search.specs.declared.matching.Held.{Held}
 use Rattle.mail_search.specs.declared.matching.Held.TheVariants.{Known, Open}
+use Rattle.mail_search.specs.Entries.{is_holding, holding_in, find_named}
 use Rattle.mail_search.specs.Keys.{Key}
 use Rattle.mail_search.specs.Known.{known, known_or, IsKnown}
 use Rattle.mail_search.specs.Meaning.{passes, key_holds}
@@ -121,14 +122,7 @@ known-last text facts [] old new (Some h) pops e = nothing_known text facts old 
 known-last text facts (k ∷ ks) old new None pops e = something_known text facts k ks old _ pops.0 e
 known-last text facts (k ∷ ks) old new (Some h) pops e = (first_known text facts k ks old h new pops e).here
 
--- whether a field of this name holds the string
-abbrev pub is_holding : List ℕ → List ℕ → Field → Bool
-is_holding name string f = same_ascii f.name name && holds_ascii string (unfolded f)
-
--- whether some field among entries is such a one
-abbrev pub holding_in : List ℕ → List ℕ → List Entry → Bool
-holding_in name string es = list_any (is_holding name string) (filter_map field_in es)
-
+-- whether some field among entries holds the string, the first perhaps a field
 abbrev with_field : List ℕ → List ℕ → List Entry → Option Field → Bool
 with_field name string es o = list_any (is_holding name string) (cons_option o (filter_map field_in es))
 
@@ -141,10 +135,6 @@ holding-not name string e es f is not = ap (with_field name string es) is ∙ ap
 
 pub holding-here : (name string : List ℕ) (e : Entry) (es : List Entry) (f : Field) → field_in e ≡ Some f → is_holding name string f ≡ true → holding_in name string (e ∷ es) ≡ true
 holding-here name string e es f is here = ap (with_field name string es) is ∙ ap (λ (b : Bool). b || holding_in name string es) here
-
--- the first field of this name among entries
-abbrev pub find_named : List ℕ → List Entry → Option Field
-find_named name es = find (λ f. same_ascii f.name name) (filter_map field_in es)
 
 abbrev found_with : List ℕ → List Entry → Option Field → Option Field
 found_with name es o = find (λ f. same_ascii f.name name) (cons_option o (filter_map field_in es))

@@ -1,5 +1,6 @@
 pub mod Criteria
 pub mod Days
+pub mod Entries
 pub mod Grammar
 pub mod Keys
 pub mod Known

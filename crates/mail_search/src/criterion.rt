@@ -78,6 +78,8 @@ pub(crate) enum Step {
 pub struct Criterion {
     // each key stands after the keys that it is made of
     steps: Items<Step>,
+    // whether several keys ask for fields by name
+    asks_often: bool,
 }
 
 impl Model for Criterion {
@@ -99,7 +101,8 @@ impl Criterion {
     pub(crate) fn of(steps: Items<Step>) -> Criterion
         ensures { result ≡ last_key (keys_of steps) }
     {
-        Criterion { steps }
+        let asks_often = ask_often(steps.items());
+        Criterion { steps, asks_often }
     }
 
     // The steps.
@@ -108,4 +111,23 @@ impl Criterion {
     {
         self.steps.items()
     }
+
+    // Whether several keys ask for fields by name, so that it pays to keep what the header has. No answer hangs on it.
+    pub(crate) fn asks_often(&self) -> bool {
+        self.asks_often
+    }
+}
+
+// Whether several of these steps ask for fields by name.
+fn ask_often(steps: &[Step]) -> bool {
+    let mut once = false;
+    for step in steps {
+        if let Step::Test(Test::Field(_, _)) = step {
+            if once {
+                return true;
+            }
+            once = true;
+        }
+    }
+    false
 }

@@ -8,6 +8,7 @@ mod day;
 mod error;
 mod laws;
 mod matching;
+mod message;
 mod names;
 mod read;
 mod reader;

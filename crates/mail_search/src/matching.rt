@@ -6,13 +6,15 @@ ghost use Rattle.mail_dates.specs.Clock.{IsInYears};
 ghost use Rattle.mail_search.specs.Keys.{Key};
 ghost use Rattle.mail_search.specs.Steps.{with_step};
 ghost use Rattle.mail_search.specs.Known.{known_or, IsKnown};
+ghost use Rattle.mail_search.specs.Entries.{holding_in, find_named};
 ghost use Rattle.mail_search.specs.declared.matching.Held.TheVariants.{Known};
 ghost use Rattle.mail_search.specs.Meaning.{fact_in, field_holds, after_first_line, size_of, moment_by, day_at, is_in_order, day_passes, passes, key_holds};
 
 use crate::criterion::{Clock, Criterion, Fact, Facts, Order, Step, Test};
+use crate::message::Message;
 use crate::stack::Stack;
 use mail_dates::{Moment, after_from, day_of, moment_of, read_from_line};
-use mail_headers::{FieldRef, Header, entries_in, from_line_in, unfold_value};
+use mail_headers::{EntryRef, FieldRef, Header, entries_in, from_line_in, unfold_value};
 use mail_text::{Memory, holds_ascii, same_ascii};
 use std::alloc::Global;
 
@@ -25,6 +27,7 @@ pub(crate) enum Held<'a> {
 
 /// Whether a message of this text, of which these facts are known, meets the criterion. The text ends before its last
 /// line feed. Each key reads it once at most, and a key that can't change the answer doesn't, if it isn't made of others.
+/// Keys that ask for fields share one reading of the header.
 /// Fails only if memory runs out.
 pub fn matches(
     alloc: Global,
@@ -34,29 +37,42 @@ pub fn matches(
 ) -> Result<bool, Memory>
     ensures { IfOk result (λ held. held ≡ key_holds text.now facts.now criterion.now) }
 {
+    let message = Message::read(alloc, text, criterion.asks_often())?;
+    meets(alloc, criterion, &message, facts)
+}
+
+// Whether the message meets the criterion.
+fn meets(
+    alloc: Global,
+    criterion: &Criterion,
+    message: &Message<'_>,
+    facts: &Facts,
+) -> Result<bool, Memory>
+    ensures { IfOk result (λ held. held ≡ key_holds message.now facts.now criterion.now) }
+{
     let mut held = Stack::new(alloc);
     for step in criterion.steps() {
-        carry_out(alloc, step, text, facts, &mut held)?;
+        carry_out(alloc, step, message, facts, &mut held)?;
     }
-    ask(alloc, held.pop(), true, text, facts)
+    ask(alloc, held.pop(), true, message, facts)
 }
 
 // Carries a step out on what is known of the keys so far, the last one on top.
 fn carry_out<'a>(
     alloc: Global,
     step: &'a Step,
-    text: &[u8],
+    message: &Message<'_>,
     facts: &Facts,
     held: &mut Stack<Held<'a>>,
 ) -> Result<(), Memory>
-    ensures { OnOk result ((keys : List Key) → IsKnown text.now facts.now held.old keys
-        → IsKnown text.now facts.now held.new (with_step keys step.now)) }
+    ensures { OnOk result ((keys : List Key) → IsKnown message.now facts.now held.old keys
+        → IsKnown message.now facts.now held.new (with_step keys step.now)) }
 {
     match step {
         Step::Test(test) => held.push(Held::Open(test)),
         Step::Not => match held.pop() {
             Some(one) => {
-                let one = ask(alloc, Some(one), true, text, facts)?;
+                let one = ask(alloc, Some(one), true, message, facts)?;
                 held.push(Held::Known(!one))
             }
             None => Ok(()),
@@ -65,14 +81,14 @@ fn carry_out<'a>(
             let Some(second) = held.pop() else {
                 return Ok(());
             };
-            let first = ask(alloc, held.pop(), false, text, facts)?;
+            let first = ask(alloc, held.pop(), false, message, facts)?;
             held.push(either_of(first, second))
         }
         Step::Both => {
             let Some(second) = held.pop() else {
                 return Ok(());
             };
-            let first = ask(alloc, held.pop(), true, text, facts)?;
+            let first = ask(alloc, held.pop(), true, message, facts)?;
             held.push(both_of(first, second))
         }
     }
@@ -97,36 +113,36 @@ fn ask(
     alloc: Global,
     held: Option<Held<'_>>,
     otherwise: bool,
-    text: &[u8],
+    message: &Message<'_>,
     facts: &Facts,
 ) -> Result<bool, Memory>
-    ensures { IfOk result (λ answer. answer ≡ known_or text.now facts.now otherwise held.entry) }
+    ensures { IfOk result (λ answer. answer ≡ known_or message.now facts.now otherwise held.entry) }
 {
     match held {
         Some(Held::Known(known)) => Ok(known),
-        Some(Held::Open(test)) => passes(alloc, test, text, facts),
+        Some(Held::Open(test)) => passes(alloc, test, message, facts),
         None => Ok(otherwise),
     }
 }
 
 // Whether the message passes the test.
-fn passes(alloc: Global, test: &Test, text: &[u8], facts: &Facts) -> Result<bool, Memory>
-    ensures { IfOk result (λ passed. passed ≡ passes text.now facts.now test.now) }
+fn passes(alloc: Global, test: &Test, message: &Message<'_>, facts: &Facts) -> Result<bool, Memory>
+    ensures { IfOk result (λ passed. passed ≡ passes message.now facts.now test.now) }
 {
     match test {
         Test::All => Ok(true),
         Test::Is(fact, true) => Ok(fact_in(facts, *fact)),
         Test::Is(fact, false) => Ok(!fact_in(facts, *fact)),
-        Test::Field(name, string) => field_holds(alloc, name.bytes(), string.bytes(), text),
+        Test::Field(name, string) => field_holds(alloc, name.bytes(), string.bytes(), message),
         Test::Body(string) => {
-            let header = Header::read(alloc, text)?;
+            let header = Header::read(alloc, message.text())?;
             holds_ascii(alloc, string.bytes(), header.body())
         }
-        Test::Text(string) => holds_ascii(alloc, string.bytes(), after_first_line(text)),
-        Test::Larger(limit) => Ok(*limit < size_of(text)),
-        Test::Smaller(limit) => Ok(size_of(text) < *limit),
+        Test::Text(string) => holds_ascii(alloc, string.bytes(), after_first_line(message.text())),
+        Test::Larger(limit) => Ok(*limit < size_of(message.text())),
+        Test::Smaller(limit) => Ok(size_of(message.text()) < *limit),
         Test::Day(clock, order, limit) => {
-            let moment = moment_by(alloc, *clock, text)?;
+            let moment = moment_by(alloc, *clock, message)?;
             Ok(day_passes(*order, *limit, moment))
         }
     }
@@ -165,7 +181,41 @@ fn after_first_line(text: &[u8]) -> &[u8]
 }
 
 // Whether some field of this name, unfolded, holds the string.
-fn field_holds(alloc: Global, name: &[u8], string: &[u8], text: &[u8]) -> Result<bool, Memory>
+fn field_holds(
+    alloc: Global,
+    name: &[u8],
+    string: &[u8],
+    message: &Message<'_>,
+) -> Result<bool, Memory>
+    ensures { IfOk result (λ held. held ≡ field_holds name.now string.now message.now) }
+{
+    match message.entries() {
+        Some(entries) => kept_holds(alloc, name, string, entries),
+        None => text_holds(alloc, name, string, message.text()),
+    }
+}
+
+// Whether some field of this name, unfolded, holds the string, among kept entries.
+fn kept_holds(
+    alloc: Global,
+    name: &[u8],
+    string: &[u8],
+    entries: &[EntryRef<'_>],
+) -> Result<bool, Memory>
+    ensures { IfOk result (λ held. held ≡ holding_in name.now string.now entries.now) }
+{
+    for entry in entries {
+        if let Some(one) = entry.field() {
+            if same_ascii(one.name(), name) && value_holds(alloc, one, string)? {
+                return Ok(true);
+            }
+        }
+    }
+    Ok(false)
+}
+
+// The same in the text, whose entries aren't kept.
+fn text_holds(alloc: Global, name: &[u8], string: &[u8], text: &[u8]) -> Result<bool, Memory>
     ensures { IfOk result (λ held. held ≡ field_holds name.now string.now text.now) }
 {
     for entry in entries_in(text) {
@@ -187,7 +237,31 @@ fn value_holds(alloc: Global, field: FieldRef<'_>, string: &[u8]) -> Result<bool
 }
 
 // The first field of this name.
-fn first_field<'a>(name: &[u8], text: &'a [u8]) -> Option<FieldRef<'a>>
+fn first_field<'a>(name: &[u8], message: &Message<'a>) -> Option<FieldRef<'a>>
+    ensures { result ≡ field_named name.now message.now }
+{
+    match message.entries() {
+        Some(entries) => kept_field(name, entries),
+        None => text_field(name, message.text()),
+    }
+}
+
+// The first field of this name among kept entries.
+fn kept_field<'a>(name: &[u8], entries: &[EntryRef<'a>]) -> Option<FieldRef<'a>>
+    ensures { result ≡ find_named name.now entries.now }
+{
+    for entry in entries {
+        if let Some(field) = entry.field() {
+            if same_ascii(field.name(), name) {
+                return Some(field);
+            }
+        }
+    }
+    None
+}
+
+// The same in the text, whose entries aren't kept.
+fn text_field<'a>(name: &[u8], text: &'a [u8]) -> Option<FieldRef<'a>>
     ensures { result ≡ field_named name.now text.now }
 {
     for entry in entries_in(text) {
@@ -201,14 +275,14 @@ fn first_field<'a>(name: &[u8], text: &'a [u8]) -> Option<FieldRef<'a>>
 }
 
 // When the message came, or its own moment.
-fn moment_by(alloc: Global, clock: Clock, text: &[u8]) -> Result<Option<Moment>, Memory>
-    ensures moment { IfOk result (λ moment. moment ≡ moment_by clock text.now) }
+fn moment_by(alloc: Global, clock: Clock, message: &Message<'_>) -> Result<Option<Moment>, Memory>
+    ensures moment { IfOk result (λ moment. moment ≡ moment_by clock message.now) }
     ensures years { IfOk result (λ moment. IfSome moment IsInYears) }
 {
-    let line = after_from(from_line_in(text));
+    let line = after_from(from_line_in(message.text()));
     match clock {
         Clock::Arrival => Ok(read_from_line(line).moment),
-        Clock::Message => moment_of(alloc, first_field(b"Date", text), line),
+        Clock::Message => moment_of(alloc, first_field(b"Date", message), line),
     }
 }
 

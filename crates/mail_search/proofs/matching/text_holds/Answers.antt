@@ -1,6 +1,6 @@
 use Rattle.std.proofs.Common.{ap, ◌∙◌}
-use Rattle.mail_search.proofs.MatchingLemmas.{holding_in}
-use Rattle.mail_search.proofs.matching.field_holds.Goals as goal
+use Rattle.mail_search.specs.Entries.{holding_in}
+use Rattle.mail_search.proofs.matching.text_holds.Goals as goal
 
 pub loop-entry-init : goal.loop-entry-init
 loop-entry-init c =

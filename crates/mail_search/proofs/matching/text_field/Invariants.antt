@@ -1,7 +1,7 @@
 use Rattle.std.proofs.Common.{◌≡◌}
 use Rattle.mail_headers.specs.Header.{field_named}
-use Rattle.mail_search.proofs.MatchingLemmas.{find_named}
-use Rattle.mail_search.proofs.matching.first_field.Given as goal
+use Rattle.mail_search.specs.Entries.{find_named}
+use Rattle.mail_search.proofs.matching.text_field.Given as goal
 
 -- what is left tells of the whole header
 abbrev pub invariant-loop-entry : goal.invariant-loop-entry

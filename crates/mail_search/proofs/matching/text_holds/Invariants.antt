@@ -1,7 +1,7 @@
 use Rattle.std.proofs.Common.{◌≡◌}
 use Rattle.mail_search.specs.Meaning.{field_holds}
-use Rattle.mail_search.proofs.MatchingLemmas.{holding_in}
-use Rattle.mail_search.proofs.matching.field_holds.Given as goal
+use Rattle.mail_search.specs.Entries.{holding_in}
+use Rattle.mail_search.proofs.matching.text_holds.Given as goal
 
 -- what is left tells of the whole header
 abbrev pub invariant-loop-entry : goal.invariant-loop-entry

@@ -1,6 +1,6 @@
 use Rattle.std.proofs.Common.{ap, ◌∙◌}
-use Rattle.mail_search.proofs.MatchingLemmas.{find_named}
-use Rattle.mail_search.proofs.matching.first_field.Goals as goal
+use Rattle.mail_search.specs.Entries.{find_named}
+use Rattle.mail_search.proofs.matching.text_field.Goals as goal
 
 pub loop-entry-init : goal.loop-entry-init
 loop-entry-init c =

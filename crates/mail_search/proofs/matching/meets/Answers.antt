@@ -5,11 +5,11 @@ use Rattle.mail_search.specs.declared.criterion.Step.{Step}
 use Rattle.mail_search.specs.Meaning.{key_holds}
 use Rattle.mail_search.specs.Steps.{keys_of, last_key}
 use Rattle.mail_search.proofs.MatchingLemmas.{known-last}
-use Rattle.mail_search.proofs.matching.matches.Goals as goal
+use Rattle.mail_search.proofs.matching.meets.Goals as goal
 
 pub returns : goal.returns
 returns c =
-    let text = c.args.text.now in
+    let text = c.args.message.now in
     let facts = c.args.facts.now in
     let steps = c.steps-step-items.result.now in
     let done = take c.loop-step.step-index steps in

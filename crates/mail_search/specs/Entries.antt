@@ -1,0 +1,19 @@
+-- What is asked of the entries of a header that are kept.
+use Rattle.std.specs.Prelude.{ℕ, Bool, ◌&&◌, List, find, Option}
+use Rattle.std.specs.List.{filter_map, list_any}
+use Rattle.mail_text.specs.Ascii.{same_ascii}
+use Rattle.mail_text.specs.Holding.{holds_ascii}
+use Rattle.mail_headers.specs.Field.{Field, unfolded}
+use Rattle.mail_headers.specs.Header.{Entry, field_in}
+
+-- whether a field of this name holds the string
+abbrev pub is_holding : List ℕ → List ℕ → Field → Bool
+is_holding name string f = same_ascii f.name name && holds_ascii string (unfolded f)
+
+-- whether some field among entries is such a one
+abbrev pub holding_in : List ℕ → List ℕ → List Entry → Bool
+holding_in name string es = list_any (is_holding name string) (filter_map field_in es)
+
+-- the first field of this name among entries
+abbrev pub find_named : List ℕ → List Entry → Option Field
+find_named name es = find (λ f. same_ascii f.name name) (filter_map field_in es)
