@@ -6,6 +6,7 @@ ghost use Rattle.mail_search.specs.Tokens.{token_of};
 
 use crate::criterion::{Clock, Order, Test};
 use crate::day::day_written;
+use crate::needle::Needle;
 use crate::token::Token;
 use mail_text::{Memory, Text, read_number};
 use std::alloc::Global;
@@ -40,6 +41,16 @@ pub(crate) fn string_in(alloc: Global, token: Token<'_>) -> Result<Option<Text>,
     }
 }
 
+// The same as a needle.
+fn needle_in(alloc: Global, token: Token<'_>) -> Result<Option<Needle>, Memory>
+    ensures { IfOk result (λ needle. needle ≡ string_in (token_of token.entry)) }
+{
+    match string_in(alloc, token)? {
+        Some(string) => Ok(Some(Needle::of(alloc, string)?)),
+        None => Ok(None),
+    }
+}
+
 // The number that the token is, if it is one.
 fn number_in(token: Token<'_>) -> Option<u64>
     ensures { result ≡ number_in (token_of token.entry) }
@@ -71,14 +82,14 @@ pub(crate) fn made(
     match argument {
         Argument::Name => Ok(None),
         Argument::Field(name) => {
-            let string = string_in(alloc, token)?;
-            match string {
-                Some(string) => Ok(Some(Test::Field(name, string))),
+            let needle = needle_in(alloc, token)?;
+            match needle {
+                Some(needle) => Ok(Some(Test::Field(name, needle))),
                 None => Ok(None),
             }
         }
-        Argument::Body => Ok(string_in(alloc, token)?.map(Test::Body)),
-        Argument::Text => Ok(string_in(alloc, token)?.map(Test::Text)),
+        Argument::Body => Ok(needle_in(alloc, token)?.map(Test::Body)),
+        Argument::Text => Ok(needle_in(alloc, token)?.map(Test::Text)),
         Argument::Larger => Ok(number_in(token).map(Test::Larger)),
         Argument::Smaller => Ok(number_in(token).map(Test::Smaller)),
         Argument::Day(clock, order) => Ok(day_in(token).map(|day| Test::Day(clock, order, day))),

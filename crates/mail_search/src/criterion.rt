@@ -1,5 +1,6 @@
 ghost use Rattle.std.specs.Prelude.{◌≡◌};
 
+use crate::needle::Needle;
 use mail_text::{Items, Text};
 use std::marker::Model;
 
@@ -51,11 +52,11 @@ pub(crate) enum Test {
     /// The fact holds, or it doesn't.
     Is(Fact, bool),
     /// Some field of the first name, unfolded, holds the second string.
-    Field(Text, Text),
+    Field(Text, Needle),
     /// The body holds the string.
-    Body(Text),
+    Body(Needle),
     /// The text after its first line holds the string.
-    Text(Text),
+    Text(Needle),
     /// The message has more bytes.
     Larger(u64),
     /// The message has fewer bytes.

@@ -10,6 +10,7 @@ mod laws;
 mod matching;
 mod message;
 mod names;
+mod needle;
 mod read;
 mod reader;
 mod stack;

@@ -12,10 +12,11 @@ ghost use Rattle.mail_search.specs.Meaning.{fact_in, field_holds, after_first_li
 
 use crate::criterion::{Clock, Criterion, Fact, Facts, Order, Step, Test};
 use crate::message::Message;
+use crate::needle::Needle;
 use crate::stack::Stack;
 use mail_dates::{Moment, after_from, day_of, moment_of, read_from_line};
 use mail_headers::{EntryRef, FieldRef, Header, entries_in, from_line_in, unfold_value};
-use mail_text::{Memory, holds_ascii, same_ascii};
+use mail_text::{Memory, same_ascii};
 use std::alloc::Global;
 
 /// Whether a key holds: it is known, or is still to be asked of a test.
@@ -38,7 +39,8 @@ pub fn matches(
     ensures { IfOk result (λ held. held ≡ key_holds text.now facts.now criterion.now) }
 {
     let message = Message::read(alloc, text, criterion.asks_often())?;
-    meets(alloc, criterion, &message, facts)
+    let mut small = Vec::new(alloc);
+    meets(alloc, criterion, &message, facts, &mut small)
 }
 
 // Whether the message meets the criterion.
@@ -47,14 +49,15 @@ fn meets(
     criterion: &Criterion,
     message: &Message<'_>,
     facts: &Facts,
+    small: &mut Vec<u8>,
 ) -> Result<bool, Memory>
     ensures { IfOk result (λ held. held ≡ key_holds message.now facts.now criterion.now) }
 {
     let mut held = Stack::new(alloc);
     for step in criterion.steps() {
-        carry_out(alloc, step, message, facts, &mut held)?;
+        carry_out(alloc, step, message, facts, small, &mut held)?;
     }
-    ask(alloc, held.pop(), true, message, facts)
+    ask(alloc, held.pop(), true, message, facts, small)
 }
 
 // Carries a step out on what is known of the keys so far, the last one on top.
@@ -63,6 +66,7 @@ fn carry_out<'a>(
     step: &'a Step,
     message: &Message<'_>,
     facts: &Facts,
+    small: &mut Vec<u8>,
     held: &mut Stack<Held<'a>>,
 ) -> Result<(), Memory>
     ensures { OnOk result ((keys : List Key) → IsKnown message.now facts.now held.old keys
@@ -72,7 +76,7 @@ fn carry_out<'a>(
         Step::Test(test) => held.push(Held::Open(test)),
         Step::Not => match held.pop() {
             Some(one) => {
-                let one = ask(alloc, Some(one), true, message, facts)?;
+                let one = ask(alloc, Some(one), true, message, facts, small)?;
                 held.push(Held::Known(!one))
             }
             None => Ok(()),
@@ -81,14 +85,14 @@ fn carry_out<'a>(
             let Some(second) = held.pop() else {
                 return Ok(());
             };
-            let first = ask(alloc, held.pop(), false, message, facts)?;
+            let first = ask(alloc, held.pop(), false, message, facts, small)?;
             held.push(either_of(first, second))
         }
         Step::Both => {
             let Some(second) = held.pop() else {
                 return Ok(());
             };
-            let first = ask(alloc, held.pop(), true, message, facts)?;
+            let first = ask(alloc, held.pop(), true, message, facts, small)?;
             held.push(both_of(first, second))
         }
     }
@@ -115,30 +119,37 @@ fn ask(
     otherwise: bool,
     message: &Message<'_>,
     facts: &Facts,
+    small: &mut Vec<u8>,
 ) -> Result<bool, Memory>
     ensures { IfOk result (λ answer. answer ≡ known_or message.now facts.now otherwise held.entry) }
 {
     match held {
         Some(Held::Known(known)) => Ok(known),
-        Some(Held::Open(test)) => passes(alloc, test, message, facts),
+        Some(Held::Open(test)) => passes(alloc, test, message, facts, small),
         None => Ok(otherwise),
     }
 }
 
 // Whether the message passes the test.
-fn passes(alloc: Global, test: &Test, message: &Message<'_>, facts: &Facts) -> Result<bool, Memory>
+fn passes(
+    alloc: Global,
+    test: &Test,
+    message: &Message<'_>,
+    facts: &Facts,
+    small: &mut Vec<u8>,
+) -> Result<bool, Memory>
     ensures { IfOk result (λ passed. passed ≡ passes message.now facts.now test.now) }
 {
     match test {
         Test::All => Ok(true),
         Test::Is(fact, true) => Ok(fact_in(facts, *fact)),
         Test::Is(fact, false) => Ok(!fact_in(facts, *fact)),
-        Test::Field(name, string) => field_holds(alloc, name.bytes(), string.bytes(), message),
-        Test::Body(string) => {
+        Test::Field(name, needle) => field_holds(alloc, name.bytes(), needle, message, small),
+        Test::Body(needle) => {
             let header = Header::read(alloc, message.text())?;
-            holds_ascii(alloc, string.bytes(), header.body())
+            needle.stands_in(header.body(), small)
         }
-        Test::Text(string) => holds_ascii(alloc, string.bytes(), after_first_line(message.text())),
+        Test::Text(needle) => needle.stands_in(after_first_line(message.text()), small),
         Test::Larger(limit) => Ok(*limit < size_of(message.text())),
         Test::Smaller(limit) => Ok(size_of(message.text()) < *limit),
         Test::Day(clock, order, limit) => {
@@ -184,14 +195,15 @@ fn after_first_line(text: &[u8]) -> &[u8]
 fn field_holds(
     alloc: Global,
     name: &[u8],
-    string: &[u8],
+    needle: &Needle,
     message: &Message<'_>,
+    small: &mut Vec<u8>,
 ) -> Result<bool, Memory>
-    ensures { IfOk result (λ held. held ≡ field_holds name.now string.now message.now) }
+    ensures { IfOk result (λ held. held ≡ field_holds name.now needle.now message.now) }
 {
     match message.entries() {
-        Some(entries) => kept_holds(alloc, name, string, entries),
-        None => text_holds(alloc, name, string, message.text()),
+        Some(entries) => kept_holds(alloc, name, needle, entries, small),
+        None => text_holds(alloc, name, needle, message.text(), small),
     }
 }
 
@@ -199,14 +211,15 @@ fn field_holds(
 fn kept_holds(
     alloc: Global,
     name: &[u8],
-    string: &[u8],
+    needle: &Needle,
     entries: &[EntryRef<'_>],
+    small: &mut Vec<u8>,
 ) -> Result<bool, Memory>
-    ensures { IfOk result (λ held. held ≡ holding_in name.now string.now entries.now) }
+    ensures { IfOk result (λ held. held ≡ holding_in name.now needle.now entries.now) }
 {
     for entry in entries {
         if let Some(one) = entry.field() {
-            if same_ascii(one.name(), name) && value_holds(alloc, one, string)? {
+            if same_ascii(one.name(), name) && value_holds(alloc, one, needle, small)? {
                 return Ok(true);
             }
         }
@@ -215,12 +228,18 @@ fn kept_holds(
 }
 
 // The same in the text, whose entries aren't kept.
-fn text_holds(alloc: Global, name: &[u8], string: &[u8], text: &[u8]) -> Result<bool, Memory>
-    ensures { IfOk result (λ held. held ≡ field_holds name.now string.now text.now) }
+fn text_holds(
+    alloc: Global,
+    name: &[u8],
+    needle: &Needle,
+    text: &[u8],
+    small: &mut Vec<u8>,
+) -> Result<bool, Memory>
+    ensures { IfOk result (λ held. held ≡ field_holds name.now needle.now text.now) }
 {
     for entry in entries_in(text) {
         if let Some(field) = entry.field() {
-            if same_ascii(field.name(), name) && value_holds(alloc, field, string)? {
+            if same_ascii(field.name(), name) && value_holds(alloc, field, needle, small)? {
                 return Ok(true);
             }
         }
@@ -229,11 +248,16 @@ fn text_holds(alloc: Global, name: &[u8], string: &[u8], text: &[u8]) -> Result<
 }
 
 // Whether the value of the field, unfolded, holds the string.
-fn value_holds(alloc: Global, field: FieldRef<'_>, string: &[u8]) -> Result<bool, Memory>
-    ensures { IfOk result (λ held. held ≡ holds_ascii string.now (unfolded field.entry)) }
+fn value_holds(
+    alloc: Global,
+    field: FieldRef<'_>,
+    needle: &Needle,
+    small: &mut Vec<u8>,
+) -> Result<bool, Memory>
+    ensures { IfOk result (λ held. held ≡ holds_ascii needle.now (unfolded field.entry)) }
 {
     let value = unfold_value(alloc, field)?;
-    holds_ascii(alloc, string, value.bytes())
+    needle.stands_in(value.bytes(), small)
 }
 
 // The first field of this name.

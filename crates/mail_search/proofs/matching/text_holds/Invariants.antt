@@ -7,4 +7,4 @@ use Rattle.mail_search.proofs.matching.text_holds.Given as goal
 abbrev pub invariant-loop-entry : goal.invariant-loop-entry
 invariant-loop-entry l =
     (goal.iterator-loop-entry).can_next l.entry-iterator × (goal.iterator-loop-entry).is_finite l.entry-iterator
-    × (holding_in l.name l.string l.entry-iterator ≡ field_holds l.name l.string l.text)
+    × (holding_in l.name l.needle l.entry-iterator ≡ field_holds l.name l.needle l.text)
