@@ -1,12 +1,11 @@
 -- Lines of the body.
-use Rattle.std.proofs.Common.{◌≡◌, ◌==◌, ◌&&◌, ℕ, Bool, List, [], ◌∷◌, length, true, false, refl, sym, ap, ◌∙◌, arith, ⊎_elim, append_assoc, eq-eqb}
+use Rattle.std.proofs.Common.{◌≡◌, ◌==◌, ◌&&◌, ℕ, Bool, List, [], ◌∷◌, length, true, false, refl, ap, ◌∙◌, arith, ⊎_elim, eq-eqb}
 use Rattle.std.specs.Prelude.{if◌then◌else◌, Option, codes}
 use Rattle.std.specs.List.{flat_map}
 use Rattle.std.specs.declared.option.Option.TheVariants.{Some, None}
 use Rattle.std.specs.declared.result.Result.TheVariants.{Ok}
 use Rattle.std.proofs.lemmas.Bool.{cond-true, cond-false, cases_Bool}
 use Rattle.std.proofs.lemmas.List.Elements.{All-head, All-tail}
-use Rattle.std.proofs.lemmas.List.{append-nil}
 use Rattle.std.proofs.lemmas.Slice.Eq.{bytes_eq-Decides}
 use Rattle.std.specs.Str.{bytes_eq}
 use Rattle.mail_text.specs.Lines.{with_feed}
@@ -18,6 +17,7 @@ use Rattle.compose_tilde.specs.Views.{View}
 use Rattle.compose_tilde.specs.Values.{with_subject, with_body}
 use Rattle.compose_tilde.specs.Steps.{goes_on}
 use Rattle.compose_tilde.specs.Lines.{written_step, draft_line, begun, asked_line, line_step}
+use Rattle.compose_tilde.proofs.GrownLemmas.{grown-twice}
 use Rattle.compose_tilde.specs.Laws.{begins_with, IsBodyLine, TakesBody, with_bytes, BodyTakesLine, after_step, after_lines, BodyIsLines, TwiceIsOnce}
 
 -- a line that doesn't begin with the escape byte is plain
@@ -48,12 +48,12 @@ after-one : (m : Machine) (line : List ℕ) (view : View) → TakesBody m view �
 after-one m line view takes is = ap (after_step m) (body-takes-line m line view takes is)
 
 pub body-is-lines : BodyIsLines
-body-is-lines m [] view takes all = ap (with_body m.draft) (sym (append-nil m.draft.body))
+body-is-lines m [] view takes all = refl
 body-is-lines m (line ∷ lines) view takes all =
     let first = with_feed line in
     ap (λ (n : Machine). (after_lines view n lines).draft) (after-one m line view takes (All-head (IsBodyLine view.vars) line lines all))
     ∙ body-is-lines (with_bytes m first) lines view (takes-on m first view takes) (All-tail (IsBodyLine view.vars) line lines all)
-    ∙ ap (with_body m.draft) (append_assoc m.draft.body first (flat_map with_feed lines))
+    ∙ ap (with_body m.draft) (grown-twice m.draft.body line (flat_map with_feed lines))
 
 -- a line of two bytes or more doesn't end the draft
 no-end : (vars : Settings) (b c : ℕ) (rest : List ℕ) → is_end vars (b ∷ c ∷ rest) ≡ false

@@ -1,5 +1,5 @@
 -- No part of a draft but its body holds a line feed.
-use Rattle.std.proofs.Common.{◌≡◌, ◌==◌, ℕ, Bool, List, [], ◌++◌, map, get_or, drop, length, true, false, refl, sym, ap, ◌∙◌, arith, ⊎_elim, subst}
+use Rattle.std.proofs.Common.{◌≡◌, ◌==◌, ℕ, Bool, List, [], map, get_or, drop, length, true, false, refl, sym, ap, ◌∙◌, arith, ⊎_elim, subst}
 use Rattle.std.specs.Prelude.{All, if◌then◌else◌, Option, ◌≢◌, nat_eq, codes, OnErr}
 use Rattle.std.specs.List.{starts_with}
 use Rattle.std.specs.Option.{option_map}
@@ -34,7 +34,7 @@ use Rattle.compose_tilde.specs.declared.escape.Escape.TheVariants as escape
 use Rattle.compose_tilde.specs.Escapes.{escape_of, takes}
 use Rattle.compose_tilde.specs.Reading.{Written, plain, alone, escaped, reading_of, escape_byte, argument, given_for, is_end}
 use Rattle.compose_tilde.specs.Views.{View}
-use Rattle.compose_tilde.specs.Values.{flat_byte, flat, with_names, with_more, with_subject, with_body, appended, replaced, put_value}
+use Rattle.compose_tilde.specs.Values.{flat_byte, flat, with_names, with_more, with_subject, with_body, grown, appended, replaced, put_value}
 use Rattle.compose_tilde.specs.Steps.{Step, Means, goes_on, says, asks}
 use Rattle.compose_tilde.specs.Meanings.{command, source, take_messages, meaning}
 use Rattle.compose_tilde.specs.Lines.{asks_subject, with_given, with_letter, written_step, draft_line, next_value, subject_or_line, begun, asked_line, line_step}
@@ -172,7 +172,7 @@ flat-answered Said (answer.Ran child) m h = h
 flat-answered Said (answer.Edited edit) m h = h
 flat-answered Said answer.Carried m h = h
 flat-answered Taken (answer.Loaded bytes) m h = h
-flat-answered Taken (answer.Ran child) m h = flat-if child.cut (Err error.TooMuch) (Ok (record m { draft = appended m.draft child.output }, told child.status)) tt (flat-body m.draft (m.draft.body ++ child.output) h)
+flat-answered Taken (answer.Ran child) m h = flat-if child.cut (Err error.TooMuch) (Ok (record m { draft = appended m.draft child.output }, told child.status)) tt (flat-body m.draft (grown m.draft.body child.output) h)
 flat-answered Taken (answer.Edited edit) m h = h
 flat-answered Taken answer.Carried m h = h
 flat-answered Filtered (answer.Loaded bytes) m h = h

@@ -1,9 +1,9 @@
 -- What holds of all lines and answers of a draft.
-use Rattle.std.specs.Prelude.{◌≡◌, ◌==◌, ℕ, Bool, true, false, List, ◌∷◌, fold, map, All, Option, Some, None}
+use Rattle.std.specs.Prelude.{◌≡◌, ◌==◌, ℕ, Bool, true, false, List, ◌∷◌, ◌++◌, fold, map, All, Option, Some, None}
 use Rattle.std.specs.List.{flat_map}
 use Rattle.std.specs.List.Sorted.{IsStrictlyIncreasing}
 use Rattle.std.specs.declared.result.Result.TheVariants.{Ok, Err}
-use Rattle.mail_text.specs.Lines.{with_feed}
+use Rattle.mail_text.specs.Lines.{lines_of, with_feed}
 use Rattle.mailx_vars.specs.Settings.{Settings}
 use Rattle.host_port.specs.declared.event.ChildAnswer.{ChildAnswer}
 use Rattle.host_port.specs.declared.event.EditAnswer.{EditAnswer}
@@ -63,6 +63,10 @@ after_lines view m lines = fold (λ m line. after_step m (line_step m line view)
 abbrev pub BodyIsLines : Type 0
 BodyIsLines = (m : Machine) (lines : List (List ℕ)) (view : View) → TakesBody m view → All (IsBodyLine view.vars) lines
     → (after_lines view m lines).draft ≡ appended m.draft (flat_map with_feed lines)
+
+-- the body keeps its lines, and has behind them those of what it takes
+abbrev pub BodyKeepsLines : Type 0
+BodyKeepsLines = (draft : Draft) (bytes : List ℕ) → lines_of (appended draft bytes).body ≡ lines_of draft.body ++ lines_of bytes
 
 -- a line that begins with the escape byte twice is put at the end of the body without the first of them
 abbrev pub TwiceIsOnce : Type 0

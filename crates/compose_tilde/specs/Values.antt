@@ -1,7 +1,7 @@
 -- The values of a draft that lines set: names and subject, and the body.
 use Rattle.std.specs.Prelude.{ℕ, ◌==◌, List, [], ◌∷◌, ◌++◌, length, map, Option, Some, None, codes, if◌then◌else◌}
 use Rattle.std.specs.Option.{option_map}
-use Rattle.mail_text.specs.Lines.{with_feed}
+use Rattle.mail_text.specs.Lines.{with_feed, fed}
 use Rattle.line_words.specs.Words.{words_of}
 use Rattle.draft_text.specs.declared.draft.Draft.{Draft}
 use Rattle.draft_text.specs.Texts.{joined}
@@ -42,9 +42,13 @@ with_subject draft bytes = record draft { subject = flat bytes }
 abbrev pub with_body : Draft → List ℕ → Draft
 with_body draft bytes = record draft { body = bytes }
 
+-- a body with these bytes behind it, on a line of their own: if there are any, its last line is ended
+abbrev pub grown : List ℕ → List ℕ → List ℕ
+grown body bytes = if length bytes == 0 then body else fed body ++ bytes
+
 -- the draft with these bytes at the end of its body
 abbrev pub appended : Draft → List ℕ → Draft
-appended draft bytes = with_body draft (draft.body ++ bytes)
+appended draft bytes = with_body draft (grown draft.body bytes)
 
 -- the names of a value
 abbrev pub field_name : Part → List ℕ

@@ -100,7 +100,7 @@ fn take_output(
         return Err(ComposeError::TooMuch);
     }
     let need = told(alloc, child.status)?;
-    append(&mut machine.draft, child.output.bytes())?;
+    append(alloc, &mut machine.draft, child.output.bytes())?;
     Ok(need)
 }
 
@@ -162,7 +162,7 @@ fn answered(
     ensures stays { OnErr result (machine.new ≡ machine.old) }
 {
     match (wait, answer) {
-        (Wait::File, Answer::Loaded(bytes)) => take(machine, bytes.bytes()),
+        (Wait::File, Answer::Loaded(bytes)) => take(alloc, machine, bytes.bytes()),
         (Wait::Said, Answer::Ran(child)) => Ok(say_output(child)?),
         (Wait::Taken, Answer::Ran(child)) => take_output(alloc, machine, child),
         (Wait::Filtered, Answer::Ran(child)) => filter(alloc, machine, child),

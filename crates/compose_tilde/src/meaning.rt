@@ -148,11 +148,11 @@ pub(crate) fn subject(
 }
 
 // The body takes these bytes.
-pub(crate) fn take(machine: &mut Machine, bytes: &[u8]) -> Result<Need, ComposeError>
+pub(crate) fn take(alloc: Global, machine: &mut Machine, bytes: &[u8]) -> Result<Need, ComposeError>
     ensures means { Means result machine.new (goes_on machine.old (appended machine.old.draft bytes.now)) }
     ensures stays { OnErr result (machine.new ≡ machine.old) }
 {
-    append(&mut machine.draft, bytes)?;
+    append(alloc, &mut machine.draft, bytes)?;
     Ok(Need::More)
 }
 
@@ -207,7 +207,7 @@ fn forward(
     match chosen(alloc, words, view) {
         Ok(numbers) => {
             let text = all_forwarded(alloc, view, how, numbers.items())?;
-            take(machine, text.bytes())
+            take(alloc, machine, text.bytes())
         }
         Err(error) => Err(list_error(error)),
     }
@@ -229,7 +229,7 @@ fn quote(
     match chosen(alloc, words, view) {
         Ok(numbers) => {
             let text = all_quoted(alloc, view, how, numbers.items())?;
-            take(machine, text.bytes())
+            take(alloc, machine, text.bytes())
         }
         Err(error) => Err(list_error(error)),
     }

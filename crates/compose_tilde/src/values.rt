@@ -1,6 +1,7 @@
 // The values of a draft that lines set.
 ghost use Rattle.std.specs.Prelude.{◌≡◌, ◌+◌, ◌≤◌, ◌++◌, ◌==◌, ◌∷◌, map, IfOk, OnOk, OnErr, vec_len, vec_capacity};
-ghost use Rattle.mail_text.specs.Lines.{with_feed};
+ghost use Rattle.std.specs.Bool.{if◌then◌else◌};
+ghost use Rattle.mail_text.specs.Lines.{with_feed, fed};
 ghost use Rattle.compose_tilde.specs.Values.{flat_byte, flat, with_names, with_more, with_subject, appended};
 
 use crate::machine::Names;
@@ -119,12 +120,38 @@ pub(crate) fn set_subject(alloc: Global, draft: &mut Draft, bytes: &[u8]) -> Res
     Ok(())
 }
 
-// Puts bytes at the end of the body.
-pub(crate) fn append(draft: &mut Draft, bytes: &[u8]) -> Result<(), Memory>
+// Whether the last line of a body is ended. Without bytes there is none.
+fn is_ended(body: &[u8]) -> bool
+    ensures { fed body.now ≡ (if result then body.now else with_feed body.now) }
+{
+    match body.last() {
+        Some(last) => *last == b'\n',
+        None => true,
+    }
+}
+
+// Puts bytes at the end of a body, whose last line is ended first.
+fn push_apart(alloc: Global, body: &mut Text, bytes: &[u8]) -> Result<(), Memory>
+    ensures ok { OnOk result (body.new ≡ fed body.old ++ bytes.now) }
+    ensures err { OnErr result (body.new ≡ body.old) }
+{
+    if is_ended(body.bytes()) {
+        return body.push(bytes);
+    }
+    let mut more = Text::copy(alloc, b"\n")?;
+    more.push(bytes)?;
+    body.push(more.bytes())
+}
+
+// Puts bytes at the end of the body, on a line of their own.
+pub(crate) fn append(alloc: Global, draft: &mut Draft, bytes: &[u8]) -> Result<(), Memory>
     ensures ok { OnOk result (draft.new ≡ appended draft.old bytes.now) }
     ensures err { OnErr result (draft.new ≡ draft.old) }
 {
-    draft.body.push(bytes)
+    if bytes.is_empty() {
+        return Ok(());
+    }
+    push_apart(alloc, &mut draft.body, bytes)
 }
 
 // Puts a line with its line feed at the end of the body.
@@ -134,5 +161,5 @@ pub(crate) fn append_line(alloc: Global, draft: &mut Draft, line: &[u8]) -> Resu
 {
     let mut bytes = Text::copy(alloc, line)?;
     bytes.push(b"\n")?;
-    append(draft, bytes.bytes())
+    append(alloc, draft, bytes.bytes())
 }
