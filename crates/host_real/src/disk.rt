@@ -4,15 +4,17 @@ ghost use Rattle.host_port.specs.Calls.{FitsLoad};
 
 use crate::files::{remove_file, rename_file, write_file};
 use crate::kinds::{is_absence, is_empty_place, refuse_own};
-use crate::locks::{Marks, lock, refuse_broken, refuse_unlocked, unlock};
+use crate::locks::{Marks, lock, locker_of, refuse_broken, refuse_unlocked, unlock};
 use crate::paths::{Place, actor_of, is_staged, path_of, place_of};
 use crate::reading::load;
 use crate::reasons::FileError;
 use crate::rights::Rights;
+use crate::spool::{Errand, Helper, Operation};
 use crate::tails::extend;
 use host_port::LoadAnswer;
 use std::alloc::Global;
 use std::fs::{File, Files};
+use std::process::Processes;
 use std::time::{Clock, Duration};
 
 /// The files of a run: the rights and the locks that it has, and the actor whose three files are its own, which the
@@ -50,6 +52,10 @@ impl Disk {
         place_of(rt, self.alloc, self.actor.as_ref(), name)
     }
 
+    fn helper(&self) -> Helper<'_> {
+        Helper::new(self.alloc, &self.rights)
+    }
+
     // The place of a name, or None if no file can have it.
     fn place_if_any<R: Files>(&self, rt: &R, name: &[u8]) -> Result<Option<Place>, FileError> {
         match self.place(rt, name) {
@@ -71,18 +77,35 @@ impl Disk {
         load(rt, alloc, &self.marks, &place, self.wait)
     }
 
-    pub fn stage<R: Files<File = File>>(
+    /// Writes a whole file.
+    pub fn stage<R: Files<File = File> + Processes>(
         &self,
         rt: &R,
         name: &[u8],
         bytes: &[u8],
     ) -> Result<(), FileError> {
         let place = self.place(rt, name)?;
-        write_file(rt, &place, bytes)
+        match (write_file(rt, &place, bytes), &place) {
+            (Err(refusal), Place::Staged { file, digits, .. }) => {
+                let errand = Errand {
+                    operation: Operation::Stage,
+                    file: file.as_str(),
+                    digits: digits.as_str(),
+                    input: bytes,
+                };
+                self.helper().have_done(rt, &errand, refusal)
+            }
+            (answer, _) => answer,
+        }
     }
 
     /// Puts a staged file into its place, if the lock of that file stands and the file is as it was locked.
-    pub fn publish<R: Files>(&self, rt: &R, from: &[u8], to: &[u8]) -> Result<bool, FileError> {
+    pub fn publish<R: Files + Processes>(
+        &self,
+        rt: &R,
+        from: &[u8],
+        to: &[u8],
+    ) -> Result<bool, FileError> {
         let Some(from) = self.place_if_any(rt, from)? else {
             return Ok(false);
         };
@@ -90,12 +113,33 @@ impl Disk {
             return Ok(false);
         }
         let to = self.place(rt, to)?;
-        if let Place::Staged { file, digits, .. } = &from
-            && file.as_str() == to.path()
-        {
-            refuse_broken(rt, self.alloc, &self.marks, file.as_str(), digits.as_str())?;
+        match &from {
+            Place::Staged { path, file, digits } if file.as_str() == to.path() => self.put_in_place(
+                rt,
+                path.as_str(),
+                file.as_str(),
+                digits.as_str(),
+            ),
+            _ => rename_file(rt, from.path(), to.path()),
         }
-        rename_file(rt, from.path(), to.path())
+    }
+
+    // Puts what was staged by the token with these digits in the place of its file.
+    fn put_in_place<R: Files + Processes>(
+        &self,
+        rt: &R,
+        staged: &str,
+        file: &str,
+        digits: &str,
+    ) -> Result<bool, FileError> {
+        refuse_broken(rt, self.alloc, &self.marks, file, digits)?;
+        match rename_file(rt, staged, file) {
+            Err(refusal) => {
+                let errand = Errand::of(Operation::Publish, file, digits);
+                self.helper().ask(rt, &errand, refusal)
+            }
+            answer => answer,
+        }
     }
 
     /// Gives a file another tail, if the lock of a run that has staged that tail stands, and nobody else has added to
@@ -112,7 +156,7 @@ impl Disk {
     }
 
     /// Takes a file away: one of mailx's own making, or one whose lock stands and that is as it was locked.
-    pub fn erase<R: Files>(&self, rt: &R, name: &[u8]) -> Result<(), FileError> {
+    pub fn erase<R: Files + Processes>(&self, rt: &R, name: &[u8]) -> Result<(), FileError> {
         let place = match self.place_if_any(rt, name) {
             Ok(Some(place)) => place,
             Ok(None) => return Ok(()),
@@ -125,10 +169,34 @@ impl Disk {
                 refuse_unlocked(rt, self.alloc, &self.marks, path)?;
             }
         }
-        remove_file(rt, &place)
+        match remove_file(rt, &place) {
+            Err(refusal) => self.have_erased(rt, &place, refusal),
+            answer => answer,
+        }
     }
 
-    pub fn lock<R: Files + Clock>(
+    // Has the helper take away what was staged, or a file that is locked by a run which has staged its removal.
+    fn have_erased<R: Files + Processes>(
+        &self,
+        rt: &R,
+        place: &Place,
+        refusal: FileError,
+    ) -> Result<(), FileError> {
+        match place {
+            Place::Staged { file, digits, .. } => {
+                let errand = Errand::of(Operation::Discard, file.as_str(), digits.as_str());
+                self.helper().have_done(rt, &errand, refusal)
+            }
+            Place::File(path) if !path.ends_with(".lock") => {
+                let digits = locker_of(rt, self.alloc, path.as_str())?;
+                let errand = Errand::of(Operation::Erase, path.as_str(), digits.as_str());
+                self.helper().have_done(rt, &errand, refusal)
+            }
+            _ => Err(refusal),
+        }
+    }
+
+    pub fn lock<R: Files + Clock + Processes>(
         &mut self,
         rt: &R,
         name: &[u8],
@@ -137,12 +205,21 @@ impl Disk {
         let place = self.place(rt, name)?;
         let path = place.path();
         refuse_own(rt, self.alloc, self.actor.as_ref(), path)?;
-        lock(rt, self.alloc, &mut self.marks, path, token, self.wait)
+        let helper = Helper::new(self.alloc, &self.rights);
+        lock(rt, &helper, &mut self.marks, path, token, self.wait)
     }
 
-    pub fn unlock<R: Files>(&mut self, rt: &R, name: &[u8], token: u64) -> Result<(), FileError> {
+    pub fn unlock<R: Files + Processes>(
+        &mut self,
+        rt: &R,
+        name: &[u8],
+        token: u64,
+    ) -> Result<(), FileError> {
         match self.place_if_any(rt, name) {
-            Ok(Some(place)) => unlock(rt, self.alloc, &mut self.marks, place.path(), token),
+            Ok(Some(place)) => {
+                let helper = Helper::new(self.alloc, &self.rights);
+                unlock(rt, &helper, &mut self.marks, place.path(), token)
+            }
             Ok(None) | Err(FileError::AnothersLink) => Ok(()),
             Err(error) => Err(error),
         }

@@ -1,5 +1,7 @@
 // Whole files, each written, renamed and removed durably: what was done is there after the machine stops.
-use crate::kinds::{is_absence, is_closed_folder, is_empty_place, is_out_of_reach, look, user};
+use crate::kinds::{
+    is_absence, is_closed_folder, is_denied, is_empty_place, is_out_of_reach, look, user,
+};
 use crate::paths::{Place, folder_of};
 use crate::reasons::FileError;
 use std::fs::{File, Files, Metadata, OpenFile, OpenOptions, Permissions};
@@ -19,9 +21,14 @@ fn sync_folder<R: Files>(rt: &R, path: &str) -> Result<(), Error> {
 }
 
 /// Makes a private file, open for reading and writing. What stood there is taken away first and not written over: it
-/// may be another's, be open to others, or have another name too, as a lock that a stopped run has linked already.
+/// may be another's, be open to others, or have another name too, as a lock that a stopped run has linked already. If
+/// the folder lets nothing be taken away, that is the error.
 pub fn create_private<R: Files>(rt: &R, path: &str) -> Result<R::File, Error> {
-    let _ = rt.remove_file(path);
+    if let Err(error) = rt.remove_file(path)
+        && is_denied(&error)
+    {
+        return Err(error);
+    }
     OpenOptions::new()
         .read(true)
         .write(true)

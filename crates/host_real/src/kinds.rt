@@ -12,6 +12,9 @@ const SHARED_FOLDER: u32 = 0o1002;
 /// The system's number of an error: what is asked isn't permitted.
 const NOT_PERMITTED: i32 = 1;
 
+/// The system's number of an error: the permission is lacking.
+const DENIED: i32 = 13;
+
 /// A file as it was at a moment: which one it is, its length, and when its contents and what is known of it changed.
 #[derive(Clone, Copy, PartialEq)]
 pub struct Stamp {
@@ -52,6 +55,11 @@ impl Stamp {
 /// The user whose files the run may change.
 pub fn user() -> u32 {
     libc::geteuid()
+}
+
+/// Whether an error says that the permission is lacking, as of a folder that may not be written.
+pub fn is_denied(error: &Error) -> bool {
+    error.raw_os_error() == Some(DENIED)
 }
 
 /// Whether an error says that nothing stands at the path, since nothing is there or none can be.
@@ -163,8 +171,8 @@ pub fn may_be_changed<R: Files>(rt: &R, path: &str) -> Result<(), FileError> {
     }
 }
 
-// Whether two paths lead to one file that is there.
-fn is_one_file<R: Files>(rt: &R, one: &str, other: &str) -> bool {
+/// Whether two paths lead to one file that is there.
+pub fn is_one_file<R: Files>(rt: &R, one: &str, other: &str) -> bool {
     match (rt.metadata(one), rt.metadata(other)) {
         (Ok(one), Ok(other)) => Stamp::of(&one).is_file_of(&Stamp::of(&other)),
         _ => false,

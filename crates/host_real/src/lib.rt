@@ -17,6 +17,7 @@ mod reading;
 mod real;
 mod reasons;
 mod rights;
+mod spool;
 mod streams;
 mod tails;
 #[cfg(test)]

@@ -3,12 +3,14 @@ use crate::files::{remove_file, write_new};
 use crate::kinds::{
     Stamp, is_absence, is_empty_place, is_out_of_reach, look, may_be_changed, stamp_at,
 };
-use crate::paths::{Place, beside_path, is_token, lock_path, staged_path, token_text};
+use crate::paths::{Place, beside_name, is_token, lock_path, staged_path, token_text};
 use crate::reasons::FileError;
+use crate::spool::{Errand, Helper, Operation};
 use crate::waiting::Patience;
 use std::alloc::Global;
 use std::fs::{File, Files};
 use std::io::{Error, ErrorKind, Read};
+use std::process::Processes;
 use std::time::{Clock, Duration};
 
 /// The shortest pause, in microseconds, between two looks at a lock.
@@ -124,37 +126,40 @@ pub fn hold_of<R: Files>(
 }
 
 // Puts a lock if none stands. False if one stands.
-fn put_lock<R: Files>(
+fn put_lock<R: Files + Processes>(
     rt: &R,
-    alloc: Global,
+    helper: &Helper<'_>,
     path: &str,
     lock: &str,
-    token: u64,
+    digits: &str,
 ) -> Result<bool, FileError> {
     may_be_changed(rt, path)?;
     if is_held(rt, lock)? {
         return Ok(false);
     }
-    let beside = beside_path(alloc, path, token)?;
-    let digits = token_text(alloc, token)?;
-    write_new(rt, lock, beside.as_str(), digits.as_bytes())
+    let beside = beside_name(helper.alloc, path, digits)?;
+    match write_new(rt, lock, beside.as_str(), digits.as_bytes()) {
+        Err(refusal) => helper.ask(rt, &Errand::of(Operation::Lock, path, digits), refusal),
+        answer => answer,
+    }
 }
 
 /// Puts a lock on a file that may be changed. False if one stands: another's is waited for.
-pub fn lock<R: Files + Clock>(
+pub fn lock<R: Files + Clock + Processes>(
     rt: &R,
-    alloc: Global,
+    helper: &Helper<'_>,
     marks: &mut Marks,
     path: &str,
     token: u64,
     wait: Duration,
 ) -> Result<bool, FileError> {
+    let alloc = helper.alloc;
     let lock = lock_path(alloc, path)?;
     let lock = lock.as_str();
+    let digits = token_text(alloc, token)?;
     let patience = Patience::new(rt, wait, PAUSE);
     for _ in 0..u64::MAX {
-        if put_lock(rt, alloc, path, lock, token)? {
-            let digits = token_text(alloc, token)?;
+        if put_lock(rt, helper, path, lock, digits.as_str())? {
             marks.put(String::from_str(alloc, path)?, digits, stamp_at(rt, path)?)?;
             return Ok(true);
         }
@@ -165,34 +170,69 @@ pub fn lock<R: Files + Clock>(
     Ok(false)
 }
 
-// Takes a lock file away. It may be gone already.
-fn remove_lock<R: Files>(rt: &R, lock: String) -> Result<(), FileError> {
-    remove_file(rt, &Place::File(lock))
-}
-
-/// Takes the lock on a file away if it holds this token, and what a stopped run has left of the making of that
-/// lock.
-pub fn unlock<R: Files>(
+// Whether a lock stands that holds this token.
+fn is_of_token<R: Files>(
     rt: &R,
     alloc: Global,
+    lock: &str,
+    digits: &str,
+) -> Result<bool, FileError> {
+    if !is_held(rt, lock)? {
+        return Ok(false);
+    }
+    match owner_of(rt, alloc, lock)? {
+        Some(owner) => Ok(owner.as_str() == digits),
+        None => Ok(false),
+    }
+}
+
+// Takes a lock file away. It may be gone already.
+fn remove_lock<R: Files>(rt: &R, alloc: Global, lock: &str) -> Result<(), FileError> {
+    remove_file(rt, &Place::File(String::from_str(alloc, lock)?))
+}
+
+// Takes the lock with this token away. The helper takes only such away as it has put.
+fn take_away<R: Files + Processes>(
+    rt: &R,
+    helper: &Helper<'_>,
+    path: &str,
+    lock: &str,
+    digits: &str,
+) -> Result<(), FileError> {
+    let Err(refusal) = remove_lock(rt, helper.alloc, lock) else {
+        return Ok(());
+    };
+    let errand = Errand::of(Operation::Unlock, path, digits);
+    helper.have_done(rt, &errand, refusal)?;
+    if is_of_token(rt, helper.alloc, lock, digits)? {
+        return Err(FileError::HelperRefused);
+    }
+    Ok(())
+}
+
+/// Takes the lock on a file away if it holds this token, and what is left of the making of that lock: by a stopped run,
+/// or by the helper, if another has broken the lock.
+pub fn unlock<R: Files + Processes>(
+    rt: &R,
+    helper: &Helper<'_>,
     marks: &mut Marks,
     path: &str,
     token: u64,
 ) -> Result<(), FileError> {
-    let lock = lock_path(alloc, path)?;
-    let _ = rt.remove_file(beside_path(alloc, path, token)?.as_str());
-    if !is_held(rt, lock.as_str())? {
-        return Ok(());
+    let lock = lock_path(helper.alloc, path)?;
+    let lock = lock.as_str();
+    let digits = token_text(helper.alloc, token)?;
+    let digits = digits.as_str();
+    let beside = beside_name(helper.alloc, path, digits)?;
+    let left = rt.remove_file(beside.as_str());
+    if is_of_token(rt, helper.alloc, lock, digits)? {
+        take_away(rt, helper, path, lock, digits)?;
+        marks.forget(path);
+    } else if let Err(refusal) = left {
+        let errand = Errand::of(Operation::Unlock, path, digits);
+        let _ = helper.have_done(rt, &errand, FileError::from(refusal));
     }
-    let digits = token_text(alloc, token)?;
-    match owner_of(rt, alloc, lock.as_str())? {
-        Some(owner) if owner.as_str() == digits.as_str() => {
-            remove_lock(rt, lock)?;
-            marks.forget(path);
-            Ok(())
-        }
-        _ => Ok(()),
-    }
+    Ok(())
 }
 
 // Whether a file is as it was when its lock was put: this host has seen it then. Of a lock that another run has put

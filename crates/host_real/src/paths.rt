@@ -78,12 +78,7 @@ pub fn lock_path(alloc: Global, path: &str) -> Result<String, AllocError> {
 }
 
 /// The name under which a lock is written before it is linked into place, and a copy before it takes the place of its
-/// file. No mailbox has such a name.
-pub fn beside_path(alloc: Global, path: &str, token: u64) -> Result<String, AllocError> {
-    format!(in alloc; "{path}.lock.mx{token:016x}")
-}
-
-/// The same name, by the digits of the token.
+/// file, by the digits of a token. No mailbox has such a name.
 pub fn beside_name(alloc: Global, path: &str, digits: &str) -> Result<String, AllocError> {
     format!(in alloc; "{path}.lock.mx{digits}")
 }

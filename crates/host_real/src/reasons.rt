@@ -1,4 +1,5 @@
 // Why a call failed, in words for the standard error.
+use crate::kinds::is_denied;
 use mail_text::Memory;
 use std::alloc::{AllocError, AllocFailed, Global};
 use std::io::{Eprint, Error, ErrorKind};
@@ -10,6 +11,12 @@ pub enum FileError {
     System(Error),
     /// The input of a program could not be written.
     Input(Error),
+    /// The helper that has the right of the folder could not be run.
+    Helper(Error),
+    /// The helper found another's file there, or not the lock.
+    HelperRefused,
+    /// The helper ended without having done it, and has told why.
+    HelperFailed,
     /// What stands there is a folder, a device, a pipe, a socket, or a link where no link may be.
     NotRegular,
     /// It is a link that another user has put where each may put one, and isn't followed.
@@ -27,6 +34,16 @@ pub enum FileError {
     /// The file has more bytes than a load takes.
     TooLarge { length: u64 },
     Memory,
+}
+
+impl FileError {
+    /// Whether the system refused the call, since the permission is lacking.
+    pub fn is_denial(&self) -> bool {
+        match self {
+            FileError::System(error) => is_denied(error),
+            _ => false,
+        }
+    }
 }
 
 impl From<Error> for FileError {
@@ -73,6 +90,13 @@ fn reason_of(alloc: Global, error: &FileError) -> Result<String, AllocError> {
             let words = words_of(alloc, error)?;
             return format!(in alloc; "its input can't be written: {words}");
         }
+        FileError::Helper(error) => {
+            let words = words_of(alloc, error)?;
+            return format!(in alloc; "mail_spool can't be run: {words}");
+        }
+        FileError::HelperRefused =>
+            "mail_spool refuses it: another's file is there, or the lock is gone",
+        FileError::HelperFailed => "mail_spool has not done it",
         FileError::NotRegular | FileError::AnothersLink => "not a regular file",
         FileError::NotOwn => "belongs to another user",
         FileError::LockGone => "the lock is gone",

@@ -20,7 +20,7 @@ const PAUSE: u64 = 1000;
 #[derive(Drop)]
 struct Right {
     name: Text,
-    _file: Option<File>,
+    file: Option<File>,
 }
 
 /// The rights that a host has.
@@ -55,6 +55,14 @@ impl Rights {
         }
     }
 
+    /// The open file of a right, opened once more: the right ends when both are closed. None if no right has a file.
+    pub fn share(&self) -> Result<Option<File>, FileError> {
+        match self.rights.iter().find_map(|right| right.file.as_ref()) {
+            Some(file) => Ok(Some(file.try_clone()?)),
+            None => Ok(None),
+        }
+    }
+
     /// Takes a right that isn't had yet. False if another has it, who is waited for.
     pub fn take<R: Files<File = File> + Clock>(
         &mut self,
@@ -71,7 +79,7 @@ impl Rights {
         {
             return Ok(false);
         }
-        self.rights.push(Right { name, _file: file })?;
+        self.rights.push(Right { name, file })?;
         Ok(true)
     }
 }
