@@ -1,4 +1,3 @@
-pub mod NamedLemmas
 pub mod TapeLemmas
 pub mod PlanLemmas
 mod ChildLemmas

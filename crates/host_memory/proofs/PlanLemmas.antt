@@ -1,5 +1,5 @@
 -- A call on the disk that is told as a plan has it.
-use Rattle.std.proofs.Common.{◌≡◌, ◌∙◌, ◌||◌, ℕ, Bool, true, false, not, List, [], ◌∷◌, ◌++◌, map, refl, sym, ap, subst, append_assoc}
+use Rattle.std.proofs.Common.{◌≡◌, ◌∙◌, ◌||◌, ℕ, Bool, true, false, not, List, [], ◌∷◌, ◌++◌, map, refl, sym, ap, append_assoc}
 use Rattle.std.specs.Prelude.{is_err, is_some}
 use Rattle.std.specs.declared.option.Option.{Option}
 use Rattle.std.specs.declared.option.Option.TheVariants.{Some, None}
@@ -12,12 +12,11 @@ use Rattle.host_port.specs.declared.event.Part.{Part}
 use Rattle.host_port.specs.declared.event.Part.TheVariants.{After}
 use Rattle.host_port.specs.declared.host.DiskFault.{DiskFault}
 use Rattle.host_port.specs.Disk.{Disk, reaches, disk}
-use Rattle.host_port.specs.Calls.{Extended}
 use Rattle.host_port.specs.Ends.{carried_out, IsCutShort}
 use Rattle.host_memory.specs.Plans.{as_planned, is_refused, answer_of, Ended}
 use Rattle.host_port.specs.Disk.{SameDisk}
-use Rattle.host_memory.specs.Views.{AddsOne, AddsCall}
-use Rattle.host_memory.proofs.TapeLemmas.{same-disk}
+use Rattle.host_memory.specs.Views.{AddsOne}
+use Rattle.memory_disk.proofs.ReplayLemmas.{same-disk}
 
 -- what a call is planned as on the disk that then stands
 pub same-planned : (start start' now : Disk) (old mid : List Event) (steps : List ForeignStep) (whole : Event) (part part' : Option Part) → start' ≡ start → mid ≡ old ++ map Foreign steps → SameDisk now (disk start' mid) → part' ≡ part
@@ -87,21 +86,7 @@ pub fails-so : (d : Disk) (whole : Event) (part : Option Part) (r : Result Bool 
 fails-so d whole None r none is = ap is_err is ∙ refused-is d whole
 fails-so d whole (Some part) r none is = absurd (cc none)
 
-extended-of : (b : Bool) (name : List ℕ) (at : ℕ) (tail : List ℕ) (answer : Bool) (e : Event) → e ≡ Extend name at tail (not b) → Ok answer ≡ answer_of e → (e ≡ Extend name at tail false) × (b ≡ true)
+-- an extension that isn't answered a fault was allowed by the disk
+pub extended-of : (b : Bool) (name : List ℕ) (at : ℕ) (tail : List ℕ) (answer : Bool) (e : Event) → e ≡ Extend name at tail (not b) → Ok answer ≡ answer_of e → (e ≡ Extend name at tail false) × (b ≡ true)
 extended-of true name at tail answer e is answered = (is, refl)
 extended-of false name at tail answer e is answered = absurd (cc (answered ∙ ap answer_of is))
-
--- an extension that isn't answered a fault was allowed by the disk
-pub told-extended : (start : Disk) (old new : List Event) (steps : List ForeignStep) (n name : List ℕ) (at : ℕ) (t tail : List ℕ) (r : Result Bool DiskFault) (answer : Bool) (u : Unit {0}) → r ≡ Ok answer → n ≡ name → t ≡ tail
-    → AddsCall start old new steps (Ended (Extend n at t false) r) → AddsCall start old new steps (Extended name at tail (Ok u))
-told-extended start old new steps n name at t tail r answer u ok same_name same_tail adds =
-    let there = disk start (old ++ map Foreign steps) in
-    let O : Result Bool DiskFault → Type 0 = λ r. Ended (Extend n at t false) r there adds.own in
-    let P : List ℕ → Type 0 = λ m. Ended (Extend m at t false) (Ok answer) there adds.own in
-    let Q : List ℕ → Type 0 = λ m. Ended (Extend name at m false) (Ok answer) there adds.own in
-    let ended = subst Q same_tail (subst P same_name (subst O ok adds.happened)) in
-    record {
-      own = adds.own;
-      is = adds.is;
-      happened = extended-of (reaches at (there.files name)) name at tail answer adds.own ended.0 ended.1;
-    }

@@ -1,10 +1,10 @@
 pub mod Views
+pub mod Asks
 pub mod Plans
-pub mod Pairs
-pub mod Tapes
-pub mod Standings
 pub mod Steps
 pub mod Children
 pub mod Fills
 pub mod Edits
 pub mod MemHosts
+pub use Rattle.memory_disk.specs.Lists
+pub use Rattle.memory_disk.specs.Standings

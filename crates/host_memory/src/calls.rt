@@ -8,10 +8,10 @@ ghost use Rattle.host_memory.specs.Plans.{TapeAdds, TapeAddsCall};
 ghost use Rattle.host_memory.specs.Views.{disk_of, steps_before, part_at};
 ghost use Rattle.host_port.specs.declared.event.Event.TheVariants as event;
 
-use crate::standing::copy_found;
 use crate::tape::{Tape, add_others};
 use host_port::{Event, ForeignStep, LoadAnswer, LoadError, Part, Seen};
 use mail_text::{Memory, Text};
+use memory_disk::copy_found;
 use std::alloc::Global;
 
 /// The most bytes of a file that a load takes.
@@ -27,6 +27,21 @@ pub fn failing(plan: &[(u64, Part)], call: u64) -> Option<&Part>
         }
     }
     None
+}
+
+/// Copies of two runs of bytes.
+pub fn copy_two(alloc: Global, first: &[u8], second: &[u8]) -> Result<(Text, Text), Memory>
+    ensures first { IfOk result (λ t. t.0 ≡ first.now) }
+    ensures second { IfOk result (λ t. t.1 ≡ second.now) }
+{
+    let first = Text::copy(alloc, first)?;
+    match Text::copy(alloc, second) {
+        Ok(second) => Ok((first, second)),
+        Err(memory) => {
+            drop(first);
+            Err(memory)
+        }
+    }
 }
 
 /// The steps of others before the call of this number, and its own event.

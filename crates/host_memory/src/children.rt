@@ -6,7 +6,7 @@ ghost use Rattle.host_memory.specs.Views.{steps_before, part_at};
 ghost use Rattle.host_port.specs.declared.event.Event.TheVariants as event;
 
 use crate::Plan;
-use crate::calls::{failing, tell};
+use crate::calls::{copy_two, failing, tell};
 use crate::tape::Tape;
 use host_port::{ChildAnswer, Event, ForeignStep};
 use mail_text::{Items, Memory, Text};
@@ -21,6 +21,14 @@ pub struct Run<'a> {
     pub program: &'a [u8],
     pub args: &'a [Text],
     pub input: &'a [u8],
+}
+
+// The same, with bytes of its own.
+#[derive(Drop)]
+struct Copied {
+    program: Text,
+    args: Items<Text>,
+    input: Text,
 }
 
 // A copy of texts.
@@ -82,6 +90,61 @@ pub fn used_after(planned: &[ChildAnswer], used: usize) -> usize
     if used < planned.len() { used + 1 } else { used }
 }
 
+// Copies of what is run.
+fn copy_run(alloc: Global, run: Run<'_>) -> Result<Copied, Memory>
+    ensures { IfOk result
+        (λ c. c ≡ record {
+          program = run.entry.program.now;
+          args = run.entry.args.now;
+          input = run.entry.input.now;
+        }) }
+{
+    let (program, input) = copy_two(alloc, run.program, run.input)?;
+    match copy_texts(alloc, run.args) {
+        Ok(args) => Ok(Copied {
+            program,
+            args,
+            input,
+        }),
+        Err(memory) => {
+            drop(program);
+            drop(input);
+            Err(memory)
+        }
+    }
+}
+
+// The event of a child.
+fn child_event(
+    alloc: Global,
+    run: Run<'_>,
+    answer: Option<ChildAnswer>,
+    failed: bool,
+) -> Result<Event, Memory>
+    ensures { IfOk result
+        (λ e. e ≡ event.Child run.entry.program.now run.entry.args.now run.entry.input.now answer failed) }
+{
+    match copy_run(alloc, run) {
+        Ok(
+            Copied {
+                program,
+                args,
+                input,
+            },
+        ) => Ok(Event::Child {
+            program,
+            args,
+            input,
+            answer,
+            failed,
+        }),
+        Err(memory) => {
+            drop(answer);
+            Err(memory)
+        }
+    }
+}
+
 // The event of a child that answers what is next.
 fn answered_child(
     alloc: Global,
@@ -94,34 +157,8 @@ fn answered_child(
         ≡ event.Child run.entry.program.now run.entry.args.now run.entry.input.now
         (Some (next_given (drop used planned.now))) false) }
 {
-    let program = Text::copy(alloc, run.program)?;
-    let args = copy_texts(alloc, run.args)?;
-    let input = Text::copy(alloc, run.input)?;
     let told = next_given(alloc, planned, used)?;
-    Ok(Event::Child {
-        program,
-        args,
-        input,
-        answer: Some(told),
-        failed: false,
-    })
-}
-
-// The event of a child that could not be run.
-fn failed_child(alloc: Global, run: Run<'_>) -> Result<Event, Memory>
-    ensures { IfOk result
-        (λ e. e ≡ event.Child run.entry.program.now run.entry.args.now run.entry.input.now None true) }
-{
-    let program = Text::copy(alloc, run.program)?;
-    let args = copy_texts(alloc, run.args)?;
-    let input = Text::copy(alloc, run.input)?;
-    Ok(Event::Child {
-        program,
-        args,
-        input,
-        answer: None,
-        failed: true,
-    })
+    child_event(alloc, run, Some(told), false)
 }
 
 // Tells that a child ran, and gives its answer.
@@ -158,7 +195,7 @@ fn tell_failure(
         (event.Child run.entry.program.now run.entry.args.now run.entry.input.now None true)) }
     ensures start { tape.new.start ≡ tape.old.start }
 {
-    let event = failed_child(alloc, run)?;
+    let event = child_event(alloc, run, None, true)?;
     tell(alloc, plan, call, tape, event)
 }
 

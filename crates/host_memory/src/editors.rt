@@ -6,7 +6,7 @@ ghost use Rattle.host_memory.specs.Views.{steps_before, part_at};
 ghost use Rattle.host_port.specs.declared.event.Event.TheVariants as event;
 
 use crate::Plan;
-use crate::calls::{failing, tell};
+use crate::calls::{copy_two, failing, tell};
 use crate::tape::Tape;
 use host_port::{EditAnswer, Event, ForeignStep};
 use mail_text::{Memory, Text};
@@ -22,6 +22,15 @@ pub struct Editing<'a> {
     pub shell: &'a [u8],
     pub command: &'a [u8],
     pub text: &'a [u8],
+}
+
+// The same, with bytes of its own.
+#[derive(Drop)]
+struct Copied {
+    name: Text,
+    shell: Text,
+    command: Text,
+    text: Text,
 }
 
 // An answer as it is given.
@@ -70,6 +79,32 @@ pub fn edited_after(planned: &[EditAnswer], edited: usize) -> usize
     }
 }
 
+// Copies of what is edited.
+fn copy_editing(alloc: Global, editing: Editing<'_>) -> Result<Copied, Memory>
+    ensures { IfOk result
+        (λ c. c ≡ record {
+          name = editing.entry.name.now;
+          shell = editing.entry.shell.now;
+          command = editing.entry.command.now;
+          text = editing.entry.text.now;
+        }) }
+{
+    let (name, shell) = copy_two(alloc, editing.name, editing.shell)?;
+    match copy_two(alloc, editing.command, editing.text) {
+        Ok((command, text)) => Ok(Copied {
+            name,
+            shell,
+            command,
+            text,
+        }),
+        Err(memory) => {
+            drop(name);
+            drop(shell);
+            Err(memory)
+        }
+    }
+}
+
 // The event of an editor.
 fn edit_event(
     alloc: Global,
@@ -81,14 +116,42 @@ fn edit_event(
         (λ e. e ≡ event.Edit editing.entry.name.now editing.entry.shell.now editing.entry.command.now editing.entry.text.now
         answer failed) }
 {
-    Ok(Event::Edit {
-        name: Text::copy(alloc, editing.name)?,
-        shell: Text::copy(alloc, editing.shell)?,
-        command: Text::copy(alloc, editing.command)?,
-        text: Text::copy(alloc, editing.text)?,
-        answer,
-        failed,
-    })
+    match copy_editing(alloc, editing) {
+        Ok(
+            Copied {
+                name,
+                shell,
+                command,
+                text,
+            },
+        ) => Ok(Event::Edit {
+            name,
+            shell,
+            command,
+            text,
+            answer,
+            failed,
+        }),
+        Err(memory) => {
+            drop(answer);
+            Err(memory)
+        }
+    }
+}
+
+// The event of an editor that answers what is next.
+fn edited_event(
+    alloc: Global,
+    planned: &[EditAnswer],
+    edited: usize,
+    editing: Editing<'_>,
+) -> Result<Event, Memory>
+    ensures { IfOk result
+        (λ e. e ≡ event.Edit editing.entry.name.now editing.entry.shell.now editing.entry.command.now editing.entry.text.now
+        (Some (next_edit editing.entry.text.now (drop edited planned.now))) false) }
+{
+    let told = next_edit(alloc, planned, edited, editing.text)?;
+    edit_event(alloc, editing, Some(told), false)
 }
 
 // Tells that an editor ran, and gives its answer.
@@ -108,11 +171,9 @@ fn tell_edited(
     ensures start { tape.new.start ≡ tape.old.start }
 {
     let planned = plan.edits.items();
-    let answer = next_edit(alloc, planned, edited, editing.text)?;
-    let told = next_edit(alloc, planned, edited, editing.text)?;
-    let event = edit_event(alloc, editing, Some(told), false)?;
+    let event = edited_event(alloc, planned, edited, editing)?;
     tell(alloc, plan.foreign.items(), call, tape, event)?;
-    Ok(answer)
+    next_edit(alloc, planned, edited, editing.text)
 }
 
 // Tells that an editor could not be run.

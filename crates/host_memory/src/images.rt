@@ -1,96 +1,29 @@
 // The disks that a run leaves if it stops inside an event.
-ghost use Rattle.std.specs.Prelude.{◌≡◌, ◌+◌, ◌++◌, ◌∷◌, List, IfOk, OnOk, length};
-ghost use Rattle.host_port.specs.Disk.{disk};
+ghost use Rattle.std.specs.Prelude.{◌≡◌, ◌+◌, ◌++◌, ◌∷◌, List, IfOk, length};
+ghost use Rattle.host_port.specs.Disk.{disk, SameDisk};
 ghost use Rattle.host_port.specs.Ends.{stopped};
-ghost use Rattle.host_memory.specs.Standings.{disk_now};
-ghost use Rattle.host_memory.specs.Tapes.{ShowsSame};
-ghost use Rattle.host_port.specs.Disk.{SameDisk};
+ghost use Rattle.memory_disk.specs.Standings.{disk_now, ShowsSame};
 ghost use Rattle.host_memory.specs.Views.{disk_of, NamesOnce};
 ghost use Rattle.host_port.specs.declared.event.Event.{Event};
 
 use crate::DiskView;
-use crate::ending::{is_whole, leave, leave_tail, owns};
-use crate::named::Named;
-use crate::standing::{Standing, copy_found, effect, effect_of_step, extend, rename, write};
-use crate::tape::{copy_files, copy_locks, show_files, show_locks};
 use host_port::{Event, Part};
-use mail_text::{Memory, Text};
+use mail_text::Memory;
+use memory_disk::{Standing, show_files, show_locks, stop};
 use std::alloc::Global;
 
 /// What stands on the disk that a view shows. Nobody has a right there.
 pub fn standing_of(alloc: Global, view: &DiskView) -> Result<Standing, Memory>
     ensures { IfOk result (λ s. SameDisk (disk_now s) (disk_of view.now.files view.now.locks)) }
 {
-    let files = copy_files(alloc, view.files.items())?;
-    match copy_locks(alloc, view.locks.items()) {
-        Ok(locks) => {
-            let rights = Named::new(alloc);
-            Ok(Standing {
-                files,
-                locks,
-                rights,
-            })
-        }
-        Err(memory) => {
-            drop(files);
-            Err(memory)
-        }
-    }
-}
-
-// Carries out what events say. If memory runs out, some may be carried out.
-fn effects(alloc: Global, standing: &mut Standing, events: &[Event]) -> Result<(), Memory>
-    ensures { OnOk result (SameDisk (disk_now standing.new) (disk (disk_now standing.old) events.now)) }
-{
-    for event in events {
-        effect(alloc, standing, event)?;
-    }
-    Ok(())
+    memory_disk::standing_of(alloc, view.files.items(), view.locks.items())
 }
 
 // The disk after these events.
 fn replayed(alloc: Global, start: &DiskView, events: &[Event]) -> Result<Standing, Memory>
     ensures { IfOk result (λ s. SameDisk (disk_now s) (disk (disk_of start.now.files start.now.locks) events.now)) }
 {
-    let mut disk = standing_of(alloc, start)?;
-    match effects(alloc, &mut disk, events) {
-        Ok(()) => Ok(disk),
-        Err(memory) => {
-            drop(disk);
-            Err(memory)
-        }
-    }
-}
-
-// A stop inside an event, of which this part was done. Rights aren't looked at.
-fn stop(alloc: Global, disk: &mut Standing, event: &Event, part: &Part) -> Result<(), Memory>
-    ensures { OnOk result (ShowsSame (disk_now disk.new) (stopped (disk_now disk.old) event.now part.now)) }
-{
-    let whole = is_whole(part);
-    match event {
-        Event::Stage { name, bytes, .. } => {
-            let mut bytes = copy_found(alloc, bytes.as_ref())?;
-            leave(alloc, disk, name.bytes(), &mut bytes, part)?;
-            write(alloc, &mut disk.files, name.bytes(), bytes.as_ref())
-        }
-        Event::Publish { from, to, .. } if whole && disk.files.has(from.bytes()) => {
-            rename(alloc, &mut disk.files, from.bytes(), to.bytes())
-        }
-        Event::Extend { name, at, tail, .. } => {
-            let mut tail = Text::copy(alloc, tail.bytes())?;
-            leave_tail(alloc, disk, name.bytes(), *at, &mut tail, part)?;
-            extend(alloc, &mut disk.files, name.bytes(), *at, tail.bytes())
-        }
-        Event::Erase { name, .. } if whole => disk.files.put(alloc, name.bytes(), None),
-        Event::Lock { name, token, .. } if whole && !disk.locks.has(name.bytes()) => {
-            disk.locks.put(alloc, name.bytes(), Some(*token))
-        }
-        Event::Unlock { name, token, .. } if whole && owns(disk, name.bytes(), *token) => {
-            disk.locks.put(alloc, name.bytes(), None)
-        }
-        Event::Foreign { step } if whole => effect_of_step(alloc, disk, step),
-        _ => Ok(()),
-    }
+    memory_disk::replayed(alloc, start.files.items(), start.locks.items(), events)
 }
 
 /// The files and locks as lists, in which each name stands once.

@@ -10,9 +10,7 @@ mod ending;
 mod filling;
 mod images;
 mod memory;
-mod named;
 mod plan;
-mod standing;
 mod tape;
 
 pub use memory::MemHost;

@@ -7,16 +7,14 @@ ghost use Rattle.host_port.specs.Names.{IsFileName};
 ghost use Rattle.host_port.specs.Calls.{Calls, NeverFall, Rose, Filled, Said, Loaded, LoadCause, Staged, Published, Extended, Erased, Locked, Unlocked, Seized, Released, ChildRan, ChildCause, Edited, EditCause, TimeTold};
 ghost use Rattle.host_memory.specs.Children.{next_given};
 ghost use Rattle.host_memory.specs.Edits.{next_edit};
-ghost use Rattle.host_memory.specs.Tapes.{ShowsSame};
+ghost use Rattle.memory_disk.specs.Standings.{ShowsSame};
 ghost use Rattle.host_memory.specs.Views.{disk_of, NamesOnce};
 ghost use Rattle.host_port.specs.declared.event.Event.{Event};
 ghost use Rattle.host_port.specs.declared.event.Event.TheVariants as event;
 
 use crate::calls::{failing, tell_failed_load, tell_load, tell_now, tell_out, tell_release};
 use crate::children::{Run, tell_child, used_after};
-use crate::disk_calls::{
-    tell_erase, tell_extend, tell_lock, tell_publish, tell_seize, tell_stage, tell_unlock,
-};
+use crate::disk_calls::{Asked, tell_asked};
 use crate::editors::{Editing, edited_after, tell_edit};
 use crate::filling::tell_fill;
 use crate::images::{image, show, standing_of};
@@ -51,7 +49,9 @@ pub struct MemHost {
 }
 
 impl MemHost {
-    ghost use Rattle.host_memory.specs.MemHosts.{host_told, host_start, IsUncalled};
+    ghost use Rattle.host_memory.specs.Asks.{event_of};
+    ghost use Rattle.host_memory.specs.MemHosts.{host_world, host_told, host_start, host_counts, is_lost, next_part, after_disk, TakesNothing, IsDoneAsPlanned, IsUncalled};
+    ghost use Rattle.host_memory.specs.Plans.{Ended};
 
     /// A host whose disk is the view, with no event so far.
     pub fn new(alloc: Global, view: DiskView, input: Text, plan: Plan) -> Result<MemHost, Memory>
@@ -135,6 +135,33 @@ impl MemHost {
         ensures { IsTrue result ↔ (host_told self.now ≡ None) }
     {
         self.lost
+    }
+
+    // Asks something of the disk, and gives what the plan has for it.
+    fn ask(&mut self, asked: Asked<'_>) -> Result<bool, DiskFault>
+        ensures start { host_start self.new ≡ host_start self.old }
+        ensures call { Calls host_world self.old self.new (Ended (event_of asked.entry) result) }
+        ensures counts { NeverFall (host_counts self.old) (host_counts self.new) }
+        ensures cause { OnErr result (Rose (host_counts self.old).disks (host_counts self.new).disks) }
+        ensures planned { IsDoneAsPlanned self.old self.new (event_of asked.entry) (next_part self.old)
+            (is_err result) }
+        ensures kept { TakesNothing self.old self.new }
+        ensures counted { host_counts self.new ≡ after_disk (is_err result) (host_counts self.old) }
+        ensures lost { is_lost self.new ≡ true → is_err result ≡ true }
+    {
+        self.calls = self.calls.saturating_add(1);
+        if !self.lost {
+            match tell_asked(self.alloc, &self.plan, self.calls, &mut self.tape, asked) {
+                Ok(Ok(answer)) => return Ok(answer),
+                Ok(Err(fault)) => {
+                    self.disks = self.disks.saturating_add(1);
+                    return Err(fault);
+                }
+                Err(_) => self.lost = true,
+            }
+        }
+        self.disks = self.disks.saturating_add(1);
+        Err(DiskFault)
     }
 }
 
@@ -281,23 +308,10 @@ impl Host for MemHost {
         ensures counted { host_counts self.new ≡ after_disk (is_err result) (host_counts self.old) }
         ensures lost { is_lost self.new ≡ true → is_err result ≡ true }
     {
-        self.calls = self.calls.saturating_add(1);
-        if !self.lost {
-            match tell_stage(
-                self.alloc,
-                &self.plan,
-                self.calls,
-                &mut self.tape,
-                name,
-                bytes,
-            ) {
-                Ok(Ok(())) => return Ok(()),
-                Ok(Err(_)) => {}
-                Err(_) => self.lost = true,
-            }
+        match self.ask(Asked::Stage { name, bytes }) {
+            Ok(_) => Ok(()),
+            Err(fault) => Err(fault),
         }
-        self.disks = self.disks.saturating_add(1);
-        Err(DiskFault)
     }
 
     fn publish(&mut self, from: &[u8], to: &[u8]) -> Result<bool, DiskFault>
@@ -313,16 +327,7 @@ impl Host for MemHost {
         ensures counted { host_counts self.new ≡ after_disk (is_err result) (host_counts self.old) }
         ensures lost { is_lost self.new ≡ true → is_err result ≡ true }
     {
-        self.calls = self.calls.saturating_add(1);
-        if !self.lost {
-            match tell_publish(self.alloc, &self.plan, self.calls, &mut self.tape, from, to) {
-                Ok(Ok(answer)) => return Ok(answer),
-                Ok(Err(_)) => {}
-                Err(_) => self.lost = true,
-            }
-        }
-        self.disks = self.disks.saturating_add(1);
-        Err(DiskFault)
+        self.ask(Asked::Publish { from, to })
     }
 
     fn extend(&mut self, name: &[u8], at: u64, bytes: &[u8]) -> Result<(), DiskFault>
@@ -337,24 +342,11 @@ impl Host for MemHost {
         ensures counted { host_counts self.new ≡ after_disk (is_err result) (host_counts self.old) }
         ensures lost { is_lost self.new ≡ true → is_err result ≡ true }
     {
-        self.calls = self.calls.saturating_add(1);
-        if !self.lost {
-            match tell_extend(
-                self.alloc,
-                &self.plan,
-                self.calls,
-                &mut self.tape,
-                name,
-                at,
-                bytes,
-            ) {
-                Ok(Ok(())) => return Ok(()),
-                Ok(Err(_)) => {}
-                Err(_) => self.lost = true,
-            }
+        let tail = bytes;
+        match self.ask(Asked::Extend { name, at, tail }) {
+            Ok(_) => Ok(()),
+            Err(fault) => Err(fault),
         }
-        self.disks = self.disks.saturating_add(1);
-        Err(DiskFault)
     }
 
     fn erase(&mut self, name: &[u8]) -> Result<(), DiskFault>
@@ -369,16 +361,10 @@ impl Host for MemHost {
         ensures counted { host_counts self.new ≡ after_disk (is_err result) (host_counts self.old) }
         ensures lost { is_lost self.new ≡ true → is_err result ≡ true }
     {
-        self.calls = self.calls.saturating_add(1);
-        if !self.lost {
-            match tell_erase(self.alloc, &self.plan, self.calls, &mut self.tape, name) {
-                Ok(Ok(())) => return Ok(()),
-                Ok(Err(_)) => {}
-                Err(_) => self.lost = true,
-            }
+        match self.ask(Asked::Erase { name }) {
+            Ok(_) => Ok(()),
+            Err(fault) => Err(fault),
         }
-        self.disks = self.disks.saturating_add(1);
-        Err(DiskFault)
     }
 
     fn lock(&mut self, name: &[u8], token: u64) -> Result<bool, DiskFault>
@@ -393,23 +379,7 @@ impl Host for MemHost {
         ensures counted { host_counts self.new ≡ after_disk (is_err result) (host_counts self.old) }
         ensures lost { is_lost self.new ≡ true → is_err result ≡ true }
     {
-        self.calls = self.calls.saturating_add(1);
-        if !self.lost {
-            match tell_lock(
-                self.alloc,
-                &self.plan,
-                self.calls,
-                &mut self.tape,
-                name,
-                token,
-            ) {
-                Ok(Ok(answer)) => return Ok(answer),
-                Ok(Err(_)) => {}
-                Err(_) => self.lost = true,
-            }
-        }
-        self.disks = self.disks.saturating_add(1);
-        Err(DiskFault)
+        self.ask(Asked::Lock { name, token })
     }
 
     fn unlock(&mut self, name: &[u8], token: u64) -> Result<(), DiskFault>
@@ -424,23 +394,10 @@ impl Host for MemHost {
         ensures counted { host_counts self.new ≡ after_disk (is_err result) (host_counts self.old) }
         ensures lost { is_lost self.new ≡ true → is_err result ≡ true }
     {
-        self.calls = self.calls.saturating_add(1);
-        if !self.lost {
-            match tell_unlock(
-                self.alloc,
-                &self.plan,
-                self.calls,
-                &mut self.tape,
-                name,
-                token,
-            ) {
-                Ok(Ok(())) => return Ok(()),
-                Ok(Err(_)) => {}
-                Err(_) => self.lost = true,
-            }
+        match self.ask(Asked::Unlock { name, token }) {
+            Ok(_) => Ok(()),
+            Err(fault) => Err(fault),
         }
-        self.disks = self.disks.saturating_add(1);
-        Err(DiskFault)
     }
 
     fn seize(&mut self, name: &[u8]) -> Result<bool, DiskFault>
@@ -455,16 +412,7 @@ impl Host for MemHost {
         ensures counted { host_counts self.new ≡ after_disk (is_err result) (host_counts self.old) }
         ensures lost { is_lost self.new ≡ true → is_err result ≡ true }
     {
-        self.calls = self.calls.saturating_add(1);
-        if !self.lost {
-            match tell_seize(self.alloc, &self.plan, self.calls, &mut self.tape, name) {
-                Ok(Ok(answer)) => return Ok(answer),
-                Ok(Err(_)) => {}
-                Err(_) => self.lost = true,
-            }
-        }
-        self.disks = self.disks.saturating_add(1);
-        Err(DiskFault)
+        self.ask(Asked::Seize { name })
     }
 
     fn release(&mut self, name: &[u8])

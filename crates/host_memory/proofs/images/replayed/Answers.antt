@@ -1,5 +1,0 @@
-use Rattle.host_memory.proofs.TapeLemmas.{replayed-from}
-use Rattle.host_memory.proofs.images.replayed.Goals as goal
-
-pub returns-in-Ok : goal.returns-in-Ok
-returns-in-Ok c = replayed-from _ _ _ c.args.events.now c.in-Ok.ensures c.in_ok-disk.ensures

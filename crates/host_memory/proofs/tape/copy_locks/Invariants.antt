@@ -1,6 +1,0 @@
-use Rattle.std.proofs.Common.{◌≡◌, ℕ, List, drop}
-use Rattle.host_memory.specs.Views.{lookup, named, or_else}
-use Rattle.host_memory.proofs.tape.copy_locks.Given as goal
-
-abbrev pub invariant-loop-name : goal.invariant-loop-name
-invariant-loop-name l = (q : List ℕ) → or_else (named l.named q) (lookup (drop l.name-index l.locks) q) ≡ lookup l.locks q

@@ -1,9 +1,0 @@
-use Rattle.std.proofs.Common.{◌≡◌, ℕ, List, take}
-use Rattle.std.specs.Prelude.{filter}
-use Rattle.host_memory.specs.Views.{lookup, named, names_of, among, has_value}
-use Rattle.host_memory.proofs.tape.show_files.Given as goal
-
-abbrev pub invariant-loop-k : goal.invariant-loop-k
-invariant-loop-k l =
-    ((q : List ℕ) → lookup l.shown q ≡ among (take l.k (names_of l.files)) q (named l.files q))
-    × (names_of l.shown ≡ filter (has_value l.files) (take l.k (names_of l.files)))
