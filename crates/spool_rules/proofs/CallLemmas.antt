@@ -8,9 +8,10 @@ use Rattle.spool_rules.specs.declared.port.Stop.{Stop}
 use Rattle.spool_rules.specs.declared.port.Seen.{Seen}
 use Rattle.spool_rules.specs.declared.port.Step.{Step}
 use Rattle.spool_rules.specs.declared.port.Step.TheVariants.{Users, Look, Make, Take, Link, Rename, Remove, Sync}
+use Rattle.spool_rules.specs.declared.words.Operation.TheVariants as op
 use Rattle.spool_rules.specs.declared.words.Request.{Request}
-use Rattle.spool_rules.specs.Told.{followed, added, EndsWith, Once, Onward}
-use Rattle.spool_rules.specs.Lawful.{IsNameOf, LockedThen, MayRemove, MayReplace, MayTake, Allowed, KnowsCaller, MayCome, LawfulAfter, Sound}
+use Rattle.spool_rules.specs.Told.{followed, added, EndsWith, HasInput, Once, OnlyLooked, Onward}
+use Rattle.spool_rules.specs.Lawful.{GoneThen, IsNameOf, LockedThen, MayRemove, MayReplace, MayTake, Allowed, KnowsCaller, MayCome, LawfulAfter, Sound}
 
 -- one more at the end
 lawful_more : (n : ℕ) (r : Request) (before steps : List Step) (step : Step) → LawfulAfter n r before steps → MayCome n r (before ++ steps) step → LawfulAfter n r before (steps ++ step ∷ [])
@@ -60,6 +61,11 @@ pub weaken : (P Q : List Step → Type 0) (told : Option (List Step)) → ((step
 weaken P Q None h p = tt
 weaken P Q (Some steps) h p = h steps p
 
+-- both hold while they are told
+pub both : (P Q : List Step → Type 0) (told : Option (List Step)) → IfSome told P → IfSome told Q → IfSome told (λ steps. P steps × Q steps)
+both P Q None p q = tt
+both P Q (Some steps) p q = (p, q)
+
 -- what one more call makes of what held before it
 pub if_added : (P Q : List Step → Type 0) (old new : Option (List Step)) (step : Step) → ((steps : List Step) → P steps → Q (steps ++ step ∷ [])) → new ≡ added old step → IfSome old P → IfSome new Q
 if_added P Q None new step h e p = subst (λ (t : Option (List Step)). IfSome t Q) (sym e) tt
@@ -68,23 +74,67 @@ if_added P Q (Some steps) new step h e p = subst (λ (t : Option (List Step)). I
 pub look_keeps : (n : ℕ) (r : Request) (old new : Option (List Step)) (name : List ℕ) (seen : Result Seen Stop) → new ≡ added old (Look name seen) → IsNameOf r name → Sound n r old → Sound n r new
 look_keeps n r old new name seen e is = sound_call n r old new (Look name seen) e (always (λ steps. IsNameOf r name) old (λ steps. is))
 
-pub make_keeps : (n : ℕ) (r : Request) (old new : Option (List Step)) (done : Result Unit Stop) → new ≡ added old (Make r.beside r.token done) → Sound n r old → Sound n r new
-make_keeps n r old new done e = sound_call n r old new (Make r.beside r.token done) e (always (λ steps. (r.beside ≡ r.beside) × (r.token ≡ r.token)) old (λ steps. (refl, refl)))
+pub make_keeps : (n : ℕ) (r : Request) (old new : Option (List Step)) (done : Result Unit Stop) → new ≡ added old (Make r.beside r.token done) → r.operation ≡ op.Lock → IfSome old (λ steps. GoneThen r.beside [] steps) → Sound n r old → Sound n r new
+make_keeps n r old new done e locks gone = sound_call n r old new (Make r.beside r.token done) e (weaken (λ steps. GoneThen r.beside [] steps) (λ steps. (r.beside ≡ r.beside) × (r.token ≡ r.token) × (r.operation ≡ op.Lock) × GoneThen r.beside [] steps) old (λ steps m. (refl, refl, locks, m)) gone)
 
-pub take_keeps : (n : ℕ) (r : Request) (old new : Option (List Step)) (mode : ℕ) (done : Result Unit Stop) → new ≡ added old (Take r.staged mode done) → IfSome old (λ steps. MayTake n r steps mode) → Sound n r old → Sound n r new
-take_keeps n r old new mode done e may = sound_call n r old new (Take r.staged mode done) e (weaken (λ steps. MayTake n r steps mode) (λ steps. (r.staged ≡ r.staged) × MayTake n r steps mode) old (λ steps m. (refl, m)) may)
+pub take_keeps : (n : ℕ) (r : Request) (old new : Option (List Step)) (mode : ℕ) (done : Result Unit Stop) → new ≡ added old (Take r.staged mode done) → r.operation ≡ op.Stage → IfSome old HasInput → IfSome old (λ steps. MayTake n r steps mode) → Sound n r old → Sound n r new
+take_keeps n r old new mode done e stages input may = sound_call n r old new (Take r.staged mode done) e (weaken (λ steps. HasInput steps × MayTake n r steps mode) (λ steps. (r.staged ≡ r.staged) × (r.operation ≡ op.Stage) × HasInput steps × MayTake n r steps mode) old (λ steps m. (refl, stages, m.0, m.1)) (both HasInput (λ steps. MayTake n r steps mode) old input may))
 
 pub link_keeps : (n : ℕ) (r : Request) (old new : Option (List Step)) (free : Result Bool Stop) → new ≡ added old (Link r.beside r.lock free) → IfSome old (λ steps. EndsWith steps (Make r.beside r.token (Ok tt) ∷ [])) → Sound n r old → Sound n r new
 link_keeps n r old new free e made = sound_call n r old new (Link r.beside r.lock free) e (weaken (λ steps. EndsWith steps (Make r.beside r.token (Ok tt) ∷ [])) (λ steps. (r.beside ≡ r.beside) × (r.lock ≡ r.lock) × EndsWith steps (Make r.beside r.token (Ok tt) ∷ [])) old (λ steps m. (refl, refl, m)) made)
 
-pub rename_keeps : (n : ℕ) (r : Request) (old new : Option (List Step)) (done : Result Unit Stop) → new ≡ added old (Rename r.staged r.mailbox done) → IfSome old (λ steps. MayReplace n r steps) → Sound n r old → Sound n r new
-rename_keeps n r old new done e may = sound_call n r old new (Rename r.staged r.mailbox done) e (weaken (λ steps. MayReplace n r steps) (λ steps. (r.staged ≡ r.staged) × (r.mailbox ≡ r.mailbox) × MayReplace n r steps) old (λ steps m. (refl, refl, m)) may)
+pub rename_keeps : (n : ℕ) (r : Request) (old new : Option (List Step)) (done : Result Unit Stop) → new ≡ added old (Rename r.staged r.mailbox done) → r.operation ≡ op.Publish → IfSome old (λ steps. MayReplace n r steps) → Sound n r old → Sound n r new
+rename_keeps n r old new done e publishes may = sound_call n r old new (Rename r.staged r.mailbox done) e (weaken (λ steps. MayReplace n r steps) (λ steps. (r.staged ≡ r.staged) × (r.mailbox ≡ r.mailbox) × (r.operation ≡ op.Publish) × MayReplace n r steps) old (λ steps m. (refl, refl, publishes, m)) may)
 
 pub remove_keeps : (n : ℕ) (r : Request) (old new : Option (List Step)) (name : List ℕ) (done : Result Unit Stop) → new ≡ added old (Remove name done) → IfSome old (λ steps. MayRemove n r steps name) → Sound n r old → Sound n r new
 remove_keeps n r old new name done e may = sound_call n r old new (Remove name done) e may
 
 pub sync_keeps : (n : ℕ) (r : Request) (old new : Option (List Step)) (done : Result Unit Stop) → new ≡ added old (Sync done) → Sound n r old → Sound n r new
 sync_keeps n r old new done e = sound_call n r old new (Sync done) e (always (λ steps. Unit {0}) old (λ steps. tt))
+
+-- a look changes nothing
+looked_step : (steps : List Step) (name : List ℕ) (seen : Result Seen Stop) → OnlyLooked steps → OnlyLooked (steps ++ Look name seen ∷ [])
+looked_step [] name seen h = tt
+looked_step (Users a ∷ steps) name seen h = looked_step steps name seen h
+looked_step (Look a b ∷ steps) name seen h = looked_step steps name seen h
+looked_step (Make a b c ∷ steps) name seen h = absurd h
+looked_step (Take a b c ∷ steps) name seen h = absurd h
+looked_step (Link a b c ∷ steps) name seen h = absurd h
+looked_step (Rename a b c ∷ steps) name seen h = absurd h
+looked_step (Remove a b ∷ steps) name seen h = absurd h
+looked_step (Sync a ∷ steps) name seen h = absurd h
+
+pub looked_more : (old new : Option (List Step)) (name : List ℕ) (seen : Result Seen Stop) → new ≡ added old (Look name seen) → IfSome old OnlyLooked → IfSome new OnlyLooked
+looked_more old new name seen e h = if_added OnlyLooked OnlyLooked old new (Look name seen) (λ steps p. looked_step steps name seen p) e h
+
+-- the input is there as long as looks came alone, and stays there at any call but a taking
+looked_input : (steps : List Step) → OnlyLooked steps → HasInput steps
+looked_input [] h = tt
+looked_input (Users a ∷ steps) h = looked_input steps h
+looked_input (Look a b ∷ steps) h = looked_input steps h
+looked_input (Make a b c ∷ steps) h = absurd h
+looked_input (Take a b c ∷ steps) h = absurd h
+looked_input (Link a b c ∷ steps) h = absurd h
+looked_input (Rename a b c ∷ steps) h = absurd h
+looked_input (Remove a b ∷ steps) h = absurd h
+looked_input (Sync a ∷ steps) h = absurd h
+
+pub looked_has_input : (told : Option (List Step)) → IfSome told OnlyLooked → IfSome told HasInput
+looked_has_input told h = weaken OnlyLooked HasInput told (λ steps p. looked_input steps p) h
+
+input_then : (steps more : List Step) → HasInput more → HasInput steps → HasInput (steps ++ more)
+input_then [] more m h = m
+input_then (Users a ∷ steps) more m h = input_then steps more m h
+input_then (Look a b ∷ steps) more m h = input_then steps more m h
+input_then (Make a b c ∷ steps) more m h = input_then steps more m h
+input_then (Take a b c ∷ steps) more m h = absurd h
+input_then (Link a b c ∷ steps) more m h = input_then steps more m h
+input_then (Rename a b c ∷ steps) more m h = input_then steps more m h
+input_then (Remove a b ∷ steps) more m h = input_then steps more m h
+input_then (Sync a ∷ steps) more m h = input_then steps more m h
+
+pub input_more : (old new : Option (List Step)) (step : Step) → HasInput (step ∷ []) → new ≡ added old step → IfSome old HasInput → IfSome new HasInput
+input_more old new step m e h = if_added HasInput HasInput old new step (λ steps p. input_then steps (step ∷ []) m p) e h
 
 -- the last call
 pub ends_one : (old new : Option (List Step)) (step : Step) → new ≡ added old step → IfSome new (λ steps. EndsWith steps (step ∷ []))

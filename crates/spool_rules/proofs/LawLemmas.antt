@@ -1,12 +1,14 @@
 -- No lawful call is about the mailbox of another user.
-use Rattle.std.proofs.Common.{◌≡◌, ◌⊎◌, ◌∙◌, ℕ, List, [], ◌∷◌, ◌++◌, sym, ap, subst, refl, inl, inr}
+use Rattle.std.proofs.Common.{◌≡◌, ◌∙◌, ℕ, List, [], ◌∷◌, ◌++◌, sym, ap, subst, refl, inl, inr}
 use Rattle.std.specs.Prelude.{Option, Some, Bool, true, false, ◌&&◌, is_none}
 use Rattle.std.specs.declared.result.Result.TheVariants.{Ok, Err}
 use Rattle.spool_rules.specs.declared.port.Step.{Step}
 use Rattle.spool_rules.specs.declared.port.Step.TheVariants.{Users, Look, Make, Take, Link, Rename, Remove, Sync}
+use Rattle.spool_rules.specs.declared.words.Operation.{Operation}
+use Rattle.spool_rules.specs.declared.words.Operation.TheVariants as op
 use Rattle.spool_rules.specs.declared.words.Request.{Request}
 use Rattle.spool_rules.specs.Users.{is_callers, entry_of, has_number}
-use Rattle.spool_rules.specs.Lawful.{IsNameOf, MayRemove, Allowed, MayCome, LawfulAfter, IsLawful}
+use Rattle.spool_rules.specs.Lawful.{Clears, IsNameOf, MayRemove, Allowed, MayCome, LawfulAfter, IsLawful}
 use Rattle.spool_rules.specs.Laws.{Concerns, Spares, IsOthers}
 
 and_left : (a b : Bool) → (a && b) ≡ true → a ≡ true
@@ -48,14 +50,18 @@ no_name n r list name line is e isnt (inr (inl m)) = no_entry list name r.lock l
 no_name n r list name line is e isnt (inr (inr (inl m))) = no_entry list name r.beside line e m (part_three (has_number n (entry_of list r.mailbox)) (is_none (entry_of list r.lock)) (is_none (entry_of list r.beside)) (is_none (entry_of list r.staged)) is)
 no_name n r list name line is e isnt (inr (inr (inr m))) = no_entry list name r.staged line e m (and_right (has_number n (entry_of list r.mailbox) && is_none (entry_of list r.lock) && is_none (entry_of list r.beside)) (is_none (entry_of list r.staged)) is)
 
--- what stands aside has one of the names
-pub aside_name : (r : Request) (name : List ℕ) → (name ≡ r.beside) ⊎ (name ≡ r.staged) → IsNameOf r name
-aside_name r name (inl e) = inr (inr (inl e))
-aside_name r name (inr e) = inr (inr (inr e))
+-- what is cleared away has one of the names
+pub cleared_name : (operation : Operation) (r : Request) (name : List ℕ) → Clears operation r name → IsNameOf r name
+cleared_name op.Lock r name e = inr (inr (inl e))
+cleared_name op.Unlock r name e = inr (inr (inl e))
+cleared_name op.Stage r name e = inr (inr (inr e))
+cleared_name op.Publish r name e = absurd e
+cleared_name op.Erase r name e = absurd e
+cleared_name op.Discard r name e = inr (inr (inr e))
 
 -- what may be taken away has one of the names
 removed_name : (n : ℕ) (r : Request) (steps : List Step) (name : List ℕ) → MayRemove n r steps name → IsNameOf r name
-removed_name n r steps name (inl p) = aside_name r name p.0
+removed_name n r steps name (inl p) = cleared_name r.operation r name p.0
 removed_name n r steps name (inr (inl p)) = inr (inl p.0)
 removed_name n r steps name (inr (inr p)) = inl p.0
 

@@ -1,5 +1,5 @@
 -- What the operations are told, from call to call.
-use Rattle.std.proofs.Common.{◌≡◌, ◌⊎◌, ℕ, List, [], ◌∷◌, ◌++◌, sym, subst, refl, inl, inr}
+use Rattle.std.proofs.Common.{◌≡◌, ℕ, List, [], ◌∷◌, ◌++◌, sym, subst, refl, inl, inr}
 use Rattle.std.specs.Prelude.{Option, Some, None, IfSome, OnOk, true, false}
 use Rattle.std.specs.declared.result.Result.{Result}
 use Rattle.std.specs.declared.result.Result.TheVariants.{Ok, Err}
@@ -10,12 +10,16 @@ use Rattle.spool_rules.specs.declared.port.Step.{Step}
 use Rattle.spool_rules.specs.declared.port.Step.TheVariants.{Users, Look, Take, Remove, Sync}
 use Rattle.spool_rules.specs.declared.words.Operation.TheVariants as op
 use Rattle.spool_rules.specs.declared.words.Request.{Request}
-use Rattle.spool_rules.specs.Told.{added, EndsWith, IsFresh, Once, Onward}
+use Rattle.spool_rules.specs.Told.{added, EndsWith, IsFresh, Once, OnlyLooked, Onward}
 use Rattle.spool_rules.specs.Users.{is_callers}
-use Rattle.spool_rules.specs.Lawful.{holds, NotLocked, is_own, is_free, mode_after, LockedThen, MayRemove, MayReplace, MayTake, IsLawful, Sound}
-use Rattle.spool_rules.specs.Deeds.{GoneThen, Unlocks}
+use Rattle.spool_rules.specs.Lawful.{holds, NotLocked, GoneThen, Unlocks, Clears, ClearsAfter, is_own, is_free, mode_after, LockedThen, MayRemove, MayReplace, MayTake, IsLawful, Sound}
 use Rattle.spool_rules.specs.Causes.{StandsAt, Ended}
-use Rattle.spool_rules.proofs.CallLemmas.{weaken, if_added, ends_one, ends_two, ends_step, locked_more, on_one, on_then, once_on}
+use Rattle.spool_rules.proofs.CallLemmas.{weaken, both, if_added, ends_one, ends_two, ends_step, locked_more, on_one, on_then, once_on}
+
+-- what is gone stays so at the next call
+gone_step : (name : List ℕ) (steps : List Step) (step : Step) → GoneThen name [] steps → GoneThen name (step ∷ []) (steps ++ step ∷ [])
+gone_step name steps step (inl p) = inl (ends_step (Remove name (Ok tt) ∷ []) steps step p)
+gone_step name steps step (inr p) = inr (ends_step (Look name (Ok Nothing) ∷ []) steps step p)
 
 -- both looks, and what they say of the lock
 pub seen_locked : (n : ℕ) (r : Request) (old mid new : Option (List Step)) (lock beside : Seen) → mid ≡ added old (Look r.lock (Ok lock)) → new ≡ added mid (Look r.beside (Ok beside)) → holds n lock beside ≡ true → IfSome new (λ steps. LockedThen n r steps [])
@@ -25,14 +29,14 @@ pub seen_free : (n : ℕ) (r : Request) (old mid new : Option (List Step)) (lock
 seen_free n r old mid new lock beside e f h = weaken (λ steps. EndsWith steps (Look r.lock (Ok lock) ∷ Look r.beside (Ok beside) ∷ [])) (λ steps. NotLocked n r steps) new (λ steps p. (lock, beside, h, p)) (ends_two old mid new (Look r.lock (Ok lock)) (Look r.beside (Ok beside)) e f)
 
 -- what is taken away
-pub own_may_go : (n : ℕ) (r : Request) (name : List ℕ) (old new : Option (List Step)) (seen : Seen) → (name ≡ r.beside) ⊎ (name ≡ r.staged) → new ≡ added old (Look name (Ok seen)) → is_own n seen ≡ true → IfSome new (λ steps. MayRemove n r steps name)
-own_may_go n r name old new seen aside e own = weaken (λ steps. EndsWith steps (Look name (Ok seen) ∷ [])) (λ steps. MayRemove n r steps name) new (λ steps p. inl (aside, (seen, own, p))) (ends_one old new (Look name (Ok seen)) e)
+pub own_may_go : (n : ℕ) (r : Request) (name : List ℕ) (old new : Option (List Step)) (seen : Seen) → Clears r.operation r name → IfSome old (λ steps. ClearsAfter r.operation n r steps) → new ≡ added old (Look name (Ok seen)) → is_own n seen ≡ true → IfSome new (λ steps. MayRemove n r steps name)
+own_may_go n r name old new seen clears after e own = if_added (λ steps. ClearsAfter r.operation n r steps) (λ steps. MayRemove n r steps name) old new (Look name (Ok seen)) (λ steps p. inl (clears, (steps, seen, p, own, refl))) e after
 
-pub lock_may_go : (n : ℕ) (r : Request) (told : Option (List Step)) → IfSome told (λ steps. LockedThen n r steps []) → IfSome told (λ steps. MayRemove n r steps r.lock)
-lock_may_go n r told h = weaken (λ steps. LockedThen n r steps []) (λ steps. MayRemove n r steps r.lock) told (λ steps p. inr (inl (refl, p))) h
+pub lock_may_go : (n : ℕ) (r : Request) (told : Option (List Step)) → r.operation ≡ op.Unlock → IfSome told (λ steps. LockedThen n r steps []) → IfSome told (λ steps. MayRemove n r steps r.lock)
+lock_may_go n r told unlocks h = weaken (λ steps. LockedThen n r steps []) (λ steps. MayRemove n r steps r.lock) told (λ steps p. inr (inl (refl, unlocks, p))) h
 
-pub mailbox_may_go : (n : ℕ) (r : Request) (old new : Option (List Step)) (seen : Seen) → IfSome old (λ steps. LockedThen n r steps []) → new ≡ added old (Look r.mailbox (Ok seen)) → is_own n seen ≡ true → IfSome new (λ steps. MayRemove n r steps r.mailbox)
-mailbox_may_go n r old new seen h e own = weaken (λ steps. LockedThen n r steps (Look r.mailbox (Ok seen) ∷ [])) (λ steps. MayRemove n r steps r.mailbox) new (λ steps p. inr (inr (refl, seen, own, p))) (locked_more n r [] old new (Look r.mailbox (Ok seen)) e h)
+pub mailbox_may_go : (n : ℕ) (r : Request) (old new : Option (List Step)) (seen : Seen) → r.operation ≡ op.Erase → IfSome old (λ steps. LockedThen n r steps []) → new ≡ added old (Look r.mailbox (Ok seen)) → is_own n seen ≡ true → IfSome new (λ steps. MayRemove n r steps r.mailbox)
+mailbox_may_go n r old new seen erases h e own = weaken (λ steps. LockedThen n r steps (Look r.mailbox (Ok seen) ∷ [])) (λ steps. MayRemove n r steps r.mailbox) new (λ steps p. inr (inr (refl, erases, seen, own, p))) (locked_more n r [] old new (Look r.mailbox (Ok seen)) e h)
 
 -- what is replaced
 staged_seen : (n : ℕ) (r : Request) (old mid new : Option (List Step)) (mailbox staged : Seen) → IfSome old (λ steps. LockedThen n r steps []) → mid ≡ added old (Look r.mailbox (Ok mailbox)) → new ≡ added mid (Look r.staged (Ok staged)) → IfSome new (λ steps. LockedThen n r steps (Look r.mailbox (Ok mailbox) ∷ Look r.staged (Ok staged) ∷ []))
@@ -44,12 +48,13 @@ pub may_replace_now : (n : ℕ) (r : Request) (old mid new : Option (List Step))
 may_replace_now n r old mid new mailbox staged h e f free own =
     weaken (λ steps. LockedThen n r steps (Look r.mailbox (Ok mailbox) ∷ Look r.staged (Ok staged) ∷ [])) (λ steps. MayReplace n r steps) new (λ steps p. (mailbox, staged, free, own, p)) (staged_seen n r old mid new mailbox staged h e f)
 
-pub nothing_staged : (n : ℕ) (r : Request) (old mid new : Option (List Step)) (mailbox : Seen) → IfSome old (λ steps. LockedThen n r steps []) → mid ≡ added old (Look r.mailbox (Ok mailbox)) → new ≡ added mid (Look r.staged (Ok Nothing)) → IfSome new (λ steps. StandsAt op.Publish n r steps)
-nothing_staged n r old mid new mailbox h e f =
-    weaken (λ steps. LockedThen n r steps (Look r.mailbox (Ok mailbox) ∷ Look r.staged (Ok Nothing) ∷ [])) (λ steps. StandsAt op.Publish n r steps) new (λ steps p. (mailbox, p)) (staged_seen n r old mid new mailbox Nothing h e f)
+pub nothing_staged : (n : ℕ) (r : Request) (old mid new : Option (List Step)) (mailbox : Seen) → IfSome new OnlyLooked → IfSome old (λ steps. LockedThen n r steps []) → mid ≡ added old (Look r.mailbox (Ok mailbox)) → new ≡ added mid (Look r.staged (Ok Nothing)) → IfSome new (λ steps. StandsAt op.Publish n r steps)
+nothing_staged n r old mid new mailbox looked h e f =
+    weaken (λ steps. OnlyLooked steps × LockedThen n r steps (Look r.mailbox (Ok mailbox) ∷ Look r.staged (Ok Nothing) ∷ [])) (λ steps. StandsAt op.Publish n r steps) new (λ steps p. (p.0, mailbox, p.1))
+    (both OnlyLooked (λ steps. LockedThen n r steps (Look r.mailbox (Ok mailbox) ∷ Look r.staged (Ok Nothing) ∷ [])) new looked (staged_seen n r old mid new mailbox Nothing h e f))
 
-pub may_take_now : (n : ℕ) (r : Request) (old new : Option (List Step)) (seen : Seen) (mode : ℕ) → new ≡ added old (Look r.mailbox (Ok seen)) → is_free n seen ≡ true → mode ≡ mode_after seen → IfSome new (λ steps. MayTake n r steps mode)
-may_take_now n r old new seen mode e free is = weaken (λ steps. EndsWith steps (Look r.mailbox (Ok seen) ∷ [])) (λ steps. MayTake n r steps mode) new (λ steps p. (seen, free, is, p)) (ends_one old new (Look r.mailbox (Ok seen)) e)
+pub may_take_now : (n : ℕ) (r : Request) (old new : Option (List Step)) (seen : Seen) (mode : ℕ) → IfSome old (λ steps. GoneThen r.staged [] steps) → new ≡ added old (Look r.mailbox (Ok seen)) → is_free n seen ≡ true → mode ≡ mode_after seen → IfSome new (λ steps. MayTake n r steps mode)
+may_take_now n r old new seen mode gone e free is = if_added (λ steps. GoneThen r.staged [] steps) (λ steps. MayTake n r steps mode) old new (Look r.mailbox (Ok seen)) (λ steps p. (seen, free, is, gone_step r.staged steps (Look r.mailbox (Ok seen)) p)) e gone
 
 -- what is gone
 pub nothing_gone : (name : List ℕ) (old new : Option (List Step)) → new ≡ added old (Look name (Ok Nothing)) → IfSome new (λ steps. GoneThen name [] steps)
@@ -66,16 +71,8 @@ removed_unlocks n r old new (Err s) e = tt
 pub not_locked_unlocks : (n : ℕ) (r : Request) (told : Option (List Step)) → IfSome told (λ steps. NotLocked n r steps) → IfSome told (λ steps. Unlocks n r steps)
 not_locked_unlocks n r told h = weaken (λ steps. NotLocked n r steps) (λ steps. Unlocks n r steps) told (λ steps p. inr p) h
 
-gone_step : (name : List ℕ) (steps : List Step) → GoneThen name [] steps → GoneThen name (Sync (Ok tt) ∷ []) (steps ++ Sync (Ok tt) ∷ [])
-gone_step name steps (inl p) = inl (ends_step (Remove name (Ok tt) ∷ []) steps (Sync (Ok tt)) p)
-gone_step name steps (inr p) = inr (ends_step (Look name (Ok Nothing) ∷ []) steps (Sync (Ok tt)) p)
-
 pub gone_sync : (name : List ℕ) (old new : Option (List Step)) → new ≡ added old (Sync (Ok tt)) → IfSome old (λ steps. GoneThen name [] steps) → IfSome new (λ steps. GoneThen name (Sync (Ok tt) ∷ []) steps)
-gone_sync name old new e h = if_added (λ steps. GoneThen name [] steps) (λ steps. GoneThen name (Sync (Ok tt) ∷ []) steps) old new (Sync (Ok tt)) (λ steps p. gone_step name steps p) e h
-
-pub both : (P Q : List Step → Type 0) (told : Option (List Step)) → IfSome told P → IfSome told Q → IfSome told (λ steps. P steps × Q steps)
-both P Q None p q = tt
-both P Q (Some steps) p q = (p, q)
+gone_sync name old new e h = if_added (λ steps. GoneThen name [] steps) (λ steps. GoneThen name (Sync (Ok tt) ∷ []) steps) old new (Sync (Ok tt)) (λ steps p. gone_step name steps (Sync (Ok tt)) p) e h
 
 -- what a release that began, what it then took away, and the last call come to
 pub unlock_done : (n : ℕ) (r : Request) (old mid new : Option (List Step)) → IfSome old (λ steps. Unlocks n r steps) → Onward old mid → IfSome mid (λ steps. GoneThen r.beside [] steps) → new ≡ added mid (Sync (Ok tt)) → Ended op.Unlock n r (Ok true) new
@@ -90,6 +87,12 @@ first_lawful n r steps list e = subst (λ (s : List Step). IsLawful n r (s ++ Us
 
 pub users_lawful : (n : ℕ) (r : Request) (old new : Option (List Step)) (list : Result (List ℕ) Stop) → IsFresh old → new ≡ added old (Users list) → IfSome new (λ steps. IsLawful n r steps)
 users_lawful n r old new list fresh e = if_added (λ steps. steps ≡ []) (λ steps. IsLawful n r steps) old new (Users list) (λ steps p. first_lawful n r steps list p) e fresh
+
+first_looked : (steps : List Step) (list : Result (List ℕ) Stop) → steps ≡ [] → OnlyLooked (steps ++ Users list ∷ [])
+first_looked steps list e = subst (λ (s : List Step). OnlyLooked (s ++ Users list ∷ [])) (sym e) tt
+
+pub users_looked : (old new : Option (List Step)) (list : Result (List ℕ) Stop) → IsFresh old → new ≡ added old (Users list) → IfSome new OnlyLooked
+users_looked old new list fresh e = if_added (λ steps. steps ≡ []) OnlyLooked old new (Users list) (λ steps p. first_looked steps list p) e fresh
 
 first_sound : (n : ℕ) (r : Request) (list : List ℕ) (told : Option (List Step)) → is_callers list n r ≡ true → IsFresh told → Sound n r (added told (Users (Ok list)))
 first_sound n r list None is fresh = tt

@@ -12,11 +12,11 @@ use Rattle.spool_rules.specs.declared.port.Stop.TheVariants as stop
 use Rattle.spool_rules.specs.declared.status.SpoolStatus.{SpoolStatus}
 use Rattle.spool_rules.specs.declared.status.SpoolStatus.TheVariants as status
 use Rattle.spool_rules.specs.declared.words.Operation.{Operation}
-use Rattle.spool_rules.specs.declared.words.Operation.TheVariants.{Lock, Publish, Erase}
+use Rattle.spool_rules.specs.declared.words.Operation.TheVariants.{Lock, Stage, Publish, Erase}
 use Rattle.spool_rules.specs.declared.words.Request.{Request}
-use Rattle.spool_rules.specs.Told.{EndsWith, Once}
+use Rattle.spool_rules.specs.Told.{EndsWith, Once, OnlyLooked}
 use Rattle.spool_rules.specs.Users.{is_callers}
-use Rattle.spool_rules.specs.Lawful.{is_free, LockedThen, NotLocked}
+use Rattle.spool_rules.specs.Lawful.{is_free, LockedThen, NotLocked, GoneThen, Clears}
 use Rattle.spool_rules.specs.Deeds.{DoesAt}
 
 -- the fault that a call answered
@@ -34,9 +34,17 @@ fault (Sync done) = result_err done
 abbrev pub Failed : Stop → List Step → Type 0
 Failed why steps = (step : Step) × (fault step ≡ Some why) × EndsWith steps (step ∷ [])
 
--- the last call saw what is neither nothing nor a regular file of the caller's
-abbrev pub SawOthers : ℕ → List Step → Type 0
-SawOthers n steps = (name : List ℕ) × (seen : Seen) × (is_free n seen ≡ false) × EndsWith steps (Look name (Ok seen) ∷ [])
+-- the names at which an operation can't do with what is another's
+abbrev pub Minds : Operation → Request → List ℕ → Type 0
+Minds Stage r name = (name ≡ r.staged) ⊎ (name ≡ r.mailbox)
+Minds Publish r name = (name ≡ r.staged) ⊎ (name ≡ r.mailbox)
+Minds Erase r name = name ≡ r.mailbox
+Minds operation r name = Clears operation r name
+
+-- the last call saw, at such a name, what is neither nothing nor a regular file of the caller's
+abbrev pub SawOthers : ℕ → Request → List Step → Type 0
+SawOthers n r steps = (name : List ℕ) × (seen : Seen) × Minds r.operation r name × (is_free n seen ≡ false)
+    × EndsWith steps (Look name (Ok seen) ∷ [])
 
 -- an operation that wants the lock saw last that the caller doesn't hold it
 abbrev pub WantsLock : Operation → ℕ → Request → List Step → Type 0
@@ -45,17 +53,20 @@ WantsLock Erase n r steps = NotLocked n r steps
 WantsLock operation n r steps = ⊥
 
 -- a call failed, or what it saw is another's
-abbrev pub Stopped : ℕ → Stop → List Step → Type 0
-Stopped n why steps = Failed why steps ⊎ ((why ≡ stop.Refused) × SawOthers n steps)
+abbrev pub Stopped : ℕ → Request → Stop → List Step → Type 0
+Stopped n r why steps = Failed why steps ⊎ ((why ≡ stop.Refused) × SawOthers n r steps)
 
 -- the same, or the lock was wanted
 abbrev pub StoppedAt : Operation → ℕ → Request → Stop → List Step → Type 0
-StoppedAt operation n r why steps = Stopped n why steps ⊎ ((why ≡ stop.Refused) × WantsLock operation n r steps)
+StoppedAt operation n r why steps = Stopped n r why steps ⊎ ((why ≡ stop.Refused) × WantsLock operation n r steps)
 
--- a lock stands: the caller's by this token, or one that was in the way; or nothing was staged
+-- a lock stands: the caller's by this token, and nothing was changed, or one that was in the way, and the other name is gone; or nothing was
+-- staged, and nothing was changed
 abbrev pub StandsAt : Operation → ℕ → Request → List Step → Type 0
-StandsAt Lock n r steps = LockedThen n r steps [] ⊎ Once (λ front. EndsWith front (Link r.beside r.lock (Ok false) ∷ [])) steps
-StandsAt Publish n r steps = (mailbox : Seen) × LockedThen n r steps (Look r.mailbox (Ok mailbox) ∷ Look r.staged (Ok Nothing) ∷ [])
+StandsAt Lock n r steps = (OnlyLooked steps × LockedThen n r steps [])
+    ⊎ (Once (λ front. EndsWith front (Link r.beside r.lock (Ok false) ∷ [])) steps × GoneThen r.beside [] steps)
+StandsAt Publish n r steps = OnlyLooked steps × (mailbox : Seen)
+    × LockedThen n r steps (Look r.mailbox (Ok mailbox) ∷ Look r.staged (Ok Nothing) ∷ [])
 StandsAt operation n r steps = ⊥
 
 -- how an operation ended
@@ -68,8 +79,8 @@ EndsAt operation n r (Err why) steps = StoppedAt operation n r why steps
 abbrev pub Ended : Operation → ℕ → Request → Result Bool Stop → Option (List Step) → Type 0
 Ended operation n r result told = IfSome told (λ steps. EndsAt operation n r result steps)
 
-abbrev pub IsStopped : {T : Type 0} → ℕ → Result T Stop → Option (List Step) → Type 0
-IsStopped n result told = IfErr result (λ why. IfSome told (λ steps. Stopped n why steps))
+abbrev pub IsStopped : {T : Type 0} → ℕ → Request → Result T Stop → Option (List Step) → Type 0
+IsStopped n r result told = IfErr result (λ why. IfSome told (λ steps. Stopped n r why steps))
 
 abbrev pub IsStoppedAt : {T : Type 0} → Operation → ℕ → Request → Result T Stop → Option (List Step) → Type 0
 IsStoppedAt operation n r result told = IfErr result (λ why. IfSome told (λ steps. StoppedAt operation n r why steps))

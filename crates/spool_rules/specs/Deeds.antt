@@ -1,22 +1,13 @@
 -- What was done at the end of an operation that was carried out.
-use Rattle.std.specs.Prelude.{◌⊎◌, ℕ, true, List, [], ◌∷◌}
+use Rattle.std.specs.Prelude.{ℕ, true, List, [], ◌∷◌}
 use Rattle.std.specs.declared.result.Result.TheVariants.{Ok}
-use Rattle.spool_rules.specs.declared.port.Seen.TheVariants.{Nothing}
 use Rattle.spool_rules.specs.declared.port.Step.{Step}
-use Rattle.spool_rules.specs.declared.port.Step.TheVariants.{Look, Take, Link, Rename, Remove, Sync}
+use Rattle.spool_rules.specs.declared.port.Step.TheVariants.{Take, Link, Rename, Sync}
 use Rattle.spool_rules.specs.declared.words.Operation.TheVariants.{Lock, Unlock, Stage, Publish, Erase, Discard}
 use Rattle.spool_rules.specs.declared.words.Operation.{Operation}
 use Rattle.spool_rules.specs.declared.words.Request.{Request}
 use Rattle.spool_rules.specs.Told.{EndsWith, Once}
-use Rattle.spool_rules.specs.Lawful.{NotLocked}
-
--- a name was taken away, or nothing stood there, and then came these calls
-abbrev pub GoneThen : List ℕ → List Step → List Step → Type 0
-GoneThen name last steps = EndsWith steps (Remove name (Ok tt) ∷ last) ⊎ EndsWith steps (Look name (Ok Nothing) ∷ last)
-
--- the lock was taken away, or isn't the caller's by this token
-abbrev pub Unlocks : ℕ → Request → List Step → Type 0
-Unlocks n r steps = EndsWith steps (Remove r.lock (Ok tt) ∷ []) ⊎ NotLocked n r steps
+use Rattle.spool_rules.specs.Lawful.{GoneThen, Unlocks}
 
 -- what an operation does: it is the last call but one, and was made to last
 abbrev pub DoesAt : Operation → ℕ → Request → List Step → Type 0

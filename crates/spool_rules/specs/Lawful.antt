@@ -6,8 +6,10 @@ use Rattle.spool_rules.specs.declared.port.Seen.{Seen}
 use Rattle.spool_rules.specs.declared.port.Seen.TheVariants.{Nothing, File}
 use Rattle.spool_rules.specs.declared.port.Step.{Step}
 use Rattle.spool_rules.specs.declared.port.Step.TheVariants.{Users, Look, Make, Take, Link, Rename, Remove, Sync}
+use Rattle.spool_rules.specs.declared.words.Operation.{Operation}
+use Rattle.spool_rules.specs.declared.words.Operation.TheVariants as op
 use Rattle.spool_rules.specs.declared.words.Request.{Request}
-use Rattle.spool_rules.specs.Told.{EndsWith}
+use Rattle.spool_rules.specs.Told.{EndsWith, HasInput}
 use Rattle.spool_rules.specs.Users.{is_callers}
 
 -- a regular file of the user of this number
@@ -44,40 +46,63 @@ abbrev pub NotLocked : ℕ → Request → List Step → Type 0
 NotLocked n r steps = (lock beside : Seen) × (holds n lock beside ≡ false)
     × EndsWith steps (Look r.lock (Ok lock) ∷ Look r.beside (Ok beside) ∷ [])
 
--- the last call saw a regular file of the caller's at the name
-abbrev pub OwnSeen : ℕ → List ℕ → List Step → Type 0
-OwnSeen n name steps = (seen : Seen) × (is_own n seen ≡ true) × EndsWith steps (Look name (Ok seen) ∷ [])
+-- a name was taken away, or nothing stood there, and then came these calls
+abbrev pub GoneThen : List ℕ → List Step → List Step → Type 0
+GoneThen name last steps = EndsWith steps (Remove name (Ok tt) ∷ last) ⊎ EndsWith steps (Look name (Ok Nothing) ∷ last)
+
+-- the lock was taken away, or isn't the caller's by this token
+abbrev pub Unlocks : ℕ → Request → List Step → Type 0
+Unlocks n r steps = EndsWith steps (Remove r.lock (Ok tt) ∷ []) ⊎ NotLocked n r steps
+
+-- the last call saw a regular file of the caller's at the name, and this is so of the calls before it
+abbrev pub OwnSeenAfter : (List Step → Type 0) → ℕ → List ℕ → List Step → Type 0
+OwnSeenAfter P n name steps = (front : List Step) × (seen : Seen) × P front × (is_own n seen ≡ true) × (steps ≡ front ++ Look name (Ok seen) ∷ [])
 
 -- one of the names of a request
 abbrev pub IsNameOf : Request → List ℕ → Type 0
 IsNameOf r name = (name ≡ r.mailbox) ⊎ ((name ≡ r.lock) ⊎ ((name ≡ r.beside) ⊎ (name ≡ r.staged)))
 
--- A name that was made for the caller is taken away right after a look at it; his lock, if he has put it by the token; and his mailbox under
--- that lock, right after a look at it.
+-- what an operation clears away of what was made for the caller: the lock's other name, or what is staged
+abbrev pub Clears : Operation → Request → List ℕ → Type 0
+Clears op.Lock r name = name ≡ r.beside
+Clears op.Unlock r name = name ≡ r.beside
+Clears op.Stage r name = name ≡ r.staged
+Clears op.Discard r name = name ≡ r.staged
+Clears operation r name = ⊥
+
+-- After which calls: the lock's other name goes once it was seen that the caller hasn't locked the mailbox by it, or the lock wasn't free, or the
+-- lock is gone.
+abbrev pub ClearsAfter : Operation → ℕ → Request → List Step → Type 0
+ClearsAfter op.Lock n r steps = NotLocked n r steps ⊎ EndsWith steps (Link r.beside r.lock (Ok false) ∷ [])
+ClearsAfter op.Unlock n r steps = Unlocks n r steps
+ClearsAfter operation n r steps = Unit {0}
+
+-- What the operation clears away is taken away right after a look at it; the lock by an unlock, if the caller has put it by the token; and the
+-- mailbox by an erasure under that lock, right after a look at it.
 abbrev pub MayRemove : ℕ → Request → List Step → List ℕ → Type 0
 MayRemove n r steps name =
-    (((name ≡ r.beside) ⊎ (name ≡ r.staged)) × OwnSeen n name steps)
-    ⊎ (((name ≡ r.lock) × LockedThen n r steps [])
-    ⊎ ((name ≡ r.mailbox) × (seen : Seen) × (is_own n seen ≡ true) × LockedThen n r steps (Look r.mailbox (Ok seen) ∷ [])))
+    (Clears r.operation r name × OwnSeenAfter (λ front. ClearsAfter r.operation n r front) n name steps)
+    ⊎ (((name ≡ r.lock) × (r.operation ≡ op.Unlock) × LockedThen n r steps [])
+    ⊎ ((name ≡ r.mailbox) × (r.operation ≡ op.Erase) × (seen : Seen) × (is_own n seen ≡ true) × LockedThen n r steps (Look r.mailbox (Ok seen) ∷ [])))
 
 -- Under the lock what was staged takes the place of the mailbox, right after a look at both.
 abbrev pub MayReplace : ℕ → Request → List Step → Type 0
 MayReplace n r steps = (mailbox staged : Seen) × (is_free n mailbox ≡ true) × (is_own n staged ≡ true)
     × LockedThen n r steps (Look r.mailbox (Ok mailbox) ∷ Look r.staged (Ok staged) ∷ [])
 
--- what the file that is made of the input replaces was looked at, and gives its mode
+-- nothing is staged, and what the file that is made of the input replaces was looked at, and gives its mode
 abbrev pub MayTake : ℕ → Request → List Step → ℕ → Type 0
 MayTake n r steps mode = (seen : Seen) × (is_free n seen ≡ true) × (mode ≡ mode_after seen)
-    × EndsWith steps (Look r.mailbox (Ok seen) ∷ [])
+    × GoneThen r.staged (Look r.mailbox (Ok seen) ∷ []) steps
 
--- a call on the folder that may come after these
+-- a call on the folder that may come after these, for the operation
 abbrev pub Allowed : ℕ → Request → List Step → Step → Type 0
 Allowed n r steps (Users list) = ⊥
 Allowed n r steps (Look name seen) = IsNameOf r name
-Allowed n r steps (Make name bytes done) = (name ≡ r.beside) × (bytes ≡ r.token)
-Allowed n r steps (Take name mode done) = (name ≡ r.staged) × MayTake n r steps mode
+Allowed n r steps (Make name bytes done) = (name ≡ r.beside) × (bytes ≡ r.token) × (r.operation ≡ op.Lock) × GoneThen r.beside [] steps
+Allowed n r steps (Take name mode done) = (name ≡ r.staged) × (r.operation ≡ op.Stage) × HasInput steps × MayTake n r steps mode
 Allowed n r steps (Link from to free) = (from ≡ r.beside) × (to ≡ r.lock) × EndsWith steps (Make r.beside r.token (Ok tt) ∷ [])
-Allowed n r steps (Rename from to done) = (from ≡ r.staged) × (to ≡ r.mailbox) × MayReplace n r steps
+Allowed n r steps (Rename from to done) = (from ≡ r.staged) × (to ≡ r.mailbox) × (r.operation ≡ op.Publish) × MayReplace n r steps
 Allowed n r steps (Remove name done) = MayRemove n r steps name
 Allowed n r steps (Sync done) = Unit {0}
 

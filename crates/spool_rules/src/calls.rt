@@ -1,8 +1,9 @@
 // The calls of the outside, each where it may be made.
 ghost use Rattle.std.specs.Prelude.{◌≡◌, [], ◌∷◌, Ok, IfSome};
 ghost use Rattle.spool_rules.specs.declared.port.Step.TheVariants.{Look, Make, Take, Link, Rename, Remove, Sync};
-ghost use Rattle.spool_rules.specs.Told.{added, EndsWith};
-ghost use Rattle.spool_rules.specs.Lawful.{IsNameOf, MayRemove, MayReplace, MayTake, Sound};
+ghost use Rattle.spool_rules.specs.Told.{added, EndsWith, HasInput, OnlyLooked};
+ghost use Rattle.spool_rules.specs.declared.words.Operation.TheVariants as op;
+ghost use Rattle.spool_rules.specs.Lawful.{GoneThen, IsNameOf, MayRemove, MayReplace, MayTake, Sound};
 
 use crate::port::{Seen, Spool, Stop};
 use crate::words::Request;
@@ -17,12 +18,15 @@ pub(crate) fn look<S: Spool>(
     requires { IsNameOf request.now name.now }
     ensures told { S.told out.new ≡ added (S.told out.old) (Look name.now result) }
     ensures keeps { Sound number request.now (S.told out.old) → Sound number request.now (S.told out.new) }
+    ensures looked { IfSome (S.told out.old) OnlyLooked → IfSome (S.told out.new) OnlyLooked }
 {
     out.look(name)
 }
 
 /// Makes the file that becomes the lock.
 pub(crate) fn make<S: Spool>(out: &mut S, number: u32, request: &Request) -> Result<(), Stop>
+    requires locks { request.now.operation ≡ op.Lock }
+    requires gone { IfSome (S.told out.old) (λ steps. GoneThen request.now.beside [] steps) }
     ensures told { S.told out.new ≡ added (S.told out.old) (Make request.now.beside request.now.token result) }
     ensures keeps { Sound number request.now (S.told out.old) → Sound number request.now (S.told out.new) }
 {
@@ -36,7 +40,9 @@ pub(crate) fn take<S: Spool>(
     request: &Request,
     mode: u32,
 ) -> Result<(), Stop>
-    requires { IfSome (S.told out.old) (λ steps. MayTake number request.now steps mode) }
+    requires stages { request.now.operation ≡ op.Stage }
+    requires input { IfSome (S.told out.old) HasInput }
+    requires may { IfSome (S.told out.old) (λ steps. MayTake number request.now steps mode) }
     ensures told { S.told out.new ≡ added (S.told out.old) (Take request.now.staged mode result) }
     ensures keeps { Sound number request.now (S.told out.old) → Sound number request.now (S.told out.new) }
 {
@@ -54,7 +60,8 @@ pub(crate) fn link<S: Spool>(out: &mut S, number: u32, request: &Request) -> Res
 
 /// Puts what was staged in the place of the mailbox.
 pub(crate) fn rename<S: Spool>(out: &mut S, number: u32, request: &Request) -> Result<(), Stop>
-    requires { IfSome (S.told out.old) (λ steps. MayReplace number request.now steps) }
+    requires publishes { request.now.operation ≡ op.Publish }
+    requires may { IfSome (S.told out.old) (λ steps. MayReplace number request.now steps) }
     ensures told { S.told out.new ≡ added (S.told out.old) (Rename request.now.staged request.now.mailbox result) }
     ensures keeps { Sound number request.now (S.told out.old) → Sound number request.now (S.told out.new) }
 {

@@ -1,9 +1,9 @@
 // The operations on a mailbox.
-ghost use Rattle.std.specs.Prelude.{◌≡◌, ◌⊎◌, true, false, [], IfSome, OnOk, IfOk};
+ghost use Rattle.std.specs.Prelude.{◌≡◌, true, false, [], IfSome, OnOk, IfOk};
 ghost use Rattle.spool_rules.specs.declared.words.Operation.TheVariants as op;
-ghost use Rattle.spool_rules.specs.Told.{Onward};
-ghost use Rattle.spool_rules.specs.Lawful.{holds, LockedThen, NotLocked, MayTake, MayReplace, is_own, is_free, is_one, Sound};
-ghost use Rattle.spool_rules.specs.Deeds.{GoneThen, Unlocks};
+ghost use Rattle.spool_rules.specs.Told.{HasInput, Onward, OnlyLooked};
+ghost use Rattle.spool_rules.specs.Lawful.{holds, LockedThen, NotLocked, GoneThen, Unlocks, Clears, ClearsAfter};
+ghost use Rattle.spool_rules.specs.Lawful.{MayTake, MayReplace, is_own, is_free, is_one, Sound};
 ghost use Rattle.spool_rules.specs.Causes.{Ended, IsStopped, IsStoppedAt, StandsAt};
 
 use crate::calls::{link, look, make, remove, rename, sync, take};
@@ -52,9 +52,10 @@ fn holds(number: u32, lock: Seen, beside: Seen) -> bool
 // Whether the caller has locked the mailbox by the token.
 fn has_locked<S: Spool>(out: &mut S, number: u32, request: &Request) -> Result<bool, Stop>
     ensures keeps { Sound number request.now (S.told out.old) → Sound number request.now (S.told out.new) }
+    ensures looked { IfSome (S.told out.old) OnlyLooked → IfSome (S.told out.new) OnlyLooked }
     ensures locked { IfOk result (λ yes. yes ≡ true → IfSome (S.told out.new) (λ steps. LockedThen number request.now steps [])) }
     ensures free { IfOk result (λ yes. yes ≡ false → IfSome (S.told out.new) (λ steps. NotLocked number request.now steps)) }
-    ensures stopped { IsStopped number result (S.told out.new) }
+    ensures stopped { IsStopped number request.now result (S.told out.new) }
 {
     let lock = look(out, number, request, request.lock.bytes())?;
     let beside = look(out, number, request, request.beside.bytes())?;
@@ -63,11 +64,13 @@ fn has_locked<S: Spool>(out: &mut S, number: u32, request: &Request) -> Result<b
 
 // Takes away what was made for the caller, if it stands.
 fn clear<S: Spool>(out: &mut S, number: u32, request: &Request, name: &[u8]) -> Result<(), Stop>
-    requires { (name.now ≡ request.now.beside) ⊎ (name.now ≡ request.now.staged) }
+    requires clears { Clears request.now.operation request.now name.now }
+    requires after { IfSome (S.told out.old) (λ steps. ClearsAfter request.now.operation number request.now steps) }
     ensures keeps { Sound number request.now (S.told out.old) → Sound number request.now (S.told out.new) }
     ensures gone { OnOk result (IfSome (S.told out.new) (λ steps. GoneThen name.now [] steps)) }
     ensures onward { Onward (S.told out.old) (S.told out.new) }
-    ensures stopped { IsStopped number result (S.told out.new) }
+    ensures input { IfSome (S.told out.old) HasInput → IfSome (S.told out.new) HasInput }
+    ensures stopped { IsStopped number request.now result (S.told out.new) }
 {
     match look(out, number, request, name)? {
         Seen::Nothing => Ok(()),
@@ -82,6 +85,8 @@ fn clear<S: Spool>(out: &mut S, number: u32, request: &Request, name: &[u8]) -> 
 }
 
 fn lock<S: Spool>(out: &mut S, number: u32, request: &Request) -> Result<bool, Stop>
+    requires locks { request.now.operation ≡ op.Lock }
+    requires looked { IfSome (S.told out.old) OnlyLooked }
     ensures keeps { Sound number request.now (S.told out.old) → Sound number request.now (S.told out.new) }
     ensures ended { Ended op.Lock number request.now result (S.told out.new) }
 {
@@ -101,9 +106,10 @@ fn lock<S: Spool>(out: &mut S, number: u32, request: &Request) -> Result<bool, S
 
 // Takes the lock away, if it is the caller's by the token.
 fn release<S: Spool>(out: &mut S, number: u32, request: &Request) -> Result<(), Stop>
+    requires { request.now.operation ≡ op.Unlock }
     ensures keeps { Sound number request.now (S.told out.old) → Sound number request.now (S.told out.new) }
     ensures done { OnOk result (IfSome (S.told out.new) (λ steps. Unlocks number request.now steps)) }
-    ensures stopped { IsStopped number result (S.told out.new) }
+    ensures stopped { IsStopped number request.now result (S.told out.new) }
 {
     if has_locked(out, number, request)? {
         remove(out, number, request, request.lock.bytes())
@@ -113,6 +119,7 @@ fn release<S: Spool>(out: &mut S, number: u32, request: &Request) -> Result<(), 
 }
 
 fn unlock<S: Spool>(out: &mut S, number: u32, request: &Request) -> Result<bool, Stop>
+    requires { request.now.operation ≡ op.Unlock }
     ensures keeps { Sound number request.now (S.told out.old) → Sound number request.now (S.told out.new) }
     ensures ended { Ended op.Unlock number request.now result (S.told out.new) }
 {
@@ -124,9 +131,12 @@ fn unlock<S: Spool>(out: &mut S, number: u32, request: &Request) -> Result<bool,
 
 // The mode of what is to take the place of the mailbox.
 fn mode_to_take<S: Spool>(out: &mut S, number: u32, request: &Request) -> Result<u32, Stop>
+    requires stages { request.now.operation ≡ op.Stage }
+    requires gone { IfSome (S.told out.old) (λ steps. GoneThen request.now.staged [] steps) }
     ensures keeps { Sound number request.now (S.told out.old) → Sound number request.now (S.told out.new) }
+    ensures input { IfSome (S.told out.old) HasInput → IfSome (S.told out.new) HasInput }
     ensures mode { IfOk result (λ mode. IfSome (S.told out.new) (λ steps. MayTake number request.now steps mode)) }
-    ensures stopped { IsStopped number result (S.told out.new) }
+    ensures stopped { IsStopped number request.now result (S.told out.new) }
 {
     match look(out, number, request, request.mailbox.bytes())? {
         Seen::Nothing => Ok(NEW_MODE),
@@ -136,6 +146,8 @@ fn mode_to_take<S: Spool>(out: &mut S, number: u32, request: &Request) -> Result
 }
 
 fn stage<S: Spool>(out: &mut S, number: u32, request: &Request) -> Result<bool, Stop>
+    requires stages { request.now.operation ≡ op.Stage }
+    requires looked { IfSome (S.told out.old) OnlyLooked }
     ensures keeps { Sound number request.now (S.told out.old) → Sound number request.now (S.told out.new) }
     ensures ended { Ended op.Stage number request.now result (S.told out.new) }
 {
@@ -148,6 +160,8 @@ fn stage<S: Spool>(out: &mut S, number: u32, request: &Request) -> Result<bool, 
 
 // Whether something is staged that may take the place of the mailbox: then both were looked at under the lock.
 fn may_replace<S: Spool>(out: &mut S, number: u32, request: &Request) -> Result<bool, Stop>
+    requires publishes { request.now.operation ≡ op.Publish }
+    requires looked { IfSome (S.told out.old) OnlyLooked }
     ensures keeps { Sound number request.now (S.told out.old) → Sound number request.now (S.told out.new) }
     ensures may { IfOk result (λ yes. yes ≡ true → IfSome (S.told out.new) (λ steps. MayReplace number request.now steps)) }
     ensures stands { IfOk result
@@ -174,6 +188,8 @@ fn may_replace<S: Spool>(out: &mut S, number: u32, request: &Request) -> Result<
 }
 
 fn publish<S: Spool>(out: &mut S, number: u32, request: &Request) -> Result<bool, Stop>
+    requires publishes { request.now.operation ≡ op.Publish }
+    requires looked { IfSome (S.told out.old) OnlyLooked }
     ensures keeps { Sound number request.now (S.told out.old) → Sound number request.now (S.told out.new) }
     ensures ended { Ended op.Publish number request.now result (S.told out.new) }
 {
@@ -187,10 +203,11 @@ fn publish<S: Spool>(out: &mut S, number: u32, request: &Request) -> Result<bool
 
 // Takes the mailbox away, if it stands.
 fn erase_locked<S: Spool>(out: &mut S, number: u32, request: &Request) -> Result<(), Stop>
-    requires { IfSome (S.told out.old) (λ steps. LockedThen number request.now steps []) }
+    requires erases { request.now.operation ≡ op.Erase }
+    requires locked { IfSome (S.told out.old) (λ steps. LockedThen number request.now steps []) }
     ensures keeps { Sound number request.now (S.told out.old) → Sound number request.now (S.told out.new) }
     ensures gone { OnOk result (IfSome (S.told out.new) (λ steps. GoneThen request.now.mailbox [] steps)) }
-    ensures stopped { IsStopped number result (S.told out.new) }
+    ensures stopped { IsStopped number request.now result (S.told out.new) }
 {
     match look(out, number, request, request.mailbox.bytes())? {
         Seen::Nothing => Ok(()),
@@ -205,6 +222,7 @@ fn erase_locked<S: Spool>(out: &mut S, number: u32, request: &Request) -> Result
 }
 
 fn erase<S: Spool>(out: &mut S, number: u32, request: &Request) -> Result<bool, Stop>
+    requires { request.now.operation ≡ op.Erase }
     ensures keeps { Sound number request.now (S.told out.old) → Sound number request.now (S.told out.new) }
     ensures ended { Ended op.Erase number request.now result (S.told out.new) }
 {
@@ -217,6 +235,7 @@ fn erase<S: Spool>(out: &mut S, number: u32, request: &Request) -> Result<bool, 
 }
 
 fn discard<S: Spool>(out: &mut S, number: u32, request: &Request) -> Result<bool, Stop>
+    requires { request.now.operation ≡ op.Discard }
     ensures keeps { Sound number request.now (S.told out.old) → Sound number request.now (S.told out.new) }
     ensures ended { Ended op.Discard number request.now result (S.told out.new) }
 {
@@ -227,6 +246,7 @@ fn discard<S: Spool>(out: &mut S, number: u32, request: &Request) -> Result<bool
 
 /// Carries out what is asked for. False if a lock stands, or nothing was staged.
 pub(crate) fn carry_out<S: Spool>(out: &mut S, number: u32, request: &Request) -> Result<bool, Stop>
+    requires { IfSome (S.told out.old) OnlyLooked }
     ensures keeps { Sound number request.now (S.told out.old) → Sound number request.now (S.told out.new) }
     ensures ended { Ended request.now.operation number request.now result (S.told out.new) }
 {

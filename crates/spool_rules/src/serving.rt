@@ -1,6 +1,6 @@
 // One call of the helper.
 ghost use Rattle.std.specs.Prelude.{◌≡◌, None, Some, true, false, IfSome, IfOk, IfErr};
-ghost use Rattle.spool_rules.specs.Told.{IsFresh};
+ghost use Rattle.spool_rules.specs.Told.{IsFresh, OnlyLooked};
 ghost use Rattle.spool_rules.specs.Words.{request_of};
 ghost use Rattle.spool_rules.specs.Lawful.{IsLawful, Sound};
 ghost use Rattle.spool_rules.specs.Causes.{Explains, Failed, IsForeign};
@@ -20,6 +20,7 @@ fn knows<S: Spool>(alloc: Global, number: u32, request: &Request, out: &mut S) -
     requires { IsFresh (S.told out.old) }
     ensures lawful { IfSome (S.told out.new) (λ steps. IsLawful number request.now steps) }
     ensures sound { IfOk result (λ is. is ≡ true → Sound number request.now (S.told out.new)) }
+    ensures looked { IfOk result (λ is. is ≡ true → IfSome (S.told out.new) OnlyLooked) }
     ensures foreign { IfOk result (λ is. is ≡ false → IfSome (S.told out.new) (λ steps. IsForeign number request.now steps)) }
     ensures failed { IfErr result (λ why. IfSome (S.told out.new) (λ steps. Failed why steps)) }
 {
@@ -45,7 +46,7 @@ pub fn run<S: Spool>(alloc: Global, number: u32, words: &[Text], out: &mut S) ->
     requires { IsFresh (S.told out.old) }
     // Words that aren't understood are refused before any call.
     ensures refused { request_of words.now ≡ None → (result ≡ status.Usage) × (out.new ≡ out.old) }
-    // Each call is about the caller's mailbox, its lock or a staged name of it, and comes where it may.
+    // Each call is about the caller's mailbox, its lock or a staged name of it, is the operation's, and comes where it may.
     ensures lawful { (request : Request) → request_of words.now ≡ Some request
         → IfSome (S.told out.new) (λ steps. IsLawful number request steps) }
     // Status 0 says that it was done, and made to last; each other what kept it from being done.

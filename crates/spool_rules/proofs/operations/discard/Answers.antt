@@ -1,12 +1,16 @@
-use Rattle.std.proofs.Common.{refl, inr}
+use Rattle.std.proofs.Common.{refl}
 use Rattle.std.proofs.lemmas.Result.{err_from_is_err_and}
 use Rattle.spool_rules.specs.declared.words.Operation.TheVariants as op
+use Rattle.spool_rules.proofs.CallLemmas.{always}
 use Rattle.spool_rules.proofs.OperationLemmas.{gone_sync}
-use Rattle.spool_rules.proofs.CauseLemmas.{stopped_at, call_ends}
+use Rattle.spool_rules.proofs.CauseLemmas.{clears_by, stopped_at, call_ends}
 use Rattle.spool_rules.proofs.operations.discard.Goals as goal
 
-pub clear-requires : goal.clear-requires
-clear-requires g c = inr c.bytes.ensures
+pub clear-requires-clause-clears : goal.clear-requires-clause-clears
+clear-requires-clause-clears g c = rw c.requires c.bytes.ensures
+
+pub clear-requires-clause-after : goal.clear-requires-clause-after
+clear-requires-clause-after g c = clears_by op.Discard c.args.number c.args.request.now (g.S.Spool.told c.args.out.now) c.requires (always (λ steps. Unit {0}) (g.S.Spool.told c.args.out.now) (λ steps. tt))
 
 pub returns-in_err-clear-clause-keeps : goal.returns-in_err-clear-clause-keeps
 returns-in_err-clear-clause-keeps g c = c.clear.ensures.keeps

@@ -17,8 +17,11 @@ returns-then-not-branch-clause-keeps g c = c.has_locked.ensures.keeps
 pub returns-then-not-branch-clause-ended : goal.returns-then-not-branch-clause-ended
 returns-then-not-branch-clause-ended g c = wants_lock op.Erase c.args.number c.args.request.now (g.S.Spool.told c.has_locked.new.out) (c.in_ok-has_locked.ensures.free c.if-not-branch.true)
 
-pub erase_locked-requires : goal.erase_locked-requires
-erase_locked-requires g c = c.in_ok-has_locked.ensures.locked c.if-not-branch.false
+pub erase_locked-requires-clause-erases : goal.erase_locked-requires-clause-erases
+erase_locked-requires-clause-erases g c = c.requires
+
+pub erase_locked-requires-clause-locked : goal.erase_locked-requires-clause-locked
+erase_locked-requires-clause-locked g c = c.in_ok-has_locked.ensures.locked c.if-not-branch.false
 
 pub returns-in_err-erase_locked-clause-keeps : goal.returns-in_err-erase_locked-clause-keeps
 returns-in_err-erase_locked-clause-keeps g c = λ s. c.erase_locked.ensures.keeps (c.has_locked.ensures.keeps s)

@@ -5,6 +5,12 @@ use Rattle.spool_rules.proofs.CallLemmas.{ends_two}
 use Rattle.spool_rules.proofs.CauseLemmas.{call_ends}
 use Rattle.spool_rules.proofs.operations.publish.Goals as goal
 
+pub may_replace-requires-clause-publishes : goal.may_replace-requires-clause-publishes
+may_replace-requires-clause-publishes g c = c.requires.publishes
+
+pub may_replace-requires-clause-looked : goal.may_replace-requires-clause-looked
+may_replace-requires-clause-looked g c = c.requires.looked
+
 pub returns-in_err-may_replace-clause-keeps : goal.returns-in_err-may_replace-clause-keeps
 returns-in_err-may_replace-clause-keeps g c = c.may_replace.ensures.keeps
 
@@ -17,8 +23,11 @@ returns-then-not-branch-clause-keeps g c = c.may_replace.ensures.keeps
 pub returns-then-not-branch-clause-ended : goal.returns-then-not-branch-clause-ended
 returns-then-not-branch-clause-ended g c = c.in_ok-may_replace.ensures.stands c.if-not-branch.true
 
-pub rename-requires : goal.rename-requires
-rename-requires g c = c.in_ok-may_replace.ensures.may c.if-not-branch.false
+pub rename-requires-clause-publishes : goal.rename-requires-clause-publishes
+rename-requires-clause-publishes g c = c.requires.publishes
+
+pub rename-requires-clause-may : goal.rename-requires-clause-may
+rename-requires-clause-may g c = c.in_ok-may_replace.ensures.may c.if-not-branch.false
 
 pub returns-in_err-rename-clause-keeps : goal.returns-in_err-rename-clause-keeps
 returns-in_err-rename-clause-keeps g c = λ s. c.rename.ensures.keeps (c.may_replace.ensures.keeps s)

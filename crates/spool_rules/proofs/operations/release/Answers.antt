@@ -10,7 +10,7 @@ pub returns-in_err-has_locked-clause-stopped : goal.returns-in_err-has_locked-cl
 returns-in_err-has_locked-clause-stopped g c = let p = err_from_is_err_and c.from_residual.result c.from_residual.ensures.1 in rw (p.1, p.2) c.in_err-has_locked.ensures.stopped
 
 pub remove-requires : goal.remove-requires
-remove-requires g c = rw c.bytes.ensures (lock_may_go c.args.number c.args.request.now (g.S.Spool.told c.has_locked.new.out) (c.in_ok-has_locked.ensures.locked c.if-branch.true))
+remove-requires g c = rw c.bytes.ensures (lock_may_go c.args.number c.args.request.now (g.S.Spool.told c.has_locked.new.out) c.requires (c.in_ok-has_locked.ensures.locked c.if-branch.true))
 
 pub returns-then-branch-clause-keeps : goal.returns-then-branch-clause-keeps
 returns-then-branch-clause-keeps g c = λ s. c.remove.ensures.keeps (c.has_locked.ensures.keeps s)
@@ -19,7 +19,7 @@ pub returns-then-branch-clause-done : goal.returns-then-branch-clause-done
 returns-then-branch-clause-done g c = removed_unlocks c.args.number c.args.request.now (g.S.Spool.told c.has_locked.new.out) (g.S.Spool.told c.remove.new.out) c.remove.result (rw c.bytes.ensures at c.remove.ensures.told)
 
 pub returns-then-branch-clause-stopped : goal.returns-then-branch-clause-stopped
-returns-then-branch-clause-stopped g c = removed_stopped c.args.number (g.S.Spool.told c.has_locked.new.out) (g.S.Spool.told c.remove.new.out) _ c.remove.result c.remove.ensures.told
+returns-then-branch-clause-stopped g c = removed_stopped c.args.number c.args.request.now (g.S.Spool.told c.has_locked.new.out) (g.S.Spool.told c.remove.new.out) _ c.remove.result c.remove.ensures.told
 
 pub returns-else-branch-clause-keeps : goal.returns-else-branch-clause-keeps
 returns-else-branch-clause-keeps g c = c.has_locked.ensures.keeps

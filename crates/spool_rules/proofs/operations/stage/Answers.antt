@@ -1,12 +1,22 @@
-use Rattle.std.proofs.Common.{refl, inr}
+use Rattle.std.proofs.Common.{refl}
 use Rattle.std.proofs.lemmas.Result.{err_from_is_err_and}
 use Rattle.spool_rules.specs.declared.words.Operation.TheVariants as op
+use Rattle.spool_rules.proofs.CallLemmas.{always, looked_has_input}
 use Rattle.spool_rules.proofs.OperationLemmas.{stage_done}
-use Rattle.spool_rules.proofs.CauseLemmas.{stopped_at, call_ends}
+use Rattle.spool_rules.proofs.CauseLemmas.{clears_by, stopped_at, call_ends}
 use Rattle.spool_rules.proofs.operations.stage.Goals as goal
 
-pub clear-requires : goal.clear-requires
-clear-requires g c = inr c.bytes.ensures
+pub clear-requires-clause-clears : goal.clear-requires-clause-clears
+clear-requires-clause-clears g c = rw c.requires.stages c.bytes.ensures
+
+pub clear-requires-clause-after : goal.clear-requires-clause-after
+clear-requires-clause-after g c = clears_by op.Stage c.args.number c.args.request.now (g.S.Spool.told c.args.out.now) c.requires.stages (always (λ steps. Unit {0}) (g.S.Spool.told c.args.out.now) (λ steps. tt))
+
+pub mode_to_take-requires-clause-stages : goal.mode_to_take-requires-clause-stages
+mode_to_take-requires-clause-stages g c = c.requires.stages
+
+pub mode_to_take-requires-clause-gone : goal.mode_to_take-requires-clause-gone
+mode_to_take-requires-clause-gone g c = rw c.bytes.ensures at c.in_ok-clear.ensures.gone
 
 pub returns-in_err-clear-clause-keeps : goal.returns-in_err-clear-clause-keeps
 returns-in_err-clear-clause-keeps g c = c.clear.ensures.keeps
@@ -20,8 +30,14 @@ returns-in_err-mode-clause-keeps g c = λ s. c.mode_to_take.ensures.keeps (c.cle
 pub returns-in_err-mode-clause-ended : goal.returns-in_err-mode-clause-ended
 returns-in_err-mode-clause-ended g c = let p = err_from_is_err_and c.from_residual-in_err-mode.result c.from_residual-in_err-mode.ensures.1 in rw (p.1, p.2) (stopped_at op.Stage c.args.number c.args.request.now _ (g.S.Spool.told c.mode_to_take.new.out) c.in_err-mode.ensures.stopped)
 
-pub take-requires : goal.take-requires
-take-requires g c = c.in_ok-mode.ensures.mode
+pub take-requires-clause-stages : goal.take-requires-clause-stages
+take-requires-clause-stages g c = c.requires.stages
+
+pub take-requires-clause-input : goal.take-requires-clause-input
+take-requires-clause-input g c = c.mode_to_take.ensures.input (c.clear.ensures.input (looked_has_input (g.S.Spool.told c.args.out.now) c.requires.looked))
+
+pub take-requires-clause-may : goal.take-requires-clause-may
+take-requires-clause-may g c = c.in_ok-mode.ensures.mode
 
 pub returns-in_err-take-clause-keeps : goal.returns-in_err-take-clause-keeps
 returns-in_err-take-clause-keeps g c = λ s. c.take.ensures.keeps (c.mode_to_take.ensures.keeps (c.clear.ensures.keeps s))

@@ -5,6 +5,9 @@ use Rattle.spool_rules.proofs.serving.serve.Goals as goal
 pub knows-requires : goal.knows-requires
 knows-requires g c = c.requires
 
+pub carry_out-requires : goal.carry_out-requires
+carry_out-requires g c = c.in-Ok-true.ensures.looked (cc)
+
 pub returns-in-Ok-true-clause-lawful : goal.returns-in-Ok-true-clause-lawful
 returns-in-Ok-true-clause-lawful g c = sound_lawful c.args.number c.args.request.now (g.S.Spool.told c.carry_out.new.out) (c.carry_out.ensures.keeps (c.in-Ok-true.ensures.sound (cc)))
 
