@@ -105,7 +105,7 @@ unfolding mailx
 words-faulty words is = start-faulty (built mailx).top nothing_held words (is_some (entered (built mailx) (stop words))) (entered_fault (built mailx) (stop words)) is
 
 -- ---- the word after an option that has no value
-chars-hyphen : (bs : List ℕ) → chars (45 ∷ bs) ≡ 45 ∷ chars bs
+pub chars-hyphen : (bs : List ℕ) → chars (45 ∷ bs) ≡ 45 ∷ chars bs
 unfolding chars
 chars-hyphen [] = refl
 chars-hyphen (b ∷ bs) = refl
@@ -114,7 +114,7 @@ encodes-one : encodes (45 ∷ []) ≡ 45 ∷ []
 unfolding clap_on_literals
 encodes-one = refl
 
-first-char : (y : ℕ) (ys : List ℕ) → is_utf8 (45 ∷ y ∷ ys) ≡ true → (letter : ℕ) × (slice_get (chars (y ∷ ys)) 0 ≡ Some letter)
+pub first-char : (y : ℕ) (ys : List ℕ) → is_utf8 (45 ∷ y ∷ ys) ≡ true → (letter : ℕ) × (slice_get (chars (y ∷ ys)) 0 ≡ Some letter)
 first-char y ys utf8 = go (chars (y ∷ ys)) refl
   where
     go : (cs : List ℕ) → chars (y ∷ ys) ≡ cs → (letter : ℕ) × (slice_get (chars (y ∷ ys)) 0 ≡ Some letter)
@@ -125,7 +125,7 @@ first-char y ys utf8 = go (chars (y ∷ ys)) refl
         let short : 45 ∷ [] ≡ 45 ∷ y ∷ ys = sym encodes-one ∙ ap encodes (sym alone) ∙ whole in
         absurd (cc short)
 
-apart-word : (y : ℕ) (ys : List ℕ) → (y == 45) ≡ false → bytes_eq (45 ∷ y ∷ ys) (45 ∷ 45 ∷ []) ≡ false
+pub apart-word : (y : ℕ) (ys : List ℕ) → (y == 45) ≡ false → bytes_eq (45 ∷ y ∷ ys) (45 ∷ 45 ∷ []) ≡ false
 apart-word y ys apart =
     ⊎_elim
     (λ t.
@@ -134,19 +134,19 @@ apart-word y ys apart =
     absurd (true≢false (sym (eq-eqb y 45 first) ∙ apart)))
     (λ f. f) (cases_Bool (bytes_eq (45 ∷ y ∷ ys) (45 ∷ 45 ∷ [])))
 
-double-walked : (w : Walk) → IsOpen w → walked rules [] w (45 ∷ 45 ∷ []) ≡ record w { is_trailing = true }
+pub double-walked : (w : Walk) → IsOpen w → walked rules [] w (45 ∷ 45 ∷ []) ≡ record w { is_trailing = true }
 unfolding walked
 double-walked w o =
     ap (λ (stopped : Option (Text × List Text)). walked_from rules [] stopped w (45 ∷ 45 ∷ [])) o.stopped
     ∙ ap (λ (r : Held × Step). after_step rules (45 ∷ 45 ∷ []) w r.0 r.1)
     (cond-false _ _ _ o.trailing ∙ ap (λ (n : Option Text). subcommand_or_other rules n w.waiting w.position (45 ∷ 45 ∷ []) w.held) (none-met w.waiting (45 ∷ 45 ∷ [])))
 
-module _ (v : Walk) (o : IsOpen v) (w : Waits v) where
-  pending-fault : is_nothing (settle_fault rules top.args_override_self v.held) ≡ false
-  pending-fault = unsettled top.args_override_self v.held w.id w.is w.pending
+waits-faulty : (v : Walk) → Waits v → is_nothing (settle_fault rules top.args_override_self v.held) ≡ false
+waits-faulty v w = unsettled top.args_override_self v.held w.id w.is w.pending
 
+module _ (v : Walk) (o : IsOpen v) (pending-fault : is_nothing (settle_fault rules top.args_override_self v.held) ≡ false) where
   -- a bundle, or `-` and something else
-  short-next : (y : ℕ) (ys : List ℕ) (later : List Text) → (y == 45) ≡ false → is_utf8 (45 ∷ y ∷ ys) ≡ true → is_nothing (walk_fault top [] v ((45 ∷ y ∷ ys) ∷ later)) ≡ false
+  pub short-next : (y : ℕ) (ys : List ℕ) (later : List Text) → (y == 45) ≡ false → is_utf8 (45 ∷ y ∷ ys) ≡ true → is_nothing (walk_fault top [] v ((45 ∷ y ∷ ys) ∷ later)) ≡ false
   short-next y ys later apart utf8 =
       let first = first-char y ys utf8 in
       let long : long_of (45 ∷ y ∷ ys) ≡ None = ap (λ (b : Bool). option_and_then long_of_rest (if b then Some ys else None)) apart in
@@ -160,7 +160,7 @@ module _ (v : Walk) (o : IsOpen v) (w : Waits v) where
       ∙ flags-faulty rules top.args_override_self (record v.held { skip = 0 }) pending-fault (length ys) (y ∷ ys) first.0 first.1)))
 
   -- `--` and a name
-  long-next : (z : ℕ) (zs : List ℕ) (later : List Text) → is_nothing (walk_fault top [] v ((45 ∷ 45 ∷ z ∷ zs) ∷ later)) ≡ false
+  pub long-next : (z : ℕ) (zs : List ℕ) (later : List Text) → is_nothing (walk_fault top [] v ((45 ∷ 45 ∷ z ∷ zs) ∷ later)) ≡ false
   long-next z zs later =
       next-faulty top v (45 ∷ 45 ∷ z ∷ zs) later
       (turn-faulty top v (45 ∷ 45 ∷ z ∷ zs) o.stopped
@@ -168,14 +168,14 @@ module _ (v : Walk) (o : IsOpen v) (w : Waits v) where
       (long-faulty rules top.args_override_self v.held pending-fault (arg_by_long rules (name_and_value (z ∷ zs)).0) (name_and_value (z ∷ zs)).1)))
 
   -- `--`, and a word behind it
-  operand-faulty : is_nothing (positional_fault rules top.args_override_self operand v.held) ≡ false
+  pub operand-faulty : is_nothing (positional_fault rules top.args_override_self operand v.held) ≡ false
   operand-faulty = go (is_pending operand v.held.pending)
     where
       go : (b : Bool) → is_nothing (if b && takes_several operand then [] else settle_fault rules top.args_override_self v.held) ≡ false
       go true = pending-fault
       go false = pending-fault
 
-  double-next : (x : Text) (later : List Text) → is_nothing (walk_fault top [] v ((45 ∷ 45 ∷ []) ∷ x ∷ later)) ≡ false
+  pub double-next : (x : Text) (later : List Text) → is_nothing (walk_fault top [] v ((45 ∷ 45 ∷ []) ∷ x ∷ later)) ≡ false
   double-next x later =
       walk-faulty top ((45 ∷ 45 ∷ []) ∷ []) (x ∷ later) v
       (ap (λ (u : Walk). is_nothing (walk_fault top [] u (x ∷ later))) (double-walked v o)
@@ -212,12 +212,12 @@ module _ (front : List Text) (word : Text) (before : AreBefore front) (wants : W
       (ap (λ (u : Walk). u.held.pending) (fold-onward (walked rules []) (walk_from nothing_held) front (word ∷ (45 ∷ 45 ∷ []) ∷ []))
       ∙ ap (λ (u : Walk). u.held.pending) (double-walked after after-open)
       ∙ after-waits.pending))
-  double (x ∷ back) = faulty-after ((45 ∷ 45 ∷ []) ∷ x ∷ back) (double-next after after-open after-waits x back)
+  double (x ∷ back) = faulty-after ((45 ∷ 45 ∷ []) ∷ x ∷ back) (double-next after after-open (waits-faulty after after-waits) x back)
 
   -- a next word that begins with `--`
   doubles : (ys : List ℕ) (back : List Text) → reading (front ++ word ∷ (45 ∷ 45 ∷ ys) ∷ back) ≡ None
   doubles [] back = double back
-  doubles (z ∷ zs) back = faulty-after ((45 ∷ 45 ∷ z ∷ zs) ∷ back) (long-next after after-open after-waits z zs back)
+  doubles (z ∷ zs) back = faulty-after ((45 ∷ 45 ∷ z ∷ zs) ∷ back) (long-next after after-open (waits-faulty after after-waits) z zs back)
 
   -- `-` alone is refused among all words
   alone : (back : List Text) → reading (front ++ word ∷ (45 ∷ []) ∷ back) ≡ None
@@ -231,7 +231,7 @@ module _ (front : List Text) (word : Text) (before : AreBefore front) (wants : W
   begun (y ∷ ys) back utf8 =
       ⊎_elim
       (λ t. subst (λ (x : ℕ). reading (front ++ word ∷ (45 ∷ x ∷ ys) ∷ back) ≡ None) (sym (eqb-true y 45 t)) (doubles ys back))
-      (λ f. faulty-after ((45 ∷ y ∷ ys) ∷ back) (short-next after after-open after-waits y ys back f utf8))
+      (λ f. faulty-after ((45 ∷ y ∷ ys) ∷ back) (short-next after after-open (waits-faulty after after-waits) y ys back f utf8))
       (cases_Bool (y == 45))
 
 pub hyphen-is-refused : HyphenIsRefused

@@ -9,3 +9,6 @@ pub mod AskLemmas
 pub mod RefuseLemmas
 pub mod HyphenLemmas
 pub mod TwiceLemmas
+pub mod UnknownLemmas
+pub mod OptionLemmas
+pub mod EmptyLemmas

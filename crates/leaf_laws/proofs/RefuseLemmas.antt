@@ -57,7 +57,7 @@ record Stays (r : Held × Step) : Type 0 where
   step : IsPlainStep r.1
 
 module _ (c : List Rule) where
-  met-is : (is_trailing : Bool) (waiting : Waiting) (position : ℕ) (word : Text) (h : Held) → is_trailing ≡ false → bytes_eq word (45 ∷ 45 ∷ []) ≡ false
+  pub met-is : (is_trailing : Bool) (waiting : Waiting) (position : ℕ) (word : Text) (h : Held) → is_trailing ≡ false → bytes_eq word (45 ∷ 45 ∷ []) ≡ false
       → word_met c [] is_trailing waiting position word h ≡ long_or_other c waiting word (long_of word) h
   met-is is_trailing waiting position word h before apart =
       cond-false _ _ _ before
@@ -218,7 +218,7 @@ last-waits _ blind so_far h = (codes "b", id_b, record { pending = refl; waits_s
 last-waits _ copies so_far h = (codes "c", id_c, record { pending = refl; waits_so = refl })
 
 -- the first character of a bundle that begins with the letter of a flag
-head-is : (c : ℕ) (rest : Text) → slice_get (chars_after 0 c rest) 0 ≡ Some c
+pub head-is : (c : ℕ) (rest : Text) → slice_get (chars_after 0 c rest) 0 ≡ Some c
 head-is c [] = refl
 head-is c (b ∷ bs) = refl
 
@@ -267,7 +267,7 @@ flag-first _ no_system_file rest = record { apart = refl; long = refl; short = r
 flag-first _ named rest = record { apart = refl; long = refl; short = refl }
 flag-first _ folder rest = record { apart = refl; long = refl; short = refl }
 
-valued-first : (letter : ℕ) → IsValued letter → (rest : Text) → IsBundle (45 ∷ letter ∷ rest) (letter ∷ rest)
+pub valued-first : (letter : ℕ) → IsValued letter → (rest : Text) → IsBundle (45 ∷ letter ∷ rest) (letter ∷ rest)
 valued-first _ user rest = record { apart = refl; long = refl; short = refl }
 valued-first _ subject rest = record { apart = refl; long = refl; short = refl }
 valued-first _ blind rest = record { apart = refl; long = refl; short = refl }

@@ -74,7 +74,7 @@ own-row id = or_left (bytes_eq id id) false (same-refl id)
 kept-row : (p : Text) (r : Row) → bytes_eq r.id p ≡ true → bytes_eq r.id p || false ≡ true
 kept-row p r is = or_left (bytes_eq r.id p) false is
 
-values-own : (id : Text) (how : _) (s : _) (values : List Text) (rows : List Row) → has_row id (with_values id how s values rows) ≡ true
+pub values-own : (id : Text) (how : _) (s : _) (values : List Text) (rows : List Row) → has_row id (with_values id how s values rows) ≡ true
 values-own id how s values rows =
     put-own id (more_values s values) (let r : Row = record { id = id; values = values; count = None; source = Some s; reading = how } in r ∷ [])
     (λ p r is. kept-row p r is) (own-row id) rows
@@ -94,7 +94,7 @@ count-anew id how s n q rows h =
     put-anew id (new_count s n) (let r : Row = record { id = id; values = count_text n ∷ []; count = Some n; source = Some s; reading = how } in r ∷ [])
     (λ p r is. kept-row p r is) (own-row id) q rows h
 
-used-kept : (x : ArgAction) (id : Text) (how : _) (values : List Text) (rows : List Row) (q : Text) → has_row q rows ≡ true → has_row q (used_as x id how values rows) ≡ true
+pub used-kept : (x : ArgAction) (id : Text) (how : _) (values : List Text) (rows : List Row) (q : Text) → has_row q rows ≡ true → has_row q (used_as x id how values rows) ≡ true
 used-kept Set id how values rows q h = values-anew id how _ values q rows h
 used-kept SetTrue id how values rows q h = values-anew id how _ values q rows h
 used-kept SetFalse id how values rows q h = values-anew id how _ values q rows h
@@ -107,7 +107,7 @@ module _ (c : List Rule) (q : Text) where
   abbrev Has : Held → Type 0
   Has h = has_row q h.rows ≡ true
 
-  rule-kept : (found : Option Rule) (values : List Text) (rows : List Row) → has_row q rows ≡ true → has_row q (used_by_id found values rows) ≡ true
+  pub rule-kept : (found : Option Rule) (values : List Text) (rows : List Row) → has_row q rows ≡ true → has_row q (used_by_id found values rows) ≡ true
   rule-kept None values rows h = h
   rule-kept (Some a) values rows h = used-kept (action_of a) a.id (reading_by a) (values_or_missing a values) rows q h
 
@@ -115,10 +115,10 @@ module _ (c : List Rule) (q : Text) where
   rows-kept None rows h = h
   rows-kept (Some p) rows h = rule-kept (arg_by_id c p.0) p.1 rows h
 
-  settled-kept : (h : Held) → Has h → Has (settled c h)
+  pub settled-kept : (h : Held) → Has h → Has (settled c h)
   settled-kept h has = rows-kept h.pending h.rows has
 
-  reacted-kept : (a : Rule) (values : List Text) (h : Held) → Has h → Has (reacted c a values h)
+  pub reacted-kept : (a : Rule) (values : List Text) (h : Held) → Has h → Has (reacted c a values h)
   reacted-kept a values h has = used-kept (action_of a) a.id (reading_by a) (values_or_missing a values) (settled c h).rows q (settled-kept h has)
 
   option-has : (a : Rule) (v : Option Text) (h : Held) → Has h → Has (option_met c a v h).0
@@ -152,7 +152,7 @@ module _ (c : List Rule) (q : Text) where
       short-has (arg_by_short c x) (drop (length (encode_utf8 x)) flags) h (onward (drop (length (encode_utf8 x)) flags) 0 done) (kept (drop (length (encode_utf8 x)) flags) 0 done) has
   step-has (Some x) flags (suc skip) so_far h onward kept has = kept (drop (length (encode_utf8 x)) flags) skip so_far h has
 
-  bundle-has : (k : ℕ) (flags : Text) (skip : ℕ) (so_far : Outcome) (h : Held) → Has h → Has (bundle_met c k flags skip so_far h).0
+  pub bundle-has : (k : ℕ) (flags : Text) (skip : ℕ) (so_far : Outcome) (h : Held) → Has h → Has (bundle_met c k flags skip so_far h).0
   unfolding bundle_met
   bundle-has zero flags skip so_far h has = has
   bundle-has (suc k) flags skip so_far h has = step-has (slice_get (chars flags) 0) flags skip so_far h (bundle_met c k) (bundle-has k) has
@@ -166,7 +166,7 @@ module _ (c : List Rule) (q : Text) where
   plain-has (option id) word h has = option-word-has (arg_by_id c id) id word h has
   plain-has positional word h has = has
 
-  outcome-has : (waiting : Waiting) (word : Text) (h : Held) (outcome : Outcome) → Has h → Has (after_flag c waiting word h outcome).0
+  pub outcome-has : (waiting : Waiting) (word : Text) (h : Held) (outcome : Outcome) → Has h → Has (after_flag c waiting word h outcome).0
   outcome-has waiting word h done has = has
   outcome-has waiting word h (waits id) has = has
   outcome-has waiting word h plain has = plain-has waiting word h has
@@ -190,7 +190,7 @@ module _ (c : List Rule) (q : Text) where
       go true = has
       go false = settled-kept h has
 
-  after-has : (word : Text) (w : Walk) (h : Held) (step : Step) → Has h → Has (after_step c word w h step).held
+  pub after-has : (word : Text) (w : Walk) (h : Held) (step : Step) → Has h → Has (after_step c word w h step).held
   after-has word w h (next waiting) has = has
   after-has word w h (trailing position) has = has
   after-has word w h (subcommand name) has = has
@@ -201,7 +201,7 @@ module _ (c : List Rule) (q : Text) where
       subst (λ (v : Walk). Has v.held) (sym (walked-is c w word o apart))
       (after-has word w (long_or_other c w.waiting word (long_of word) w.held).0 (long_or_other c w.waiting word (long_of word) w.held).1 (other-has w.waiting word (long_of word) w.held has))
 
-walk-has : (q : Text) (words : List Text) (w : Walk) → IsOpen w → AreBefore words → has_row q w.held.rows ≡ true → has_row q (fold (walked rules []) w words).held.rows ≡ true
+pub walk-has : (q : Text) (words : List Text) (w : Walk) → IsOpen w → AreBefore words → has_row q w.held.rows ≡ true → has_row q (fold (walked rules []) w words).held.rows ≡ true
 walk-has q [] w o before has = has
 walk-has q (word ∷ words) w o before has =
     let p = and_parts (not (bytes_eq word (45 ∷ 45 ∷ []))) (list_all (λ x. not (bytes_eq x (45 ∷ 45 ∷ []))) words) before in
@@ -215,14 +215,14 @@ walk-has q (word ∷ words) w o before has =
 -- ---- a flag in a bundle
 
 -- a flag's rule, and what a bundle comes to that goes on behind the flag
-record IsRule (letter : ℕ) (id : Text) : Type 0 where
-  goes : (k : ℕ) (rest : Text) (so_far : Outcome) (h : Held)
+pub record IsRule (letter : ℕ) (id : Text) : Type 0 where
+  pub goes : (k : ℕ) (rest : Text) (so_far : Outcome) (h : Held)
       → bundle_met rules (suc k) (letter ∷ rest) 0 so_far h ≡ bundle_met rules k rest 0 done (reacted rules (filled (flag_rule id letter)) [] h)
-  faults : (again : Bool) (k : ℕ) (rest : Text) (h : Held)
+  pub faults : (again : Bool) (k : ℕ) (rest : Text) (h : Held)
       → flags_fault rules again (suc k) (letter ∷ rest) 0 h
       ≡ or_else (react_fault rules again (filled (flag_rule id letter)) [] h) (flags_fault rules again k rest 0 (reacted rules (filled (flag_rule id letter)) [] h))
 
-rule-of : (letter : ℕ) → IsFlag letter → (id : Text) × IsRule letter id
+pub rule-of : (letter : ℕ) → IsFlag letter → (id : Text) × IsRule letter id
 unfolding mailx clap_on_literals
 rule-of _ exists = (
   codes "e",
@@ -275,11 +275,11 @@ rule-of _ folder = (
 )
 
 -- a flag that is given has a row
-given-has : (id : Text) (letter : ℕ) (rows : List Row) → has_row id (used (filled (flag_rule id letter)) [] rows) ≡ true
+pub given-has : (id : Text) (letter : ℕ) (rows : List Row) → has_row id (used (filled (flag_rule id letter)) [] rows) ≡ true
 given-has id letter rows = values-own id _ _ _ (without id rows)
 
 -- and a second one is a fault
-given-faulty : (id : Text) (letter : ℕ) (rows : List Row) → has_row id rows ≡ true → is_nothing (use_fault false (filled (flag_rule id letter)) [] rows) ≡ false
+pub given-faulty : (id : Text) (letter : ℕ) (rows : List Row) → has_row id rows ≡ true → is_nothing (use_fault false (filled (flag_rule id letter)) [] rows) ≡ false
 given-faulty id letter rows has =
     or-first (repeat_fault false id rows) (values_fault (filled (flag_rule id letter)) (values_or_missing (filled (flag_rule id letter)) []))
     (ap (λ (b : Bool). is_nothing (if b && not false then kind.ArgumentConflict ∷ [] else [])) has)
@@ -313,7 +313,7 @@ module _ (letter : ℕ) (id : Text) (rule : IsRule letter id) (rest : Text) wher
   whole-bundle flag AreFlags.none = flag-first letter flag rest
   whole-bundle flag (AreFlags.more {letter = first} {letters = flags} is are) = flag-first first is (flags ++ letter ∷ rest)
 
-no-override : {A : Type 0} (f : Bool → A) → f top.args_override_self ≡ f false
+pub no-override : {A : Type 0} (f : Bool → A) → f top.args_override_self ≡ f false
 unfolding mailx
 no-override f = refl
 
@@ -334,7 +334,7 @@ module _ (letter : ℕ) (id : Text) (rule : IsRule letter id) (rest : Text) wher
       (twice-faulty between are others (reacted rules (filled (flag_rule first.0 flag)) [] h))
 
 -- ---- a word whose bundle has a fault
-bundle-word : (w : Walk) (word flags : Text) → IsOpen w → IsBundle word flags → is_nothing (flags_fault rules false (length flags) flags 0 (record w.held { skip = 0 })) ≡ false
+pub bundle-word : (w : Walk) (word flags : Text) → IsOpen w → IsBundle word flags → is_nothing (flags_fault rules false (length flags) flags 0 (record w.held { skip = 0 })) ≡ false
     → (later : List Text) → is_nothing (walk_fault top [] w (word ∷ later)) ≡ false
 bundle-word w word flags o b faulty later =
     next-faulty top w word later

@@ -1,7 +1,7 @@
 -- Words of the command line that are refused, whatever stands beside them.
-use Rattle.std.specs.Prelude.{◌≡◌, ℕ, not, true, List, [], ◌∷◌, ◌++◌, None, codes}
-use Rattle.std.specs.List.{list_all}
-use Rattle.std.specs.Str.{bytes_eq}
+use Rattle.std.specs.Prelude.{◌≡◌, ◌≢◌, ◌==◌, ℕ, not, true, false, List, [], ◌∷◌, ◌++◌, None, codes}
+use Rattle.std.specs.List.{before_first, list_all}
+use Rattle.std.specs.Str.{bytes_eq, is_utf8}
 use Rattle.command_words.specs.Readings.{reading}
 
 -- the letter of a flag: `-e`, `-H`, `-i`, `-N`, `-n`, `-F`, `-f`
@@ -60,3 +60,58 @@ abbrev pub AgainIsRefused : Type 0
 AgainIsRefused = (front back : List (List ℕ)) (letter : ℕ) (flags between rest : List ℕ)
     → IsFlag letter → AreBefore front → AreFlags flags → AreFlags between
     → reading (front ++ (45 ∷ (flags ++ letter ∷ (between ++ letter ∷ rest))) ∷ back) ≡ None
+
+-- an option with a value that two words give is refused
+abbrev pub ValuedTwiceIsRefused : Type 0
+ValuedTwiceIsRefused = (front middle back : List (List ℕ)) (letter : ℕ) (word other : List ℕ)
+    → IsValued letter → AreBefore front → AreBefore middle → Gives letter word → Gives letter other
+    → reading (front ++ word ∷ (middle ++ other ∷ back)) ≡ None
+
+-- the word is `--try`, with its value behind it, or with `=` (61) and the value
+pub data GivesTry : List ℕ → Type 0 where
+  alone : GivesTry (codes "--try")
+  valued : (value : List ℕ) → GivesTry (codes "--try" ++ 61 ∷ value)
+
+-- two of them are refused
+abbrev pub TryTwiceIsRefused : Type 0
+TryTwiceIsRefused = (front middle back : List (List ℕ)) (word other : List ℕ)
+    → AreBefore front → AreBefore middle → GivesTry word → GivesTry other
+    → reading (front ++ word ∷ (middle ++ other ∷ back)) ≡ None
+
+-- the letter is that of no option, nor `-`
+pub record IsUnknown (letter : ℕ) : Type 0 where
+  pub no_flag : IsFlag letter → ⊥
+  pub no_value : IsValued letter → ⊥
+  pub no_hyphen : letter ≢ 45
+
+-- an unknown letter among flags is refused, whatever follows it
+abbrev pub UnknownIsRefused : Type 0
+UnknownIsRefused = (front back : List (List ℕ)) (letter : ℕ) (flags rest : List ℕ)
+    → AreBefore front → AreFlags flags → IsUnknown letter
+    → reading (front ++ (45 ∷ (flags ++ letter ∷ rest)) ∷ back) ≡ None
+
+-- and so is `--` with a name that isn't `try`; it ends at a first `=` (61)
+abbrev pub LongIsRefused : Type 0
+LongIsRefused = (front back : List (List ℕ)) (byte : ℕ) (rest : List ℕ)
+    → AreBefore front → before_first (λ b. b == 61) (byte ∷ rest) ≢ codes "try"
+    → reading (front ++ (45 ∷ 45 ∷ byte ∷ rest) ∷ back) ≡ None
+
+-- an option's value in its own word is refused if it begins with `=`
+abbrev pub EqualsIsRefused : Type 0
+EqualsIsRefused = (front back : List (List ℕ)) (letter : ℕ) (flags rest : List ℕ)
+    → AreBefore front → AreFlags flags → IsValued letter
+    → reading (front ++ (45 ∷ (flags ++ letter ∷ 61 ∷ rest)) ∷ back) ≡ None
+
+-- `-` alone is refused wherever it stands, also behind `--`
+abbrev pub DashIsRefused : Type 0
+DashIsRefused = (front back : List (List ℕ)) → reading (front ++ (45 ∷ []) ∷ back) ≡ None
+
+-- and so is a word that isn't UTF-8
+abbrev pub NoTextIsRefused : Type 0
+NoTextIsRefused = (front back : List (List ℕ)) (word : List ℕ) → is_utf8 word ≡ false
+    → reading (front ++ word ∷ back) ≡ None
+
+-- behind `--`, where each word is an operand, an empty one is refused
+abbrev pub EmptyIsRefused : Type 0
+EmptyIsRefused = (front middle back : List (List ℕ)) → AreBefore front
+    → reading (front ++ (45 ∷ 45 ∷ []) ∷ (middle ++ [] ∷ back)) ≡ None
