@@ -9,16 +9,15 @@ use Rattle.std.specs.Str.{bytes_eq}
 use Rattle.std.proofs.lemmas.Bool.{or_left, or_right}
 use Rattle.std.proofs.lemmas.List.Folds.{list_any-append}
 use Rattle.clap.specs.Simple.{matches_of}
-use Rattle.clap.specs.Walk.{Held, Row, Rule, Step, Text, Walk, after_step, arg_by_index, at_row, default_rows, finished, has_row, is_pending, more_values, nothing_held, positional_held, pushed, reading_by, settled, stronger, takes_several, to_positional, value, walk, walk_from, walked, walked_from, with_default, with_values, word_met}
+use Rattle.clap.specs.Walk.{Held, Row, Rule, Step, Text, Walk, after_step, arg_by_index, default_rows, finished, has_row, is_pending, more_values, nothing_held, positional_held, pushed, reading_by, settled, stronger, takes_several, to_positional, walk, walk_from, walked, walked_from, with_default, with_values, word_met}
 use Rattle.clap.specs.declared.builder.value_parser.Reading.{Reading}
 use Rattle.clap.specs.declared.parser.matches.ValueSource.{ValueSource}
 use Rattle.clap.specs.declared.parser.matches.ValueSource.TheVariants.{CommandLine, DefaultValue}
 use Rattle.clap.proofs.OnLiterals.{clap_on_literals}
-use Rattle.command_words.specs.Readings.{reading}
 use Rattle.command_words.specs.Words.{mailx, operands_of}
 use Rattle.command_words.proofs.ReadingLemmas.{read_refused}
 use Rattle.command_words.proofs.WordLemmas.{empty_operand}
-use Rattle.leaf_laws.specs.Refusing.{AreBefore, EmptyIsRefused}
+use Rattle.leaf_laws.specs.Refusing.{EmptyIsRefused}
 use Rattle.leaf_laws.proofs.RefuseLemmas.{IsOpen, first-place, fold-onward, front-open, operand, rules}
 use Rattle.leaf_laws.proofs.HyphenLemmas.{double-walked}
 

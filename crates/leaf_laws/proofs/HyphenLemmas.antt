@@ -16,7 +16,7 @@ use Rattle.clap.specs.Kinds.{Kinds, or_else}
 use Rattle.clap.specs.Lexer.{long_of, long_of_rest, name_and_value, short_of}
 use Rattle.clap.specs.declared.error.ErrorKind.TheVariants as kind
 use Rattle.clap.specs.Simple.{Shape, built, entered}
-use Rattle.clap.specs.Walk.{Held, Rule, Step, Text, Walk, after_step, arg_by_index, arg_by_long, arg_by_short, attached_value, finished, is_pending, nothing_held, reacted, settled, subcommand_or_other, takes_several, takes_values, trailing, value, walk, walk_from, walked, walked_from, word_met}
+use Rattle.clap.specs.Walk.{Held, Rule, Step, Text, Walk, after_step, arg_by_index, arg_by_long, arg_by_short, attached_value, finished, is_pending, nothing_held, reacted, settled, subcommand_or_other, takes_several, takes_values, value, walk, walk_from, walked, walked_from, word_met}
 use Rattle.clap.proofs.OnLiterals.{clap_on_literals}
 use Rattle.command_words.specs.Readings.{reading}
 use Rattle.command_words.specs.Words.{has_equals, is_dash, is_nothing, mailx}

@@ -1,5 +1,5 @@
 -- Words that are refused by themselves: those that name no option, and those that no command line may have.
-use Rattle.std.proofs.Common.{◌≡◌, ◌≢◌, ℕ, zero, suc, Bool, true, false, not, ◌==◌, List, [], ◌∷◌, ◌++◌, length, drop, codes, fold, refl, sym, ap, subst, ◌∙◌, true≢false, ⊎_elim, is_some}
+use Rattle.std.proofs.Common.{◌≡◌, ℕ, suc, Bool, true, false, not, ◌==◌, List, [], ◌∷◌, ◌++◌, length, drop, codes, fold, refl, sym, ap, subst, ◌∙◌, true≢false, ⊎_elim, is_some}
 use Rattle.std.specs.Prelude.{◌&&◌, ◌||◌, if◌then◌else◌, encode_utf8, slice_get}
 use Rattle.std.specs.declared.option.Option.{Option}
 use Rattle.std.specs.declared.option.Option.TheVariants.{Some, None}
@@ -13,11 +13,10 @@ use Rattle.std.proofs.lemmas.List.Folds.{list_all-append, list_any-append}
 use Rattle.std.proofs.lemmas.Slice.Eq.{bytes_eq-Decides}
 use Rattle.std.proofs.lemmas.Str.{IsUtf8-from_is_utf8, encodes-chars}
 use Rattle.clap.specs.Faults.{bundle_step_fault, flags_fault, long_fault, react_fault, short_fault}
-use Rattle.clap.specs.Lexer.{long_of, long_of_rest, name_and_value, short_of}
+use Rattle.clap.specs.Lexer.{long_of_rest, name_and_value}
 use Rattle.clap.specs.Simple.{filled}
 use Rattle.clap.specs.Walk.{Held, Rule, Text, Walk, arg_by_long, arg_by_short, has_long, has_short, nothing_held, reacted, walk_from, walked}
 use Rattle.clap.proofs.OnLiterals.{clap_on_literals}
-use Rattle.command_words.specs.Readings.{reading}
 use Rattle.command_words.specs.Words.{equals_in, flag_rule, has_equals, is_dash, is_equals_word, is_nothing, mailx}
 use Rattle.command_words.proofs.ReadingLemmas.{read_no_text, read_refused}
 use Rattle.command_words.proofs.WordLemmas.{refused}
