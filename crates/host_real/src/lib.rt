@@ -2,12 +2,8 @@
 //! programs that it runs, and its clock.
 #![tactic(auto)]
 
-#[cfg(test)]
-mod child_tests;
 mod children;
 mod disk;
-#[cfg(test)]
-mod edit_tests;
 mod editors;
 mod files;
 mod kinds;
@@ -20,8 +16,6 @@ mod rights;
 mod spool;
 mod streams;
 mod tails;
-#[cfg(test)]
-mod tests;
 mod waiting;
 
 pub use real::RealHost;

@@ -1,5 +1,5 @@
 // The host of the real machine. It tells no trace.
-ghost use Rattle.std.specs.Prelude.{None, ◌<◌, ◌≤◌, length, OnErr};
+ghost use Rattle.std.specs.Prelude.{None, ◌≡◌, ◌<◌, ◌≤◌, length, OnErr};
 ghost use Rattle.host_port.specs.Calls.{Rose};
 ghost use Rattle.host_port.specs.Disk.{empty_disk};
 
@@ -30,8 +30,8 @@ pub struct RealHost<R: Input> {
     disk: Disk,
     ins: u64,
     outs: u64,
-    pub(crate) disks: u64,
-    pub(crate) children: u64,
+    disks: u64,
+    children: u64,
 }
 
 impl<R: Files<File = File> + Input + Print + Eprint + Processes + Clock + Drop> RealHost<R> {
@@ -55,6 +55,20 @@ impl<R: Files<File = File> + Input + Print + Eprint + Processes + Clock + Drop> 
             disks: 0,
             children: 0,
         })
+    }
+
+    /// How many calls on the disk have failed.
+    pub fn disk_faults(&self) -> u64
+        ensures { result ≡ self.now.disks }
+    {
+        self.disks
+    }
+
+    /// How many programs and editors could not be run.
+    pub fn child_faults(&self) -> u64
+        ensures { result ≡ self.now.children }
+    {
+        self.children
     }
 }
 

@@ -1,6 +1,6 @@
 // Programs that the host of the machine runs, each test over a scratch file of its own, and its clock.
-use crate::RealHost;
 use host_port::{ChildAnswer, ChildError, Host};
+use host_real::RealHost;
 use mail_text::{Items, Memory, Text, read_number};
 use std::alloc::Global;
 use std::fs::exists;
@@ -131,7 +131,7 @@ fn children_are_handed_words_and_input(rt: HostRuntime) -> Result<(), Fail> {
         SMALL.len()
     );
     assert!(rt; !exists(&rt, scratch)?);
-    assert_eq!(rt; host.children, 0);
+    assert_eq!(rt; host.child_faults(), 0);
     Ok(())
 }
 
@@ -203,7 +203,7 @@ fn what_cannot_be_passed_fails(rt: HostRuntime) -> Result<(), Fail> {
     assert!(rt; fails(alloc, &mut host, b"echo", b"\xff"));
     assert!(rt; fails(alloc, &mut host, b"ech\xff", b"a"));
     assert!(rt; fails(alloc, &mut host, b"echo", b"a\0b"));
-    assert_eq!(rt; host.children, 3);
+    assert_eq!(rt; host.child_faults(), 3);
     assert!(rt; !exists(&rt, "unpassed")?);
     let mut nowhere = RealHost::new(rt, alloc, b"none/scratch", Duration::ZERO)?;
     let beside = measured(alloc, &mut nowhere, &["cat"], 5)?;

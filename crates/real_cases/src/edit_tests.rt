@@ -1,6 +1,6 @@
 // Editors that the host of the machine runs, each on a file of its own.
-use crate::RealHost;
 use host_port::{ChildError, Host};
+use host_real::RealHost;
 use std::alloc::Global;
 use std::fs::{exists, write};
 use std::rt::HostRuntime;
@@ -90,11 +90,11 @@ fn a_text_is_edited(rt: HostRuntime) -> Result<(), Fail> {
     let name = "edit $(x) 'y";
     assert_eq!(rt; held(alloc, &mut host, name), TRIALS.len());
     assert!(rt; !exists(&rt, name)?);
-    assert_eq!(rt; host.children, 0);
+    assert_eq!(rt; host.child_faults(), 0);
     assert!(rt; fails(alloc, &mut host, name, "rm"));
     write(&rt, "stands", b"mine\n")?;
     assert!(rt; fails(alloc, &mut host, "stands", "true"));
     assert!(rt; exists(&rt, "stands")?);
-    assert_eq!(rt; host.children, 2);
+    assert_eq!(rt; host.child_faults(), 2);
     Ok(())
 }

@@ -1,8 +1,8 @@
 // The host of the machine over real files, in a folder of its own.
 ghost use Rattle.host_port.specs.Names.{IsFileName};
 
-use crate::RealHost;
 use host_port::{Host, LoadAnswer, LoadError};
+use host_real::RealHost;
 use mail_text::{Memory, Text};
 use std::alloc::Global;
 use std::fs::Files;
@@ -228,7 +228,7 @@ fn the_machine_keeps_files_locks_and_rights(rt: HostRuntime) -> Result<(), Fail>
     }
     let later = answers(alloc, &mut host, &LATER)?;
     assert_eq!(rt; later.bytes(), b".m.n!..n!.!.!y.....a!n!..".as_slice());
-    assert_eq!(rt; host.disks, 6);
+    assert_eq!(rt; host.disk_faults(), 6);
     Ok(())
 }
 
