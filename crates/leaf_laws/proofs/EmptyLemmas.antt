@@ -14,6 +14,7 @@ use Rattle.clap.specs.declared.builder.value_parser.Reading.{Reading}
 use Rattle.clap.specs.declared.parser.matches.ValueSource.{ValueSource}
 use Rattle.clap.specs.declared.parser.matches.ValueSource.TheVariants.{CommandLine, DefaultValue}
 use Rattle.clap.proofs.OnLiterals.{clap_on_literals}
+use Rattle.command_words.specs.Readings.{reading}
 use Rattle.command_words.specs.Words.{mailx, operands_of}
 use Rattle.command_words.proofs.ReadingLemmas.{read_refused}
 use Rattle.command_words.proofs.WordLemmas.{empty_operand}
@@ -22,16 +23,16 @@ use Rattle.leaf_laws.proofs.RefuseLemmas.{IsOpen, first-place, fold-onward, fron
 use Rattle.leaf_laws.proofs.HyphenLemmas.{double-walked}
 
 -- ---- rows that have an empty operand
-abbrev is_none : Text → Bool
+abbrev pub is_none : Text → Bool
 is_none word = length word == 0
 
-abbrev values_of : Option Row → List Text
+abbrev pub values_of : Option Row → List Text
 values_of found = unwrap_or (option_map (λ r. r.values) found) []
 
-abbrev is_operand : Row → Bool
+abbrev pub is_operand : Row → Bool
 is_operand r = bytes_eq r.id (codes "operand")
 
-abbrev has_empty : List Row → Bool
+abbrev pub has_empty : List Row → Bool
 has_empty rows = list_any is_none (operands_of rows)
 
 -- a row with more values
@@ -49,7 +50,7 @@ module _ (id : Text) (how : Reading) (s : ValueSource) (more : List Text) where
   later-kept false r rs others has rest = rest has
 
   -- what was there stays
-  more-kept : (rows : List Row) → has_empty rows ≡ true → has_empty (with_values id how s more rows) ≡ true
+  pub more-kept : (rows : List Row) → has_empty rows ≡ true → has_empty (with_values id how s more rows) ≡ true
   more-kept [] h = absurd (true≢false (sym h))
   more-kept (r ∷ rs) h = go (bytes_eq r.id id) (more-kept rs)
     where
@@ -58,10 +59,10 @@ module _ (id : Text) (how : Reading) (s : ValueSource) (more : List Text) where
       go false rest = later-kept (is_operand r) r rs (with_values id how s more rs) h rest
 
 -- ---- behind `--`
-record IsLate (w : Walk) : Type 0 where
-  trailing : w.is_trailing ≡ true
-  position : w.position ≡ 1
-  stopped : w.stopped ≡ None
+pub record IsLate (w : Walk) : Type 0 where
+  pub trailing : w.is_trailing ≡ true
+  pub position : w.position ≡ 1
+  pub stopped : w.stopped ≡ None
 
 late-walked : (w : Walk) (word : Text) → IsLate w → walked rules [] w word ≡ to_positional rules (Some operand) word w w.held
 unfolding walked
@@ -89,14 +90,15 @@ unfolding mailx clap_on_literals
 settled-late word h = refl
 
 -- an operand is empty, once what is pending is settled
-abbrev HasEmpty : Held → Type 0
+abbrev pub HasEmpty : Held → Type 0
 HasEmpty h = has_empty (settled rules h).rows ≡ true
 
+pub operand-rows : (w : Walk) (word : Text) (h : Held)
+    → has_empty (settled rules (to_positional rules (Some operand) word w h).held).rows ≡ has_empty (with_values (codes "operand") (reading_by operand) CommandLine (word ∷ []) (settled rules h).rows)
+operand-rows w word h = ap (λ (g : Held). has_empty (settled rules g).rows) (held-late word h) ∙ ap has_empty (settled-late word h)
+
 late-rows : (w : Walk) (word : Text) → IsLate w → has_empty (settled rules (walked rules [] w word).held).rows ≡ has_empty (with_values (codes "operand") (reading_by operand) CommandLine (word ∷ []) (settled rules w.held).rows)
-late-rows w word l =
-    ap (λ (v : Walk). has_empty (settled rules v.held).rows) (late-walked w word l)
-    ∙ ap (λ (h : Held). has_empty (settled rules h).rows) (held-late word w.held)
-    ∙ ap has_empty (settled-late word w.held)
+late-rows w word l = ap (λ (v : Walk). has_empty (settled rules v.held).rows) (late-walked w word l) ∙ operand-rows w word w.held
 
 -- the empty word is an operand's value
 module _ (how : Reading) (s : ValueSource) where
@@ -110,7 +112,7 @@ module _ (how : Reading) (s : ValueSource) where
       ∙ or_right (list_any is_none r.values) (list_any is_none ([] ∷ [])) refl
   none-there false r rs is rest = ap (λ (c : Bool). list_any is_none (values_of (if c then Some r else find is_operand (with_none rs)))) is ∙ rest
 
-  more-has : (rows : List Row) → has_empty (with_none rows) ≡ true
+  pub more-has : (rows : List Row) → has_empty (with_none rows) ≡ true
   unfolding clap_on_literals
   more-has [] = refl
   more-has (r ∷ rs) = none-there (is_operand r) r rs refl (more-has rs)
@@ -125,7 +127,7 @@ walk-late : (words : List Text) (w : Walk) → IsLate w → IsLate (fold (walked
 walk-late [] w l = l
 walk-late (word ∷ words) w l = walk-late words (walked rules [] w word) (late-late w word l)
 
-walk-kept : (words : List Text) (w : Walk) → IsLate w → HasEmpty w.held → HasEmpty (fold (walked rules []) w words).held
+pub walk-kept : (words : List Text) (w : Walk) → IsLate w → HasEmpty w.held → HasEmpty (fold (walked rules []) w words).held
 walk-kept [] w l has = has
 walk-kept (word ∷ words) w l has = walk-kept words (walked rules [] w word) (late-late w word l) (late-kept w word l has)
 
@@ -146,6 +148,13 @@ matches-are : (words : List Text) → matches_of mailx words ≡ finished rules 
 unfolding mailx
 matches-are words = refl
 
+-- words after which an operand is empty are refused
+pub ended-empty : (words : List Text) → HasEmpty (fold (walked rules []) (walk_from nothing_held) words).held → reading words ≡ None
+ended-empty words has =
+    let end : Held = (fold (walked rules []) (walk_from nothing_held) words).held in
+    let there : has_empty (matches_of mailx words) ≡ true = ap has_empty (matches-are words) ∙ defaults-kept rules (settled rules end).rows has in
+    read_refused words words refl (empty_operand words there)
+
 pub empty-is-refused : EmptyIsRefused
 empty-is-refused front middle back before =
     let words : List Text = front ++ (45 ∷ 45 ∷ []) ∷ (middle ++ [] ∷ back) in
@@ -161,8 +170,4 @@ empty-is-refused front middle back before =
     ∙ ap (λ (v : Walk). fold (walked rules []) v (middle ++ [] ∷ back)) (double-walked first o)
     ∙ fold-onward (walked rules []) second middle ([] ∷ back) in
     let has : HasEmpty (fold (walked rules []) fourth back).held = walk-kept back fourth (late-late third [] late_third) (late-empty third late_third) in
-    let there : has_empty (matches_of mailx words) ≡ true =
-    ap has_empty (matches-are words)
-    ∙ ap (λ (v : Walk). has_empty (finished rules v.held)) whole
-    ∙ defaults-kept rules (settled rules (fold (walked rules []) fourth back).held).rows has in
-    read_refused words words refl (empty_operand words there)
+    ended-empty words (subst (λ (v : Walk). HasEmpty v.held) (sym whole) has)

@@ -12,3 +12,5 @@ pub mod TwiceLemmas
 pub mod UnknownLemmas
 pub mod OptionLemmas
 pub mod EmptyLemmas
+pub mod WantLemmas
+pub mod OperandLemmas

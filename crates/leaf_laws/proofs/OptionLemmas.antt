@@ -28,7 +28,8 @@ use Rattle.command_words.specs.Words.{flag_rule, is_nothing, mailx, try_rule, va
 use Rattle.command_words.proofs.ReadingLemmas.{read_no_text}
 use Rattle.leaf_laws.specs.Refusing.{AreBefore, AreFlags, Gives, GivesTry, IsValued, TryTwiceIsRefused, ValuedTwiceIsRefused}
 use Rattle.leaf_laws.specs.Refusing.IsValued.{user, subject, blind, copies}
-use Rattle.leaf_laws.proofs.RefuseLemmas.{IsBundle, IsOpen, end-faulty, first-place, flag-first, fold-onward, front-open, head-is, met-is, operand, or-first, or-second, refused-words, rules, stop, takes-all, valued-first, walk-open, walked-is, walked-open}
+use Rattle.leaf_laws.proofs.RefuseLemmas.{IsBundle, IsId, IsOpen, end-faulty, first-place, flag-first, fold-onward, front-open, head-is, met-is, operand, or-first, or-second, refused-words, rules, stop, takes-all, valued-first, walk-open, walked-is, walked-open}
+use Rattle.leaf_laws.proofs.RefuseLemmas.IsId.{id_u, id_s, id_b, id_c}
 use Rattle.leaf_laws.proofs.HyphenLemmas.{double-walked, flag-word, long-next, next-faulty, operand-faulty, short-next, top, turn-faulty, walk-faulty, words-faulty}
 use Rattle.leaf_laws.proofs.TwiceLemmas.{bundle-word, no-override, rule-kept, rule-of, used-kept, values-own}
 
@@ -182,16 +183,17 @@ module _ (q : Text) where
       is-off false k = refl
 
 -- ---- the options with a value
-record IsOption (id : Text) (a : Rule) : Type 0 where
-  by_id : arg_by_id rules id ≡ Some a
-  same : a.id ≡ id
-  set : action_of a ≡ Set
+pub record IsOption (id : Text) (a : Rule) : Type 0 where
+  pub by_id : arg_by_id rules id ≡ Some a
+  pub same : a.id ≡ id
+  pub set : action_of a ≡ Set
 
 -- what a bundle comes to at the option's letter
-record IsLetter (letter : ℕ) (id : Text) (a : Rule) : Type 0 where
-  is : IsOption id a
-  goes : (k : ℕ) (rest : Text) (so_far : Outcome) (h : Held) → bundle_met rules (suc k) (letter ∷ rest) 0 so_far h ≡ option_met rules a (attached_value rest) h
-  faults : (k : ℕ) (rest : Text) (h : Held) → flags_fault rules false (suc k) (letter ∷ rest) 0 h ≡ option_fault rules false a (attached_value rest) h
+pub record IsLetter (letter : ℕ) (id : Text) (a : Rule) : Type 0 where
+  pub known : IsId id
+  pub is : IsOption id a
+  pub goes : (k : ℕ) (rest : Text) (so_far : Outcome) (h : Held) → bundle_met rules (suc k) (letter ∷ rest) 0 so_far h ≡ option_met rules a (attached_value rest) h
+  pub faults : (k : ℕ) (rest : Text) (h : Held) → flags_fault rules false (suc k) (letter ∷ rest) 0 h ≡ option_fault rules false a (attached_value rest) h
 
 valued-head : (letter : ℕ) → IsValued letter → (rest : Text) → slice_get (chars (letter ∷ rest)) 0 ≡ Some letter
 unfolding chars
@@ -200,12 +202,13 @@ valued-head _ subject rest = head-is 115 rest
 valued-head _ blind rest = head-is 98 rest
 valued-head _ copies rest = head-is 99 rest
 
-letter-of : (letter : ℕ) → IsValued letter → (id : Text) × (a : Rule) × IsLetter letter id a
+pub letter-of : (letter : ℕ) → IsValued letter → (id : Text) × (a : Rule) × IsLetter letter id a
 unfolding mailx clap_on_literals
 letter-of _ user = (
   codes "u",
   filled (valued_rule (codes "u") 117),
   record {
+    known = id_u;
     is = record { by_id = refl; same = refl; set = refl };
     goes = (λ k rest so_far h. ap (λ (x : Option ℕ). bundle_step rules x (117 ∷ rest) 0 so_far h (bundle_met rules k)) (valued-head 117 user rest));
     faults = (λ k rest h. ap (λ (x : Option ℕ). bundle_step_fault rules false x (117 ∷ rest) 0 h (flags_fault rules false k)) (valued-head 117 user rest));
@@ -215,6 +218,7 @@ letter-of _ subject = (
   codes "s",
   filled (valued_rule (codes "s") 115),
   record {
+    known = id_s;
     is = record { by_id = refl; same = refl; set = refl };
     goes = (λ k rest so_far h. ap (λ (x : Option ℕ). bundle_step rules x (115 ∷ rest) 0 so_far h (bundle_met rules k)) (valued-head 115 subject rest));
     faults = (λ k rest h. ap (λ (x : Option ℕ). bundle_step_fault rules false x (115 ∷ rest) 0 h (flags_fault rules false k)) (valued-head 115 subject rest));
@@ -224,6 +228,7 @@ letter-of _ blind = (
   codes "b",
   filled (valued_rule (codes "b") 98),
   record {
+    known = id_b;
     is = record { by_id = refl; same = refl; set = refl };
     goes = (λ k rest so_far h. ap (λ (x : Option ℕ). bundle_step rules x (98 ∷ rest) 0 so_far h (bundle_met rules k)) (valued-head 98 blind rest));
     faults = (λ k rest h. ap (λ (x : Option ℕ). bundle_step_fault rules false x (98 ∷ rest) 0 h (flags_fault rules false k)) (valued-head 98 blind rest));
@@ -233,6 +238,7 @@ letter-of _ copies = (
   codes "c",
   filled (valued_rule (codes "c") 99),
   record {
+    known = id_c;
     is = record { by_id = refl; same = refl; set = refl };
     goes = (λ k rest so_far h. ap (λ (x : Option ℕ). bundle_step rules x (99 ∷ rest) 0 so_far h (bundle_met rules k)) (valued-head 99 copies rest));
     faults = (λ k rest h. ap (λ (x : Option ℕ). bundle_step_fault rules false x (99 ∷ rest) 0 h (flags_fault rules false k)) (valued-head 99 copies rest));

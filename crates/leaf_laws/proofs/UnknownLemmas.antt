@@ -61,7 +61,7 @@ equals-after AreFlags.none letter valued rest = equals-here letter valued rest
 equals-after (AreFlags.more {letter = flag} {letters = flags} is are) letter valued rest =
     flag-passes flag is (flags ++ letter ∷ 61 ∷ rest) ∙ equals-after are letter valued rest
 
-is-off : (b : Bool) → not b ≡ true → b ≡ false
+pub is-off : (b : Bool) → not b ≡ true → b ≡ false
 is-off true k = absurd (true≢false (sym k))
 is-off false k = refl
 
@@ -135,7 +135,7 @@ strange-long name f =
     not-found (λ (a : Rule). not (is_some a.index) && has_long a name) rules (both-off (bytes_eq (codes "try") name || false) false (or-false (bytes_eq (codes "try") name) ∙ f) refl)
 
 -- ---- the characters behind flags
-chars-flag : (letter : ℕ) → IsFlag letter → (rest : List ℕ) → chars (letter ∷ rest) ≡ letter ∷ chars rest
+pub chars-flag : (letter : ℕ) → IsFlag letter → (rest : List ℕ) → chars (letter ∷ rest) ≡ letter ∷ chars rest
 unfolding chars
 chars-flag _ exists [] = refl
 chars-flag _ exists (b ∷ bs) = refl
@@ -152,11 +152,11 @@ chars-flag _ named (b ∷ bs) = refl
 chars-flag _ folder [] = refl
 chars-flag _ folder (b ∷ bs) = refl
 
-encodes-hyphen : (cs : List ℕ) → encodes (45 ∷ cs) ≡ 45 ∷ encodes cs
+pub encodes-hyphen : (cs : List ℕ) → encodes (45 ∷ cs) ≡ 45 ∷ encodes cs
 unfolding clap_on_literals
 encodes-hyphen cs = refl
 
-encodes-flag : (letter : ℕ) → IsFlag letter → (cs : List ℕ) → encodes (letter ∷ cs) ≡ letter ∷ encodes cs
+pub encodes-flag : (letter : ℕ) → IsFlag letter → (cs : List ℕ) → encodes (letter ∷ cs) ≡ letter ∷ encodes cs
 unfolding clap_on_literals
 encodes-flag _ exists cs = refl
 encodes-flag _ headers cs = refl
@@ -166,7 +166,7 @@ encodes-flag _ no_system_file cs = refl
 encodes-flag _ named cs = refl
 encodes-flag _ folder cs = refl
 
-encodes-valued : (letter : ℕ) → IsValued letter → (cs : List ℕ) → encodes (letter ∷ cs) ≡ letter ∷ encodes cs
+pub encodes-valued : (letter : ℕ) → IsValued letter → (cs : List ℕ) → encodes (letter ∷ cs) ≡ letter ∷ encodes cs
 unfolding clap_on_literals
 encodes-valued _ user cs = refl
 encodes-valued _ subject cs = refl
@@ -174,10 +174,10 @@ encodes-valued _ blind cs = refl
 encodes-valued _ copies cs = refl
 
 -- the bytes are what their characters spell
-abbrev Spells : List ℕ → Type 0
+abbrev pub Spells : List ℕ → Type 0
 Spells bs = encodes (chars bs) ≡ bs
 
-behind : (letter : ℕ) (rest : List ℕ) → chars (letter ∷ rest) ≡ letter ∷ chars rest → ((cs : List ℕ) → encodes (letter ∷ cs) ≡ letter ∷ encodes cs) → Spells (letter ∷ rest) → Spells rest
+pub behind : (letter : ℕ) (rest : List ℕ) → chars (letter ∷ rest) ≡ letter ∷ chars rest → ((cs : List ℕ) → encodes (letter ∷ cs) ≡ letter ∷ encodes cs) → Spells (letter ∷ rest) → Spells rest
 behind letter rest cut spelled whole =
     let both : letter ∷ encodes (chars rest) ≡ letter ∷ rest = sym (spelled (chars rest)) ∙ ap encodes (sym cut) ∙ whole in
     tail both

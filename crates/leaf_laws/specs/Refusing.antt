@@ -115,3 +115,12 @@ NoTextIsRefused = (front back : List (List ℕ)) (word : List ℕ) → is_utf8 w
 abbrev pub EmptyIsRefused : Type 0
 EmptyIsRefused = (front middle back : List (List ℕ)) → AreBefore front
     → reading (front ++ (45 ∷ 45 ∷ []) ∷ (middle ++ [] ∷ back)) ≡ None
+
+-- the last of the words, if there is one, doesn't want the next word as its value
+pub data NoneWanted : List (List ℕ) → Type 0 where
+  none : NoneWanted []
+  last : (words : List (List ℕ)) {word : List ℕ} → (WantsNext word → ⊥) → NoneWanted (words ++ word ∷ [])
+
+-- before `--` an empty word is refused too, unless it is the value of the option before it
+abbrev pub EmptyOperandIsRefused : Type 0
+EmptyOperandIsRefused = (front back : List (List ℕ)) → AreBefore front → NoneWanted front → reading (front ++ [] ∷ back) ≡ None

@@ -4,7 +4,7 @@ ghost use Rattle.leaf_laws.specs.Asking.{ModesAreAsked, WantedIsAsked};
 ghost use Rattle.leaf_laws.specs.Cutting.{GoodPiecesAreCut};
 ghost use Rattle.leaf_laws.specs.Lines.{PageIsLines, SummaryIsALine};
 ghost use Rattle.leaf_laws.specs.Reaching.{AddedAreReached, GivenAreAdded, ReachedAreAdded};
-ghost use Rattle.leaf_laws.specs.Refusing.{AgainIsRefused, DashIsRefused, EmptyIsRefused, EqualsIsRefused, HyphenIsRefused, LongIsRefused, MissingIsRefused, NoTextIsRefused, TryTwiceIsRefused, TwiceIsRefused, UnknownIsRefused, ValuedTwiceIsRefused};
+ghost use Rattle.leaf_laws.specs.Refusing.{AgainIsRefused, DashIsRefused, EmptyIsRefused, EmptyOperandIsRefused, EqualsIsRefused, HyphenIsRefused, LongIsRefused, MissingIsRefused, NoTextIsRefused, TryTwiceIsRefused, TwiceIsRefused, UnknownIsRefused, ValuedTwiceIsRefused};
 ghost use Rattle.leaf_laws.specs.Showing.{KeptAreShown};
 
 /// Laws of expansion. Nobody else is added: what is added was given, or aliases lead to it from there. Nobody is lost: a
@@ -71,7 +71,8 @@ pub fn some_words_are_refused()
 
 /// Laws of single words of the command line. Before `--` and whatever stands beside it, a word is refused that has a letter of
 /// no option where that of one stands, or `--` with a name other than `try`; and so is an option's value in the same word that
-/// begins with `=`. `-` alone is refused wherever it stands, and so is a word that isn't UTF-8; an empty one is behind `--`.
+/// begins with `=`. `-` alone is refused wherever it stands, and so is a word that isn't UTF-8. An empty one is behind `--`, and
+/// before it unless it is the value of the option before it.
 pub fn single_words_are_refused()
     ensures unknown { UnknownIsRefused }
     ensures long { LongIsRefused }
@@ -79,4 +80,5 @@ pub fn single_words_are_refused()
     ensures dash { DashIsRefused }
     ensures text { NoTextIsRefused }
     ensures empty { EmptyIsRefused }
+    ensures operand { EmptyOperandIsRefused }
 {}
