@@ -1,6 +1,13 @@
-//! What holds of each actor on a disk: how its calls end.
+//! What holds of each actor on a disk: how its calls end, what recovery by it would make of the disk, and whether
+//! the disk is sound for it.
 #![tactic(auto)]
 
 mod laws;
+mod records;
+mod settling;
+mod soundness;
 
 pub use laws::calls_end_so;
+pub use records::standing;
+pub use settling::{settled, settled_lock};
+pub use soundness::is_sound;
