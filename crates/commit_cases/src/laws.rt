@@ -1,4 +1,5 @@
 // Each law is called once.
+use actor_ground::calls_end_so;
 use commit_machine::{
     alone_goes, crash_safe, decisions_apply, decisions_are_told, edits_are_changes,
     events_have_rows, front_is_run, no_record_stands, no_refused_is_decided, nothing_after_a_fault,
@@ -41,6 +42,7 @@ fn machine() {
 
 pub fn call() {
     machine();
+    calls_end_so();
     a_text_has_one_record();
     add_appends();
     front_prepends();

@@ -33,6 +33,8 @@
 //! | `names ACTOR TOKEN NAME` | the names of the record, of the new one, of the right and of a staged file |
 //! | `taken ACTOR NAME` | whether the name is that of the actor's record |
 //! | `large` | what comes of files past a limit |
+//! | `settled NAME` | the file and the lock of a name on the disk before the case, once the actor's recovery is done |
+//! | `sound`, `stands` | whether that disk is sound for the actor; the phase of its record there |
 //!
 //! Of `write` a NAME with `!` before it is removed, and one with `+N:` before it extended behind N bytes; a TOKEN with
 //! `@SECONDS` behind it is that of a record with this moment. Of `recover` the moment of the record that was found comes
@@ -56,6 +58,7 @@ mod pure;
 mod records;
 mod script;
 mod sending;
+mod settled;
 mod stops;
 
 use case_blocks::told;

@@ -2,6 +2,7 @@
 use crate::calls::put_call;
 use crate::pure::put_answer;
 use crate::sending::put_children;
+use crate::settled::put_settled;
 use crate::stops::{put_stop, put_stops};
 use case_blocks::{Answer, Case, Tells, cut, host, is_case, is_plain, put_disk, view};
 use host_memory::{DiskView, MemHost};
@@ -51,6 +52,7 @@ fn put_line(case: Case<'_>, host: &mut MemHost, start: &DiskView, line: &str, ou
         "do" => put_call(host, rest, out),
         "letters" => put_letters(host, out),
         "children" => put_children(host, out),
+        "settled" | "sound" | "stands" => put_settled(start, kind, rest, out),
         _ => put_answer(case, line, out),
     }
     out.put_plain(b"\n");
