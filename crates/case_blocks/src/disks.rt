@@ -2,7 +2,8 @@
 use crate::Answer;
 use crate::block::{Case, cut, has_line, number, text_under};
 use crate::planned::plan;
-use host_memory::{DiskView, MemHost};
+use host_memory::MemHost;
+use host_port::DiskView;
 use mail_text::{Items, Memory};
 
 // Puts what a line says of the disk into it.

@@ -1,6 +1,7 @@
 // What became of a disk.
 use crate::Answer;
-use host_memory::{DiskView, MemHost};
+use host_memory::MemHost;
+use host_port::DiskView;
 use mail_text::{Memory, Text};
 
 fn found<'a>(files: &'a [(Text, Text)], name: &[u8]) -> Option<&'a [u8]> {

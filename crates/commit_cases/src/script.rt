@@ -5,8 +5,8 @@ use crate::sending::put_children;
 use crate::settled::put_settled;
 use crate::stops::{put_stop, put_stops};
 use case_blocks::{Answer, Case, Tells, cut, host, is_case, is_plain, put_disk, view};
-use host_memory::{DiskView, MemHost};
-use host_port::Event;
+use host_memory::MemHost;
+use host_port::{DiskView, Event};
 use mail_text::Memory;
 
 fn letter(event: &Event) -> u8 {

@@ -2,7 +2,7 @@
 use actor_ground::{is_sound, settled, settled_lock, standing};
 use case_blocks::Answer;
 use commit_record::Phase;
-use host_memory::DiskView;
+use host_port::DiskView;
 use mail_text::{Memory, Text};
 use memory_disk::{Standing, standing_of};
 

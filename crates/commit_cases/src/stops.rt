@@ -3,7 +3,8 @@ ghost use Rattle.std.specs.Prelude.{◌≤◌};
 
 use crate::commits::put_recovered;
 use case_blocks::{Answer, cut, number, part, put_changes, put_disk};
-use host_memory::{DiskView, MemHost, Plan};
+use host_memory::{MemHost, Plan};
+use host_port::DiskView;
 use mail_text::{Items, Memory, Text};
 use std::alloc::Global;
 

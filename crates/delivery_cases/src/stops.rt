@@ -3,7 +3,8 @@ ghost use Rattle.std.specs.Prelude.{◌≤◌};
 
 use case_blocks::{Answer, part, put_disk};
 use folder_recovery::recover;
-use host_memory::{DiskView, MemHost, Plan};
+use host_memory::{MemHost, Plan};
+use host_port::DiskView;
 use mail_text::{Items, Memory, Text};
 use std::alloc::Global;
 

@@ -1,7 +1,8 @@
 // Calls that fail, one in each run.
 use crate::judging::{are_released, count_own, is_met, is_met_in_recovery, put_end};
 use case_blocks::{Answer, part};
-use host_memory::{DiskView, MemHost};
+use host_memory::MemHost;
+use host_port::DiskView;
 use mail_text::{Items, Memory};
 use stop_tables::{
     Cut, Program, Run, Scene, Script, Tally, carry_out, count_cuts, cut_at, first, is_deciding,

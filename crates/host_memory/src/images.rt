@@ -6,8 +6,7 @@ ghost use Rattle.memory_disk.specs.Standings.{disk_now, ShowsSame};
 ghost use Rattle.host_memory.specs.Views.{disk_of, NamesOnce};
 ghost use Rattle.host_port.specs.declared.event.Event.{Event};
 
-use crate::DiskView;
-use host_port::{Event, Part};
+use host_port::{DiskView, Event, Part};
 use mail_text::Memory;
 use memory_disk::{Standing, show_files, show_locks, stop};
 use std::alloc::Global;

@@ -14,4 +14,4 @@ mod plan;
 mod tape;
 
 pub use memory::MemHost;
-pub use plan::{DiskView, Plan};
+pub use plan::Plan;

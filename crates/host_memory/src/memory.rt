@@ -19,11 +19,8 @@ use crate::editors::{Editing, edited_after, tell_edit};
 use crate::filling::tell_fill;
 use crate::images::{image, show, standing_of};
 use crate::tape::Tape;
-use crate::{DiskView, Plan};
-use host_port::{
-    ChildAnswer, ChildError, DiskFault, EditAnswer, Event, Host, InFault, LoadAnswer, LoadError,
-    OutFault, Part,
-};
+use crate::Plan;
+use host_port::{ChildAnswer, ChildError, DiskFault, DiskView, EditAnswer, Event, Host, InFault, LoadAnswer, LoadError, OutFault, Part};
 use mail_text::{Memory, Text};
 use std::alloc::Global;
 

@@ -7,8 +7,7 @@ ghost use Rattle.host_port.specs.Disk.{SameDisk};
 ghost use Rattle.host_memory.specs.Views.{disk_of, steps_before};
 ghost use Rattle.host_port.specs.declared.event.Event.TheVariants as event;
 
-use crate::DiskView;
-use host_port::{Event, ForeignStep};
+use host_port::{DiskView, Event, ForeignStep};
 use mail_text::{Memory, Text};
 use memory_disk::{Standing, effect};
 use std::alloc::Global;

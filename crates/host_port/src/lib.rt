@@ -4,6 +4,7 @@
 
 mod event;
 mod host;
+mod view;
 
 ghost use Rattle.std.specs.Prelude.{◌≡◌, true, List};
 ghost use Rattle.host_port.specs.Disk.{Disk, SameDisk, after, disk};
@@ -15,6 +16,7 @@ ghost use Rattle.host_port.specs.declared.event.Event.{Event};
 
 pub use event::{ChildAnswer, EditAnswer, Event, ForeignStep, Holder, LoadAnswer, Part, Seen};
 pub use host::{ChildError, DiskFault, Host, InFault, LoadError, OutFault};
+pub use view::DiskView;
 
 /// A law: own events that may change no disk leave the disk that the steps of others make of the start.
 pub fn others_alone()

@@ -10,8 +10,7 @@ ghost use Rattle.lawful_steps.specs.Steps.{Shows, holds, token_of};
 
 use crate::guarding::{Tokens, guarded, is_guarded, is_staged, owner, token_in};
 use commit_machine::is_record_name;
-use host_memory::DiskView;
-use host_port::ForeignStep;
+use host_port::{DiskView, ForeignStep};
 use mail_text::{Memory, Text};
 use std::alloc::Global;
 

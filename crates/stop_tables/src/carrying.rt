@@ -3,8 +3,8 @@ ghost use Rattle.std.specs.Prelude.{◌≤◌};
 
 use crate::scripts::Script;
 use case_blocks::{Answer, Case, host, put_disk, value, view};
-use host_memory::{DiskView, MemHost, Plan};
-use host_port::Part;
+use host_memory::{MemHost, Plan};
+use host_port::{DiskView, Part};
 use mail_text::{Items, Memory, Text};
 use std::alloc::Global;
 

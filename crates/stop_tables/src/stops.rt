@@ -5,7 +5,8 @@ use crate::scripts::{Script, is_wanted};
 use crate::tally::Tally;
 use crate::turning::{first, turns};
 use case_blocks::{Answer, part, put_changes};
-use host_memory::{DiskView, MemHost};
+use host_memory::MemHost;
+use host_port::DiskView;
 use mail_text::Memory;
 
 // What the stops of a run and those of their recoveries come to.

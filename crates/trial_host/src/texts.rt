@@ -3,7 +3,8 @@ ghost use Rattle.std.specs.Prelude.{◌≡◌, ◌++◌, ◌∷◌, [], IfOk, On
 ghost use Rattle.trial_host.specs.Texts.{mailbox_of, message_of, numbered, references_of, trial_lines};
 ghost use Rattle.trial_host.specs.Trials.{trial_plan};
 
-use host_memory::{DiskView, Plan};
+use host_memory::Plan;
+use host_port::DiskView;
 use itoa::Buffer;
 use mail_text::{Items, Memory, Text};
 use std::alloc::Global;

@@ -1,6 +1,6 @@
 use Rattle.std.proofs.Common.{◌++◌, ◌||◌, map, ap, sym, refl, ◌∙◌, Some, None}
 use Rattle.std.specs.Prelude.{is_some}
-use Rattle.host_memory.specs.declared.plan.DiskView.{DiskView}
+use Rattle.host_port.specs.declared.view.DiskView.{DiskView}
 use Rattle.host_port.specs.declared.event.Event.TheVariants.{Foreign}
 use Rattle.host_port.specs.Disk.{disk}
 use Rattle.host_port.specs.Ends.{carried_out, cut_short}
