@@ -11,7 +11,7 @@ use Rattle.commit_machine.specs.Settled.{Mem, put_in}
 use Rattle.commit_machine.specs.Items.{Item, item_names}
 use Rattle.commit_machine.specs.Jobs.{Ending, Done, Recovered, Refused, Failed, NoMemory, Puts, Edit, Job, Made, edits_of, all_of, prepare_of, go_of}
 use Rattle.commit_machine.specs.Machine.{Then, GoOn, Answer, State, Seizing, Timing, Looking, Undoing, Placing, Testing, Removing, Extending, Discarding, Unlocking, Erasing, Clearing, Preparing, Publishing, Locking, Loading, Staging, Deciding, Committing, Checking, Releasing, Ended}
-use Rattle.commit_machine.specs.Lawful.{standing, HasRight, IsGuarded, IsFresh}
+use Rattle.commit_machine.specs.Lawful.{standing, HasRight, IsFresh}
 use Rattle.commit_machine.proofs.standing.Decided.{IsDistinct}
 
 -- A record that is being done with: staged files are left for ns alone, locks for ls alone.
@@ -130,15 +130,21 @@ pub record PartPlaced (actor : List ℕ) (r : Record) (xs : List Item) (ls : Lis
   pub ways : (x : Item) → Mem x xs → way_at r x.name ≡ x.way
   pub staged : AreStaged th r xs d
 
--- A change by others: what the run's own places and guarded names are stays.
+-- What a change by others leaves of a token: what is staged for it, its locks, and the files that are locked with it.
+pub record KeepsToken (u : ℕ) (d d' : Disk) : Type 0 where
+  pub staged : (m : List ℕ) → d'.files (staged_name u m) ≡ d.files (staged_name u m)
+  pub lock : (m : List ℕ) → d.locks m ≡ Some u → d'.locks m ≡ Some u
+  pub free : (m : List ℕ) → d.locks m ≢ Some u → d'.locks m ≢ Some u
+  pub file : (m : List ℕ) → d.locks m ≡ Some u → d'.files m ≡ d.files m
+
+-- A change by others keeps the right, and what is of the run's token. While the run has the right it keeps the record
+-- names and what is of the token of the record that stands.
 pub record Keeps (actor : List ℕ) (t : ℕ) (d d' : Disk) : Type 0 where
   pub right : HasRight actor d → HasRight actor d'
-  pub records : (n : List ℕ) → HasRight actor d → is_record_name actor n ≡ true → d'.files n ≡ d.files n
-  pub staged : (u : ℕ) (m : List ℕ) → IsGuarded actor t d u → d'.files (staged_name u m) ≡ d.files (staged_name u m)
-  pub lock : (u : ℕ) (m : List ℕ) → IsGuarded actor t d u → d.locks m ≡ Some u → d'.locks m ≡ Some u
-  pub free : (u : ℕ) (m : List ℕ) → IsGuarded actor t d u → d.locks m ≢ Some u → d'.locks m ≢ Some u
-  pub file : (u : ℕ) (m : List ℕ) → IsGuarded actor t d u → d.locks m ≡ Some u → d'.files m ≡ d.files m
+  pub own : KeepsToken t d d'
   pub fresh : (r : Record) → (standing actor d ≡ Some r → r.token ≢ t) → standing actor d' ≡ Some r → r.token ≢ t
+  pub records : (n : List ℕ) → HasRight actor d → is_record_name actor n ≡ true → d'.files n ≡ d.files n
+  pub found : (r : Record) → HasRight actor d → standing actor d ≡ Some r → KeepsToken r.token d d'
 
 abbrev pub Knows : Job → State → Disk → Type 0
 Knows j Seizing d = IsFresh j.actor j.token d

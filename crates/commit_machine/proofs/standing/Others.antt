@@ -1,5 +1,5 @@
 -- A change by others keeps what the run knows at each state.
-use Rattle.std.proofs.Common.{◌≡◌, ℕ, true, List, [], ◌∷◌, Option, Some, None, refl, ap, sym, inl, inr, ◌∙◌}
+use Rattle.std.proofs.Common.{◌≡◌, ℕ, true, List, [], ◌∷◌, Option, Some, None, ap, sym, inl, inr, ◌∙◌}
 use Rattle.commit_record.specs.Format.{written}
 use Rattle.commit_record.specs.declared.record.Record.{Record}
 use Rattle.host_port.specs.Disk.{Disk}
@@ -9,9 +9,9 @@ use Rattle.commit_machine.specs.Settled.{Mem, put_in}
 use Rattle.commit_machine.specs.Items.{Item, item_names}
 use Rattle.commit_machine.specs.Jobs.{Ending, Done, Recovered, Refused, Failed, NoMemory, Job, Made, edits_of, all_of, prepare_of}
 use Rattle.commit_machine.specs.Machine.{Then, GoOn, Answer, State, Seizing, Timing, Looking, Undoing, Placing, Testing, Removing, Extending, Discarding, Unlocking, Erasing, Clearing, Preparing, Publishing, Locking, Loading, Staging, Deciding, Committing, Checking, Releasing, Ended}
-use Rattle.commit_machine.specs.Lawful.{standing, HasRight, IsGuarded, IsFresh}
+use Rattle.commit_machine.specs.Lawful.{standing, HasRight, IsFresh}
 use Rattle.commit_machine.proofs.standing.Decided.{names_Mem}
-use Rattle.commit_machine.proofs.standing.Known.{Closing, Rest, Own, Clean, Idle, ThenOk, AllDone, Over, Ends, IsStaged, AreStaged, PartPlaced, Keeps, Knows}
+use Rattle.commit_machine.proofs.standing.Known.{Closing, Rest, Own, Clean, Idle, ThenOk, AllDone, Over, Ends, IsStaged, AreStaged, PartPlaced, Keeps, KeepsToken, Knows}
 use Rattle.commit_machine.proofs.records.Same.{same_refl}
 use Rattle.std.proofs.lemmas.Bool.{or_left, or_right}
 
@@ -30,19 +30,19 @@ module _ (j : Job) (d d' : Disk) (keep : Keeps j.actor j.token d d') where
 
   others_fresh : IsFresh j.actor j.token d → IsFresh j.actor j.token d'
   others_fresh k = record {
-    staged = λ m. keep.staged j.token m (inl refl) ∙ k.staged m;
-    locks = λ m. keep.free j.token m (inl refl) (k.locks m);
+    staged = λ m. keep.own.staged m ∙ k.staged m;
+    locks = λ m. keep.own.free m (k.locks m);
     record_other = λ r. keep.fresh r (k.record_other r);
   }
 
   others_closing : (r : Record) (ns ls : List (List ℕ)) → Closing j.actor r ns ls d → Closing j.actor r ns ls d'
   others_closing r ns ls k =
-      let guarded : IsGuarded j.actor j.token d r.token = inr (r, k.stands, refl) in
+      let found : KeepsToken r.token d d' = keep.found r k.right k.stands in
       record {
         right = keep.right k.right;
         stands = ap record_in (record_stays k.right) ∙ k.stands;
-        gone = λ m h. elim (k.gone m h) [ inl a ↦ inl a | inr b ↦ inr (keep.staged r.token m guarded ∙ b) ];
-        free = λ m h. elim (k.free m h) [ inl a ↦ inl a | inr b ↦ inr (keep.free r.token m guarded b) ];
+        gone = λ m h. elim (k.gone m h) [ inl a ↦ inl a | inr b ↦ inr (found.staged m ∙ b) ];
+        free = λ m h. elim (k.free m h) [ inl a ↦ inl a | inr b ↦ inr (found.free m b) ];
       }
 
   others_clean : Clean j d → Clean j d'
@@ -57,8 +57,8 @@ module _ (j : Job) (d d' : Disk) (keep : Keeps j.actor j.token d d') where
 
   others_rest : Rest j d → Rest j d'
   others_rest k = record {
-    staged = λ m. elim (k.staged m) [ inl a ↦ inl a | inr b ↦ inr (keep.staged j.token m (inl refl) ∙ b) ];
-    locks = λ m. elim (k.locks m) [ inl a ↦ inl a | inr b ↦ inr (keep.free j.token m (inl refl) b) ];
+    staged = λ m. elim (k.staged m) [ inl a ↦ inl a | inr b ↦ inr (keep.own.staged m ∙ b) ];
+    locks = λ m. elim (k.locks m) [ inl a ↦ inl a | inr b ↦ inr (keep.own.free m b) ];
   }
 
   others_own : (ns ls : List (List ℕ)) (made left : List Made) → ((x : Made) → Mem x made → Mem x.edit.name ls) → Own j ns ls made left d → Own j ns ls made left d'
@@ -66,35 +66,33 @@ module _ (j : Job) (d d' : Disk) (keep : Keeps j.actor j.token d d') where
       record {
         closing = others_closing (prepare_of j) ns ls k.closing;
         rest = others_rest k.rest;
-        locked = λ m h. keep.lock j.token m (inl refl) (k.locked m h);
-        seen = λ x h. keep.file j.token x.edit.name (inl refl) (k.locked x.edit.name (cover x h)) ∙ k.seen x h;
-        staged = λ x h. elim (k.staged x h) [ inl a ↦ inl a | inr b ↦ inr (keep.staged j.token x.edit.name (inl refl) ∙ b) ];
+        locked = λ m h. keep.own.lock m (k.locked m h);
+        seen = λ x h. keep.own.file x.edit.name (k.locked x.edit.name (cover x h)) ∙ k.seen x h;
+        staged = λ x h. elim (k.staged x h) [ inl a ↦ inl a | inr b ↦ inr (keep.own.staged x.edit.name ∙ b) ];
       }
 
   others_then : (r : Record) (th : Then) → ThenOk j r th d → ThenOk j r th d'
   others_then r GoOn k = others_fresh k
   others_then r (Answer e) k = record { token = k.token; names = k.names; rest = others_rest k.rest; own_end = k.own_end }
 
-  guards : (r : Record) → standing j.actor d ≡ Some r → IsGuarded j.actor j.token d r.token
-  guards r e = inr (r, e, refl)
+  others_one : (r : Record) (x : Item) → HasRight j.actor d → standing j.actor d ≡ Some r → IsStaged r x d → IsStaged r x d'
+  others_one r x right e h = ((keep.found r right e).staged x.name ∙ h.0, h.1)
 
-  others_one : (r : Record) (x : Item) → standing j.actor d ≡ Some r → IsStaged r x d → IsStaged r x d'
-  others_one r x e h = (keep.staged r.token x.name (guards r e) ∙ h.0, h.1)
-
-  others_staged : (r : Record) (xs : List Item) (th : Then) → standing j.actor d ≡ Some r → AreStaged th r xs d → AreStaged th r xs d'
-  others_staged r xs GoOn e h = tt
-  others_staged r xs (Answer a) e h = λ x mem. others_one r x e (h x mem)
+  others_staged : (r : Record) (xs : List Item) (th : Then) → HasRight j.actor d → standing j.actor d ≡ Some r → AreStaged th r xs d → AreStaged th r xs d'
+  others_staged r xs GoOn right e h = tt
+  others_staged r xs (Answer a) right e h = λ x mem. others_one r x right e (h x mem)
 
   others_placed : (r : Record) (xs : List Item) (ls : List (List ℕ)) (th : Then) → PartPlaced j.actor r xs ls th d → PartPlaced j.actor r xs ls th d'
-  others_placed r xs ls th k = record { closing = others_closing r (item_names xs) ls k.closing; go = k.go; within = k.within; locks_within = k.locks_within; distinct = k.distinct; ways = k.ways; staged = others_staged r xs th k.closing.stands k.staged }
+  others_placed r xs ls th k = record { closing = others_closing r (item_names xs) ls k.closing; go = k.go; within = k.within; locks_within = k.locks_within; distinct = k.distinct; ways = k.ways; staged = others_staged r xs th k.closing.right k.closing.stands k.staged }
 
   -- a file that is locked with the record's token stays what it has become
-  others_become : (r : Record) (x : Item) → standing j.actor d ≡ Some r → d.locks x.name ≡ Some r.token → put_in x.way (d.files x.name) (d.files (staged_name r.token x.name)) ≡ d.files x.name
+  others_become : (r : Record) (x : Item) → HasRight j.actor d → standing j.actor d ≡ Some r → d.locks x.name ≡ Some r.token → put_in x.way (d.files x.name) (d.files (staged_name r.token x.name)) ≡ d.files x.name
       → put_in x.way (d'.files x.name) (d'.files (staged_name r.token x.name)) ≡ d'.files x.name
-  others_become r x e lock done =
-      let file : d'.files x.name ≡ d.files x.name = keep.file r.token x.name (guards r e) lock in
+  others_become r x right e lock done =
+      let found : KeepsToken r.token d d' = keep.found r right e in
+      let file : d'.files x.name ≡ d.files x.name = found.file x.name lock in
       ap (λ (c : Option (List ℕ)). put_in x.way c (d'.files (staged_name r.token x.name))) file
-      ∙ ap (put_in x.way (d.files x.name)) (keep.staged r.token x.name (guards r e))
+      ∙ ap (put_in x.way (d.files x.name)) (found.staged x.name)
       ∙ done
       ∙ sym file
 
@@ -122,9 +120,9 @@ module _ (j : Job) (d d' : Disk) (keep : Keeps j.actor j.token d d') where
   others_knows (Undoing r n ns ls th) k = (others_closing r (n ∷ ns) ls k.0, k.1, k.2, k.3, others_then r th k.4)
   others_knows (Placing r x xs ls th) k = (others_placed r (x ∷ xs) ls th k.0, others_then r th k.1, k.2)
   others_knows (Testing r x xs ls) k = (others_placed r (x ∷ xs) ls GoOn k.0, others_fresh k.1, k.2)
-  others_knows (Removing r x xs ls th) k = (others_placed r (x ∷ xs) ls th k.0, others_then r th k.1, k.2, others_one r x k.0.closing.stands k.3)
-  others_knows (Extending r x xs ls th) k = (others_placed r (x ∷ xs) ls th k.0, others_then r th k.1, k.2, others_one r x k.0.closing.stands k.3)
-  others_knows (Discarding r x xs ls th) k = (others_placed r (x ∷ xs) ls th k.0, others_then r th k.1, keep.lock r.token x.name (guards r k.0.closing.stands) k.2, others_become r x k.0.closing.stands k.2 k.3)
+  others_knows (Removing r x xs ls th) k = (others_placed r (x ∷ xs) ls th k.0, others_then r th k.1, k.2, others_one r x k.0.closing.right k.0.closing.stands k.3)
+  others_knows (Extending r x xs ls th) k = (others_placed r (x ∷ xs) ls th k.0, others_then r th k.1, k.2, others_one r x k.0.closing.right k.0.closing.stands k.3)
+  others_knows (Discarding r x xs ls th) k = (others_placed r (x ∷ xs) ls th k.0, others_then r th k.1, (keep.found r k.0.closing.right k.0.closing.stands).lock x.name k.2, others_become r x k.0.closing.right k.0.closing.stands k.2 k.3)
   others_knows (Unlocking r n ns th) k = (others_closing r [] (n ∷ ns) k.0, k.1, others_then r th k.2)
   others_knows (Erasing r th) k = (others_closing r [] [] k.0, others_then r th k.1)
   others_knows (Clearing found) k = others_idle None k
