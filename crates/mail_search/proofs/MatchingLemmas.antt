@@ -4,8 +4,7 @@ use Rattle.std.specs.List.{filter_map, cons_option, find, list_any}
 use Rattle.std.proofs.lemmas.Bool.{cond-true, cond-false}
 use Rattle.std.proofs.Common.{Bor}
 use Rattle.mail_text.specs.Ascii.{same_ascii}
-use Rattle.mail_text.specs.Holding.{holds_ascii}
-use Rattle.mail_headers.specs.Field.{Field, unfolded}
+use Rattle.mail_headers.specs.Field.{Field}
 use Rattle.mail_headers.specs.Header.{Entry, field_in}
 use Rattle.mail_search.specs.declared.criterion.Facts.{Facts}
 use Rattle.mail_search.specs.declared.criterion.Step.TheVariants.{Not, Or, Both}

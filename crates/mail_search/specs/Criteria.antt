@@ -3,7 +3,7 @@ use Rattle.std.specs.Prelude.{◌≡◌, ◌↔◌, ℕ, true, ◌&&◌, List, O
 use Rattle.std.specs.Option.{option_and_then}
 use Rattle.mail_search.specs.Grammar.{is_enclosed, IsCriterion}
 use Rattle.mail_search.specs.Keys.{Key}
-use Rattle.mail_search.specs.Reading.{Reading, after_tokens, start, whole_key}
+use Rattle.mail_search.specs.Reading.{after_tokens, start, whole_key}
 use Rattle.mail_search.specs.Tokens.{tokens_of, spaced_from, without_gaps}
 
 -- the key of the criterion that a word is, if it is one
