@@ -12,6 +12,7 @@ ghost use Rattle.host_memory.specs.Views.{disk_of, NamesOnce};
 ghost use Rattle.host_port.specs.declared.event.Event.{Event};
 ghost use Rattle.host_port.specs.declared.event.Event.TheVariants as event;
 
+use crate::Plan;
 use crate::calls::{failing, tell_failed_load, tell_load, tell_now, tell_out, tell_release};
 use crate::children::{Run, tell_child, used_after};
 use crate::disk_calls::{Asked, tell_asked};
@@ -19,8 +20,10 @@ use crate::editors::{Editing, edited_after, tell_edit};
 use crate::filling::tell_fill;
 use crate::images::{image, show, standing_of};
 use crate::tape::Tape;
-use crate::Plan;
-use host_port::{ChildAnswer, ChildError, DiskFault, DiskView, EditAnswer, Event, Host, InFault, LoadAnswer, LoadError, OutFault, Part};
+use host_port::{
+    ChildAnswer, ChildError, DiskFault, DiskView, EditAnswer, Event, Host, InFault, LoadAnswer,
+    LoadError, OutFault, Part,
+};
 use mail_text::{Memory, Text};
 use std::alloc::Global;
 
