@@ -2,7 +2,7 @@
 ghost use Rattle.std.specs.Prelude.{IfOk};
 ghost use Rattle.host_port.specs.Calls.{FitsLoad};
 
-use crate::files::{remove_file, rename_file, write_file};
+use crate::files::{give_staged, remove_file, rename_file, write_file};
 use crate::kinds::{is_absence, is_empty_place, refuse_own};
 use crate::locks::{Marks, lock, locker_of, refuse_broken, refuse_unlocked, unlock};
 use crate::paths::{Place, actor_of, is_staged, path_of, place_of};
@@ -85,7 +85,7 @@ impl Disk {
         bytes: &[u8],
     ) -> Result<(), FileError> {
         let place = self.place(rt, name)?;
-        match (write_file(rt, &place, bytes), &place) {
+        match (write_file(rt, place.path(), bytes), &place) {
             (Err(refusal), Place::Staged { file, digits, .. }) => {
                 let errand = Errand {
                     operation: Operation::Stage,
@@ -100,7 +100,7 @@ impl Disk {
     }
 
     /// Puts a staged file into its place, if the lock of that file stands and the file is as it was locked.
-    pub fn publish<R: Files + Processes>(
+    pub fn publish<R: Files<File = File> + Processes>(
         &self,
         rt: &R,
         from: &[u8],
@@ -125,7 +125,7 @@ impl Disk {
     }
 
     // Puts what was staged by the token with these digits in the place of its file.
-    fn put_in_place<R: Files + Processes>(
+    fn put_in_place<R: Files<File = File> + Processes>(
         &self,
         rt: &R,
         staged: &str,
@@ -133,6 +133,7 @@ impl Disk {
         digits: &str,
     ) -> Result<bool, FileError> {
         refuse_broken(rt, self.alloc, &self.marks, file, digits)?;
+        give_staged(rt, staged, file)?;
         match rename_file(rt, staged, file) {
             Err(refusal) => {
                 let errand = Errand::of(Operation::Publish, file, digits);

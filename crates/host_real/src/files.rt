@@ -1,6 +1,6 @@
 // Whole files, each written, renamed and removed durably: what was done is there after the machine stops.
 use crate::kinds::{
-    is_absence, is_closed_folder, is_denied, is_empty_place, is_out_of_reach, look, user,
+    is_absence, is_closed_folder, is_denied, is_empty_place, is_out_of_reach, look, stands_at, user,
 };
 use crate::paths::{Place, folder_of};
 use crate::reasons::FileError;
@@ -43,31 +43,56 @@ fn give(file: &File, of: &Metadata) -> Result<(), Error> {
     file.set_permissions(Permissions::from_mode(of.mode() & MODE_BITS))
 }
 
-/// What the system's administrator writes in the place of another user's file stays that user's: it gets the owner,
-/// the group and the mode of what stands there.
-pub fn give_as<R: Files>(rt: &R, file: &File, path: &str) -> Result<(), Error> {
+// What stands at a path, if the run is the system's administrator's and it is a file of another user.
+fn anothers_file<R: Files>(rt: &R, path: &str) -> Result<Option<Metadata>, Error> {
     if user() != 0 {
-        return Ok(());
+        return Ok(None);
     }
     match look(rt, path)? {
-        Some(found) if found.is_file() && found.uid() != 0 => give(file, &found),
-        _ => Ok(()),
+        Some(found) if found.is_file() && found.uid() != 0 => Ok(Some(found)),
+        _ => Ok(None),
     }
 }
 
-/// Writes a whole private file and waits until it, and its name, have reached the device. It is private to its user,
-/// or is as the file of another user that it is to replace.
+/// What the system's administrator writes in the place of another user's file stays that user's: it gets the owner,
+/// the group and the mode of what stands there.
+pub fn give_as<R: Files>(rt: &R, file: &File, path: &str) -> Result<(), Error> {
+    match anothers_file(rt, path)? {
+        Some(found) => give(file, &found),
+        None => Ok(()),
+    }
+}
+
+/// Gives what was staged to the user whose file it is to replace. Until then it is the administrator's own, so that
+/// nobody else takes it away.
+pub fn give_staged<R: Files<File = File>>(
+    rt: &R,
+    staged: &str,
+    replaced: &str,
+) -> Result<(), FileError> {
+    let Some(found) = anothers_file(rt, replaced)? else {
+        return Ok(());
+    };
+    let file = match OpenOptions::new().write(true).open(rt, staged) {
+        Ok(file) => file,
+        Err(error) if error.kind() == ErrorKind::NotFound => return Ok(()),
+        Err(error) => return Err(FileError::from(error)),
+    };
+    if !stands_at(rt, staged, &file.metadata()?)? {
+        return Err(FileError::Changed);
+    }
+    give(&file, &found)?;
+    Ok(file.sync_all()?)
+}
+
+/// Writes a whole file, private to its user, and waits until it, and its name, have reached the device.
 pub fn write_file<R: Files<File = File>>(
     rt: &R,
-    place: &Place,
+    path: &str,
     bytes: &[u8],
 ) -> Result<(), FileError> {
-    let path = place.path();
     let mut file = create_private(rt, path)?;
     file.write_all(bytes)?;
-    if let Place::Staged { file: replaced, .. } = place {
-        give_as(rt, &file, replaced.as_str())?;
-    }
     file.sync_all()?;
     Ok(sync_folder(rt, path)?)
 }

@@ -124,11 +124,23 @@ pub fn is_out_of_reach<R: Files>(rt: &R, path: &str) -> bool {
     }
 }
 
-/// Whether a link is another user's, in a folder where each may put one.
+/// Whether a link is another user's, and stands where each may put one. The system's administrator follows no link of
+/// another anywhere.
 pub fn is_anothers_link<R: Files>(rt: &R, path: &str, link: &Metadata) -> bool {
+    if link.uid() == user() {
+        return false;
+    }
     match rt.metadata(folder_of(path)) {
-        Ok(folder) => folder.mode() & SHARED_FOLDER == SHARED_FOLDER && link.uid() != user(),
+        Ok(folder) => user() == 0 || folder.mode() & SHARED_FOLDER == SHARED_FOLDER,
         Err(_) => false,
+    }
+}
+
+/// Whether an open file is the one that stands at a path, so that no link that was put there meanwhile has led to it.
+pub fn stands_at<R: Files>(rt: &R, path: &str, open: &Metadata) -> Result<bool, Error> {
+    match look(rt, path)? {
+        Some(found) => Ok(Stamp::of(&found).is_file_of(&Stamp::of(open))),
+        None => Ok(false),
     }
 }
 

@@ -84,16 +84,37 @@ impl Rights {
     }
 }
 
+// The file of a right, opened.
+fn open_file<R: Files<File = File>>(rt: &R, path: &str) -> Result<File, Error> {
+    OpenOptions::new().read(true).write(true).open(rt, path)
+}
+
+// The file of a right, opened or made. Nothing is made through a link that was put there meanwhile.
+fn open_or_make<R: Files<File = File>>(rt: &R, path: &str) -> Result<File, Error> {
+    match open_file(rt, path) {
+        Err(error) if error.kind() == ErrorKind::NotFound => {}
+        answer => return answer,
+    }
+    let made = OpenOptions::new()
+        .read(true)
+        .write(true)
+        .create_new(true)
+        .mode(PRIVATE)
+        .open(rt, path);
+    match made {
+        // another has made it meanwhile
+        Err(error) if error.kind() == ErrorKind::AlreadyExists => match open_file(rt, path) {
+            Ok(file) => Ok(file),
+            Err(_) => Err(error),
+        },
+        answer => answer,
+    }
+}
+
 // The open file of a right, which is made if it isn't there. None if it can't be made, since its folder isn't
 // there or may not be written: then nobody has the right, and no record of a change can be put beside it.
 fn open_right<R: Files<File = File>>(rt: &R, path: &str) -> Result<Option<File>, FileError> {
-    let opened = OpenOptions::new()
-        .read(true)
-        .write(true)
-        .create(true)
-        .mode(PRIVATE)
-        .open(rt, path);
-    match opened {
+    match open_or_make(rt, path) {
         Ok(file) => Ok(Some(file)),
         Err(error) if is_closed_folder(&error) => open_standing(rt, path, error),
         Err(error) => Err(FileError::from(error)),

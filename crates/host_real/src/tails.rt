@@ -2,7 +2,7 @@
 ghost use Rattle.std.specs.Prelude.{◌≤◌, length, IfOk};
 
 use crate::files::{create_private, give_as, rename_file};
-use crate::kinds::{look, refuse_kind};
+use crate::kinds::{look, refuse_kind, stands_at};
 use crate::locks::{Marks, is_as_locked, locker_of};
 use crate::paths::beside_name;
 use crate::reasons::FileError;
@@ -28,6 +28,9 @@ fn open_standing<R: Files<File = File>>(rt: &R, path: &str) -> Result<Opened, Fi
         Ok(file) => {
             let found = file.metadata()?;
             refuse_kind(&found)?;
+            if !stands_at(rt, path, &found)? {
+                return Err(FileError::Changed);
+            }
             Ok(Opened {
                 file,
                 in_place: found.nlink() == 1,
