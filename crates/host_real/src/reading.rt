@@ -2,7 +2,7 @@
 ghost use Rattle.std.specs.Prelude.{IfOk};
 ghost use Rattle.host_port.specs.Calls.{FitsLoad};
 
-use crate::kinds::{Stamp, is_absence, is_out_of_reach};
+use crate::kinds::{Stamp, is_absence, is_out_of_reach, stands_at};
 use crate::locks::{Hold, Marks, hold_of, is_held};
 use crate::paths::{Place, lock_path};
 use crate::reasons::FileError;
@@ -80,13 +80,26 @@ fn says_absent<R: Files>(rt: &R, place: &Place, error: &Error) -> bool {
     }
 }
 
+// Refuses what another has put in the place of a staged file, as a link, since it would be read in the run's name.
+fn refuse_other<R: Files>(rt: &R, place: &Place, file: &R::File) -> Result<(), FileError> {
+    if let Place::Staged { path, .. } = place
+        && !stands_at(rt, path.as_str(), &file.metadata()?)?
+    {
+        return Err(FileError::NotRegular);
+    }
+    Ok(())
+}
+
 // Reads a file once.
 fn read_once<R: Files>(rt: &R, alloc: Global, place: &Place) -> Result<Reading, FileError>
     ensures { IfOk result (λ r. FitsLoad r.bytes) }
 {
     let path = place.path();
     match File::open(rt, path) {
-        Ok(file) => read_found(rt, alloc, path, file),
+        Ok(file) => {
+            refuse_other(rt, place, &file)?;
+            read_found(rt, alloc, path, file)
+        }
         Err(error) if says_absent(rt, place, &error) => Ok(Reading {
             bytes: None,
             is_steady: true,
