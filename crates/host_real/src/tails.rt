@@ -2,7 +2,7 @@
 ghost use Rattle.std.specs.Prelude.{◌≤◌, length, IfOk};
 
 use crate::files::{create_private, give_as, rename_file};
-use crate::kinds::{look, refuse_kind, stands_at};
+use crate::kinds::{look, refuse_kind, stands_at, user};
 use crate::locks::{Marks, is_as_locked, locker_of};
 use crate::paths::beside_name;
 use crate::reasons::FileError;
@@ -11,11 +11,13 @@ use std::fs::{File, Files, OpenOptions};
 use std::io::{Error, ErrorKind, Read, Seek, SeekFrom, Write, copy};
 use std::os::unix::fs::MetadataExt;
 
-/// An open file that is to be extended, and whether that is done in it: its user may write it, and it has one name.
+/// An open file that is to be extended; whether that is done in it: its user may write it, and it has one name; and
+/// whether it is another user's, to whom the system's administrator delivers.
 #[derive(Drop)]
 struct Opened {
     file: File,
     in_place: bool,
+    is_anothers: bool,
 }
 
 // Opens what stands at a path for an extension.
@@ -34,11 +36,13 @@ fn open_standing<R: Files<File = File>>(rt: &R, path: &str) -> Result<Opened, Fi
             Ok(Opened {
                 file,
                 in_place: found.nlink() == 1,
+                is_anothers: user() == 0 && found.uid() != 0,
             })
         }
         Err(error) if error.kind() == ErrorKind::PermissionDenied => Ok(Opened {
             file: File::open(rt, path)?,
             in_place: false,
+            is_anothers: false,
         }),
         Err(error) => Err(FileError::from(error)),
     }
@@ -148,7 +152,36 @@ fn replace_by_copy<R: Files<File = File>>(
     }
 }
 
-/// Gives a locked file another tail. Its name has reached the device with that of its lock.
+// Whether a file of this length ends with a tail.
+fn ends_with(alloc: Global, file: &mut File, length: u64, tail: &[u8]) -> Result<bool, FileError> {
+    let Some(start) = length.checked_sub(tail.len() as u64) else {
+        return Ok(false);
+    };
+    let mut end = Vec::new(alloc);
+    file.seek(SeekFrom::Start(start))?;
+    file.take(tail.len() as u64).read_to_end(&mut end)?;
+    Ok(end.as_slice() == tail)
+}
+
+// Puts a tail behind all that stands in a file, unless it stands there. That is one step, so it can be made again.
+fn put_behind<R: Files<File = File>>(
+    rt: &R,
+    alloc: Global,
+    path: &str,
+    digits: &str,
+    file: &mut File,
+    tail: &[u8],
+) -> Result<(), FileError> {
+    let length = file.metadata()?.len();
+    if ends_with(alloc, file, length, tail)? {
+        return Ok(file.sync_all()?);
+    }
+    let beside = beside_name(alloc, path, digits)?;
+    replace_by_copy(rt, path, beside.as_str(), file, length, tail)
+}
+
+/// Gives a locked file another tail. Its name has reached the device with that of its lock. If its user has changed it
+/// under the administrator's lock, the tail goes behind what stands there, since a fault would hold up all others.
 pub fn extend<R: Files<File = File>>(
     rt: &R,
     alloc: Global,
@@ -159,8 +192,17 @@ pub fn extend<R: Files<File = File>>(
 ) -> Result<(), FileError> {
     let digits = locker_of(rt, alloc, path)?;
     let as_locked = is_as_locked(rt, alloc, marks, path, digits.as_str())?;
-    let Opened { mut file, in_place } = open_standing(rt, path)?;
-    let front = begun(alloc, &mut file, at, tail, as_locked)?;
+    let Opened {
+        mut file,
+        in_place,
+        is_anothers,
+    } = open_standing(rt, path)?;
+    let front = match begun(alloc, &mut file, at, tail, as_locked) {
+        Err(FileError::Changed) if is_anothers => {
+            return put_behind(rt, alloc, path, digits.as_str(), &mut file, tail);
+        }
+        answer => answer?,
+    };
     if in_place || front == tail.len() {
         return Ok(write_rest(&mut file, at, tail, front)?);
     }
