@@ -7,14 +7,14 @@ use Rattle.host_port.specs.declared.event.Part.{Part}
 use Rattle.host_port.specs.declared.event.Part.TheVariants.{Before, After, Bytes, Nothing}
 use Rattle.host_port.specs.declared.event.Seen.{Seen}
 use Rattle.host_port.specs.declared.event.Seen.TheVariants as seen
-use Rattle.host_port.specs.Calls.{FitsLoad, IsTooLarge, load_limit}
+use Rattle.host_port.specs.Calls.{FitsLoad, LoadFits, IsTooLarge, load_limit}
 use Rattle.host_port.specs.Disk.{Disk, reaches}
 use Rattle.host_port.specs.Ends.{is_after, is_owner, is_open}
 use Rattle.host_port.specs.Ran.{Agrees, AllowedBy}
 use Rattle.host_port.proofs.EndLemmas.{carried-agrees, cut-agrees}
 use Rattle.commit_machine.specs.Machine.{Call, ToAsk, ToLoad, ToStage, ToPublish, ToExtend, ToErase, ToLock, ToUnlock, ToSeize, ToRelease}
 use Rattle.commit_machine.specs.Goes.{IsOf, asks, loads, stages, stage_fails, publishes, extends, extend_fails, erases, locks, unlocks, seizes, releases}
-use Rattle.actor_ground.specs.CallEnds.{seen_of, asked, answered, IsFailing, IsShort, IsEnd, IsWithin, CallsEndSo, EndsAreOfCalls}
+use Rattle.actor_ground.specs.CallEnds.{seen_of, asked, answered, IsFailing, IsShort, IsEnd, CallsEndSo, EndsAreOfCalls}
 
 -- a call that may be done or not: the event by whether it was done is what the disk allows, or such a part of it
 allowed-end : (d : Disk) (make : Bool → Bool → Event) (allowed done failed : Bool) → AllowedBy allowed done failed
@@ -40,7 +40,7 @@ long-seen (Some bytes) held m long =
     let y : nat_le (length bytes) load_limit ≡ false = lt-leb _ _ past in
     rw y (ap seen.TooLarge (sym long.0))
 
-load-end : (d : Disk) (n : List ℕ) (s : Seen) → Agrees d (event.Load n s) → IsWithin (event.Load n s) → IsEnd d (ToLoad n) (event.Load n s)
+load-end : (d : Disk) (n : List ℕ) (s : Seen) → Agrees d (event.Load n s) → LoadFits (event.Load n s) → IsEnd d (ToLoad n) (event.Load n s)
 load-end d n (seen.Bytes bytes held) agrees within =
     let fits : FitsLoad (d.files n) = subst FitsLoad agrees.0 within in
     let same : seen.Bytes bytes held ≡ seen.Bytes (d.files n) (is_some (d.locks n)) = cc in
@@ -70,7 +70,7 @@ calls-end-so d (ToSeize n) _ (seizes {got = got} {failed = failed}) agrees withi
 calls-end-so d (ToRelease n) _ releases agrees within = inl refl
 
 -- what a load is answered is so
-seen-agrees : (d : Disk) (n : List ℕ) (file : Option (List ℕ)) → d.files n ≡ file → Agrees d (event.Load n (seen_of file (is_some (d.locks n)))) × IsWithin (event.Load n (seen_of file (is_some (d.locks n))))
+seen-agrees : (d : Disk) (n : List ℕ) (file : Option (List ℕ)) → d.files n ≡ file → Agrees d (event.Load n (seen_of file (is_some (d.locks n)))) × LoadFits (event.Load n (seen_of file (is_some (d.locks n))))
 seen-agrees d n None is = ((sym is, refl), tt)
 seen-agrees d n (Some bytes) is = elim (cases_Bool (nat_le (length bytes) load_limit)) [
   | inl y ↦ (let fits : length bytes ≤ load_limit = leb-true _ _ y in rw y ((sym is, refl), fits))
@@ -93,7 +93,7 @@ of-asked d (ToUnlock n t) = unlocks
 of-asked d (ToSeize n) = seizes
 of-asked d (ToRelease n) = releases
 
-answered-so : (d : Disk) (c : Call) → Agrees d (answered d c) × IsWithin (answered d c)
+answered-so : (d : Disk) (c : Call) → Agrees d (answered d c) × LoadFits (answered d c)
 answered-so d (ToAsk time) = (tt, tt)
 answered-so d (ToLoad n) = seen-agrees d n (d.files n) refl
 answered-so d (ToStage n c) = (tt, tt)
@@ -107,7 +107,7 @@ answered-so d (ToRelease n) = (tt, tt)
 
 -- what is said of an event of a call
 abbrev IsSo : Disk → Call → Event → Type 0
-IsSo d c e = IsOf c e × Agrees d e × IsWithin e
+IsSo d c e = IsOf c e × Agrees d e × LoadFits e
 
 failing-so : (d : Disk) (c : Call) (e : Event) → IsFailing d c e → IsSo d c e
 failing-so d (ToAsk time) e is = absurd is

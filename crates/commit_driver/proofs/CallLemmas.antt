@@ -13,7 +13,7 @@ use Rattle.host_port.specs.declared.host.LoadError.{LoadError}
 use Rattle.host_port.specs.declared.host.LoadError.TheVariants as error
 use Rattle.host_port.specs.Disk.{Disk}
 use Rattle.host_port.specs.Ends.{is_after, is_owner, is_open, cut_short}
-use Rattle.host_port.specs.Calls.{Loaded, Staged, Published, Extended, Erased, Locked, Unlocked, Seized, Released, TimeTold}
+use Rattle.host_port.specs.Calls.{Loaded, LoadCause, Staged, Published, Extended, Erased, Locked, Unlocked, Seized, Released, TimeTold, LoadFits}
 use Rattle.host_port.specs.Ran.{Agrees}
 use Rattle.host_port.specs.Own.{own}
 use Rattle.commit_machine.specs.Machine.{Call, ToAsk, ToLoad, ToStage, ToPublish, ToExtend, ToErase, ToLock, ToUnlock, ToSeize, ToRelease, Reply, Went, Fault}
@@ -24,8 +24,8 @@ use Rattle.commit_driver.specs.Drives.{AnswersSo, Performed}
 abbrev Both : Disk → Event → (List Event → Type 0) → Type 0
 Both d e P = Agrees d e × P (own (e ∷ []))
 
-one : (c : Call) (e : Event) → IsOf c e → Did c (reply e) (e ∷ [])
-one c e of = record { event = e; is = refl; of = of; replies = refl }
+one : (c : Call) (e : Event) → IsOf c e → LoadFits e → Did c (reply e) (e ∷ [])
+one c e of within = record { event = e; is = refl; of = of; replies = refl; within = within }
 
 allowed : (a b : Bool) → (a && b) ≡ true → b ≡ true
 allowed a b h = (and_parts a b h).1
@@ -34,82 +34,82 @@ pub asked : (seconds told : ℤ) → told ≡ seconds → (d : Disk) (e : Event)
 asked seconds told same d e is =
     let P : Event → Type 0 = λ e. Both d e (Did (ToAsk told) (Went true)) in
     let Q : ℤ → Type 0 = λ s. Both d (event.Now s) (Did (ToAsk told) (Went true)) in
-    subst P (sym is) (subst Q same (tt, one (ToAsk told) (event.Now told) asks))
+    subst P (sym is) (subst Q same (tt, one (ToAsk told) (event.Now told) asks tt))
 
-pub loaded : (name : List ℕ) (r : Result LoadAnswer LoadError) (d : Disk) (e : Event) → Loaded name r d e → Both d e (Did (ToLoad name) (load_reply r))
-loaded name (Ok a) d e is =
+pub loaded : (before now : ℕ) (name : List ℕ) (r : Result LoadAnswer LoadError) (d : Disk) (e : Event) → LoadCause before now r → Loaded name r d e → Both d e (Did (ToLoad name) (load_reply r))
+loaded before now name (Ok a) d e cause is =
     let P : Event → Type 0 = λ e. Both d e (Did (ToLoad name) (load_reply (Ok a))) in
-    subst P (sym is.0) ((is.1, is.2), one (ToLoad name) (event.Load name (seen.Bytes a.bytes a.held)) loads)
-loaded name (Err (error.TooLarge n)) d e is =
+    subst P (sym is.0) ((is.1, is.2), one (ToLoad name) (event.Load name (seen.Bytes a.bytes a.held)) loads cause)
+loaded before now name (Err (error.TooLarge n)) d e cause is =
     let P : Event → Type 0 = λ e. Both d e (Did (ToLoad name) (load_reply (Err (error.TooLarge n)))) in
-    subst P (sym is.0) (is.1, one (ToLoad name) (event.Load name (seen.TooLarge n)) loads)
-loaded name (Err error.Failed) d e is =
+    subst P (sym is.0) (is.1, one (ToLoad name) (event.Load name (seen.TooLarge n)) loads tt)
+loaded before now name (Err error.Failed) d e cause is =
     let P : Event → Type 0 = λ e. Both d e (Did (ToLoad name) (load_reply (Err error.Failed))) in
-    subst P (sym is) (tt, one (ToLoad name) (event.Load name seen.Failed) loads)
-loaded name (Err error.Memory) d e is =
+    subst P (sym is) (tt, one (ToLoad name) (event.Load name seen.Failed) loads tt)
+loaded before now name (Err error.Memory) d e cause is =
     let P : Event → Type 0 = λ e. Both d e (Did (ToLoad name) (load_reply (Err error.Memory))) in
-    subst P (sym is) (tt, one (ToLoad name) (event.Load name seen.Memory) loads)
+    subst P (sym is) (tt, one (ToLoad name) (event.Load name seen.Memory) loads tt)
 
 pub staged : (name bytes : List ℕ) (r : Result Unit DiskFault) (d : Disk) (e : Event) → Staged name bytes r d e → Both d e (Did (ToStage name bytes) (done_reply r))
 staged name bytes (Ok u) d e is =
     let P : Event → Type 0 = λ e. Both d e (Did (ToStage name bytes) (Went true)) in
-    subst P (sym is) (tt, one (ToStage name bytes) (event.Stage name (Some bytes) false) stages)
+    subst P (sym is) (tt, one (ToStage name bytes) (event.Stage name (Some bytes) false) stages tt)
 staged name bytes (Err fault) d e is =
     let P : Event → Type 0 = λ e. Both d e (Did (ToStage name bytes) Fault) in
-    subst P (sym is.1) (tt, one (ToStage name bytes) (cut_short d (event.Stage name (Some bytes) false) is.0) stage_fails)
+    subst P (sym is.1) (tt, one (ToStage name bytes) (cut_short d (event.Stage name (Some bytes) false) is.0) stage_fails tt)
 
 pub published : (from to : List ℕ) (r : Result Bool DiskFault) (d : Disk) (e : Event) → Published from to r d e → Both d e (Did (ToPublish from to) (told_reply r))
 published from to (Ok done) d e is =
     let P : Event → Type 0 = λ e. Both d e (Did (ToPublish from to) (Went done)) in
-    subst P (sym is.0) (is.1, one (ToPublish from to) (event.Publish from to done false) publishes)
+    subst P (sym is.0) (is.1, one (ToPublish from to) (event.Publish from to done false) publishes tt)
 published from to (Err fault) d e is =
     let P : Event → Type 0 = λ e. Both d e (Did (ToPublish from to) Fault) in
-    subst P (sym is.1) (allowed (is_after is.0) (is_some (d.files from)), one (ToPublish from to) (cut_short d (event.Publish from to true false) is.0) publishes)
+    subst P (sym is.1) (allowed (is_after is.0) (is_some (d.files from)), one (ToPublish from to) (cut_short d (event.Publish from to true false) is.0) publishes tt)
 
 pub extended : (name : List ℕ) (at : ℕ) (bytes : List ℕ) (r : Result Unit DiskFault) (d : Disk) (e : Event) → Extended name at bytes r d e → Both d e (Did (ToExtend name at bytes) (done_reply r))
 extended name at bytes (Ok u) d e is =
     let P : Event → Type 0 = λ e. Both d e (Did (ToExtend name at bytes) (Went true)) in
-    subst P (sym is.0) ((λ fine. is.1), one (ToExtend name at bytes) (event.Extend name at bytes false) extends)
+    subst P (sym is.0) ((λ fine. is.1), one (ToExtend name at bytes) (event.Extend name at bytes false) extends tt)
 extended name at bytes (Err fault) d e is =
     let P : Event → Type 0 = λ e. Both d e (Did (ToExtend name at bytes) Fault) in
-    subst P (sym is.1) ((λ fine. absurd (cc)), one (ToExtend name at bytes) (cut_short d (event.Extend name at bytes false) is.0) extend_fails)
+    subst P (sym is.1) ((λ fine. absurd (cc)), one (ToExtend name at bytes) (cut_short d (event.Extend name at bytes false) is.0) extend_fails tt)
 
 pub erased : (name : List ℕ) (r : Result Unit DiskFault) (d : Disk) (e : Event) → Erased name r d e → Both d e (Did (ToErase name) (done_reply r))
 erased name (Ok u) d e is =
     let P : Event → Type 0 = λ e. Both d e (Did (ToErase name) (Went true)) in
-    subst P (sym is) (refl, one (ToErase name) (event.Erase name true false) erases)
+    subst P (sym is) (refl, one (ToErase name) (event.Erase name true false) erases tt)
 erased name (Err fault) d e is =
     let P : Event → Type 0 = λ e. Both d e (Did (ToErase name) Fault) in
-    subst P (sym is.1) ((λ h. refl), one (ToErase name) (cut_short d (event.Erase name true false) is.0) erases)
+    subst P (sym is.1) ((λ h. refl), one (ToErase name) (cut_short d (event.Erase name true false) is.0) erases tt)
 
 pub locked : (name : List ℕ) (t : ℕ) (r : Result Bool DiskFault) (d : Disk) (e : Event) → Locked name t r d e → Both d e (Did (ToLock name t) (told_reply r))
 locked name t (Ok got) d e is =
     let P : Event → Type 0 = λ e. Both d e (Did (ToLock name t) (Went got)) in
-    subst P (sym is.0) (is.1, one (ToLock name t) (event.Lock name t got false) locks)
+    subst P (sym is.0) (is.1, one (ToLock name t) (event.Lock name t got false) locks tt)
 locked name t (Err fault) d e is =
     let P : Event → Type 0 = λ e. Both d e (Did (ToLock name t) Fault) in
-    subst P (sym is.1) (allowed (is_after is.0) (is_none (d.locks name)), one (ToLock name t) (cut_short d (event.Lock name t true false) is.0) locks)
+    subst P (sym is.1) (allowed (is_after is.0) (is_none (d.locks name)), one (ToLock name t) (cut_short d (event.Lock name t true false) is.0) locks tt)
 
 pub unlocked : (name : List ℕ) (t : ℕ) (r : Result Unit DiskFault) (d : Disk) (e : Event) → Unlocked name t r d e → Both d e (DidUnlock name t r)
 unlocked name t (Ok u) d e is =
     let P : Event → Type 0 = λ e. Both d e (DidUnlock name t (Ok u)) in
-    subst P (sym is) (refl, (is_owner t (d.locks name), one (ToUnlock name t) (event.Unlock name t (is_owner t (d.locks name)) false) unlocks))
+    subst P (sym is) (refl, (is_owner t (d.locks name), one (ToUnlock name t) (event.Unlock name t (is_owner t (d.locks name)) false) unlocks tt))
 unlocked name t (Err fault) d e is =
     let P : Event → Type 0 = λ e. Both d e (Did (ToUnlock name t) Fault) in
-    subst P (sym is.1) (allowed (is_after is.0) (is_owner t (d.locks name)), one (ToUnlock name t) (cut_short d (event.Unlock name t true false) is.0) unlocks)
+    subst P (sym is.1) (allowed (is_after is.0) (is_owner t (d.locks name)), one (ToUnlock name t) (cut_short d (event.Unlock name t true false) is.0) unlocks tt)
 
 pub seized : (name : List ℕ) (r : Result Bool DiskFault) (d : Disk) (e : Event) → Seized name r d e → Both d e (Did (ToSeize name) (told_reply r))
 seized name (Ok got) d e is =
     let P : Event → Type 0 = λ e. Both d e (Did (ToSeize name) (Went got)) in
-    subst P (sym is.0) (is.1, one (ToSeize name) (event.Seize name got false) seizes)
+    subst P (sym is.0) (is.1, one (ToSeize name) (event.Seize name got false) seizes tt)
 seized name (Err fault) d e is =
     let P : Event → Type 0 = λ e. Both d e (Did (ToSeize name) Fault) in
-    subst P (sym is.1) (allowed (is_after is.0) (is_open (d.rights name)), one (ToSeize name) (cut_short d (event.Seize name true false) is.0) seizes)
+    subst P (sym is.1) (allowed (is_after is.0) (is_open (d.rights name)), one (ToSeize name) (cut_short d (event.Seize name true false) is.0) seizes tt)
 
 pub released : (name : List ℕ) (d : Disk) (e : Event) → Released name d e → Both d e (Did (ToRelease name) (Went true))
 released name d e is =
     let P : Event → Type 0 = λ e. Both d e (Did (ToRelease name) (Went true)) in
-    subst P (sym is) (tt, one (ToRelease name) (event.Release name) releases)
+    subst P (sym is) (tt, one (ToRelease name) (event.Release name) releases tt)
 
 -- a call that is answered as its event has it
 answers-self : (c : Call) (r : Reply) → AnswersSo c r r

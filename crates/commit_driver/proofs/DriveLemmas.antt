@@ -27,10 +27,11 @@ use Rattle.commit_driver.specs.declared.answers.Reply.{Reply as Answer_of}
 use Rattle.commit_driver.specs.declared.answers.Reply.TheVariants as answer
 use Rattle.commit_driver.specs.declared.place.Plan.{Plan}
 use Rattle.commit_driver.specs.declared.place.Place.{Place}
-use Rattle.commit_driver.specs.Did.{Did}
+use Rattle.commit_driver.specs.Did.{Did, LoadsFit}
 use Rattle.commit_driver.specs.Steps.{call_at, EndFits, Fits}
 use Rattle.commit_driver.specs.Places.{files_of, entries_of, call_in, end_as, begun, state_as, IsPlan, IsPlace, StandsFor, NextOf}
 use Rattle.commit_driver.specs.Answers.{reply_as, is_long, is_settled, EndCaused, ThenCaused, Caused, ReplyCaused, IsAfter}
+use Rattle.commit_driver.proofs.WithinLemmas.{fits-none, fits-did, fits-both}
 use Rattle.commit_driver.specs.Drives.{AnswersSo, Performed, IsFor, is_past_limit, Drives}
 
 -- memory runs out in place of the next call
@@ -132,6 +133,7 @@ pub record Reached (j : Job) (place : Place) (es : List Event) : Type 0 where
   pub stands : StandsFor j place state
   pub goes : Goes j Looking es state
   pub within : is_settled place.step ≡ false → list_any is_past_limit es ≡ false
+  pub fit : LoadsFit es
 
 pub begin : (j : Job) (files : List (Option (List ℕ))) → Reached j (begun files) []
 begin j files = record {
@@ -139,6 +141,7 @@ begin j files = record {
   stands = record { hidden = NoMemory; wanted = inl refl; made = []; holds = tt; is = refl };
   goes = inl refl;
   within = λ e. refl;
+  fit = fits-none;
 }
 
 module _ (j : Job) (plan : Plan) (old now : Place) (call : Call) (r : Answer_of) (changes : List Change) (base : List (List ℕ)) (p : IsPlan j plan) (for_it : IsFor j changes base) (q : IsPlace plan old) (next_is : NextOf plan old (Some call)) (after : IsAfter plan r changes base old now) where
@@ -164,6 +167,7 @@ module _ (j : Job) (plan : Plan) (old now : Place) (call : Call) (r : Answer_of)
             ∙ sym (same-long c (reply_as r) done.reply done.same)
             ∙ long-as r
             ∙ u.1;
+        fit = fits-both front more a.fit (fits-did c done.reply more done.did);
       }
 
 -- a step without a call is the end
@@ -198,6 +202,7 @@ finished j place e es is r =
       hidden = st.hidden;
       wanted = st.wanted;
       within = λ unsettled. r.within (ap is_settled is ∙ unsettled);
+      fit = r.fit;
       goes = subst (λ (z : State). Goes j Looking es z) (sym to) r.goes;
     }
 

@@ -1,4 +1,5 @@
 pub mod CallLemmas
+pub mod WithinLemmas
 pub mod StateLemmas
 pub mod WayLemmas
 pub mod NextLemmas

@@ -9,6 +9,7 @@ use Rattle.commit_machine.specs.Machine.{State, Seizing, Ended, asking}
 use Rattle.commit_machine.specs.Goes.{Goes}
 use Rattle.commit_driver.specs.declared.beginning.Begun.{Begun}
 use Rattle.commit_driver.specs.declared.beginning.Begun.TheVariants as begun
+use Rattle.commit_driver.specs.Did.{LoadsFit}
 use Rattle.commit_driver.specs.Drives.{is_past_limit}
 
 -- the state of a job whose right was wanted so
@@ -17,9 +18,10 @@ state_begun j begun.Taken = asking j.time
 state_begun j begun.Busy = Ended (Refused (Busy (right_name j.actor)))
 state_begun j begun.Failed = Ended (Failed Before)
 
--- the events carry the machine of the job from its start to there, and no load among them met too many bytes
+-- the events carry the machine of the job from its start to there, and no load among them met too many bytes or saw a file past the limit
 pub record Begins (j : Job) (result : Begun) (es : List Event) : Type 0 where
   pub within : list_any is_past_limit es ≡ false
+  pub fit : LoadsFit es
   pub goes : Goes j Seizing es (state_begun j result)
 
 -- a fault is told only if the count of disk faults rose

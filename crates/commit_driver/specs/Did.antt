@@ -7,15 +7,22 @@ use Rattle.host_port.specs.declared.event.LoadAnswer.{LoadAnswer}
 use Rattle.host_port.specs.declared.host.DiskFault.{DiskFault}
 use Rattle.host_port.specs.declared.host.LoadError.{LoadError}
 use Rattle.host_port.specs.declared.host.LoadError.TheVariants as error
+use Rattle.host_port.specs.Calls.{LoadFits}
+use Rattle.commit_machine.specs.Settled.{Mem}
 use Rattle.commit_machine.specs.Machine.{Call, ToUnlock, Reply, Went, Saw, Long, Short, Fault}
 use Rattle.commit_machine.specs.Goes.{IsOf, reply}
 
--- the own events of one call: one event, which is of the call and answers so
+-- no load among the events saw a file past the limit
+abbrev pub LoadsFit : List Event → Type 0
+LoadsFit es = (e : Event) → Mem e es → LoadFits e
+
+-- the own events of one call: one event, which is of the call, answers so, and is no load of a file past the limit
 pub record Did (c : Call) (r : Reply) (es : List Event) : Type 0 where
   pub event : Event
   pub is : es ≡ event ∷ []
   pub of : IsOf c event
   pub replies : reply event ≡ r
+  pub within : LoadFits event
 
 -- what a call answers that may answer false
 abbrev pub told_reply : Result Bool DiskFault → Reply

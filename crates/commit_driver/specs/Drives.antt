@@ -10,7 +10,7 @@ use Rattle.commit_machine.specs.Jobs.{Ending, Job, all_of}
 use Rattle.commit_machine.specs.Machine.{Looking, Ended, Call, ToUnlock, Reply, Went}
 use Rattle.commit_machine.specs.Goes.{Goes}
 use Rattle.commit_driver.specs.declared.step.End.{End}
-use Rattle.commit_driver.specs.Did.{Did}
+use Rattle.commit_driver.specs.Did.{Did, LoadsFit}
 use Rattle.commit_driver.specs.Places.{end_as, WantedAs}
 use Rattle.commit_driver.specs.Answers.{IsCommitOf, settled_end}
 
@@ -35,9 +35,10 @@ is_past_limit (Load name (seen.TooLarge length)) = true
 is_past_limit e = false
 
 -- The events carry the machine of the job from where its right was taken to this end, if this record was found. Running out of memory
--- hides no load that met too many bytes.
+-- hides no load that met too many bytes, and no load saw a file past the limit.
 pub record Drives (j : Job) (found : Record) (es : List Event) (result : End) : Type 0 where
   pub hidden : Ending
   pub wanted : WantedAs (all_of j) hidden
   pub within : settled_end result ≡ false → list_any is_past_limit es ≡ false
+  pub fit : LoadsFit es
   pub goes : Goes j Looking es (Ended (end_as j hidden found result))

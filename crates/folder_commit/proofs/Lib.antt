@@ -9,3 +9,4 @@ pub mod ToldLemmas
 pub mod TellLemmas
 pub mod BusyLemmas
 pub mod WalkLemmas
+pub mod StepLemmas

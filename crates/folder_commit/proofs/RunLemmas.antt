@@ -29,7 +29,9 @@ use Rattle.commit_driver.specs.Answers.{EndCaused}
 use Rattle.commit_driver.specs.declared.beginning.Begun.TheVariants as begun
 use Rattle.commit_driver.specs.Beginnings.{Begins}
 use Rattle.commit_driver.specs.Drives.{is_past_limit}
-use Rattle.commit_driver.proofs.BeginLemmas.{Driven}
+use Rattle.commit_driver.specs.Did.{LoadsFit}
+use Rattle.commit_driver.proofs.WithinLemmas.{fits-none}
+use Rattle.commit_driver.proofs.BeginLemmas.{AreFine, Driven}
 use Rattle.folder_commit.specs.declared.error.CommitError.{CommitError}
 use Rattle.folder_commit.specs.declared.error.CommitError.TheVariants as error
 use Rattle.folder_commit.specs.Ends.{AnswersAs, AnswersWithin, Commits, CommitCause, AreNamed}
@@ -46,7 +48,7 @@ any_time = first_moment
 
 -- memory was wanting before the right was taken
 not-begun : (j : Job) → Commits j [] (Err error.Memory)
-not-begun j = record { end = NoMemory; is_as = inl refl; within = refl; goes = inr refl }
+not-begun j = record { end = NoMemory; is_as = inl refl; within = refl; fit = fits-none; goes = inr refl }
 
 pub no-memory : (actor : List ℕ) (token : ℕ) (cs : List Change) (base : List (List ℕ)) → 1 ≤ length cs → IsCommit actor token cs base [] (Err error.Memory)
 no-memory actor token [] base some = absurd (omega (arith, some))
@@ -91,22 +93,23 @@ module _ (actor : List ℕ) (token : ℕ) (time : ℤ) (cs : List Change) (base 
   staged-is place k staged l = ap (λ (ns : List (List ℕ)). nth ns k) staged ∙ nth-of (staged_name place.found.token) (names_of place.found) k (omega (arith, l, names-long place.found))
 
   commits : (place : Place) (e : End) (es : List Event) → place.found_staged ≡ map (staged_name place.found.token) (names_of place.found) → EndFits (length plan.value.entries) (length place.found.entries) e → Driven job place.found es e → Commits job es (answer_of e plan place)
-  commits place end.Done es staged fits d = record { end = jobs.Done; is_as = refl; within = tt; goes = d.goes }
-  commits place (end.Busy k) es staged fits d = record { end = Refused (jobs.Busy (nth (all_of job) k)); is_as = ap (λ (ns : List (List ℕ)). Refused (jobs.Busy (nth ns k))) same-names; within = tt; goes = d.goes }
-  commits place end.NotARecord es staged fits d = record { end = Refused jobs.NotARecord; is_as = refl; within = tt; goes = d.goes }
-  commits place (end.RecordTooLarge n) es staged fits d = record { end = Refused (jobs.TooLarge (record_name actor) n); is_as = refl; within = tt; goes = d.goes }
+  commits place end.Done es staged fits d = record { end = jobs.Done; is_as = refl; within = tt; fit = d.fit; goes = d.goes }
+  commits place (end.Busy k) es staged fits d = record { end = Refused (jobs.Busy (nth (all_of job) k)); is_as = ap (λ (ns : List (List ℕ)). Refused (jobs.Busy (nth ns k))) same-names; within = tt; fit = d.fit; goes = d.goes }
+  commits place end.NotARecord es staged fits d = record { end = Refused jobs.NotARecord; is_as = refl; within = tt; fit = d.fit; goes = d.goes }
+  commits place (end.RecordTooLarge n) es staged fits d = record { end = Refused (jobs.TooLarge (record_name actor) n); is_as = refl; within = tt; fit = d.fit; goes = d.goes }
   commits place (end.StagedTooLarge k n) es staged fits d = record {
     end = Refused (jobs.TooLarge (staged_name place.found.token (nth (names_of place.found) k)) n);
     is_as = ap (λ (m : List ℕ). Refused (jobs.TooLarge m n)) (sym (staged-is place k staged fits));
     within = tt;
+    fit = d.fit;
     goes = d.goes;
   }
-  commits place (end.TooLarge k n) es staged fits d = record { end = Refused (jobs.TooLarge (nth (all_of job) k) n); is_as = ap (λ (ns : List (List ℕ)). Refused (jobs.TooLarge (nth ns k) n)) same-names; within = tt; goes = d.goes }
-  commits place (end.Changed k m) es staged fits d = record { end = Refused (jobs.Changed (nth (all_of job) k) m); is_as = ap (λ (ns : List (List ℕ)). Refused (jobs.Changed (nth ns k) m)) same-names; within = tt; goes = d.goes }
-  commits place (end.Failed passed.Before) es staged fits d = record { end = Failed jobs.Before; is_as = refl; within = tt; goes = d.goes }
-  commits place (end.Failed passed.After) es staged fits d = record { end = Failed jobs.After; is_as = refl; within = tt; goes = d.goes }
-  commits place (end.Failed passed.Unknown) es staged fits d = record { end = Failed jobs.Unknown; is_as = refl; within = tt; goes = d.goes }
-  commits place end.NoMemory es staged fits d = record { end = d.hidden; is_as = d.wanted; within = d.within refl; goes = d.goes }
+  commits place (end.TooLarge k n) es staged fits d = record { end = Refused (jobs.TooLarge (nth (all_of job) k) n); is_as = ap (λ (ns : List (List ℕ)). Refused (jobs.TooLarge (nth ns k) n)) same-names; within = tt; fit = d.fit; goes = d.goes }
+  commits place (end.Changed k m) es staged fits d = record { end = Refused (jobs.Changed (nth (all_of job) k) m); is_as = ap (λ (ns : List (List ℕ)). Refused (jobs.Changed (nth ns k) m)) same-names; within = tt; fit = d.fit; goes = d.goes }
+  commits place (end.Failed passed.Before) es staged fits d = record { end = Failed jobs.Before; is_as = refl; within = tt; fit = d.fit; goes = d.goes }
+  commits place (end.Failed passed.After) es staged fits d = record { end = Failed jobs.After; is_as = refl; within = tt; fit = d.fit; goes = d.goes }
+  commits place (end.Failed passed.Unknown) es staged fits d = record { end = Failed jobs.Unknown; is_as = refl; within = tt; fit = d.fit; goes = d.goes }
+  commits place end.NoMemory es staged fits d = record { end = d.hidden; is_as = d.wanted; within = d.within refl; fit = d.fit; goes = d.goes }
   commits place (end.Recovered f) es staged fits d = absurd (no-recovery actor token time (edits_for cs base) job.refusal es _ d.goes)
 
   caused : (place : Place) (e : End) (old now : Counts) → EndCaused old.disks now.disks e → CommitCause old now (answer_of e plan place)
@@ -147,24 +150,24 @@ is-named actor token time (c ∷ cs) place e some staged f = named actor token t
 
 -- a commit that didn't come to be driven: it ended so, and no load of it met too many bytes
 pub ended-early : (actor : List ℕ) (token : ℕ) (time : ℤ) (cs : List Change) (base : List (List ℕ)) (es : List Event) (end : Ending) (result : Result Unit CommitError) → 1 ≤ length cs → length (first_names cs) ≤ file_limit
-    → AnswersAs (all_of (timed_for actor token time cs base)) result end → AnswersWithin es result → Goes (timed_for actor token time cs base) Seizing es (Ended end) → IsCommit actor token cs base es result
-ended-early actor token time [] base es end result some few so within goes = absurd (omega (arith, some))
-ended-early actor token time (c ∷ cs) base es end result some few so within goes = inr (few, (time, record { end = end; is_as = so; within = within; goes = goes }))
+    → AnswersAs (all_of (timed_for actor token time cs base)) result end → AnswersWithin es result → LoadsFit es → Goes (timed_for actor token time cs base) Seizing es (Ended end) → IsCommit actor token cs base es result
+ended-early actor token time [] base es end result some few so within fit goes = absurd (omega (arith, some))
+ended-early actor token time (c ∷ cs) base es end result some few so within fit goes = inr (few, (time, record { end = end; is_as = so; within = within; fit = fit; goes = goes }))
 
 -- another had the right
 pub kept-out : (actor : List ℕ) (token : ℕ) (cs : List Change) (base : List (List ℕ)) (name : List ℕ) (es : List Event) → 1 ≤ length cs → length (first_names cs) ≤ file_limit → name ≡ right_name actor
     → Begins (timed_for actor token any_time cs base) begun.Busy es → IsCommit actor token cs base es (Err (error.Busy name))
-kept-out actor token cs base name es some few is b = ended-early actor token any_time cs base es (Refused (jobs.Busy (right_name actor))) (Err (error.Busy name)) some few (ap (λ (n : List ℕ). Refused (jobs.Busy n)) (sym is)) tt b.goes
+kept-out actor token cs base name es some few is b = ended-early actor token any_time cs base es (Refused (jobs.Busy (right_name actor))) (Err (error.Busy name)) some few (ap (λ (n : List ℕ). Refused (jobs.Busy n)) (sym is)) tt b.fit b.goes
 
 -- its seizure failed
 pub not-seized : (actor : List ℕ) (token : ℕ) (cs : List Change) (base : List (List ℕ)) (es : List Event) → 1 ≤ length cs → length (first_names cs) ≤ file_limit
     → Begins (timed_for actor token any_time cs base) begun.Failed es → IsCommit actor token cs base es (Err (error.Disk passed.Before))
-not-seized actor token cs base es some few b = ended-early actor token any_time cs base es (Failed jobs.Before) (Err (error.Disk passed.Before)) some few refl tt b.goes
+not-seized actor token cs base es some few b = ended-early actor token any_time cs base es (Failed jobs.Before) (Err (error.Disk passed.Before)) some few refl tt b.fit b.goes
 
 -- memory ran out once it was told the time
 pub not-dated : (actor : List ℕ) (token : ℕ) (time : ℤ) (cs : List Change) (base : List (List ℕ)) (es : List Event) → 1 ≤ length cs → length (first_names cs) ≤ file_limit
-    → (list_any is_past_limit es ≡ false) × Goes (timed_for actor token time cs base) Seizing es (Ended NoMemory) → IsCommit actor token cs base es (Err error.Memory)
-not-dated actor token time cs base es some few w = ended-early actor token time cs base es NoMemory (Err error.Memory) some few (inl refl) w.0 w.1
+    → AreFine es × Goes (timed_for actor token time cs base) Seizing es (Ended NoMemory) → IsCommit actor token cs base es (Err error.Memory)
+not-dated actor token time cs base es some few w = ended-early actor token time cs base es NoMemory (Err error.Memory) some few (inl refl) w.0.0 w.0.1 w.1
 
 pub busy-named : (actor : List ℕ) (cs : List Change) (name : List ℕ) → 1 ≤ length cs → name ≡ right_name actor → IsNamed actor cs (Err (error.Busy name))
 busy-named actor [] name some is = absurd (omega (arith, some))

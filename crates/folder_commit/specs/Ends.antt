@@ -14,6 +14,7 @@ use Rattle.commit_machine.specs.Goes.{Goes}
 use Rattle.commit_driver.specs.declared.step.Passed.{Passed}
 use Rattle.commit_driver.specs.declared.step.Passed.TheVariants.{Before, After, Unknown}
 use Rattle.commit_driver.specs.Places.{WantedAs}
+use Rattle.commit_driver.specs.Did.{LoadsFit}
 use Rattle.commit_driver.specs.Drives.{is_past_limit}
 use Rattle.folder_commit.specs.declared.error.CommitError.{CommitError}
 use Rattle.folder_commit.specs.declared.error.CommitError.TheVariants as error
@@ -40,11 +41,12 @@ abbrev pub AnswersWithin : List Event → Result Unit CommitError → Type 0
 AnswersWithin es (Err error.Memory) = list_any is_past_limit es ≡ false
 AnswersWithin es result = Unit {0}
 
--- The events carry the machine of a job from its start to its end, as the answer says.
+-- The events carry the machine of a job from its start to its end, as the answer says, and no load saw a file past the limit.
 pub record Commits (j : Job) (es : List Event) (result : Result Unit CommitError) : Type 0 where
   pub end : Ending
   pub is_as : AnswersAs (all_of j) result end
   pub within : AnswersWithin es result
+  pub fit : LoadsFit es
   pub goes : Goes j Seizing es (Ended end)
 
 -- the disk is told only if its count rose, and too many bytes only past the limit

@@ -1,4 +1,4 @@
-pub mod Names
+pub use Rattle.core_steps.specs.Names
 pub mod Ends
 pub mod Plans
 pub mod Commits

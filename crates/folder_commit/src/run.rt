@@ -9,6 +9,7 @@ ghost use Rattle.commit_machine.specs.Names.{actor_limit};
 ghost use Rattle.commit_machine.specs.Records.{names_of};
 ghost use Rattle.commit_driver.specs.Steps.{EndFits};
 ghost use Rattle.commit_driver.specs.Places.{nth, files_of};
+ghost use Rattle.core_steps.specs.Commits.{IsActorOf};
 ghost use Rattle.folder_recovery.specs.Safe.{WhereTold};
 ghost use Rattle.folder_commit.specs.Ends.{CommitCause};
 ghost use Rattle.folder_commit.specs.Plans.{AreFiles};
@@ -189,6 +190,8 @@ pub fn commit<H: Host>(
     ensures complete { WhereTold H.world host.old host.new (λ d es. MayCommit actor.now token d es
         → IsComplete actor.now changes.now (base_list (option_copied base.entry)) (own es)
         (H.world.counts host.old) (H.world.counts host.new) result) }
+    ensures steps { WhereTold H.world host.old host.new
+        (λ d es. IsActorOf actor.now token changes.now (base_list (option_copied base.entry)) d es) }
     ensures cause { CommitCause (H.world.counts host.old) (H.world.counts host.new) result }
     ensures named { IsNamed actor.now changes.now result }
 {

@@ -4,6 +4,7 @@ ghost use Rattle.host_port.specs.Names.{has_no_zero};
 ghost use Rattle.host_port.specs.Ran.{Ran};
 ghost use Rattle.commit_machine.specs.Names.{actor_limit};
 ghost use Rattle.commit_machine.specs.Edits.{recovery_for};
+ghost use Rattle.commit_driver.specs.Did.{LoadsFit};
 ghost use Rattle.commit_driver.specs.Steps.{EndFits};
 ghost use Rattle.commit_driver.specs.Places.{nth};
 ghost use Rattle.folder_recovery.specs.Told.{IsTold};
@@ -78,6 +79,7 @@ fn run<H: Host>(alloc: Global, actor: &[u8], host: &mut H) -> Result<Recovered, 
     requires no_zero { has_no_zero actor.now ≡ true }
     ensures ran { (token : ℕ)
         → Ran H.world host.old host.new (λ es. Recovers (recovery_for actor.now token) es result) }
+    ensures within { Ran H.world host.old host.new LoadsFit }
     ensures named { IsNamed actor.now result }
     ensures cause { RecoverCause (H.world.counts host.old) (H.world.counts host.new) result }
 {
@@ -109,6 +111,7 @@ pub fn recover<H: Host>(
     requires no_zero { has_no_zero actor.now ≡ true }
     ensures ran { (token : ℕ)
         → Ran H.world host.old host.new (λ es. Recovers (recovery_for actor.now token) es result) }
+    ensures within { Ran H.world host.old host.new LoadsFit }
     ensures told { Ran H.world host.old host.new (λ es. IsTold actor.now es result) }
     ensures safe { (token : ℕ) → WhereTold H.world host.old host.new
         (λ d es. MayRecover actor.now token d es → RecoversSafely actor.now token d es result) }

@@ -75,6 +75,11 @@ abbrev pub FitsLoad : Option (List ℕ) → Type 0
 FitsLoad None = Unit {0}
 FitsLoad (Some bytes) = length bytes ≤ load_limit
 
+-- a load that saw a file saw none past the limit
+abbrev pub LoadFits : Event → Type 0
+LoadFits (Load n (seen.Bytes bytes held)) = FitsLoad bytes
+LoadFits e = Unit {0}
+
 -- a file of a name stands, and its length is past the limit
 abbrev pub IsTooLarge : Option (List ℕ) → ℕ → Type 0
 IsTooLarge None n = ⊥

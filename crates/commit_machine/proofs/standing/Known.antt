@@ -137,14 +137,21 @@ pub record KeepsToken (u : ℕ) (d d' : Disk) : Type 0 where
   pub free : (m : List ℕ) → d.locks m ≢ Some u → d'.locks m ≢ Some u
   pub file : (m : List ℕ) → d.locks m ≡ Some u → d'.files m ≡ d.files m
 
+-- What a change by others leaves of a record: what is staged for it, its locks, and the files that it names and that are locked for it.
+pub record KeepsRecord (r : Record) (d d' : Disk) : Type 0 where
+  pub staged : (m : List ℕ) → d'.files (staged_name r.token m) ≡ d.files (staged_name r.token m)
+  pub lock : (m : List ℕ) → d.locks m ≡ Some r.token → d'.locks m ≡ Some r.token
+  pub free : (m : List ℕ) → d.locks m ≢ Some r.token → d'.locks m ≢ Some r.token
+  pub file : (m : List ℕ) → Mem m (names_of r) → d.locks m ≡ Some r.token → d'.files m ≡ d.files m
+
 -- A change by others keeps the right, and what is of the run's token. While the run has the right it keeps the record
--- names and what is of the token of the record that stands.
+-- names and what is of the record that stands.
 pub record Keeps (actor : List ℕ) (t : ℕ) (d d' : Disk) : Type 0 where
   pub right : HasRight actor d → HasRight actor d'
   pub own : KeepsToken t d d'
   pub fresh : (r : Record) → (standing actor d ≡ Some r → r.token ≢ t) → standing actor d' ≡ Some r → r.token ≢ t
   pub records : (n : List ℕ) → HasRight actor d → is_record_name actor n ≡ true → d'.files n ≡ d.files n
-  pub found : (r : Record) → HasRight actor d → standing actor d ≡ Some r → KeepsToken r.token d d'
+  pub found : (r : Record) → HasRight actor d → standing actor d ≡ Some r → KeepsRecord r d d'
 
 abbrev pub Knows : Job → State → Disk → Type 0
 Knows j Seizing d = IsFresh j.actor j.token d

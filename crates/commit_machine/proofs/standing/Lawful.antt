@@ -10,7 +10,7 @@ use Rattle.host_port.specs.Disk.{Disk, with_at, after_step, locked, unlocked, ta
 use Rattle.commit_machine.specs.Names.{record_name, right_name, staged_name, is_record_name}
 use Rattle.commit_machine.specs.Records.{record_in}
 use Rattle.commit_machine.specs.Lawful.{standing, HasRight, IsGuarded, IsLawful, IsLawfulWrite}
-use Rattle.commit_machine.proofs.standing.Known.{Keeps, KeepsToken}
+use Rattle.commit_machine.proofs.standing.Known.{Keeps, KeepsRecord, KeepsToken}
 use Rattle.commit_machine.proofs.records.Same.{same_refl, same_or_not, put_here, put_there}
 
 held_here : (rights : List ℕ → Option Holder) (n m : List ℕ) (v : Option Holder) → rights m ≡ Some Own → (rights n ≡ Some Own → v ≡ Some Own) → with_at rights n v m ≡ Some Own
@@ -129,11 +129,19 @@ module _ (actor : List ℕ) (t : ℕ) (d : Disk) where
     file = λ m h. keeps_file f u m law g h;
   }
 
+  keeps_found : (f : ForeignStep) (r : Record) → IsLawful actor t d f → IsGuarded actor t d r.token → KeepsRecord r d (after_step d f)
+  keeps_found f r law g = record {
+    staged = λ m. keeps_staged f r.token m law g;
+    lock = λ m h. keeps_lock f r.token m law g h;
+    free = λ m h. keeps_free f r.token m law g h;
+    file = λ m mem h. keeps_file f r.token m law g h;
+  }
+
   pub lawful_keeps : (f : ForeignStep) → IsLawful actor t d f → Keeps actor t d (after_step d f)
   lawful_keeps f law = record {
     right = λ h. keeps_right actor d f h;
     own = keeps_token f t law (inl refl);
     fresh = λ r h e. keeps_fresh f r law h e;
     records = λ n right rec. keeps_record f n law right rec;
-    found = λ r right e. keeps_token f r.token law (inr (r, e, refl));
+    found = λ r right e. keeps_found f r law (inr (r, e, refl));
   }

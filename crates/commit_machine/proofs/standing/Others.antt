@@ -1,17 +1,17 @@
 -- A change by others keeps what the run knows at each state.
-use Rattle.std.proofs.Common.{◌≡◌, ℕ, true, List, [], ◌∷◌, Option, Some, None, ap, sym, inl, inr, ◌∙◌}
+use Rattle.std.proofs.Common.{◌≡◌, ℕ, true, List, [], ◌∷◌, Option, Some, None, refl, ap, sym, inl, inr, ◌∙◌}
 use Rattle.commit_record.specs.Format.{written}
 use Rattle.commit_record.specs.declared.record.Record.{Record}
 use Rattle.host_port.specs.Disk.{Disk}
 use Rattle.commit_machine.specs.Names.{record_name, new_name, staged_name, is_record_name}
-use Rattle.commit_machine.specs.Records.{record_in}
+use Rattle.commit_machine.specs.Records.{record_in, names_of}
 use Rattle.commit_machine.specs.Settled.{Mem, put_in}
 use Rattle.commit_machine.specs.Items.{Item, item_names}
 use Rattle.commit_machine.specs.Jobs.{Ending, Done, Recovered, Refused, Failed, NoMemory, Job, Made, edits_of, all_of, prepare_of}
 use Rattle.commit_machine.specs.Machine.{Then, GoOn, Answer, State, Seizing, Timing, Looking, Undoing, Placing, Testing, Removing, Extending, Discarding, Unlocking, Erasing, Clearing, Preparing, Publishing, Locking, Loading, Staging, Deciding, Committing, Checking, Releasing, Ended}
 use Rattle.commit_machine.specs.Lawful.{standing, HasRight, IsFresh}
 use Rattle.commit_machine.proofs.standing.Decided.{names_Mem}
-use Rattle.commit_machine.proofs.standing.Known.{Closing, Rest, Own, Clean, Idle, ThenOk, AllDone, Over, Ends, IsStaged, AreStaged, PartPlaced, Keeps, KeepsToken, Knows}
+use Rattle.commit_machine.proofs.standing.Known.{Closing, Rest, Own, Clean, Idle, ThenOk, AllDone, Over, Ends, IsStaged, AreStaged, PartPlaced, Keeps, KeepsRecord, Knows}
 use Rattle.commit_machine.proofs.records.Same.{same_refl}
 use Rattle.std.proofs.lemmas.Bool.{or_left, or_right}
 
@@ -28,7 +28,7 @@ module _ (j : Job) (d d' : Disk) (keep : Keeps j.actor j.token d d') where
   new_stays : HasRight j.actor d → d'.files (new_name j.actor) ≡ d.files (new_name j.actor)
   new_stays right = keep.records (new_name j.actor) right new_is
 
-  others_fresh : IsFresh j.actor j.token d → IsFresh j.actor j.token d'
+  pub others_fresh : IsFresh j.actor j.token d → IsFresh j.actor j.token d'
   others_fresh k = record {
     staged = λ m. keep.own.staged m ∙ k.staged m;
     locks = λ m. keep.own.free m (k.locks m);
@@ -37,7 +37,7 @@ module _ (j : Job) (d d' : Disk) (keep : Keeps j.actor j.token d d') where
 
   others_closing : (r : Record) (ns ls : List (List ℕ)) → Closing j.actor r ns ls d → Closing j.actor r ns ls d'
   others_closing r ns ls k =
-      let found : KeepsToken r.token d d' = keep.found r k.right k.stands in
+      let found : KeepsRecord r d d' = keep.found r k.right k.stands in
       record {
         right = keep.right k.right;
         stands = ap record_in (record_stays k.right) ∙ k.stands;
@@ -86,11 +86,11 @@ module _ (j : Job) (d d' : Disk) (keep : Keeps j.actor j.token d d') where
   others_placed r xs ls th k = record { closing = others_closing r (item_names xs) ls k.closing; go = k.go; within = k.within; locks_within = k.locks_within; distinct = k.distinct; ways = k.ways; staged = others_staged r xs th k.closing.right k.closing.stands k.staged }
 
   -- a file that is locked with the record's token stays what it has become
-  others_become : (r : Record) (x : Item) → HasRight j.actor d → standing j.actor d ≡ Some r → d.locks x.name ≡ Some r.token → put_in x.way (d.files x.name) (d.files (staged_name r.token x.name)) ≡ d.files x.name
+  others_become : (r : Record) (x : Item) → Mem x.name (names_of r) → HasRight j.actor d → standing j.actor d ≡ Some r → d.locks x.name ≡ Some r.token → put_in x.way (d.files x.name) (d.files (staged_name r.token x.name)) ≡ d.files x.name
       → put_in x.way (d'.files x.name) (d'.files (staged_name r.token x.name)) ≡ d'.files x.name
-  others_become r x right e lock done =
-      let found : KeepsToken r.token d d' = keep.found r right e in
-      let file : d'.files x.name ≡ d.files x.name = found.file x.name lock in
+  others_become r x mem right e lock done =
+      let found : KeepsRecord r d d' = keep.found r right e in
+      let file : d'.files x.name ≡ d.files x.name = found.file x.name mem lock in
       ap (λ (c : Option (List ℕ)). put_in x.way c (d'.files (staged_name r.token x.name))) file
       ∙ ap (put_in x.way (d.files x.name)) (found.staged x.name)
       ∙ done
@@ -122,7 +122,7 @@ module _ (j : Job) (d d' : Disk) (keep : Keeps j.actor j.token d d') where
   others_knows (Testing r x xs ls) k = (others_placed r (x ∷ xs) ls GoOn k.0, others_fresh k.1, k.2)
   others_knows (Removing r x xs ls th) k = (others_placed r (x ∷ xs) ls th k.0, others_then r th k.1, k.2, others_one r x k.0.closing.right k.0.closing.stands k.3)
   others_knows (Extending r x xs ls th) k = (others_placed r (x ∷ xs) ls th k.0, others_then r th k.1, k.2, others_one r x k.0.closing.right k.0.closing.stands k.3)
-  others_knows (Discarding r x xs ls th) k = (others_placed r (x ∷ xs) ls th k.0, others_then r th k.1, (keep.found r k.0.closing.right k.0.closing.stands).lock x.name k.2, others_become r x k.0.closing.right k.0.closing.stands k.2 k.3)
+  others_knows (Discarding r x xs ls th) k = (others_placed r (x ∷ xs) ls th k.0, others_then r th k.1, (keep.found r k.0.closing.right k.0.closing.stands).lock x.name k.2, others_become r x (k.0.within.each x.name (inl refl)) k.0.closing.right k.0.closing.stands k.2 k.3)
   others_knows (Unlocking r n ns th) k = (others_closing r [] (n ∷ ns) k.0, k.1, others_then r th k.2)
   others_knows (Erasing r th) k = (others_closing r [] [] k.0, others_then r th k.1)
   others_knows (Clearing found) k = others_idle None k

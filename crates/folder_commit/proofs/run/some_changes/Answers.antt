@@ -25,7 +25,7 @@ use Rattle.commit_driver.specs.Places.{files_of, entries_of, IsPlan, IsSafe}
 use Rattle.commit_driver.specs.Beginnings.{Begins}
 use Rattle.commit_driver.specs.Drives.{is_past_limit}
 use Rattle.commit_driver.proofs.FileLemmas.{right-file}
-use Rattle.commit_driver.proofs.BeginLemmas.{timed, timed-short, driven-whole}
+use Rattle.commit_driver.proofs.BeginLemmas.{AreFine, timed, timed-short, driven-whole}
 use Rattle.folder_commit.specs.declared.error.CommitError.{CommitError}
 use Rattle.folder_commit.specs.Commits.{IsCommit, IsNamed, answer_of}
 use Rattle.folder_commit.specs.Ends.{CommitCause}
@@ -101,7 +101,7 @@ returns-in-Err-clause-ran g c =
     let time = c.ask.result in
     let j = timed_for actor token time cs base in
     let right = ap (λ (q : Plan). q.right) c.in_ok-plan.ensures.1 in
-    let front : Ran g.H.Host.world c.args.host.now c.ask.new.host (λ (es : List Event). (list_any is_past_limit es ≡ false) × Goes j Seizing es Looking) =
+    let front : Ran g.H.Host.world c.args.host.now c.ask.new.host (λ (es : List Event). AreFine es × Goes j Seizing es Looking) =
     Ran-then (λ xs ys b d. timed (job_for actor token cs base) time xs ys (subst (λ (r : Begun). Begins j r xs) c.in-Taken.is b) d) (c.begin.ensures.ran j (c.bytes.ensures ∙ right)) c.ask.ensures.ran
     in
     Ran-then (λ xs ys b d. not-dated actor token time cs base (xs ++ ys) c.requires.some c.in_ok-plan.ensures.0 (timed-short (job_for actor token cs base) time c.bytes-in-Err.result.now (c.bytes-in-Err.ensures ∙ c.date.ensures.right ∙ right) xs ys b d)) front c.release.ensures.ran
@@ -147,7 +147,7 @@ returns-clause-ran g c =
     let F : Plan → Type 0 = λ q. EndFits (files_of q) (entries_of place) e in
     let A : List Event → Plan → Type 0 = λ es q. IsCommit actor token cs base es (answer_of e q place) in
     let R : List Event → Result Unit CommitError → Type 0 = λ es r. IsCommit actor token cs base es r in
-    let front : Ran g.H.Host.world c.args.host.now c.ask.new.host (λ (es : List Event). (list_any is_past_limit es ≡ false) × Goes j Seizing es Looking) =
+    let front : Ran g.H.Host.world c.args.host.now c.ask.new.host (λ (es : List Event). AreFine es × Goes j Seizing es Looking) =
     Ran-then (λ xs ys b d. timed (job_for actor token cs base) time xs ys (subst (λ (r : Begun). Begins j r xs) c.in-Taken.is b) d) (c.begin.ensures.ran j (c.bytes.ensures ∙ right)) c.ask.ensures.ran
     in
     Ran-then (λ xs ys b d.

@@ -11,6 +11,7 @@ use Rattle.commit_driver.specs.Steps.{EndFits}
 use Rattle.commit_driver.specs.Places.{files_of, entries_of, IsPlan, IsSafe}
 use Rattle.commit_driver.specs.Beginnings.{Begins}
 use Rattle.commit_driver.proofs.FileLemmas.{right-file}
+use Rattle.commit_driver.proofs.WithinLemmas.{fits-both}
 use Rattle.commit_driver.proofs.BeginLemmas.{driven-whole}
 use Rattle.folder_recovery.specs.declared.error.RecoverError.{RecoverError}
 use Rattle.folder_recovery.specs.Recovering.{Recovers, RecoverCause, IsNamed, answer_of}
@@ -36,7 +37,7 @@ returns-clause-ran g c = λ token.
     let R : List Event → Result Recovered RecoverError → Type 0 = λ es r. Recovers j es r in
     Ran-then (λ xs ys b d.
     let began = subst (λ (r : Begun). Begins j r xs) c.in-Taken.is b in
-    let whole = driven-whole j place.found e xs ys (began.within, began.goes) d in
+    let whole = driven-whole j place.found e xs ys ((began.within, began.fit), began.goes) d in
     subst (R (xs ++ ys)) (sym c.answer.ensures) (subst (A (xs ++ ys)) (sym is) (recovers actor token place e (xs ++ ys) c.drive-end.ensures.place.staged_are (subst F is c.drive-end.ensures.fits) whole)))
     (c.begin.ensures.ran j (c.bytes.ensures ∙ ap (λ (q : Plan). q.right) is))
     (c.drive-end.ensures.ran j (subst P (sym is) (is-plan actor token)) (inl refl))
@@ -84,3 +85,23 @@ returns-clause-named g c =
     let A : Plan → Type 0 = λ q. IsNamed actor (answer_of e q place) in
     let R : Result Recovered RecoverError → Type 0 = λ r. IsNamed actor r in
     subst R (sym c.answer.ensures) (subst A (sym is) (is-named actor place e c.drive-end.ensures.place.staged_are (subst F is c.drive-end.ensures.fits)))
+
+pub returns-clause-within : goal.returns-clause-within
+returns-clause-within g c =
+    let actor = c.args.actor.now in
+    let j = recovery_for actor 0 in
+    let is = c.in_ok-plan.ensures in
+    let P : Plan → Type 0 = λ q. IsPlan j q in
+    Ran-then (λ xs ys b d. fits-both xs ys b.fit d.fit)
+    (c.begin.ensures.ran j (c.bytes.ensures ∙ ap (λ (q : Plan). q.right) is))
+    (c.drive-end.ensures.ran j (subst P (sym is) (is-plan actor 0)) (inl refl))
+
+pub returns-in-Busy-clause-within : goal.returns-in-Busy-clause-within
+returns-in-Busy-clause-within g c =
+    let j = recovery_for c.args.actor.now 0 in
+    Ran-map (λ es b. b.fit) (c.begin.ensures.ran j (c.bytes.ensures ∙ ap (λ (q : Plan). q.right) c.in_ok-plan.ensures))
+
+pub returns-in-Failed-clause-within : goal.returns-in-Failed-clause-within
+returns-in-Failed-clause-within g c =
+    let j = recovery_for c.args.actor.now 0 in
+    Ran-map (λ es b. b.fit) (c.begin.ensures.ran j (c.bytes.ensures ∙ ap (λ (q : Plan). q.right) c.in_ok-plan.ensures))

@@ -1,0 +1,44 @@
+mod Rows
+pub mod Edits
+pub mod Heart
+pub mod Standing
+pub mod Orderly
+pub mod Deciding
+pub mod Around
+pub mod JobIs
+pub mod Called
+pub mod Stayed
+pub mod Begun
+pub mod Ends
+pub mod Steps
+pub mod Interleavings
+pub mod Messages
+pub mod Mid
+pub mod Sights
+pub mod Told
+pub mod Remembered
+pub mod Published
+pub mod Remembers
+pub mod Memory
+pub mod Memorize
+pub mod Reached
+pub mod Refusals
+pub mod Consequences
+pub mod Late
+pub mod Takers
+pub mod Named
+pub mod CleanUps
+pub mod Pasts
+pub mod Following
+pub mod Seats
+pub mod Futures
+pub mod Moves
+pub mod Cuts
+pub mod CalledShown
+pub mod Doings
+pub mod Runs
+pub mod Traced
+mod WorkedRun
+pub mod Fronts
+pub mod Betweens
+mod WorkedStart

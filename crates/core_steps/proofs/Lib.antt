@@ -1,0 +1,17 @@
+pub mod Views
+pub mod Touching
+pub mod Tokens
+pub mod Others
+pub mod Settled
+pub mod Ones
+pub mod Fact
+pub mod Jobs
+pub mod Members
+pub mod Ground
+pub mod Changed
+pub mod Came
+pub mod Turning
+pub mod Wanting
+pub mod Closing
+pub mod OneActor
+pub mod OneCall

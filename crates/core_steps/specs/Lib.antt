@@ -1,0 +1,16 @@
+pub mod Names
+pub mod Changes
+pub mod Tasks
+pub mod Turns
+pub mod Cores
+pub mod Settling
+pub mod Starts
+pub mod Shown
+pub mod Theorem
+pub mod Worked
+pub mod Commits
+pub mod Refusals
+pub mod Programs
+pub mod RunSteps
+pub mod Traces
+pub mod Between
