@@ -1,6 +1,6 @@
 -- What the steps of a criterion come to, carried out on what is known of each key.
 use Rattle.std.proofs.Common.{◌≡◌, Bool, true, false, not, ◌||◌, ◌&&◌, cond, ℕ, List, [], ◌∷◌, map, Option, Some, None, MatchOption, refl, sym, ap, ◌∙◌}
-use Rattle.std.specs.List.{filter_map, cons_option, find, list_any}
+use Rattle.std.specs.List.{filter_map, cons_option, list_any}
 use Rattle.std.proofs.lemmas.Bool.{cond-true, cond-false}
 use Rattle.std.proofs.Common.{Bor}
 use Rattle.mail_text.specs.Ascii.{same_ascii}
@@ -12,7 +12,7 @@ use Rattle.mail_search.specs.declared.criterion.Step.TheVariants as step
 use Rattle.mail_search.specs.declared.criterion.Test.{Test}
 use Rattle.mail_search.specs.declared.matching.Held.{Held}
 use Rattle.mail_search.specs.declared.matching.Held.TheVariants.{Known, Open}
-use Rattle.mail_search.specs.Entries.{is_holding, holding_in, find_named}
+use Rattle.mail_search.specs.Entries.{is_holding, holding_in}
 use Rattle.mail_search.specs.Keys.{Key}
 use Rattle.mail_search.specs.Known.{known, known_or, IsKnown}
 use Rattle.mail_search.specs.Meaning.{passes, key_holds}
@@ -134,15 +134,3 @@ holding-not name string e es f is not = ap (with_field name string es) is ∙ ap
 
 pub holding-here : (name string : List ℕ) (e : Entry) (es : List Entry) (f : Field) → field_in e ≡ Some f → is_holding name string f ≡ true → holding_in name string (e ∷ es) ≡ true
 holding-here name string e es f is here = ap (with_field name string es) is ∙ ap (λ (b : Bool). b || holding_in name string es) here
-
-abbrev found_with : List ℕ → List Entry → Option Field → Option Field
-found_with name es o = find (λ f. same_ascii f.name name) (cons_option o (filter_map field_in es))
-
-pub find-other : (name : List ℕ) (e : Entry) (es : List Entry) → field_in e ≡ None → find_named name (e ∷ es) ≡ find_named name es
-find-other name e es is = ap (found_with name es) is
-
-pub find-not : (name : List ℕ) (e : Entry) (es : List Entry) (f : Field) → field_in e ≡ Some f → same_ascii f.name name ≡ false → find_named name (e ∷ es) ≡ find_named name es
-find-not name e es f is not = ap (found_with name es) is ∙ cond-false _ _ _ not
-
-pub find-here : (name : List ℕ) (e : Entry) (es : List Entry) (f : Field) → field_in e ≡ Some f → same_ascii f.name name ≡ true → find_named name (e ∷ es) ≡ Some f
-find-here name e es f is here = ap (found_with name es) is ∙ cond-true _ _ _ here

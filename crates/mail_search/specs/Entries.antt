@@ -1,5 +1,5 @@
 -- What is asked of the entries of a header that are kept.
-use Rattle.std.specs.Prelude.{ℕ, Bool, ◌&&◌, List, find, Option}
+use Rattle.std.specs.Prelude.{ℕ, Bool, ◌&&◌, List}
 use Rattle.std.specs.List.{filter_map, list_any}
 use Rattle.mail_text.specs.Ascii.{same_ascii}
 use Rattle.mail_text.specs.Holding.{holds_ascii}
@@ -13,7 +13,3 @@ is_holding name string f = same_ascii f.name name && holds_ascii string (unfolde
 -- whether some field among entries is such a one
 abbrev pub holding_in : List ℕ → List ℕ → List Entry → Bool
 holding_in name string es = list_any (is_holding name string) (filter_map field_in es)
-
--- the first field of this name among entries
-abbrev pub find_named : List ℕ → List Entry → Option Field
-find_named name es = find (λ f. same_ascii f.name name) (filter_map field_in es)

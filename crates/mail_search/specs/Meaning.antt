@@ -9,7 +9,7 @@ use Rattle.mail_headers.specs.Field.{unfolded}
 use Rattle.mail_headers.specs.Header.{fields_of, body_of, from_line}
 use Rattle.mail_dates.specs.Clock.{day_number}
 use Rattle.mail_dates.specs.FromLines.{arrival_of}
-use Rattle.mail_dates.specs.Messages.{moment_of, after_from}
+use Rattle.mail_dates.specs.Messages.{after_from}
 use Rattle.mail_dates.specs.declared.moment.Moment.{Moment}
 use Rattle.mail_search.specs.declared.criterion.Fact.{Fact}
 use Rattle.mail_search.specs.declared.criterion.Fact.TheVariants.{Seen, Deleted, Answered, Flagged, Draft}
@@ -46,10 +46,10 @@ after_first_line text = drop (length (from_line text) + 1) text
 abbrev pub size_of : List ℕ → ℕ
 size_of text = length text + 1
 
--- when the message came, by its From line, or the message's own moment
-abbrev pub moment_by : Clock → List ℕ → Option Moment
-moment_by Arrival text = arrival_of (after_from text)
-moment_by Message text = moment_of text
+-- when the message came, by its From line, or the message's own moment, as it is known
+abbrev pub moment_by : Clock → List ℕ → Facts → Option Moment
+moment_by Arrival text facts = arrival_of (after_from text)
+moment_by Message text facts = facts.moment
 
 -- the day of a moment at the moment's own offset
 abbrev pub day_at : Moment → ℤ
@@ -75,7 +75,7 @@ passes text facts (Body string) = holds_ascii string (body_in text)
 passes text facts (Text string) = holds_ascii string (after_first_line text)
 passes text facts (Larger limit) = nat_lt limit (size_of text)
 passes text facts (Smaller limit) = nat_lt (size_of text) limit
-passes text facts (Day clock order limit) = day_passes order limit (moment_by clock text)
+passes text facts (Day clock order limit) = day_passes order limit (moment_by clock text facts)
 
 -- the key holds of a message of this text and these facts
 unfoldable pub key_holds : List ℕ → Facts → Key → Bool

@@ -1,6 +1,7 @@
 ghost use Rattle.std.specs.Prelude.{◌≡◌};
 
 use crate::needle::Needle;
+use mail_dates::Moment;
 use mail_text::{Items, Text};
 use std::marker::Model;
 
@@ -17,6 +18,8 @@ pub struct Facts {
     pub flagged: bool,
     /// It is a draft.
     pub draft: bool,
+    /// Its own moment, by its field `Date`, else when it came.
+    pub moment: Option<Moment>,
 }
 
 /// One of the facts.
@@ -29,7 +32,7 @@ pub(crate) enum Fact {
     Draft,
 }
 
-/// Which moment a day is asked of: when the message came, by its From line, or its own, by its field `Date` first.
+/// Which moment a day is asked of: when the message came, by its From line, or its own.
 #[derive(Clone, Copy)]
 pub(crate) enum Clock {
     Arrival,

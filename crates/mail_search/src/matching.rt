@@ -1,12 +1,10 @@
-ghost use Rattle.std.specs.Prelude.{◌≡◌, List, true, false, if◌then◌else◌, IfOk, OnOk, IfSome};
+ghost use Rattle.std.specs.Prelude.{◌≡◌, List, true, false, if◌then◌else◌, IfOk, OnOk};
 ghost use Rattle.mail_text.specs.Holding.{holds_ascii};
 ghost use Rattle.mail_headers.specs.Field.{unfolded};
-ghost use Rattle.mail_headers.specs.Header.{field_named};
-ghost use Rattle.mail_dates.specs.Clock.{IsInYears};
 ghost use Rattle.mail_search.specs.Keys.{Key};
 ghost use Rattle.mail_search.specs.Steps.{with_step};
 ghost use Rattle.mail_search.specs.Known.{known_or, IsKnown};
-ghost use Rattle.mail_search.specs.Entries.{holding_in, find_named};
+ghost use Rattle.mail_search.specs.Entries.{holding_in};
 ghost use Rattle.mail_search.specs.declared.matching.Held.TheVariants.{Known};
 ghost use Rattle.mail_search.specs.Meaning.{fact_in, field_holds, after_first_line, size_of, moment_by, day_at, is_in_order, day_passes, passes, key_holds};
 
@@ -14,7 +12,7 @@ use crate::criterion::{Clock, Criterion, Fact, Facts, Order, Step, Test};
 use crate::message::Message;
 use crate::needle::Needle;
 use crate::stack::Stack;
-use mail_dates::{Moment, after_from, day_of, moment_of, read_from_line};
+use mail_dates::{Moment, after_from, read_from_line};
 use mail_headers::{EntryRef, FieldRef, Header, entries_in, from_line_in, unfold_value};
 use mail_text::{Memory, same_ascii};
 use std::alloc::Global;
@@ -153,8 +151,7 @@ fn passes(
         Test::Larger(limit) => Ok(*limit < size_of(message.text())),
         Test::Smaller(limit) => Ok(size_of(message.text()) < *limit),
         Test::Day(clock, order, limit) => {
-            let moment = moment_by(alloc, *clock, message)?;
-            Ok(day_passes(*order, *limit, moment))
+            Ok(day_passes(*order, *limit, moment_by(*clock, message, facts)))
         }
     }
 }
@@ -260,68 +257,34 @@ fn value_holds(
     needle.stands_in(value.bytes(), small)
 }
 
-// The first field of this name.
-fn first_field<'a>(name: &[u8], message: &Message<'a>) -> Option<FieldRef<'a>>
-    ensures { result ≡ field_named name.now message.now }
+// When the message came, by its From line, or its own moment.
+fn moment_by(clock: Clock, message: &Message<'_>, facts: &Facts) -> Option<Moment>
+    ensures { result ≡ moment_by clock message.now facts.now }
 {
-    match message.entries() {
-        Some(entries) => kept_field(name, entries),
-        None => text_field(name, message.text()),
-    }
-}
-
-// The first field of this name among kept entries.
-fn kept_field<'a>(name: &[u8], entries: &[EntryRef<'a>]) -> Option<FieldRef<'a>>
-    ensures { result ≡ find_named name.now entries.now }
-{
-    for entry in entries {
-        if let Some(field) = entry.field() {
-            if same_ascii(field.name(), name) {
-                return Some(field);
-            }
-        }
-    }
-    None
-}
-
-// The same in the text, whose entries aren't kept.
-fn text_field<'a>(name: &[u8], text: &'a [u8]) -> Option<FieldRef<'a>>
-    ensures { result ≡ field_named name.now text.now }
-{
-    for entry in entries_in(text) {
-        if let Some(field) = entry.field() {
-            if same_ascii(field.name(), name) {
-                return Some(field);
-            }
-        }
-    }
-    None
-}
-
-// When the message came, or its own moment.
-fn moment_by(alloc: Global, clock: Clock, message: &Message<'_>) -> Result<Option<Moment>, Memory>
-    ensures moment { IfOk result (λ moment. moment ≡ moment_by clock message.now) }
-    ensures years { IfOk result (λ moment. IfSome moment IsInYears) }
-{
-    let line = after_from(from_line_in(message.text()));
     match clock {
-        Clock::Arrival => Ok(read_from_line(line).moment),
-        Clock::Message => moment_of(alloc, first_field(b"Date", message), line),
+        Clock::Arrival => read_from_line(after_from(from_line_in(message.text()))).moment,
+        Clock::Message => facts.moment,
     }
 }
 
 // Whether the day of the moment is in this order to the day of this number; without a moment it is in none.
 fn day_passes(order: Order, limit: i32, moment: Option<Moment>) -> bool
-    requires { IfSome moment IsInYears }
     ensures { result ≡ day_passes order limit moment }
 {
     match moment {
-        Some(moment) => is_in_order(order, day_of(moment), i64::from(limit)),
+        Some(moment) => is_in_order(order, day_at(moment), i128::from(limit)),
         None => false,
     }
 }
 
-fn is_in_order(order: Order, day: i64, limit: i64) -> bool
+// The day of a moment at the moment's own offset.
+fn day_at(moment: Moment) -> i128
+    ensures { result ≡ day_at moment }
+{
+    (i128::from(moment.seconds) + i128::from(moment.offset)).div_euclid(86_400)
+}
+
+fn is_in_order(order: Order, day: i128, limit: i128) -> bool
     ensures { result ≡ is_in_order order day limit }
 {
     match order {

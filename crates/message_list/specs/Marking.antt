@@ -19,7 +19,7 @@ abbrev pub kind_fits : Kind → List ℕ → List ℕ → Row → Bool
 kind_fits Address word text row = is_author word row.texts.author
 kind_fits Subject word text row = holds_ascii (drop 1 word) row.texts.subject
 kind_fits (Letter letter) word text row = has_letter letter row.mark
-kind_fits (Search key) word text row = key_holds text (facts_of row.mark) key
+kind_fits (Search key) word text row = key_holds text (facts_of row) key
 kind_fits kind word text row = true
 
 -- a word of this kind names message n as far as neither its row nor its text is asked

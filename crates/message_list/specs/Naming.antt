@@ -5,6 +5,7 @@ use Rattle.std.specs.List.{list_any}
 use Rattle.mail_text.specs.Ascii.{same_ascii}
 use Rattle.mail_text.specs.Holding.{holds_ascii}
 use Rattle.mail_search.specs.declared.criterion.Facts.{Facts}
+use Rattle.message_state.specs.declared.row.Row.{Row}
 use Rattle.mail_search.specs.Meaning.{key_holds}
 use Rattle.message_state.specs.declared.mark.Flags.{Flags}
 use Rattle.message_state.specs.declared.mark.Mark.{Mark}
@@ -64,14 +65,15 @@ has_flag_letter letter flags = (letter == 97 && flags.answered) || (letter == 10
 abbrev pub has_letter : ℕ → Mark → Bool
 has_letter letter mark = has_state_letter letter mark.state || has_flag_letter letter mark.flags
 
--- what a criterion asks of a mark
-abbrev pub facts_of : Mark → Facts
-facts_of mark = record {
-  seen = mark.seen;
-  deleted = not (is_live mark);
-  answered = mark.flags.answered;
-  flagged = mark.flags.flagged;
-  draft = mark.flags.draft;
+-- what a criterion asks of a row
+abbrev pub facts_of : Row → Facts
+facts_of row = record {
+  seen = row.mark.seen;
+  deleted = not (is_live row.mark);
+  answered = row.mark.flags.answered;
+  flagged = row.mark.flags.flagged;
+  draft = row.mark.flags.draft;
+  moment = row.moment;
 }
 
 -- the text of message n of these texts, numbered from 1
@@ -91,7 +93,7 @@ kind_names All word shown texts purpose n = true
 kind_names Address word shown texts purpose n = row_passes (λ row. is_author word row.texts.author) shown n
 kind_names Subject word shown texts purpose n = row_passes (λ row. holds_ascii (drop 1 word) row.texts.subject) shown n
 kind_names (Letter letter) word shown texts purpose n = row_passes (λ row. has_letter letter row.mark) shown n
-kind_names (Search key) word shown texts purpose n = row_passes (λ row. key_holds (text_at texts n) (facts_of row.mark) key) shown n
+kind_names (Search key) word shown texts purpose n = row_passes (λ row. key_holds (text_at texts n) (facts_of row) key) shown n
 
 -- the item's word names message n
 abbrev pub names : Shown → List (List ℕ) → Purpose → Item → ℕ → Bool

@@ -351,23 +351,25 @@ fn fits(alloc: Global, item: &Item, text: &[u8], row: &Row) -> Result<bool, Memo
         Kind::Subject => holds_ascii(alloc, without_slash(&item.word), row.texts.subject()),
         Kind::Letter(letter) => Ok(has_letter(*letter, row.mark)),
         Kind::Search(criterion) => {
-            let facts = facts_of(row.mark);
+            let facts = facts_of(row);
             matches(alloc, criterion, text, &facts)
         }
         _ => Ok(true),
     }
 }
 
-// What a criterion asks of a mark.
-fn facts_of(mark: Mark) -> Facts
-    ensures { result ≡ facts_of mark }
+// What a criterion asks of a row.
+fn facts_of(row: &Row) -> Facts
+    ensures { result ≡ facts_of row.now }
 {
+    let mark = row.mark;
     Facts {
         seen: mark.seen,
         deleted: !is_live(mark),
         answered: mark.flags.answered,
         flagged: mark.flags.flagged,
         draft: mark.flags.draft,
+        moment: row.moment,
     }
 }
 
