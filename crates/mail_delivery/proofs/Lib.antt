@@ -9,3 +9,5 @@ pub mod SourceLemmas
 pub mod SafeLemmas
 pub mod AddLemmas
 pub mod ProperLemmas
+pub mod NamedLemmas
+pub mod ReadLemmas

@@ -1,9 +1,12 @@
 -- What holds of deliveries.
-use Rattle.std.specs.Prelude.{◌≡◌, ◌≢◌, ℕ, true, List, [], ◌∷◌, ◌++◌, Some, All}
-use Rattle.mail_text.specs.Lines.{HasNoFeed, lines_of}
+use Rattle.std.specs.Prelude.{◌≡◌, ◌≢◌, ◌⊎◌, ℕ, true, false, nat_eq, List, [], ◌∷◌, ◌++◌, Some, All, codes, if◌then◌else◌}
+use Rattle.std.specs.List.{AllZip, flat_map, starts_with}
+use Rattle.std.specs.Str.{bytes_eq}
+use Rattle.mail_text.specs.Lines.{HasNoFeed, lines_of, with_feed}
 use Rattle.mail_dates.specs.declared.moment.Moment.{Moment}
 use Rattle.mail_dates.specs.Clock.{IsPrintable}
-use Rattle.mbox_scan.specs.Mailbox.{IsProper}
+use Rattle.mbox_scan.specs.Mailbox.{IsProper, from_mark}
+use Rattle.draft_text.specs.Texts.{opening_line}
 use Rattle.folder_change.specs.Apply.{Files, apply}
 use Rattle.folder_change.specs.ListLaws.{list_of_file}
 use Rattle.commit_machine.specs.Records.{AreDistinct, has}
@@ -43,6 +46,33 @@ EachGetsOne = (text : List ℕ) (users : List (List ℕ)) (files : Files)
 abbrev pub UsersAreOnce : Type 0
 UsersAreOnce = (words : List (List ℕ)) (pairs : Pairs) (request : Request) → reading words pairs ≡ Some request
     → AreDistinct request.users × All (λ user. is_recipient user ≡ true) request.users
+
+-- the words that name users: those behind `-r` and the sender, or all of them
+abbrev pub named_users : List (List ℕ) → List (List ℕ)
+named_users (word ∷ sender ∷ users) = if bytes_eq word (codes "-r") then users else word ∷ sender ∷ users
+named_users words = words
+
+-- the users of a request are those that the words name, all of them and nobody else
+abbrev pub AllAreNamed : Type 0
+AllAreNamed = (words : List (List ℕ)) (pairs : Pairs) (request : Request) (user : List ℕ) → reading words pairs ≡ Some request
+    → has request.users user ≡ has (named_users words) user
+
+-- a line of the input as the text has it: as it is, or one that begins with `From ` with a `>` before it
+abbrev pub IsShownAs : List ℕ → List ℕ → Type 0
+IsShownAs line shown =
+    ((starts_with nat_eq line from_mark ≡ true) × (shown ≡ 62 ∷ line))
+    ⊎ ((starts_with nat_eq line from_mark ≡ false) × (shown ≡ line))
+
+-- The text, with line feeds behind it, is the From line and one line for each line of the input, in order.
+pub record ReadsBack (sender : List ℕ) (lines : List (List ℕ)) (m : Moment) : Type 0 where
+  pub shown : List (List ℕ)
+  pub feeds : List ℕ
+  pub each : AllZip IsShownAs lines shown
+  pub whole : delivered sender lines m ++ feeds ≡ with_feed (opening_line sender m) ++ flat_map with_feed shown
+  pub only_feeds : All (λ b. b ≡ 10) feeds
+
+abbrev pub DeliveriesReadBack : Type 0
+DeliveriesReadBack = (sender : List ℕ) (lines : List (List ℕ)) (m : Moment) → ReadsBack sender lines m
 
 -- From a decision on, at each moment and at each disk that a stop leaves, until the next decision or the next change of a mailbox by others,
 -- the text stands once behind what the mailbox of a user held just before.

@@ -1,4 +1,4 @@
-ghost use Rattle.mail_delivery.specs.Laws.{DeliveredIsProper, DoneStands, EachGetsOne, UsersAreOnce};
+ghost use Rattle.mail_delivery.specs.Laws.{AllAreNamed, DeliveredIsProper, DeliveriesReadBack, DoneStands, EachGetsOne, UsersAreOnce};
 
 /// A law: the text of a delivery whose sender may be one can be put into a mailbox and read back as one message.
 pub fn a_delivery_is_one_message()
@@ -11,9 +11,17 @@ pub fn each_gets_one()
     ensures { EachGetsOne }
 {}
 
-/// A law: the users of what words ask for are recipients, each named once.
+/// A law: the users of what words ask for are recipients, each named once; they are those whom the words name, all of
+/// them and nobody else.
 pub fn users_are_once()
-    ensures { UsersAreOnce }
+    ensures once { UsersAreOnce }
+    ensures all { AllAreNamed }
+{}
+
+/// A law: the text of a delivery has the From line, and then each line of the input, in order, with a `>` before one
+/// that begins with `From `; only line feeds at its end are left out.
+pub fn a_delivery_reads_back()
+    ensures { DeliveriesReadBack }
 {}
 
 /// A law: after a delivery that is answered with 0 its text stands once behind what each user's mailbox held just before

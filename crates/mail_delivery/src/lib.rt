@@ -10,5 +10,7 @@ mod words;
 
 pub use delivery::deliver;
 pub use environment::Environment;
-pub use laws::{a_delivery_is_one_message, done_stands, each_gets_one, users_are_once};
+pub use laws::{
+    a_delivery_is_one_message, a_delivery_reads_back, done_stands, each_gets_one, users_are_once,
+};
 pub use status::DeliverStatus;

@@ -1,0 +1,5 @@
+pub mod Places
+pub mod LeavingLemmas
+pub mod SavingLemmas
+pub mod GatheringLemmas
+pub mod EditingLemmas

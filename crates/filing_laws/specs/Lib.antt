@@ -1,0 +1,4 @@
+pub mod Leaving
+pub mod Saving
+pub mod Gathering
+pub mod Editing
