@@ -1,17 +1,17 @@
 // The real folder of mailboxes, and the real list of users. It tells no calls.
 ghost use Rattle.std.specs.Prelude.{None};
 
-use crate::reasons::{stop_of, tell};
-use mail_text::Text;
-use spool_rules::{Found, Seen, Spool, Stop};
+use crate::holding::{Hold, busy, is_one, keep, open, seen_of};
+use crate::reasons::{stop_at, stop_of, tell};
+use crate::way::{FOLDER, enter};
+use mail_text::{Memory, Text};
+use spool_rules::{Seen, Spool, Stop};
 use std::alloc::Global;
-use std::fs::{File, Files, Metadata, OpenOptions, Permissions};
+use std::fs::{File, Files, OpenOptions, Permissions};
 use std::io::{Eprint, Error, ErrorKind, Input, Read, Write};
 use std::os::fd::AsRawFd;
-use std::os::unix::fs::{MetadataExt, OpenOptionsExt, PermissionsExt};
-
-/// The folder of mailboxes. It is fixed when the program is built.
-const FOLDER: &str = "/var/mail";
+use std::os::unix::fs::{OpenOptionsExt, PermissionsExt};
+use std::rt::Env;
 
 /// The list of users.
 const USERS: &str = "/etc/passwd";
@@ -22,44 +22,26 @@ const MOST_BYTES: u64 = 16_777_216;
 /// The mode of a file while it is written, and of a lock.
 const PRIVATE: u32 = 0o600;
 
-/// The bits of a file's mode that are kept: who may read, write and run it.
-const MODE_BITS: u32 = 0o777;
-
 /// The number of the first open file that isn't a standard stream.
 const FIRST_FILE: i32 = 3;
 
 /// The bytes that are handed on at once.
 const ROOM: usize = 8192;
 
-/// The folder of mailboxes on the real machine.
+/// The folder of mailboxes on the real machine, for a user. It is the working folder once a name in it is held.
 #[derive(Drop)]
 pub struct RealSpool<R> {
     rt: R,
     alloc: Global,
+    user: u32,
+    held: Option<Hold>,
 }
 
-// The path of a name in the folder.
-fn path_of(alloc: Global, name: &[u8]) -> Result<String, Stop> {
-    let Ok(name) = str::from_utf8(name) else {
-        return Err(Stop::Refused);
-    };
-    let folder = FOLDER;
-    match format!(in alloc; "{folder}/{name}") {
-        Ok(path) => Ok(path),
-        Err(_) => Err(Stop::Memory),
-    }
-}
-
-fn seen_of(metadata: &Metadata) -> Seen {
-    if metadata.is_file() {
-        Seen::File(Found {
-            owner: metadata.uid(),
-            mode: metadata.mode() & MODE_BITS,
-            device: metadata.dev(),
-            inode: metadata.ino(),
-        })
-    } else {
-        Seen::Other
+// A name in the folder.
+fn name_of(name: &[u8]) -> Result<&str, Stop> {
+    match str::from_utf8(name) {
+        Ok(name) => Ok(name),
+        Err(_) => Err(Stop::Refused),
     }
 }
 
@@ -84,12 +66,12 @@ fn read_users<R: Files<File = File>>(rt: &R, alloc: Global) -> Result<Vec<u8>, E
 }
 
 // Makes a file where nothing stands, which also is no link, for its user alone until it is whole.
-fn create<R: Files<File = File>>(rt: &R, path: &str) -> Result<File, Error> {
+fn create<R: Files<File = File>>(rt: &R, name: &str) -> Result<File, Error> {
     OpenOptions::new()
         .write(true)
         .create_new(true)
         .mode(PRIVATE)
-        .open(rt, path)
+        .open(rt, name)
 }
 
 // Gives a file that is whole its mode, and waits until it has reached the device.
@@ -98,10 +80,13 @@ fn finish(file: &File, mode: u32) -> Result<(), Error> {
     file.sync_all()
 }
 
-fn make<R: Files<File = File>>(rt: &R, path: &str, bytes: &[u8]) -> Result<(), Error> {
-    let mut file = create(rt, path)?;
+// A new file of these bytes, which is held before anything is in it.
+fn make<R: Files<File = File>>(rt: &R, name: &str, bytes: &[u8]) -> Result<(File, Seen), Error> {
+    let mut file = create(rt, name)?;
+    let found = keep(rt, name, &file)?;
     file.write_all(bytes)?;
-    finish(&file, PRIVATE)
+    finish(&file, PRIVATE)?;
+    Ok((file, found))
 }
 
 // Hands the input on to a file, to its end.
@@ -113,7 +98,7 @@ fn pour<R: Input + Eprint, W: Write>(rt: &R, to: &mut W, name: &str) -> Result<(
             Ok(0) => return Ok(()),
             Ok(n) => {
                 if let Err(error) = to.write_all(&buf[..n]) {
-                    return Err(stop_of(rt, name, error));
+                    return Err(stop_at(rt, name, error));
                 }
             }
             Err(error) if error.kind() == ErrorKind::Interrupted => {}
@@ -126,89 +111,152 @@ fn pour<R: Input + Eprint, W: Write>(rt: &R, to: &mut W, name: &str) -> Result<(
     Err(Stop::Input)
 }
 
-fn take<R: Files<File = File> + Input + Eprint>(rt: &R, path: &str, mode: u32) -> Result<(), Stop> {
-    let mut file = match create(rt, path) {
+fn take<R: Files<File = File> + Input + Eprint>(rt: &R, name: &str, mode: u32) -> Result<(), Stop> {
+    let mut file = match create(rt, name) {
         Ok(file) => file,
-        Err(error) => return Err(stop_of(rt, path, error)),
+        Err(error) => return Err(stop_at(rt, name, error)),
     };
-    pour(rt, &mut file, path)?;
+    pour(rt, &mut file, name)?;
     match finish(&file, mode) {
         Ok(()) => Ok(()),
-        Err(error) => Err(stop_of(rt, path, error)),
+        Err(error) => Err(stop_at(rt, name, error)),
     }
 }
 
-impl<R: Files<File = File> + Input + Eprint> RealSpool<R> {
-    /// The folder over a runtime.
-    pub fn new(rt: R, alloc: Global) -> RealSpool<R> {
-        RealSpool { rt, alloc }
+// What stands at a name.
+fn seen_at<R: Files>(rt: &R, name: &str) -> Result<Seen, Error> {
+    match rt.symlink_metadata(name) {
+        Ok(metadata) => Ok(seen_of(&metadata)),
+        Err(error) if error.kind() == ErrorKind::NotFound => Ok(Seen::Nothing),
+        Err(error) => Err(error),
     }
+}
 
-    // What a call on a path comes to; its reason is printed if it failed.
-    fn answered<T: Drop>(&self, path: &str, answer: Result<T, Error>) -> Result<T, Stop> {
-        match answer {
-            Ok(value) => Ok(value),
-            Err(error) => Err(stop_of(&self.rt, path, error)),
+// Gives a file another name. False if something else has that name: a call that was done may say, over a network, that
+// something has it.
+fn link<R: Files>(rt: &R, from: &str, to: &str) -> Result<bool, Error> {
+    match rt.hard_link(from, to) {
+        Ok(()) => Ok(true),
+        Err(error) if error.kind() == ErrorKind::AlreadyExists => {
+            Ok(is_one(seen_at(rt, from)?, seen_at(rt, to)?))
+        }
+        Err(error) => Err(error),
+    }
+}
+
+impl<R: Files<File = File> + Input + Eprint + Env> RealSpool<R> {
+    /// The folder over a runtime, for this user.
+    pub fn new(rt: R, alloc: Global, user: u32) -> RealSpool<R> {
+        RealSpool {
+            rt,
+            alloc,
+            user,
+            held: None,
         }
     }
+
+    // What a call on a name comes to; its reason is printed if it failed.
+    fn answered<T: Drop>(&self, name: &str, answer: Result<T, Error>) -> Result<T, Stop> {
+        match answer {
+            Ok(value) => Ok(value),
+            Err(error) => Err(stop_at(&self.rt, name, error)),
+        }
+    }
+
+    // The same of a call on what isn't a name in the folder.
+    fn answered_about<T: Drop>(&self, about: &str, answer: Result<T, Error>) -> Result<T, Stop> {
+        match answer {
+            Ok(value) => Ok(value),
+            Err(error) => Err(stop_of(&self.rt, about, error)),
+        }
+    }
+
+    // The lock of the user's own file at a name.
+    fn kept(&self, name: &str) -> Result<Hold, Stop> {
+        let opened = open(&self.rt, name);
+        let file = self.answered(name, opened)?;
+        let kept = keep(&self.rt, name, &file);
+        let found = self.answered(name, kept)?;
+        held(Hold::of_file(self.alloc, name, file, found))
+    }
 }
 
-impl<R: Files<File = File> + Input + Eprint> Spool for RealSpool<R> {
+fn held(hold: Result<Hold, Memory>) -> Result<Hold, Stop> {
+    match hold {
+        Ok(hold) => Ok(hold),
+        Err(_) => Err(Stop::Memory),
+    }
+}
+
+impl<R: Files<File = File> + Input + Eprint + Env> Spool for RealSpool<R> {
     ghost told = { λ _. None };
 
     fn users(&mut self, alloc: Global) -> Result<Text, Stop> {
         let read = read_users(&self.rt, alloc);
-        Ok(Text::of(self.answered(USERS, read)?))
+        Ok(Text::of(self.answered_about(USERS, read)?))
+    }
+
+    fn hold(&mut self, name: &[u8]) -> Result<(), Stop> {
+        let name = name_of(name)?;
+        let entered = enter(&self.rt);
+        self.answered_about(FOLDER, entered)?;
+        let seen = seen_at(&self.rt, name);
+        let hold = match self.answered(name, seen)? {
+            Seen::File(found) if found.owner == self.user => self.kept(name)?,
+            _ => held(Hold::of_name(self.alloc, name))?,
+        };
+        self.held = Some(hold);
+        Ok(())
     }
 
     fn look(&mut self, name: &[u8]) -> Result<Seen, Stop> {
-        let path = path_of(self.alloc, name)?;
-        match self.rt.symlink_metadata(path.as_str()) {
-            Ok(metadata) => Ok(seen_of(&metadata)),
-            Err(error) if error.kind() == ErrorKind::NotFound => Ok(Seen::Nothing),
-            Err(error) => Err(stop_of(&self.rt, path.as_str(), error)),
+        let name = name_of(name)?;
+        let seen = seen_at(&self.rt, name);
+        let seen = self.answered(name, seen)?;
+        match &self.held {
+            Some(hold) if !hold.fits(self.user, name, seen) => {
+                Err(stop_at(&self.rt, name, busy()))
+            }
+            _ => Ok(seen),
         }
     }
 
     fn make(&mut self, name: &[u8], bytes: &[u8]) -> Result<(), Stop> {
-        let path = path_of(self.alloc, name)?;
-        let made = make(&self.rt, path.as_str(), bytes);
-        self.answered(path.as_str(), made)
+        let name = name_of(name)?;
+        let made = make(&self.rt, name, bytes);
+        let (file, found) = self.answered(name, made)?;
+        let hold = held(Hold::of_file(self.alloc, name, file, found))?;
+        self.held = Some(hold);
+        Ok(())
     }
 
     fn take(&mut self, name: &[u8], mode: u32) -> Result<(), Stop> {
-        let path = path_of(self.alloc, name)?;
-        take(&self.rt, path.as_str(), mode)
+        take(&self.rt, name_of(name)?, mode)
     }
 
     fn link(&mut self, from: &[u8], to: &[u8]) -> Result<bool, Stop> {
-        let from = path_of(self.alloc, from)?;
-        let to = path_of(self.alloc, to)?;
-        match self.rt.hard_link(from.as_str(), to.as_str()) {
-            Ok(()) => Ok(true),
-            Err(error) if error.kind() == ErrorKind::AlreadyExists => Ok(false),
-            Err(error) => Err(stop_of(&self.rt, to.as_str(), error)),
-        }
+        let to = name_of(to)?;
+        let linked = link(&self.rt, name_of(from)?, to);
+        self.answered(to, linked)
     }
 
     fn rename(&mut self, from: &[u8], to: &[u8]) -> Result<(), Stop> {
-        let from = path_of(self.alloc, from)?;
-        let to = path_of(self.alloc, to)?;
-        let renamed = self.rt.rename(from.as_str(), to.as_str());
-        self.answered(to.as_str(), renamed)
+        let to = name_of(to)?;
+        let renamed = self.rt.rename(name_of(from)?, to);
+        self.answered(to, renamed)
     }
 
     fn remove(&mut self, name: &[u8]) -> Result<(), Stop> {
-        let path = path_of(self.alloc, name)?;
-        let removed = self.rt.remove_file(path.as_str());
-        self.answered(path.as_str(), removed)
+        let name = name_of(name)?;
+        let removed = self.rt.remove_file(name);
+        self.answered(name, removed)
     }
 
     fn sync(&mut self) -> Result<(), Stop> {
-        let synced = match File::open(&self.rt, FOLDER) {
+        let synced = match File::open(&self.rt, ".") {
             Ok(folder) => folder.sync_all(),
             Err(error) => Err(error),
         };
-        self.answered(FOLDER, synced)
+        self.answered_about(FOLDER, synced)
     }
 }

@@ -3,7 +3,9 @@
 #![tactic(auto)]
 
 mod folder;
+mod holding;
 mod reasons;
+mod way;
 mod words;
 
 use folder::RealSpool;
@@ -17,8 +19,9 @@ const NO_MEMORY: u8 = 8;
 fn start(rt: HostRuntime) -> Result<u8, Memory> {
     let alloc = rt.alloc();
     let words = words::words(&rt, alloc)?;
-    let mut folder = RealSpool::new(rt, alloc);
-    Ok(run(alloc, libc::geteuid(), &words, &mut folder).number())
+    let user = libc::geteuid();
+    let mut folder = RealSpool::new(rt, alloc, user);
+    Ok(run(alloc, user, &words, &mut folder).number())
 }
 
 fn main(rt: HostRuntime) -> ExitCode {

@@ -13,7 +13,8 @@ pub struct Entry {
     pub found: Found,
 }
 
-/// The list of users, and a folder. The call of one number is answered a fault.
+/// The list of users, and a folder. The call of one number is answered a fault. Nobody else is there who would hold what
+/// is held.
 #[derive(Drop)]
 pub struct MemSpool<R> {
     rt: R,
@@ -100,6 +101,14 @@ impl<R: Abort> MemSpool<R> {
         }
     }
 
+    // What a call comes to that changes no name.
+    fn calm(&self) -> Result<(), Stop> {
+        match self.fault() {
+            Some(stop) => Err(stop),
+            None => Ok(()),
+        }
+    }
+
     fn made(&mut self, name: &[u8], mode: u32) -> Result<(), Stop>
         ensures { self.new.told ≡ self.old.told }
     {
@@ -174,6 +183,13 @@ impl<R: Abort> Spool for MemSpool<R> {
         Ok(answer)
     }
 
+    fn hold(&mut self, name: &[u8]) -> Result<(), Stop> {
+        let done = self.calm();
+        let name = self.copied(name);
+        self.tell(Step::Hold { name, done });
+        done
+    }
+
     fn look(&mut self, name: &[u8]) -> Result<Seen, Stop> {
         let seen = match (self.fault(), self.found(name)) {
             (Some(stop), _) => Err(stop),
@@ -224,10 +240,7 @@ impl<R: Abort> Spool for MemSpool<R> {
     }
 
     fn sync(&mut self) -> Result<(), Stop> {
-        let done = match self.fault() {
-            Some(stop) => Err(stop),
-            None => Ok(()),
-        };
+        let done = self.calm();
         self.tell(Step::Sync { done });
         done
     }

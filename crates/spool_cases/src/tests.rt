@@ -33,28 +33,34 @@ fn called<R: Abort>(
 fn changes(rt: HostRuntime) -> Result<(), Fail> {
     let alloc = rt.alloc();
     let mut spool = MemSpool::new(&rt, alloc, Text::copy(alloc, USERS)?);
-    let input = Some((3, Stop::Input));
-    let disk = Some((1, Stop::Disk));
+    let input = Some((6, Stop::Input));
+    let disk = Some((2, Stop::Disk));
+    let held = Some((1, Stop::Refused));
     let memory = Some((0, Stop::Memory));
     for (operation, fails, want, calls) in [
-        ("publish", None, 6, 3),
-        ("erase", None, 6, 3),
-        ("lock", None, 0, 7),
-        ("lock", None, 1, 3),
-        ("publish", None, 1, 5),
-        ("stage", input, 3, 4),
-        ("stage", disk, 5, 2),
+        ("publish", None, 6, 4),
+        ("erase", None, 6, 4),
+        ("stage", None, 6, 4),
+        ("discard", None, 6, 4),
+        ("lock", held, 6, 2),
+        ("lock", None, 0, 8),
+        ("lock", None, 1, 4),
+        ("publish", None, 1, 6),
+        ("stage", input, 3, 7),
+        ("stage", disk, 5, 3),
         ("stage", memory, 8, 1),
-        ("stage", None, 0, 5),
-        ("stage", None, 0, 6),
-        ("publish", None, 0, 7),
-        ("stage", None, 0, 5),
-        ("discard", None, 0, 4),
-        ("discard", None, 0, 3),
+        ("stage", held, 6, 2),
+        ("stage", None, 0, 8),
+        ("stage", None, 0, 9),
+        ("publish", None, 0, 8),
+        ("stage", None, 0, 8),
+        ("discard", None, 0, 7),
+        ("discard", None, 0, 6),
+        ("erase", None, 0, 7),
         ("erase", None, 0, 6),
-        ("erase", None, 0, 5),
-        ("unlock", None, 0, 7),
-        ("unlock", None, 0, 5),
+        ("unlock", held, 6, 2),
+        ("unlock", None, 0, 8),
+        ("unlock", None, 0, 6),
         ("look", None, 2, 0),
     ] {
         assert_eq!(rt;
@@ -73,11 +79,11 @@ fn others(rt: HostRuntime) -> Result<(), Fail> {
     let mut spool = MemSpool::new(&rt, alloc, Text::copy(alloc, USERS)?);
     assert_eq!(rt; called(alloc, &mut spool, "lock", "bob", None)?, (7, 1));
     spool.put(b"ann", 1001, 0o660);
-    assert_eq!(rt; called(alloc, &mut spool, "stage", "ann", None)?, (6, 3));
-    assert_eq!(rt; called(alloc, &mut spool, "lock", "ann", None)?, (0, 7));
-    assert_eq!(rt; called(alloc, &mut spool, "publish", "ann", None)?, (6, 4));
-    assert_eq!(rt; called(alloc, &mut spool, "erase", "ann", None)?, (6, 4));
+    assert_eq!(rt; called(alloc, &mut spool, "lock", "ann", None)?, (0, 8));
+    assert_eq!(rt; called(alloc, &mut spool, "stage", "ann", None)?, (6, 6));
+    assert_eq!(rt; called(alloc, &mut spool, "publish", "ann", None)?, (6, 5));
+    assert_eq!(rt; called(alloc, &mut spool, "erase", "ann", None)?, (6, 5));
     spool.put(b"ann.mx0123456789abcdef", 1001, 0o600);
-    assert_eq!(rt; called(alloc, &mut spool, "discard", "ann", None)?, (6, 2));
+    assert_eq!(rt; called(alloc, &mut spool, "discard", "ann", None)?, (6, 5));
     Ok(())
 }

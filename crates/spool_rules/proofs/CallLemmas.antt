@@ -7,11 +7,11 @@ use Rattle.std.specs.declared.result.Result.TheVariants.{Ok, Err}
 use Rattle.spool_rules.specs.declared.port.Stop.{Stop}
 use Rattle.spool_rules.specs.declared.port.Seen.{Seen}
 use Rattle.spool_rules.specs.declared.port.Step.{Step}
-use Rattle.spool_rules.specs.declared.port.Step.TheVariants.{Users, Look, Make, Take, Link, Rename, Remove, Sync}
+use Rattle.spool_rules.specs.declared.port.Step.TheVariants.{Users, Hold, Look, Make, Take, Link, Rename, Remove, Sync}
 use Rattle.spool_rules.specs.declared.words.Operation.TheVariants as op
 use Rattle.spool_rules.specs.declared.words.Request.{Request}
 use Rattle.spool_rules.specs.Told.{followed, added, EndsWith, HasInput, Once, OnlyLooked, Onward}
-use Rattle.spool_rules.specs.Lawful.{GoneThen, IsNameOf, LockedThen, MayRemove, MayReplace, MayTake, Allowed, KnowsCaller, MayCome, LawfulAfter, Sound}
+use Rattle.spool_rules.specs.Lawful.{GoneThen, IsNameOf, LockedThen, MayRemove, MayReplace, MayTake, Allowed, KnowsCaller, HasHold, MayCome, LawfulAfter, Sound}
 
 -- one more at the end
 lawful_more : (n : ℕ) (r : Request) (before steps : List Step) (step : Step) → LawfulAfter n r before steps → MayCome n r (before ++ steps) step → LawfulAfter n r before (steps ++ step ∷ [])
@@ -23,6 +23,7 @@ knows_more : (n : ℕ) (r : Request) (steps : List Step) (step : Step) → Knows
 knows_more n r [] step h = absurd h
 knows_more n r (Users (Ok list) ∷ steps) step h = h
 knows_more n r (Users (Err a) ∷ steps) step h = absurd h
+knows_more n r (Hold a b ∷ steps) step h = absurd h
 knows_more n r (Look a b ∷ steps) step h = absurd h
 knows_more n r (Make a b c ∷ steps) step h = absurd h
 knows_more n r (Take a b c ∷ steps) step h = absurd h
@@ -31,21 +32,37 @@ knows_more n r (Rename a b c ∷ steps) step h = absurd h
 knows_more n r (Remove a b ∷ steps) step h = absurd h
 knows_more n r (Sync a ∷ steps) step h = absurd h
 
--- what is allowed may come once the caller is known
-may_come : (n : ℕ) (r : Request) (steps : List Step) (step : Step) → KnowsCaller n r steps → Allowed n r steps step → MayCome n r steps step
-may_come n r steps (Users list) k a = absurd a
-may_come n r steps (Look x y) k a = (k, a)
-may_come n r steps (Make x y z) k a = (k, a)
-may_come n r steps (Take x y z) k a = (k, a)
-may_come n r steps (Link x y z) k a = (k, a)
-may_come n r steps (Rename x y z) k a = (k, a)
-may_come n r steps (Remove x y) k a = (k, a)
-may_come n r steps (Sync x) k a = (k, a)
+-- what is held stays so
+hold_more : (r : Request) (steps : List Step) (step : Step) → HasHold r steps → HasHold r (steps ++ step ∷ [])
+hold_more r [] step h = absurd h
+hold_more r (first ∷ []) step h = absurd h
+hold_more r (first ∷ Hold a (Ok b) ∷ steps) step h = h
+hold_more r (first ∷ Hold a (Err b) ∷ steps) step h = absurd h
+hold_more r (first ∷ Users a ∷ steps) step h = absurd h
+hold_more r (first ∷ Look a b ∷ steps) step h = absurd h
+hold_more r (first ∷ Make a b c ∷ steps) step h = absurd h
+hold_more r (first ∷ Take a b c ∷ steps) step h = absurd h
+hold_more r (first ∷ Link a b c ∷ steps) step h = absurd h
+hold_more r (first ∷ Rename a b c ∷ steps) step h = absurd h
+hold_more r (first ∷ Remove a b ∷ steps) step h = absurd h
+hold_more r (first ∷ Sync a ∷ steps) step h = absurd h
+
+-- what is allowed may come once the caller is known, and the lock's other name is held
+may_come : (n : ℕ) (r : Request) (steps : List Step) (step : Step) → KnowsCaller n r steps → HasHold r steps → Allowed n r steps step → MayCome n r steps step
+may_come n r steps (Users list) k o a = absurd a
+may_come n r steps (Hold x y) k o a = absurd a
+may_come n r steps (Look x y) k o a = (k, o, a)
+may_come n r steps (Make x y z) k o a = (k, o, a)
+may_come n r steps (Take x y z) k o a = (k, o, a)
+may_come n r steps (Link x y z) k o a = (k, o, a)
+may_come n r steps (Rename x y z) k o a = (k, o, a)
+may_come n r steps (Remove x y) k o a = (k, o, a)
+may_come n r steps (Sync x) k o a = (k, o, a)
 
 -- a call that is allowed keeps the calls sound
 pub sound_more : (n : ℕ) (r : Request) (told : Option (List Step)) (step : Step) → IfSome told (λ steps. Allowed n r steps step) → Sound n r told → Sound n r (added told step)
 sound_more n r None step a s = tt
-sound_more n r (Some steps) step a s = (lawful_more n r [] steps step s.0 (may_come n r steps step s.1 a), knows_more n r steps step s.1)
+sound_more n r (Some steps) step a s = (lawful_more n r [] steps step s.0 (may_come n r steps step s.1 s.2 a), knows_more n r steps step s.1, hold_more r steps step s.2)
 
 -- the same, where the call is told
 pub sound_call : (n : ℕ) (r : Request) (old new : Option (List Step)) (step : Step) → new ≡ added old step → IfSome old (λ steps. Allowed n r steps step) → Sound n r old → Sound n r new
@@ -96,6 +113,7 @@ sync_keeps n r old new done e = sound_call n r old new (Sync done) e (always (λ
 looked_step : (steps : List Step) (name : List ℕ) (seen : Result Seen Stop) → OnlyLooked steps → OnlyLooked (steps ++ Look name seen ∷ [])
 looked_step [] name seen h = tt
 looked_step (Users a ∷ steps) name seen h = looked_step steps name seen h
+looked_step (Hold a b ∷ steps) name seen h = looked_step steps name seen h
 looked_step (Look a b ∷ steps) name seen h = looked_step steps name seen h
 looked_step (Make a b c ∷ steps) name seen h = absurd h
 looked_step (Take a b c ∷ steps) name seen h = absurd h
@@ -111,6 +129,7 @@ looked_more old new name seen e h = if_added OnlyLooked OnlyLooked old new (Look
 looked_input : (steps : List Step) → OnlyLooked steps → HasInput steps
 looked_input [] h = tt
 looked_input (Users a ∷ steps) h = looked_input steps h
+looked_input (Hold a b ∷ steps) h = looked_input steps h
 looked_input (Look a b ∷ steps) h = looked_input steps h
 looked_input (Make a b c ∷ steps) h = absurd h
 looked_input (Take a b c ∷ steps) h = absurd h
@@ -125,6 +144,7 @@ looked_has_input told h = weaken OnlyLooked HasInput told (λ steps p. looked_in
 input_then : (steps more : List Step) → HasInput more → HasInput steps → HasInput (steps ++ more)
 input_then [] more m h = m
 input_then (Users a ∷ steps) more m h = input_then steps more m h
+input_then (Hold a b ∷ steps) more m h = input_then steps more m h
 input_then (Look a b ∷ steps) more m h = input_then steps more m h
 input_then (Make a b c ∷ steps) more m h = input_then steps more m h
 input_then (Take a b c ∷ steps) more m h = absurd h

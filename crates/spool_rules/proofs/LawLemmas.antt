@@ -3,7 +3,7 @@ use Rattle.std.proofs.Common.{◌≡◌, ◌∙◌, ℕ, List, [], ◌∷◌, �
 use Rattle.std.specs.Prelude.{Option, Some, Bool, true, false, ◌&&◌, is_none}
 use Rattle.std.specs.declared.result.Result.TheVariants.{Ok, Err}
 use Rattle.spool_rules.specs.declared.port.Step.{Step}
-use Rattle.spool_rules.specs.declared.port.Step.TheVariants.{Users, Look, Make, Take, Link, Rename, Remove, Sync}
+use Rattle.spool_rules.specs.declared.port.Step.TheVariants.{Users, Hold, Look, Make, Take, Link, Rename, Remove, Sync}
 use Rattle.spool_rules.specs.declared.words.Operation.{Operation}
 use Rattle.spool_rules.specs.declared.words.Operation.TheVariants as op
 use Rattle.spool_rules.specs.declared.words.Request.{Request}
@@ -68,6 +68,7 @@ removed_name n r steps name (inr (inr p)) = inl p.0
 -- what an allowed call is about is one of the names
 own_name : (n : ℕ) (r : Request) (before : List Step) (name : List ℕ) (step : Step) → Allowed n r before step → Concerns name step → IsNameOf r name
 own_name n r before name (Users list) a c = absurd c
+own_name n r before name (Hold other done) a c = absurd a
 own_name n r before name (Look other seen) a c = subst (λ (x : List ℕ). IsNameOf r x) (sym c) a
 own_name n r before name (Make other bytes done) a c = inr (inr (inl (c ∙ a.0)))
 own_name n r before name (Take other mode done) a c = inr (inr (inr (c ∙ a.0)))
@@ -81,12 +82,13 @@ own_name n r before name (Sync done) a c = absurd c
 -- a call that may come, behind the list of users, isn't about the name of another
 spared : (n : ℕ) (r : Request) (list name line : List ℕ) (tail : List Step) (step : Step) → entry_of list name ≡ Some line → has_number n (Some line) ≡ false → MayCome n r (Users (Ok list) ∷ tail) step → Concerns name step → ⊥
 spared n r list name line tail (Users other) e isnt may c = c
-spared n r list name line tail (Look a b) e isnt may c = no_name n r list name line may.0 e isnt (own_name n r (Users (Ok list) ∷ tail) name (Look a b) may.1 c)
-spared n r list name line tail (Make a b d) e isnt may c = no_name n r list name line may.0 e isnt (own_name n r (Users (Ok list) ∷ tail) name (Make a b d) may.1 c)
-spared n r list name line tail (Take a b d) e isnt may c = no_name n r list name line may.0 e isnt (own_name n r (Users (Ok list) ∷ tail) name (Take a b d) may.1 c)
-spared n r list name line tail (Link a b d) e isnt may c = no_name n r list name line may.0 e isnt (own_name n r (Users (Ok list) ∷ tail) name (Link a b d) may.1 c)
-spared n r list name line tail (Rename a b d) e isnt may c = no_name n r list name line may.0 e isnt (own_name n r (Users (Ok list) ∷ tail) name (Rename a b d) may.1 c)
-spared n r list name line tail (Remove a d) e isnt may c = no_name n r list name line may.0 e isnt (own_name n r (Users (Ok list) ∷ tail) name (Remove a d) may.1 c)
+spared n r list name line tail (Hold a b) e isnt may c = no_name n r list name line may.0 e isnt (inr (inr (inl (c ∙ may.2))))
+spared n r list name line tail (Look a b) e isnt may c = no_name n r list name line may.0 e isnt (own_name n r (Users (Ok list) ∷ tail) name (Look a b) may.2 c)
+spared n r list name line tail (Make a b d) e isnt may c = no_name n r list name line may.0 e isnt (own_name n r (Users (Ok list) ∷ tail) name (Make a b d) may.2 c)
+spared n r list name line tail (Take a b d) e isnt may c = no_name n r list name line may.0 e isnt (own_name n r (Users (Ok list) ∷ tail) name (Take a b d) may.2 c)
+spared n r list name line tail (Link a b d) e isnt may c = no_name n r list name line may.0 e isnt (own_name n r (Users (Ok list) ∷ tail) name (Link a b d) may.2 c)
+spared n r list name line tail (Rename a b d) e isnt may c = no_name n r list name line may.0 e isnt (own_name n r (Users (Ok list) ∷ tail) name (Rename a b d) may.2 c)
+spared n r list name line tail (Remove a d) e isnt may c = no_name n r list name line may.0 e isnt (own_name n r (Users (Ok list) ∷ tail) name (Remove a d) may.2 c)
 spared n r list name line tail (Sync d) e isnt may c = c
 
 all_spared : (n : ℕ) (r : Request) (list name line : List ℕ) (tail steps : List Step) → entry_of list name ≡ Some line → has_number n (Some line) ≡ false → LawfulAfter n r (Users (Ok list) ∷ tail) steps → Spares name steps
@@ -97,6 +99,7 @@ pub others_spared : (n : ℕ) (r : Request) (name : List ℕ) (steps : List Step
 others_spared n r name [] h o = absurd o
 others_spared n r name (Users (Ok list) ∷ steps) h o = (λ c. c, all_spared n r list name o.0 [] steps o.1 o.2 h.1)
 others_spared n r name (Users (Err a) ∷ steps) h o = absurd o
+others_spared n r name (Hold a b ∷ steps) h o = absurd o
 others_spared n r name (Look a b ∷ steps) h o = absurd o
 others_spared n r name (Make a b c ∷ steps) h o = absurd o
 others_spared n r name (Take a b c ∷ steps) h o = absurd o

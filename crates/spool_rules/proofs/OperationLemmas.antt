@@ -1,5 +1,6 @@
 -- What the operations are told, from call to call.
-use Rattle.std.proofs.Common.{◌≡◌, ℕ, List, [], ◌∷◌, ◌++◌, sym, subst, refl, inl, inr}
+use Rattle.std.proofs.Common.{◌≡◌, ◌∙◌, ℕ, List, [], ◌∷◌, ◌++◌, sym, ap, subst, refl, inl, inr}
+use Rattle.std.proofs.lemmas.List.{append_assoc}
 use Rattle.std.specs.Prelude.{Option, Some, None, IfSome, OnOk, true, false}
 use Rattle.std.specs.declared.result.Result.{Result}
 use Rattle.std.specs.declared.result.Result.TheVariants.{Ok, Err}
@@ -7,12 +8,12 @@ use Rattle.spool_rules.specs.declared.port.Seen.{Seen}
 use Rattle.spool_rules.specs.declared.port.Seen.TheVariants.{Nothing}
 use Rattle.spool_rules.specs.declared.port.Stop.{Stop}
 use Rattle.spool_rules.specs.declared.port.Step.{Step}
-use Rattle.spool_rules.specs.declared.port.Step.TheVariants.{Users, Look, Take, Remove, Sync}
+use Rattle.spool_rules.specs.declared.port.Step.TheVariants.{Users, Hold, Look, Take, Remove, Sync}
 use Rattle.spool_rules.specs.declared.words.Operation.TheVariants as op
 use Rattle.spool_rules.specs.declared.words.Request.{Request}
 use Rattle.spool_rules.specs.Told.{added, EndsWith, IsFresh, Once, OnlyLooked, Onward}
 use Rattle.spool_rules.specs.Users.{is_callers}
-use Rattle.spool_rules.specs.Lawful.{holds, NotLocked, GoneThen, Unlocks, Clears, ClearsAfter, is_own, is_free, mode_after, LockedThen, MayRemove, MayReplace, MayTake, IsLawful, Sound}
+use Rattle.spool_rules.specs.Lawful.{holds, NotLocked, GoneThen, Unlocks, Clears, ClearsAfter, is_own, is_free, mode_after, LockedThen, MayRemove, MayReplace, MayTake, IsKnown, IsLawful, Sound}
 use Rattle.spool_rules.specs.Causes.{StandsAt, Ended}
 use Rattle.spool_rules.proofs.CallLemmas.{weaken, both, if_added, ends_one, ends_two, ends_step, locked_more, on_one, on_then, once_on}
 
@@ -53,8 +54,12 @@ nothing_staged n r old mid new mailbox looked h e f =
     weaken (λ steps. OnlyLooked steps × LockedThen n r steps (Look r.mailbox (Ok mailbox) ∷ Look r.staged (Ok Nothing) ∷ [])) (λ steps. StandsAt op.Publish n r steps) new (λ steps p. (p.0, mailbox, p.1))
     (both OnlyLooked (λ steps. LockedThen n r steps (Look r.mailbox (Ok mailbox) ∷ Look r.staged (Ok Nothing) ∷ [])) new looked (staged_seen n r old mid new mailbox Nothing h e f))
 
-pub may_take_now : (n : ℕ) (r : Request) (old new : Option (List Step)) (seen : Seen) (mode : ℕ) → IfSome old (λ steps. GoneThen r.staged [] steps) → new ≡ added old (Look r.mailbox (Ok seen)) → is_free n seen ≡ true → mode ≡ mode_after seen → IfSome new (λ steps. MayTake n r steps mode)
-may_take_now n r old new seen mode gone e free is = if_added (λ steps. GoneThen r.staged [] steps) (λ steps. MayTake n r steps mode) old new (Look r.mailbox (Ok seen)) (λ steps p. (seen, free, is, gone_step r.staged steps (Look r.mailbox (Ok seen)) p)) e gone
+-- what held once did so at the next call too
+once_step : (P : List Step → Type 0) (steps : List Step) (step : Step) → Once P steps → Once P (steps ++ step ∷ [])
+once_step P steps step h = (h.0, h.1 ++ step ∷ [], h.2, ap (λ (s : List Step). s ++ step ∷ []) h.3 ∙ append_assoc h.0 h.1 (step ∷ []))
+
+pub may_take_now : (n : ℕ) (r : Request) (old new : Option (List Step)) (seen : Seen) (mode : ℕ) → IfSome old (λ steps. GoneThen r.staged [] steps) → IfSome old (λ steps. Once (λ front. LockedThen n r front []) steps) → new ≡ added old (Look r.mailbox (Ok seen)) → is_free n seen ≡ true → mode ≡ mode_after seen → IfSome new (λ steps. MayTake n r steps mode)
+may_take_now n r old new seen mode gone locked e free is = if_added (λ steps. GoneThen r.staged [] steps × Once (λ front. LockedThen n r front []) steps) (λ steps. MayTake n r steps mode) old new (Look r.mailbox (Ok seen)) (λ steps p. (seen, free, is, gone_step r.staged steps (Look r.mailbox (Ok seen)) p.0, once_step (λ front. LockedThen n r front []) steps (Look r.mailbox (Ok seen)) p.1)) e (both (λ steps. GoneThen r.staged [] steps) (λ steps. Once (λ front. LockedThen n r front []) steps) old gone locked)
 
 -- what is gone
 pub nothing_gone : (name : List ℕ) (old new : Option (List Step)) → new ≡ added old (Look name (Ok Nothing)) → IfSome new (λ steps. GoneThen name [] steps)
@@ -88,18 +93,27 @@ first_lawful n r steps list e = subst (λ (s : List Step). IsLawful n r (s ++ Us
 pub users_lawful : (n : ℕ) (r : Request) (old new : Option (List Step)) (list : Result (List ℕ) Stop) → IsFresh old → new ≡ added old (Users list) → IfSome new (λ steps. IsLawful n r steps)
 users_lawful n r old new list fresh e = if_added (λ steps. steps ≡ []) (λ steps. IsLawful n r steps) old new (Users list) (λ steps p. first_lawful n r steps list p) e fresh
 
-first_looked : (steps : List Step) (list : Result (List ℕ) Stop) → steps ≡ [] → OnlyLooked (steps ++ Users list ∷ [])
-first_looked steps list e = subst (λ (s : List Step). OnlyLooked (s ++ Users list ∷ [])) (sym e) tt
+pub users_known : (n : ℕ) (r : Request) (old new : Option (List Step)) (list : List ℕ) → IsFresh old → new ≡ added old (Users (Ok list)) → is_callers list n r ≡ true → IfSome new (λ steps. IsKnown n r steps)
+users_known n r old new list fresh e is = if_added (λ steps. steps ≡ []) (λ steps. IsKnown n r steps) old new (Users (Ok list)) (λ steps p. (list, is, ap (λ (s : List Step). s ++ Users (Ok list) ∷ []) p)) e fresh
 
-pub users_looked : (old new : Option (List Step)) (list : Result (List ℕ) Stop) → IsFresh old → new ≡ added old (Users list) → IfSome new OnlyLooked
-users_looked old new list fresh e = if_added (λ steps. steps ≡ []) OnlyLooked old new (Users list) (λ steps p. first_looked steps list p) e fresh
+-- the lock's other name is held next
+known_lawful : (n : ℕ) (r : Request) (steps : List Step) (done : Result Unit Stop) → IsKnown n r steps → IsLawful n r (steps ++ Hold r.beside done ∷ [])
+known_lawful n r steps done p = subst (λ (s : List Step). IsLawful n r (s ++ Hold r.beside done ∷ [])) (sym p.2) (refl, ((p.1, refl, refl), tt))
 
-first_sound : (n : ℕ) (r : Request) (list : List ℕ) (told : Option (List Step)) → is_callers list n r ≡ true → IsFresh told → Sound n r (added told (Users (Ok list)))
-first_sound n r list None is fresh = tt
-first_sound n r list (Some steps) is fresh = subst (λ (s : List Step). Sound n r (Some (s ++ Users (Ok list) ∷ []))) (sym fresh) ((refl, tt), is)
+pub held_lawful : (n : ℕ) (r : Request) (old new : Option (List Step)) (done : Result Unit Stop) → IfSome old (λ steps. IsKnown n r steps) → new ≡ added old (Hold r.beside done) → IfSome new (λ steps. IsLawful n r steps)
+held_lawful n r old new done known e = if_added (λ steps. IsKnown n r steps) (λ steps. IsLawful n r steps) old new (Hold r.beside done) (λ steps p. known_lawful n r steps done p) e known
 
-pub users_sound : (n : ℕ) (r : Request) (old new : Option (List Step)) (list : List ℕ) → IsFresh old → new ≡ added old (Users (Ok list)) → is_callers list n r ≡ true → Sound n r new
-users_sound n r old new list fresh e is = subst (λ (t : Option (List Step)). Sound n r t) (sym e) (first_sound n r list old is fresh)
+known_looked : (n : ℕ) (r : Request) (steps : List Step) (done : Result Unit Stop) → IsKnown n r steps → OnlyLooked (steps ++ Hold r.beside done ∷ [])
+known_looked n r steps done p = subst (λ (s : List Step). OnlyLooked (s ++ Hold r.beside done ∷ [])) (sym p.2) tt
+
+pub held_looked : (n : ℕ) (r : Request) (old new : Option (List Step)) (done : Result Unit Stop) → IfSome old (λ steps. IsKnown n r steps) → new ≡ added old (Hold r.beside done) → IfSome new OnlyLooked
+held_looked n r old new done known e = if_added (λ steps. IsKnown n r steps) OnlyLooked old new (Hold r.beside done) (λ steps p. known_looked n r steps done p) e known
+
+known_sound : (n : ℕ) (r : Request) (steps : List Step) → IsKnown n r steps → Sound n r (Some (steps ++ Hold r.beside (Ok tt) ∷ []))
+known_sound n r steps p = subst (λ (s : List Step). Sound n r (Some (s ++ Hold r.beside (Ok tt) ∷ []))) (sym p.2) ((refl, ((p.1, refl, refl), tt)), p.1, refl)
+
+pub held_sound : (n : ℕ) (r : Request) (old new : Option (List Step)) → IfSome old (λ steps. IsKnown n r steps) → new ≡ added old (Hold r.beside (Ok tt)) → Sound n r new
+held_sound n r old new known e = if_added (λ steps. IsKnown n r steps) (λ steps. Sound n r (Some steps)) old new (Hold r.beside (Ok tt)) (λ steps p. known_sound n r steps p) e known
 
 pub sound_lawful : (n : ℕ) (r : Request) (told : Option (List Step)) → Sound n r told → IfSome told (λ steps. IsLawful n r steps)
 sound_lawful n r None s = tt

@@ -6,13 +6,13 @@ use Rattle.std.specs.declared.result.Result.TheVariants.{Ok, Err}
 use Rattle.spool_rules.specs.declared.port.Seen.{Seen}
 use Rattle.spool_rules.specs.declared.port.Seen.TheVariants.{Nothing}
 use Rattle.spool_rules.specs.declared.port.Step.{Step}
-use Rattle.spool_rules.specs.declared.port.Step.TheVariants.{Users, Look, Make, Take, Link, Rename, Remove, Sync}
+use Rattle.spool_rules.specs.declared.port.Step.TheVariants.{Users, Hold, Look, Make, Take, Link, Rename, Remove, Sync}
 use Rattle.spool_rules.specs.declared.port.Stop.{Stop}
 use Rattle.spool_rules.specs.declared.port.Stop.TheVariants as stop
 use Rattle.spool_rules.specs.declared.status.SpoolStatus.{SpoolStatus}
 use Rattle.spool_rules.specs.declared.status.SpoolStatus.TheVariants as status
 use Rattle.spool_rules.specs.declared.words.Operation.{Operation}
-use Rattle.spool_rules.specs.declared.words.Operation.TheVariants.{Lock, Stage, Publish, Erase}
+use Rattle.spool_rules.specs.declared.words.Operation.TheVariants.{Lock, Unlock, Stage, Publish, Erase}
 use Rattle.spool_rules.specs.declared.words.Request.{Request}
 use Rattle.spool_rules.specs.Told.{EndsWith, Once, OnlyLooked}
 use Rattle.spool_rules.specs.Users.{is_callers}
@@ -22,6 +22,7 @@ use Rattle.spool_rules.specs.Deeds.{DoesAt}
 -- the fault that a call answered
 abbrev pub fault : Step → Option Stop
 fault (Users list) = result_err list
+fault (Hold name done) = result_err done
 fault (Look name seen) = result_err seen
 fault (Make name bytes done) = result_err done
 fault (Take name mode done) = result_err done
@@ -48,9 +49,9 @@ SawOthers n r steps = (name : List ℕ) × (seen : Seen) × Minds r.operation r 
 
 -- an operation that wants the lock saw last that the caller doesn't hold it
 abbrev pub WantsLock : Operation → ℕ → Request → List Step → Type 0
-WantsLock Publish n r steps = NotLocked n r steps
-WantsLock Erase n r steps = NotLocked n r steps
-WantsLock operation n r steps = ⊥
+WantsLock Lock n r steps = ⊥
+WantsLock Unlock n r steps = ⊥
+WantsLock operation n r steps = NotLocked n r steps
 
 -- a call failed, or what it saw is another's
 abbrev pub Stopped : ℕ → Request → Stop → List Step → Type 0

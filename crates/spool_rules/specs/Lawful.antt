@@ -1,15 +1,15 @@
 -- Which calls a helper may make for a caller, and after which others.
-use Rattle.std.specs.Prelude.{◌≡◌, ◌==◌, ◌&&◌, ◌⊎◌, ℕ, Bool, true, false, IsTrue, List, [], ◌∷◌, ◌++◌, Option, IfSome}
+use Rattle.std.specs.Prelude.{◌≡◌, ◌==◌, ◌&&◌, ◌⊎◌, ℕ, Bool, true, false, IsTrue, List, [], ◌∷◌, ◌++◌, length, Option, IfSome}
 use Rattle.std.specs.declared.result.Result.TheVariants.{Ok}
 use Rattle.spool_rules.specs.declared.port.Found.{Found}
 use Rattle.spool_rules.specs.declared.port.Seen.{Seen}
 use Rattle.spool_rules.specs.declared.port.Seen.TheVariants.{Nothing, File}
 use Rattle.spool_rules.specs.declared.port.Step.{Step}
-use Rattle.spool_rules.specs.declared.port.Step.TheVariants.{Users, Look, Make, Take, Link, Rename, Remove, Sync}
+use Rattle.spool_rules.specs.declared.port.Step.TheVariants.{Users, Hold, Look, Make, Take, Link, Rename, Remove, Sync}
 use Rattle.spool_rules.specs.declared.words.Operation.{Operation}
 use Rattle.spool_rules.specs.declared.words.Operation.TheVariants as op
 use Rattle.spool_rules.specs.declared.words.Request.{Request}
-use Rattle.spool_rules.specs.Told.{EndsWith, HasInput}
+use Rattle.spool_rules.specs.Told.{EndsWith, HasInput, Once}
 use Rattle.spool_rules.specs.Users.{is_callers}
 
 -- a regular file of the user of this number
@@ -71,11 +71,11 @@ Clears op.Discard r name = name ≡ r.staged
 Clears operation r name = ⊥
 
 -- After which calls: the lock's other name goes once it was seen that the caller hasn't locked the mailbox by it, or the lock wasn't free, or the
--- lock is gone.
+-- lock is gone; and what is staged once it was seen that he has.
 abbrev pub ClearsAfter : Operation → ℕ → Request → List Step → Type 0
 ClearsAfter op.Lock n r steps = NotLocked n r steps ⊎ EndsWith steps (Link r.beside r.lock (Ok false) ∷ [])
 ClearsAfter op.Unlock n r steps = Unlocks n r steps
-ClearsAfter operation n r steps = Unit {0}
+ClearsAfter operation n r steps = LockedThen n r steps []
 
 -- What the operation clears away is taken away right after a look at it; the lock by an unlock, if the caller has put it by the token; and the
 -- mailbox by an erasure under that lock, right after a look at it.
@@ -90,14 +90,15 @@ abbrev pub MayReplace : ℕ → Request → List Step → Type 0
 MayReplace n r steps = (mailbox staged : Seen) × (is_free n mailbox ≡ true) × (is_own n staged ≡ true)
     × LockedThen n r steps (Look r.mailbox (Ok mailbox) ∷ Look r.staged (Ok staged) ∷ [])
 
--- nothing is staged, and what the file that is made of the input replaces was looked at, and gives its mode
+-- under the lock, nothing is staged, and what the file that is made of the input replaces was looked at, and gives its mode
 abbrev pub MayTake : ℕ → Request → List Step → ℕ → Type 0
 MayTake n r steps mode = (seen : Seen) × (is_free n seen ≡ true) × (mode ≡ mode_after seen)
-    × GoneThen r.staged (Look r.mailbox (Ok seen) ∷ []) steps
+    × GoneThen r.staged (Look r.mailbox (Ok seen) ∷ []) steps × Once (λ front. LockedThen n r front []) steps
 
 -- a call on the folder that may come after these, for the operation
 abbrev pub Allowed : ℕ → Request → List Step → Step → Type 0
 Allowed n r steps (Users list) = ⊥
+Allowed n r steps (Hold name done) = ⊥
 Allowed n r steps (Look name seen) = IsNameOf r name
 Allowed n r steps (Make name bytes done) = (name ≡ r.beside) × (bytes ≡ r.token) × (r.operation ≡ op.Lock) × GoneThen r.beside [] steps
 Allowed n r steps (Take name mode done) = (name ≡ r.staged) × (r.operation ≡ op.Stage) × HasInput steps × MayTake n r steps mode
@@ -111,10 +112,21 @@ abbrev pub KnowsCaller : ℕ → Request → List Step → Type 0
 KnowsCaller n r (Users (Ok list) ∷ steps) = IsTrue (is_callers list n r)
 KnowsCaller n r steps = ⊥
 
--- a call that may come after these: first the list of users is read, and then what is allowed follows, if the names are the caller's
+-- nothing else was called
+abbrev pub IsKnown : ℕ → Request → List Step → Type 0
+IsKnown n r steps = (list : List ℕ) × (is_callers list n r ≡ true) × (steps ≡ Users (Ok list) ∷ [])
+
+-- the second call took hold of the lock's other name, so that no other run has it
+abbrev pub HasHold : Request → List Step → Type 0
+HasHold r (first ∷ Hold name (Ok done) ∷ steps) = name ≡ r.beside
+HasHold r steps = ⊥
+
+-- A call that may come after these: first the list of users is read, and then hold is taken of the lock's other name, if the names are the caller's;
+-- what is allowed follows, if that was done.
 abbrev pub MayCome : ℕ → Request → List Step → Step → Type 0
 MayCome n r steps (Users list) = steps ≡ []
-MayCome n r steps step = KnowsCaller n r steps × Allowed n r steps step
+MayCome n r steps (Hold name done) = KnowsCaller n r steps × (length steps ≡ 1) × (name ≡ r.beside)
+MayCome n r steps step = KnowsCaller n r steps × HasHold r steps × Allowed n r steps step
 
 -- each of these calls may come after those before it
 abbrev pub LawfulAfter : ℕ → Request → List Step → List Step → Type 0
@@ -124,6 +136,6 @@ LawfulAfter n r before (step ∷ steps) = MayCome n r before step × LawfulAfter
 abbrev pub IsLawful : ℕ → Request → List Step → Type 0
 IsLawful n r steps = LawfulAfter n r [] steps
 
--- the calls so far, while they are told, are lawful, and the names are the caller's
+-- the calls so far, while they are told, are lawful, the names are the caller's, and no other run has the lock's other name
 abbrev pub Sound : ℕ → Request → Option (List Step) → Type 0
-Sound n r told = IfSome told (λ steps. IsLawful n r steps × KnowsCaller n r steps)
+Sound n r told = IfSome told (λ steps. IsLawful n r steps × KnowsCaller n r steps × HasHold r steps)

@@ -2,12 +2,13 @@
 use Rattle.std.specs.Prelude.{◌≡◌, ℕ, false, ◌⊎◌, List, [], ◌∷◌, Some}
 use Rattle.std.specs.declared.result.Result.TheVariants.{Ok}
 use Rattle.spool_rules.specs.declared.port.Step.{Step}
-use Rattle.spool_rules.specs.declared.port.Step.TheVariants.{Users, Look, Make, Take, Link, Rename, Remove, Sync}
+use Rattle.spool_rules.specs.declared.port.Step.TheVariants.{Users, Hold, Look, Make, Take, Link, Rename, Remove, Sync}
 use Rattle.spool_rules.specs.Users.{entry_of, has_number}
 
 -- the call is about this name
 abbrev pub Concerns : List ℕ → Step → Type 0
 Concerns name (Users list) = ⊥
+Concerns name (Hold other done) = name ≡ other
 Concerns name (Look other seen) = name ≡ other
 Concerns name (Make other bytes done) = name ≡ other
 Concerns name (Take other mode done) = name ≡ other

@@ -1,7 +1,7 @@
 -- The calls that are told.
 use Rattle.std.specs.Prelude.{◌≡◌, List, [], ◌∷◌, ◌++◌, Option, Some, None, IfSome}
 use Rattle.spool_rules.specs.declared.port.Step.{Step}
-use Rattle.spool_rules.specs.declared.port.Step.TheVariants.{Users, Look, Take}
+use Rattle.spool_rules.specs.declared.port.Step.TheVariants.{Users, Hold, Look, Take}
 
 -- these calls too, while they are told
 abbrev pub followed : Option (List Step) → List Step → Option (List Step)
@@ -28,6 +28,7 @@ Once P steps = (front back : List Step) × P front × (steps ≡ front ++ back)
 abbrev pub OnlyLooked : List Step → Type 0
 OnlyLooked [] = Unit {0}
 OnlyLooked (Users list ∷ steps) = OnlyLooked steps
+OnlyLooked (Hold name done ∷ steps) = OnlyLooked steps
 OnlyLooked (Look name seen ∷ steps) = OnlyLooked steps
 OnlyLooked steps = ⊥
 

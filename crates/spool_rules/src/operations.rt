@@ -1,7 +1,7 @@
 // The operations on a mailbox.
 ghost use Rattle.std.specs.Prelude.{◌≡◌, true, false, [], IfSome, OnOk, IfOk};
 ghost use Rattle.spool_rules.specs.declared.words.Operation.TheVariants as op;
-ghost use Rattle.spool_rules.specs.Told.{HasInput, Onward, OnlyLooked};
+ghost use Rattle.spool_rules.specs.Told.{HasInput, Once, Onward, OnlyLooked};
 ghost use Rattle.spool_rules.specs.Lawful.{holds, LockedThen, NotLocked, GoneThen, Unlocks, Clears, ClearsAfter};
 ghost use Rattle.spool_rules.specs.Lawful.{MayTake, MayReplace, is_own, is_free, is_one, Sound};
 ghost use Rattle.spool_rules.specs.Causes.{Ended, IsStopped, IsStoppedAt, StandsAt};
@@ -133,6 +133,7 @@ fn unlock<S: Spool>(out: &mut S, number: u32, request: &Request) -> Result<bool,
 fn mode_to_take<S: Spool>(out: &mut S, number: u32, request: &Request) -> Result<u32, Stop>
     requires stages { request.now.operation ≡ op.Stage }
     requires gone { IfSome (S.told out.old) (λ steps. GoneThen request.now.staged [] steps) }
+    requires locked { IfSome (S.told out.old) (λ steps. Once (λ front. LockedThen number request.now front []) steps) }
     ensures keeps { Sound number request.now (S.told out.old) → Sound number request.now (S.told out.new) }
     ensures input { IfSome (S.told out.old) HasInput → IfSome (S.told out.new) HasInput }
     ensures mode { IfOk result (λ mode. IfSome (S.told out.new) (λ steps. MayTake number request.now steps mode)) }
@@ -151,6 +152,9 @@ fn stage<S: Spool>(out: &mut S, number: u32, request: &Request) -> Result<bool, 
     ensures keeps { Sound number request.now (S.told out.old) → Sound number request.now (S.told out.new) }
     ensures ended { Ended op.Stage number request.now result (S.told out.new) }
 {
+    if !has_locked(out, number, request)? {
+        return Err(Stop::Refused);
+    }
     clear(out, number, request, request.staged.bytes())?;
     let mode = mode_to_take(out, number, request)?;
     take(out, number, request, mode)?;
@@ -239,6 +243,9 @@ fn discard<S: Spool>(out: &mut S, number: u32, request: &Request) -> Result<bool
     ensures keeps { Sound number request.now (S.told out.old) → Sound number request.now (S.told out.new) }
     ensures ended { Ended op.Discard number request.now result (S.told out.new) }
 {
+    if !has_locked(out, number, request)? {
+        return Err(Stop::Refused);
+    }
     clear(out, number, request, request.staged.bytes())?;
     sync(out, number, request)?;
     Ok(true)

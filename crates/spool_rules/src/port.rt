@@ -1,7 +1,7 @@
 // The outside of a helper: the list of users, and the names of one folder.
 ghost use Rattle.std.specs.Prelude.{◌≡◌, Option, List};
 ghost use Rattle.spool_rules.specs.declared.port.Step.{Step};
-ghost use Rattle.spool_rules.specs.declared.port.Step.TheVariants.{Users, Look, Make, Take, Link, Rename, Remove, Sync};
+ghost use Rattle.spool_rules.specs.declared.port.Step.TheVariants.{Users, Hold, Look, Make, Take, Link, Rename, Remove, Sync};
 ghost use Rattle.spool_rules.specs.Told.{added};
 
 use mail_text::Text;
@@ -43,6 +43,11 @@ pub enum Step {
     /// The list of users was read.
     Users {
         list: Result<Text, Stop>,
+    },
+    /// What stands at a name was taken hold of.
+    Hold {
+        name: Text,
+        done: Result<(), Stop>,
     },
     /// It was looked at what stands at a name.
     Look {
@@ -94,11 +99,17 @@ pub trait Spool {
     fn users(&mut self, alloc: Global) -> Result<Text, Stop>
         ensures { told self.new ≡ added (told self.old) (Users result) };
 
+    /// Takes hold of the caller's regular file at a name, if one stands there, to the end of the run: no other run has
+    /// it meanwhile. From then on a look at that name shows no regular file of the caller's but that one. Refused if
+    /// another run has it, and so is a look that would show another.
+    fn hold(&mut self, name: &[u8]) -> Result<(), Stop>
+        ensures { told self.new ≡ added (told self.old) (Hold name.now result) };
+
     /// What stands at a name.
     fn look(&mut self, name: &[u8]) -> Result<Seen, Stop>
         ensures { told self.new ≡ added (told self.old) (Look name.now result) };
 
-    /// Makes a file of these bytes where nothing stands, and syncs it.
+    /// Makes a file of these bytes where nothing stands, takes hold of it, in the place of what was held, and syncs it.
     fn make(&mut self, name: &[u8], bytes: &[u8]) -> Result<(), Stop>
         ensures { told self.new ≡ added (told self.old) (Make name.now bytes.now result) };
 

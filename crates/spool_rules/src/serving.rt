@@ -1,8 +1,8 @@
 // One call of the helper.
 ghost use Rattle.std.specs.Prelude.{◌≡◌, None, Some, true, false, IfSome, IfOk, IfErr};
-ghost use Rattle.spool_rules.specs.Told.{IsFresh, OnlyLooked};
+ghost use Rattle.spool_rules.specs.Told.{IsFresh};
 ghost use Rattle.spool_rules.specs.Words.{request_of};
-ghost use Rattle.spool_rules.specs.Lawful.{IsLawful, Sound};
+ghost use Rattle.spool_rules.specs.Lawful.{IsKnown, IsLawful};
 ghost use Rattle.spool_rules.specs.Causes.{Explains, Failed, IsForeign};
 ghost use Rattle.spool_rules.specs.declared.status.SpoolStatus.TheVariants as status;
 ghost use Rattle.spool_rules.specs.declared.words.Request.{Request};
@@ -19,13 +19,24 @@ use std::alloc::Global;
 fn knows<S: Spool>(alloc: Global, number: u32, request: &Request, out: &mut S) -> Result<bool, Stop>
     requires { IsFresh (S.told out.old) }
     ensures lawful { IfSome (S.told out.new) (λ steps. IsLawful number request.now steps) }
-    ensures sound { IfOk result (λ is. is ≡ true → Sound number request.now (S.told out.new)) }
-    ensures looked { IfOk result (λ is. is ≡ true → IfSome (S.told out.new) OnlyLooked) }
+    ensures known { IfOk result (λ is. is ≡ true → IfSome (S.told out.new) (λ steps. IsKnown number request.now steps)) }
     ensures foreign { IfOk result (λ is. is ≡ false → IfSome (S.told out.new) (λ steps. IsForeign number request.now steps)) }
     ensures failed { IfErr result (λ why. IfSome (S.told out.new) (λ steps. Failed why steps)) }
 {
     let list = out.users(alloc)?;
     Ok(is_callers(list.bytes(), number, request))
+}
+
+// Carries out what the user of this number asks for, while no other run holds the other name of the lock.
+fn serve_own<S: Spool>(number: u32, request: &Request, out: &mut S) -> SpoolStatus
+    requires { IfSome (S.told out.old) (λ steps. IsKnown number request.now steps) }
+    ensures lawful { IfSome (S.told out.new) (λ steps. IsLawful number request.now steps) }
+    ensures explained { IfSome (S.told out.new) (λ steps. Explains number request.now result steps) }
+{
+    match out.hold(request.beside.bytes()) {
+        Ok(()) => status_of(carry_out(out, number, request)),
+        Err(stop) => status_of(Err(stop)),
+    }
 }
 
 // Carries out what the user of this number asks for, if the mailbox is his.
@@ -35,7 +46,7 @@ fn serve<S: Spool>(alloc: Global, number: u32, request: &Request, out: &mut S) -
     ensures explained { IfSome (S.told out.new) (λ steps. Explains number request.now result steps) }
 {
     match knows(alloc, number, request, out) {
-        Ok(true) => status_of(carry_out(out, number, request)),
+        Ok(true) => serve_own(number, request, out),
         Ok(false) => SpoolStatus::NotCallers,
         Err(stop) => status_of(Err(stop)),
     }

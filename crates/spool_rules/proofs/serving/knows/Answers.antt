@@ -1,6 +1,6 @@
 use Rattle.std.proofs.Common.{refl, sym, ◌∙◌}
 use Rattle.std.proofs.lemmas.Result.{err_from_is_err_and}
-use Rattle.spool_rules.proofs.OperationLemmas.{users_lawful, users_looked, users_sound}
+use Rattle.spool_rules.proofs.OperationLemmas.{users_lawful, users_known}
 use Rattle.spool_rules.proofs.CauseLemmas.{call_failed, users_foreign}
 use Rattle.spool_rules.proofs.serving.knows.Goals as goal
 
@@ -13,11 +13,8 @@ returns-in_err-list-clause-failed g c = let p = err_from_is_err_and c.from_resid
 pub returns-clause-lawful : goal.returns-clause-lawful
 returns-clause-lawful g c = users_lawful c.args.number c.args.request.now (g.S.Spool.told c.args.out.now) (g.S.Spool.told c.users.new.self) c.users.result c.requires c.users.ensures
 
-pub returns-clause-sound : goal.returns-clause-sound
-returns-clause-sound g c = λ e. users_sound c.args.number c.args.request.now (g.S.Spool.told c.args.out.now) (g.S.Spool.told c.users.new.self) _ c.requires c.in_ok-list.ensures (sym (rw c.bytes.ensures at c.is_callers.ensures) ∙ e)
+pub returns-clause-known : goal.returns-clause-known
+returns-clause-known g c = λ e. users_known c.args.number c.args.request.now (g.S.Spool.told c.args.out.now) (g.S.Spool.told c.users.new.self) _ c.requires c.in_ok-list.ensures (sym (rw c.bytes.ensures at c.is_callers.ensures) ∙ e)
 
 pub returns-clause-foreign : goal.returns-clause-foreign
 returns-clause-foreign g c = λ e. users_foreign c.args.number c.args.request.now (g.S.Spool.told c.args.out.now) (g.S.Spool.told c.users.new.self) _ c.requires c.in_ok-list.ensures (sym (rw c.bytes.ensures at c.is_callers.ensures) ∙ e)
-
-pub returns-clause-looked : goal.returns-clause-looked
-returns-clause-looked g c = λ e. users_looked (g.S.Spool.told c.args.out.now) (g.S.Spool.told c.users.new.self) _ c.requires c.users.ensures
